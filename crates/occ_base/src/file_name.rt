@@ -1,0 +1,177 @@
+ghost use Rattle.std.proofs.Common.{rules};
+ghost use Rattle.std.proofs.lemmas.Cmp.{nat_list_cmp_total};
+ghost use Rattle.std.specs.Cmp.{partial_order_from_own_ties};
+ghost use Rattle.std.specs.Cmp.Lexicographic.{slice_cmp};
+ghost use Rattle.std.specs.Cmp.Rules.{comparing};
+ghost use Rattle.std.specs.List.{list_all};
+ghost use Rattle.std.specs.Ordering.{as_partial_cmp, nat_cmp};
+ghost use Rattle.std.specs.Prelude.{◌≡◌, ◌≤◌, IfOk, length};
+ghost use Rattle.std.specs.Result.{result_err};
+ghost use Rattle.std.specs.Str.{bytes_eq};
+ghost use Rattle.occ_base.specs.FileName.{IsFileName, has_length as a_length, has_suffix as a_suffix, is_file_byte as a_file_byte, is_unit, name_fault};
+
+use std::cmp::Ordering;
+use std::marker::Model;
+use thiserror::Error;
+
+/// Why bytes are no file name. Where several hold, the first of this order is told.
+#[derive(Clone, Copy, Debug, PartialEq, Eq, Error)]
+pub enum NameFault {
+    /// There is no byte, or there are more than 64.
+    #[error("Length")]
+    Length,
+    /// A byte that is no letter, digit, `.`, `_` or `-`.
+    #[error("Byte")]
+    Byte,
+    /// The end is neither `.occ` nor `.inc`.
+    #[error("Suffix")]
+    Suffix,
+}
+
+/// The name of a file: in contracts its bytes, by which names are ordered.
+#[derive(Clone, Copy, Debug)]
+pub struct FileName {
+    bytes: [u8; 64],
+    len: u8,
+}
+
+impl Model for FileName {
+    ghost use Rattle.std.specs.Prelude.{List, ℕ};
+    ghost use Rattle.std.specs.Coded.{coded_list, coded_ℕ};
+
+    ghost Value = { List ℕ };
+
+    ghost coded = { coded_list coded_ℕ };
+
+    ghost use Rattle.occ_base.specs.Padded.{IsPadded, padded, padded_back, shown};
+
+    ghost view = { shown };
+
+    ghost invariant = { IsPadded };
+
+    ghost inverse = { padded };
+
+    ghost inverse_ok = { padded_back };
+}
+
+impl FileName {
+    /// The file name of these bytes, or the first fault that they have.
+    #[tactic(auto, using(crate::proofs::Names::is_short))]
+    pub fn read(bytes: &[u8]) -> Result<FileName, NameFault>
+        ensures ok { IfOk result (λ name. name ≡ bytes.now) }
+        ensures fault { result_err result ≡ name_fault bytes.now }
+    {
+        match fault(bytes) {
+            Some(fault) => Err(fault),
+            None => Ok(held(bytes)),
+        }
+    }
+
+    /// The bytes of the name.
+    pub fn as_bytes(&self) -> &[u8]
+        ensures value { result.now ≡ self.now }
+        ensures named { IsFileName self.now }
+    {
+        &self.bytes[..self.len as usize]
+    }
+
+    /// Whether the file is a unit: its name ends in `.occ`.
+    pub fn is_unit(&self) -> bool
+        ensures { result ≡ is_unit self.now }
+    {
+        self.as_bytes().ends_with(b".occ")
+    }
+}
+
+/// The first fault of the bytes as a file name.
+fn fault(bytes: &[u8]) -> Option<NameFault>
+    ensures { result ≡ name_fault bytes.now }
+{
+    if !has_length(bytes) {
+        Some(NameFault::Length)
+    } else if !has_file_bytes(bytes) {
+        Some(NameFault::Byte)
+    } else if !has_suffix(bytes) {
+        Some(NameFault::Suffix)
+    } else {
+        None
+    }
+}
+
+fn has_length(bytes: &[u8]) -> bool
+    ensures { result ≡ a_length bytes.now }
+{
+    1 <= bytes.len() && bytes.len() <= 64
+}
+
+fn has_file_bytes(bytes: &[u8]) -> bool
+    ensures { result ≡ list_all a_file_byte bytes.now }
+{
+    bytes.iter().all(|b| is_file_byte(*b))
+}
+
+fn is_file_byte(b: u8) -> bool
+    ensures { result ≡ a_file_byte b }
+{
+    b.is_ascii_alphanumeric() || b == b'.' || b == b'_' || b == b'-'
+}
+
+fn has_suffix(bytes: &[u8]) -> bool
+    ensures { result ≡ a_suffix bytes.now }
+{
+    bytes.ends_with(b".occ") || bytes.ends_with(b".inc")
+}
+
+/// The name of bytes that are one.
+fn held(bytes: &[u8]) -> FileName
+    requires short { length bytes.now ≤ 64 }
+    requires named { IsFileName bytes.now }
+    ensures { result ≡ bytes.now }
+{
+    let mut all = [0; 64];
+    for (i, byte) in bytes.iter().enumerate() {
+        all[i] = *byte;
+    }
+    FileName {
+        bytes: all,
+        len: bytes.len() as u8,
+    }
+}
+
+impl PartialEq for FileName {
+    ghost eq = { λ a b. bytes_eq a b };
+
+    ghost laws = { Prim.search (comparing, rules) };
+
+    fn eq(&self, other: &FileName) -> bool {
+        self.as_bytes() == other.as_bytes()
+    }
+}
+
+impl Eq for FileName {
+    ghost laws = { Prim.search (comparing, rules) };
+}
+
+impl Ord for FileName {
+    ghost cmp = { slice_cmp nat_cmp };
+
+    ghost total = { nat_list_cmp_total };
+
+    ghost matches_partial_cmp = { Prim.search (comparing, rules) };
+
+    ghost matches_eq = { Prim.search (comparing, rules) };
+
+    fn cmp(&self, other: &FileName) -> Ordering {
+        self.as_bytes().cmp(other.as_bytes())
+    }
+}
+
+impl PartialOrd for FileName {
+    ghost partial_cmp = { as_partial_cmp (slice_cmp nat_cmp) };
+
+    ghost laws = { partial_order_from_own_ties (Prim.search (comparing, rules)) (Prim.search (comparing, rules)) };
+
+    fn partial_cmp(&self, other: &FileName) -> Option<Ordering> {
+        Some(self.cmp(other))
+    }
+}

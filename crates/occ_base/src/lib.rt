@@ -1,0 +1,14 @@
+//! What every other crate speaks of: file names, diagnostics with their order, and the two types that all
+//! trees are made of.
+#![tactic(auto)]
+
+mod code;
+mod diag;
+mod file_name;
+mod name;
+
+pub use code::{Code, Grade};
+pub use diag::{Diag, write_diag};
+pub use file_name::{FileName, NameFault};
+pub use name::Name;
+pub use sqlite_items::{Boxed, Items};

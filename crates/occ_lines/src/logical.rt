@@ -1,0 +1,36 @@
+use super::Token;
+use occ_base::{Code, Items};
+use thiserror::Error;
+
+/// What a logical line holds.
+#[derive(Debug, Drop)]
+pub enum Body {
+    /// The tokens of a statement, at least one.
+    Tokens(Items<Token>),
+    /// The one fault of the line: `L1` or `L2`.
+    Fault(Code),
+}
+
+/// A logical line: a statement of the text.
+#[derive(Debug, Drop)]
+pub struct Logical {
+    /// The line of the text on which it begins, from 1.
+    pub line: u32,
+    /// The column of its first byte that is no blank, divided by 2.
+    pub depth: u32,
+    pub body: Body,
+}
+
+/// Why a text has no logical lines. The first of this order is told.
+#[derive(Clone, Copy, Debug, PartialEq, Eq, Error)]
+pub enum TextFault {
+    /// Over 262,144 bytes.
+    #[error("TooLarge")]
+    TooLarge,
+    /// Over 16,384 lines.
+    #[error("TooManyLines")]
+    TooManyLines,
+    /// Memory was refused.
+    #[error("out of memory")]
+    Memory,
+}
