@@ -1,5 +1,5 @@
 -- Bytes that are copied to the front of zeros, one after the other.
-use Rattle.std.proofs.Common.{◌≡◌, ◌≤◌, ◌<◌, ◌+◌, ◌-◌, ℕ, suc, List, ◌∷◌, [], ◌++◌, length, take, get_or, replicate, refl, arith, ap, sym, ◌∙◌, append_assoc, length-take, add-one}
+use Rattle.std.proofs.Common.{◌≡◌, ◌≤◌, ◌<◌, ◌+◌, ◌-◌, ℕ, suc, List, ◌∷◌, [], ◌++◌, length, take, get_or, replicate, arith, ap, sym, ◌∙◌, append_assoc, length-take}
 use Rattle.std.proofs.Math.ListN.{set}
 use Rattle.std.proofs.Math.Seq.{take-suc}
 use Rattle.std.proofs.lemmas.List.{set-append_right}

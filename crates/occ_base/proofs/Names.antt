@@ -1,7 +1,7 @@
 -- What follows for bytes that are a file name.
-use Rattle.std.proofs.Common.{◌≡◌, ◌≤◌, ℕ, List, length, Bool, true, false, Option, Some, None, cond, ◌&&◌, nat_le, refl, arith}
+use Rattle.std.proofs.Common.{◌≡◌, ◌≤◌, ℕ, List, length, Bool, true, false, Option, Some, None, cond, ◌&&◌, refl}
 use Rattle.std.proofs.lemmas.Bool.{leb-true}
-use Rattle.occ_base.specs.FileName.{name_fault, IsFileName, has_length}
+use Rattle.occ_base.specs.FileName.{IsFileName, has_length}
 use Rattle.occ_base.specs.declared.file_name.NameFault.{NameFault}
 
 passed : (b : Bool) (x : Option NameFault) (f : NameFault) → cond b x (Some f) ≡ None → b ≡ true

@@ -1,4 +1,3 @@
-use Rattle.std.proofs.Common.{arith}
 use Rattle.occ_base.proofs.Filled.{one_more}
 use Rattle.occ_base.proofs.file_name.held.Goals as goal
 
