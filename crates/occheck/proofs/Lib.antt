@@ -1,1 +1,5 @@
 pub mod Left
+pub mod Cut
+pub mod Words
+pub mod Before
+pub mod Ended

@@ -1,1 +1,5 @@
 pub mod Devices
+pub mod Lines
+pub mod Script
+pub mod Header
+pub mod Ended
