@@ -3,3 +3,4 @@ pub mod Lines
 pub mod Script
 pub mod Header
 pub mod Ended
+pub mod Rest
