@@ -5,3 +5,6 @@ pub mod Before
 pub mod Ended
 pub mod Rest
 pub mod First
+pub mod Known
+pub mod Whole
+pub mod Over

@@ -6,3 +6,9 @@ abbrev pub IsEnded : List ℕ → Type 0
 IsEnded [] = Unit {0}
 IsEnded (b ∷ []) = b ≡ 10
 IsEnded (b ∷ c ∷ bytes) = IsEnded (c ∷ bytes)
+
+-- there is a last byte, and it is not LF
+abbrev pub IsOpen : List ℕ → Type 0
+IsOpen [] = ⊥
+IsOpen (b ∷ []) = b ≡ 10 → ⊥
+IsOpen (b ∷ c ∷ bytes) = IsOpen (c ∷ bytes)

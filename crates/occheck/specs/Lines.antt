@@ -1,6 +1,5 @@
 -- The lines of a script, and the words of a line.
-use Rattle.std.specs.Prelude.{ℕ, Bool, List, [], ◌∷◌, ◌++◌, ◌==◌, cond, suc, length, take, nat_lt}
-use Rattle.std.specs.List.{count_by}
+use Rattle.std.specs.Prelude.{ℕ, List, [], ◌∷◌, ◌++◌, ◌+◌, ◌==◌, cond, length, take, nat_lt}
 
 -- the byte put before the first of the pieces
 abbrev pub put_before : ℕ → List (List ℕ) → List (List ℕ)
@@ -22,6 +21,11 @@ abbrev pub text_of : List (List ℕ) → List ℕ
 text_of [] = []
 text_of (line ∷ lines) = line ++ 10 ∷ text_of lines
 
+-- how many LFs there are
+abbrev pub feeds : List ℕ → ℕ
+feeds [] = 0
+feeds (b ∷ bytes) = cond (b == 10) 1 0 + feeds bytes
+
 -- the greatest number of bytes of a script
 abbrev pub script_limit : ℕ
 script_limit = 67108864
@@ -30,4 +34,4 @@ script_limit = 67108864
 abbrev pub whole_lines : List ℕ → List (List ℕ)
 whole_lines bytes =
     let front = take script_limit bytes in
-    cond (nat_lt script_limit (length bytes)) (take (count_by (λ b. b == 10) front) (cut_lines front)) (cut_lines bytes)
+    cond (nat_lt script_limit (length bytes)) (take (feeds front) (cut_lines front)) (cut_lines bytes)

@@ -3,12 +3,14 @@
 
 mod command;
 mod devices;
+mod input;
 mod lines;
 mod script;
 mod written;
 
 pub use command::{Header, read_header};
 pub use devices::{ByteIn, ByteOut, Failed, StdIn, StdOut};
+pub use input::{ReadFault, ScriptText, read_script};
 pub use lines::length_before;
 pub use script::{Command, Next, Rest, next_command};
 pub use written::write_all;
