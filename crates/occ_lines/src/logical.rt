@@ -1,5 +1,9 @@
+ghost use Rattle.std.specs.Prelude.{◌≡◌};
+ghost use Rattle.occ_lines.specs.declared.logical.TextFault.TheVariants.{Memory};
+
 use super::Token;
 use occ_base::{Code, Items};
+use std::alloc::AllocError;
 use thiserror::Error;
 
 /// What a logical line holds.
@@ -33,4 +37,12 @@ pub enum TextFault {
     /// Memory was refused.
     #[error("out of memory")]
     Memory,
+}
+
+impl From<AllocError> for TextFault {
+    ghost from_gives = { λ _ fault. fault ≡ Memory };
+
+    fn from(_error: AllocError) -> TextFault {
+        TextFault::Memory
+    }
 }

@@ -1,0 +1,6 @@
+pub mod Digits
+pub mod Longest
+pub mod First
+pub mod Reading
+pub mod Spelled
+pub mod Sizes
