@@ -4,6 +4,7 @@
 
 mod form;
 mod source;
+mod token_reader;
 
 pub use form::{Element, Expr, Form, Operand};
 pub use source::{LineBody, SourceLine};
