@@ -2,6 +2,7 @@
 //! `prepare`, which gives a text with its lines. `specs/Spelling.antt` says what each tree spells.
 #![tactic(auto)]
 
+mod expression;
 mod form;
 mod source;
 mod token_reader;
