@@ -4,6 +4,7 @@
 
 mod expression;
 mod form;
+mod line;
 mod source;
 mod token_reader;
 

@@ -1,10 +1,20 @@
 ghost use Rattle.occ_lines.specs.declared.token.Token.TheVariants as t;
 ghost use Rattle.occ_lines.specs.declared.token.Token.{Token as AToken};
-ghost use Rattle.std.specs.Prelude.{List, MatchOption, ℕ, ◌∷◌, ◌≡◌, ◌≢◌, IfOk};
+ghost use Rattle.std.specs.Prelude.{IfOk, List, MatchOption, [], ℕ, ◌∷◌, ◌≡◌, ◌≢◌};
 
 use occ_base::Name;
 use occ_lines::{Symbol, Token, Word};
 use std::alloc::{AllocError, Global};
+
+/// The first token, and what follows it.
+pub fn first(tokens: &[Token]) -> Option<(&Token, &[Token])>
+    ensures { MatchOption result (tokens.now ≡ []) (λ x. tokens.now ≡ x.0.now ∷ x.1.now) }
+{
+    match tokens {
+        [first, rest @ ..] => Some((first, rest)),
+        [] => None,
+    }
+}
 
 /// What follows the symbol, where it stands first.
 pub fn after(tokens: &[Token], symbol: Symbol) -> Option<&[Token]>
