@@ -4,14 +4,14 @@ use Rattle.occ_lines.specs.declared.token.Token.{Token}
 use Rattle.occ_lines.specs.declared.token.Token.TheVariants as t
 use Rattle.occ_lines.specs.declared.token.Symbol.TheVariants as s
 use Rattle.occ_lines.specs.declared.token.Word.TheVariants as w
-use Rattle.occ_forms.specs.declared.form.Element.{Element}
-use Rattle.occ_forms.specs.declared.form.Element.TheVariants as el
-use Rattle.occ_forms.specs.declared.form.Operand.{Operand}
-use Rattle.occ_forms.specs.declared.form.Operand.TheVariants as o
-use Rattle.occ_forms.specs.declared.form.Expr.{Expr}
-use Rattle.occ_forms.specs.declared.form.Expr.TheVariants as e
-use Rattle.occ_forms.specs.declared.form.Form.{Form}
-use Rattle.occ_forms.specs.declared.form.Form.TheVariants as f
+use Rattle.occ_forms.specs.declared.tree.Element.{Element}
+use Rattle.occ_forms.specs.declared.tree.Element.TheVariants as el
+use Rattle.occ_forms.specs.declared.tree.Operand.{Operand}
+use Rattle.occ_forms.specs.declared.tree.Operand.TheVariants as o
+use Rattle.occ_forms.specs.declared.tree.Expr.{Expr}
+use Rattle.occ_forms.specs.declared.tree.Expr.TheVariants as e
+use Rattle.occ_forms.specs.declared.tree.Form.{Form}
+use Rattle.occ_forms.specs.declared.tree.Form.TheVariants as f
 
 -- a list of tokens, given those that follow it
 abbrev pub Spelling : Type 0

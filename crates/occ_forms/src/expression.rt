@@ -1,8 +1,8 @@
 ghost use Rattle.occ_forms.specs.Reading.{IsEnd, IsNot, Reads};
 ghost use Rattle.occ_forms.specs.Spelling.{element_then, expr_then, operand_then};
-ghost use Rattle.occ_forms.specs.declared.form.Element.{Element as AnElement};
-ghost use Rattle.occ_forms.specs.declared.form.Expr.{Expr as AnExpr};
-ghost use Rattle.occ_forms.specs.declared.form.Operand.{Operand as AnOperand};
+ghost use Rattle.occ_forms.specs.declared.tree.Element.{Element as AnElement};
+ghost use Rattle.occ_forms.specs.declared.tree.Expr.{Expr as AnExpr};
+ghost use Rattle.occ_forms.specs.declared.tree.Operand.{Operand as AnOperand};
 ghost use Rattle.occ_lines.specs.declared.token.Symbol.TheVariants as s;
 ghost use Rattle.occ_lines.specs.declared.token.Token.{Token as AToken};
 ghost use Rattle.std.specs.Prelude.{IfOk, IfSome, List, ◌≡◌};

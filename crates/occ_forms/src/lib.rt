@@ -3,10 +3,13 @@
 #![tactic(auto)]
 
 mod expression;
-mod form;
+
 mod line;
+mod parse;
 mod source;
 mod token_reader;
+mod tree;
 
-pub use form::{Element, Expr, Form, Operand};
+pub use parse::{LineFault, form};
 pub use source::{LineBody, SourceLine};
+pub use tree::{Element, Expr, Form, Operand};

@@ -1,8 +1,8 @@
 ghost use Rattle.occ_forms.specs.Reading.{IsFormOf, IsNot, Reads};
 ghost use Rattle.occ_forms.specs.Spelling.{dimension_then, form_tokens, many, next_name};
-ghost use Rattle.occ_forms.specs.declared.form.Element.{Element as AnElement};
-ghost use Rattle.occ_forms.specs.declared.form.Expr.{Expr as AnExpr};
-ghost use Rattle.occ_forms.specs.declared.form.Form.TheVariants as f;
+ghost use Rattle.occ_forms.specs.declared.tree.Element.{Element as AnElement};
+ghost use Rattle.occ_forms.specs.declared.tree.Expr.{Expr as AnExpr};
+ghost use Rattle.occ_forms.specs.declared.tree.Form.TheVariants as f;
 ghost use Rattle.occ_lines.specs.declared.token.Symbol.TheVariants as s;
 ghost use Rattle.occ_lines.specs.declared.token.Token.TheVariants as t;
 ghost use Rattle.occ_lines.specs.declared.token.Token.{Token as AToken};
