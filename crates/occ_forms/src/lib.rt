@@ -6,10 +6,12 @@ mod expression;
 
 mod line;
 mod parse;
+mod preparation;
 mod source;
 mod token_reader;
 mod tree;
 
 pub use parse::{LineFault, form};
-pub use source::{LineBody, SourceLine};
+pub use preparation::prepare;
+pub use source::{LineBody, Source, SourceLine};
 pub use tree::{Element, Expr, Form, Operand};

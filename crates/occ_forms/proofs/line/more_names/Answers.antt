@@ -1,9 +1,8 @@
-use Rattle.std.proofs.Common.{◌≡◌, ℕ, List, ◌∷◌, sym}
+use Rattle.std.proofs.Common.{◌≡◌, ℕ, List, ◌∷◌}
 use Rattle.occ_lines.specs.declared.token.Symbol.TheVariants as s
 use Rattle.occ_lines.specs.declared.token.Token.{Token}
 use Rattle.occ_lines.specs.declared.token.Token.TheVariants as t
 use Rattle.occ_forms.specs.Spelling.{next_name}
-use Rattle.occ_forms.specs.Reading.{IsNot}
 use Rattle.occ_forms.proofs.Many.{fails, goes_on, is_done}
 use Rattle.occ_forms.proofs.line.more_names.Goals as goal
 
