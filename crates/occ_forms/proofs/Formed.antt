@@ -17,22 +17,23 @@ pub one_more : (logicals : List Logical) (found : List SourceLine) (rest next : 
     → ((other : SourceLine) → IsFormedLine logical other → other ≡ line)
     → FormedSoFar logicals (found ++ line ∷ []) next
 one_more logicals found rest next logical line so_far is formed one = record {
-    parts = λ more h. subst (AreFormed logicals) (sym (append_assoc found (line ∷ []) more))
+  parts = λ more h. subst (AreFormed logicals) (sym (append_assoc found (line ∷ []) more))
       (so_far.parts (line ∷ more) (subst (λ (xs : List Logical). AreFormed xs (line ∷ more)) (sym is) (formed, h)));
-    only = λ lines h. step lines (so_far.only lines h)
-  } where
+  only = λ lines h. step lines (so_far.only lines h);
+} where
   split : (lines more : List SourceLine) → lines ≡ found ++ more → AreFormed (logical ∷ next) more
       → (after : List SourceLine) × (lines ≡ (found ++ line ∷ []) ++ after) × AreFormed next after
   split lines [] e h = absurd h
   split lines (x ∷ xs) e h =
-    (xs, e ∙ ap (λ (y : SourceLine). found ++ y ∷ xs) (one x h.0) ∙ sym (append_assoc found (line ∷ []) xs), h.1)
+      (xs, e ∙ ap (λ (y : SourceLine). found ++ y ∷ xs) (one x h.0) ∙ sym (append_assoc found (line ∷ []) xs), h.1)
+
   step : (lines : List SourceLine) → ((more : List SourceLine) × (lines ≡ found ++ more) × AreFormed rest more)
       → (after : List SourceLine) × (lines ≡ (found ++ line ∷ []) ++ after) × AreFormed next after
   step lines (more, e, h) = split lines more e (subst (λ (xs : List Logical). AreFormed xs more) is h)
 
 pub all_found : (logicals : List Logical) (found : List SourceLine) (rest : List Logical) → FormedSoFar logicals found rest → rest ≡ [] → AreFormed logicals found
 all_found logicals found rest so_far is =
-  subst (AreFormed logicals) (append-nil found) (so_far.parts [] (subst (λ (xs : List Logical). AreFormed xs []) (sym is) tt))
+    subst (AreFormed logicals) (append-nil found) (so_far.parts [] (subst (λ (xs : List Logical). AreFormed xs []) (sym is) tt))
 
 pub no_other : (logicals : List Logical) (found : List SourceLine) (rest : List Logical) → FormedSoFar logicals found rest → rest ≡ []
     → (others : List SourceLine) → AreFormed logicals others → others ≡ found
@@ -40,5 +41,6 @@ no_other logicals found rest so_far is others h = step (so_far.only others h) wh
   none : (more : List SourceLine) → others ≡ found ++ more → AreFormed [] more → others ≡ found
   none [] e h = e ∙ append-nil found
   none (x ∷ xs) e h = absurd h
+
   step : ((more : List SourceLine) × (others ≡ found ++ more) × AreFormed rest more) → others ≡ found
   step (more, e, h) = none more e (subst (λ (xs : List Logical). AreFormed xs more) is h)

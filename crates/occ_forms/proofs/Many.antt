@@ -18,14 +18,14 @@ pub goes_on : {X : Type 0} (spells : X → Spelling) (Ends : List Token → Type
     → ((y : X) (k : List Token) → rest ≡ spells y k → (y ≡ x) × (k ≡ next))
     → Kept spells Ends tokens (found ++ x ∷ []) next
 goes_on {X} spells Ends tokens found rest x next kept is no_end one = record {
-    parts = kept.parts ∙ ap (many spells found) is ∙ sym (many_more spells found x next);
-    only = λ xs k ends e. step xs k ends (kept.only xs k ends e)
-  } where
+  parts = kept.parts ∙ ap (many spells found) is ∙ sym (many_more spells found x next);
+  only = λ xs k ends e. step xs k ends (kept.only xs k ends e);
+} where
   step : (xs : List X) (k : List Token) → Ends k → ((more : List X) × (xs ≡ found ++ more) × (rest ≡ many spells more k))
       → (more : List X) × (xs ≡ (found ++ x ∷ []) ++ more) × (next ≡ many spells more k)
   step xs k ends ([], e, r) = absurd (no_end (subst Ends (sym r) ends))
   step xs k ends (y ∷ ys, e, r) = let h = one y (many spells ys k) r in
-    (ys, e ∙ ap (λ z. found ++ z ∷ ys) h.0 ∙ sym (append_assoc found (x ∷ []) ys), sym h.1)
+      (ys, e ∙ ap (λ z. found ++ z ∷ ys) h.0 ∙ sym (append_assoc found (x ∷ []) ys), sym h.1)
 
 -- no item begins where the loop stops
 pub is_done : {X : Type 0} (spells : X → Spelling) (Ends : List Token → Type 0) (tokens : List Token) (found : List X) (rest : List Token)
@@ -41,4 +41,4 @@ pub fails : {X : Type 0} (spells : X → Spelling) (Ends : List Token → Type 0
     → Kept spells Ends tokens found rest → (Ends rest → ⊥) → ((y : X) (k : List Token) → rest ≡ spells y k → ⊥)
     → (xs : List X) (k : List Token) → Ends k → tokens ≡ many spells xs k → ⊥
 fails spells Ends tokens found rest kept no_end none xs k ends e = let h = is_done spells Ends tokens found rest kept none xs k ends e in
-  no_end (subst Ends (sym h.1) ends)
+    no_end (subst Ends (sym h.1) ends)

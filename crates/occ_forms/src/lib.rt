@@ -3,15 +3,18 @@
 #![tactic(auto)]
 
 mod expression;
-
 mod line;
 mod parse;
 mod preparation;
+mod rows;
 mod source;
+#[cfg(test)]
+mod tests;
 mod token_reader;
 mod tree;
 
 pub use parse::{LineFault, form};
 pub use preparation::prepare;
+pub use rows::{body_rows, spelling_rows};
 pub use source::{LineBody, Source, SourceLine};
 pub use tree::{Element, Expr, Form, Operand};

@@ -24,7 +24,10 @@ pub fn alone(form: Form, rest: &[Token]) -> Option<Form>
 }
 
 /// The further names of a declaration, and what follows them.
-pub fn more_names(alloc: Global, tokens: &[Token]) -> Result<Option<(Items<Name>, &[Token])>, AllocError>
+pub fn more_names(
+    alloc: Global,
+    tokens: &[Token],
+) -> Result<Option<(Items<Name>, &[Token])>, AllocError>
     ensures found { IfOk result (λ r. IfSome r (λ x. tokens.now ≡ many next_name x.0 x.1.now)) }
     ensures only { IfOk result (λ r. (names : List (List ℕ)) (k : List AToken) → IsNot s.Comma k → tokens.now ≡ many next_name names k → Reads r names k) }
 {
@@ -57,7 +60,11 @@ pub fn procedure(alloc: Global, rest: &[Token]) -> Result<Option<Form>, AllocErr
 }
 
 /// The names of a declaration, of which the dimension and the type are read.
-pub fn declaration(alloc: Global, dimension: Option<u64>, rest: &[Token]) -> Result<Option<Form>, AllocError>
+pub fn declaration(
+    alloc: Global,
+    dimension: Option<u64>,
+    rest: &[Token],
+) -> Result<Option<Form>, AllocError>
     ensures { IfOk result (λ answer. IsFormOf (dimension_then dimension (t.Word w.Int ∷ rest.now)) answer) }
 {
     let Some((first, rest)) = name(alloc, rest)? else {

@@ -42,7 +42,7 @@ impl Model for Source {
 
 impl Source {
     /// The source of a text and its lines.
-    pub fn of(text: Items<u8>, lines: Items<SourceLine>) -> Source
+    pub(crate) fn of(text: Items<u8>, lines: Items<SourceLine>) -> Source
         requires { IsPrepared text lines }
         ensures text { result.text ≡ text }
         ensures lines { result.lines ≡ lines }

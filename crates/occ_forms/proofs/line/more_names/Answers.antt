@@ -9,8 +9,8 @@ use Rattle.occ_forms.proofs.line.more_names.Goals as goal
 one_name : (rest begun next : List Token) (x : List ℕ) → rest ≡ t.Symbol s.Comma ∷ begun → begun ≡ t.Name x ∷ next
     → (y : List ℕ) (k : List Token) → rest ≡ next_name y k → (y ≡ x) × (k ≡ next)
 one_name rest begun next x a b y k e =
-  let h : t.Symbol s.Comma ∷ t.Name y ∷ k ≡ t.Symbol s.Comma ∷ t.Name x ∷ next = cc in
-  (cc, cc)
+    let h : t.Symbol s.Comma ∷ t.Name y ∷ k ≡ t.Symbol s.Comma ∷ t.Name x ∷ next = cc in
+    (cc, cc)
 
 next_is : (rest begun next : List Token) (x : List ℕ) → rest ≡ t.Symbol s.Comma ∷ begun → begun ≡ t.Name x ∷ next → rest ≡ next_name x next
 next_is rest begun next x a b = cc

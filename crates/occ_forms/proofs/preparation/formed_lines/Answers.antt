@@ -10,9 +10,9 @@ use Rattle.occ_forms.proofs.preparation.formed_lines.Goals as goal
 one_line : (logical : Logical) (found : LineBody) → ((other : LineBody) → IsFormed logical.body other → other ≡ found)
     → (other : SourceLine) → IsFormedLine logical other → other ≡ record { line = logical.line; depth = logical.depth; body = found }
 one_line logical found one other h =
-  ap (λ (n : ℕ). record { line = n; depth = other.depth; body = other.body }) h.number
-  ∙ ap (λ (n : ℕ). record { line = logical.line; depth = n; body = other.body }) h.depth
-  ∙ ap (λ (b : LineBody). record { line = logical.line; depth = logical.depth; body = b }) (one other.body h.held)
+    ap (λ (n : ℕ). record { line = n; depth = other.depth; body = other.body }) h.number
+    ∙ ap (λ (n : ℕ). record { line = logical.line; depth = n; body = other.body }) h.depth
+    ∙ ap (λ (b : LineBody). record { line = logical.line; depth = logical.depth; body = b }) (one other.body h.held)
 
 next_rest : (logicals : List Logical) (i : ℕ) (logical : Logical) → i < length logicals → logical ≡ get_or logicals i logical → drop i logicals ≡ logical ∷ drop (i + 1) logicals
 next_rest logicals i logical h is = rw add-one (drop-cons logicals i logical h ∙ ap (λ (x : Logical). x ∷ drop (suc i) logicals) (sym is))
