@@ -1,5 +1,9 @@
+ghost use Rattle.occ_forms.specs.Prepared.{IsPrepared};
+ghost use Rattle.std.specs.Prelude.{◌≡◌};
+
 use super::Form;
-use occ_base::Code;
+use occ_base::{Code, Items};
+use std::marker::Model;
 
 /// What a line of a prepared text holds.
 #[derive(Debug, Drop)]
@@ -17,4 +21,47 @@ pub struct SourceLine {
     /// The number of levels that it stands in.
     pub depth: u32,
     pub body: LineBody,
+}
+
+/// A text with its lines: they are those that the text spells, each with its form.
+#[derive(Debug, Drop)]
+pub struct Source {
+    text: Items<u8>,
+    lines: Items<SourceLine>,
+}
+
+impl Model for Source {
+    ghost use Rattle.occ_forms.specs.Prepared.{IsPrepared, Prepared};
+
+    ghost Value = { Prepared };
+
+    ghost view = { λ a. record { text = a.text; lines = a.lines } };
+
+    ghost invariant = { λ a. IsPrepared a.text a.lines };
+}
+
+impl Source {
+    /// The source of a text and its lines.
+    pub(crate) fn of(text: Items<u8>, lines: Items<SourceLine>) -> Source
+        requires { IsPrepared text lines }
+        ensures text { result.text ≡ text }
+        ensures lines { result.lines ≡ lines }
+    {
+        Source { text, lines }
+    }
+
+    /// The text, as it was given.
+    pub fn text(&self) -> &[u8]
+        ensures value { result.now ≡ self.now.text }
+    {
+        self.text.as_slice()
+    }
+
+    /// The lines of the text.
+    pub fn lines(&self) -> &[SourceLine]
+        ensures value { result.now ≡ self.now.lines }
+        ensures prepared { IsPrepared self.now.text self.now.lines }
+    {
+        self.lines.as_slice()
+    }
 }

@@ -1,0 +1,41 @@
+-- A text with its lines, each with its form or its one fault.
+use Rattle.std.specs.Prelude.{◌≡◌, ℕ, List, [], ◌∷◌}
+use Rattle.occ_base.specs.declared.code.Code.TheVariants as code
+use Rattle.occ_lines.specs.declared.logical.Body.{Body}
+use Rattle.occ_lines.specs.declared.logical.Body.TheVariants as body
+use Rattle.occ_lines.specs.declared.logical.Logical.{Logical}
+use Rattle.occ_lines.specs.Lines.{IsLines}
+use Rattle.occ_forms.specs.declared.source.LineBody.{LineBody}
+use Rattle.occ_forms.specs.declared.source.LineBody.TheVariants as held
+use Rattle.occ_forms.specs.declared.source.SourceLine.{SourceLine}
+use Rattle.occ_forms.specs.declared.tree.Form.{Form}
+use Rattle.occ_forms.specs.Spelling.{form_tokens}
+
+-- what callers see of a source
+pub record Prepared : Type 0 where
+  pub text : List ℕ
+  pub lines : List SourceLine
+
+-- the form that the tokens spell, S1 where none does, or the fault that the line has already
+abbrev pub IsFormed : Body → LineBody → Type 0
+IsFormed (body.Tokens tokens) (held.Form form) = tokens ≡ form_tokens form
+IsFormed (body.Tokens tokens) (held.Fault fault) = (fault ≡ code.S1) × ((form : Form) → tokens ≡ form_tokens form → ⊥)
+IsFormed (body.Fault given) (held.Form form) = ⊥
+IsFormed (body.Fault given) (held.Fault fault) = fault ≡ given
+
+-- the same line, with its form
+pub record IsFormedLine (logical : Logical) (line : SourceLine) : Type 0 where
+  pub number : line.line ≡ logical.line
+  pub depth : line.depth ≡ logical.depth
+  pub held : IsFormed logical.body line.body
+
+-- line by line
+abbrev pub AreFormed : List Logical → List SourceLine → Type 0
+AreFormed [] [] = Unit {0}
+AreFormed [] (line ∷ lines) = ⊥
+AreFormed (logical ∷ logicals) [] = ⊥
+AreFormed (logical ∷ logicals) (line ∷ lines) = IsFormedLine logical line × AreFormed logicals lines
+
+-- the lines of the text, with their forms
+abbrev pub IsPrepared : List ℕ → List SourceLine → Type 0
+IsPrepared text lines = (logicals : List Logical) × IsLines text logicals × AreFormed logicals lines

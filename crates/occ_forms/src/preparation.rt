@@ -1,0 +1,73 @@
+ghost use Rattle.occ_forms.specs.Prepared.{AreFormed, IsFormed, IsPrepared};
+ghost use Rattle.occ_forms.specs.declared.source.LineBody.{LineBody as ALineBody};
+ghost use Rattle.occ_forms.specs.declared.source.SourceLine.{SourceLine as ASourceLine};
+ghost use Rattle.occ_lines.specs.Lines.{IsLines, line_count};
+ghost use Rattle.occ_lines.specs.declared.logical.Logical.{Logical as ALogical};
+ghost use Rattle.std.specs.Prelude.{IfOk, IsErrOf, List, length, ◌↔◌, ◌≡◌, ◌≤◌, ◌<◌};
+
+use super::line::line;
+use super::{LineBody, Source, SourceLine};
+use occ_base::{Code, Items};
+use occ_lines::{Body, Logical, TextFault, logical_lines};
+use std::alloc::{AllocError, Global};
+
+/// What a line holds: the form of its tokens, or its fault.
+fn line_body(alloc: Global, body: &Body) -> Result<LineBody, AllocError>
+    ensures found { IfOk result (λ found. IsFormed body.now found) }
+    ensures only { IfOk result (λ found. (other : ALineBody) → IsFormed body.now other → other ≡ found) }
+{
+    match body {
+        Body::Fault(fault) => Ok(LineBody::Fault(*fault)),
+        Body::Tokens(tokens) => {
+            match line(alloc, tokens.as_slice())? {
+                Some(form) => Ok(LineBody::Form(form)),
+                None => Ok(LineBody::Fault(Code::S1)),
+            }
+        }
+    }
+}
+
+/// The lines, each with its form.
+fn formed_lines(alloc: Global, logicals: &[Logical]) -> Result<Items<SourceLine>, AllocError>
+    ensures found { IfOk result (λ lines. AreFormed logicals.now lines) }
+    ensures only { IfOk result (λ lines. (others : List ASourceLine) → AreFormed logicals.now others → others ≡ lines) }
+{
+    let mut found = Items::new(alloc);
+    for logical in logicals {
+        let body = line_body(alloc, &logical.body)?;
+        found.push(SourceLine {
+            line: logical.line,
+            depth: logical.depth,
+            body,
+        })?;
+    }
+    Ok(found)
+}
+
+/// The source of a text whose logical lines are these.
+fn source(alloc: Global, text: &[u8], logicals: &[Logical]) -> Result<Source, AllocError>
+    requires lines { IsLines text.now logicals.now }
+    requires only { (others : List ALogical) → IsLines text.now others → others ≡ logicals.now }
+    ensures text { IfOk result (λ source. source.text ≡ text.now) }
+    ensures lines { IfOk result (λ source. IsPrepared text.now source.lines) }
+    ensures only { IfOk result (λ source. (lines : List ASourceLine) → IsPrepared text.now lines → lines ≡ source.lines) }
+{
+    let lines = formed_lines(alloc, logicals)?;
+    let text = Items::from_slice(alloc, text)?;
+    Ok(Source::of(text, lines))
+}
+
+/// The text with its lines, each with its form or its one fault.
+pub fn prepare(alloc: Global, text: &[u8]) -> Result<Source, TextFault>
+    ensures text { IfOk result (λ source. source.text ≡ text.now) }
+    ensures lines { IfOk result (λ source. IsPrepared text.now source.lines) }
+    ensures only { IfOk result (λ source. (lines : List ASourceLine) → IsPrepared text.now lines → lines ≡ source.lines) }
+    ensures large { IsErrOf result TextFault.TooLarge ↔ (262144 < length text.now) }
+    ensures many { IsErrOf result TextFault.TooManyLines ↔ ((length text.now ≤ 262144) × (16384 < line_count text.now)) }
+{
+    let logicals = logical_lines(alloc, text)?;
+    match source(alloc, text, logicals.as_slice()) {
+        Ok(source) => Ok(source),
+        Err(AllocError) => Err(TextFault::Memory),
+    }
+}
