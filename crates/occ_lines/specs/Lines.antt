@@ -1,5 +1,5 @@
 -- The logical lines that a text spells.
-use Rattle.std.specs.Prelude.{◌≡◌, ◌⊎◌, ◌==◌, ◌+◌, ◌*◌, ◌/◌, ◌%◌, ℕ, Bool, cond, List, [], ◌∷◌, length, map}
+use Rattle.std.specs.Prelude.{◌≡◌, ◌⊎◌, ◌==◌, ◌+◌, ◌*◌, ◌/◌, ◌%◌, ℕ, Bool, cond, List, [], ◌∷◌, length, map, nat_lt, Option, Some, None}
 use Rattle.std.specs.Bool.{MatchBool}
 use Rattle.bstr.specs.Text.{lines_of, without_terminator}
 use Rattle.occ_base.specs.declared.code.Code.{Code}
@@ -7,6 +7,8 @@ use Rattle.occ_base.specs.declared.code.Code.TheVariants as code
 use Rattle.occ_lines.specs.declared.logical.Body.{Body}
 use Rattle.occ_lines.specs.declared.logical.Body.TheVariants as body
 use Rattle.occ_lines.specs.declared.logical.Logical.{Logical}
+use Rattle.occ_lines.specs.declared.logical.TextFault.{TextFault}
+use Rattle.occ_lines.specs.declared.logical.TextFault.TheVariants as fault
 use Rattle.occ_lines.specs.declared.token.Token.{Token}
 use Rattle.occ_lines.specs.Lexeme.{Lexes, after_blanks, is_end}
 
@@ -50,3 +52,7 @@ IsLines text xs = AreLogical 1 (map without_terminator (lines_of text)) xs
 
 abbrev pub line_count : List ℕ → ℕ
 line_count text = length (lines_of text)
+
+-- the limits of a text: the first that it is over
+abbrev pub limit_fault : List ℕ → Option TextFault
+limit_fault text = cond (nat_lt 262144 (length text)) (Some fault.TooLarge) (cond (nat_lt 16384 (line_count text)) (Some fault.TooManyLines) None)

@@ -11,5 +11,5 @@ mod token;
 mod tokens;
 
 pub use logical::{Body, Logical, TextFault};
-pub use reader::logical_lines;
+pub use reader::{logical_lines, text_fault};
 pub use token::{Symbol, Token, Word};

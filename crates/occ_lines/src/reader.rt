@@ -1,6 +1,6 @@
 //! The logical lines of a text.
 ghost use Rattle.std.specs.Prelude.{◌≡◌, ◌≤◌, ◌<◌, ◌↔◌, List, IsTrue, IsErrOf, IfOk, length};
-ghost use Rattle.occ_lines.specs.Lines.{IsBody, IsLines, IsLogical, column as the_column, is_skipped as a_skipped, line_count};
+ghost use Rattle.occ_lines.specs.Lines.{IsBody, IsLines, IsLogical, column as the_column, is_skipped as a_skipped, limit_fault, line_count};
 ghost use Rattle.occ_lines.specs.declared.logical.Logical.{Logical as ALogical};
 
 use super::{Body, Logical, TextFault};
@@ -63,6 +63,19 @@ fn has_too_many_lines(text: &[u8]) -> bool
         count += 1;
     }
     false
+}
+
+/// Why the text has no logical lines, where it is over a limit. This takes no memory.
+pub fn text_fault(text: &[u8]) -> Option<TextFault>
+    ensures { result ≡ limit_fault text.now }
+{
+    if text.len() > MOST_BYTES {
+        Some(TextFault::TooLarge)
+    } else if has_too_many_lines(text) {
+        Some(TextFault::TooManyLines)
+    } else {
+        None
+    }
 }
 
 /// The logical lines of a text within the limits.
