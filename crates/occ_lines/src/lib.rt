@@ -6,10 +6,14 @@ mod blanks;
 mod lexeme;
 mod logical;
 mod reader;
+mod rows;
 mod scan;
+#[cfg(test)]
+mod tests;
 mod token;
 mod tokens;
 
 pub use logical::{Body, Logical, TextFault};
 pub use reader::logical_lines;
+pub use rows::{class_rows, line_rows, name_rows, number_rows, symbol_rows, symbol_token_rows};
 pub use token::{Symbol, Token, Word};
