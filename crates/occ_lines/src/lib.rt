@@ -15,5 +15,7 @@ mod tokens;
 
 pub use logical::{Body, Logical, TextFault};
 pub use reader::logical_lines;
-pub use rows::{class_rows, line_rows, name_rows, number_rows, symbol_rows, symbol_token_rows};
+pub use rows::{
+    class_rows, first_rows, line_rows, name_rows, number_rows, symbol_rows, symbol_token_rows,
+};
 pub use token::{Symbol, Token, Word};

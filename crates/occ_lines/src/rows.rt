@@ -1,11 +1,11 @@
 //! Worked rows of the definitions: each function has an empty body, and its clauses are computed.
-ghost use Rattle.std.specs.Prelude.{◌≡◌, ◌++◌, [], ◌∷◌, codes, false, true};
-ghost use Rattle.std.specs.Str.Parse.{digits_value};
+ghost use Rattle.std.specs.Prelude.{◌≡◌, ◌++◌, [], ◌∷◌, ℕ, List, codes, false, true};
 ghost use Rattle.occ_base.specs.declared.code.Code.TheVariants as code;
-ghost use Rattle.occ_lines.specs.Lexeme.{after_blanks, is_end, is_lexeme, is_name, is_number, is_symbol, name_token, number_token, symbol_token};
+ghost use Rattle.occ_lines.specs.Lexeme.{IsFirst, Lexes, is_name, is_number, is_symbol, name_token, number_token, symbol_token};
 ghost use Rattle.occ_lines.specs.Lines.{IsBody, column, is_skipped};
 ghost use Rattle.occ_lines.specs.declared.logical.Body.TheVariants as body;
 ghost use Rattle.occ_lines.specs.declared.token.Symbol.TheVariants as s;
+ghost use Rattle.occ_lines.specs.declared.token.Token.{Token as AToken};
 ghost use Rattle.occ_lines.specs.declared.token.Token.TheVariants as t;
 ghost use Rattle.occ_lines.specs.declared.token.Word.TheVariants as w;
 
@@ -56,6 +56,17 @@ pub fn symbol_token_rows()
     ensures assign { symbol_token (codes ":=") ≡ Some (t.Symbol s.Assign) }
     ensures counted { symbol_token (codes "::") ≡ None }
     ensures colon { symbol_token (codes ":") ≡ Some (t.Symbol s.Colon) }
+{}
+
+/// Which token is first, and what follows it.
+pub fn first_rows()
+    ensures name { IsFirst (codes "ab+c") (t.Name (codes "ab")) (codes "+c") }
+    ensures number { IsFirst (codes "12ab") (t.Decimal 12) (codes "ab") }
+    ensures symbol { IsFirst (codes ":=b") (t.Symbol s.Assign) (codes "b") }
+    ensures bad { (token : AToken) (rest : List ℕ) → IsFirst (codes "$a") token rest → ⊥ }
+    ensures later { (token : AToken) (rest : List ℕ) → IsFirst (codes "::a") token rest → ⊥ }
+    ensures line { Lexes (codes " ab --") (t.Name (codes "ab") ∷ []) }
+    ensures none { (tokens : List AToken) → Lexes (codes " $a") tokens → ⊥ }
 {}
 
 /// Columns, and the lines that are skipped.
