@@ -1,11 +1,11 @@
 -- The first token of a text, and that there is one at most.
-use Rattle.std.proofs.Common.{◌≡◌, ◌≢◌, ◌≤◌, ◌<◌, ◌+◌, ◌-◌, ◌&&◌, ◌||◌, ◌==◌, ◌⊎◌, inl, inr, ℕ, zero, suc, Bool, true, false, not, cond, nat_lt, nat_le, List, [], ◌∷◌, ◌++◌, length, take, drop, Option, Some, None, refl, sym, ap, subst, ◌∙◌, arith, length-take, length-drop, length-append, take-append-drop}
+use Rattle.std.proofs.Common.{◌≡◌, ◌<◌, ◌+◌, ◌==◌, inl, inr, ℕ, true, List, [], ◌∷◌, ◌++◌, length, take, drop, Option, Some, None, refl, sym, ap, ◌∙◌, arith, length-take, length-append, take-append-drop}
 use Rattle.std.specs.Option.{is_some}
-use Rattle.std.proofs.lemmas.Bool.{and_parts, eqb-true, cases_Bool, cases_lt, or_cases, or_left, or_right, false≢true, cond-true, cond-false}
+use Rattle.std.proofs.lemmas.Bool.{and_parts, eqb-true, cases_Bool, false≢true, cond-false}
 use Rattle.std.proofs.lemmas.List.{take_at, drop_at}
 use Rattle.occ_lines.specs.declared.token.Symbol.{Symbol}
 use Rattle.occ_lines.specs.declared.token.Token.{Token}
-use Rattle.occ_lines.specs.Lexeme.{IsFirst, Lexes, LexesFrom, after_blanks, is_blank, is_end, is_lexeme, is_name, is_number, is_symbol, name_token, number_token, symbol_by_row, symbol_row, symbol_token, token_of}
+use Rattle.occ_lines.specs.Lexeme.{IsFirst, is_end, is_lexeme, is_name, is_number, is_symbol, symbol_by_row, symbol_row, symbol_token, token_of}
 use Rattle.occ_lines.specs.Scan.{IsLongest}
 use Rattle.occ_lines.proofs.Longest.{is_lexeme_name, is_lexeme_number, is_lexeme_symbol, no_lexeme_empty, no_lexeme_dash}
 

@@ -1,5 +1,5 @@
 -- Tokens one after the other.
-use Rattle.std.proofs.Common.{◌≡◌, ◌≤◌, ◌<◌, ◌+◌, ℕ, zero, suc, Bool, true, false, cond, List, [], ◌∷◌, ◌++◌, length, refl, sym, ap, subst, ◌∙◌, arith, append_assoc, ◌⊎◌, inl, inr}
+use Rattle.std.proofs.Common.{◌≡◌, ◌≤◌, ◌<◌, ℕ, true, false, List, [], ◌∷◌, ◌++◌, length, refl, sym, ap, subst, ◌∙◌, arith, append_assoc, inl, inr}
 use Rattle.std.proofs.lemmas.List.{append-nil}
 use Rattle.std.proofs.lemmas.Bool.{cases_Bool, false≢true, cond-true, cond-false}
 use Rattle.occ_lines.specs.declared.token.Token.{Token}
@@ -34,12 +34,12 @@ pub is_done : (text : List ℕ) (found : List Token) (rest : List ℕ) → Kept 
 is_done text found rest kept end = subst (λ (ts : List Token). Lexes text ts) (append-nil found) (kept.joined [] end)
 
 -- where no token begins the rest, the text is no tokens
-none : (rest : List ℕ) → is_end rest ≡ false → ((token : Token) (after : List ℕ) → IsFirst rest token after → ⊥) → (tokens : List Token) → LexesFrom rest tokens → ⊥
-none rest open_end no_first [] h = false≢true (sym open_end ∙ h)
-none rest open_end no_first (t ∷ ts) h = no_first t h.0 h.1
+pub no_tokens : (rest : List ℕ) → is_end rest ≡ false → ((token : Token) (after : List ℕ) → IsFirst rest token after → ⊥) → (tokens : List Token) → LexesFrom rest tokens → ⊥
+no_tokens rest open_end no_first [] h = false≢true (sym open_end ∙ h)
+no_tokens rest open_end no_first (t ∷ ts) h = no_first t h.0 h.1
 
 pub fails : (text : List ℕ) (found : List Token) (rest : List ℕ) → Kept text found rest → is_end rest ≡ false → ((token : Token) (after : List ℕ) → IsFirst rest token after → ⊥) → (tokens : List Token) → Lexes text tokens → ⊥
-fails text found rest kept open_end no_first tokens h = let step = kept.only tokens h in none rest open_end no_first step.0 step.2
+fails text found rest kept open_end no_first tokens h = let step = kept.only tokens h in no_tokens rest open_end no_first step.0 step.2
 
 pub blanks_le : (text : List ℕ) → length (after_blanks text) ≤ length text
 blanks_le [] = omega arith

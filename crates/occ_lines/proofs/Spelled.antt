@@ -1,5 +1,5 @@
 -- The logical lines of lines, one after the other.
-use Rattle.std.proofs.Common.{◌≡◌, ◌≤◌, ◌<◌, ◌+◌, ◌/◌, ◌%◌, ◌==◌, ◌⊎◌, inl, inr, ℕ, Bool, true, false, List, [], ◌∷◌, ◌++◌, length, map, refl, sym, ap, subst, ◌∙◌, arith, append_assoc}
+use Rattle.std.proofs.Common.{◌≡◌, ◌+◌, ◌%◌, ◌==◌, inl, inr, ℕ, Bool, true, false, List, [], ◌∷◌, ◌++◌, map, refl, sym, ap, subst, ◌∙◌, append_assoc}
 use Rattle.std.specs.Bool.{MatchBool}
 use Rattle.std.proofs.lemmas.Bool.{MatchBool-at_false, MatchBool-at_true, cases_Bool}
 use Rattle.std.proofs.lemmas.List.{append-nil}
@@ -9,7 +9,7 @@ use Rattle.occ_lines.specs.declared.logical.Body.{Body}
 use Rattle.occ_lines.specs.declared.logical.Body.TheVariants as body
 use Rattle.occ_lines.specs.declared.logical.Logical.{Logical}
 use Rattle.occ_lines.specs.declared.token.Token.{Token}
-use Rattle.occ_lines.specs.Lexeme.{Lexes, after_blanks}
+use Rattle.occ_lines.specs.Lexeme.{after_blanks}
 use Rattle.occ_lines.specs.Lines.{AreLogical, IsBody, IsLines, IsLogical, IsRead, column, is_skipped}
 use Rattle.occ_lines.proofs.Reading.{one_list}
 

@@ -1,8 +1,7 @@
 -- The logical lines that a text spells.
-use Rattle.std.specs.Prelude.{◌≡◌, ◌⊎◌, ◌==◌, ◌+◌, ◌*◌, ◌/◌, ◌%◌, ℕ, Bool, cond, List, [], ◌∷◌, length, map, nat_lt, Option, Some, None}
+use Rattle.std.specs.Prelude.{◌≡◌, ◌==◌, ◌+◌, ◌*◌, ◌/◌, ◌%◌, ℕ, Bool, cond, List, [], ◌∷◌, length, map, nat_lt, Option, Some, None}
 use Rattle.std.specs.Bool.{MatchBool}
 use Rattle.bstr.specs.Text.{lines_of, without_terminator}
-use Rattle.occ_base.specs.declared.code.Code.{Code}
 use Rattle.occ_base.specs.declared.code.Code.TheVariants as code
 use Rattle.occ_lines.specs.declared.logical.Body.{Body}
 use Rattle.occ_lines.specs.declared.logical.Body.TheVariants as body

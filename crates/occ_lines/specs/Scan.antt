@@ -1,5 +1,5 @@
 -- What the scanner finds on its way to a token.
-use Rattle.std.specs.Prelude.{◌≡◌, ◌≤◌, ◌<◌, ℕ, Bool, true, false, List, [], ◌∷◌, ◌++◌, length, take}
+use Rattle.std.specs.Prelude.{◌≡◌, ◌≤◌, ◌<◌, ℕ, Bool, true, List, ◌++◌, length, take}
 
 -- the front of n bytes passes, if it has a byte, and no longer front does
 pub record IsLongest (passes : List ℕ → Bool) (text : List ℕ) (n : ℕ) : Type 0 where

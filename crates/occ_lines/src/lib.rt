@@ -6,10 +6,16 @@ mod blanks;
 mod lexeme;
 mod logical;
 mod reader;
+mod rows;
 mod scan;
+#[cfg(test)]
+mod tests;
 mod token;
 mod tokens;
 
 pub use logical::{Body, Logical, TextFault};
 pub use reader::{logical_lines, text_fault};
+pub use rows::{
+    class_rows, first_rows, line_rows, name_rows, number_rows, symbol_rows, symbol_token_rows,
+};
 pub use token::{Symbol, Token, Word};

@@ -1,5 +1,5 @@
-use Rattle.std.proofs.Common.{◌∙◌, ap, arith, length, subst, sym}
-use Rattle.occ_lines.proofs.Sizes.{AreShort, all_counted, lines_short}
+use Rattle.std.proofs.Common.{◌∙◌, ap, arith, length, sym}
+use Rattle.occ_lines.proofs.Sizes.{all_counted, lines_short}
 use Rattle.occ_lines.proofs.Spelled.{goes_begins, goes_over, goes_to_end}
 use Rattle.occ_lines.proofs.reader.read.Goals as goal
 

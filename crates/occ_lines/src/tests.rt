@@ -1,0 +1,118 @@
+use crate::{Body, TextFault, Token, logical_lines};
+use std::alloc::Global;
+use std::fmt::Write;
+use std::test::Fail;
+
+/// The logical lines, each as `LINE DEPTH` and then its tokens, or its fault.
+fn shown(alloc: Global, text: &[u8]) -> Result<String, Fail> {
+    let mut out = String::new(alloc);
+    let lines = logical_lines(alloc, text)?;
+    for logical in lines.as_slice() {
+        write!(out, "{} {}", logical.line, logical.depth)?;
+        match &logical.body {
+            Body::Fault(code) => write!(out, " {}", code.as_str())?,
+            Body::Tokens(tokens) => {
+                for token in tokens.as_slice() {
+                    show(&mut out, token)?;
+                }
+            }
+        }
+        out.push_str("\n")?;
+    }
+    Ok(out)
+}
+
+fn show(out: &mut String, token: &Token) -> Result<(), Fail> {
+    match token {
+        Token::Name(name) => {
+            out.push_str(" ")?;
+            for b in name.as_bytes() {
+                out.push(char::from(*b))?;
+            }
+        }
+        Token::Decimal(value) => write!(out, " {value}")?,
+        Token::Word(word) => write!(out, " {word:?}")?,
+        Token::Symbol(symbol) => write!(out, " {symbol:?}")?,
+    }
+    Ok(())
+}
+
+#[test]
+fn tokens_of_lines(rt: HostRuntime) -> Result<(), Fail> {
+    let rows: [(&[u8], &str); 17] = [
+        (
+            b"a[12]:=b+3--c\n",
+            "1 0 a OpenIndex 12 CloseIndex Assign b Plus 3\n",
+        ),
+        (b"PROC p ()", "1 0 Proc p Open Close\n"),
+        (b"\tSKIP\n", "1 4 Skip\n"),
+        (b" \tSEQ\n  \t  PAR -- both\n", "1 4 Seq\n2 5 Par\n"),
+        (
+            b"SKIP\r\nINT x, y:\r\n",
+            "1 0 Skip\n2 0 Int x Comma y Colon\n",
+        ),
+        (b"\n--\n   \n   -- a\x80\xff\n  x.1:\n", "5 1 x.1 Colon\n"),
+        (b"x$\n", "1 0 L1\n"),
+        (b"a-b\n", "1 0 L1\n"),
+        (b" SKIP\n $\n", "1 0 L2\n2 0 L2\n"),
+        (b"  $\n", "1 1 L1\n"),
+        (b"WHILE\nWHILEx\nwhile\n", "1 0 L1\n2 0 WHILEx\n3 0 while\n"),
+        (
+            b"18446744073709551615\n00018446744073709551615\n",
+            "1 0 18446744073709551615\n2 0 18446744073709551615\n",
+        ),
+        (b"18446744073709551616\n", "1 0 L1\n"),
+        (
+            b"a::b\na: :b\na:=:b\n",
+            "1 0 L1\n2 0 a Colon Colon b\n3 0 a Assign Colon b\n",
+        ),
+        (b"123abc\ta\n", "1 0 123 abc a\n"),
+        (b"\r\r\n\r\n\r", "1 0 L1\n3 0 L1\n"),
+        (b"", ""),
+    ];
+    for (text, want) in rows {
+        let found = shown(rt.alloc(), text)?;
+        assert_eq!(rt; found.as_str(), want);
+    }
+    Ok(())
+}
+
+#[test]
+fn size_of_a_text(rt: HostRuntime) -> Result<(), Fail> {
+    let mut text = Vec::with_capacity(rt.alloc(), 262_145)?;
+    text.extend_from_slice(b"--")?;
+    for _ in 2..262_144 {
+        text.push(b'x')?;
+    }
+    let within = logical_lines(rt.alloc(), text.as_slice())?;
+    assert_eq!(rt; within.len(), 0);
+    text.push(b'\n')?;
+    let over = logical_lines(rt.alloc(), text.as_slice());
+    assert!(rt; matches!(over, Err(TextFault::TooLarge)));
+    Ok(())
+}
+
+#[test]
+fn lines_of_a_text(rt: HostRuntime) -> Result<(), Fail> {
+    let mut text = Vec::new(rt.alloc());
+    for _ in 0..16_384 {
+        text.extend_from_slice(b"x\n")?;
+    }
+    let within = logical_lines(rt.alloc(), text.as_slice())?;
+    assert_eq!(rt; within.len(), 16_384);
+    text.push(b' ')?;
+    let over = logical_lines(rt.alloc(), text.as_slice());
+    assert!(rt; matches!(over, Err(TextFault::TooManyLines)));
+    Ok(())
+}
+
+#[test]
+fn both_limits(rt: HostRuntime) -> Result<(), Fail> {
+    let mut text = Vec::new(rt.alloc());
+    for _ in 0..262_145 {
+        text.push(b'\n')?;
+    }
+    let over = logical_lines(rt.alloc(), text.as_slice());
+    assert!(rt; matches!(over, Err(TextFault::TooLarge)));
+    Ok(())
+}
