@@ -66,8 +66,5 @@ pub fn prepare(alloc: Global, text: &[u8]) -> Result<Source, TextFault>
     ensures many { IsErrOf result TextFault.TooManyLines ↔ ((length text.now ≤ 262144) × (16384 < line_count text.now)) }
 {
     let logicals = logical_lines(alloc, text)?;
-    match source(alloc, text, logicals.as_slice()) {
-        Ok(source) => Ok(source),
-        Err(AllocError) => Err(TextFault::Memory),
-    }
+    Ok(source(alloc, text, logicals.as_slice())?)
 }

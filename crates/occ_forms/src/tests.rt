@@ -1,6 +1,6 @@
-use super::{Element, Expr, Form, LineFault, Operand, form};
-use occ_base::{Items, Name};
-use occ_lines::{Symbol, Token, Word};
+use super::{Element, Expr, Form, LineBody, LineFault, Operand, SourceLine, form, prepare};
+use occ_base::{Code, Items, Name};
+use occ_lines::{Symbol, TextFault, Token, Word};
 use std::alloc::{AllocError, Global};
 use std::test::Fail;
 
@@ -128,5 +128,48 @@ fn reads_no_form(rt: HostRuntime) -> Result<(), Fail> {
             "at {line}"
         );
     }
+    Ok(())
+}
+
+/// The fault of the line, where it has one.
+fn fault(line: &SourceLine) -> Option<Code> {
+    match line.body {
+        LineBody::Form(_) => None,
+        LineBody::Fault(fault) => Some(fault),
+    }
+}
+
+#[test]
+fn prepares_a_text(rt: HostRuntime) -> Result<(), Fail> {
+    let text = b"PROC p ()\n  INT x:\n\n x := 1\n  x $ 1\n  x x -- none\n    SKIP\n:";
+    let source = prepare(rt.alloc(), text)?;
+    assert_eq!(rt; source.text(), text.as_slice());
+    let wanted = [
+        (1, 0, None),
+        (2, 1, None),
+        (4, 0, Some(Code::L2)),
+        (5, 1, Some(Code::L1)),
+        (6, 1, Some(Code::S1)),
+        (7, 2, None),
+        (8, 0, None),
+    ];
+    assert_eq!(rt; source.lines().len(), wanted.len());
+    for (line, (number, depth, code)) in source.lines().iter().zip(wanted) {
+        assert_eq!(rt; line.line, number);
+        assert_eq!(rt; line.depth, depth);
+        assert_eq!(rt; fault(line), code);
+    }
+    Ok(())
+}
+
+#[test]
+fn refuses_a_text(rt: HostRuntime) -> Result<(), Fail> {
+    let alloc = rt.alloc();
+    let blanks = [b' '; 262_145];
+    assert!(rt; prepare(alloc, &blanks[1..]).is_ok());
+    assert!(rt; matches!(prepare(alloc, &blanks), Err(TextFault::TooLarge)));
+    let ends = [b'\n'; 16_385];
+    assert!(rt; prepare(alloc, &ends[1..]).is_ok());
+    assert!(rt; matches!(prepare(alloc, &ends), Err(TextFault::TooManyLines)));
     Ok(())
 }
