@@ -1,3 +1,11 @@
 //! The diagnostics of a unit in the first sublanguage: faults of lines, shape, names and the parallel rule. A
 //! private part of occheck, which alone uses it.
 #![tactic(auto)]
+
+mod faults;
+mod nesting;
+mod order;
+mod shape;
+
+pub use faults::find_line_faults;
+pub use order::in_order;
