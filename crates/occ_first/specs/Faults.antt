@@ -1,5 +1,5 @@
 -- The diagnostics of lines that have no form.
-use Rattle.std.specs.Prelude.{ℕ, List, [], ◌∷◌, Option, Some, None}
+use Rattle.std.specs.Prelude.{ℕ, Bool, if◌then◌else◌, List, [], ◌∷◌, Option, Some, None}
 use Rattle.std.specs.List.{flat_map}
 use Rattle.occ_base.specs.declared.code.Code.{Code}
 use Rattle.occ_base.specs.declared.code.Grade.TheVariants as grade
@@ -11,6 +11,10 @@ use Rattle.occ_forms.specs.declared.source.LineBody.TheVariants as body
 -- an error at a line of the file, with the name that it tells
 abbrev pub error_at : List ℕ → ℕ → Code → Option (List ℕ) → Diag
 error_at file line code name = record { file = file; line = line; code = code; grade = grade.Error; name = name }
+
+-- the error without a name, if the test holds
+abbrev pub error_if : Bool → List ℕ → ℕ → Code → List Diag
+error_if test file line code = if test then error_at file line code None ∷ [] else []
 
 abbrev pub body_faults : List ℕ → ℕ → LineBody → List Diag
 body_faults file line (body.Form f) = []

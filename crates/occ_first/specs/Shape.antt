@@ -13,7 +13,7 @@ use Rattle.occ_first.specs.declared.nesting.Role.TheVariants as role
 use Rattle.occ_first.specs.declared.nesting.Child.{Child}
 use Rattle.occ_first.specs.declared.shape.Row.{Row}
 use Rattle.occ_first.specs.declared.shape.Row.TheVariants as row
-use Rattle.occ_first.specs.Faults.{error_at}
+use Rattle.occ_first.specs.Faults.{error_if}
 use Rattle.occ_first.specs.Nesting.{children, under}
 
 abbrev pub form_row : Form → Row
@@ -72,23 +72,25 @@ abbrev pub is_one : Row → Bool
 is_one row.One = true
 is_one _ = false
 
--- the child cannot stand between those before it, the nearest first, and those after it: a close not right
--- behind a head, a head with no close right behind it, a second process where there may be one
-abbrev pub is_misplaced : Row → List Child → Role → List Child → Bool
-is_misplaced r before role.Close after = not (first_is is_head before)
-is_misplaced r before role.Head after = not (first_is is_close after)
-is_misplaced r before role.Process after = is_one r && some_is is_process before
-is_misplaced r before role.Declaration after = false
-is_misplaced r before role.Other after = false
+-- a line of this role cannot stand where it does: a close that is not right behind a head, a head that is not
+-- right before a close, a second process where there may be one
+abbrev pub is_misplaced : Row → Role → Bool → Bool → Bool → Bool
+is_misplaced r role.Close behind_head behind_process before_close = not behind_head
+is_misplaced r role.Head behind_head behind_process before_close = not before_close
+is_misplaced r role.Process behind_head behind_process before_close = is_one r && behind_process
+is_misplaced r role.Declaration behind_head behind_process before_close = false
+is_misplaced r role.Other behind_head behind_process before_close = false
 
-abbrev pub is_wrong : Row → ℕ → List Child → Child → List Child → Bool
-is_wrong r d before k after = not (k.depth == d) || (not (lets r k.role) || is_misplaced r before k.role after)
+-- the child cannot stand at depth d where it does, before those after it
+abbrev pub is_wrong : Row → ℕ → Bool → Bool → Child → List Child → Bool
+is_wrong r d behind_head behind_process k after =
+    not (k.depth == d) || (not (lets r k.role) || is_misplaced r k.role behind_head behind_process (first_is is_close after))
 
--- an S2 at each wrong child
+-- an S2 at each wrong child; before are those before the children, the nearest first
 abbrev pub sibling_faults : List ℕ → Row → ℕ → List Child → List Child → List Diag
 sibling_faults file r d before [] = []
 sibling_faults file r d before (k ∷ after) =
-    (if is_wrong r d before k after then error_at file k.line code.S2 None ∷ [] else []) ++ sibling_faults file r d (k ∷ before) after
+    error_if (is_wrong r d (first_is is_head before) (some_is is_process before) k after) file k.line code.S2 ++ sibling_faults file r d (k ∷ before) after
 
 -- the item that begins with a child of this role, those behind it being `after`
 abbrev pub item : Role → List Child → List Role
@@ -114,20 +116,15 @@ lacks row.Many ks = ends_specified false (items ks)
 lacks row.One ks = not (some_is is_process ks) || ends_specified false (items ks)
 lacks row.Nothing ks = false
 
-abbrev pub lack_faults : List ℕ → ℕ → Row → List Child → List Diag
-lack_faults file line r ks = if lacks r ks then error_at file line code.S2 None ∷ [] else []
-
-abbrev pub depth_faults : List ℕ → SourceLine → List Diag
-depth_faults file l = if nat_lt 64 l.depth then error_at file l.line code.S4 None ∷ [] else []
-
 -- at a parent with these children
 abbrev pub parent_faults : List ℕ → SourceLine → List Child → List Diag
-parent_faults file l ks = sibling_faults file (row_of l) (l.depth + 1) [] ks ++ lack_faults file l.line (row_of l) ks
+parent_faults file l ks = sibling_faults file (row_of l) (l.depth + 1) [] ks ++ error_if (lacks (row_of l) ks) file l.line code.S2
 
 -- at each line, with the lines that follow it
 abbrev pub nested_faults : List ℕ → List SourceLine → List Diag
 nested_faults file [] = []
-nested_faults file (l ∷ ls) = parent_faults file l (children (under l.depth ls)) ++ depth_faults file l ++ nested_faults file ls
+nested_faults file (l ∷ ls) =
+    parent_faults file l (children (under l.depth ls)) ++ error_if (nat_lt 64 l.depth) file l.line code.S4 ++ nested_faults file ls
 
 -- the diagnostics of shape of a file with these lines
 abbrev pub shape_faults : List ℕ → List SourceLine → List Diag

@@ -1,5 +1,5 @@
-ghost use Rattle.std.specs.Prelude.{◌≡◌, IfOk};
-ghost use Rattle.occ_first.specs.Faults.{error_at, line_faults};
+ghost use Rattle.std.specs.Prelude.{◌≡◌, ◌++◌, IfOk, OnOk};
+ghost use Rattle.occ_first.specs.Faults.{error_at, error_if, line_faults};
 
 use occ_base::{Code, Diag, FileName, Grade, Items, Name};
 use occ_forms::{LineBody, SourceLine};
@@ -16,6 +16,22 @@ pub fn error(file: FileName, line: u32, code: Code, name: Option<Name>) -> Diag
         grade: Grade::Error,
         name,
     }
+}
+
+/// Adds the error without a name, if the test holds.
+pub fn add_error_if(
+    test: bool,
+    file: FileName,
+    line: u32,
+    code: Code,
+    found: &mut Items<Diag>,
+) -> Result<(), AllocError>
+    ensures { OnOk result (found.new ≡ found.old ++ error_if test file line code) }
+{
+    if test {
+        found.push(error(file, line, code, None))?;
+    }
+    Ok(())
 }
 
 /// The faults that lines have instead of a form.

@@ -9,3 +9,4 @@ mod shape;
 
 pub use faults::find_line_faults;
 pub use order::in_order;
+pub use shape::find_shape_faults;
