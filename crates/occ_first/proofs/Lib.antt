@@ -1,3 +1,4 @@
 pub mod Placed
 pub mod Nested
 pub mod Siblings
+pub mod Scopes

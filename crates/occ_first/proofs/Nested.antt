@@ -1,5 +1,5 @@
 -- Laws of the lines that stand under a line.
-use Rattle.std.proofs.Common.{◌≡◌, ◌≤◌, ℕ, Bool, true, false, cond, ltb, List, [], ◌∷◌, length, take, refl, ap, arith}
+use Rattle.std.proofs.Common.{◌≡◌, ℕ, Bool, true, false, cond, ltb, List, [], ◌∷◌, length, take, refl, ap}
 use Rattle.occ_forms.specs.declared.source.SourceLine.{SourceLine}
 use Rattle.occ_first.specs.Nesting.{under}
 
@@ -10,11 +10,3 @@ take_cond false l ls us e = refl
 pub take_under : (d : ℕ) (ls : List SourceLine) → take (length (under d ls)) ls ≡ under d ls
 take_under d [] = refl
 take_under d (l ∷ ls) = take_cond (ltb d l.depth) l ls (under d ls) (take_under d ls)
-
-length_cond : (b : Bool) (l : SourceLine) (ls us : List SourceLine) → length us ≤ length ls → length (cond b (l ∷ us) []) ≤ length (l ∷ ls)
-length_cond true l ls us h = omega arith
-length_cond false l ls us h = omega arith
-
-pub length_under : (d : ℕ) (ls : List SourceLine) → length (under d ls) ≤ length ls
-length_under d [] = omega arith
-length_under d (l ∷ ls) = length_cond (ltb d l.depth) l ls (under d ls) (length_under d ls)

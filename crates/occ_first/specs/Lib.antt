@@ -2,3 +2,5 @@ pub mod Order
 pub mod Faults
 pub mod Nesting
 pub mod Shape
+pub mod Scope
+pub mod Names

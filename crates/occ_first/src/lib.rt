@@ -3,8 +3,10 @@
 #![tactic(auto)]
 
 mod faults;
+mod mention;
 mod nesting;
 mod order;
+mod scope;
 mod shape;
 
 pub use faults::find_line_faults;

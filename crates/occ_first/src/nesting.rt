@@ -1,4 +1,4 @@
-ghost use Rattle.std.specs.Prelude.{◌≡◌, IfOk, length};
+ghost use Rattle.std.specs.Prelude.{◌≡◌, ◌≤◌, IfOk, length};
 ghost use Rattle.occ_first.specs.Nesting.{child_of, children, role_of, under as lines_under};
 
 use occ_base::Items;
@@ -43,7 +43,8 @@ pub fn line_role(line: &SourceLine) -> Role
 
 /// How many lines deeper than `depth` come first.
 pub fn under_len(depth: u32, lines: &[SourceLine]) -> usize
-    ensures { result ≡ length (lines_under depth lines.now) }
+    ensures value { result ≡ length (lines_under depth lines.now) }
+    ensures within { result ≤ length lines.now }
 {
     for (i, line) in lines.iter().enumerate() {
         if line.depth <= depth {
@@ -54,20 +55,22 @@ pub fn under_len(depth: u32, lines: &[SourceLine]) -> usize
 }
 
 /// The lines deeper than `depth` that come first.
-#[tactic(auto, using(crate::proofs::Nested::take_under, crate::proofs::Nested::length_under))]
+#[tactic(auto, using(crate::proofs::Nested::take_under))]
 pub fn under(depth: u32, lines: &[SourceLine]) -> &[SourceLine]
     ensures { result.now ≡ lines_under depth lines.now }
 {
     &lines[..under_len(depth, lines)]
 }
 
-fn as_child(line: &SourceLine) -> Child
-    ensures { result ≡ child_of line.now }
-{
-    Child {
-        line: line.line,
-        depth: line.depth,
-        role: line_role(line),
+impl Child {
+    fn of(line: &SourceLine) -> Child
+        ensures { result ≡ child_of line.now }
+    {
+        Child {
+            line: line.line,
+            depth: line.depth,
+            role: line_role(line),
+        }
     }
 }
 
@@ -79,11 +82,11 @@ pub fn find_children(alloc: Global, lines: &[SourceLine]) -> Result<Items<Child>
     let Some((first, rest)) = lines.split_first() else {
         return Ok(kids);
     };
-    kids.push(as_child(first))?;
+    kids.push(Child::of(first))?;
     let mut bound = first.depth;
     for line in rest {
         if line.depth <= bound {
-            kids.push(as_child(line))?;
+            kids.push(Child::of(line))?;
             bound = line.depth;
         }
     }
