@@ -4,3 +4,5 @@ pub mod Nesting
 pub mod Shape
 pub mod Scope
 pub mod Names
+pub mod Parallel
+pub mod Marks

@@ -1,6 +1,7 @@
 -- The elements that assignments name, and the diagnostics of names that stand for no variable.
 use Rattle.std.specs.Prelude.{ℕ, List, [], ◌∷◌, ◌++◌, ◌+◌, Option, Some, None}
 use Rattle.std.specs.List.{flat_map}
+use Rattle.occ_base.specs.declared.code.Code.{Code}
 use Rattle.occ_base.specs.declared.code.Code.TheVariants as code
 use Rattle.occ_base.specs.declared.diag.Diag.{Diag}
 use Rattle.occ_forms.specs.declared.form.Element.{Element}
@@ -52,17 +53,22 @@ body_mentions (body.Fault code) = []
 abbrev pub mentions : SourceLine → List Mention
 mentions l = body_mentions l.body
 
-abbrev pub sort_faults : List ℕ → ℕ → List ℕ → Sort → List Diag
-sort_faults file line name sort.Variable = []
-sort_faults file line name sort.Procedure = error_at file line code.N2 (Some name) ∷ []
+-- why what a name stands for is no variable
+abbrev pub sort_fault : Sort → Option Code
+sort_fault sort.Variable = None
+sort_fault sort.Procedure = Some code.N2
 
-abbrev pub meaning_faults : List ℕ → ℕ → List ℕ → Option Specification → List Diag
-meaning_faults file line name None = error_at file line code.N1 (Some name) ∷ []
-meaning_faults file line name (Some s) = sort_faults file line name s.sort
+abbrev pub meaning_fault : Option Specification → Option Code
+meaning_fault None = Some code.N1
+meaning_fault (Some s) = sort_fault s.sort
+
+abbrev pub named_error : List ℕ → ℕ → List ℕ → Option Code → List Diag
+named_error file line name None = []
+named_error file line name (Some c) = error_at file line c (Some name) ∷ []
 
 -- at an element of the line, which is at the place
 abbrev pub mention_faults : List ℕ → List Specification → ℕ → ℕ → Mention → List Diag
-mention_faults file ss place line m = meaning_faults file line m.name (visible m.name place ss)
+mention_faults file ss place line m = named_error file line m.name (meaning_fault (visible m.name place ss))
 
 -- at each element of each of the lines, the first of which is at the place
 abbrev pub name_faults : List ℕ → List Specification → ℕ → List SourceLine → List Diag

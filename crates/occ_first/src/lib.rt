@@ -4,11 +4,17 @@
 
 mod faults;
 mod mention;
+mod names;
 mod nesting;
 mod order;
+mod parallel;
 mod scope;
 mod shape;
 
 pub use faults::find_line_faults;
+pub use mention::{Access, Mention, find_mentions};
+pub use names::find_name_faults;
+pub use nesting::{Child, Role};
 pub use order::in_order;
+pub use scope::{Sort, Specification, find_specifications};
 pub use shape::find_shape_faults;

@@ -1,10 +1,7 @@
 ghost use Rattle.std.specs.Prelude.{◌≡◌, ◌++◌, ◌∷◌, [], OnOk, IfOk};
-ghost use Rattle.std.specs.List.{flat_map};
-ghost use Rattle.occ_first.specs.Names.{element_mention, mention_faults, mentions, name_faults, operand_mentions};
+ghost use Rattle.occ_first.specs.Names.{element_mention, mentions, operand_mentions};
 
-use super::faults::error;
-use super::scope::{Sort, Specification, visible};
-use occ_base::{Code, Diag, FileName, Items, Name};
+use occ_base::{Items, Name};
 use occ_forms::{Element, Expr, Form, LineBody, Operand, SourceLine};
 use std::alloc::{AllocError, Global};
 
