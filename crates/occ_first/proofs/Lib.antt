@@ -2,3 +2,4 @@ pub mod Placed
 pub mod Nested
 pub mod Siblings
 pub mod Scopes
+pub mod Marked

@@ -6,3 +6,4 @@ pub mod Scope
 pub mod Names
 pub mod Parallel
 pub mod Marks
+pub mod Diagnostics

@@ -21,3 +21,9 @@ enter (Some m) place d of_kind = if nat_lt m.depth d then Some m else begun of_k
 pub record Marks (component : Option Mark) (head : Option Mark) (before : List LineAt) : Type 0 where
   pub outermost_is : (d : ℕ) → outermost (above d before) ≡ open_at component d
   pub head_is : (d : ℕ) → has_head (above d before) ≡ is_some (open_at head d)
+
+-- the place of the component that is open where no head is
+abbrev pub unheaded : Option Mark → Option Mark → Option ℕ
+unheaded None head = None
+unheaded (Some m) None = Some m.place
+unheaded (Some m) (Some h) = None

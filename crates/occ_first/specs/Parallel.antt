@@ -53,17 +53,22 @@ has_head ls = list_any (λ l. is_head (role_of l.line)) ls
 abbrev pub component : List LineAt → Option ℕ
 component ls = if has_head ls then None else outermost ls
 
-abbrev pub sort_uses : ℕ → Mention → Specification → Sort → List Use
-sort_uses c m s sort.Variable = record { component = c; root = s.place; name = m.name; subscript = m.subscript; access = m.access } ∷ []
-sort_uses c m s sort.Procedure = []
+abbrev pub sort_root : ℕ → Sort → Option ℕ
+sort_root place sort.Variable = Some place
+sort_root place sort.Procedure = None
 
-abbrev pub meaning_uses : ℕ → Mention → Option Specification → List Use
-meaning_uses c m None = []
-meaning_uses c m (Some s) = sort_uses c m s s.sort
+-- the place of the declaration, where a name stands for a variable
+abbrev pub root_of : Option Specification → Option ℕ
+root_of None = None
+root_of (Some s) = sort_root s.place s.sort
 
--- the use of a variable that the element at the place is
+abbrev pub rooted_uses : ℕ → Mention → Option ℕ → List Use
+rooted_uses c m None = []
+rooted_uses c m (Some root) = record { component = c; root = root; name = m.name; subscript = m.subscript; access = m.access } ∷ []
+
+-- the use of a variable in component c that the element at the place is
 abbrev pub mention_uses : List Specification → ℕ → ℕ → Mention → List Use
-mention_uses ss place c m = meaning_uses c m (visible m.name place ss)
+mention_uses ss place c m = rooted_uses c m (root_of (visible m.name place ss))
 
 abbrev pub component_uses : List Specification → LineAt → Option ℕ → List Use
 component_uses ss l None = []
@@ -85,13 +90,13 @@ differ (Some a) (Some b) = not (a == b)
 differ (Some a) None = false
 differ None b = false
 
--- u writes what v uses in another component
-abbrev pub clash : Use → Use → Bool
-clash u v =
-    not (u.component == v.component) && (is_written u.access && (u.root == v.root && (bytes_eq u.name v.name && not (differ u.subscript v.subscript))))
+-- another component uses the variable, or the element of it, that u is
+abbrev pub shares : Use → Use → Bool
+shares u v = not (u.component == v.component) && (u.root == v.root && (bytes_eq u.name v.name && not (differ u.subscript v.subscript)))
 
 abbrev pub use_faults : List ℕ → ℕ → List Use → Use → List Diag
-use_faults file line vs u = if list_any (clash u) vs then error_at file line code.U1 (Some u.name) ∷ [] else []
+use_faults file line us u =
+    if is_written u.access && list_any (shares u) us then error_at file line code.U1 (Some u.name) ∷ [] else []
 
 -- at a PAR on the line with these uses
 abbrev pub par_faults : List ℕ → ℕ → List Use → List Diag

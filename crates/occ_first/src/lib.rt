@@ -10,11 +10,6 @@ mod order;
 mod parallel;
 mod scope;
 mod shape;
+mod unit;
 
-pub use faults::find_line_faults;
-pub use mention::{Access, Mention, find_mentions};
-pub use names::find_name_faults;
-pub use nesting::{Child, Role};
-pub use order::in_order;
-pub use scope::{Sort, Specification, find_specifications};
-pub use shape::find_shape_faults;
+pub use unit::diagnostics;

@@ -57,7 +57,8 @@ pub fn under_len(depth: u32, lines: &[SourceLine]) -> usize
 /// The lines deeper than `depth` that come first.
 #[tactic(auto, using(crate::proofs::Nested::take_under))]
 pub fn under(depth: u32, lines: &[SourceLine]) -> &[SourceLine]
-    ensures { result.now ≡ lines_under depth lines.now }
+    ensures value { result.now ≡ lines_under depth lines.now }
+    ensures within { length result.now ≤ length lines.now }
 {
     &lines[..under_len(depth, lines)]
 }
