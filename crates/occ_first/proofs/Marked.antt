@@ -38,7 +38,7 @@ marks_more c h before l m = record {
       has_head_cond (ltb l.line.depth d) (l ∷ above l.line.depth before) (above d before)
       ∙ ap (λ (x : Bool). cond (ltb l.line.depth d) (is_head (role_of l.line) || x) (has_head (above d before))) (m.head_is l.line.depth)
       ∙ ap (λ (x : Bool). cond (ltb l.line.depth d) (is_head (role_of l.line) || is_some (open_at h l.line.depth)) x) (m.head_is d)
-      ∙ head_at h l.place l.line.depth d (is_head (role_of l.line))
+      ∙ head_at h l.place l.line.depth d (is_head (role_of l.line));
 }
 
 entered : (b k : Bool) (m : Mark) (place e : ℕ) → k || is_some (cond b (Some m.place) None) ≡ is_some (cond b (Some m) (begun k place e))

@@ -7,3 +7,4 @@ pub mod Names
 pub mod Parallel
 pub mod Marks
 pub mod Diagnostics
+pub mod Samples

@@ -1,5 +1,5 @@
 -- Which lines stand under which.
-use Rattle.std.specs.Prelude.{ℕ, Bool, List, [], ◌∷◌, nat_lt, nat_le, if◌then◌else◌}
+use Rattle.std.specs.Prelude.{ℕ, List, [], ◌∷◌, nat_lt, nat_le, if◌then◌else◌}
 use Rattle.occ_forms.specs.declared.form.Form.{Form}
 use Rattle.occ_forms.specs.declared.form.Form.TheVariants as form
 use Rattle.occ_forms.specs.declared.source.SourceLine.{SourceLine}

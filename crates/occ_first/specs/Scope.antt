@@ -27,8 +27,13 @@ variable place d ls name =
 -- scope is the rest of the item behind that
 abbrev pub procedure : ℕ → ℕ → List SourceLine → List ℕ → Specification
 procedure place d ls name =
-    record { name = name; place = place; sort = sort.Procedure; from = place + length (under d ls) + 2;
-        to = place + length (under d ls) + 2 + length (rest_of_item d (drop (length (under d ls) + 1) ls)) }
+    record {
+      name = name;
+      place = place;
+      sort = sort.Procedure;
+      from = place + length (under d ls) + 2;
+      to = place + length (under d ls) + 2 + length (rest_of_item d (drop (length (under d ls) + 1) ls));
+    }
 
 abbrev pub form_specifications : ℕ → ℕ → Form → List SourceLine → List Specification
 form_specifications place d (form.Procedure name) ls = procedure place d ls name ∷ []

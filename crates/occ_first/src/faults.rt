@@ -35,7 +35,11 @@ pub fn add_error_if(
 }
 
 /// The faults that lines have instead of a form.
-pub fn find_line_faults(alloc: Global, file: FileName, lines: &[SourceLine]) -> Result<Items<Diag>, AllocError>
+pub fn find_line_faults(
+    alloc: Global,
+    file: FileName,
+    lines: &[SourceLine],
+) -> Result<Items<Diag>, AllocError>
     ensures { IfOk result (λ found. found ≡ line_faults file lines.now) }
 {
     let mut found = Items::new(alloc);

@@ -8,8 +8,11 @@ mod names;
 mod nesting;
 mod order;
 mod parallel;
+mod rows;
 mod scope;
 mod shape;
+#[cfg(test)]
+mod tests;
 mod unit;
 
 pub use unit::diagnostics;

@@ -38,7 +38,11 @@ impl Mention {
 }
 
 /// Adds the element that the operand names, if it does.
-fn add_operand(alloc: Global, operand: &Operand, found: &mut Items<Mention>) -> Result<(), AllocError>
+fn add_operand(
+    alloc: Global,
+    operand: &Operand,
+    found: &mut Items<Mention>,
+) -> Result<(), AllocError>
     ensures { OnOk result (found.new ≡ found.old ++ operand_mentions operand.now) }
 {
     match operand {

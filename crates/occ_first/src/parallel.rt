@@ -151,7 +151,14 @@ fn find_uses(
     let mut rest = lines;
     while let Some((line, behind)) = rest.split_first() {
         open = open.past(place, line);
-        add_uses(alloc, specifications, open.component(), place, line, &mut found)?;
+        add_uses(
+            alloc,
+            specifications,
+            open.component(),
+            place,
+            line,
+            &mut found,
+        )?;
         place += 1;
         rest = behind;
     }

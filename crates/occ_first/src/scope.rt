@@ -51,7 +51,11 @@ fn lines_from(start: usize, lines: &[SourceLine]) -> &[SourceLine]
     ensures value { result.now ≡ drop start lines.now }
     ensures len { length result.now ≡ length lines.now - start }
 {
-    if start < lines.len() { &lines[start..] } else { &[] }
+    if start < lines.len() {
+        &lines[start..]
+    } else {
+        &[]
+    }
 }
 
 /// A variable of this name, declared at the place before these lines.
@@ -124,7 +128,10 @@ fn add_specifications(
 }
 
 /// The specifications of the lines, in their order.
-pub fn find_specifications(alloc: Global, lines: &[SourceLine]) -> Result<Items<Specification>, AllocError>
+pub fn find_specifications(
+    alloc: Global,
+    lines: &[SourceLine],
+) -> Result<Items<Specification>, AllocError>
     ensures { IfOk result (λ found. found ≡ specifications 0 lines.now) }
 {
     let mut found = Items::new(alloc);
@@ -147,7 +154,11 @@ fn reaches(name: &Name, place: usize, specification: &Specification) -> bool
 
 /// What the name stands for at the place: the last specification of the name that reaches it.
 #[tactic(auto, using(crate::proofs::Scopes::visible_last))]
-pub fn visible<'a>(name: &Name, place: usize, specifications: &'a [Specification]) -> Option<&'a Specification>
+pub fn visible<'a>(
+    name: &Name,
+    place: usize,
+    specifications: &'a [Specification],
+) -> Option<&'a Specification>
     ensures { option_copied result ≡ visible_in name.now place specifications.now }
 {
     let mut rest = specifications;

@@ -180,7 +180,11 @@ fn find_parent_faults(
 }
 
 /// The diagnostics of shape of a file with these lines.
-pub fn find_shape_faults(alloc: Global, file: FileName, lines: &[SourceLine]) -> Result<Items<Diag>, AllocError>
+pub fn find_shape_faults(
+    alloc: Global,
+    file: FileName,
+    lines: &[SourceLine],
+) -> Result<Items<Diag>, AllocError>
     ensures { IfOk result (λ found. found ≡ shape_faults file lines.now) }
 {
     let mut found = Items::new(alloc);

@@ -13,7 +13,11 @@ use occ_forms::SourceLine;
 use std::alloc::{AllocError, Global};
 
 /// The diagnostics of a unit with these lines, in their order.
-pub fn diagnostics(alloc: Global, file: FileName, lines: &[SourceLine]) -> Result<Items<Diag>, AllocError>
+pub fn diagnostics(
+    alloc: Global,
+    file: FileName,
+    lines: &[SourceLine],
+) -> Result<Items<Diag>, AllocError>
     ensures { IfOk result (λ diags. diags ≡ diagnostics_of file lines.now) }
 {
     let found = find_first_faults(alloc, file, lines)?;
@@ -21,7 +25,11 @@ pub fn diagnostics(alloc: Global, file: FileName, lines: &[SourceLine]) -> Resul
 }
 
 /// The diagnostics of names, if there are any; else those of the parallel rule.
-fn find_meaning_faults(alloc: Global, file: FileName, lines: &[SourceLine]) -> Result<Items<Diag>, AllocError>
+fn find_meaning_faults(
+    alloc: Global,
+    file: FileName,
+    lines: &[SourceLine],
+) -> Result<Items<Diag>, AllocError>
     ensures { IfOk result (λ found. found ≡ meaning_faults file (specifications 0 lines.now) lines.now) }
 {
     let specifications = find_specifications(alloc, lines)?;
@@ -33,7 +41,11 @@ fn find_meaning_faults(alloc: Global, file: FileName, lines: &[SourceLine]) -> R
 }
 
 /// Faults of lines, if there are any; else those of shape; else those of names and uses.
-fn find_first_faults(alloc: Global, file: FileName, lines: &[SourceLine]) -> Result<Items<Diag>, AllocError>
+fn find_first_faults(
+    alloc: Global,
+    file: FileName,
+    lines: &[SourceLine],
+) -> Result<Items<Diag>, AllocError>
     ensures { IfOk result (λ found. found ≡ first_faults file lines.now) }
 {
     let found = find_line_faults(alloc, file, lines)?;

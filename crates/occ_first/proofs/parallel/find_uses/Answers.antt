@@ -11,6 +11,9 @@ loop-line-preserved c =
     let known = rw (c.past-open.ensures.component, c.past-open.ensures.head) at c.component.ensures in
     record {
       lines = omega (arith, c.in-Some.ensures.cases.1, c.loop-line.invariant.lines);
-      walked = (at ∷ i.0, rw (c.past-open.ensures.component, c.past-open.ensures.head) (marks_more _ _ i.0 at i.1),
-          uses_more c.args.specifications.now i.0 _ c.in-Some.line.now c.in-Some.behind.now _ _ _ _ (component_is _ _ i.0 at i.1 ∙ sym known) c.in_ok-add_uses.ensures whole)
+      walked = (
+        at ∷ i.0,
+        rw (c.past-open.ensures.component, c.past-open.ensures.head) (marks_more _ _ i.0 at i.1),
+        uses_more c.args.specifications.now i.0 _ c.in-Some.line.now c.in-Some.behind.now _ _ _ _ (component_is _ _ i.0 at i.1 ∙ sym known) c.in_ok-add_uses.ensures whole,
+      );
     }

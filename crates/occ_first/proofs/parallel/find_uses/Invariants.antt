@@ -7,7 +7,7 @@ abbrev pub invariant-loop-line : goal.invariant-loop-line
 invariant-loop-line l = record {
   lines : l.place + length l.rest ≡ l.fn.first + length l.fn.lines;
   walked : (before : List LineAt) × Marks l.open.component l.open.head before
-      × (l.found ++ uses l.specifications before l.place l.rest ≡ uses l.specifications [] l.fn.first l.fn.lines)
+      × (l.found ++ uses l.specifications before l.place l.rest ≡ uses l.specifications [] l.fn.first l.fn.lines);
 }
 
 abbrev pub decreases-loop-line : goal.decreases-loop-line
