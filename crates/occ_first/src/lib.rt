@@ -1,3 +1,18 @@
 //! The diagnostics of a unit in the first sublanguage: faults of lines, shape, names and the parallel rule. A
 //! private part of occheck, which alone uses it.
 #![tactic(auto)]
+
+mod faults;
+mod mention;
+mod names;
+mod nesting;
+mod order;
+mod parallel;
+mod rows;
+mod scope;
+mod shape;
+#[cfg(test)]
+mod tests;
+mod unit;
+
+pub use unit::diagnostics;

@@ -1,0 +1,19 @@
+-- A list of diagnostics in their order, each once.
+use Rattle.std.specs.Prelude.{List, [], ◌∷◌}
+use Rattle.std.specs.declared.cmp.Ordering.{Ordering}
+use Rattle.std.specs.BTreeSet.{insert_key}
+use Rattle.occ_base.specs.declared.diag.Diag.{Diag}
+use Rattle.occ_base.specs.contracts.diag.DiagOrd.TheImpl as diag_ord
+
+-- the order of diagnostics
+abbrev pub diag_order : Diag → Diag → Ordering
+diag_order = (diag_ord.ghosts).cmp
+
+-- the diagnostics, put one by one at their places among those that are there already
+abbrev pub placed : List Diag → List Diag → List Diag
+placed [] there = there
+placed (d ∷ ds) there = insert_key diag_order (placed ds there) d
+
+-- in order, each once
+abbrev pub in_order : List Diag → List Diag
+in_order ds = placed ds []

@@ -1,0 +1,39 @@
+-- Lines for worked rows.
+use Rattle.std.specs.Prelude.{ℕ, List, [], None}
+use Rattle.occ_forms.specs.declared.form.Form.{Form}
+use Rattle.occ_forms.specs.declared.form.Form.TheVariants as form
+use Rattle.occ_forms.specs.declared.source.SourceLine.{SourceLine}
+use Rattle.occ_forms.specs.declared.source.LineBody.TheVariants as body
+use Rattle.occ_first.specs.declared.nesting.Child.{Child}
+use Rattle.occ_first.specs.declared.nesting.Role.{Role}
+use Rattle.occ_first.specs.declared.nesting.Role.TheVariants as role
+use Rattle.occ_first.specs.declared.scope.Sort.TheVariants as sort
+use Rattle.occ_first.specs.declared.scope.Specification.{Specification}
+
+abbrev pub of_form : ℕ → Form → SourceLine
+of_form d f = record { line = 1; depth = d; body = body.Form f }
+
+abbrev pub skip_at : ℕ → SourceLine
+skip_at d = of_form d form.Skip
+
+abbrev pub seq_at : ℕ → SourceLine
+seq_at d = of_form d form.Sequence
+
+abbrev pub head_at : ℕ → List ℕ → SourceLine
+head_at d name = of_form d (form.Procedure name)
+
+abbrev pub close_at : ℕ → SourceLine
+close_at d = of_form d form.Close
+
+abbrev pub int_at : ℕ → List ℕ → SourceLine
+int_at d name = of_form d (form.Declaration None name [])
+
+abbrev pub child_at : ℕ → Role → Child
+child_at d r = record { line = 1; depth = d; role = r }
+
+abbrev pub process_at : ℕ → Child
+process_at d = child_at d role.Process
+
+-- a variable of the name, declared at the place, that reaches from there to before `to`
+abbrev pub variable_to : List ℕ → ℕ → ℕ → Specification
+variable_to name place to = record { name = name; place = place; sort = sort.Variable; from = place; to = to }

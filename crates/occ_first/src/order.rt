@@ -1,0 +1,19 @@
+ghost use Rattle.std.specs.Prelude.{◌≡◌, IfOk};
+ghost use Rattle.occ_first.specs.Order.{in_order as ordered};
+
+use occ_base::{Diag, Items};
+use std::alloc::{AllocError, Global};
+use std::collections::BTreeSet;
+
+/// The diagnostics in order, each once.
+#[tactic(auto, using(crate::proofs::Placed::placed_last))]
+pub fn in_order(alloc: Global, mut found: Items<Diag>) -> Result<Items<Diag>, AllocError>
+    ensures { IfOk result (λ diags. diags ≡ ordered found) }
+{
+    let mut set = BTreeSet::new(alloc);
+    while let Some(diag) = found.pop() {
+        set.insert(diag)?;
+    }
+    let diags = set.into_iter().collect(alloc)?;
+    Ok(Items::from_vec(diags))
+}

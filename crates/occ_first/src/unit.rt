@@ -1,0 +1,60 @@
+ghost use Rattle.std.specs.Prelude.{◌≡◌, IfOk};
+ghost use Rattle.occ_first.specs.Diagnostics.{diagnostics_of, first_faults, meaning_faults};
+ghost use Rattle.occ_first.specs.Scope.{specifications};
+
+use super::faults::find_line_faults;
+use super::names::find_name_faults;
+use super::order::in_order;
+use super::parallel::find_parallel_faults;
+use super::scope::find_specifications;
+use super::shape::find_shape_faults;
+use occ_base::{Diag, FileName, Items};
+use occ_forms::SourceLine;
+use std::alloc::{AllocError, Global};
+
+/// The diagnostics of a unit with these lines, in their order.
+pub fn diagnostics(
+    alloc: Global,
+    file: FileName,
+    lines: &[SourceLine],
+) -> Result<Items<Diag>, AllocError>
+    ensures { IfOk result (λ diags. diags ≡ diagnostics_of file lines.now) }
+{
+    let found = find_first_faults(alloc, file, lines)?;
+    in_order(alloc, found)
+}
+
+/// The diagnostics of names, if there are any; else those of the parallel rule.
+fn find_meaning_faults(
+    alloc: Global,
+    file: FileName,
+    lines: &[SourceLine],
+) -> Result<Items<Diag>, AllocError>
+    ensures { IfOk result (λ found. found ≡ meaning_faults file (specifications 0 lines.now) lines.now) }
+{
+    let specifications = find_specifications(alloc, lines)?;
+    let found = find_name_faults(alloc, file, specifications.as_slice(), lines)?;
+    if !found.is_empty() {
+        return Ok(found);
+    }
+    find_parallel_faults(alloc, file, specifications.as_slice(), lines)
+}
+
+/// Faults of lines, if there are any; else those of shape; else those of names and uses.
+fn find_first_faults(
+    alloc: Global,
+    file: FileName,
+    lines: &[SourceLine],
+) -> Result<Items<Diag>, AllocError>
+    ensures { IfOk result (λ found. found ≡ first_faults file lines.now) }
+{
+    let found = find_line_faults(alloc, file, lines)?;
+    if !found.is_empty() {
+        return Ok(found);
+    }
+    let found = find_shape_faults(alloc, file, lines)?;
+    if !found.is_empty() {
+        return Ok(found);
+    }
+    find_meaning_faults(alloc, file, lines)
+}
