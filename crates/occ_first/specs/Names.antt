@@ -4,14 +4,14 @@ use Rattle.std.specs.List.{flat_map}
 use Rattle.occ_base.specs.declared.code.Code.{Code}
 use Rattle.occ_base.specs.declared.code.Code.TheVariants as code
 use Rattle.occ_base.specs.declared.diag.Diag.{Diag}
-use Rattle.occ_forms.specs.declared.form.Element.{Element}
-use Rattle.occ_forms.specs.declared.form.Element.TheVariants as element
-use Rattle.occ_forms.specs.declared.form.Operand.{Operand}
-use Rattle.occ_forms.specs.declared.form.Operand.TheVariants as operand
-use Rattle.occ_forms.specs.declared.form.Expr.{Expr}
-use Rattle.occ_forms.specs.declared.form.Expr.TheVariants as expr
-use Rattle.occ_forms.specs.declared.form.Form.{Form}
-use Rattle.occ_forms.specs.declared.form.Form.TheVariants as form
+use Rattle.occ_forms.specs.declared.tree.Element.{Element}
+use Rattle.occ_forms.specs.declared.tree.Element.TheVariants as element
+use Rattle.occ_forms.specs.declared.tree.Operand.{Operand}
+use Rattle.occ_forms.specs.declared.tree.Operand.TheVariants as operand
+use Rattle.occ_forms.specs.declared.tree.Expr.{Expr}
+use Rattle.occ_forms.specs.declared.tree.Expr.TheVariants as expr
+use Rattle.occ_forms.specs.declared.tree.Form.{Form}
+use Rattle.occ_forms.specs.declared.tree.Form.TheVariants as form
 use Rattle.occ_forms.specs.declared.source.SourceLine.{SourceLine}
 use Rattle.occ_forms.specs.declared.source.LineBody.{LineBody}
 use Rattle.occ_forms.specs.declared.source.LineBody.TheVariants as body

@@ -1,7 +1,7 @@
 -- Which lines stand under which.
 use Rattle.std.specs.Prelude.{ℕ, List, [], ◌∷◌, nat_lt, nat_le, if◌then◌else◌}
-use Rattle.occ_forms.specs.declared.form.Form.{Form}
-use Rattle.occ_forms.specs.declared.form.Form.TheVariants as form
+use Rattle.occ_forms.specs.declared.tree.Form.{Form}
+use Rattle.occ_forms.specs.declared.tree.Form.TheVariants as form
 use Rattle.occ_forms.specs.declared.source.SourceLine.{SourceLine}
 use Rattle.occ_forms.specs.declared.source.LineBody.{LineBody}
 use Rattle.occ_forms.specs.declared.source.LineBody.TheVariants as body

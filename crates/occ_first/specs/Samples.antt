@@ -1,7 +1,7 @@
 -- Lines for worked rows.
 use Rattle.std.specs.Prelude.{ℕ, List, [], None}
-use Rattle.occ_forms.specs.declared.form.Form.{Form}
-use Rattle.occ_forms.specs.declared.form.Form.TheVariants as form
+use Rattle.occ_forms.specs.declared.tree.Form.{Form}
+use Rattle.occ_forms.specs.declared.tree.Form.TheVariants as form
 use Rattle.occ_forms.specs.declared.source.SourceLine.{SourceLine}
 use Rattle.occ_forms.specs.declared.source.LineBody.TheVariants as body
 use Rattle.occ_first.specs.declared.nesting.Child.{Child}

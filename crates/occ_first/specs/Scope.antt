@@ -1,8 +1,8 @@
 -- What the specifications of a file specify, and where. A place is the number of a line among the lines, from 0.
 use Rattle.std.specs.Prelude.{ℕ, Bool, ◌&&◌, ◌==◌, ◌+◌, List, [], ◌∷◌, ◌++◌, Option, Some, None, map, drop, length, nat_lt, nat_le, if◌then◌else◌}
 use Rattle.std.specs.Str.{bytes_eq}
-use Rattle.occ_forms.specs.declared.form.Form.{Form}
-use Rattle.occ_forms.specs.declared.form.Form.TheVariants as form
+use Rattle.occ_forms.specs.declared.tree.Form.{Form}
+use Rattle.occ_forms.specs.declared.tree.Form.TheVariants as form
 use Rattle.occ_forms.specs.declared.source.SourceLine.{SourceLine}
 use Rattle.occ_forms.specs.declared.source.LineBody.{LineBody}
 use Rattle.occ_forms.specs.declared.source.LineBody.TheVariants as body

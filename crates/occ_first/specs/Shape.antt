@@ -3,8 +3,8 @@ use Rattle.std.specs.Prelude.{ℕ, Bool, true, false, not, ◌&&◌, ◌||◌, �
 use Rattle.std.specs.List.{list_any}
 use Rattle.occ_base.specs.declared.code.Code.TheVariants as code
 use Rattle.occ_base.specs.declared.diag.Diag.{Diag}
-use Rattle.occ_forms.specs.declared.form.Form.{Form}
-use Rattle.occ_forms.specs.declared.form.Form.TheVariants as form
+use Rattle.occ_forms.specs.declared.tree.Form.{Form}
+use Rattle.occ_forms.specs.declared.tree.Form.TheVariants as form
 use Rattle.occ_forms.specs.declared.source.SourceLine.{SourceLine}
 use Rattle.occ_forms.specs.declared.source.LineBody.{LineBody}
 use Rattle.occ_forms.specs.declared.source.LineBody.TheVariants as body
