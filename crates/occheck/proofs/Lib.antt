@@ -8,3 +8,4 @@ pub mod First
 pub mod Known
 pub mod Whole
 pub mod Over
+pub mod Opened

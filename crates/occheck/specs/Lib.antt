@@ -4,3 +4,7 @@ pub mod Script
 pub mod Header
 pub mod Ended
 pub mod Rest
+pub mod Machine
+pub mod Output
+pub mod Status
+pub mod Board
