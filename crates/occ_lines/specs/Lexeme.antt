@@ -12,9 +12,11 @@ use Rattle.occ_lines.specs.declared.token.Token.TheVariants as t
 use Rattle.occ_lines.specs.declared.token.Word.{Word}
 use Rattle.occ_lines.specs.declared.token.Word.TheVariants as w
 
+-- a space or a tab
 abbrev pub is_blank : ℕ → Bool
 is_blank b = b == 32 || b == 9
 
+-- a letter, a digit or a dot
 abbrev pub is_name_byte : ℕ → Bool
 is_name_byte b = is_ascii_alphanumeric b || b == 46
 
@@ -36,7 +38,7 @@ is_name bytes = starts_name bytes && list_all is_name_byte bytes
 abbrev pub is_number : List ℕ → Bool
 is_number bytes = starts_number bytes && list_all is_ascii_digit bytes
 
--- what stands in a table beside the spelling
+-- what stands in a table beside the spelling, if it is there
 abbrev pub found_in : {X : Type 0} → List (List ℕ × X) → List ℕ → Option X
 found_in [] bytes = None
 found_in (row ∷ rows) bytes = cond (bytes_eq row.0 bytes) (Some row.1) (found_in rows bytes)
@@ -61,6 +63,7 @@ reserved = (codes "AFTER", None) ∷ (codes "ALT", None) ∷ (codes "AND", None)
     ∷ (codes "TRUNC", None) ∷ (codes "TYPE", None) ∷ (codes "VAL", None) ∷ (codes "VALOF", None) ∷ (codes "VECSPACE", None) ∷ (codes "WHILE", None)
     ∷ (codes "WORKSPACE", None) ∷ []
 
+-- what the bytes are among the symbols, and among the reserved words
 unfoldable pub symbol_row : List ℕ → Option (Option Symbol)
 symbol_row = found_in symbols
 
@@ -80,6 +83,7 @@ name_by_row bytes None = Some (t.Name bytes)
 name_by_row bytes (Some None) = None
 name_by_row bytes (Some (Some word)) = Some (t.Word word)
 
+-- the token that a name is, that digits are and that a symbol is
 unfoldable pub name_token : List ℕ → Option Token
 name_token bytes = name_by_row bytes (reserved_row bytes)
 
@@ -118,7 +122,7 @@ abbrev pub after_blanks : List ℕ → List ℕ
 after_blanks [] = []
 after_blanks (b ∷ more) = cond (is_blank b) (after_blanks more) (b ∷ more)
 
--- nothing, or a comment
+-- nothing, or a comment, which begins with two '-'
 abbrev pub is_end : List ℕ → Bool
 is_end [] = true
 is_end (a ∷ []) = false

@@ -11,7 +11,7 @@ use Rattle.occ_lines.specs.declared.logical.TextFault.TheVariants as fault
 use Rattle.occ_lines.specs.declared.token.Token.{Token}
 use Rattle.occ_lines.specs.Lexeme.{Lexes, after_blanks, is_end}
 
--- the column behind the blanks in front, where they begin at a column: a tab goes to the next multiple of 8
+-- the column behind the blanks in front, where these begin at a column: a space (32) is one column, and a tab (9) goes to the next multiple of 8
 abbrev pub column_from : ℕ → List ℕ → ℕ
 column_from column [] = column
 column_from column (b ∷ more) = cond (b == 32) (column_from (column + 1) more) (cond (b == 9) (column_from ((column / 8 + 1) * 8) more) column)
@@ -24,16 +24,16 @@ column line = column_from 0 line
 abbrev pub is_skipped : List ℕ → Bool
 is_skipped line = is_end (after_blanks line)
 
--- the text is the tokens, or it is none at all
+-- the text is these tokens, or it is no list of tokens, which is the fault L1
 abbrev pub IsRead : List ℕ → Body → Type 0
 IsRead text (body.Tokens tokens) = Lexes text tokens
 IsRead text (body.Fault fault) = (fault ≡ code.L1) × ((tokens : List Token) → Lexes text tokens → ⊥)
 
--- what a line holds: its tokens are asked for only where its column is even
+-- what a line holds: in an odd column the fault L2, whatever stands there
 abbrev pub IsBody : List ℕ → Body → Type 0
 IsBody line x = MatchBool (column line % 2 == 1) (x ≡ body.Fault code.L2) (IsRead line x)
 
--- the logical line of the text's line of that number
+-- the logical line of the line of that number
 pub record IsLogical (number : ℕ) (line : List ℕ) (x : Logical) : Type 0 where
   pub numbered : x.line ≡ number
   pub deep : x.depth ≡ column line / 2
@@ -45,10 +45,11 @@ AreLogical number [] xs = xs ≡ []
 AreLogical number (line ∷ lines) xs = MatchBool (is_skipped line) (AreLogical (number + 1) lines xs)
     ((x : Logical) × (more : List Logical) × (xs ≡ x ∷ more) × IsLogical number line x × AreLogical (number + 1) lines more)
 
--- the logical lines of a text
+-- the logical lines of a text: its lines are numbered from 1
 abbrev pub IsLines : List ℕ → List Logical → Type 0
 IsLines text xs = AreLogical 1 (map without_terminator (lines_of text)) xs
 
+-- how many lines a text has: its line feeds, and one if bytes stand behind the last
 abbrev pub line_count : List ℕ → ℕ
 line_count text = length (lines_of text)
 

@@ -11,10 +11,10 @@ use occ_base::{Code, Items};
 use std::alloc::{AllocError, Global};
 
 /// The greatest number of bytes of a text.
-pub const MOST_BYTES: usize = 262_144;
+const MOST_BYTES: usize = 262_144;
 
 /// The greatest number of lines of a text.
-pub const MOST_LINES: usize = 16_384;
+const MOST_LINES: usize = 16_384;
 
 /// What a line holds whose first byte that is no blank stands in that column.
 fn body(alloc: Global, line: &[u8], column: u32) -> Result<Body, AllocError>
