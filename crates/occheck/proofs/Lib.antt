@@ -9,3 +9,4 @@ pub mod Known
 pub mod Whole
 pub mod Over
 pub mod Opened
+pub mod Running
