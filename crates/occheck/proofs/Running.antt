@@ -1,10 +1,11 @@
 -- How a run goes on from command to command.
-use Rattle.std.proofs.Common.{◌≡◌, ◌+◌, ℕ, zero, suc, Bool, true, false, cond, List, [], ◌∷◌, ◌++◌, Option, Some, None, refl, ap, sym, subst, ◌∙◌, append_assoc, append-nil, take, drop, take-append-drop, arith}
+use Rattle.std.proofs.Common.{◌≡◌, ◌+◌, ℕ, zero, suc, Bool, true, false, cond, List, [], ◌∷◌, ◌++◌, Option, Some, None, refl, ap, sym, subst, ◌∙◌, append_assoc, append-nil, take, drop, length, nat_lt, take-append-drop, arith}
 use Rattle.std.specs.Option.{option_map}
 use Rattle.occheck.specs.Devices.{Appends, AppendsFront}
+use Rattle.occheck.specs.Lines.{cut_lines, script_limit, whole_lines}
 use Rattle.occheck.specs.Machine.{Reading, State, start, answer, after}
 use Rattle.occheck.specs.Output.{answers, state_after, fault_text, output, status_of, end_status, IsWhole, IsTold, IsFaultTold}
-use Rattle.occheck.specs.Script.{Command, Script, ended, then}
+use Rattle.occheck.specs.Script.{Command, Script, ended, script_from, script_of, then}
 use Rattle.occheck.specs.declared.status.Status.{Status}
 use Rattle.occheck.specs.declared.status.Status.TheVariants as status
 use Rattle.occheck.proofs.First.{drop_more}
@@ -41,12 +42,15 @@ appends_more before now next a b h k w e = k (w ++ a) (h w e) ∙ ap Some (appen
 pub commands_are : (left rest script : Script) (k : ℕ) (c : Command) → left ≡ behind k script → left ≡ then c rest → drop k script.commands ≡ c ∷ rest.commands
 commands_are left rest script k c l e = ap (λ (s : Script). s.commands) (sym l ∙ e)
 
+abbrev script_with : List Command → Option ℕ → Script
+script_with commands fault = record { commands = commands; fault = fault }
+
 -- behind one more command
 pub behind_more : (left rest script : Script) (k : ℕ) (c : Command) → left ≡ behind k script → left ≡ then c rest → rest ≡ behind (k + 1) script
 behind_more left rest script k c l e =
     let d : rest.commands ≡ drop (k + 1) script.commands = sym (drop_more script.commands k c rest.commands (commands_are left rest script k c l e)) in
     let f : rest.fault ≡ script.fault = ap (λ (s : Script). s.fault) (sym e ∙ l) in
-    cc
+    ap (λ (x : List Command). script_with x rest.fault) d ∙ ap (λ (x : Option ℕ). script_with (drop (k + 1) script.commands) x) f
 
 pub one_command : (read : Reading) (script left rest : Script) (k : ℕ) (c : Command) (board next : State) (before now new : Option (List ℕ)) (bytes : List ℕ)
     → IsSoFar read script k board before now → left ≡ behind k script → left ≡ then c rest → next ≡ after read board c → bytes ≡ answer board c → Appends now new bytes
@@ -148,3 +152,11 @@ told_nothing read script before w e = (output read script, ap (λ (o : Option (L
 
 pub told_no_memory : (read : Reading) (script : Script) (before : Option (List ℕ)) → IsTold read script before before status.NoMemory
 told_no_memory read script before = (0, λ w e. e ∙ ap Some (sym (append-nil w)))
+
+-- what was read says what the script says
+pub same_script : (over : Bool) (slice items bytes : List ℕ) → slice ≡ items → cut_lines items ≡ whole_lines bytes → over ≡ nat_lt script_limit (length bytes) → script_from over 1 (cut_lines slice) ≡ script_of bytes
+same_script over slice items bytes s l o =
+    ap (λ (x : List ℕ). script_from over 1 (cut_lines x)) s ∙ ap (λ (x : List (List ℕ)). script_from over 1 x) l ∙ ap (λ (x : Bool). script_from x 1 (whole_lines bytes)) o
+
+pub told_same : (read : Reading) (script whole : Script) (before now : Option (List ℕ)) (result : Status) → script ≡ whole → IsTold read script before now result → IsTold read whole before now result
+told_same read script whole before now result e h = subst (λ (x : Script). IsTold read x before now result) e h
