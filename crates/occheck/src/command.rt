@@ -6,7 +6,7 @@ ghost use Rattle.occheck.specs.Lines.{words};
 ghost use Rattle.occheck.specs.Script.{header as a_header, is_number as a_number_text, number as a_number, number_on, worker as a_worker, bare as a_bare, with_worker as a_worker_command, with_text as an_opening};
 ghost use Rattle.occheck.specs.Header.{header_seen, words_after};
 
-use super::length_before;
+use super::lines::length_before;
 
 /// The first line of a command, with what it names lent from the script.
 #[derive(Clone, Copy, Debug)]

@@ -4,7 +4,7 @@ ghost use Rattle.occheck.specs.Ended.{IsEnded, IsOpen};
 ghost use Rattle.occheck.specs.Lines.{cut_lines, feeds, script_limit, whole_lines};
 ghost use Rattle.occheck.specs.declared.input.ReadFault.TheVariants as fault;
 
-use super::ByteIn;
+use super::devices::ByteIn;
 use std::alloc::{AllocError, Global};
 
 /// The greatest number of bytes of a script.

@@ -1,4 +1,4 @@
-//! The program: it runs the script on standard input.
+//! The program: it runs the script on standard input and writes the answers to standard output.
 #![tactic(auto)]
 
 mod answer;
@@ -14,14 +14,35 @@ mod script;
 mod status;
 mod written;
 
-pub use board::Board;
-pub use command::{Header, read_header};
-pub use devices::{ByteIn, ByteOut, Failed, StdIn, StdOut};
-pub use input::{ReadFault, ScriptText, read_script};
-pub use run::run_script;
-pub use lines::length_before;
-pub use script::{Command, Next, Rest, next_command};
-pub use status::Status;
-pub use written::write_all;
+use devices::{StdIn, StdOut};
+use run::run_script;
+use status::Status;
+use std::env::{self, Env};
+use std::io;
+use std::process::ExitCode;
 
-fn main() {}
+/// The exit status where the program is given words.
+const REFUSED: u8 = 64;
+
+fn main(rt: HostRuntime) -> ExitCode {
+    match has_words(&rt) {
+        Ok(false) => {
+            let status = run_script(
+                rt.alloc(),
+                &mut StdIn::new(rt.stdin()),
+                &mut StdOut::new(rt.stdout()),
+            );
+            ExitCode::from(status.code())
+        }
+        Ok(true) => {
+            let _ = eprintln!(rt; "occheck takes no words: it runs the script on standard input");
+            ExitCode::from(REFUSED)
+        }
+        Err(_) => ExitCode::from(Status::NoMemory.code()),
+    }
+}
+
+/// Whether the program was given words.
+fn has_words(rt: &(impl Env + Alloc)) -> io::Result<bool> {
+    Ok(env::args(rt)?.nth(1).is_some())
+}

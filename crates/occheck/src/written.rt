@@ -1,7 +1,7 @@
 ghost use Rattle.std.specs.Prelude.{◌≡◌, true, OnErr, OnOk};
 ghost use Rattle.occheck.specs.Devices.{Appends, AppendsFront};
 
-use super::{ByteOut, Failed};
+use super::devices::{ByteOut, Failed};
 
 /// Writes all the bytes. Where a write fails, a front of them was written.
 #[tactic(auto, using(crate::proofs::Left::wrote, crate::proofs::Left::nothing_yet, crate::proofs::Left::nothing_left, crate::proofs::Left::left_front, crate::proofs::Left::same_front))]
