@@ -1,3 +1,4 @@
 pub mod FileName
 pub mod Padded
 pub mod Diag
+pub mod Sample

@@ -6,9 +6,13 @@ mod code;
 mod diag;
 mod file_name;
 mod name;
+mod rows;
+#[cfg(test)]
+mod tests;
 
 pub use code::{Code, Grade};
 pub use diag::{Diag, write_diag};
 pub use file_name::{FileName, NameFault};
 pub use name::Name;
+pub use rows::{diag_rows, file_name_rows};
 pub use sqlite_items::{Boxed, Items};

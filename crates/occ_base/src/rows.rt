@@ -1,0 +1,32 @@
+ghost use Rattle.std.specs.Ordering.{is_lt};
+ghost use Rattle.std.specs.Prelude.{◌≡◌, ◌++◌, codes, false, None, replicate, Some, true};
+ghost use Rattle.occ_base.specs.Diag.{diag_line};
+ghost use Rattle.occ_base.specs.FileName.{is_unit, name_fault};
+ghost use Rattle.occ_base.specs.Sample.{sample};
+ghost use Rattle.occ_base.specs.declared.code.Code.TheVariants as code;
+ghost use Rattle.occ_base.specs.declared.code.Grade.TheVariants as grade;
+ghost use Rattle.occ_base.specs.declared.file_name.NameFault.TheVariants as fault;
+
+/// What the definition of a file name says of some bytes.
+pub fn file_name_rows()
+    ensures unit { name_fault (codes "a.occ") ≡ None }
+    ensures included { name_fault (codes "k-1_x.2.inc") ≡ None }
+    ensures bare { name_fault (codes ".occ") ≡ None }
+    ensures longest { name_fault (replicate 60 97 ++ codes ".occ") ≡ None }
+    ensures empty { name_fault (codes "") ≡ Some fault.Length }
+    ensures long { name_fault (replicate 61 97 ++ codes ".occ") ≡ Some fault.Length }
+    ensures length_first { name_fault (replicate 65 32) ≡ Some fault.Length }
+    ensures blank { name_fault (codes "a b.occ") ≡ Some fault.Byte }
+    ensures byte_first { name_fault (codes "a/b.txt") ≡ Some fault.Byte }
+    ensures suffix { name_fault (codes "z.txt") ≡ Some fault.Suffix }
+    ensures capitals { name_fault (codes "A.OCC") ≡ Some fault.Suffix }
+    ensures is_unit { is_unit (codes "a.occ") ≡ true }
+    ensures is_text { is_unit (codes "k.inc") ≡ false }
+{}
+
+/// How some diagnostics print.
+pub fn diag_rows()
+    ensures named { diag_line (sample (codes "a.occ") 3 code.U1 grade.Error (Some (codes "x"))) ≡ codes "a.occ:3 U1 error x" }
+    ensures nameless { diag_line (sample (codes "k.inc") 16384 code.L2 grade.Error None) ≡ codes "k.inc:16384 L2 error -" }
+    ensures check { diag_line (sample (codes "a.occ") 4 code.A1 grade.Check (Some (codes "a"))) ≡ codes "a.occ:4 A1 check a" }
+{}
