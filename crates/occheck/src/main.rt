@@ -1,22 +1,7 @@
 //! The program: it runs the script on standard input and writes the answers to standard output.
 #![tactic(auto)]
 
-mod answer;
-mod board;
-mod command;
-mod devices;
-mod file;
-mod input;
-mod lines;
-mod report;
-mod run;
-mod script;
-mod status;
-mod written;
-
-use devices::{StdIn, StdOut};
-use run::run_script;
-use status::Status;
+use occ_script::{Status, StdIn, StdOut, run_script};
 use std::env::{self, Env};
 use std::io;
 use std::process::ExitCode;

@@ -1,0 +1,4 @@
+//! stub
+#![tactic(auto)]
+
+fn main() {}

@@ -1,0 +1,162 @@
+-- How a run goes on from command to command.
+use Rattle.std.proofs.Common.{◌≡◌, ◌+◌, ℕ, zero, suc, Bool, true, false, cond, List, [], ◌∷◌, ◌++◌, Option, Some, None, refl, ap, sym, subst, ◌∙◌, append_assoc, append-nil, take, drop, length, nat_lt, take-append-drop, arith}
+use Rattle.std.specs.Option.{option_map}
+use Rattle.occ_script.specs.Devices.{Appends, AppendsFront}
+use Rattle.occ_script.specs.Lines.{cut_lines, script_limit, whole_lines}
+use Rattle.occ_script.specs.Machine.{Reading, State, start, answer, after}
+use Rattle.occ_script.specs.Output.{answers, state_after, fault_text, output, status_of, end_status, IsWhole, IsTold, IsFaultTold}
+use Rattle.occ_script.specs.Script.{Command, Script, ended, script_from, script_of, then}
+use Rattle.occ_script.specs.declared.status.Status.{Status}
+use Rattle.occ_script.specs.declared.status.Status.TheVariants as status
+use Rattle.occ_script.proofs.First.{drop_more}
+
+-- what is left of a script behind its first k commands
+abbrev pub behind : ℕ → Script → Script
+behind k script = record { commands = drop k script.commands; fault = script.fault }
+
+-- the first k commands of the script were carried out, and their answers written
+pub record IsSoFar (read : Reading) (script : Script) (k : ℕ) (board : State) (before now : Option (List ℕ)) : Type 0 where
+  pub state : board ≡ state_after read start (take k script.commands)
+  pub written : Appends before now (answers read start (take k script.commands))
+
+pub begun : (read : Reading) (script : Script) (board : State) (before : Option (List ℕ)) → board ≡ start → IsSoFar read script 0 board before before
+begun read script board before e = record { state = e; written = λ w h. h ∙ ap Some (sym (append-nil w)) }
+
+take_more : (cs rest : List Command) (k : ℕ) (c : Command) → drop k cs ≡ c ∷ rest → take (k + 1) cs ≡ take k cs ++ c ∷ []
+take_more [] rest zero c e = absurd cc
+take_more [] rest (suc k) c e = absurd cc
+take_more (x ∷ cs) rest zero c e = let h : x ≡ c = cc in ap (λ (y : Command). y ∷ []) h
+take_more (x ∷ cs) rest (suc k) c e = let n : suc k + 1 ≡ suc (k + 1) = omega arith in rw n (ap (λ (ys : List Command). x ∷ ys) (take_more cs rest k c e))
+
+answers_append : (read : Reading) (s : State) (cs ds : List Command) → answers read s (cs ++ ds) ≡ answers read s cs ++ answers read (state_after read s cs) ds
+answers_append read s [] ds = refl
+answers_append read s (c ∷ cs) ds = ap (λ (x : List ℕ). answer s c ++ x) (answers_append read (after read s c) cs ds) ∙ sym (append_assoc (answer s c) (answers read (after read s c) cs) (answers read (state_after read (after read s c) cs) ds))
+
+state_append : (read : Reading) (s : State) (cs ds : List Command) → state_after read s (cs ++ ds) ≡ state_after read (state_after read s cs) ds
+state_append read s [] ds = refl
+state_append read s (c ∷ cs) ds = state_append read (after read s c) cs ds
+
+pub appends_more : (before now next : Option (List ℕ)) (a b : List ℕ) → Appends before now a → Appends now next b → Appends before next (a ++ b)
+appends_more before now next a b h k w e = k (w ++ a) (h w e) ∙ ap Some (append_assoc w a b)
+
+pub commands_are : (left rest script : Script) (k : ℕ) (c : Command) → left ≡ behind k script → left ≡ then c rest → drop k script.commands ≡ c ∷ rest.commands
+commands_are left rest script k c l e = ap (λ (s : Script). s.commands) (sym l ∙ e)
+
+abbrev script_with : List Command → Option ℕ → Script
+script_with commands fault = record { commands = commands; fault = fault }
+
+-- behind one more command
+pub behind_more : (left rest script : Script) (k : ℕ) (c : Command) → left ≡ behind k script → left ≡ then c rest → rest ≡ behind (k + 1) script
+behind_more left rest script k c l e =
+    let d : rest.commands ≡ drop (k + 1) script.commands = sym (drop_more script.commands k c rest.commands (commands_are left rest script k c l e)) in
+    let f : rest.fault ≡ script.fault = ap (λ (s : Script). s.fault) (sym e ∙ l) in
+    ap (λ (x : List Command). script_with x rest.fault) d ∙ ap (λ (x : Option ℕ). script_with (drop (k + 1) script.commands) x) f
+
+pub one_command : (read : Reading) (script left rest : Script) (k : ℕ) (c : Command) (board next : State) (before now new : Option (List ℕ)) (bytes : List ℕ)
+    → IsSoFar read script k board before now → left ≡ behind k script → left ≡ then c rest → next ≡ after read board c → bytes ≡ answer board c → Appends now new bytes
+    → IsSoFar read script (k + 1) next before new
+one_command read script left rest k c board next before now new bytes h l e n b a =
+    let t : take (k + 1) script.commands ≡ take k script.commands ++ c ∷ [] = take_more script.commands rest.commands k c (commands_are left rest script k c l e) in
+    let s : State = state_after read start (take k script.commands) in
+    record {
+      state = n ∙ ap (λ (x : State). after read x c) h.state ∙ sym (ap (λ (x : List Command). state_after read start x) t ∙ state_append read start (take k script.commands) (c ∷ []));
+      written =
+        let w : answers read start (take (k + 1) script.commands) ≡ answers read start (take k script.commands) ++ bytes =
+            ap (λ (x : List Command). answers read start x) t ∙ answers_append read start (take k script.commands) (c ∷ [])
+            ∙ ap (λ (x : List ℕ). answers read start (take k script.commands) ++ x) (append-nil (answer s c) ∙ sym (b ∙ ap (λ (x : State). answer x c) h.state)) in
+        subst (λ (x : List ℕ). Appends before new x) (sym w) (appends_more before now new (answers read start (take k script.commands)) bytes h.written a);
+    }
+
+take_all : (cs : List Command) (k : ℕ) → drop k cs ≡ [] → take k cs ≡ cs
+take_all [] zero e = refl
+take_all [] (suc k) e = refl
+take_all (c ∷ cs) zero e = absurd cc
+take_all (c ∷ cs) (suc k) e = ap (λ (xs : List Command). c ∷ xs) (take_all cs k e)
+
+-- at the end all commands were carried out
+pub at_end : (left script : Script) (k : ℕ) (fault : Option ℕ) → left ≡ behind k script → left ≡ ended fault → (take k script.commands ≡ script.commands) × (script.fault ≡ fault)
+at_end left script k fault l e = (take_all script.commands k (ap (λ (s : Script). s.commands) (sym l ∙ e)), ap (λ (s : Script). s.fault) (sym l ∙ e))
+
+whole_written : (read : Reading) (script : Script) (k : ℕ) (board : State) (before now : Option (List ℕ)) → IsSoFar read script k board before now → take k script.commands ≡ script.commands
+    → Appends before now (answers read start script.commands)
+whole_written read script k board before now h t = subst (λ (cs : List Command). Appends before now (answers read start cs)) t h.written
+
+whole_state : (read : Reading) (script : Script) (k : ℕ) (board : State) (before now : Option (List ℕ)) → IsSoFar read script k board before now → take k script.commands ≡ script.commands
+    → board ≡ state_after read start script.commands
+whole_state read script k board before now h t = h.state ∙ ap (λ (cs : List Command). state_after read start cs) t
+
+told_by : (read : Reading) (script : Script) (before now : Option (List ℕ)) (errors : Bool) → IsWhole read script before now (cond errors status.Errors status.Clean) → IsTold read script before now (cond errors status.Errors status.Clean)
+told_by read script before now true h = h
+told_by read script before now false h = h
+
+pub told_end : (read : Reading) (script left : Script) (k : ℕ) (board : State) (before now : Option (List ℕ)) (errors : Bool) (result : Status)
+    → IsSoFar read script k board before now → left ≡ behind k script → left ≡ ended None → errors ≡ board.errors → result ≡ cond errors status.Errors status.Clean → IsTold read script before now result
+told_end read script left k board before now errors result h l e b r =
+    let t = at_end left script k None l e in
+    let w : Appends before now (output read script) = subst (λ (f : Option ℕ). Appends before now (answers read start script.commands ++ fault_text f)) (sym t.1)
+        (subst (λ (x : List ℕ). Appends before now x) (sym (append-nil (answers read start script.commands))) (whole_written read script k board before now h t.0)) in
+    let s : cond errors status.Errors status.Clean ≡ status_of read script =
+        ap (λ (x : Bool). cond x status.Errors status.Clean) (b ∙ ap (λ (x : State). x.errors) (whole_state read script k board before now h t.0))
+        ∙ sym (ap (λ (f : Option ℕ). end_status f (state_after read start script.commands)) t.1) in
+    subst (λ (x : Status). IsTold read script before now x) (sym r) (told_by read script before now errors (w, s))
+
+front_more : (before now next : Option (List ℕ)) (a b : List ℕ) → Appends before now a → AppendsFront now next b → AppendsFront before next (a ++ b)
+front_more before now next a b h k w e = let f = k (w ++ a) (h w e) in (f.0, f.1 ∙ ap Some (append_assoc w a b))
+
+longer : (next : Option (List ℕ)) (x b v : List ℕ) → option_map (λ y. y ++ x) next ≡ Some v → option_map (λ y. y ++ (x ++ b)) next ≡ Some (v ++ b)
+longer None x b v e = absurd cc
+longer (Some y) x b v e = let h : y ++ x ≡ v = cc in ap Some (sym (append_assoc y x b) ∙ ap (λ (z : List ℕ). z ++ b) h)
+
+front_of_more : (before next : Option (List ℕ)) (a b : List ℕ) → AppendsFront before next a → AppendsFront before next (a ++ b)
+front_of_more before next a b h w e = let f = h w e in (f.0 ++ b, longer next f.0 b (w ++ a) f.1 ∙ ap Some (append_assoc w a b))
+
+pub told_fault : (read : Reading) (script left : Script) (k line : ℕ) (board : State) (before now next : Option (List ℕ)) (result : Status)
+    → IsSoFar read script k board before now → left ≡ behind k script → left ≡ ended (Some line) → IsFaultTold line now next result → IsTold read script before next result
+told_fault read script left k line board before now next status.Clean h l e f = absurd f
+told_fault read script left k line board before now next status.Errors h l e f = absurd f
+told_fault read script left k line board before now next status.ScriptFault h l e f =
+    let t = at_end left script k (Some line) l e in
+    (subst (λ (x : Option ℕ). Appends before next (answers read start script.commands ++ fault_text x)) (sym t.1) (appends_more before now next _ _ (whole_written read script k board before now h t.0) f),
+      sym (ap (λ (x : Option ℕ). end_status x (state_after read start script.commands)) t.1))
+told_fault read script left k line board before now next status.DeviceFault h l e f =
+    let t = at_end left script k (Some line) l e in
+    subst (λ (x : Option ℕ). AppendsFront before next (answers read start script.commands ++ fault_text x)) (sym t.1) (front_more before now next _ _ (whole_written read script k board before now h t.0) f)
+told_fault read script left k line board before now next status.NoMemory h l e f = (k, subst (λ (x : Option (List ℕ)). Appends before x (answers read start (take k script.commands))) (sym f) h.written)
+
+pub told_memory : (read : Reading) (script : Script) (k : ℕ) (board : State) (before now : Option (List ℕ)) → IsSoFar read script k board before now → IsTold read script before now status.NoMemory
+told_memory read script k board before now h = (k, h.written)
+
+-- the answers to all commands begin with those to the first k, and then comes that to the next one
+split_output : (read : Reading) (script : Script) (k : ℕ) (c : Command) (rest : List Command) → drop k script.commands ≡ c ∷ rest
+    → (more : List ℕ) × (output read script ≡ (answers read start (take k script.commands) ++ answer (state_after read start (take k script.commands)) c) ++ more)
+split_output read script k c rest e =
+    let a : List ℕ = answers read start (take k script.commands) in
+    let s : State = state_after read start (take k script.commands) in
+    let m : List ℕ = answers read (after read s c) rest ++ fault_text script.fault in
+    let whole : answers read start script.commands ≡ a ++ (answer s c ++ answers read (after read s c) rest) =
+        ap (λ (cs : List Command). answers read start cs) (sym (take-append-drop k script.commands) ∙ ap (λ (cs : List Command). take k script.commands ++ cs) e) ∙ answers_append read start (take k script.commands) (c ∷ rest) in
+    (m, ap (λ (x : List ℕ). x ++ fault_text script.fault) whole ∙ append_assoc a (answer s c ++ answers read (after read s c) rest) (fault_text script.fault)
+      ∙ ap (λ (x : List ℕ). a ++ x) (append_assoc (answer s c) (answers read (after read s c) rest) (fault_text script.fault)) ∙ sym (append_assoc a (answer s c) m))
+
+pub told_device : (read : Reading) (script left rest : Script) (k : ℕ) (c : Command) (board : State) (before now next : Option (List ℕ)) (bytes : List ℕ)
+    → IsSoFar read script k board before now → left ≡ behind k script → left ≡ then c rest → bytes ≡ answer board c → AppendsFront now next bytes → IsTold read script before next status.DeviceFault
+told_device read script left rest k c board before now next bytes h l e b f =
+    let o = split_output read script k c rest.commands (commands_are left rest script k c l e) in
+    let s : State = state_after read start (take k script.commands) in
+    let g : AppendsFront now next (answer s c) = subst (λ (x : List ℕ). AppendsFront now next x) (b ∙ ap (λ (x : State). answer x c) h.state) f in
+    subst (λ (x : List ℕ). AppendsFront before next x) (sym o.1) (front_of_more before next _ o.0 (front_more before now next _ _ h.written g))
+
+-- before anything was written
+pub told_nothing : (read : Reading) (script : Script) (before : Option (List ℕ)) → IsTold read script before before status.DeviceFault
+told_nothing read script before w e = (output read script, ap (λ (o : Option (List ℕ)). option_map (λ x. x ++ output read script) o) e)
+
+pub told_no_memory : (read : Reading) (script : Script) (before : Option (List ℕ)) → IsTold read script before before status.NoMemory
+told_no_memory read script before = (0, λ w e. e ∙ ap Some (sym (append-nil w)))
+
+-- what was read says what the script says
+pub same_script : (over : Bool) (slice items bytes : List ℕ) → slice ≡ items → cut_lines items ≡ whole_lines bytes → over ≡ nat_lt script_limit (length bytes) → script_from over 1 (cut_lines slice) ≡ script_of bytes
+same_script over slice items bytes s l o =
+    ap (λ (x : List ℕ). script_from over 1 (cut_lines x)) s ∙ ap (λ (x : List (List ℕ)). script_from over 1 x) l ∙ ap (λ (x : Bool). script_from x 1 (whole_lines bytes)) o
+
+pub told_same : (read : Reading) (script whole : Script) (before now : Option (List ℕ)) (result : Status) → script ≡ whole → IsTold read script before now result → IsTold read whole before now result
+told_same read script whole before now result e h = subst (λ (x : Script). IsTold read x before now result) e h

@@ -1,0 +1,54 @@
+-- What a script writes, and the status with which it ends.
+use Rattle.std.specs.Prelude.{ℕ, ◌≡◌, cond, List, [], ◌∷◌, ◌++◌, codes, take, Option, Some, None}
+use Rattle.std.specs.Fmt.{decimal}
+use Rattle.occ_script.specs.Devices.{Appends, AppendsFront}
+use Rattle.occ_script.specs.Machine.{Reading, State, start, answer, after, told}
+use Rattle.occ_script.specs.Script.{Command, Script}
+use Rattle.occ_script.specs.declared.status.Status.{Status}
+use Rattle.occ_script.specs.declared.status.Status.TheVariants as status
+
+-- the answers to commands, one after the other
+abbrev pub answers : Reading → State → List Command → List ℕ
+answers read s [] = []
+answers read s (c ∷ cs) = answer s c ++ answers read (after read s c) cs
+
+-- the state behind them
+abbrev pub state_after : Reading → State → List Command → State
+state_after read s [] = s
+state_after read s (c ∷ cs) = state_after read (after read s c) cs
+
+abbrev pub fault_text : Option ℕ → List ℕ
+fault_text None = []
+fault_text (Some line) = told (codes "script fault " ++ decimal line)
+
+abbrev pub end_status : Option ℕ → State → Status
+end_status None s = cond s.errors status.Errors status.Clean
+end_status (Some line) s = status.ScriptFault
+
+-- all that a script writes, and its status
+abbrev pub output : Reading → Script → List ℕ
+output read script = answers read start script.commands ++ fault_text script.fault
+
+abbrev pub status_of : Reading → Script → Status
+status_of read script = end_status script.fault (state_after read start script.commands)
+
+-- all of the output was written, and the run ended with its status
+abbrev pub IsWhole : Reading → Script → Option (List ℕ) → Option (List ℕ) → Status → Type 0
+IsWhole read script before now ended = Appends before now (output read script) × (ended ≡ status_of read script)
+
+-- what was written when the run of a script ended with the status: all of the output; after a device failed a
+-- front of it; where memory was refused the answers to some first commands
+abbrev pub IsTold : Reading → Script → Option (List ℕ) → Option (List ℕ) → Status → Type 0
+IsTold read script before now status.Clean = IsWhole read script before now status.Clean
+IsTold read script before now status.Errors = IsWhole read script before now status.Errors
+IsTold read script before now status.ScriptFault = IsWhole read script before now status.ScriptFault
+IsTold read script before now status.DeviceFault = AppendsFront before now (output read script)
+IsTold read script before now status.NoMemory = (k : ℕ) × Appends before now (answers read start (take k script.commands))
+
+-- the same of the line that tells a script fault
+abbrev pub IsFaultTold : ℕ → Option (List ℕ) → Option (List ℕ) → Status → Type 0
+IsFaultTold line before now status.Clean = ⊥
+IsFaultTold line before now status.Errors = ⊥
+IsFaultTold line before now status.ScriptFault = Appends before now (fault_text (Some line))
+IsFaultTold line before now status.DeviceFault = AppendsFront before now (fault_text (Some line))
+IsFaultTold line before now status.NoMemory = now ≡ before

@@ -1,0 +1,104 @@
+ghost use Rattle.std.specs.Prelude.{◌≡◌, ◌≤◌, ◌+◌, ◌⊎◌, IfOk, List, Some, cond, false, length, true, ℕ};
+ghost use Rattle.occ_script.specs.Ended.{IsEnded};
+ghost use Rattle.occ_script.specs.Lines.{cut_lines, script_limit};
+ghost use Rattle.occ_script.specs.Machine.{IsReading, Reading};
+ghost use Rattle.occ_script.specs.Output.{IsFaultTold, IsTold, fault_text};
+ghost use Rattle.occ_script.specs.Script.{script_from, script_of};
+ghost use Rattle.occ_script.specs.declared.status.Status.TheVariants as status;
+
+use super::answer::line_naming;
+use super::board::Board;
+use super::devices::{ByteIn, ByteOut};
+use super::input::{ReadFault, read_script};
+use super::script::{Next, Rest, next_command};
+use super::status::Status;
+use super::written::write_all;
+use std::alloc::{AllocError, Global};
+
+/// Runs a script: reads it whole, carries its commands out one after the other and writes the answer to each.
+pub fn run_script<R: ByteIn, W: ByteOut>(alloc: Global, reader: &mut R, writer: &mut W) -> Status
+    requires reader { R.has_failed reader.old ≡ false }
+    requires writer { W.has_failed writer.old ≡ false }
+
+    // What is written of a script whose bytes are known.
+    ensures told { (read : Reading) → IsReading read → (bytes : List ℕ) → R.unread reader.old ≡ Some bytes → IsTold read (script_of bytes) (W.written writer.old) (W.written writer.new) result }
+
+    // A device fault is told only where one was.
+    ensures device { result ≡ status.DeviceFault → (R.has_failed reader.new ≡ true) ⊎ (W.has_failed writer.new ≡ true) }
+    ensures unread { R.has_failed reader.new ≡ true → W.written writer.new ≡ W.written writer.old }
+    ensures taken { R.taken reader.new ≤ R.taken reader.old + (script_limit + 1) }
+{
+    match read_script(alloc, reader) {
+        Ok(script) => run(alloc, script.bytes.as_slice(), script.over, writer),
+        Err(ReadFault::Device) => Status::DeviceFault,
+        Err(ReadFault::Memory) => Status::NoMemory,
+    }
+}
+
+/// Runs the commands that the bytes hold.
+fn run<W: ByteOut>(alloc: Global, bytes: &[u8], over: bool, writer: &mut W) -> Status
+    requires ended { IsEnded bytes.now }
+    requires short { length bytes.now ≤ script_limit + 1 }
+    requires writer { W.has_failed writer.old ≡ false }
+    ensures told { (read : Reading) → IsReading read → IsTold read (script_from over 1 (cut_lines bytes.now)) (W.written writer.old) (W.written writer.new) result }
+    ensures device { result ≡ status.DeviceFault → W.has_failed writer.new ≡ true }
+{
+    let mut board = Board::new();
+    let mut rest = Rest {
+        bytes,
+        line: 1,
+        over,
+    };
+    for _ in 0..bytes.len() + 1 {
+        match next_command(rest) {
+            Next::End => return end_status(board.told_errors()),
+            Next::Fault(line) => return tell_fault(alloc, line, writer),
+            Next::Command(command, left) => {
+                let answer = match board.answer(alloc, command) {
+                    Ok(answer) => answer,
+                    Err(_) => return Status::NoMemory,
+                };
+                if let Err(_failed) = write_all(writer, answer.as_slice()) {
+                    return Status::DeviceFault;
+                }
+                rest = left;
+            }
+        }
+    }
+    unreachable!()
+}
+
+/// How a script without a fault ends.
+fn end_status(errors: bool) -> Status
+    ensures { result ≡ cond errors status.Errors status.Clean }
+{
+    if errors {
+        Status::Errors
+    } else {
+        Status::Clean
+    }
+}
+
+/// Ends a run at the line on which the script is wrong.
+fn tell_fault<W: ByteOut>(alloc: Global, line: usize, writer: &mut W) -> Status
+    requires { W.has_failed writer.old ≡ false }
+    ensures told { IsFaultTold line (W.written writer.old) (W.written writer.new) result }
+    ensures device { result ≡ status.DeviceFault → W.has_failed writer.new ≡ true }
+{
+    let Ok(text) = fault_line(alloc, line) else {
+        return Status::NoMemory;
+    };
+    match write_all(writer, text.as_slice()) {
+        Ok(()) => Status::ScriptFault,
+        Err(_failed) => Status::DeviceFault,
+    }
+}
+
+/// The line that tells a script fault.
+fn fault_line(alloc: Global, line: usize) -> Result<Vec<u8>, AllocError>
+    ensures { IfOk result (λ bytes. bytes.items ≡ fault_text (Some line)) }
+{
+    let number = line.to_string(alloc)?;
+    let text = line_naming(alloc, "script fault ", number.as_bytes())?;
+    Ok(text)
+}
