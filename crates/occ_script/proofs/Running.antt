@@ -61,10 +61,10 @@ one_command read script left rest k c board next before now new bytes h l e n b 
     record {
       state = n ∙ ap (λ (x : State). after read x c) h.state ∙ sym (ap (λ (x : List Command). state_after read start x) t ∙ state_append read start (take k script.commands) (c ∷ []));
       written =
-        let w : answers read start (take (k + 1) script.commands) ≡ answers read start (take k script.commands) ++ bytes =
-            ap (λ (x : List Command). answers read start x) t ∙ answers_append read start (take k script.commands) (c ∷ [])
-            ∙ ap (λ (x : List ℕ). answers read start (take k script.commands) ++ x) (append-nil (answer s c) ∙ sym (b ∙ ap (λ (x : State). answer x c) h.state)) in
-        subst (λ (x : List ℕ). Appends before new x) (sym w) (appends_more before now new (answers read start (take k script.commands)) bytes h.written a);
+          let w : answers read start (take (k + 1) script.commands) ≡ answers read start (take k script.commands) ++ bytes =
+          ap (λ (x : List Command). answers read start x) t ∙ answers_append read start (take k script.commands) (c ∷ [])
+          ∙ ap (λ (x : List ℕ). answers read start (take k script.commands) ++ x) (append-nil (answer s c) ∙ sym (b ∙ ap (λ (x : State). answer x c) h.state)) in
+          subst (λ (x : List ℕ). Appends before new x) (sym w) (appends_more before now new (answers read start (take k script.commands)) bytes h.written a);
     }
 
 take_all : (cs : List Command) (k : ℕ) → drop k cs ≡ [] → take k cs ≡ cs
@@ -94,10 +94,10 @@ pub told_end : (read : Reading) (script left : Script) (k : ℕ) (board : State)
 told_end read script left k board before now errors result h l e b r =
     let t = at_end left script k None l e in
     let w : Appends before now (output read script) = subst (λ (f : Option ℕ). Appends before now (answers read start script.commands ++ fault_text f)) (sym t.1)
-        (subst (λ (x : List ℕ). Appends before now x) (sym (append-nil (answers read start script.commands))) (whole_written read script k board before now h t.0)) in
+    (subst (λ (x : List ℕ). Appends before now x) (sym (append-nil (answers read start script.commands))) (whole_written read script k board before now h t.0)) in
     let s : cond errors status.Errors status.Clean ≡ status_of read script =
-        ap (λ (x : Bool). cond x status.Errors status.Clean) (b ∙ ap (λ (x : State). x.errors) (whole_state read script k board before now h t.0))
-        ∙ sym (ap (λ (f : Option ℕ). end_status f (state_after read start script.commands)) t.1) in
+    ap (λ (x : Bool). cond x status.Errors status.Clean) (b ∙ ap (λ (x : State). x.errors) (whole_state read script k board before now h t.0))
+    ∙ sym (ap (λ (f : Option ℕ). end_status f (state_after read start script.commands)) t.1) in
     subst (λ (x : Status). IsTold read script before now x) (sym r) (told_by read script before now errors (w, s))
 
 front_more : (before now next : Option (List ℕ)) (a b : List ℕ) → Appends before now a → AppendsFront now next b → AppendsFront before next (a ++ b)
@@ -115,9 +115,10 @@ pub told_fault : (read : Reading) (script left : Script) (k line : ℕ) (board :
 told_fault read script left k line board before now next status.Clean h l e f = absurd f
 told_fault read script left k line board before now next status.Errors h l e f = absurd f
 told_fault read script left k line board before now next status.ScriptFault h l e f =
-    let t = at_end left script k (Some line) l e in
-    (subst (λ (x : Option ℕ). Appends before next (answers read start script.commands ++ fault_text x)) (sym t.1) (appends_more before now next _ _ (whole_written read script k board before now h t.0) f),
-      sym (ap (λ (x : Option ℕ). end_status x (state_after read start script.commands)) t.1))
+    let t = at_end left script k (Some line) l e in (
+      subst (λ (x : Option ℕ). Appends before next (answers read start script.commands ++ fault_text x)) (sym t.1) (appends_more before now next _ _ (whole_written read script k board before now h t.0) f),
+      sym (ap (λ (x : Option ℕ). end_status x (state_after read start script.commands)) t.1),
+    )
 told_fault read script left k line board before now next status.DeviceFault h l e f =
     let t = at_end left script k (Some line) l e in
     subst (λ (x : Option ℕ). AppendsFront before next (answers read start script.commands ++ fault_text x)) (sym t.1) (front_more before now next _ _ (whole_written read script k board before now h t.0) f)
@@ -134,9 +135,11 @@ split_output read script k c rest e =
     let s : State = state_after read start (take k script.commands) in
     let m : List ℕ = answers read (after read s c) rest ++ fault_text script.fault in
     let whole : answers read start script.commands ≡ a ++ (answer s c ++ answers read (after read s c) rest) =
-        ap (λ (cs : List Command). answers read start cs) (sym (take-append-drop k script.commands) ∙ ap (λ (cs : List Command). take k script.commands ++ cs) e) ∙ answers_append read start (take k script.commands) (c ∷ rest) in
-    (m, ap (λ (x : List ℕ). x ++ fault_text script.fault) whole ∙ append_assoc a (answer s c ++ answers read (after read s c) rest) (fault_text script.fault)
-      ∙ ap (λ (x : List ℕ). a ++ x) (append_assoc (answer s c) (answers read (after read s c) rest) (fault_text script.fault)) ∙ sym (append_assoc a (answer s c) m))
+    ap (λ (cs : List Command). answers read start cs) (sym (take-append-drop k script.commands) ∙ ap (λ (cs : List Command). take k script.commands ++ cs) e) ∙ answers_append read start (take k script.commands) (c ∷ rest) in (
+      m,
+      ap (λ (x : List ℕ). x ++ fault_text script.fault) whole ∙ append_assoc a (answer s c ++ answers read (after read s c) rest) (fault_text script.fault)
+          ∙ ap (λ (x : List ℕ). a ++ x) (append_assoc (answer s c) (answers read (after read s c) rest) (fault_text script.fault)) ∙ sym (append_assoc a (answer s c) m),
+    )
 
 pub told_device : (read : Reading) (script left rest : Script) (k : ℕ) (c : Command) (board : State) (before now next : Option (List ℕ)) (bytes : List ℕ)
     → IsSoFar read script k board before now → left ≡ behind k script → left ≡ then c rest → bytes ≡ answer board c → AppendsFront now next bytes → IsTold read script before next status.DeviceFault

@@ -46,7 +46,7 @@ pub whole_part : (bytes : List ℕ) (n : ℕ) → IsEnded (take n bytes) → fee
 whole_part bytes n h z =
     let t : take n bytes ++ drop n bytes ≡ bytes = take-append-drop n bytes in
     let f : feeds bytes ≡ length (cut_lines (take n bytes)) =
-        sym (ap (λ (x : List ℕ). feeds x) t) ∙ feeds_append (take n bytes) (drop n bytes) ∙ (let k : feeds (take n bytes) + feeds (drop n bytes) ≡ feeds (take n bytes) = omega arith in k) ∙ sym (count_lines (take n bytes) h) in
+    sym (ap (λ (x : List ℕ). feeds x) t) ∙ feeds_append (take n bytes) (drop n bytes) ∙ (let k : feeds (take n bytes) + feeds (drop n bytes) ≡ feeds (take n bytes) = omega arith in k) ∙ sym (count_lines (take n bytes) h) in
     let c : cut_lines bytes ≡ cut_lines (take n bytes) ++ cut_lines (drop n bytes) = sym (ap (λ (x : List ℕ). cut_lines x) t) ∙ lines_append (take n bytes) (drop n bytes) h in
     sym (ap (λ (m : ℕ). take m (cut_lines bytes)) f ∙ ap (λ (x : List (List ℕ)). take (length (cut_lines (take n bytes))) x) c ∙ take-append_seam (cut_lines (take n bytes)) (cut_lines (drop n bytes)))
 

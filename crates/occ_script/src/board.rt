@@ -6,7 +6,10 @@ ghost use Rattle.occ_script.specs.Machine.{IsReading, Reading, after, after_open
 ghost use Rattle.occ_script.specs.Rest.{meant};
 
 use super::answer::{line, line_naming};
-use super::file::{OpenFile, Progress, answer_finish, answer_take, check_job, give_job, keep, opened_report, tells_errors};
+use super::file::{
+    OpenFile, Progress, answer_finish, answer_take, check_job, give_job, keep, opened_report,
+    tells_errors,
+};
 use super::script::Command;
 use occ_base::{FileName, NameFault};
 use occ_forms::{Source, prepare};

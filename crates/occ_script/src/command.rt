@@ -44,7 +44,11 @@ pub fn read_header(line: &[u8]) -> Option<Header<'_>>
 fn bare(word: &[u8]) -> Option<Header<'_>>
     ensures { header_seen result ≡ a_bare word.now }
 {
-    if is_word(word, "report") { Some(Header::Report) } else { None }
+    if is_word(word, "report") {
+        Some(Header::Report)
+    } else {
+        None
+    }
 }
 
 fn with_worker<'a>(word: &'a [u8], number: &'a [u8]) -> Option<Header<'a>>

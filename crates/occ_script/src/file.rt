@@ -30,14 +30,22 @@ pub struct OpenFile {
 }
 
 /// What is answered to a worker that asks for a job.
-pub fn answer_take(alloc: Global, opened: &Option<OpenFile>, worker: u8) -> Result<Vec<u8>, AllocError>
+pub fn answer_take(
+    alloc: Global,
+    opened: &Option<OpenFile>,
+    worker: u8,
+) -> Result<Vec<u8>, AllocError>
     ensures { IfOk result (λ bytes. bytes.items ≡ take_answer worker (board_seen opened.now)) }
 {
     let Some(file) = opened else {
         return line(alloc, "none");
     };
     match file.progress {
-        Progress::Waiting if file.name.is_unit() => line_naming(alloc, "job ", file.name.as_bytes()),
+        Progress::Waiting if file.name.is_unit() => line_naming(
+            alloc,
+            "job ",
+            file.name.as_bytes(),
+        ),
         Progress::Taken(holder) if holder == worker => line(alloc, "busy"),
         _ => line(alloc, "none"),
     }
@@ -66,11 +74,19 @@ pub fn give_job(opened: Option<OpenFile>, worker: u8) -> Option<OpenFile>
 }
 
 /// What is answered to a worker that ends its job.
-pub fn answer_finish(alloc: Global, opened: &Option<OpenFile>, worker: u8) -> Result<Vec<u8>, AllocError>
+pub fn answer_finish(
+    alloc: Global,
+    opened: &Option<OpenFile>,
+    worker: u8,
+) -> Result<Vec<u8>, AllocError>
     ensures { IfOk result (λ bytes. bytes.items ≡ finish_answer worker (board_seen opened.now)) }
 {
     match opened {
-        Some(file) if has_job(file, worker) => line_naming(alloc, "accepted ", file.name.as_bytes()),
+        Some(file) if has_job(file, worker) => line_naming(
+            alloc,
+            "accepted ",
+            file.name.as_bytes(),
+        ),
         _ => line(alloc, "idle"),
     }
 }
@@ -86,11 +102,19 @@ fn has_job(file: &OpenFile, worker: u8) -> bool
 }
 
 /// The outcome of the worker's job, if it has one.
-pub fn check_job(alloc: Global, opened: &Option<OpenFile>, worker: u8) -> Result<Option<Items<Diag>>, AllocError>
+pub fn check_job(
+    alloc: Global,
+    opened: &Option<OpenFile>,
+    worker: u8,
+) -> Result<Option<Items<Diag>>, AllocError>
     ensures { IfOk result (λ outcome. IsOutcomeOf worker opened.now outcome) }
 {
     match opened {
-        Some(file) if has_job(file, worker) => Ok(Some(diagnostics(alloc, file.name, file.source.lines())?)),
+        Some(file) if has_job(file, worker) => Ok(Some(diagnostics(
+            alloc,
+            file.name,
+            file.source.lines(),
+        )?)),
         _ => Ok(None),
     }
 }
@@ -124,7 +148,11 @@ pub fn opened_report(alloc: Global, opened: &Option<OpenFile>) -> Result<Vec<u8>
     ensures { IfOk result (λ bytes. bytes.items ≡ opened_text (board_seen opened.now)) }
 {
     match opened {
-        Some(opened) if opened.name.is_unit() => unit_report(alloc, opened.name.as_bytes(), shown(opened)),
+        Some(opened) if opened.name.is_unit() => unit_report(
+            alloc,
+            opened.name.as_bytes(),
+            shown(opened),
+        ),
         _ => Ok(Vec::new(alloc)),
     }
 }

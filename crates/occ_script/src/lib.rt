@@ -17,8 +17,6 @@ mod rows;
 mod run;
 mod script;
 mod status;
-
-
 mod written;
 
 pub use devices::{ByteIn, ByteOut, Failed, StdIn, StdOut};

@@ -9,7 +9,11 @@ use occ_base::{Diag, Grade, write_diag};
 use std::alloc::{AllocError, Global};
 
 /// What a report tells of a unit: its diagnostics in order, or that it is pending.
-pub fn unit_report(alloc: Global, file: &[u8], shown: Option<&[Diag]>) -> Result<Vec<u8>, AllocError>
+pub fn unit_report(
+    alloc: Global,
+    file: &[u8],
+    shown: Option<&[Diag]>,
+) -> Result<Vec<u8>, AllocError>
     ensures { IfOk result (λ bytes. bytes.items ≡ unit_text file.now (shown_seen shown.entry)) }
 {
     match shown {

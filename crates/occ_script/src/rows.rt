@@ -13,8 +13,7 @@ pub fn line_rows()
     ensures words { words (codes "open a.occ 3") ≡ codes "open" ∷ codes "a.occ" ∷ codes "3" ∷ [] }
     ensures two_blanks { words (codes "a  b") ≡ codes "a" ∷ [] ∷ codes "b" ∷ [] }
     ensures text { text_of (codes "ab" ∷ [] ∷ []) ≡ codes "ab" ++ 10 ∷ 10 ∷ [] }
-{
-}
+{}
 
 /// Numbers and first lines of commands, by the definitions.
 pub fn number_rows()
@@ -33,8 +32,7 @@ pub fn number_rows()
     ensures two_blanks { header (codes "open  3") ≡ None }
     ensures capitals { header (codes "REPORT") ≡ None }
     ensures later { header (codes "settle") ≡ None }
-{
-}
+{}
 
 /// What some scripts say, by the definition.
 pub fn script_rows()
@@ -45,5 +43,4 @@ pub fn script_rows()
     ensures too_few { script_of (codes "report" ++ 10 ∷ codes "open a.occ 2" ++ 10 ∷ codes "x") ≡ record { commands = Report ∷ []; fault = Some 2 } }
     ensures wrong { script_of (codes "take 0" ++ 10 ∷ 10 ∷ codes "go" ++ 10 ∷ codes "report") ≡ record { commands = Take 0 ∷ []; fault = Some 3 } }
     ensures blank { script_of (codes " ") ≡ record { commands = []; fault = Some 1 } }
-{
-}
+{}

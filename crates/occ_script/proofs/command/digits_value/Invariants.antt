@@ -12,5 +12,5 @@ invariant-loop-digit l = record {
   two_digits : l.digit-index ≤ 2 → l.value < 100;
   three_digits : l.digit-index ≤ 3 → l.value < 1000;
   four_digits : l.digit-index ≤ 4 → l.value < 10000;
-  five_digits : l.digit-index ≤ 5 → l.value < 100000
+  five_digits : l.digit-index ≤ 5 → l.value < 100000;
 }

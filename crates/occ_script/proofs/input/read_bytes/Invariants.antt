@@ -8,7 +8,7 @@ invariant-loop-piece g l = record {
   short : length l.bytes.items ≤ 67108865;
   taken : g.R.ByteIn.taken l.reader ≤ g.R.ByteIn.taken l.fn.reader + length l.bytes.items;
   fine : g.R.ByteIn.has_failed l.reader ≡ g.R.ByteIn.has_failed l.fn.reader;
-  room : length l.piece ≡ 8192
+  room : length l.piece ≡ 8192;
 }
 
 abbrev pub decreases-loop-piece : goal.decreases-loop-piece

@@ -10,7 +10,7 @@ invariant-loop-behind l = record {
   ended : IsEnded l.bytes;
   small : l.line + length l.bytes < 2 ^ 60;
   less : length l.bytes ≤ length l.rest.bytes.now;
-  same : script_from l.rest.over l.line (cut_lines l.bytes) ≡ script_left l.rest
+  same : script_from l.rest.over l.line (cut_lines l.bytes) ≡ script_left l.rest;
 }
 
 abbrev pub decreases-loop-behind : goal.decreases-loop-behind

@@ -9,5 +9,5 @@ invariant-loop l = record {
   rest : drop l.counter (cut_lines l.bytes) ≡ cut_lines l.behind;
   text : l.bytes ≡ text_of (take l.counter (cut_lines l.bytes)) ++ l.behind;
   enough : l.counter ≤ length (cut_lines l.bytes);
-  less : length l.behind + l.counter ≤ length l.bytes
+  less : length l.behind + l.counter ≤ length l.bytes;
 }
