@@ -46,6 +46,7 @@ pub fn read_script<R: ByteIn>(alloc: Global, reader: &mut R) -> Result<ScriptTex
     ensures over { IfOk result (λ text. (all : List ℕ) → R.unread reader.old ≡ Some all → text.over ≡ nat_lt script_limit (length all)) }
     ensures taken { R.taken reader.new ≤ R.taken reader.old + (script_limit + 1) }
     ensures failing { result ≡ Err fault.Device → R.has_failed reader.new ≡ true }
+    ensures memory { result ≡ Err fault.Memory → R.has_failed reader.new ≡ R.has_failed reader.old }
     ensures fine { OnOk result (R.has_failed reader.new ≡ R.has_failed reader.old) }
 {
     let bytes = read_bytes(alloc, reader)?;
@@ -62,6 +63,7 @@ fn read_bytes<R: ByteIn>(alloc: Global, reader: &mut R) -> Result<Vec<u8>, ReadF
     ensures short { IfOk result (λ bytes. length bytes.items ≤ script_limit + 1) }
     ensures taken { R.taken reader.new ≤ R.taken reader.old + (script_limit + 1) }
     ensures failing { result ≡ Err fault.Device → R.has_failed reader.new ≡ true }
+    ensures memory { result ≡ Err fault.Memory → R.has_failed reader.new ≡ R.has_failed reader.old }
     ensures fine { OnOk result (R.has_failed reader.new ≡ R.has_failed reader.old) }
 {
     let mut bytes = Vec::new(alloc);
