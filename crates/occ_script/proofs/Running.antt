@@ -3,7 +3,7 @@ use Rattle.std.proofs.Common.{◌≡◌, ◌+◌, ℕ, zero, suc, Bool, true, fa
 use Rattle.std.specs.Option.{option_map}
 use Rattle.occ_script.specs.Devices.{Appends, AppendsFront}
 use Rattle.occ_script.specs.Lines.{cut_lines, script_limit, whole_lines}
-use Rattle.occ_script.specs.Machine.{Reading, State, start, answer, after}
+use Rattle.occ_script.specs.Machine.{IsReading, Reading, ReadsCommand, State, start, answer, after}
 use Rattle.occ_script.specs.Output.{answers, state_after, fault_text, output, status_of, end_status, IsWhole, IsTold, IsFaultTold}
 use Rattle.occ_script.specs.Script.{Command, Script, ended, script_from, script_of, then}
 use Rattle.occ_script.specs.declared.status.Status.{Status}
@@ -161,5 +161,16 @@ pub same_script : (over : Bool) (slice items bytes : List ℕ) → slice ≡ ite
 same_script over slice items bytes s l o =
     ap (λ (x : List ℕ). script_from over 1 (cut_lines x)) s ∙ ap (λ (x : List (List ℕ)). script_from over 1 x) l ∙ ap (λ (x : Bool). script_from x 1 (whole_lines bytes)) o
 
-pub told_same : (read : Reading) (script whole : Script) (before now : Option (List ℕ)) (result : Status) → script ≡ whole → IsTold read script before now result → IsTold read whole before now result
-told_same read script whole before now result e h = subst (λ (x : Script). IsTold read x before now result) e h
+pub told_same : (read : Reading) (script whole : Script) (before now : Option (List ℕ)) (result : Status) → script ≡ whole
+    → (IsReading read script.commands → IsTold read script before now result) → IsReading read whole.commands → IsTold read whole before now result
+told_same read script whole before now result e h = subst (λ (x : Script). IsReading read x.commands → IsTold read x before now result) e h
+
+reads_at : (read : Reading) (cs rest : List Command) (k : ℕ) (c : Command) → drop k cs ≡ c ∷ rest → IsReading read cs → ReadsCommand read c
+reads_at read [] rest zero c e r = absurd cc
+reads_at read [] rest (suc k) c e r = absurd cc
+reads_at read (x ∷ cs) rest zero c e r = let h : x ≡ c = cc in subst (λ (y : Command). ReadsCommand read y) h r.0
+reads_at read (x ∷ cs) rest (suc k) c e r = reads_at read cs rest k c e r.1
+
+-- the text that the next command opens has its lines
+pub reads_next : (read : Reading) (left rest script : Script) (k : ℕ) (c : Command) → left ≡ behind k script → left ≡ then c rest → IsReading read script.commands → ReadsCommand read c
+reads_next read left rest script k c l e r = reads_at read script.commands rest.commands k c (commands_are left rest script k c l e) r

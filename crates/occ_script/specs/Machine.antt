@@ -24,9 +24,21 @@ use Rattle.occ_script.specs.Script.Command.{Open, Take, Finish, Report}
 abbrev pub Reading : Type 0
 Reading = List ℕ → List SourceLine
 
--- it gives each text within the limits the lines that the text spells, with their forms
-abbrev pub IsReading : Reading → Type 0
-IsReading read = (text : List ℕ) → limit_fault text ≡ None → IsPrepared text (read text)
+-- the lines are those that the text spells, with their forms, if it is within the limits
+abbrev pub AreLines : List ℕ → List SourceLine → Type 0
+AreLines contents lines = limit_fault contents ≡ None → IsPrepared contents lines
+
+-- the text that the command opens has its lines
+abbrev pub ReadsCommand : Reading → Command → Type 0
+ReadsCommand read (Open file contents) = AreLines contents (read contents)
+ReadsCommand read (Take w) = Unit {0}
+ReadsCommand read (Finish w) = Unit {0}
+ReadsCommand read Report = Unit {0}
+
+-- each text that the commands open has its lines
+abbrev pub IsReading : Reading → List Command → Type 0
+IsReading read [] = Unit {0}
+IsReading read (c ∷ cs) = ReadsCommand read c × IsReading read cs
 
 -- how far the check of the open file has come: no worker has its job, this worker has it, its outcome is kept
 pub data Progress : Type 0 where

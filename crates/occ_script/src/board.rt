@@ -1,8 +1,9 @@
 ghost use Rattle.std.specs.Option.{option_map};
-ghost use Rattle.std.specs.Prelude.{◌≡◌, IfOk, None, OnErr, OnOk, Some};
+ghost use Rattle.std.specs.Prelude.{◌≡◌, IfOk, List, None, OnErr, OnOk, Some};
+ghost use Rattle.occ_forms.specs.declared.source.SourceLine.{SourceLine};
 ghost use Rattle.occ_lines.specs.Lines.{limit_fault};
 ghost use Rattle.occ_script.specs.Board.{judged, refusal_word};
-ghost use Rattle.occ_script.specs.Machine.{IsReading, Reading, after, after_open, answer as an_answer, finish_answer, finished, open_answer, refusal, report_answer, reported_errors, start, take_answer, taken};
+ghost use Rattle.occ_script.specs.Machine.{AreLines, Reading, ReadsCommand, after, after_open, answer as an_answer, finish_answer, finished, open_answer, refusal, report_answer, reported_errors, start, take_answer, taken};
 ghost use Rattle.occ_script.specs.Rest.{meant};
 
 use super::answer::{line, line_naming};
@@ -84,7 +85,7 @@ impl Board {
     /// Carries a command out and gives its answer. Where memory is refused nothing is changed.
     pub fn answer(&mut self, alloc: Global, command: Command<'_>) -> Result<Vec<u8>, AllocError>
         ensures answered { IfOk result (λ bytes. bytes.items ≡ an_answer self.old (meant command.entry)) }
-        ensures after { (read : Reading) → IsReading read → OnOk result (self.new ≡ after read self.old (meant command.entry)) }
+        ensures after { (read : Reading) → ReadsCommand read (meant command.entry) → OnOk result (self.new ≡ after read self.old (meant command.entry)) }
         ensures err { OnErr result (self.new ≡ self.old) }
     {
         match command {
@@ -97,7 +98,7 @@ impl Board {
 
     fn open(&mut self, alloc: Global, name: &[u8], text: &[u8]) -> Result<Vec<u8>, AllocError>
         ensures answered { IfOk result (λ bytes. bytes.items ≡ open_answer (refusal self.old name.now text.now)) }
-        ensures after { (read : Reading) → IsReading read → OnOk result (self.new ≡ after_open (refusal self.old name.now text.now) self.old name.now (read text.now)) }
+        ensures after { (lines : List SourceLine) → AreLines text.now lines → OnOk result (self.new ≡ after_open (refusal self.old name.now text.now) self.old name.now lines) }
         ensures err { OnErr result (self.new ≡ self.old) }
     {
         match self.judge(name, text) {
@@ -170,7 +171,7 @@ impl Board {
 /// The source of a text within the limits.
 fn prepared(alloc: Global, text: &[u8]) -> Result<Source, AllocError>
     requires { limit_fault text.now ≡ None }
-    ensures { (read : Reading) → IsReading read → IfOk result (λ source. source.lines ≡ read text.now) }
+    ensures { (lines : List SourceLine) → AreLines text.now lines → IfOk result (λ source. source.lines ≡ lines) }
 {
     match prepare(alloc, text) {
         Ok(source) => Ok(source),

@@ -21,7 +21,7 @@ pub fn run_script<R: ByteIn, W: ByteOut>(alloc: Global, reader: &mut R, writer: 
     requires writer { W.has_failed writer.old ≡ false }
 
     // What is written of a script whose bytes are known.
-    ensures told { (read : Reading) → IsReading read → (bytes : List ℕ) → R.unread reader.old ≡ Some bytes → IsTold read (script_of bytes) (W.written writer.old) (W.written writer.new) result }
+    ensures told { (bytes : List ℕ) → R.unread reader.old ≡ Some bytes → (read : Reading) → IsReading read (script_of bytes).commands → IsTold read (script_of bytes) (W.written writer.old) (W.written writer.new) result }
 
     // A device fault is told exactly where a device failed.
     ensures devices { TellsDevices result (R.has_failed reader.new) (W.has_failed writer.new) }
@@ -40,7 +40,7 @@ fn run<W: ByteOut>(alloc: Global, bytes: &[u8], over: bool, writer: &mut W) -> S
     requires ended { IsEnded bytes.now }
     requires short { length bytes.now ≤ script_limit + 1 }
     requires writer { W.has_failed writer.old ≡ false }
-    ensures told { (read : Reading) → IsReading read → IsTold read (script_from over 1 (cut_lines bytes.now)) (W.written writer.old) (W.written writer.new) result }
+    ensures told { (read : Reading) → IsReading read (script_from over 1 (cut_lines bytes.now)).commands → IsTold read (script_from over 1 (cut_lines bytes.now)) (W.written writer.old) (W.written writer.new) result }
     ensures device { TellsDevice result (W.has_failed writer.new) }
 {
     let mut board = Board::new();

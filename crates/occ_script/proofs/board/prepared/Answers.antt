@@ -2,4 +2,4 @@ use Rattle.std.proofs.Common.{sym}
 use Rattle.occ_script.proofs.board.prepared.Goals as goal
 
 pub returns-in-Ok : goal.returns-in-Ok
-returns-in-Ok c = λ read r. sym (c.in-Ok.ensures.only (read c.args.text.now) (r c.args.text.now c.requires))
+returns-in-Ok c = λ lines l. sym (c.in-Ok.ensures.only lines (l c.requires))

@@ -1,7 +1,8 @@
 use Rattle.std.proofs.Common.{◌∙◌, arith}
 use Rattle.occ_script.specs.Lines.{cut_lines}
+use Rattle.occ_script.specs.Rest.{script_left}
 use Rattle.occ_script.specs.Script.{script_from}
-use Rattle.occ_script.proofs.Running.{behind_more, one_command, told_device, told_end, told_fault, told_memory}
+use Rattle.occ_script.proofs.Running.{behind_more, one_command, told_device, told_end, told_fault, told_memory, reads_next}
 use Rattle.occ_script.proofs.run.run.Goals as goal
 
 pub returns-in-End-clause-told : goal.returns-in-End-clause-told
@@ -26,5 +27,5 @@ loop-preserved g c = record {
   room = omega (arith, c.in-Command.ensures.less.1);
   fine = c.in_default.ensures.fine ∙ c.loop.invariant.fine;
   so_far = λ read r.
-      one_command read _ _ _ _ _ _ _ _ _ _ _ (c.loop.invariant.so_far read r) c.loop.invariant.left c.in-Command.ensures.says (c.in-Ok.ensures.after read r) (c.as_slice.ensures.value ∙ c.in-Ok.ensures.answered) c.in_default.ensures.ok;
+      one_command read _ _ _ _ _ _ _ _ _ _ _ (c.loop.invariant.so_far read r) c.loop.invariant.left c.in-Command.ensures.says (c.in-Ok.ensures.after read (reads_next read _ (script_left c.in-Command.left) _ c.loop.counter _ c.loop.invariant.left c.in-Command.ensures.says r)) (c.as_slice.ensures.value ∙ c.in-Ok.ensures.answered) c.in_default.ensures.ok;
 }

@@ -12,5 +12,5 @@ invariant-loop g l = record {
   left : script_left l.rest ≡ behind l.counter (script_from l.over 1 (cut_lines l.bytes));
   room : l.counter + length l.rest.bytes.now ≤ length l.bytes;
   fine : g.W.ByteOut.has_failed l.writer ≡ false;
-  so_far : (read : Reading) → IsReading read → IsSoFar read (script_from l.over 1 (cut_lines l.bytes)) l.counter l.board (g.W.ByteOut.written l.fn.writer) (g.W.ByteOut.written l.writer);
+  so_far : (read : Reading) → IsReading read (script_from l.over 1 (cut_lines l.bytes)).commands → IsSoFar read (script_from l.over 1 (cut_lines l.bytes)) l.counter l.board (g.W.ByteOut.written l.fn.writer) (g.W.ByteOut.written l.writer);
 }
