@@ -1,4 +1,4 @@
--- What a file name is: 1 to 64 bytes out of letters, digits, '.', '_' and '-', ending in '.occ' or '.inc'.
+-- What a file name is: letters, digits, '.', '_' and '-', at most 64, the last four of them '.occ' or '.inc'.
 use Rattle.std.specs.Prelude.{ℕ, Bool, nat_le, nat_eq, ◌&&◌, ◌||◌, ◌==◌, ◌≡◌, List, length, codes, cond, Option, Some, None}
 use Rattle.std.specs.Char.{is_ascii_alphanumeric}
 use Rattle.std.specs.List.{list_all, ends_with}

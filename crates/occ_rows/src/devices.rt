@@ -1,5 +1,4 @@
 ghost use Rattle.std.specs.Prelude.{◌≡◌, ◌≤◌, List, None, Some, false, length, take, ℕ};
-ghost use Rattle.std.specs.Option.{option_map};
 
 use occ_script::{ByteIn, ByteOut, Failed};
 use std::alloc::Global;
@@ -13,6 +12,7 @@ pub struct Paper<'a> {
     bytes: &'a [u8],
     reads: u32,
     refused: u32,
+    taken: u64,
     failed: bool,
 }
 
@@ -24,6 +24,7 @@ impl<'a> Paper<'a> {
             bytes,
             reads: 0,
             refused,
+            taken: 0,
             failed: false,
         }
     }
@@ -32,7 +33,7 @@ impl<'a> Paper<'a> {
 impl ByteIn for Paper<'_> {
     ghost unread = { λ p. Some p.bytes.now };
 
-    ghost taken = { λ p. 0 };
+    ghost taken = { λ p. p.taken };
 
     ghost has_failed = { λ p. p.failed };
 
@@ -46,6 +47,7 @@ impl ByteIn for Paper<'_> {
         let (front, behind) = self.bytes.split_at(count);
         copy_front(front, buffer);
         self.bytes = behind;
+        self.taken = self.taken.saturating_add(count as u64);
         Ok(count)
     }
 

@@ -10,3 +10,4 @@ pub mod Whole
 pub mod Over
 pub mod Opened
 pub mod Running
+pub mod Std

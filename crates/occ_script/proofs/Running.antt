@@ -1,6 +1,6 @@
 -- How a run goes on from command to command.
-use Rattle.std.proofs.Common.{◌≡◌, ◌+◌, ℕ, zero, suc, Bool, true, false, cond, List, [], ◌∷◌, ◌++◌, Option, Some, None, refl, ap, sym, subst, ◌∙◌, append_assoc, append-nil, take, drop, length, nat_lt, take-append-drop, arith}
-use Rattle.std.specs.Option.{option_map}
+use Rattle.std.proofs.Common.{◌≡◌, ◌+◌, ◌<◌, ◌≤◌, ℕ, inl, inr, IsSome, zero, suc, Bool, true, false, cond, List, [], ◌∷◌, ◌++◌, Option, Some, None, refl, ap, sym, subst, ◌∙◌, append_assoc, append-nil, take, drop, length, nat_lt, take-append-drop, arith}
+use Rattle.std.proofs.Math.Seq.{take-length}
 use Rattle.occ_script.specs.Devices.{Appends, AppendsFront}
 use Rattle.occ_script.specs.Lines.{cut_lines, script_limit, whole_lines}
 use Rattle.occ_script.specs.Machine.{IsReading, Reading, ReadsCommand, State, start, answer, after}
@@ -8,7 +8,7 @@ use Rattle.occ_script.specs.Output.{answers, state_after, fault_text, output, st
 use Rattle.occ_script.specs.Script.{Command, Script, ended, script_from, script_of, then}
 use Rattle.occ_script.specs.declared.status.Status.{Status}
 use Rattle.occ_script.specs.declared.status.Status.TheVariants as status
-use Rattle.occ_script.proofs.First.{drop_more}
+use Rattle.occ_script.proofs.First.{count_more, drop_more}
 
 -- what is left of a script behind its first k commands
 abbrev pub behind : ℕ → Script → Script
@@ -101,14 +101,12 @@ told_end read script left k board before now errors result h l e b r =
     subst (λ (x : Status). IsTold read script before now x) (sym r) (told_by read script before now errors (w, s))
 
 front_more : (before now next : Option (List ℕ)) (a b : List ℕ) → Appends before now a → AppendsFront now next b → AppendsFront before next (a ++ b)
-front_more before now next a b h k w e = let f = k (w ++ a) (h w e) in (f.0, f.1 ∙ ap Some (append_assoc w a b))
-
-longer : (next : Option (List ℕ)) (x b v : List ℕ) → option_map (λ y. y ++ x) next ≡ Some v → option_map (λ y. y ++ (x ++ b)) next ≡ Some (v ++ b)
-longer None x b v e = absurd cc
-longer (Some y) x b v e = let h : y ++ x ≡ v = cc in ap Some (sym (append_assoc y x b) ∙ ap (λ (z : List ℕ). z ++ b) h)
+front_more before now next a b h k w e =
+    let f = k (w ++ a) (h w e) in
+    (a ++ f.0, f.1, ap (λ (x : List ℕ). a ++ x) f.2 ∙ sym (append_assoc a f.0 f.1), f.3 ∙ ap Some (append_assoc w a f.0))
 
 front_of_more : (before next : Option (List ℕ)) (a b : List ℕ) → AppendsFront before next a → AppendsFront before next (a ++ b)
-front_of_more before next a b h w e = let f = h w e in (f.0 ++ b, longer next f.0 b (w ++ a) f.1 ∙ ap Some (append_assoc w a b))
+front_of_more before next a b h w e = let f = h w e in (f.0, f.1 ++ b, ap (λ (x : List ℕ). x ++ b) f.2 ∙ append_assoc f.0 f.1 b, f.3)
 
 pub told_fault : (read : Reading) (script left : Script) (k line : ℕ) (board : State) (before now next : Option (List ℕ)) (result : Status)
     → IsSoFar read script k board before now → left ≡ behind k script → left ≡ ended (Some line) → IsFaultTold line now next result → IsTold read script before next result
@@ -122,10 +120,20 @@ told_fault read script left k line board before now next status.ScriptFault h l 
 told_fault read script left k line board before now next status.DeviceFault h l e f =
     let t = at_end left script k (Some line) l e in
     subst (λ (x : Option ℕ). AppendsFront before next (answers read start script.commands ++ fault_text x)) (sym t.1) (front_more before now next _ _ (whole_written read script k board before now h t.0) f)
-told_fault read script left k line board before now next status.NoMemory h l e f = (k, subst (λ (x : Option (List ℕ)). Appends before x (answers read start (take k script.commands))) (sym f) h.written)
+told_fault read script left k line board before now next status.NoMemory h l e f =
+    let t = at_end left script k (Some line) l e in (
+      length script.commands,
+      inr (inr (refl, subst IsSome (sym t.1) refl)),
+      subst (λ (x : Option (List ℕ)). Appends before x (answers read start (take (length script.commands) script.commands))) (sym f)
+          (subst (λ (cs : List Command). Appends before now (answers read start cs)) (sym (take-length script.commands)) (whole_written read script k board before now h t.0)),
+    )
 
-pub told_memory : (read : Reading) (script : Script) (k : ℕ) (board : State) (before now : Option (List ℕ)) → IsSoFar read script k board before now → IsTold read script before now status.NoMemory
-told_memory read script k board before now h = (k, h.written)
+pub told_memory : (read : Reading) (script left rest : Script) (k : ℕ) (c : Command) (board : State) (before now : Option (List ℕ)) → IsSoFar read script k board before now → left ≡ behind k script → left ≡ then c rest
+    → IsTold read script before now status.NoMemory
+told_memory read script left rest k c board before now h l e =
+    let m : k + 1 ≤ length script.commands = count_more script.commands k c rest.commands (commands_are left rest script k c l e) in
+    let n : k < length script.commands = omega arith in
+    (k, inr (inl n), h.written)
 
 -- the answers to all commands begin with those to the first k, and then comes that to the next one
 split_output : (read : Reading) (script : Script) (k : ℕ) (c : Command) (rest : List Command) → drop k script.commands ≡ c ∷ rest
@@ -151,10 +159,10 @@ told_device read script left rest k c board before now next bytes h l e b f =
 
 -- before anything was written
 pub told_nothing : (read : Reading) (script : Script) (before : Option (List ℕ)) → IsTold read script before before status.DeviceFault
-told_nothing read script before w e = (output read script, ap (λ (o : Option (List ℕ)). option_map (λ x. x ++ output read script) o) e)
+told_nothing read script before w e = ([], output read script, refl, e ∙ ap Some (sym (append-nil w)))
 
 pub told_no_memory : (read : Reading) (script : Script) (before : Option (List ℕ)) → IsTold read script before before status.NoMemory
-told_no_memory read script before = (0, λ w e. e ∙ ap Some (sym (append-nil w)))
+told_no_memory read script before = (0, inl refl, λ w e. e ∙ ap Some (sym (append-nil w)))
 
 -- what was read says what the script says
 pub same_script : (over : Bool) (slice items bytes : List ℕ) → slice ≡ items → cut_lines items ≡ whole_lines bytes → over ≡ nat_lt script_limit (length bytes) → script_from over 1 (cut_lines slice) ≡ script_of bytes

@@ -78,7 +78,7 @@ abbrev pub or_else : Option (List ℕ) → Option (List ℕ) → Option (List �
 or_else (Some word) other = Some word
 or_else None other = other
 
--- why the file may not be opened with the text: its name is judged first, then the text, then what is open
+-- why the file may not be opened with the text: a wrong name comes before a wrong text, and both before what is open
 abbrev pub refusal : State → List ℕ → List ℕ → Option (List ℕ)
 refusal s file contents = or_else (option_map name_word (name_fault file)) (or_else (option_map text_word (limit_fault contents)) (board_word s.opened file))
 

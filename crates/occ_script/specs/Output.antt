@@ -1,5 +1,5 @@
 -- What a script writes, and the status with which it ends.
-use Rattle.std.specs.Prelude.{ℕ, Bool, true, false, ◌≡◌, ◌⊎◌, cond, List, [], ◌∷◌, ◌++◌, codes, take, Option, Some, None}
+use Rattle.std.specs.Prelude.{ℕ, Bool, true, false, ◌≡◌, ◌⊎◌, ◌<◌, cond, length, IsSome, List, [], ◌∷◌, ◌++◌, codes, take, Option, Some, None}
 use Rattle.std.specs.Fmt.{decimal}
 use Rattle.occ_script.specs.Devices.{Appends, AppendsFront}
 use Rattle.occ_script.specs.Machine.{Reading, State, start, answer, after, told}
@@ -36,14 +36,18 @@ status_of read script = end_status script.fault (state_after read start script.c
 abbrev pub IsWhole : Reading → Script → Option (List ℕ) → Option (List ℕ) → Status → Type 0
 IsWhole read script before now ended = Appends before now (output read script) × (ended ≡ status_of read script)
 
+-- memory was refused before the first command, or at the one behind the first k, or at the line that tells the fault
+abbrev pub IsRefusedAt : ℕ → Script → Type 0
+IsRefusedAt k script = (k ≡ 0) ⊎ ((k < length script.commands) ⊎ ((k ≡ length script.commands) × IsSome script.fault))
+
 -- what was written when the run of a script ended with the status: all of the output; after a device failed a
--- front of it; where memory was refused the answers to some first commands
+-- front of it; where memory was refused the answers to the commands before
 abbrev pub IsTold : Reading → Script → Option (List ℕ) → Option (List ℕ) → Status → Type 0
 IsTold read script before now status.Clean = IsWhole read script before now status.Clean
 IsTold read script before now status.Errors = IsWhole read script before now status.Errors
 IsTold read script before now status.ScriptFault = IsWhole read script before now status.ScriptFault
 IsTold read script before now status.DeviceFault = AppendsFront before now (output read script)
-IsTold read script before now status.NoMemory = (k : ℕ) × Appends before now (answers read start (take k script.commands))
+IsTold read script before now status.NoMemory = (k : ℕ) × IsRefusedAt k script × Appends before now (answers read start (take k script.commands))
 
 -- the same of the line that tells a script fault
 abbrev pub IsFaultTold : ℕ → Option (List ℕ) → Option (List ℕ) → Status → Type 0

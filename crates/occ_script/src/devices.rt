@@ -1,5 +1,5 @@
-ghost use Rattle.std.specs.Prelude.{◌≡◌, ◌+◌, ◌≤◌, ◌<◌, ◌&&◌, ◌||◌, ◌==◌, ℕ, Bool, false, true, List, [], IfOk, None, OnErr, OnOk, Option, Some, length, nat_lt, take};
-ghost use Rattle.occ_script.specs.Devices.{Appends, Gives};
+ghost use Rattle.std.specs.Prelude.{◌≡◌, ◌≤◌, ◌<◌, ◌&&◌, ◌||◌, ◌==◌, ℕ, Bool, false, true, List, [], IfOk, OnErr, OnOk, Option, Some, length, nat_lt, take};
+ghost use Rattle.occ_script.specs.Devices.{Appends, Gives, Stays, counted};
 
 use std::io::{Read, Write};
 
@@ -12,7 +12,7 @@ pub trait ByteIn {
     /// The bytes that are left to read, where they are known.
     ghost unread: { Self → Option (List ℕ) };
 
-    /// How many bytes were read so far.
+    /// How many bytes were read so far, counted up to the greatest number of 64 bits.
     ghost taken: { Self → ℕ };
 
     /// A read was refused.
@@ -23,8 +23,8 @@ pub trait ByteIn {
         ensures count { IfOk result (λ n. n ≤ length buffer.old) }
         ensures bytes { IfOk result (λ n. Gives (unread self.old) (unread self.new) (take n buffer.new)) }
         ensures end { IfOk result (λ n. n ≡ 0 → 0 < length buffer.old → (bytes : List ℕ) → unread self.old ≡ Some bytes → bytes ≡ []) }
-        ensures taken { IfOk result (λ n. taken self.new ≤ taken self.old + n) }
-        ensures none_taken { OnErr result (taken self.new ≤ taken self.old) }
+        ensures taken { IfOk result (λ n. taken self.new ≡ counted (taken self.old) n) }
+        ensures none_taken { OnErr result (taken self.new ≡ taken self.old) }
         ensures failing { OnErr result (has_failed self.new ≡ true) }
         ensures fine { OnOk result (has_failed self.new ≡ has_failed self.old) };
 
@@ -45,7 +45,7 @@ pub trait ByteOut {
     fn write(&mut self, buffer: &[u8]) -> Result<usize, Failed>
         ensures count { IfOk result (λ n. n ≤ length buffer.now) }
         ensures bytes { IfOk result (λ n. Appends (written self.old) (written self.new) (take n buffer.now)) }
-        ensures none_written { OnErr result (written self.new ≡ written self.old) }
+        ensures none_written { OnErr result (Stays (written self.old) (written self.new)) }
         ensures failing { OnErr result (has_failed self.new ≡ true) }
         ensures stuck { IfOk result (λ n. has_failed self.new ≡ (has_failed self.old || (n == 0 && nat_lt 0 (length buffer.now)))) };
 
@@ -54,7 +54,7 @@ pub trait ByteOut {
         ensures { result ≡ has_failed self.now };
 }
 
-/// A reader of std as the source of a script. Of its bytes contracts know nothing.
+/// A reader of std as the source of a script. Contracts know its bytes where they know the reader's.
 #[derive(Drop)]
 pub struct StdIn<R: Read> {
     reader: R,
@@ -65,7 +65,9 @@ pub struct StdIn<R: Read> {
 impl<R: Read> StdIn<R> {
     /// Over a reader of which nothing was read.
     pub fn new(reader: R) -> StdIn<R>
-        ensures { result.failed ≡ false }
+        ensures reader { result.reader ≡ reader }
+        ensures taken { result.taken ≡ 0 }
+        ensures failed { result.failed ≡ false }
     {
         StdIn {
             reader,
@@ -76,12 +78,13 @@ impl<R: Read> StdIn<R> {
 }
 
 impl<R: Read> ByteIn for StdIn<R> {
-    ghost unread = { λ s. None };
+    ghost unread = { λ s. R.remaining s.reader };
 
     ghost taken = { λ s. s.taken };
 
     ghost has_failed = { λ s. s.failed };
 
+    #[tactic(auto, using(crate::proofs::Std::gives, crate::proofs::Std::ends))]
     fn read(&mut self, buffer: &mut [u8]) -> Result<usize, Failed> {
         match self.reader.read(buffer) {
             Ok(count) => {
@@ -100,7 +103,7 @@ impl<R: Read> ByteIn for StdIn<R> {
     }
 }
 
-/// A writer of std as where the answers go. Of its bytes contracts know nothing.
+/// A writer of std as where the answers go. Contracts know its bytes where they know the writer's.
 #[derive(Drop)]
 pub struct StdOut<W: Write> {
     writer: W,
@@ -110,7 +113,8 @@ pub struct StdOut<W: Write> {
 impl<W: Write> StdOut<W> {
     /// Over a writer to which nothing was written.
     pub fn new(writer: W) -> StdOut<W>
-        ensures { result.failed ≡ false }
+        ensures writer { result.writer ≡ writer }
+        ensures failed { result.failed ≡ false }
     {
         StdOut {
             writer,
@@ -120,10 +124,11 @@ impl<W: Write> StdOut<W> {
 }
 
 impl<W: Write> ByteOut for StdOut<W> {
-    ghost written = { λ s. None };
+    ghost written = { λ s. W.contents s.writer };
 
     ghost has_failed = { λ s. s.failed };
 
+    #[tactic(auto, using(crate::proofs::Std::appends, crate::proofs::Std::stays))]
     fn write(&mut self, buffer: &[u8]) -> Result<usize, Failed> {
         match self.writer.write(buffer) {
             Ok(count) => {

@@ -14,7 +14,7 @@ returns-in-Fault-clause-told g c = λ read r.
     told_fault read _ _ _ _ _ _ _ _ _ (c.loop.invariant.so_far read r) c.loop.invariant.left c.in-Fault.ensures.says c.tell_fault.ensures.told
 
 pub returns-in-Err-clause-told : goal.returns-in-Err-clause-told
-returns-in-Err-clause-told g c = λ read r. told_memory read _ _ _ _ _ (c.loop.invariant.so_far read r)
+returns-in-Err-clause-told g c = λ read r. told_memory read _ _ _ _ _ _ _ _ (c.loop.invariant.so_far read r) c.loop.invariant.left c.in-Command.ensures.says
 
 pub returns-in-Err-write_all-clause-told : goal.returns-in-Err-write_all-clause-told
 returns-in-Err-write_all-clause-told g c = λ read r.
