@@ -2,3 +2,4 @@ pub mod FileName
 pub mod Padded
 pub mod Diag
 pub mod Sample
+pub mod Order

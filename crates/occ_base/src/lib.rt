@@ -14,5 +14,5 @@ pub use code::{Code, Grade};
 pub use diag::{Diag, write_diag};
 pub use file_name::{FileName, NameFault};
 pub use name::Name;
-pub use rows::{diag_rows, file_name_rows};
+pub use rows::{diag_rows, file_name_rows, order_rows};
 pub use sqlite_items::{Boxed, Items};

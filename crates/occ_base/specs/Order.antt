@@ -1,0 +1,22 @@
+-- The order of diagnostics.
+use Rattle.std.specs.Prelude.{Bool, true, ◌&&◌, List, [], ◌∷◌}
+use Rattle.std.specs.Ordering.{is_lt}
+use Rattle.std.specs.declared.cmp.Ordering.{Ordering}
+use Rattle.occ_base.specs.contracts.diag.DiagOrd.TheImpl as diag_ord
+use Rattle.occ_base.specs.declared.code.Code.{Code}
+use Rattle.occ_base.specs.declared.code.Code.TheVariants.{G1, G2, G3, G4, G5, G6, L1, L2, L3, L4, S1, S2, S3, S4, N1, N2, T1, T2, T3, T4, T5, T6, T7, T8, T9, P1, P2, P3, P4, R1, R2, U1, U2, U3, A1, A2, A3, A4, F1}
+use Rattle.occ_base.specs.declared.diag.Diag.{Diag}
+
+-- that of the type `Diag`
+abbrev pub diag_order : Diag → Diag → Ordering
+diag_order = (diag_ord.ghosts).cmp
+
+-- each stands before the next one
+abbrev pub is_rising : List Diag → Bool
+is_rising [] = true
+is_rising (d ∷ []) = true
+is_rising (d ∷ e ∷ ds) = is_lt (diag_order d e) && is_rising (e ∷ ds)
+
+-- all codes, as they stand in order
+abbrev pub all_codes : List Code
+all_codes = G1 ∷ G2 ∷ G3 ∷ G4 ∷ G5 ∷ G6 ∷ L1 ∷ L2 ∷ L3 ∷ L4 ∷ S1 ∷ S2 ∷ S3 ∷ S4 ∷ N1 ∷ N2 ∷ T1 ∷ T2 ∷ T3 ∷ T4 ∷ T5 ∷ T6 ∷ T7 ∷ T8 ∷ T9 ∷ P1 ∷ P2 ∷ P3 ∷ P4 ∷ R1 ∷ R2 ∷ U1 ∷ U2 ∷ U3 ∷ A1 ∷ A2 ∷ A3 ∷ A4 ∷ F1 ∷ []
