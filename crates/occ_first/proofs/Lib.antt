@@ -3,3 +3,4 @@ pub mod Nested
 pub mod Siblings
 pub mod Scopes
 pub mod Marked
+pub mod Rising

@@ -2,7 +2,8 @@
 use Rattle.std.proofs.Common.{◌≡◌, List, [], ◌∷◌, ◌++◌, refl, ap}
 use Rattle.std.specs.BTreeSet.{insert_key}
 use Rattle.occ_base.specs.declared.diag.Diag.{Diag}
-use Rattle.occ_first.specs.Order.{diag_order, placed}
+use Rattle.occ_base.specs.Order.{diag_order}
+use Rattle.occ_first.specs.Order.{placed}
 
 pub placed_last : (front : List Diag) (last : Diag) (there : List Diag) → placed (front ++ last ∷ []) there ≡ placed front (insert_key diag_order there last)
 placed_last [] last there = refl

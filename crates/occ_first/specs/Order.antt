@@ -1,13 +1,8 @@
 -- A list of diagnostics in their order, each once.
 use Rattle.std.specs.Prelude.{List, [], ◌∷◌}
-use Rattle.std.specs.declared.cmp.Ordering.{Ordering}
 use Rattle.std.specs.BTreeSet.{insert_key}
 use Rattle.occ_base.specs.declared.diag.Diag.{Diag}
-use Rattle.occ_base.specs.contracts.diag.DiagOrd.TheImpl as diag_ord
-
--- the order of diagnostics
-abbrev pub diag_order : Diag → Diag → Ordering
-diag_order = (diag_ord.ghosts).cmp
+use Rattle.occ_base.specs.Order.{diag_order}
 
 -- the diagnostics, put one by one at their places among those that are there already
 abbrev pub placed : List Diag → List Diag → List Diag

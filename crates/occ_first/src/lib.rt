@@ -15,4 +15,5 @@ mod shape;
 mod tests;
 mod unit;
 
+pub use rows::{children_rows, item_rows, order_law, under_rows, visible_rows};
 pub use unit::diagnostics;
