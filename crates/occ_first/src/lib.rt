@@ -1,5 +1,5 @@
 //! The diagnostics of a unit in the first sublanguage: faults of lines, shape, names and the parallel rule. A
-//! private part of occheck, which alone uses it.
+//! private part of occheck, used by its crate of scripts alone.
 #![tactic(auto)]
 
 mod faults;
