@@ -1,7 +1,7 @@
 -- The values of constants: whole numbers, each in the range of its type, and what the operators give on them.
 -- TRUE is 1 and FALSE 0.
 use Rattle.std.specs.Prelude.{ℕ, ◌+◌, ◌-◌, ◌*◌, ◌/◌, ◌%◌, ◌^◌, ℤ, pos, negsuc, ◌+ℤ◌, ◌-ℤ◌, ◌*ℤ◌, neg_ℤ, int_lt, int_le, int_div, int_rem, unsigned_abs, bit_and, bit_or, bit_xor, nat_le, nat_lt, Bool, true, false, cond, not, ◌&&◌, ◌||◌}
-use Rattle.std.specs.Prelude.{Result, Ok, Err, zero, suc}
+use Rattle.std.specs.Prelude.{Result, Ok, Err, Option, Some, None}
 use Rattle.std.specs.Ordering.{int_eq}
 use Rattle.std.specs.Int.{int_rem_euclid}
 use Rattle.occ_types.specs.declared.value.Primitive.{Primitive}
@@ -101,14 +101,20 @@ truth b = Ok (v.Bool b)
 
 -- a division with a divisor of 0 has a fault
 abbrev pub divided : ℤ → Result Value ConstFault → Result Value ConstFault
-divided (pos zero) r = Err fault.ZeroDivisor
-divided (pos (suc n)) r = r
-divided (negsuc n) r = r
+divided y r = cond (int_eq y (pos 0)) (Err fault.ZeroDivisor) r
 
--- a shift by a count below 0 or over the number of bits has a fault
+-- the count of a shift: from 0 to the number of bits
+abbrev pub count_of : Primitive → ℤ → Option ℕ
+count_of t (pos k) = cond (nat_le k (bits_of t)) (Some k) None
+count_of t (negsuc k) = None
+
+-- a shift by another count has a fault
+abbrev pub shifted_by : Primitive → Option ℕ → (ℕ → ℕ) → Result Value ConstFault
+shifted_by t None f = Err fault.Shift
+shifted_by t (Some k) f = settled_pattern t (f k)
+
 abbrev pub shifted : Primitive → ℤ → (ℕ → ℕ) → Result Value ConstFault
-shifted t (pos k) f = cond (nat_le k (bits_of t)) (settled_pattern t (f k)) (Err fault.Shift)
-shifted t (negsuc k) f = Err fault.Shift
+shifted t y f = shifted_by t (count_of t y) f
 
 -- the number of n cut to the bits of the type
 abbrev pub wrapped : Primitive → ℤ → ℤ

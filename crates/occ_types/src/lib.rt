@@ -3,7 +3,8 @@
 
 mod constant;
 mod range;
+pub mod rows;
 mod value;
 
-pub use constant::{ConstFault, Monadic, Operator, convert};
+pub use constant::{ConstFault, Monadic, Operator, convert, fold, fold_one};
 pub use value::{Primitive, Value};

@@ -109,3 +109,44 @@ pub(crate) fn pattern(of: Primitive, n: i128) -> u128
     let modulus = power(bits(of)) as i128;
     n.rem_euclid(modulus) as u128
 }
+
+/// The value of a type whose bits are these.
+pub(crate) fn settle_pattern(of: Primitive, pattern: u128) -> Result<Value, ConstFault>
+    requires { pattern ≤ 2 ^ 64 }
+    ensures { result ≡ settled_pattern of pattern }
+{
+    settle(of, number_with(of, pattern))
+}
+
+/// The number that n leaves in the bits of a type.
+pub(crate) fn wrap(of: Primitive, n: i128) -> i128
+    ensures { result ≡ wrapped of n }
+{
+    number_with(of, pattern(of, n))
+}
+
+/// The number of a type whose bits are these.
+fn number_with(of: Primitive, pattern: u128) -> i128
+    requires { pattern ≤ 2 ^ 64 }
+    ensures { result ≡ number_of_pattern of pattern }
+{
+    let n = pattern as i128;
+    if n <= greatest(of) {
+        n
+    } else {
+        n - power(bits(of)) as i128
+    }
+}
+
+/// The greatest number of a type.
+fn greatest(of: Primitive) -> i128
+    ensures { result ≡ greatest_of of }
+{
+    match of {
+        Primitive::Bool => 1,
+        Primitive::Byte => 255,
+        Primitive::Int16 => 32_767,
+        Primitive::Int | Primitive::Int32 => 2_147_483_647,
+        Primitive::Int64 => 9_223_372_036_854_775_807,
+    }
+}
