@@ -1,10 +1,14 @@
-//! Types, and the values of constants.
+//! Types and their equality, and the values of constants.
 #![tactic(auto)]
 
 mod constant;
 mod range;
 pub mod rows;
+mod same;
+mod types;
 mod value;
 
 pub use constant::{ConstFault, Monadic, Operator, convert, fold, fold_one};
+pub use same::{same_protocol, same_type};
+pub use types::{Field, Item, OccType, Packing, Protocol, Tag};
 pub use value::{Primitive, Value};
