@@ -5,10 +5,12 @@ mod constant;
 mod range;
 pub mod rows;
 mod same;
+mod size;
 mod types;
 mod value;
 
 pub use constant::{ConstFault, Monadic, Operator, convert, fold, fold_one};
 pub use same::{same_protocol, same_type};
+pub use size::bytes_of;
 pub use types::{Field, Item, OccType, Packing, Protocol, Tag};
 pub use value::{Primitive, Value};

@@ -27,7 +27,7 @@ pub fn same_protocol(a: &Protocol, b: &Protocol) -> bool
         (Protocol::Any, Protocol::Any) => true,
         (Protocol::Sequence(items), Protocol::Sequence(others)) => same_items(items.as_slice(), others.as_slice()),
         (Protocol::Variant(tags), Protocol::Variant(others)) => same_tags(tags.as_slice(), others.as_slice()),
-        (Protocol::Named(name, inner), Protocol::Named(other, defined)) => name == other && same_protocol(inner.get(), defined.get()),
+        (Protocol::Defined(name, inner), Protocol::Defined(other, defined)) => name == other && same_protocol(inner.get(), defined.get()),
         _ => false,
     }
 }

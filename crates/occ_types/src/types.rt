@@ -40,7 +40,7 @@ pub enum Protocol {
     Sequence(Items<Item>),
     Variant(Items<Tag>),
     /// A protocol with a name, and what it is defined to be.
-    Named(Name, Boxed<Protocol>),
+    Defined(Name, Boxed<Protocol>),
 }
 
 /// An item of a protocol.
