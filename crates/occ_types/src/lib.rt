@@ -1,16 +1,21 @@
 //! Types and their equality, and the values of constants.
 #![tactic(auto)]
 
+mod comparison;
 mod constant;
+mod interface;
 mod range;
 pub mod rows;
 mod same;
+
 mod size;
 mod types;
 mod value;
 
 pub use constant::{ConstFault, Monadic, Operator, convert, fold, fold_one};
+pub use interface::{Effect, Export, ExportKind, Formal, Interface, Interval, Mark, Passing, Places, Selector, Use, UseKind};
 pub use same::{same_protocol, same_type};
+pub use comparison::same_interface;
 pub use size::bytes_of;
 pub use types::{Field, Item, OccType, Packing, Protocol, Tag};
 pub use value::{Primitive, Value};
