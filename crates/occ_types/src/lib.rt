@@ -4,6 +4,7 @@
 mod comparison;
 mod constant;
 mod interface;
+mod measure;
 mod range;
 pub mod rows;
 mod same;
@@ -14,6 +15,7 @@ mod value;
 
 pub use constant::{ConstFault, Monadic, Operator, convert, fold, fold_one};
 pub use interface::{Effect, Export, ExportKind, Formal, Interface, Interval, Mark, Passing, Places, Selector, Use, UseKind};
+pub use measure::{Measure, measure_of, measure_protocol};
 pub use same::{same_protocol, same_type};
 pub use comparison::same_interface;
 pub use size::bytes_of;
