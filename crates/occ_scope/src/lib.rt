@@ -1,0 +1,6 @@
+//! Which specifications are in scope, and which of them a name stands for.
+#![tactic(auto)]
+
+mod scopes;
+
+pub use scopes::{Scopes, SpecId};
