@@ -10,6 +10,8 @@ pub mod rows;
 mod same;
 
 mod size;
+#[cfg(test)]
+mod tests;
 mod types;
 mod value;
 
