@@ -76,8 +76,8 @@ kept_more es all m m' e place chained near is hides at puts =
     record {
       chained = subst (AreChained []) (sym is) (chained_more es e chained (hides ∙ near e.name));
       newest = λ q. puts q ∙ ap (λ (r : Option ℕ). cond (is_same_name e.name q) (Some place) r) (near q)
-        ∙ ap (λ (k : ℕ). cond (is_same_name e.name q) (Some k) (nearest (names_of es) q)) (at ∙ sym (names_length es))
-        ∙ sym (nearest_of_all es all e q is)
+          ∙ ap (λ (k : ℕ). cond (is_same_name e.name q) (Some k) (nearest (names_of es) q)) (at ∙ sym (names_length es))
+          ∙ sym (nearest_of_all es all e q is);
     }
 
 equal : (r : Ordering) → is_eq r ≡ true → r ≡ Equal
@@ -96,8 +96,8 @@ kept_less es all m m' e chained near is puts =
     record {
       chained = chained_less es e c;
       newest = λ q. puts q ∙ pick (is_same_name e.name q) (length (names_of es)) e.hidden (place_held m q) (nearest (names_of es) q)
-        (λ h. last_hides es e c ∙ ap (nearest (names_of es)) (exact_bytes e.name q (equal (slice_cmp nat_cmp e.name q) h)))
-        (near q ∙ nearest_of_all es all e q is)
+          (λ h. last_hides es e c ∙ ap (nearest (names_of es)) (exact_bytes e.name q (equal (slice_cmp nat_cmp e.name q) h)))
+          (near q ∙ nearest_of_all es all e q is);
     }
 
 same_itself : (n : List ℕ) → is_same_name n n ≡ true

@@ -55,7 +55,8 @@ impl Scopes {
     pub fn find(&self, name: &Name) -> Option<SpecId>
         ensures { result ≡ nearest self.now name.now }
     {
-        self.newest.get(name).copied()
+        let place = self.newest.get(name);
+        place.copied()
     }
 
     /// A specification of this name is entered. Where memory is refused nothing changes.

@@ -49,10 +49,10 @@ cut_product_at (suc n) s l =
     elim (cases_lt s l) [
       | inl h ↦ let e : min s l ≡ s = omega arith in ap (λ (x : ℕ). min (suc n * x) l) e
       | inr h ↦
-        let e : min s l ≡ l = omega arith in
-        let a : l ≤ suc n * l = omega arith in
-        let b : s ≤ suc n * s = omega arith in
-        ap (λ (x : ℕ). min (suc n * x) l) e ∙ (omega arith)
+          let e : min s l ≡ l = omega arith in
+          let a : l ≤ suc n * l = omega arith in
+          let b : s ≤ suc n * s = omega arith in
+          ap (λ (x : ℕ). min (suc n * x) l) e ∙ (omega arith)
     ]
 
 pub cut_product : (n : Option ℕ) (s : Option ℕ) → capped (product_of n (capped s)) ≡ capped (product_of n s)

@@ -22,7 +22,9 @@ fn same_export(a: &Export, b: &Export) -> bool
 fn same_formal(a: &Formal, b: &Formal) -> bool
     ensures { IsTrue result ↔ (a.now ≡ b.now) }
 {
-    same_type(&a.of, &b.of) && a.passing == b.passing && same_uses(a.uses.as_slice(), b.uses.as_slice())
+    same_type(&a.of, &b.of)
+        && a.passing == b.passing
+        && same_uses(a.uses.as_slice(), b.uses.as_slice())
 }
 
 fn same_use(a: &Use, b: &Use) -> bool

@@ -210,7 +210,10 @@ fn shift_left(of: Primitive, x: i64, y: i64) -> Result<Value, ConstFault>
     let Some(count) = shift_count(of, y) else {
         return Err(ConstFault::Shift);
     };
-    settle_pattern(of, pattern(of, i128::from(x)) * power(count) % power(bits(of)))
+    settle_pattern(
+        of,
+        pattern(of, i128::from(x)) * power(count) % power(bits(of)),
+    )
 }
 
 fn shift_right(of: Primitive, x: i64, y: i64) -> Result<Value, ConstFault>

@@ -16,14 +16,20 @@ impl Measure {
     pub fn none() -> Measure
         ensures { result ≡ none }
     {
-        Measure { levels: 0, types: 0 }
+        Measure {
+            levels: 0,
+            types: 0,
+        }
     }
 
     /// Of a type that holds no other.
     pub fn one() -> Measure
         ensures { result ≡ one }
     {
-        Measure { levels: 1, types: 1 }
+        Measure {
+            levels: 1,
+            types: 1,
+        }
     }
 
     /// Of a dimension, a name, CHAN or RECORD over what has this measure.

@@ -9,10 +9,16 @@ pub fn same_type(a: &OccType, b: &OccType) -> bool
 {
     match (a, b) {
         (OccType::Primitive(x), OccType::Primitive(y)) => x == y,
-        (OccType::Array(m, inner), OccType::Array(n, other)) => m == n && same_type(inner.get(), other.get()),
-        (OccType::Record(packing, fields), OccType::Record(other, others)) => packing == other && same_fields(fields.as_slice(), others.as_slice()),
-        (OccType::Named(name, inner), OccType::Named(other, defined)) => name == other && same_type(inner.get(), defined.get()),
-        (OccType::Channel(carried), OccType::Channel(other)) => same_protocol(carried.get(), other.get()),
+        (OccType::Array(m, inner), OccType::Array(n, other)) => m == n
+            && same_type(inner.get(), other.get()),
+        (OccType::Record(packing, fields), OccType::Record(other, others)) => packing == other
+            && same_fields(fields.as_slice(), others.as_slice()),
+        (OccType::Named(name, inner), OccType::Named(other, defined)) => name == other
+            && same_type(inner.get(), defined.get()),
+        (OccType::Channel(carried), OccType::Channel(other)) => same_protocol(
+            carried.get(),
+            other.get(),
+        ),
         (OccType::Timer, OccType::Timer) => true,
         _ => false,
     }
@@ -25,9 +31,16 @@ pub fn same_protocol(a: &Protocol, b: &Protocol) -> bool
 {
     match (a, b) {
         (Protocol::Any, Protocol::Any) => true,
-        (Protocol::Sequence(items), Protocol::Sequence(others)) => same_items(items.as_slice(), others.as_slice()),
-        (Protocol::Variant(tags), Protocol::Variant(others)) => same_tags(tags.as_slice(), others.as_slice()),
-        (Protocol::Defined(name, inner), Protocol::Defined(other, defined)) => name == other && same_protocol(inner.get(), defined.get()),
+        (Protocol::Sequence(items), Protocol::Sequence(others)) => same_items(
+            items.as_slice(),
+            others.as_slice(),
+        ),
+        (Protocol::Variant(tags), Protocol::Variant(others)) => same_tags(
+            tags.as_slice(),
+            others.as_slice(),
+        ),
+        (Protocol::Defined(name, inner), Protocol::Defined(other, defined)) => name == other
+            && same_protocol(inner.get(), defined.get()),
         _ => false,
     }
 }

@@ -1,4 +1,9 @@
-use super::{ConstFault, Effect, Export, ExportKind, Field, Formal, Interface, Interval, Item, Mark, Measure, Monadic, OccType, Operator, Packing, Passing, Places, Primitive, Protocol, Selector, Tag, Use, UseKind, Value, bytes_of, convert, fold, fold_one, measure_of, measure_protocol, same_interface, same_protocol, same_type};
+use super::{
+    ConstFault, Effect, Export, ExportKind, Field, Formal, Interface, Interval, Item, Mark,
+    Measure, Monadic, OccType, Operator, Packing, Passing, Places, Primitive, Protocol, Selector,
+    Tag, Use, UseKind, Value, bytes_of, convert, fold, fold_one, measure_of, measure_protocol,
+    same_interface, same_protocol, same_type,
+};
 use occ_base::{Boxed, Items, Name};
 use std::alloc::{AllocError, Global};
 use std::test::Fail;
@@ -62,17 +67,50 @@ fn tagged(alloc: Global, tag: &str) -> Result<Protocol, AllocError> {
 
 #[test]
 fn folds_constants(rt: HostRuntime) -> Result<(), Fail> {
-    assert_eq!(rt; fold(Operator::Remainder, Value::Int(i32::MIN), Value::Int(-1)), Ok(Value::Int(0)));
-    assert_eq!(rt; fold(Operator::Divide, Value::Int(i32::MIN), Value::Int(-1)), Err(ConstFault::Overflow));
-    assert_eq!(rt; fold(Operator::ShiftRight, Value::Int(-1), Value::Int(31)), Ok(Value::Int(1)));
-    assert_eq!(rt; fold(Operator::ShiftLeft, Value::Int64(-1), Value::Int(64)), Ok(Value::Int64(0)));
-    assert_eq!(rt; fold(Operator::ShiftLeft, Value::Int16(1), Value::Int(17)), Err(ConstFault::Shift));
-    assert_eq!(rt; fold(Operator::Times, Value::Int64(i64::MIN), Value::Int64(-1)), Ok(Value::Int64(i64::MIN)));
-    assert_eq!(rt; fold(Operator::After, Value::Int(i32::MIN), Value::Int(i32::MAX)), Ok(Value::Bool(true)));
-    assert_eq!(rt; fold_one(Monadic::Negate, Value::Byte(1)), Err(ConstFault::Overflow));
-    assert_eq!(rt; fold_one(Monadic::BitNot, Value::Byte(1)), Ok(Value::Byte(254)));
-    assert_eq!(rt; convert(Primitive::Byte, Value::Int(300)), Err(ConstFault::Overflow));
-    assert_eq!(rt; convert(Primitive::Int16, Value::Bool(true)), Ok(Value::Int16(1)));
+    assert_eq!(rt;
+        fold(Operator::Remainder, Value::Int(i32::MIN), Value::Int(-1)),
+        Ok(Value::Int(0))
+    );
+    assert_eq!(rt;
+        fold(Operator::Divide, Value::Int(i32::MIN), Value::Int(-1)),
+        Err(ConstFault::Overflow)
+    );
+    assert_eq!(rt;
+        fold(Operator::ShiftRight, Value::Int(-1), Value::Int(31)),
+        Ok(Value::Int(1))
+    );
+    assert_eq!(rt;
+        fold(Operator::ShiftLeft, Value::Int64(-1), Value::Int(64)),
+        Ok(Value::Int64(0))
+    );
+    assert_eq!(rt;
+        fold(Operator::ShiftLeft, Value::Int16(1), Value::Int(17)),
+        Err(ConstFault::Shift)
+    );
+    assert_eq!(rt;
+        fold(Operator::Times, Value::Int64(i64::MIN), Value::Int64(-1)),
+        Ok(Value::Int64(i64::MIN))
+    );
+    assert_eq!(rt;
+        fold(Operator::After, Value::Int(i32::MIN), Value::Int(i32::MAX)),
+        Ok(Value::Bool(true))
+    );
+    assert_eq!(rt;
+        fold_one(Monadic::Negate, Value::Byte(1)),
+        Err(ConstFault::Overflow)
+    );
+    assert_eq!(rt;
+        fold_one(Monadic::BitNot, Value::Byte(1)),
+        Ok(Value::Byte(254))
+    );
+    assert_eq!(rt;
+        convert(Primitive::Byte, Value::Int(300)),
+        Err(ConstFault::Overflow)
+    );
+    assert_eq!(rt;
+        convert(Primitive::Int16, Value::Bool(true)),
+        Ok(Value::Int16(1))
+    );
     Ok(())
 }
 
@@ -103,14 +141,29 @@ fn tells_types_apart(rt: HostRuntime) -> Result<(), Fail> {
 fn counts_bytes(rt: HostRuntime) -> Result<(), Fail> {
     let alloc = rt.alloc();
     assert_eq!(rt; bytes_of(&record(alloc, "a", "b")?), Some(5));
-    assert_eq!(rt; bytes_of(&array(alloc, Some(3), record(alloc, "a", "b")?)?), Some(15));
-    assert_eq!(rt; bytes_of(&array(alloc, Some(2), array(alloc, Some(3), int())?)?), Some(24));
-    assert_eq!(rt; bytes_of(&array(alloc, Some(2_147_483_647), byte())?), Some(2_147_483_647));
+    assert_eq!(rt;
+        bytes_of(&array(alloc, Some(3), record(alloc, "a", "b")?)?),
+        Some(15)
+    );
+    assert_eq!(rt;
+        bytes_of(&array(alloc, Some(2), array(alloc, Some(3), int())?)?),
+        Some(24)
+    );
+    assert_eq!(rt;
+        bytes_of(&array(alloc, Some(2_147_483_647), byte())?),
+        Some(2_147_483_647)
+    );
     assert_eq!(rt; bytes_of(&array(alloc, Some(536_870_912), int())?), None);
-    assert_eq!(rt; bytes_of(&array(alloc, Some(0), array(alloc, Some(u32::MAX), int())?)?), Some(0));
+    assert_eq!(rt;
+        bytes_of(&array(alloc, Some(0), array(alloc, Some(u32::MAX), int())?)?),
+        Some(0)
+    );
     assert_eq!(rt; bytes_of(&array(alloc, None, int())?), None);
     assert_eq!(rt; bytes_of(&OccType::Timer), None);
-    assert_eq!(rt; bytes_of(&array(alloc, Some(0), channel(alloc, Protocol::Any)?)?), None);
+    assert_eq!(rt;
+        bytes_of(&array(alloc, Some(0), channel(alloc, Protocol::Any)?)?),
+        None
+    );
     let mut all = byte();
     for _ in 0..40 {
         all = array(alloc, Some(u32::MAX), all)?;
@@ -146,7 +199,12 @@ fn measures_types(rt: HostRuntime) -> Result<(), Fail> {
 }
 
 /// An interface of one PROC with one formal, of which the place is written.
-fn interface(alloc: Global, text: &str, place: i64, effect: Effect) -> Result<Interface, AllocError> {
+fn interface(
+    alloc: Global,
+    text: &str,
+    place: i64,
+    effect: Effect,
+) -> Result<Interface, AllocError> {
     let mut selectors = Items::new(alloc);
     selectors.push(Selector::Field(name(alloc, "f")?))?;
     selectors.push(Selector::Interval(Interval {

@@ -9,4 +9,3 @@ invariant-same_items-loop-i l = take l.i l.a ≡ take l.i l.b
 
 abbrev pub invariant-same_tags-loop-i : goal.invariant-same_tags-loop-i
 invariant-same_tags-loop-i l = take l.i l.a ≡ take l.i l.b
-

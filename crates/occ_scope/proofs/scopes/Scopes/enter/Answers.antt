@@ -12,10 +12,10 @@ invariant_of-self-in_default c =
     let held : c.copied-hidden.result ≡ place_held c.self.inside.newest c.args.name.now = search rules in
     let puts : Puts c.self.inside.newest c.put.new.newest c.in_ok-key.key (Some c.len-place.result) = search rules in
     kept_more c.self.inside.entries c.push.new.self c.self.inside.newest c.put.new.newest e c.len-place.result
-      c.self.invariant.chained c.self.invariant.newest (search rules)
-      (held ∙ ap (place_held c.self.inside.newest) (sym copy))
-      (search rules)
-      (subst (λ (n : List ℕ). Puts c.self.inside.newest c.put.new.newest n (Some c.len-place.result)) (key ∙ sym copy) puts)
+    c.self.invariant.chained c.self.invariant.newest (search rules)
+    (held ∙ ap (place_held c.self.inside.newest) (sym copy))
+    (search rules)
+    (subst (λ (n : List ℕ). Puts c.self.inside.newest c.put.new.newest n (Some c.len-place.result)) (key ∙ sym copy) puts)
 
 pub returns-clause-place : goal.returns-clause-place
 returns-clause-place c =
