@@ -1,0 +1,8 @@
+//! Which specifications are in scope, and which of them a name stands for.
+#![tactic(auto)]
+
+mod scopes;
+#[cfg(test)]
+mod tests;
+
+pub use scopes::{Scopes, SpecId};

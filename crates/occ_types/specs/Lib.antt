@@ -1,0 +1,3 @@
+pub mod Constant
+pub mod Size
+pub mod Measure

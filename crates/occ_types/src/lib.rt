@@ -1,0 +1,27 @@
+//! Types and their equality, and the values of constants.
+#![tactic(auto)]
+
+mod comparison;
+mod constant;
+mod interface;
+mod measure;
+mod range;
+pub mod rows;
+mod same;
+mod size;
+#[cfg(test)]
+mod tests;
+mod types;
+mod value;
+
+pub use comparison::same_interface;
+pub use constant::{ConstFault, Monadic, Operator, convert, fold, fold_one};
+pub use interface::{
+    Effect, Export, ExportKind, Formal, Interface, Interval, Mark, Passing, Places, Selector, Use,
+    UseKind,
+};
+pub use measure::{Measure, measure_of, measure_protocol};
+pub use same::{same_protocol, same_type};
+pub use size::bytes_of;
+pub use types::{Field, Item, OccType, Packing, Protocol, Tag};
+pub use value::{Primitive, Value};
