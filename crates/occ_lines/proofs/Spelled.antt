@@ -5,12 +5,13 @@ use Rattle.std.proofs.lemmas.Bool.{MatchBool-at_false, MatchBool-at_true, cases_
 use Rattle.std.proofs.lemmas.List.{append-nil}
 use Rattle.bstr.specs.Text.{lines_of, without_terminator}
 use Rattle.occ_base.specs.declared.code.Code.{Code}
+use Rattle.occ_lines.specs.declared.ending.Ending.{Ending}
 use Rattle.occ_lines.specs.declared.logical.Body.{Body}
 use Rattle.occ_lines.specs.declared.logical.Body.TheVariants as body
 use Rattle.occ_lines.specs.declared.logical.Logical.{Logical}
 use Rattle.occ_lines.specs.declared.token.Token.{Token}
 use Rattle.occ_lines.specs.Lexeme.{after_blanks}
-use Rattle.occ_lines.specs.Lines.{AreLogical, IsBody, IsLines, IsLogical, IsRead, column, is_skipped}
+use Rattle.occ_lines.specs.Lines.{AreLogical, IsBody, IsLines, IsLogical, IsRead, column, is_skipped, read_body}
 use Rattle.occ_lines.proofs.Reading.{one_list}
 
 abbrev IsTaken : ℕ → List ℕ → List (List ℕ) → List Logical → Type 0
@@ -51,10 +52,9 @@ goes_to_end text found number left none kept = let goes : Goes text found number
 -- a text spells one list at most
 
 one_read : (text : List ℕ) (a b : Body) → IsRead text a → IsRead text b → a ≡ b
-one_read text (body.Tokens ts) (body.Tokens us) h k = ap (λ (xs : List Token). body.Tokens xs) (one_list (after_blanks text) ts us h k)
-one_read text (body.Tokens ts) (body.Fault f) h k = absurd (k.1 ts h)
-one_read text (body.Fault f) (body.Tokens us) h k = absurd (h.1 us k)
-one_read text (body.Fault f) (body.Fault g) h k = ap (λ (c : Code). body.Fault c) (h.0 ∙ sym k.0)
+one_read text a b h k =
+    let same = one_list (after_blanks text) h.0 k.0 h.1 k.1 h.2 k.2 in
+    h.3 ∙ ap (λ (ts : List Token). read_body ts h.1) same.0 ∙ ap (λ (e : Ending). read_body k.0 e) same.1 ∙ sym k.3
 
 one_body : (line : List ℕ) (a b : Body) → IsBody line a → IsBody line b → a ≡ b
 one_body line a b h k = elim (cases_Bool (column line % 2 == 1)) [

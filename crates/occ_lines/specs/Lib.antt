@@ -1,3 +1,4 @@
 pub mod Lexeme
 pub mod Lines
+pub mod Quoted
 pub mod Scan

@@ -3,6 +3,8 @@ use Rattle.std.specs.Prelude.{◌≡◌, ◌==◌, ◌+◌, ◌*◌, ◌/◌, �
 use Rattle.std.specs.Bool.{MatchBool}
 use Rattle.bstr.specs.Text.{lines_of, without_terminator}
 use Rattle.occ_base.specs.declared.code.Code.TheVariants as code
+use Rattle.occ_lines.specs.declared.ending.Ending.{Ending}
+use Rattle.occ_lines.specs.declared.ending.Ending.TheVariants as ending
 use Rattle.occ_lines.specs.declared.logical.Body.{Body}
 use Rattle.occ_lines.specs.declared.logical.Body.TheVariants as body
 use Rattle.occ_lines.specs.declared.logical.Logical.{Logical}
@@ -24,10 +26,14 @@ column line = column_from 0 line
 abbrev pub is_skipped : List ℕ → Bool
 is_skipped line = is_end (after_blanks line)
 
--- the text is these tokens, or it is no list of tokens, which is the fault L1
+-- what is read of a line: its tokens, or its fault
+abbrev pub read_body : List Token → Ending → Body
+read_body tokens ending.Whole = body.Tokens tokens
+read_body tokens (ending.Broken bytes) = body.Fault code.L4
+read_body tokens (ending.Bad fault) = body.Fault fault
+
 abbrev pub IsRead : List ℕ → Body → Type 0
-IsRead text (body.Tokens tokens) = Lexes text tokens
-IsRead text (body.Fault fault) = (fault ≡ code.L1) × ((tokens : List Token) → Lexes text tokens → ⊥)
+IsRead text x = (tokens : List Token) × (end : Ending) × Lexes text tokens end × (x ≡ read_body tokens end)
 
 -- what a line holds: in an odd column the fault L2, whatever stands there
 abbrev pub IsBody : List ℕ → Body → Type 0

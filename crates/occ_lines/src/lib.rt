@@ -3,8 +3,10 @@
 #![tactic(auto)]
 
 mod blanks;
+mod ending;
 mod lexeme;
 mod logical;
+mod quoted;
 mod reader;
 mod rows;
 mod scan;
@@ -16,6 +18,7 @@ mod tokens;
 pub use logical::{Body, Logical, TextFault};
 pub use reader::{logical_lines, text_fault};
 pub use rows::{
-    class_rows, first_rows, line_rows, name_rows, number_rows, symbol_rows, symbol_token_rows,
+    class_rows, first_rows, line_rows, name_rows, number_rows, quoted_rows, symbol_rows,
+    symbol_token_rows,
 };
 pub use token::{Symbol, Token, Word};

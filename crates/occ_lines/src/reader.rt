@@ -5,7 +5,8 @@ ghost use Rattle.occ_lines.specs.declared.logical.Logical.{Logical as ALogical};
 
 use super::{Body, Logical, TextFault};
 use crate::blanks::{after_blanks, column, is_end};
-use crate::tokens::tokens;
+use crate::ending::Ending;
+use crate::tokens;
 use bstr::ByteSlice;
 use occ_base::{Code, Items};
 use std::alloc::{AllocError, Global};
@@ -24,9 +25,11 @@ fn body(alloc: Global, line: &[u8], column: u32) -> Result<Body, AllocError>
     if column % 2 == 1 {
         return Ok(Body::Fault(Code::L2));
     }
-    match tokens(alloc, line)? {
-        Some(found) => Ok(Body::Tokens(found)),
-        None => Ok(Body::Fault(Code::L1)),
+    let (found, ending) = tokens::read(alloc, Items::new(alloc), line)?;
+    match ending {
+        Ending::Whole => Ok(Body::Tokens(found)),
+        Ending::Broken(_) => Ok(Body::Fault(Code::L4)),
+        Ending::Bad(fault) => Ok(Body::Fault(fault)),
     }
 }
 

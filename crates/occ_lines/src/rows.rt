@@ -1,7 +1,9 @@
 //! Worked rows of the definitions: each function has an empty body, and its clauses are computed.
 ghost use Rattle.std.specs.Prelude.{◌≡◌, ◌++◌, [], ◌∷◌, ℕ, List, codes, false, true};
 ghost use Rattle.occ_base.specs.declared.code.Code.TheVariants as code;
-ghost use Rattle.occ_lines.specs.Lexeme.{IsFirst, Lexes, is_name, is_number, is_symbol, name_token, number_token, symbol_token};
+ghost use Rattle.occ_lines.specs.Lexeme.{IsFirst, Lexes, hexadecimal_token, is_hexadecimal, is_name, is_number, is_symbol, name_token, number_token, symbol_token};
+ghost use Rattle.occ_lines.specs.Quoted.{unit};
+ghost use Rattle.occ_lines.specs.declared.ending.Ending.TheVariants as ending;
 ghost use Rattle.occ_lines.specs.Lines.{IsBody, column, is_skipped};
 ghost use Rattle.occ_lines.specs.declared.logical.Body.TheVariants as body;
 ghost use Rattle.occ_lines.specs.declared.token.Symbol.TheVariants as s;
@@ -17,6 +19,9 @@ pub fn class_rows()
     ensures none { is_name [] ≡ false }
     ensures number { is_number (codes "0012") ≡ true }
     ensures mixed { is_number (codes "12a") ≡ false }
+    ensures hexadecimal { is_hexadecimal (codes "#0fF") ≡ true }
+    ensures hash { is_hexadecimal (codes "#") ≡ false }
+    ensures letter { is_hexadecimal (codes "#g") ≡ false }
     ensures nothing { is_number [] ≡ false }
 {}
 
@@ -25,28 +30,34 @@ pub fn class_rows()
 pub fn symbol_rows()
     ensures assign { is_symbol (codes ":=") ≡ true }
     ensures counted { is_symbol (codes "::") ≡ true }
-    ensures equal { is_symbol (codes "=") ≡ false }
+    ensures broken { is_symbol (codes "=:") ≡ false }
+    ensures dollar { is_symbol (codes "$") ≡ false }
+    ensures equal { is_symbol (codes "=") ≡ true }
     ensures none { is_symbol [] ≡ false }
 {}
 
 /// What names are.
 #[tactic(auto, unfolding(crate::specs::Lexeme::name_token, crate::specs::Lexeme::reserved_row))]
 pub fn name_rows()
-    ensures proc { name_token (codes "PROC") ≡ Some (t.Word w.Proc) }
-    ensures int { name_token (codes "INT") ≡ Some (t.Word w.Int) }
-    ensures seq { name_token (codes "SEQ") ≡ Some (t.Word w.Seq) }
-    ensures par { name_token (codes "PAR") ≡ Some (t.Word w.Par) }
-    ensures skip { name_token (codes "SKIP") ≡ Some (t.Word w.Skip) }
-    ensures later { name_token (codes "WHILE") ≡ None }
-    ensures small { name_token (codes "skip") ≡ Some (t.Name (codes "skip")) }
-    ensures longer { name_token (codes "INT8") ≡ Some (t.Name (codes "INT8")) }
+    ensures proc { name_token (codes "PROC") ≡ t.Word w.Proc }
+    ensures int { name_token (codes "INT") ≡ t.Word w.Int }
+    ensures seq { name_token (codes "SEQ") ≡ t.Word w.Seq }
+    ensures par { name_token (codes "PAR") ≡ t.Word w.Par }
+    ensures skip { name_token (codes "SKIP") ≡ t.Word w.Skip }
+    ensures later { name_token (codes "WHILE") ≡ t.Word w.While }
+    ensures small { name_token (codes "skip") ≡ t.Name (codes "skip") }
+    ensures longer { name_token (codes "INT8") ≡ t.Name (codes "INT8") }
+    ensures free { name_token (codes "IN") ≡ t.Name (codes "IN") }
 {}
 
 /// What digits are.
-#[tactic(auto, unfolding(crate::specs::Lexeme::number_token))]
+#[tactic(auto, unfolding(crate::specs::Lexeme::number_token, crate::specs::Lexeme::hexadecimal_token))]
 pub fn number_rows()
     ensures zeros { number_token (codes "0012") ≡ Some (t.Decimal 12) }
     ensures greatest { number_token (codes "18446744073709551615") ≡ Some (t.Decimal 18446744073709551615) }
+    ensures hexadecimal { hexadecimal_token (codes "#00fF") ≡ Some (t.Hexadecimal 255) }
+    ensures most { hexadecimal_token (codes "#FFFFFFFFFFFFFFFF") ≡ Some (t.Hexadecimal 18446744073709551615) }
+    ensures more { hexadecimal_token (codes "#10000000000000000") ≡ None }
     ensures over { number_token (codes "18446744073709551616") ≡ None }
 {}
 
@@ -54,7 +65,7 @@ pub fn number_rows()
 #[tactic(auto, unfolding(crate::specs::Lexeme::symbol_token, crate::specs::Lexeme::symbol_row))]
 pub fn symbol_token_rows()
     ensures assign { symbol_token (codes ":=") ≡ Some (t.Symbol s.Assign) }
-    ensures counted { symbol_token (codes "::") ≡ None }
+    ensures counted { symbol_token (codes "::") ≡ Some (t.Symbol s.Counted) }
     ensures colon { symbol_token (codes ":") ≡ Some (t.Symbol s.Colon) }
 {}
 
@@ -64,9 +75,27 @@ pub fn first_rows()
     ensures number { IsFirst (codes "12ab") (t.Decimal 12) (codes "ab") }
     ensures symbol { IsFirst (codes ":=b") (t.Symbol s.Assign) (codes "b") }
     ensures bad { (token : AToken) (rest : List ℕ) → IsFirst (codes "$a") token rest → ⊥ }
-    ensures later { (token : AToken) (rest : List ℕ) → IsFirst (codes "::a") token rest → ⊥ }
-    ensures line { Lexes (codes " ab --") (t.Name (codes "ab") ∷ []) }
-    ensures none { (tokens : List AToken) → Lexes (codes " $a") tokens → ⊥ }
+    ensures line { Lexes (codes " ab --") (t.Name (codes "ab") ∷ []) ending.Whole }
+    ensures none { Lexes (codes " $a") [] (ending.Bad code.L1) }
+{}
+
+/// What stands between quotes.
+pub fn quoted_rows()
+    ensures plain { unit 34 (codes "ab") ≡ Some (97, codes "b") }
+    ensures carriage { unit 34 (codes "*Cb") ≡ Some (13, codes "b") }
+    ensures line { unit 34 (codes "*nb") ≡ Some (10, codes "b") }
+    ensures tab { unit 34 (codes "*tb") ≡ Some (9, codes "b") }
+    ensures space { unit 34 (codes "*Sb") ≡ Some (32, codes "b") }
+    ensures star { unit 34 (codes "**b") ≡ Some (42, codes "b") }
+    ensures byte { unit 34 (codes "*#fFb") ≡ Some (255, codes "b") }
+    ensures short { unit 34 (codes "*#f") ≡ None }
+    ensures none { unit 34 (codes "*l") ≡ None }
+    ensures broken { unit 34 (codes "*") ≡ None }
+    ensures closed { unit 34 (34 ∷ []) ≡ None }
+    ensures single { unit 34 (39 ∷ []) ≡ Some (39, []) }
+    ensures double { unit 39 (34 ∷ []) ≡ Some (34, []) }
+    ensures tabulator { unit 34 (9 ∷ []) ≡ None }
+    ensures high { unit 34 (127 ∷ []) ≡ None }
 {}
 
 /// Columns, and the lines that are skipped.

@@ -31,6 +31,14 @@ fn show(out: &mut String, token: &Token) -> Result<(), Fail> {
             }
         }
         Token::Decimal(value) => write!(out, " {value}")?,
+        Token::Hexadecimal(value) => write!(out, " #{value}")?,
+        Token::Character(value) => write!(out, " '{value}")?,
+        Token::String(bytes) => {
+            out.push_str(" \"")?;
+            for b in bytes.as_slice() {
+                write!(out, " {b}")?;
+            }
+        }
         Token::Word(word) => write!(out, " {word:?}")?,
         Token::Symbol(symbol) => write!(out, " {symbol:?}")?,
     }
@@ -39,7 +47,7 @@ fn show(out: &mut String, token: &Token) -> Result<(), Fail> {
 
 #[test]
 fn tokens_of_lines(rt: HostRuntime) -> Result<(), Fail> {
-    let rows: [(&[u8], &str); 17] = [
+    let rows: [(&[u8], &str); 22] = [
         (
             b"a[12]:=b+3--c\n",
             "1 0 a OpenIndex 12 CloseIndex Assign b Plus 3\n",
@@ -53,10 +61,18 @@ fn tokens_of_lines(rt: HostRuntime) -> Result<(), Fail> {
         ),
         (b"\n--\n   \n   -- a\x80\xff\n  x.1:\n", "5 1 x.1 Colon\n"),
         (b"x$\n", "1 0 L1\n"),
-        (b"a-b\n", "1 0 L1\n"),
+        (b"a-b--c\n", "1 0 a Minus b\n"),
+        (b"a<-#0fG\n", "1 0 a Less Minus #15 G\n"),
+        (b"'a''*#fF''\"'\n", "1 0 '97 '255 '34\n"),
+        (b"'''\n'ab'\n'a\n#\n", "1 0 L1\n2 0 L1\n3 0 L1\n4 0 L1\n"),
+        (b"\"it's*N\"x\"\"\n", "1 0 \" 105 116 39 115 10 x \"\n"),
+        (b"\"a*q\n\"aq\n\"ab* \n", "1 0 L1\n2 0 L4\n3 0 L1\n"),
         (b" SKIP\n $\n", "1 0 L2\n2 0 L2\n"),
         (b"  $\n", "1 1 L1\n"),
-        (b"WHILE\nWHILEx\nwhile\n", "1 0 L1\n2 0 WHILEx\n3 0 while\n"),
+        (
+            b"WHILE\nWHILEx\nwhile\n",
+            "1 0 While\n2 0 WHILEx\n3 0 while\n",
+        ),
         (
             b"18446744073709551615\n00018446744073709551615\n",
             "1 0 18446744073709551615\n2 0 18446744073709551615\n",
@@ -64,7 +80,7 @@ fn tokens_of_lines(rt: HostRuntime) -> Result<(), Fail> {
         (b"18446744073709551616\n", "1 0 L1\n"),
         (
             b"a::b\na: :b\na:=:b\n",
-            "1 0 L1\n2 0 a Colon Colon b\n3 0 a Assign Colon b\n",
+            "1 0 a Counted b\n2 0 a Colon Colon b\n3 0 a Assign Colon b\n",
         ),
         (b"123abc\ta\n", "1 0 123 abc a\n"),
         (b"\r\r\n\r\n\r", "1 0 L1\n3 0 L1\n"),
