@@ -1,3 +1,4 @@
+pub mod Directive
 pub mod Lexeme
 pub mod Lines
 pub mod Quoted

@@ -113,7 +113,7 @@ const RESERVED: [(&[u8], Word); 67] = [
 ];
 
 /// What stands in the table beside the spelling.
-fn found_in<T: Copy>(table: &[(&[u8], T)], bytes: &[u8]) -> Option<T>
+pub fn found_in<T: Copy>(table: &[(&[u8], T)], bytes: &[u8]) -> Option<T>
     ensures { result ≡ found_in (map (λ row. (row.0.now, row.1)) table.now) bytes.now }
 {
     for (spelling, meaning) in table {

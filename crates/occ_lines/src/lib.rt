@@ -3,22 +3,18 @@
 #![tactic(auto)]
 
 mod blanks;
+mod directive;
 mod ending;
 mod lexeme;
+mod line;
 mod logical;
 mod quoted;
 mod reader;
-mod rows;
 mod scan;
-#[cfg(test)]
-mod tests;
+mod statement;
 mod token;
 mod tokens;
 
 pub use logical::{Body, Logical, TextFault};
 pub use reader::{logical_lines, text_fault};
-pub use rows::{
-    class_rows, first_rows, line_rows, name_rows, number_rows, quoted_rows, symbol_rows,
-    symbol_token_rows,
-};
 pub use token::{Symbol, Token, Word};

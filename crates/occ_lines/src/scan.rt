@@ -10,8 +10,9 @@ use crate::lexeme::{
 };
 
 /// How many bytes in front may stand in a name.
-fn name_len(text: &[u8]) -> usize
-    ensures { result ≡ prefix_len a_name_byte text.now }
+pub fn name_len(text: &[u8]) -> usize
+    ensures value { result ≡ prefix_len a_name_byte text.now }
+    ensures within { result ≤ length text.now }
 {
     for (i, b) in text.iter().enumerate() {
         if !is_name_byte(*b) {

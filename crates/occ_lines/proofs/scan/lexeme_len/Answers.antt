@@ -5,7 +5,7 @@ use Rattle.occ_lines.proofs.Longest.{hexadecimal_longest, name_longest, number_l
 use Rattle.occ_lines.proofs.scan.lexeme_len.Goals as goal
 
 pub returns-then-starts_name : goal.returns-then-starts_name
-returns-then-starts_name c = rw c.name_len.ensures (name_longest _ (sym c.starts_name.ensures ∙ c.if-starts_name.true))
+returns-then-starts_name c = rw c.name_len.ensures.value (name_longest _ (sym c.starts_name.ensures ∙ c.if-starts_name.true))
 
 pub returns-then-starts_number : goal.returns-then-starts_number
 returns-then-starts_number c = rw c.number_len.ensures (number_longest _ (sym c.starts_number.ensures ∙ c.if-starts_number.true))
