@@ -68,7 +68,7 @@ same_read : (first column : ℕ) (tokens ts us : List Token) (x y : Ending) (a b
     → Settles (settled first column (tokens ++ ts) x) a m → Settles (settled first column (tokens ++ us) y) b n → Same a b m n
 same_read first column tokens ts us x y a b m n same h k =
     let is : settled first column (tokens ++ ts) x ≡ settled first column (tokens ++ us) y =
-        ap (λ (vs : List Token). settled first column (tokens ++ vs) x) same.0 ∙ ap (settled first column (tokens ++ us)) same.1 in
+    ap (λ (vs : List Token). settled first column (tokens ++ vs) x) same.0 ∙ ap (settled first column (tokens ++ us)) same.1 in
     same_settles (settled first column (tokens ++ us) y) a b m n (subst (λ (r : Reached). Settles r a m) is h) k
 
 same_continues : (first column : ℕ) (tokens : List Token) (line : List ℕ) (a b : List Logical) (m n : Option Statement) → Continues first column tokens line a m → Continues first column tokens line b n → Same a b m n
@@ -125,8 +125,8 @@ same_wanted wants.More s number line a b m n h k = same_match (is_skipped line)
     (Same a b m n) h k
     (λ u v. (u.0 ∙ sym v.0, u.1 ∙ sym v.1))
     (λ u v. same_match (continues s.column line) (Continues s.line s.column s.tokens line a m) (BreaksOff (broken_off s) number line a m)
-        (Continues s.line s.column s.tokens line b n) (BreaksOff (broken_off s) number line b n) (Same a b m n) u v
-        (same_continues s.line s.column s.tokens line a b m n) (same_break (broken_off s) number line a b m n))
+    (Continues s.line s.column s.tokens line b n) (BreaksOff (broken_off s) number line b n) (Same a b m n) u v
+    (same_continues s.line s.column s.tokens line a b m n) (same_break (broken_off s) number line a b m n))
 same_wanted (wants.Rest bytes) s number line a b m n h k = same_match (resumes s.column line)
     (Resumes s.line s.column s.tokens bytes line a m) (BreaksOff (broken_off s) number line a m)
     (Resumes s.line s.column s.tokens bytes line b n) (BreaksOff (broken_off s) number line b n) (Same a b m n) h k

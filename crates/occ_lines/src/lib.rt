@@ -10,11 +10,18 @@ mod line;
 mod logical;
 mod quoted;
 mod reader;
+mod rows;
 mod scan;
 mod statement;
+#[cfg(test)]
+mod tests;
 mod token;
 mod tokens;
 
 pub use logical::{Body, Logical, TextFault};
 pub use reader::{logical_lines, text_fault};
+pub use rows::{
+    class_rows, directive_rows, first_rows, goes_on_rows, line_rows, name_rows, number_rows,
+    quoted_rows, symbol_rows, symbol_token_rows,
+};
 pub use token::{Symbol, Token, Word};
