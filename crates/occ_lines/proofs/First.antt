@@ -1,11 +1,11 @@
 -- The first token of a text, and that there is one at most.
-use Rattle.std.proofs.Common.{◌≡◌, ◌<◌, ◌+◌, ◌==◌, inl, inr, ℕ, true, List, [], ◌∷◌, ◌++◌, length, take, drop, Option, Some, None, refl, sym, ap, ◌∙◌, arith, length-take, length-append, take-append-drop}
+use Rattle.std.proofs.Common.{◌≡◌, ◌<◌, ◌+◌, inl, inr, ℕ, true, List, [], ◌∷◌, ◌++◌, length, take, drop, Option, Some, None, refl, sym, ap, ◌∙◌, arith, length-take, length-append, take-append-drop}
 use Rattle.std.specs.Option.{is_some}
-use Rattle.std.proofs.lemmas.Bool.{and_parts, eqb-true, cases_Bool, false≢true, cond-false}
+use Rattle.std.proofs.lemmas.Bool.{cases_Bool, cond-false}
 use Rattle.std.proofs.lemmas.List.{take_at, drop_at}
 use Rattle.occ_lines.specs.declared.token.Symbol.{Symbol}
 use Rattle.occ_lines.specs.declared.token.Token.{Token}
-use Rattle.occ_lines.specs.Lexeme.{IsCharacter, IsFirst, IsString, IsToken, is_hexadecimal, is_lexeme, is_name, is_number, is_symbol, symbol_by_row, symbol_row, symbol_token, token_of}
+use Rattle.occ_lines.specs.Lexeme.{IsFirst, is_hexadecimal, is_lexeme, is_name, is_number, is_symbol, symbol_by_row, symbol_row, symbol_token, token_of}
 use Rattle.occ_lines.specs.Scan.{IsLongest}
 use Rattle.occ_lines.proofs.Longest.{is_lexeme_hexadecimal, is_lexeme_name, is_lexeme_number, is_lexeme_symbol, no_double, no_lexeme_empty, no_single}
 

@@ -1,5 +1,5 @@
 -- Tokens one after the other.
-use Rattle.std.proofs.Common.{◌≡◌, ◌≤◌, ◌<◌, ◌+◌, ◌==◌, ◌⊎◌, ℕ, Bool, true, false, List, [], ◌∷◌, ◌++◌, length, Option, Some, None, refl, sym, ap, subst, ◌∙◌, arith, append_assoc, inl, inr}
+use Rattle.std.proofs.Common.{◌≡◌, ◌≤◌, ◌<◌, ℕ, Bool, true, false, List, [], ◌∷◌, ◌++◌, length, Some, None, refl, sym, ap, subst, ◌∙◌, arith, append_assoc, inl, inr}
 use Rattle.std.specs.Bool.{MatchBool}
 use Rattle.std.proofs.lemmas.List.{append-nil}
 use Rattle.std.proofs.lemmas.Bool.{MatchBool-at_false, MatchBool-at_true, cases_Bool, false≢true, cond-true, cond-false}
@@ -8,7 +8,7 @@ use Rattle.occ_lines.specs.declared.ending.Ending.{Ending}
 use Rattle.occ_lines.specs.declared.ending.Ending.TheVariants as ending
 use Rattle.occ_lines.specs.declared.token.Token.{Token}
 use Rattle.occ_lines.specs.declared.token.Token.TheVariants as t
-use Rattle.occ_lines.specs.Lexeme.{Ends, IsBad, IsCharacter, IsFirst, IsOpen, IsString, IsToken, Lexes, LexesFrom, Stops, after_blanks, is_blank, is_end, string_ending}
+use Rattle.occ_lines.specs.Lexeme.{Ends, IsCharacter, IsFirst, IsOpen, IsString, IsToken, Lexes, LexesFrom, Stops, after_blanks, is_blank, is_end, string_ending}
 use Rattle.occ_lines.specs.Quoted.{IsQuoted, unit}
 use Rattle.occ_lines.specs.Scan.{IsRead}
 use Rattle.occ_lines.proofs.First.{first_no_character, first_no_string, first_same}

@@ -1,7 +1,6 @@
 -- The logical lines of lines, one after the other.
-use Rattle.std.proofs.Common.{◌≡◌, ◌+◌, ◌⊎◌, inl, inr, ℕ, zero, suc, Bool, true, false, List, [], ◌∷◌, ◌++◌, get_or, length, map, Option, Some, None, refl, sym, ap, subst, ◌∙◌, arith, append_assoc}
+use Rattle.std.proofs.Common.{◌≡◌, ◌+◌, inl, inr, ℕ, zero, suc, Bool, true, false, List, [], ◌∷◌, ◌++◌, get_or, length, map, Option, Some, None, refl, sym, ap, subst, ◌∙◌, arith, append_assoc}
 use Rattle.std.specs.Bool.{MatchBool}
-use Rattle.std.proofs.lemmas.Bool.{MatchBool-at_false, MatchBool-at_true, cases_Bool}
 use Rattle.std.proofs.lemmas.List.{append-nil}
 use Rattle.bstr.specs.Text.{lines_of, without_terminator}
 use Rattle.occ_lines.specs.declared.directive.Directive.{Directive}
@@ -17,7 +16,6 @@ use Rattle.occ_lines.specs.declared.token.Token.TheVariants as t
 use Rattle.occ_lines.specs.Directive.{directive_of}
 use Rattle.occ_lines.specs.Lexeme.{Lexes, after_blanks, string_ending}
 use Rattle.occ_lines.specs.Lines.{AreLogical, BreaksOff, Continues, IsClosed, IsFresh, IsLine, IsLines, IsUnclosed, IsWanted, LexesString, Resumes, Settles, Speaks, broken_off, column, continues, goes_on, goes_on_token, is_skipped, resumes, settled, unfinished}
-use Rattle.occ_lines.specs.Quoted.{IsQuoted}
 use Rattle.occ_lines.specs.Scan.{Adds, Gathers, IsStringRead}
 use Rattle.occ_lines.proofs.Reading.{one_list}
 use Rattle.occ_lines.proofs.Strings.{one_quoted, tails}

@@ -1,6 +1,6 @@
 use Rattle.std.proofs.Common.{◌∙◌, ap, arith, length}
 use Rattle.occ_lines.proofs.Sizes.{all_counted, lines_short}
-use Rattle.occ_lines.proofs.Spelled.{goes_begins, goes_over, goes_to_end}
+use Rattle.occ_lines.proofs.Spelled.{goes_begins, goes_over}
 use Rattle.occ_lines.proofs.reader.read.Goals as goal
 
 pub loop-line-init : goal.loop-line-init

@@ -1,4 +1,4 @@
-use Rattle.std.proofs.Common.{◌∙◌, ap, arith, drop, length, length-drop, sym}
+use Rattle.std.proofs.Common.{◌∙◌, ap, arith, length, length-drop, sym}
 use Rattle.std.specs.Char.{is_ascii_hexdigit}
 use Rattle.std.proofs.lemmas.List.Sums.{prefix_len-le-length}
 use Rattle.occ_lines.proofs.Longest.{hexadecimal_longest, name_longest, number_longest, symbol_longest}

@@ -1,5 +1,5 @@
 use Rattle.std.proofs.Common.{◌∙◌, sym}
-use Rattle.occ_lines.proofs.Reading.{goes_on, is_done, smaller, stop_end, whole_end}
+use Rattle.occ_lines.proofs.Reading.{is_done, smaller, stop_end, whole_end}
 use Rattle.occ_lines.proofs.tokens.read.Goals as goal
 
 pub rest-smaller : goal.rest-smaller
