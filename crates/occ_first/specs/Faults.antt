@@ -5,6 +5,7 @@ use Rattle.occ_base.specs.declared.code.Code.{Code}
 use Rattle.occ_base.specs.declared.code.Grade.TheVariants as grade
 use Rattle.occ_base.specs.declared.diag.Diag.{Diag}
 use Rattle.occ_forms.specs.declared.source.SourceLine.{SourceLine}
+use Rattle.occ_base.specs.declared.code.Code.TheVariants.{S1}
 use Rattle.occ_forms.specs.declared.source.LineBody.{LineBody}
 use Rattle.occ_forms.specs.declared.source.LineBody.TheVariants as body
 
@@ -18,6 +19,8 @@ error_if test file line code = if test then error_at file line code None ∷ [] 
 
 abbrev pub body_faults : List ℕ → ℕ → LineBody → List Diag
 body_faults file line (body.Form f) = []
+body_faults file line (body.Include name) = error_at file line S1 None ∷ []
+body_faults file line (body.Uses name) = error_at file line S1 None ∷ []
 body_faults file line (body.Fault code) = error_at file line code None ∷ []
 
 -- the fault that the line has instead of a form

@@ -47,7 +47,7 @@ form_mentions (form.Assignment target value) = element_mention access.Written ta
 
 abbrev pub body_mentions : LineBody → List Mention
 body_mentions (body.Form f) = form_mentions f
-body_mentions (body.Fault code) = []
+body_mentions other = []
 
 -- the elements that an assignment names: its target, which is written, and those of its operands, which are read
 abbrev pub mentions : SourceLine → List Mention

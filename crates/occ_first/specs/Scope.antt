@@ -46,7 +46,7 @@ form_specifications place d (form.Assignment target value) ls = []
 
 abbrev pub body_specifications : ℕ → ℕ → LineBody → List SourceLine → List Specification
 body_specifications place d (body.Form f) ls = form_specifications place d f ls
-body_specifications place d (body.Fault code) ls = []
+body_specifications place d other ls = []
 
 -- those of the lines, the first of which is at the place
 abbrev pub specifications : ℕ → List SourceLine → List Specification

@@ -27,7 +27,7 @@ form_row (form.Assignment target value) = row.Nothing
 
 abbrev pub body_row : LineBody → Row
 body_row (body.Form f) = form_row f
-body_row (body.Fault code) = row.Nothing
+body_row other = row.Nothing
 
 -- what may stand right under the line
 abbrev pub row_of : SourceLine → Row

@@ -44,8 +44,13 @@ pub fn find_line_faults(
 {
     let mut found = Items::new(alloc);
     for line in lines {
-        if let LineBody::Fault(code) = &line.body {
-            found.push(error(file, line.line, *code, None))?;
+        match &line.body {
+            LineBody::Form(_) => (),
+            // No form of lines knows directives yet.
+            LineBody::Include(_) | LineBody::Uses(_) => {
+                found.push(error(file, line.line, Code::S1, None))?
+            }
+            LineBody::Fault(code) => found.push(error(file, line.line, *code, None))?,
         }
     }
     Ok(found)

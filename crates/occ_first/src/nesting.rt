@@ -37,7 +37,7 @@ pub fn line_role(line: &SourceLine) -> Role
         LineBody::Form(Form::Close) => Role::Close,
         LineBody::Form(Form::Declaration(_, _, _)) => Role::Declaration,
         LineBody::Form(_) => Role::Process,
-        LineBody::Fault(_) => Role::Other,
+        LineBody::Include(_) | LineBody::Uses(_) | LineBody::Fault(_) => Role::Other,
     }
 }
 

@@ -16,12 +16,14 @@ pub record Prepared : Type 0 where
   pub text : List ℕ
   pub lines : List SourceLine
 
--- the form that the tokens spell, S1 where none does, or the fault that the line has already
+-- the form that the tokens spell, S1 where none does; or the directive or fault that the line is already
 abbrev pub IsFormed : Body → LineBody → Type 0
 IsFormed (body.Tokens tokens) (held.Form form) = tokens ≡ form_tokens form
 IsFormed (body.Tokens tokens) (held.Fault fault) = (fault ≡ code.S1) × ((form : Form) → tokens ≡ form_tokens form → ⊥)
-IsFormed (body.Fault given) (held.Form form) = ⊥
+IsFormed (body.Include given) (held.Include name) = name ≡ given
+IsFormed (body.Uses given) (held.Uses name) = name ≡ given
 IsFormed (body.Fault given) (held.Fault fault) = fault ≡ given
+IsFormed given other = ⊥
 
 -- the same line, with its form
 pub record IsFormedLine (logical : Logical) (line : SourceLine) : Type 0 where

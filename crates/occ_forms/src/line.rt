@@ -11,7 +11,7 @@ ghost use Rattle.std.specs.Prelude.{IfOk, IfSome, List, MatchOption, Some, [], â
 
 use super::Form;
 use super::expression::{element, expression};
-use super::token_reader::{after, after_word, first, name, number};
+use super::token_reader::{after, after_int, first, name, number};
 use occ_base::{Items, Name};
 use occ_lines::{Symbol, Token, Word};
 use std::alloc::{AllocError, Global};
@@ -89,7 +89,7 @@ pub fn dimensioned(alloc: Global, rest: &[Token]) -> Result<Option<Form>, AllocE
     let Some(rest) = after(rest, Symbol::CloseIndex) else {
         return Ok(None);
     };
-    let Some(rest) = after_word(rest, Word::Int) else {
+    let Some(rest) = after_int(rest) else {
         return Ok(None);
     };
     declaration(alloc, Some(dimension), rest)
@@ -128,6 +128,11 @@ pub fn line(alloc: Global, tokens: &[Token]) -> Result<Option<Form>, AllocError>
         Token::Symbol(Symbol::Colon) => Ok(alone(Form::Close, rest)),
         Token::Symbol(Symbol::OpenIndex) => dimensioned(alloc, rest),
         Token::Name(_) => assignment(alloc, tokens),
-        Token::Decimal(_) | Token::Symbol(_) => Ok(None),
+        Token::Word(_)
+        | Token::Symbol(_)
+        | Token::Decimal(_)
+        | Token::Hexadecimal(_)
+        | Token::Character(_)
+        | Token::String(_) => Ok(None),
     }
 }

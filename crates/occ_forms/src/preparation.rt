@@ -18,6 +18,8 @@ fn line_body(alloc: Global, body: &Body) -> Result<LineBody, AllocError>
 {
     match body {
         Body::Fault(fault) => Ok(LineBody::Fault(*fault)),
+        Body::Include(name) => Ok(LineBody::Include(*name)),
+        Body::Uses(name) => Ok(LineBody::Uses(*name)),
         Body::Tokens(tokens) => {
             match line(alloc, tokens.as_slice())? {
                 Some(form) => Ok(LineBody::Form(form)),

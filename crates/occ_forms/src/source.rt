@@ -2,14 +2,18 @@ ghost use Rattle.occ_forms.specs.Prepared.{IsPrepared};
 ghost use Rattle.std.specs.Prelude.{◌≡◌};
 
 use super::Form;
-use occ_base::{Code, Items};
+use occ_base::{Code, FileName, Items};
 use std::marker::Model;
 
 /// What a line of a prepared text holds.
 #[derive(Debug, Drop)]
 pub enum LineBody {
     Form(Form),
-    /// The one fault of the line: `L1`, `L2` or `S1`.
+    /// The lines of this file stand here.
+    Include(FileName),
+    /// The exports of this unit are visible from here on.
+    Uses(FileName),
+    /// The one fault of the line: `L1`, `L2`, `L3`, `L4` or `S1`.
     Fault(Code),
 }
 

@@ -1,5 +1,6 @@
 ghost use Rattle.occ_lines.specs.declared.token.Token.TheVariants as t;
 ghost use Rattle.occ_lines.specs.declared.token.Token.{Token as AToken};
+ghost use Rattle.occ_lines.specs.declared.token.Word.TheVariants as w;
 ghost use Rattle.std.specs.Prelude.{IfOk, List, MatchOption, [], ℕ, ◌∷◌, ◌≡◌, ◌≢◌};
 
 use occ_base::Name;
@@ -26,12 +27,12 @@ pub fn after(tokens: &[Token], symbol: Symbol) -> Option<&[Token]>
     }
 }
 
-/// What follows the word, where it stands first.
-pub fn after_word(tokens: &[Token], word: Word) -> Option<&[Token]>
-    ensures { MatchOption result ((k : List AToken) → tokens.now ≢ t.Word word ∷ k) (λ rest. tokens.now ≡ t.Word word ∷ rest.now) }
+/// What follows `INT`, where it stands first.
+pub fn after_int(tokens: &[Token]) -> Option<&[Token]>
+    ensures { MatchOption result ((k : List AToken) → tokens.now ≢ t.Word w.Int ∷ k) (λ rest. tokens.now ≡ t.Word w.Int ∷ rest.now) }
 {
     match tokens {
-        [Token::Word(first), rest @ ..] if *first == word => Some(rest),
+        [Token::Word(Word::Int), rest @ ..] => Some(rest),
         _ => None,
     }
 }

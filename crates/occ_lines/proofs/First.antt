@@ -1,17 +1,17 @@
 -- The first token of a text, and that there is one at most.
-use Rattle.std.proofs.Common.{◌≡◌, ◌<◌, ◌+◌, ◌==◌, inl, inr, ℕ, true, List, [], ◌∷◌, ◌++◌, length, take, drop, Option, Some, None, refl, sym, ap, ◌∙◌, arith, length-take, length-append, take-append-drop}
+use Rattle.std.proofs.Common.{◌≡◌, ◌<◌, ◌+◌, inl, inr, ℕ, true, List, [], ◌∷◌, ◌++◌, length, take, drop, Option, Some, None, refl, sym, ap, ◌∙◌, arith, length-take, length-append, take-append-drop}
 use Rattle.std.specs.Option.{is_some}
-use Rattle.std.proofs.lemmas.Bool.{and_parts, eqb-true, cases_Bool, false≢true, cond-false}
+use Rattle.std.proofs.lemmas.Bool.{cases_Bool, cond-false}
 use Rattle.std.proofs.lemmas.List.{take_at, drop_at}
 use Rattle.occ_lines.specs.declared.token.Symbol.{Symbol}
 use Rattle.occ_lines.specs.declared.token.Token.{Token}
-use Rattle.occ_lines.specs.Lexeme.{IsFirst, is_end, is_lexeme, is_name, is_number, is_symbol, symbol_by_row, symbol_row, symbol_token, token_of}
+use Rattle.occ_lines.specs.Lexeme.{IsFirst, is_hexadecimal, is_lexeme, is_name, is_number, is_symbol, symbol_by_row, symbol_row, symbol_token, token_of}
 use Rattle.occ_lines.specs.Scan.{IsLongest}
-use Rattle.occ_lines.proofs.Longest.{is_lexeme_name, is_lexeme_number, is_lexeme_symbol, no_lexeme_empty, no_lexeme_dash}
+use Rattle.occ_lines.proofs.Longest.{is_lexeme_hexadecimal, is_lexeme_name, is_lexeme_number, is_lexeme_symbol, no_double, no_lexeme_empty, no_single}
 
 -- what is a token is a lexeme
 
-row_some : (row : Option (Option Symbol)) (token : Token) → symbol_by_row row ≡ Some token → is_some row ≡ true
+row_some : (row : Option Symbol) (token : Token) → symbol_by_row row ≡ Some token → is_some row ≡ true
 row_some None token h = absurd cc
 row_some (Some x) token h = refl
 
@@ -25,7 +25,10 @@ token_is bytes token h = elim (cases_Bool (is_name bytes)) [
   | inl name ↦ is_lexeme_name bytes name
   | inr no_name ↦ elim (cases_Bool (is_number bytes)) [
     | inl number ↦ is_lexeme_number bytes number
-    | inr no_number ↦ is_lexeme_symbol bytes (symbol_is bytes token (sym (cond-false _ _ _ no_name ∙ cond-false _ _ _ no_number) ∙ h))
+    | inr no_number ↦ elim (cases_Bool (is_hexadecimal bytes)) [
+      | inl hexadecimal ↦ is_lexeme_hexadecimal bytes hexadecimal
+      | inr no_hexadecimal ↦ is_lexeme_symbol bytes (symbol_is bytes token (sym (cond-false _ _ _ no_name ∙ cond-false _ _ _ no_number ∙ cond-false _ _ _ no_hexadecimal) ∙ h))
+    ]
   ]
 ]
 
@@ -75,11 +78,10 @@ first_same text a b x y f g =
     let is : Some a ≡ Some b = sym f.spelled ∙ ap token_of same.0 ∙ g.spelled in
     (cc, same.1)
 
--- no token begins what ends a line
+-- quotes
 
-pub first_end : (text : List ℕ) → is_end text ≡ true → (token : Token) (rest : List ℕ) → IsFirst text token rest → ⊥
-first_end [] h token rest f = let short = first_shorter [] token rest f in absurd (omega arith)
-first_end (a ∷ []) h token rest f = absurd (false≢true h)
-first_end (a ∷ b ∷ more) h token rest f =
-    let lexeme = token_is f.bytes token f.spelled in
-    no_lexeme_dash a (b ∷ more) f.bytes rest (eqb-true a 45 (and_parts (a == 45) _ h).0) f.parts lexeme
+pub first_no_character : (text : List ℕ) (token : Token) (rest body : List ℕ) → IsFirst text token rest → text ≡ 39 ∷ body → ⊥
+first_no_character text token rest body f opened = no_single body f.bytes rest (sym opened ∙ f.parts) (token_is f.bytes token f.spelled)
+
+pub first_no_string : (text : List ℕ) (token : Token) (rest body : List ℕ) → IsFirst text token rest → text ≡ 34 ∷ body → ⊥
+first_no_string text token rest body f opened = no_double body f.bytes rest (sym opened ∙ f.parts) (token_is f.bytes token f.spelled)

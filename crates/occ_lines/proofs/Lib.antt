@@ -1,6 +1,8 @@
 pub mod Digits
+pub mod Dots
 pub mod Longest
 pub mod First
+pub mod Strings
 pub mod Reading
-pub mod Spelled
 pub mod Sizes
+pub mod Spelled

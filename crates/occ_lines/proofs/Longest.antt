@@ -1,17 +1,17 @@
 -- The longest spelling that begins a text.
-use Rattle.std.proofs.Common.{◌≡◌, ◌≤◌, ◌<◌, ◌&&◌, ◌==◌, ◌⊎◌, inl, inr, ℕ, suc, Bool, true, false, not, nat_le, List, [], ◌∷◌, ◌++◌, length, take, drop, refl, sym, ap, subst, ◌∙◌, arith, take-append-drop}
-use Rattle.std.specs.Char.{is_ascii_alphabetic, is_ascii_digit}
+use Rattle.std.proofs.Common.{◌≡◌, ◌≤◌, ◌<◌, ◌&&◌, ◌==◌, ◌||◌, ◌+◌, ◌⊎◌, inl, inr, ℕ, suc, Bool, true, false, not, nat_le, List, [], ◌∷◌, ◌++◌, length, take, drop, refl, sym, ap, subst, ◌∙◌, arith, take-append-drop}
+use Rattle.std.specs.Char.{is_ascii_alphabetic, is_ascii_digit, is_ascii_hexdigit}
 use Rattle.std.specs.List.{list_all, prefix_len}
 use Rattle.std.specs.Option.{is_some}
 use Rattle.std.specs.Str.{bytes_eq}
-use Rattle.std.proofs.lemmas.Bool.{and_parts, and_from, eq-eqb, eqb-true, cases_Bool, cases_lt, leb-true, not-true, or_cases, or_left, or_right, false≢true, cond-true, cond-false}
+use Rattle.std.proofs.lemmas.Bool.{and_parts, and_from, eqb-true, cases_Bool, cases_lt, leb-true, not-true, or_cases, or_left, or_right, false≢true, cond-true, cond-false}
 use Rattle.std.proofs.lemmas.Bool.Decides.{nat_tests}
 use Rattle.std.proofs.lemmas.Slice.Eq.{bytes_eq-Decides}
 use Rattle.std.proofs.lemmas.List.Sums.{prefix_len-le-length}
 use Rattle.std.proofs.lemmas.List.Folds.{length-prefix_len}
 use Rattle.std.proofs.lemmas.List.Prefix.{front_fits}
 use Rattle.std.proofs.lemmas.List.{take_at}
-use Rattle.occ_lines.specs.Lexeme.{found_in, is_lexeme, is_name, is_name_byte, is_number, is_symbol, starts_name, starts_number, symbol_row, symbols}
+use Rattle.occ_lines.specs.Lexeme.{found_in, is_hexadecimal, is_lexeme, is_name, is_name_byte, is_number, is_symbol, starts_hexadecimal, starts_name, starts_number, symbol_row, symbols}
 use Rattle.occ_lines.specs.Scan.{IsLongest}
 
 -- bytes of one class in front
@@ -45,15 +45,16 @@ of_table q (row ∷ rows) all bytes found =
       | inr isnt ↦ of_table q rows both.1 bytes (rw (cond-false _ _ _ isnt) at found)
     ]
 
-starts_dash : List ℕ → Bool
-starts_dash [] = false
-starts_dash (b ∷ more) = b == 45
+-- a '#' or a quote
+unfoldable pub starts_mark : List ℕ → Bool
+starts_mark [] = false
+starts_mark (b ∷ more) = b == 35 || (b == 34 || b == 39)
 
 abbrev looks_symbol : List ℕ → Bool
-looks_symbol bytes = (nat_le 1 (length bytes) && nat_le (length bytes) 2) && (not (starts_name bytes) && (not (starts_number bytes) && not (starts_dash bytes)))
+looks_symbol bytes = (nat_le 1 (length bytes) && nat_le (length bytes) 2) && (not (starts_name bytes) && (not (starts_number bytes) && not (starts_mark bytes)))
 
 symbol_looks : (bytes : List ℕ) → is_symbol bytes ≡ true → looks_symbol bytes ≡ true
-unfolding is_symbol symbol_row starts_dash
+unfolding is_symbol symbol_row starts_mark
 symbol_looks bytes h = of_table looks_symbol symbols refl bytes h
 
 record Looks (bytes : List ℕ) : Type 0 where
@@ -61,21 +62,28 @@ record Looks (bytes : List ℕ) : Type 0 where
   short : length bytes ≤ 2
   no_name : starts_name bytes ≡ false
   no_number : starts_number bytes ≡ false
-  no_dash : starts_dash bytes ≡ false
+  no_mark : starts_mark bytes ≡ false
 
 looks : (bytes : List ℕ) → is_symbol bytes ≡ true → Looks bytes
 looks bytes h =
     let both = and_parts _ _ (symbol_looks bytes h) in
     let sizes = and_parts (nat_le 1 (length bytes)) (nat_le (length bytes) 2) both.0 in
     let starts = and_parts (not (starts_name bytes)) _ both.1 in
-    let more = and_parts (not (starts_number bytes)) (not (starts_dash bytes)) starts.1 in
+    let more = and_parts (not (starts_number bytes)) (not (starts_mark bytes)) starts.1 in
     record {
       some = leb-true _ _ sizes.0;
       short = leb-true _ _ sizes.1;
       no_name = not-true _ starts.0;
       no_number = not-true _ more.0;
-      no_dash = not-true _ more.1;
+      no_mark = not-true _ more.1;
     }
+
+no_marked : (b : ℕ) (more : List ℕ) → starts_mark (b ∷ more) ≡ true → is_symbol (b ∷ more) ≡ true → ⊥
+no_marked b more mark h = false≢true (sym (looks (b ∷ more) h).no_mark ∙ mark)
+
+mark_of : (b : ℕ) (xs ys : List ℕ) → starts_mark (b ∷ xs) ≡ true → starts_mark (b ∷ ys) ≡ true
+unfolding starts_mark
+mark_of b xs ys h = h
 
 -- symbols
 
@@ -118,7 +126,8 @@ symbol_none text no_two no_one = record {
 
 -- a spelling begins as its class does
 abbrev Begins : List ℕ → Type 0
-Begins bytes = ((starts_name bytes ≡ true) × (list_all is_name_byte bytes ≡ true)) ⊎ (((starts_number bytes ≡ true) × (list_all is_ascii_digit bytes ≡ true)) ⊎ (is_symbol bytes ≡ true))
+Begins bytes = ((starts_name bytes ≡ true) × (list_all is_name_byte bytes ≡ true)) ⊎ (((starts_number bytes ≡ true) × (list_all is_ascii_digit bytes ≡ true))
+    ⊎ (((starts_hexadecimal bytes ≡ true) × (list_all is_ascii_hexdigit (drop 1 bytes) ≡ true)) ⊎ (is_symbol bytes ≡ true)))
 
 begins : (bytes : List ℕ) → is_lexeme bytes ≡ true → Begins bytes
 unfolding is_lexeme
@@ -126,9 +135,32 @@ begins bytes h = elim (or_cases (is_name bytes) _ h) [
   | inl name ↦ inl (and_parts (starts_name bytes) _ name)
   | inr other ↦ elim (or_cases (is_number bytes) _ other) [
     | inl number ↦ inr (inl (and_parts (starts_number bytes) _ number))
-    | inr symbol ↦ inr (inr symbol)
+    | inr rest ↦ elim (or_cases (is_hexadecimal bytes) _ rest) [
+      | inl hexadecimal ↦ inr (inr (inl (and_parts (starts_hexadecimal bytes) _ hexadecimal)))
+      | inr symbol ↦ inr (inr (inr symbol))
+    ]
   ]
 ]
+
+-- what begins with a '#' is no name and no number
+record IsMarked (bytes : List ℕ) : Type 0 where
+  no_name : starts_name bytes ≡ false
+  no_number : starts_number bytes ≡ false
+  mark : starts_mark bytes ≡ true
+
+hash_marks : (a : ℕ) (more : List ℕ) → a ≡ 35 → IsMarked (a ∷ more)
+unfolding starts_mark
+hash_marks a more is = subst (λ (n : ℕ). IsMarked (n ∷ more)) (sym is) (record { no_name = refl; no_number = refl; mark = refl })
+
+hexadecimal_marks : (bytes : List ℕ) → starts_hexadecimal bytes ≡ true → IsMarked bytes
+hexadecimal_marks [] h = absurd (false≢true h)
+hexadecimal_marks (a ∷ []) h = absurd (false≢true h)
+hexadecimal_marks (a ∷ b ∷ more) h = hash_marks a (b ∷ more) (eqb-true a 35 (and_parts (a == 35) _ h).0)
+
+hexadecimal_starts : (text other after : List ℕ) → text ≡ other ++ after → starts_hexadecimal other ≡ true → starts_hexadecimal text ≡ true
+hexadecimal_starts text [] after parts h = absurd (false≢true h)
+hexadecimal_starts text (a ∷ []) after parts h = absurd (false≢true h)
+hexadecimal_starts text (a ∷ b ∷ more) after parts h = ap starts_hexadecimal parts ∙ h
 
 digit_no_letter : (b : ℕ) → is_ascii_digit b ≡ true → is_ascii_alphabetic b ≡ false
 digit_no_letter b h = grind (arith, nat_tests)
@@ -157,9 +189,13 @@ pub is_lexeme_number : (bytes : List ℕ) → is_number bytes ≡ true → is_le
 unfolding is_lexeme
 is_lexeme_number bytes h = or_right (is_name bytes) _ (or_left _ _ h)
 
+pub is_lexeme_hexadecimal : (bytes : List ℕ) → is_hexadecimal bytes ≡ true → is_lexeme bytes ≡ true
+unfolding is_lexeme
+is_lexeme_hexadecimal bytes h = or_right (is_name bytes) _ (or_right (is_number bytes) _ (or_left _ _ h))
+
 pub is_lexeme_symbol : (bytes : List ℕ) → is_symbol bytes ≡ true → is_lexeme bytes ≡ true
 unfolding is_lexeme
-is_lexeme_symbol bytes h = or_right (is_name bytes) _ (or_right (is_number bytes) _ h)
+is_lexeme_symbol bytes h = or_right (is_name bytes) _ (or_right (is_number bytes) _ (or_right (is_hexadecimal bytes) _ h))
 
 pub name_longest : (text : List ℕ) → starts_name text ≡ true → IsLongest is_lexeme text (prefix_len is_name_byte text)
 name_longest text starts = record {
@@ -176,7 +212,10 @@ name_longest text starts = record {
           | inl name ↦ rw parts (front_holds is_name_byte other after name.1)
           | inr rest ↦ elim rest [
             | inl number ↦ let e = number_no_name other number.0 in absurd cc
-            | inr symbol ↦ let e = (looks other symbol).no_name in absurd cc
+            | inr last ↦ elim last [
+              | inl hexadecimal ↦ let e = (hexadecimal_marks other hexadecimal.0).no_name in absurd cc
+              | inr symbol ↦ let e = (looks other symbol).no_name in absurd cc
+            ]
           ]
         ]
     | inr none ↦ omega arith
@@ -198,15 +237,57 @@ number_longest text starts = record {
           | inl name ↦ let e = number_no_name other begin in let f = name.0 in absurd cc
           | inr rest ↦ elim rest [
             | inl number ↦ rw parts (front_holds is_ascii_digit other after number.1)
-            | inr symbol ↦ let e = (looks other symbol).no_number in absurd cc
+            | inr last ↦ elim last [
+              | inl hexadecimal ↦ let e = (hexadecimal_marks other hexadecimal.0).no_number in absurd cc
+              | inr symbol ↦ let e = (looks other symbol).no_number in absurd cc
+            ]
           ]
         ]
     | inr none ↦ omega arith
   ];
 }
 
-pub symbol_longest : (text : List ℕ) (n : ℕ) → starts_name text ≡ false → starts_number text ≡ false → IsLongest is_symbol text n → IsLongest is_lexeme text n
-symbol_longest text n no_name no_number most = record {
+hexadecimal_front : (b : ℕ) (more : List ℕ) → is_ascii_hexdigit b ≡ true → (n : ℕ) × (prefix_len is_ascii_hexdigit (b ∷ more) ≡ suc n)
+hexadecimal_front b more h = (prefix_len is_ascii_hexdigit more, cond-true _ _ _ h ∙ omega arith)
+
+hexadecimal_passes : (a : ℕ) (rest : List ℕ) → starts_hexadecimal (a ∷ rest) ≡ true → is_hexadecimal (a ∷ take (prefix_len is_ascii_hexdigit rest) rest) ≡ true
+hexadecimal_passes a [] h = absurd (false≢true h)
+hexadecimal_passes a (b ∷ more) h =
+    let both = and_parts (a == 35) (is_ascii_hexdigit b) h in
+    let n = hexadecimal_front b more both.1 in
+    let all = front_passes is_ascii_hexdigit (b ∷ more) in
+    let all' : list_all is_ascii_hexdigit (b ∷ take n.0 more) ≡ true = subst (λ (m : ℕ). list_all is_ascii_hexdigit (take m (b ∷ more)) ≡ true) n.1 all in
+    subst (λ (m : ℕ). is_hexadecimal (a ∷ take m (b ∷ more)) ≡ true) (sym n.1) (and_from _ _ h all')
+
+hexadecimal_most : (a : ℕ) (rest other after : List ℕ) → starts_hexadecimal (a ∷ rest) ≡ true → a ∷ rest ≡ other ++ after → is_lexeme other ≡ true → length other ≤ 1 + prefix_len is_ascii_hexdigit rest
+hexadecimal_most a rest [] after starts parts h = omega arith
+hexadecimal_most a rest (o ∷ os) after starts parts h =
+    let marks = hexadecimal_marks (a ∷ rest) starts in
+    let same : o ≡ a = cc in
+    let tail : rest ≡ os ++ after = cc in
+    elim (begins (o ∷ os) h) [
+      | inl name ↦ let e : starts_name (a ∷ rest) ≡ true = ap is_ascii_alphabetic (sym same) ∙ name.0 in let f = marks.no_name in absurd cc
+      | inr more ↦ elim more [
+        | inl number ↦ let e : starts_number (a ∷ rest) ≡ true = ap is_ascii_digit (sym same) ∙ number.0 in let f = marks.no_number in absurd cc
+        | inr last ↦ elim last [
+          | inl hexadecimal ↦ let fits = front_holds is_ascii_hexdigit os after hexadecimal.1 in rw tail (omega arith)
+          | inr symbol ↦ absurd (no_marked o os (subst (λ (n : ℕ). starts_mark (n ∷ os) ≡ true) (sym same) (mark_of a rest os marks.mark)) symbol)
+        ]
+      ]
+    ]
+
+pub hexadecimal_longest : (text : List ℕ) → starts_hexadecimal text ≡ true → IsLongest is_lexeme text (1 + prefix_len is_ascii_hexdigit (drop 1 text))
+hexadecimal_longest [] starts = absurd (false≢true starts)
+hexadecimal_longest (a ∷ rest) starts = record {
+  within = omega (arith, prefix_len-le-length is_ascii_hexdigit rest);
+  passed = λ some.
+      let is : 1 + prefix_len is_ascii_hexdigit rest ≡ suc (prefix_len is_ascii_hexdigit rest) = omega arith in
+      subst (λ (m : ℕ). is_lexeme (take m (a ∷ rest)) ≡ true) (sym is) (is_lexeme_hexadecimal _ (hexadecimal_passes a rest starts));
+  longest = λ other after parts h. hexadecimal_most a rest other after starts parts h;
+}
+
+pub symbol_longest : (text : List ℕ) (n : ℕ) → starts_name text ≡ false → starts_number text ≡ false → starts_hexadecimal text ≡ false → IsLongest is_symbol text n → IsLongest is_lexeme text n
+symbol_longest text n no_name no_number no_hexadecimal most = record {
   within = most.within;
   passed = λ some. is_lexeme_symbol _ (most.passed some);
   longest = λ other after parts h. elim (cases_lt 0 (length other)) [
@@ -214,43 +295,66 @@ symbol_longest text n no_name no_number most = record {
       | inl name ↦ let e = name_starts text other after parts some in let f = name.0 in absurd cc
       | inr rest ↦ elim rest [
         | inl number ↦ let e = number_starts text other after parts some in let f = number.0 in absurd cc
-        | inr symbol ↦ most.longest other after parts symbol
+        | inr last ↦ elim last [
+          | inl hexadecimal ↦ let e = hexadecimal_starts text other after parts hexadecimal.0 in absurd cc
+          | inr symbol ↦ most.longest other after parts symbol
+        ]
       ]
     ]
     | inr none ↦ omega arith
   ];
 }
 
--- nothing is no spelling, and none begins with '-'
-
-dash_no_start : (bytes : List ℕ) → starts_dash bytes ≡ true → (starts_name bytes ≡ false) × (starts_number bytes ≡ false)
-unfolding starts_dash
-dash_no_start [] h = (refl, refl)
-dash_no_start (b ∷ more) h = let is : b ≡ 45 = eqb-true b 45 h in (subst (λ (n : ℕ). is_ascii_alphabetic n ≡ false) (sym is) refl, subst (λ (n : ℕ). is_ascii_digit n ≡ false) (sym is) refl)
-
-no_dash : (bytes : List ℕ) → starts_dash bytes ≡ true → is_lexeme bytes ≡ true → ⊥
-no_dash bytes dash h =
-    let starts = dash_no_start bytes dash in
-    elim (begins bytes h) [
-      | inl name ↦ false≢true (sym starts.0 ∙ name.0)
-      | inr rest ↦ elim rest [
-        | inl number ↦ false≢true (sym starts.1 ∙ number.0)
-        | inr symbol ↦ false≢true (sym (looks bytes symbol).no_dash ∙ dash)
-      ]
-    ]
+-- nothing is no spelling, and none begins with a quote
 
 pub no_lexeme_empty : is_lexeme [] ≡ true → ⊥
 no_lexeme_empty h = elim (begins [] h) [
   | inl name ↦ false≢true name.0
   | inr rest ↦ elim rest [
     | inl number ↦ false≢true number.0
-    | inr symbol ↦ let some = (looks [] symbol).some in absurd (omega arith)
+    | inr last ↦ elim last [
+      | inl hexadecimal ↦ false≢true hexadecimal.0
+      | inr symbol ↦ let some = (looks [] symbol).some in absurd (omega arith)
+    ]
   ]
 ]
 
-pub no_lexeme_dash : (a : ℕ) (more bytes rest : List ℕ) → a ≡ 45 → a ∷ more ≡ bytes ++ rest → is_lexeme bytes ≡ true → ⊥
-unfolding starts_dash
-no_lexeme_dash a more [] rest is parts h = no_lexeme_empty h
-no_lexeme_dash a more (b ∷ bytes) rest is parts h =
-    let same : b ≡ 45 = cc in
-    no_dash (b ∷ bytes) (eq-eqb b 45 same) h
+record IsQuote (b : ℕ) : Type 0 where
+  no_letter : is_ascii_alphabetic b ≡ false
+  no_digit : is_ascii_digit b ≡ false
+  no_hash : (b == 35) ≡ false
+  mark : (more : List ℕ) → starts_mark (b ∷ more) ≡ true
+
+single : IsQuote 39
+unfolding starts_mark
+single = record { no_letter = refl; no_digit = refl; no_hash = refl; mark = λ more. refl }
+
+double : IsQuote 34
+unfolding starts_mark
+double = record { no_letter = refl; no_digit = refl; no_hash = refl; mark = λ more. refl }
+
+no_hexadecimal : (b : ℕ) (more : List ℕ) → IsQuote b → starts_hexadecimal (b ∷ more) ≡ true → ⊥
+no_hexadecimal b [] q h = false≢true h
+no_hexadecimal b (c ∷ more) q h = let e = (and_parts (b == 35) _ h).0 in let f = q.no_hash in absurd cc
+
+no_quoted : (b : ℕ) (more : List ℕ) → IsQuote b → is_lexeme (b ∷ more) ≡ true → ⊥
+no_quoted b more q h = elim (begins (b ∷ more) h) [
+  | inl name ↦ false≢true (sym q.no_letter ∙ name.0)
+  | inr rest ↦ elim rest [
+    | inl number ↦ false≢true (sym q.no_digit ∙ number.0)
+    | inr last ↦ elim last [
+      | inl hexadecimal ↦ no_hexadecimal b more q hexadecimal.0
+      | inr symbol ↦ no_marked b more (q.mark more) symbol
+    ]
+  ]
+]
+
+no_quote : (q : ℕ) (more bytes rest : List ℕ) → IsQuote q → q ∷ more ≡ bytes ++ rest → is_lexeme bytes ≡ true → ⊥
+no_quote q more [] rest is parts h = no_lexeme_empty h
+no_quote q more (b ∷ bytes) rest is parts h = let same : q ≡ b = cc in no_quoted b bytes (subst IsQuote same is) h
+
+pub no_single : (more bytes rest : List ℕ) → 39 ∷ more ≡ bytes ++ rest → is_lexeme bytes ≡ true → ⊥
+no_single more bytes rest parts h = no_quote 39 more bytes rest single parts h
+
+pub no_double : (more bytes rest : List ℕ) → 34 ∷ more ≡ bytes ++ rest → is_lexeme bytes ≡ true → ⊥
+no_double more bytes rest parts h = no_quote 34 more bytes rest double parts h

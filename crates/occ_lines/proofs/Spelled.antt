@@ -1,87 +1,145 @@
 -- The logical lines of lines, one after the other.
-use Rattle.std.proofs.Common.{◌≡◌, ◌+◌, ◌%◌, ◌==◌, inl, inr, ℕ, Bool, true, false, List, [], ◌∷◌, ◌++◌, map, refl, sym, ap, subst, ◌∙◌, append_assoc}
+use Rattle.std.proofs.Common.{◌≡◌, ◌+◌, inl, inr, ℕ, zero, suc, Bool, true, false, List, [], ◌∷◌, ◌++◌, get_or, length, map, Option, Some, None, refl, sym, ap, subst, ◌∙◌, arith, append_assoc}
 use Rattle.std.specs.Bool.{MatchBool}
-use Rattle.std.proofs.lemmas.Bool.{MatchBool-at_false, MatchBool-at_true, cases_Bool}
 use Rattle.std.proofs.lemmas.List.{append-nil}
 use Rattle.bstr.specs.Text.{lines_of, without_terminator}
-use Rattle.occ_base.specs.declared.code.Code.{Code}
-use Rattle.occ_lines.specs.declared.logical.Body.{Body}
-use Rattle.occ_lines.specs.declared.logical.Body.TheVariants as body
+use Rattle.occ_lines.specs.declared.directive.Directive.{Directive}
+use Rattle.occ_lines.specs.declared.ending.Ending.{Ending}
 use Rattle.occ_lines.specs.declared.logical.Logical.{Logical}
+use Rattle.occ_lines.specs.declared.statement.Reached.{Reached}
+use Rattle.occ_lines.specs.declared.statement.Reached.TheVariants as reached
+use Rattle.occ_lines.specs.declared.statement.Statement.{Statement}
+use Rattle.occ_lines.specs.declared.statement.Wants.{Wants}
+use Rattle.occ_lines.specs.declared.statement.Wants.TheVariants as wants
 use Rattle.occ_lines.specs.declared.token.Token.{Token}
-use Rattle.occ_lines.specs.Lexeme.{after_blanks}
-use Rattle.occ_lines.specs.Lines.{AreLogical, IsBody, IsLines, IsLogical, IsRead, column, is_skipped}
+use Rattle.occ_lines.specs.declared.token.Token.TheVariants as t
+use Rattle.occ_lines.specs.Directive.{directive_of}
+use Rattle.occ_lines.specs.Lexeme.{Lexes, after_blanks, string_ending}
+use Rattle.occ_lines.specs.Lines.{AreLogical, BreaksOff, Continues, IsClosed, IsFresh, IsLine, IsLines, IsUnclosed, IsWanted, LexesString, Resumes, Settles, Speaks, broken_off, column, continues, goes_on, goes_on_token, is_skipped, resumes, settled, unfinished}
+use Rattle.occ_lines.specs.Scan.{Adds, Gathers, IsStringRead}
 use Rattle.occ_lines.proofs.Reading.{one_list}
+use Rattle.occ_lines.proofs.Strings.{one_quoted, tails}
 
-abbrev IsTaken : ℕ → List ℕ → List (List ℕ) → List Logical → Type 0
-IsTaken number line lines xs = (x : Logical) × (more : List Logical) × (xs ≡ x ∷ more) × IsLogical number line x × AreLogical (number + 1) lines more
+-- a string that is not closed
+pub unclosed : (so_far : List Token) (bytes text all rest : List ℕ) → Gathers bytes text all rest → ((k : List ℕ) → rest ≡ 34 ∷ k → ⊥) → IsStringRead so_far bytes text so_far (string_ending all rest)
+unclosed so_far bytes text all rest g no_close =
+    ([], sym (append-nil so_far), inr (record { values = g.0; rest = rest; spelled = g.2; no_close = no_close; none = refl; is = ap (λ (b : List ℕ). string_ending b rest) g.1 }))
 
-same_match : (b : Bool) (P Q : Type 0) → b ≡ true → P → MatchBool b P Q
-same_match true P Q h p = p
-same_match false P Q h p = absurd cc
-
-other_match : (b : Bool) (P Q : Type 0) → b ≡ false → Q → MatchBool b P Q
-other_match true P Q h q = absurd cc
-other_match false P Q h q = q
-
-pub skips : (number : ℕ) (line : List ℕ) (lines : List (List ℕ)) (xs : List Logical) → is_skipped line ≡ true → AreLogical (number + 1) lines xs → AreLogical number (line ∷ lines) xs
-skips number line lines xs skipped h = same_match (is_skipped line) _ (IsTaken number line lines xs) skipped h
-
-pub takes : (number : ℕ) (line : List ℕ) (lines : List (List ℕ)) (x : Logical) (more : List Logical) → is_skipped line ≡ false → IsLogical number line x → AreLogical (number + 1) lines more → AreLogical number (line ∷ lines) (x ∷ more)
-takes number line lines x more taken is h = other_match (is_skipped line) (AreLogical (number + 1) lines (x ∷ more)) (IsTaken number line lines (x ∷ more)) taken (x, more, refl, is, h)
+-- the last token decides whether a statement goes on
+pub last_asked : (tokens : List Token) (n : ℕ) (other : Token) → n + 1 ≡ length tokens → goes_on_token (get_or tokens n other) ≡ goes_on tokens
+last_asked [] n other h = absurd (omega arith)
+last_asked (x ∷ []) zero other h = refl
+last_asked (x ∷ []) (suc n) other h = absurd (omega arith)
+last_asked (x ∷ y ∷ more) zero other h = absurd (omega arith)
+last_asked (x ∷ y ∷ more) (suc n) other h = last_asked (y ∷ more) n other (omega arith)
 
 -- these logical lines are read, and those of the lines that are left go on from them
-pub record Goes (text : List ℕ) (found : List Logical) (number : ℕ) (left : List (List ℕ)) : Type 0 where
-  pub joined : (more : List Logical) → AreLogical (number + 1) left more → IsLines text (found ++ more)
+pub record Goes (text : List ℕ) (found : List Logical) (statement : Option Statement) (number : ℕ) (left : List (List ℕ)) : Type 0 where
+  pub joined : (more : List Logical) → AreLogical statement (number + 1) left more → IsLines text (found ++ more)
 
-pub goes_begins : (text : List ℕ) (found : List Logical) (left : List (List ℕ)) → found ≡ [] → left ≡ map without_terminator (lines_of text) → Goes text found 0 left
+pub goes_begins : (text : List ℕ) (found : List Logical) (left : List (List ℕ)) → found ≡ [] → left ≡ map without_terminator (lines_of text) → Goes text found None 0 left
 goes_begins text found left none all = rw (none, all) (record { joined = λ more h. h })
 
-pub goes_past : (text : List ℕ) (found : List Logical) (number : ℕ) (line : List ℕ) (left : List (List ℕ)) → is_skipped line ≡ true → Goes text found number (line ∷ left) → Goes text found (number + 1) left
-goes_past text found number line left skipped goes = record { joined = λ more h. goes.joined more (skips (number + 1) line left more skipped h) }
-
-pub goes_over : (text : List ℕ) (found : List Logical) (number : ℕ) (line : List ℕ) (left : List (List ℕ)) (x : Logical) → is_skipped line ≡ false → IsLogical (number + 1) line x → Goes text found number (line ∷ left) → Goes text (found ++ x ∷ []) (number + 1) left
-goes_over text found number line left x taken is goes = record {
-  joined = λ more h. subst (λ (xs : List Logical). IsLines text xs) (sym (append_assoc found (x ∷ []) more)) (goes.joined (x ∷ more) (takes (number + 1) line left x more taken is h));
+pub goes_over : (text : List ℕ) (found : List Logical) (statement : Option Statement) (number : ℕ) (line : List ℕ) (left : List (List ℕ)) (all : List Logical) (next : Option Statement)
+    → Adds found all (λ ended. IsLine statement (number + 1) line ended next) → Goes text found statement number (line ∷ left) → Goes text all next (number + 1) left
+goes_over text found statement number line left all next adds goes = record {
+  joined = λ more h. subst (λ (xs : List Logical). IsLines text xs) (sym (append_assoc found adds.0 more) ∙ ap (λ (xs : List Logical). xs ++ more) (sym adds.1))
+      (goes.joined (adds.0 ++ more) (adds.0, next, more, adds.2, refl, h));
 }
 
-pub goes_to_end : (text : List ℕ) (found : List Logical) (number : ℕ) (left : List (List ℕ)) → left ≡ [] → Goes text found number left → IsLines text found
-goes_to_end text found number left none kept = let goes : Goes text found number [] = rw none at kept in subst (λ (xs : List Logical). IsLines text xs) (append-nil found) (goes.joined [] refl)
+pub goes_to_end : (text : List ℕ) (found : List Logical) (statement : Option Statement) (number : ℕ) (left : List (List ℕ)) (all : List Logical) → left ≡ [] → all ≡ found ++ unfinished statement → Goes text found statement number left → IsLines text all
+goes_to_end text found statement number left all none is kept =
+    let goes : Goes text found statement number [] = rw none at kept in
+    subst (λ (xs : List Logical). IsLines text xs) (sym is) (goes.joined (unfinished statement) refl)
 
 -- a text spells one list at most
 
-one_read : (text : List ℕ) (a b : Body) → IsRead text a → IsRead text b → a ≡ b
-one_read text (body.Tokens ts) (body.Tokens us) h k = ap (λ (xs : List Token). body.Tokens xs) (one_list (after_blanks text) ts us h k)
-one_read text (body.Tokens ts) (body.Fault f) h k = absurd (k.1 ts h)
-one_read text (body.Fault f) (body.Tokens us) h k = absurd (h.1 us k)
-one_read text (body.Fault f) (body.Fault g) h k = ap (λ (c : Code). body.Fault c) (h.0 ∙ sym k.0)
+abbrev Same : List Logical → List Logical → Option Statement → Option Statement → Type 0
+Same a b m n = (a ≡ b) × (m ≡ n)
 
-one_body : (line : List ℕ) (a b : Body) → IsBody line a → IsBody line b → a ≡ b
-one_body line a b h k = elim (cases_Bool (column line % 2 == 1)) [
-  | inl odd ↦ MatchBool-at_true _ _ odd h ∙ sym (MatchBool-at_true _ _ odd k)
-  | inr even ↦ one_read line a b (MatchBool-at_false _ _ even h) (MatchBool-at_false _ _ even k)
-]
+same_settles : (r : Reached) (a b : List Logical) (m n : Option Statement) → Settles r a m → Settles r b n → Same a b m n
+same_settles (reached.Open statement) a b m n h k = (h.0 ∙ sym k.0, h.1 ∙ sym k.1)
+same_settles (reached.Done x) a b m n h k = (h.0 ∙ sym k.0, h.1 ∙ sym k.1)
 
-same_fields : (x y : Logical) → x.line ≡ y.line → x.depth ≡ y.depth → x.body ≡ y.body → x ≡ y
-same_fields x y l d b =
-    ap (λ (n : ℕ). record { line = n; depth = x.depth; body = x.body }) l
-    ∙ ap (λ (n : ℕ). record { line = y.line; depth = n; body = x.body }) d
-    ∙ ap (λ (z : Body). record { line = y.line; depth = y.depth; body = z }) b
+-- what follows the tokens of one line and its ending is one
+same_read : (first column : ℕ) (tokens ts us : List Token) (x y : Ending) (a b : List Logical) (m n : Option Statement) → (ts ≡ us) × (x ≡ y)
+    → Settles (settled first column (tokens ++ ts) x) a m → Settles (settled first column (tokens ++ us) y) b n → Same a b m n
+same_read first column tokens ts us x y a b m n same h k =
+    let is : settled first column (tokens ++ ts) x ≡ settled first column (tokens ++ us) y =
+    ap (λ (vs : List Token). settled first column (tokens ++ vs) x) same.0 ∙ ap (settled first column (tokens ++ us)) same.1 in
+    same_settles (settled first column (tokens ++ us) y) a b m n (subst (λ (r : Reached). Settles r a m) is h) k
 
-one_logical : (number : ℕ) (line : List ℕ) (x y : Logical) → IsLogical number line x → IsLogical number line y → x ≡ y
-one_logical number line x y h k = same_fields x y (h.numbered ∙ sym k.numbered) (h.deep ∙ sym k.deep) (one_body line x.body y.body h.holds k.holds)
+same_continues : (first column : ℕ) (tokens : List Token) (line : List ℕ) (a b : List Logical) (m n : Option Statement) → Continues first column tokens line a m → Continues first column tokens line b n → Same a b m n
+same_continues first column tokens line a b m n h k =
+    same_read first column tokens h.0 k.0 h.1 k.1 a b m n (one_list (after_blanks line) h.0 k.0 h.1 k.1 h.2 k.2) h.3 k.3
 
-one_spelled : (number : ℕ) (lines : List (List ℕ)) (xs ys : List Logical) → AreLogical number lines xs → AreLogical number lines ys → xs ≡ ys
-one_spelled number [] xs ys h k = h ∙ sym k
-one_spelled number (line ∷ lines) xs ys h k = elim (cases_Bool (is_skipped line)) [
-  | inl skipped ↦ one_spelled (number + 1) lines xs ys (MatchBool-at_true _ (IsTaken number line lines xs) skipped h) (MatchBool-at_true _ (IsTaken number line lines ys) skipped k)
-  | inr taken ↦
-      let a = MatchBool-at_false (AreLogical (number + 1) lines xs) (IsTaken number line lines xs) taken h in
-      let b = MatchBool-at_false (AreLogical (number + 1) lines ys) (IsTaken number line lines ys) taken k in
-      let first = one_logical number line a.0 b.0 a.3 b.3 in
-      let rest = one_spelled (number + 1) lines a.1 b.1 a.4 b.4 in
-      a.2 ∙ ap (λ (x : Logical). x ∷ a.1) first ∙ ap (λ (zs : List Logical). b.0 ∷ zs) rest ∙ sym b.2
-]
+same_closed : (bytes text : List ℕ) (ts us : List Token) (x y : Ending) → IsClosed bytes text ts x → IsClosed bytes text us y → (ts ≡ us) × (x ≡ y)
+same_closed bytes text ts us x y h k =
+    let same = one_quoted text h.values k.values (34 ∷ h.rest) (34 ∷ k.rest) h.spelled k.spelled in
+    let rest = tails 34 34 h.rest k.rest same.1 in
+    let more = one_list (after_blanks k.rest) h.more k.more x y (subst (λ (r : List ℕ). Lexes r h.more x) rest h.follow) k.follow in
+    (h.is ∙ ap (λ (vs : List ℕ). t.String (bytes ++ vs) ∷ h.more) same.0 ∙ ap (λ (vs : List Token). t.String (bytes ++ k.values) ∷ vs) more.0 ∙ sym k.is, more.1)
+
+same_unclosed : (bytes text : List ℕ) (ts us : List Token) (x y : Ending) → IsUnclosed bytes text ts x → IsUnclosed bytes text us y → (ts ≡ us) × (x ≡ y)
+same_unclosed bytes text ts us x y h k =
+    let same = one_quoted text h.values k.values h.rest k.rest h.spelled k.spelled in
+    (h.none ∙ sym k.none, h.is ∙ ap (λ (vs : List ℕ). string_ending (bytes ++ vs) h.rest) same.0 ∙ ap (string_ending (bytes ++ k.values)) same.1 ∙ sym k.is)
+
+not_both : (bytes text : List ℕ) (ts us : List Token) (x y : Ending) → IsClosed bytes text ts x → IsUnclosed bytes text us y → ⊥
+not_both bytes text ts us x y h k = k.no_close h.rest (sym (one_quoted text h.values k.values (34 ∷ h.rest) k.rest h.spelled k.spelled).1)
+
+same_string : (bytes text : List ℕ) (ts us : List Token) (x y : Ending) → LexesString bytes text ts x → LexesString bytes text us y → (ts ≡ us) × (x ≡ y)
+same_string bytes text ts us x y (inl h) (inl k) = same_closed bytes text ts us x y h k
+same_string bytes text ts us x y (inl h) (inr k) = absurd (not_both bytes text ts us x y h k)
+same_string bytes text ts us x y (inr h) (inl k) = absurd (not_both bytes text us ts y x k h)
+same_string bytes text ts us x y (inr h) (inr k) = same_unclosed bytes text ts us x y h k
+
+same_resumes : (first column : ℕ) (tokens : List Token) (bytes line : List ℕ) (a b : List Logical) (m n : Option Statement) → Resumes first column tokens bytes line a m → Resumes first column tokens bytes line b n → Same a b m n
+same_resumes first column tokens bytes line a b m n h k = same_read first column tokens h.0 k.0 h.1 k.1 a b m n (same_string bytes _ h.0 k.0 h.1 k.1 h.2 k.2) h.3 k.3
+
+same_speaks : (o : Option Directive) (number : ℕ) (line : List ℕ) (a b : List Logical) (m n : Option Statement) → Speaks o number line a m → Speaks o number line b n → Same a b m n
+same_speaks None number line a b m n h k = same_continues number (column line) [] line a b m n h k
+same_speaks (Some d) number line a b m n h k = (h.0 ∙ sym k.0, h.1 ∙ sym k.1)
+
+-- of two cases the one that holds gives one answer
+same_match : (b : Bool) (P Q R S : Type 0) (T : Type 0) → MatchBool b P Q → MatchBool b R S → (P → R → T) → (Q → S → T) → T
+same_match true P Q R S T h k f g = f h k
+same_match false P Q R S T h k f g = g h k
+
+same_fresh : (number : ℕ) (line : List ℕ) (a b : List Logical) (m n : Option Statement) → IsFresh number line a m → IsFresh number line b n → Same a b m n
+same_fresh number line a b m n h k = same_match (is_skipped line) ((a ≡ []) × (m ≡ None)) (Speaks (directive_of (after_blanks line)) number line a m)
+    ((b ≡ []) × (n ≡ None)) (Speaks (directive_of (after_blanks line)) number line b n) (Same a b m n) h k
+    (λ u v. (u.0 ∙ sym v.0, u.1 ∙ sym v.1)) (same_speaks (directive_of (after_blanks line)) number line a b m n)
+
+same_break : (x : Logical) (number : ℕ) (line : List ℕ) (a b : List Logical) (m n : Option Statement) → BreaksOff x number line a m → BreaksOff x number line b n → Same a b m n
+same_break x number line a b m n h k =
+    let same = same_fresh number line h.0 k.0 m n h.2 k.2 in
+    (h.1 ∙ ap (λ (xs : List Logical). x ∷ xs) same.0 ∙ sym k.1, same.1)
+
+same_wanted : (w : Wants) (statement : Statement) (number : ℕ) (line : List ℕ) (a b : List Logical) (m n : Option Statement) → IsWanted w statement number line a m → IsWanted w statement number line b n → Same a b m n
+same_wanted wants.More s number line a b m n h k = same_match (is_skipped line)
+    ((a ≡ []) × (m ≡ Some s)) (MatchBool (continues s.column line) (Continues s.line s.column s.tokens line a m) (BreaksOff (broken_off s) number line a m))
+    ((b ≡ []) × (n ≡ Some s)) (MatchBool (continues s.column line) (Continues s.line s.column s.tokens line b n) (BreaksOff (broken_off s) number line b n))
+    (Same a b m n) h k
+    (λ u v. (u.0 ∙ sym v.0, u.1 ∙ sym v.1))
+    (λ u v. same_match (continues s.column line) (Continues s.line s.column s.tokens line a m) (BreaksOff (broken_off s) number line a m)
+    (Continues s.line s.column s.tokens line b n) (BreaksOff (broken_off s) number line b n) (Same a b m n) u v
+    (same_continues s.line s.column s.tokens line a b m n) (same_break (broken_off s) number line a b m n))
+same_wanted (wants.Rest bytes) s number line a b m n h k = same_match (resumes s.column line)
+    (Resumes s.line s.column s.tokens bytes line a m) (BreaksOff (broken_off s) number line a m)
+    (Resumes s.line s.column s.tokens bytes line b n) (BreaksOff (broken_off s) number line b n) (Same a b m n) h k
+    (same_resumes s.line s.column s.tokens bytes line a b m n) (same_break (broken_off s) number line a b m n)
+
+same_line : (o : Option Statement) (number : ℕ) (line : List ℕ) (a b : List Logical) (m n : Option Statement) → IsLine o number line a m → IsLine o number line b n → Same a b m n
+same_line None number line a b m n h k = same_fresh number line a b m n h k
+same_line (Some s) number line a b m n h k = same_wanted s.wants s number line a b m n h k
+
+one_spelled : (o : Option Statement) (number : ℕ) (lines : List (List ℕ)) (xs ys : List Logical) → AreLogical o number lines xs → AreLogical o number lines ys → xs ≡ ys
+one_spelled o number [] xs ys h k = h ∙ sym k
+one_spelled o number (line ∷ lines) xs ys h k =
+    let same = same_line o number line h.0 k.0 h.1 k.1 h.3 k.3 in
+    let rest = one_spelled k.1 (number + 1) lines h.2 k.2 (subst (λ (m : Option Statement). AreLogical m (number + 1) lines h.2) same.1 h.5) k.5 in
+    h.4 ∙ ap (λ (e : List Logical). e ++ h.2) same.0 ∙ ap (λ (r : List Logical). k.0 ++ r) rest ∙ sym k.4
 
 pub one_lines : (text : List ℕ) (xs ys : List Logical) → IsLines text xs → IsLines text ys → xs ≡ ys
-one_lines text xs ys h k = one_spelled 1 (map without_terminator (lines_of text)) xs ys h k
+one_lines text xs ys h k = one_spelled None 1 (map without_terminator (lines_of text)) xs ys h k

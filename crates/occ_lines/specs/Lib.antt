@@ -1,3 +1,5 @@
+pub mod Directive
 pub mod Lexeme
 pub mod Lines
+pub mod Quoted
 pub mod Scan

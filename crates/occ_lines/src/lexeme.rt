@@ -1,98 +1,119 @@
 //! Single spellings: names, numbers and symbols.
-ghost use Rattle.std.specs.Prelude.{◌≡◌, ◌≤◌, ◌+◌, ◌-◌, ◌*◌, SomeIff, map, true};
-ghost use Rattle.std.specs.Char.{is_ascii_digit};
+ghost use Rattle.std.specs.Prelude.{◌≡◌, ◌≤◌, ◌+◌, ◌*◌, SomeIff, drop, map, true};
+ghost use Rattle.std.specs.Char.{is_ascii_digit, is_ascii_hexdigit};
 ghost use Rattle.std.specs.List.{list_all};
 ghost use Rattle.std.specs.Str.Parse.{digits_value};
-ghost use Rattle.occ_lines.specs.Lexeme.{found_in, greatest, is_name as a_name, is_name_byte as a_name_byte, is_number as a_number, is_symbol as a_symbol, reserved_row as the_reserved_row, starts_name as begins_name, starts_number as begins_number, symbol_row as the_symbol_row};
+ghost use Rattle.occ_lines.specs.Lexeme.{found_in, greatest, is_hexadecimal as a_hexadecimal, is_name as a_name, is_name_byte as a_name_byte, is_number as a_number, is_symbol as a_symbol, reserved_row as the_reserved_row, starts_hexadecimal as begins_hexadecimal, starts_name as begins_name, starts_number as begins_number, symbol_row as the_symbol_row};
 
 use super::{Symbol, Word};
+use crate::quoted::digit_value;
 
-/// The spellings of symbols, each with the symbol that it is, if it is one.
-const SYMBOLS: [(&[u8], Option<Symbol>); 9] = [
-    (b":=", Some(Symbol::Assign)),
-    (b"::", None),
-    (b"+", Some(Symbol::Plus)),
-    (b"(", Some(Symbol::Open)),
-    (b")", Some(Symbol::Close)),
-    (b"[", Some(Symbol::OpenIndex)),
-    (b"]", Some(Symbol::CloseIndex)),
-    (b",", Some(Symbol::Comma)),
-    (b":", Some(Symbol::Colon)),
+/// The spellings of symbols, each with the symbol that it is.
+const SYMBOLS: [(&[u8], Symbol); 29] = [
+    (b":=", Symbol::Assign),
+    (b"::", Symbol::Counted),
+    (b"<=", Symbol::AtMost),
+    (b">=", Symbol::AtLeast),
+    (b"<>", Symbol::Unequal),
+    (b"><", Symbol::BitXor),
+    (b"<<", Symbol::ShiftLeft),
+    (b">>", Symbol::ShiftRight),
+    (b"/\\", Symbol::BitAnd),
+    (b"\\/", Symbol::BitOr),
+    (b"+", Symbol::Plus),
+    (b"-", Symbol::Minus),
+    (b"*", Symbol::Times),
+    (b"/", Symbol::Divide),
+    (b"\\", Symbol::Remainder),
+    (b"~", Symbol::BitNot),
+    (b"=", Symbol::Equal),
+    (b"<", Symbol::Less),
+    (b">", Symbol::Greater),
+    (b"(", Symbol::Open),
+    (b")", Symbol::Close),
+    (b"[", Symbol::OpenIndex),
+    (b"]", Symbol::CloseIndex),
+    (b",", Symbol::Comma),
+    (b";", Symbol::Semicolon),
+    (b":", Symbol::Colon),
+    (b"?", Symbol::Input),
+    (b"!", Symbol::Output),
+    (b"&", Symbol::Ampersand),
 ];
 
-/// The reserved words, each with the word that it is, if it is one.
-const RESERVED: [(&[u8], Option<Word>); 67] = [
-    (b"AFTER", None),
-    (b"ALT", None),
-    (b"AND", None),
-    (b"ANY", None),
-    (b"ASM", None),
-    (b"AT", None),
-    (b"BITAND", None),
-    (b"BITNOT", None),
-    (b"BITOR", None),
-    (b"BOOL", None),
-    (b"BYTE", None),
-    (b"BYTESIN", None),
-    (b"CASE", None),
-    (b"CHAN", None),
-    (b"DATA", None),
-    (b"ELSE", None),
-    (b"FALSE", None),
-    (b"FOR", None),
-    (b"FROM", None),
-    (b"FUNCTION", None),
-    (b"GUY", None),
-    (b"IF", None),
-    (b"INLINE", None),
-    (b"INT", Some(Word::Int)),
-    (b"INT16", None),
-    (b"INT32", None),
-    (b"INT64", None),
-    (b"IS", None),
-    (b"MINUS", None),
-    (b"MOSTNEG", None),
-    (b"MOSTPOS", None),
-    (b"NOT", None),
-    (b"OF", None),
-    (b"OFFSETOF", None),
-    (b"OR", None),
-    (b"PACKED", None),
-    (b"PAR", Some(Word::Par)),
-    (b"PLACE", None),
-    (b"PLACED", None),
-    (b"PLUS", None),
-    (b"PORT", None),
-    (b"PRI", None),
-    (b"PROC", Some(Word::Proc)),
-    (b"PROCESSOR", None),
-    (b"PROTOCOL", None),
-    (b"REAL32", None),
-    (b"REAL64", None),
-    (b"RECORD", None),
-    (b"REM", None),
-    (b"RESHAPES", None),
-    (b"RESULT", None),
-    (b"RETYPES", None),
-    (b"ROUND", None),
-    (b"SEQ", Some(Word::Seq)),
-    (b"SIZE", None),
-    (b"SKIP", Some(Word::Skip)),
-    (b"STOP", None),
-    (b"TIMER", None),
-    (b"TIMES", None),
-    (b"TRUE", None),
-    (b"TRUNC", None),
-    (b"TYPE", None),
-    (b"VAL", None),
-    (b"VALOF", None),
-    (b"VECSPACE", None),
-    (b"WHILE", None),
-    (b"WORKSPACE", None),
+/// The reserved words, each with the word that it is.
+const RESERVED: [(&[u8], Word); 67] = [
+    (b"AFTER", Word::After),
+    (b"ALT", Word::Alt),
+    (b"AND", Word::And),
+    (b"ANY", Word::Any),
+    (b"ASM", Word::Asm),
+    (b"AT", Word::At),
+    (b"BITAND", Word::BitAnd),
+    (b"BITNOT", Word::BitNot),
+    (b"BITOR", Word::BitOr),
+    (b"BOOL", Word::Bool),
+    (b"BYTE", Word::Byte),
+    (b"BYTESIN", Word::BytesIn),
+    (b"CASE", Word::Case),
+    (b"CHAN", Word::Chan),
+    (b"DATA", Word::Data),
+    (b"ELSE", Word::Else),
+    (b"FALSE", Word::False),
+    (b"FOR", Word::For),
+    (b"FROM", Word::From),
+    (b"FUNCTION", Word::Function),
+    (b"GUY", Word::Guy),
+    (b"IF", Word::If),
+    (b"INLINE", Word::Inline),
+    (b"INT", Word::Int),
+    (b"INT16", Word::Int16),
+    (b"INT32", Word::Int32),
+    (b"INT64", Word::Int64),
+    (b"IS", Word::Is),
+    (b"MINUS", Word::Minus),
+    (b"MOSTNEG", Word::MostNeg),
+    (b"MOSTPOS", Word::MostPos),
+    (b"NOT", Word::Not),
+    (b"OF", Word::Of),
+    (b"OFFSETOF", Word::OffsetOf),
+    (b"OR", Word::Or),
+    (b"PACKED", Word::Packed),
+    (b"PAR", Word::Par),
+    (b"PLACE", Word::Place),
+    (b"PLACED", Word::Placed),
+    (b"PLUS", Word::Plus),
+    (b"PORT", Word::Port),
+    (b"PRI", Word::Pri),
+    (b"PROC", Word::Proc),
+    (b"PROCESSOR", Word::Processor),
+    (b"PROTOCOL", Word::Protocol),
+    (b"REAL32", Word::Real32),
+    (b"REAL64", Word::Real64),
+    (b"RECORD", Word::Record),
+    (b"REM", Word::Rem),
+    (b"RESHAPES", Word::Reshapes),
+    (b"RESULT", Word::Result),
+    (b"RETYPES", Word::Retypes),
+    (b"ROUND", Word::Round),
+    (b"SEQ", Word::Seq),
+    (b"SIZE", Word::Size),
+    (b"SKIP", Word::Skip),
+    (b"STOP", Word::Stop),
+    (b"TIMER", Word::Timer),
+    (b"TIMES", Word::Times),
+    (b"TRUE", Word::True),
+    (b"TRUNC", Word::Trunc),
+    (b"TYPE", Word::Type),
+    (b"VAL", Word::Val),
+    (b"VALOF", Word::ValOf),
+    (b"VECSPACE", Word::VecSpace),
+    (b"WHILE", Word::While),
+    (b"WORKSPACE", Word::Workspace),
 ];
 
 /// What stands in the table beside the spelling.
-fn found_in<T: Copy>(table: &[(&[u8], T)], bytes: &[u8]) -> Option<T>
+pub fn found_in<T: Copy>(table: &[(&[u8], T)], bytes: &[u8]) -> Option<T>
     ensures { result ≡ found_in (map (λ row. (row.0.now, row.1)) table.now) bytes.now }
 {
     for (spelling, meaning) in table {
@@ -105,7 +126,7 @@ fn found_in<T: Copy>(table: &[(&[u8], T)], bytes: &[u8]) -> Option<T>
 
 /// What the bytes are as a symbol, if they spell one.
 #[tactic(auto, unfolding(crate::specs::Lexeme::symbol_row))]
-pub fn symbol_row(bytes: &[u8]) -> Option<Option<Symbol>>
+pub fn symbol_row(bytes: &[u8]) -> Option<Symbol>
     ensures { result ≡ the_symbol_row bytes.now }
 {
     found_in(&SYMBOLS, bytes)
@@ -113,7 +134,7 @@ pub fn symbol_row(bytes: &[u8]) -> Option<Option<Symbol>>
 
 /// What the bytes are as a reserved word, if they are one.
 #[tactic(auto, unfolding(crate::specs::Lexeme::reserved_row))]
-pub fn reserved_row(bytes: &[u8]) -> Option<Option<Word>>
+pub fn reserved_row(bytes: &[u8]) -> Option<Word>
     ensures { result ≡ the_reserved_row bytes.now }
 {
     found_in(&RESERVED, bytes)
@@ -182,23 +203,56 @@ pub fn is_number(bytes: &[u8]) -> bool
     starts_number(bytes) && has_digits(bytes)
 }
 
-/// The number with one more digit behind it, where a token holds it.
-pub fn appended(number: u64, digit: u8) -> Option<u64>
-    requires low { 48 ≤ digit }
-    requires high { digit ≤ 57 }
-    ensures { SomeIff result (number * 10 + (digit - 48) ≤ greatest) (number * 10 + (digit - 48)) }
+/// Whether a `#` and a hexadecimal digit stand first.
+pub fn starts_hexadecimal(text: &[u8]) -> bool
+    ensures { result ≡ begins_hexadecimal text.now }
 {
-    number.checked_mul(10)?.checked_add(u64::from(digit - b'0'))
+    match text {
+        [first, second, ..] => *first == b'#' && second.is_ascii_hexdigit(),
+        _ => false,
+    }
 }
 
-/// The value of decimal digits, where a token holds it.
-pub fn value(digits: &[u8]) -> Option<u64>
-    requires { a_number digits.now ≡ true }
-    ensures { SomeIff result (digits_value 10 digits.now ≤ greatest) (digits_value 10 digits.now) }
+/// Whether each byte is a hexadecimal digit.
+fn has_hexadecimal_digits(bytes: &[u8]) -> bool
+    ensures { result ≡ list_all is_ascii_hexdigit bytes.now }
+{
+    bytes.iter().all(|b| b.is_ascii_hexdigit())
+}
+
+/// What stands behind the first byte.
+pub fn behind_first(text: &[u8]) -> &[u8]
+    ensures { result.now ≡ drop 1 text.now }
+{
+    match text {
+        [_, rest @ ..] => rest,
+        [] => text,
+    }
+}
+
+/// Whether the bytes are a `#` and hexadecimal digits.
+pub fn is_hexadecimal(bytes: &[u8]) -> bool
+    ensures { result ≡ a_hexadecimal bytes.now }
+{
+    starts_hexadecimal(bytes) && has_hexadecimal_digits(behind_first(bytes))
+}
+
+/// The number with one more digit behind it, where a token holds it.
+pub fn appended(radix: u64, number: u64, digit: u64) -> Option<u64>
+    ensures { SomeIff result (number * radix + digit ≤ greatest) (number * radix + digit) }
+{
+    number.checked_mul(radix)?.checked_add(digit)
+}
+
+/// The value of digits, where a token holds it.
+pub fn value(radix: u64, digits: &[u8]) -> Option<u64>
+    requires some { 1 ≤ radix }
+    requires digits { list_all is_ascii_hexdigit digits.now ≡ true }
+    ensures { SomeIff result (digits_value radix digits.now ≤ greatest) (digits_value radix digits.now) }
 {
     let mut value = 0;
     for digit in digits {
-        value = appended(value, *digit)?;
+        value = appended(radix, value, u64::from(digit_value(*digit)))?;
     }
     Some(value)
 }

@@ -3,11 +3,16 @@
 #![tactic(auto)]
 
 mod blanks;
+mod directive;
+mod ending;
 mod lexeme;
+mod line;
 mod logical;
+mod quoted;
 mod reader;
 mod rows;
 mod scan;
+mod statement;
 #[cfg(test)]
 mod tests;
 mod token;
@@ -16,6 +21,7 @@ mod tokens;
 pub use logical::{Body, Logical, TextFault};
 pub use reader::{logical_lines, text_fault};
 pub use rows::{
-    class_rows, first_rows, line_rows, name_rows, number_rows, symbol_rows, symbol_token_rows,
+    class_rows, directive_rows, first_rows, goes_on_rows, line_rows, name_rows, number_rows,
+    quoted_rows, symbol_rows, symbol_token_rows,
 };
 pub use token::{Symbol, Token, Word};

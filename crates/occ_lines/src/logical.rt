@@ -2,7 +2,7 @@ ghost use Rattle.std.specs.Prelude.{◌≡◌};
 ghost use Rattle.occ_lines.specs.declared.logical.TextFault.TheVariants.{Memory};
 
 use super::Token;
-use occ_base::{Code, Items};
+use occ_base::{Code, FileName, Items};
 use std::alloc::AllocError;
 use thiserror::Error;
 
@@ -11,7 +11,11 @@ use thiserror::Error;
 pub enum Body {
     /// The tokens of a statement, at least one.
     Tokens(Items<Token>),
-    /// The one fault of the line: `L1` or `L2`.
+    /// The lines of this file stand here.
+    Include(FileName),
+    /// The exports of this unit are visible from here on.
+    Uses(FileName),
+    /// The one fault of the line: `L1`, `L2`, `L3` or `L4`.
     Fault(Code),
 }
 

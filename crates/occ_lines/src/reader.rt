@@ -1,11 +1,11 @@
 //! The logical lines of a text.
-ghost use Rattle.std.specs.Prelude.{◌≡◌, ◌≤◌, ◌<◌, ◌↔◌, List, IsTrue, IsErrOf, IfOk, length};
-ghost use Rattle.occ_lines.specs.Lines.{IsBody, IsLines, IsLogical, column as the_column, is_skipped as a_skipped, limit_fault, line_count};
+ghost use Rattle.std.specs.Prelude.{◌≡◌, ◌++◌, ◌≤◌, ◌<◌, ◌↔◌, List, IsTrue, IsErrOf, IfOk, length};
+ghost use Rattle.occ_lines.specs.Lines.{IsLines, limit_fault, line_count, unfinished as the_unfinished};
 ghost use Rattle.occ_lines.specs.declared.logical.Logical.{Logical as ALogical};
 
 use super::{Body, Logical, TextFault};
-use crate::blanks::{after_blanks, column, is_end};
-use crate::tokens::tokens;
+use crate::line::read_line;
+use crate::statement::{Statement, Wants, logical_of};
 use bstr::ByteSlice;
 use occ_base::{Code, Items};
 use std::alloc::{AllocError, Global};
@@ -15,41 +15,6 @@ const MOST_BYTES: usize = 262_144;
 
 /// The greatest number of lines of a text.
 const MOST_LINES: usize = 16_384;
-
-/// What a line holds whose first byte that is no blank stands in that column.
-fn body(alloc: Global, line: &[u8], column: u32) -> Result<Body, AllocError>
-    requires { column ≡ the_column line.now }
-    ensures { IfOk result (λ body. IsBody line.now body) }
-{
-    if column % 2 == 1 {
-        return Ok(Body::Fault(Code::L2));
-    }
-    match tokens(alloc, line)? {
-        Some(found) => Ok(Body::Tokens(found)),
-        None => Ok(Body::Fault(Code::L1)),
-    }
-}
-
-/// The logical line of the line of that number.
-fn logical_line(alloc: Global, number: u32, line: &[u8]) -> Result<Logical, AllocError>
-    requires { length line.now ≤ 262144 }
-    ensures { IfOk result (λ logical. IsLogical number line.now logical) }
-{
-    let column = column(line);
-    let body = body(alloc, line, column)?;
-    Ok(Logical {
-        line: number,
-        depth: column / 2,
-        body,
-    })
-}
-
-/// Whether the line is blanks, or blanks and a comment.
-fn is_skipped(line: &[u8]) -> bool
-    ensures { result ≡ a_skipped line.now }
-{
-    is_end(after_blanks(line))
-}
 
 /// Whether the text has over 16,384 lines.
 fn has_too_many_lines(text: &[u8]) -> bool
@@ -78,6 +43,24 @@ pub fn text_fault(text: &[u8]) -> Option<TextFault>
     }
 }
 
+/// The logical line of a statement that is open at the end of the text.
+fn finished(
+    found: Items<Logical>,
+    statement: Option<Statement>,
+) -> Result<Items<Logical>, AllocError>
+    ensures { IfOk result (λ all. all ≡ found ++ the_unfinished statement) }
+{
+    let mut found = found;
+    if let Some(statement) = statement {
+        let lack = match statement.wants {
+            Wants::More => Code::L3,
+            Wants::Rest(_) => Code::L4,
+        };
+        found.push(logical_of(statement.line, statement.column, Body::Fault(lack)))?;
+    }
+    Ok(found)
+}
+
 /// The logical lines of a text within the limits.
 fn read(alloc: Global, text: &[u8]) -> Result<Items<Logical>, AllocError>
     requires bytes { length text.now ≤ 262144 }
@@ -85,14 +68,13 @@ fn read(alloc: Global, text: &[u8]) -> Result<Items<Logical>, AllocError>
     ensures { IfOk result (λ lines. IsLines text.now lines) }
 {
     let mut found = Items::new(alloc);
+    let mut statement = None;
     let mut number = 0;
     for line in text.lines() {
         number += 1;
-        if !is_skipped(line) {
-            found.push(logical_line(alloc, number, line)?)?;
-        }
+        (found, statement) = read_line(alloc, found, statement, number, line)?;
     }
-    Ok(found)
+    finished(found, statement)
 }
 
 /// The logical lines of a text: its lines in order, without those that hold nothing but blanks and comments.

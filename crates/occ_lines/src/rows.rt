@@ -1,8 +1,12 @@
 //! Worked rows of the definitions: each function has an empty body, and its clauses are computed.
 ghost use Rattle.std.specs.Prelude.{◌≡◌, ◌++◌, [], ◌∷◌, ℕ, List, codes, false, true};
 ghost use Rattle.occ_base.specs.declared.code.Code.TheVariants as code;
-ghost use Rattle.occ_lines.specs.Lexeme.{IsFirst, Lexes, is_name, is_number, is_symbol, name_token, number_token, symbol_token};
-ghost use Rattle.occ_lines.specs.Lines.{IsBody, column, is_skipped};
+ghost use Rattle.occ_lines.specs.Lexeme.{IsFirst, Lexes, hexadecimal_token, is_hexadecimal, is_name, is_number, is_symbol, name_token, number_token, symbol_token};
+ghost use Rattle.occ_lines.specs.Quoted.{unit};
+ghost use Rattle.occ_lines.specs.Directive.{directive_body, directive_of};
+ghost use Rattle.occ_lines.specs.declared.directive.Directive.TheVariants as d;
+ghost use Rattle.occ_lines.specs.declared.ending.Ending.TheVariants as ending;
+ghost use Rattle.occ_lines.specs.Lines.{column, continues, goes_on, is_skipped, logical_of, resumes};
 ghost use Rattle.occ_lines.specs.declared.logical.Body.TheVariants as body;
 ghost use Rattle.occ_lines.specs.declared.token.Symbol.TheVariants as s;
 ghost use Rattle.occ_lines.specs.declared.token.Token.{Token as AToken};
@@ -17,6 +21,9 @@ pub fn class_rows()
     ensures none { is_name [] ≡ false }
     ensures number { is_number (codes "0012") ≡ true }
     ensures mixed { is_number (codes "12a") ≡ false }
+    ensures hexadecimal { is_hexadecimal (codes "#0fF") ≡ true }
+    ensures hash { is_hexadecimal (codes "#") ≡ false }
+    ensures letter { is_hexadecimal (codes "#g") ≡ false }
     ensures nothing { is_number [] ≡ false }
 {}
 
@@ -25,28 +32,34 @@ pub fn class_rows()
 pub fn symbol_rows()
     ensures assign { is_symbol (codes ":=") ≡ true }
     ensures counted { is_symbol (codes "::") ≡ true }
-    ensures equal { is_symbol (codes "=") ≡ false }
+    ensures broken { is_symbol (codes "=:") ≡ false }
+    ensures dollar { is_symbol (codes "$") ≡ false }
+    ensures equal { is_symbol (codes "=") ≡ true }
     ensures none { is_symbol [] ≡ false }
 {}
 
 /// What names are.
 #[tactic(auto, unfolding(crate::specs::Lexeme::name_token, crate::specs::Lexeme::reserved_row))]
 pub fn name_rows()
-    ensures proc { name_token (codes "PROC") ≡ Some (t.Word w.Proc) }
-    ensures int { name_token (codes "INT") ≡ Some (t.Word w.Int) }
-    ensures seq { name_token (codes "SEQ") ≡ Some (t.Word w.Seq) }
-    ensures par { name_token (codes "PAR") ≡ Some (t.Word w.Par) }
-    ensures skip { name_token (codes "SKIP") ≡ Some (t.Word w.Skip) }
-    ensures later { name_token (codes "WHILE") ≡ None }
-    ensures small { name_token (codes "skip") ≡ Some (t.Name (codes "skip")) }
-    ensures longer { name_token (codes "INT8") ≡ Some (t.Name (codes "INT8")) }
+    ensures proc { name_token (codes "PROC") ≡ t.Word w.Proc }
+    ensures int { name_token (codes "INT") ≡ t.Word w.Int }
+    ensures seq { name_token (codes "SEQ") ≡ t.Word w.Seq }
+    ensures par { name_token (codes "PAR") ≡ t.Word w.Par }
+    ensures skip { name_token (codes "SKIP") ≡ t.Word w.Skip }
+    ensures later { name_token (codes "WHILE") ≡ t.Word w.While }
+    ensures small { name_token (codes "skip") ≡ t.Name (codes "skip") }
+    ensures longer { name_token (codes "INT8") ≡ t.Name (codes "INT8") }
+    ensures free { name_token (codes "IN") ≡ t.Name (codes "IN") }
 {}
 
 /// What digits are.
-#[tactic(auto, unfolding(crate::specs::Lexeme::number_token))]
+#[tactic(auto, unfolding(crate::specs::Lexeme::number_token, crate::specs::Lexeme::hexadecimal_token))]
 pub fn number_rows()
     ensures zeros { number_token (codes "0012") ≡ Some (t.Decimal 12) }
     ensures greatest { number_token (codes "18446744073709551615") ≡ Some (t.Decimal 18446744073709551615) }
+    ensures hexadecimal { hexadecimal_token (codes "#00fF") ≡ Some (t.Hexadecimal 255) }
+    ensures most { hexadecimal_token (codes "#FFFFFFFFFFFFFFFF") ≡ Some (t.Hexadecimal 18446744073709551615) }
+    ensures more { hexadecimal_token (codes "#10000000000000000") ≡ None }
     ensures over { number_token (codes "18446744073709551616") ≡ None }
 {}
 
@@ -54,7 +67,7 @@ pub fn number_rows()
 #[tactic(auto, unfolding(crate::specs::Lexeme::symbol_token, crate::specs::Lexeme::symbol_row))]
 pub fn symbol_token_rows()
     ensures assign { symbol_token (codes ":=") ≡ Some (t.Symbol s.Assign) }
-    ensures counted { symbol_token (codes "::") ≡ None }
+    ensures counted { symbol_token (codes "::") ≡ Some (t.Symbol s.Counted) }
     ensures colon { symbol_token (codes ":") ≡ Some (t.Symbol s.Colon) }
 {}
 
@@ -64,12 +77,31 @@ pub fn first_rows()
     ensures number { IsFirst (codes "12ab") (t.Decimal 12) (codes "ab") }
     ensures symbol { IsFirst (codes ":=b") (t.Symbol s.Assign) (codes "b") }
     ensures bad { (token : AToken) (rest : List ℕ) → IsFirst (codes "$a") token rest → ⊥ }
-    ensures later { (token : AToken) (rest : List ℕ) → IsFirst (codes "::a") token rest → ⊥ }
-    ensures line { Lexes (codes " ab --") (t.Name (codes "ab") ∷ []) }
-    ensures none { (tokens : List AToken) → Lexes (codes " $a") tokens → ⊥ }
+    ensures line { Lexes (codes " ab --") (t.Name (codes "ab") ∷ []) ending.Whole }
+    ensures none { Lexes (codes " $a") [] (ending.Bad code.L1) }
 {}
 
-/// Columns, and the lines that are skipped.
+/// What stands between quotes.
+pub fn quoted_rows()
+    ensures plain { unit 34 (codes "ab") ≡ Some (97, codes "b") }
+    ensures carriage { unit 34 (codes "*Cb") ≡ Some (13, codes "b") }
+    ensures line { unit 34 (codes "*nb") ≡ Some (10, codes "b") }
+    ensures tab { unit 34 (codes "*tb") ≡ Some (9, codes "b") }
+    ensures space { unit 34 (codes "*Sb") ≡ Some (32, codes "b") }
+    ensures star { unit 34 (codes "**b") ≡ Some (42, codes "b") }
+    ensures byte { unit 34 (codes "*#fFb") ≡ Some (255, codes "b") }
+    ensures short { unit 34 (codes "*#f") ≡ None }
+    ensures none { unit 34 (codes "*l") ≡ None }
+    ensures broken { unit 34 (codes "*") ≡ None }
+    ensures closed { unit 34 (34 ∷ []) ≡ None }
+    ensures single { unit 34 (39 ∷ []) ≡ Some (39, []) }
+    ensures double { unit 39 (34 ∷ []) ≡ Some (34, []) }
+    ensures tabulator { unit 34 (9 ∷ []) ≡ None }
+    ensures high { unit 34 (127 ∷ []) ≡ None }
+{}
+
+/// Columns, the lines that are skipped, and those that go on with a statement.
+#[tactic(auto, unfolding(crate::specs::Directive::directive_of))]
 pub fn line_rows()
     ensures plain { column (codes "ab") ≡ 0 }
     ensures spaces { column (codes "   ab") ≡ 3 }
@@ -81,5 +113,39 @@ pub fn line_rows()
     ensures comment { is_skipped (codes "   --" ++ 255 ∷ []) ≡ true }
     ensures minus { is_skipped (codes "-") ≡ false }
     ensures behind { is_skipped (codes "a --") ≡ false }
-    ensures odd { IsBody (codes " $") (body.Fault code.L2) }
+    ensures odd { logical_of 7 1 (body.Fault code.L1) ≡ logical_of 7 1 (body.Fault code.L2) }
+    ensures same { continues 2 (codes "   x") ≡ true }
+    ensures left { continues 2 (codes " x") ≡ false }
+    ensures crossed { continues 0 (codes "  #USE b") ≡ false }
+    ensures star { resumes 2 (codes "   *a") ≡ true }
+    ensures none { resumes 2 (codes " *a") ≡ false }
+    ensures closed { resumes 0 (codes "a") ≡ false }
+{}
+
+/// Which directive begins a text, and what it names.
+#[tactic(auto, unfolding(crate::specs::Directive::directive_of))]
+pub fn directive_rows()
+    ensures include { directive_of (codes "#INCLUDE\"k.inc") ≡ Some d.Include }
+    ensures usage { directive_of (codes "#USE b") ≡ Some d.Use }
+    ensures pragma { directive_of (codes "#PRAGMA") ≡ Some d.Dropped }
+    ensures longer { directive_of (codes "#USE.x") ≡ None }
+    ensures small { directive_of (codes "#use") ≡ None }
+    ensures apart { directive_of (codes "# USE") ≡ None }
+    ensures file { directive_body d.Include (codes "#INCLUDE \"k.inc\" --") ≡ Some (body.Include (codes "k.inc")) }
+    ensures behind { directive_body d.Include (codes "#INCLUDE \"k.inc\" x") ≡ Some (body.Fault code.L1) }
+    ensures unit { directive_body d.Use (codes "#USE \"a.b.c\"") ≡ Some (body.Uses (codes "a.b.occ")) }
+    ensures empty { directive_body d.Use (codes "#USE\"\"") ≡ Some (body.Uses (codes ".occ")) }
+    ensures bad { directive_body d.Use (codes "#USE \"a?b\"") ≡ Some (body.Fault code.L1) }
+    ensures dropped { directive_body d.Dropped (codes "#OPTION") ≡ None }
+{}
+
+/// Behind which tokens a statement goes on.
+pub fn goes_on_rows()
+    ensures none { goes_on [] ≡ false }
+    ensures assign { goes_on (t.Name (codes "a") ∷ t.Symbol s.Assign ∷ []) ≡ true }
+    ensures number { goes_on (t.Symbol s.Plus ∷ t.Decimal 1 ∷ []) ≡ false }
+    ensures monadic { goes_on (t.Word w.Not ∷ []) ≡ true }
+    ensures output { goes_on (t.Symbol s.Output ∷ []) ≡ false }
+    ensures counted { goes_on (t.Symbol s.Counted ∷ []) ≡ false }
+    ensures of { goes_on (t.Word w.Of ∷ []) ≡ false }
 {}

@@ -1,15 +1,18 @@
 //! How long the longest spelling is that begins a text.
 ghost use Rattle.std.specs.Prelude.{◌≡◌, ◌≤◌, ◌↔◌, IsTrue, length, take, true};
-ghost use Rattle.std.specs.Char.{is_ascii_digit as a_digit};
+ghost use Rattle.std.specs.Char.{is_ascii_digit as a_digit, is_ascii_hexdigit as a_hexdigit};
 ghost use Rattle.std.specs.List.{prefix_len};
 ghost use Rattle.occ_lines.specs.Lexeme.{is_lexeme, is_name_byte as a_name_byte, is_symbol as a_symbol};
 ghost use Rattle.occ_lines.specs.Scan.{IsLongest};
 
-use crate::lexeme::{is_name_byte, is_symbol, starts_name, starts_number};
+use crate::lexeme::{
+    behind_first, is_name_byte, is_symbol, starts_hexadecimal, starts_name, starts_number,
+};
 
 /// How many bytes in front may stand in a name.
-fn name_len(text: &[u8]) -> usize
-    ensures { result ≡ prefix_len a_name_byte text.now }
+pub fn name_len(text: &[u8]) -> usize
+    ensures value { result ≡ prefix_len a_name_byte text.now }
+    ensures within { result ≤ length text.now }
 {
     for (i, b) in text.iter().enumerate() {
         if !is_name_byte(*b) {
@@ -25,6 +28,18 @@ fn number_len(text: &[u8]) -> usize
 {
     for (i, b) in text.iter().enumerate() {
         if !b.is_ascii_digit() {
+            return i;
+        }
+    }
+    text.len()
+}
+
+/// How many bytes in front are hexadecimal digits.
+fn hexadecimal_len(text: &[u8]) -> usize
+    ensures { result ≡ prefix_len a_hexdigit text.now }
+{
+    for (i, b) in text.iter().enumerate() {
+        if !b.is_ascii_hexdigit() {
             return i;
         }
     }
@@ -59,6 +74,8 @@ pub fn lexeme_len(text: &[u8]) -> usize
         name_len(text)
     } else if starts_number(text) {
         number_len(text)
+    } else if starts_hexadecimal(text) {
+        1 + hexadecimal_len(behind_first(text))
     } else {
         symbol_len(text)
     }

@@ -1,4 +1,5 @@
 use crate::{Body, TextFault, Token, logical_lines};
+use occ_base::FileName;
 use std::alloc::Global;
 use std::fmt::Write;
 use std::test::Fail;
@@ -11,6 +12,8 @@ fn shown(alloc: Global, text: &[u8]) -> Result<String, Fail> {
         write!(out, "{} {}", logical.line, logical.depth)?;
         match &logical.body {
             Body::Fault(code) => write!(out, " {}", code.as_str())?,
+            Body::Include(name) => show_file(&mut out, " include ", name)?,
+            Body::Uses(name) => show_file(&mut out, " uses ", name)?,
             Body::Tokens(tokens) => {
                 for token in tokens.as_slice() {
                     show(&mut out, token)?;
@@ -22,6 +25,14 @@ fn shown(alloc: Global, text: &[u8]) -> Result<String, Fail> {
     Ok(out)
 }
 
+fn show_file(out: &mut String, what: &str, name: &FileName) -> Result<(), Fail> {
+    out.push_str(what)?;
+    for b in name.as_bytes() {
+        out.push(char::from(*b))?;
+    }
+    Ok(())
+}
+
 fn show(out: &mut String, token: &Token) -> Result<(), Fail> {
     match token {
         Token::Name(name) => {
@@ -31,6 +42,14 @@ fn show(out: &mut String, token: &Token) -> Result<(), Fail> {
             }
         }
         Token::Decimal(value) => write!(out, " {value}")?,
+        Token::Hexadecimal(value) => write!(out, " #{value}")?,
+        Token::Character(value) => write!(out, " '{value}")?,
+        Token::String(bytes) => {
+            out.push_str(" \"")?;
+            for b in bytes.as_slice() {
+                write!(out, " {b}")?;
+            }
+        }
         Token::Word(word) => write!(out, " {word:?}")?,
         Token::Symbol(symbol) => write!(out, " {symbol:?}")?,
     }
@@ -39,7 +58,7 @@ fn show(out: &mut String, token: &Token) -> Result<(), Fail> {
 
 #[test]
 fn tokens_of_lines(rt: HostRuntime) -> Result<(), Fail> {
-    let rows: [(&[u8], &str); 17] = [
+    let rows: [(&[u8], &str); 22] = [
         (
             b"a[12]:=b+3--c\n",
             "1 0 a OpenIndex 12 CloseIndex Assign b Plus 3\n",
@@ -53,10 +72,18 @@ fn tokens_of_lines(rt: HostRuntime) -> Result<(), Fail> {
         ),
         (b"\n--\n   \n   -- a\x80\xff\n  x.1:\n", "5 1 x.1 Colon\n"),
         (b"x$\n", "1 0 L1\n"),
-        (b"a-b\n", "1 0 L1\n"),
+        (b"a-b--c\n", "1 0 a Minus b\n"),
+        (b"a<-#0fG\n", "1 0 a Less Minus #15 G\n"),
+        (b"'a''*#fF''\"'\n", "1 0 '97 '255 '34\n"),
+        (b"'''\n'ab'\n'a\n#\n", "1 0 L1\n2 0 L1\n3 0 L1\n4 0 L1\n"),
+        (b"\"it's*N\"x\"\"\n", "1 0 \" 105 116 39 115 10 x \"\n"),
+        (b"\"a*q\n\"aq\n\"ab* \n", "1 0 L1\n2 0 L4\n3 0 L1\n"),
         (b" SKIP\n $\n", "1 0 L2\n2 0 L2\n"),
         (b"  $\n", "1 1 L1\n"),
-        (b"WHILE\nWHILEx\nwhile\n", "1 0 L1\n2 0 WHILEx\n3 0 while\n"),
+        (
+            b"WHILE\nWHILEx\nwhile\n",
+            "1 0 While\n2 0 WHILEx\n3 0 while\n",
+        ),
         (
             b"18446744073709551615\n00018446744073709551615\n",
             "1 0 18446744073709551615\n2 0 18446744073709551615\n",
@@ -64,7 +91,7 @@ fn tokens_of_lines(rt: HostRuntime) -> Result<(), Fail> {
         (b"18446744073709551616\n", "1 0 L1\n"),
         (
             b"a::b\na: :b\na:=:b\n",
-            "1 0 L1\n2 0 a Colon Colon b\n3 0 a Assign Colon b\n",
+            "1 0 a Counted b\n2 0 a Colon Colon b\n3 0 a Assign Colon b\n",
         ),
         (b"123abc\ta\n", "1 0 123 abc a\n"),
         (b"\r\r\n\r\n\r", "1 0 L1\n3 0 L1\n"),
@@ -73,6 +100,81 @@ fn tokens_of_lines(rt: HostRuntime) -> Result<(), Fail> {
     for (text, want) in rows {
         let found = shown(rt.alloc(), text)?;
         assert_eq!(rt; found.as_str(), want);
+    }
+    Ok(())
+}
+
+#[test]
+fn directives(rt: HostRuntime) -> Result<(), Fail> {
+    let rows: [(&[u8], &str); 12] = [
+        (b"  #INCLUDE \"k.inc\" -- k\n", "1 1 include k.inc\n"),
+        (
+            b"#USE\"b\"\n#USE \"b.??\"\n",
+            "1 0 uses b.occ\n2 0 uses b.occ\n",
+        ),
+        (
+            b"#USE \"a.b.c\"\n#USE \"\"\n",
+            "1 0 uses a.b.occ\n2 0 uses .occ\n",
+        ),
+        (b"#USE \".occ\"\n", "1 0 uses .occ\n"),
+        (b"#USE \"b\" x\n# USE \"b\"\n", "1 0 L1\n2 0 L1\n"),
+        (b"#USE.x \"b\"\n#include \"k.inc\"\n", "1 0 L1\n2 0 L1\n"),
+        (b"#INCLUDE \"b\"\n#USE \"b\n", "1 0 L1\n2 0 L1\n"),
+        (b"#PRAGMA \x80$\n#OPTION\"\n#COMMENT\nSKIP\n", "4 0 Skip\n"),
+        (b" #PRAGMA x\n #USE \"b\"\n", "1 0 L2\n2 0 L2\n"),
+        (b"#COMMENTS x\n#FF\n", "1 0 #12 OMMENTS x\n2 0 #255\n"),
+        (b"x := 1 +\n#USE b\n", "1 0 L3\n2 0 L1\n"),
+        (b"x := 1 +\n#COMMENT b\n2\n", "1 0 L3\n3 0 2\n"),
+    ];
+    for (text, want) in rows {
+        let found = shown(rt.alloc(), text)?;
+        assert_eq!(rt; found.as_str(), want);
+    }
+    Ok(())
+}
+
+#[test]
+fn statements_of_more_lines(rt: HostRuntime) -> Result<(), Fail> {
+    let rows: [(&[u8], &str); 17] = [
+        (b"a :=\n\n -- b\n  1\n", "1 0 a Assign 1\n"),
+        (
+            b"  a :=\n   1 +\n  2\nb\n",
+            "1 1 a Assign 1 Plus 2\n4 0 b\n",
+        ),
+        (b"  a :=\n 1\n", "1 1 L3\n2 0 L2\n"),
+        (b"a,\n", "1 0 L3\n"),
+        (b" a,\n", "1 0 L2\n"),
+        (b" a,\n b\nc\n", "1 0 L2\n3 0 c\n"),
+        (
+            b"c !\nd ?\ne::\n",
+            "1 0 c Output\n2 0 d Input\n3 0 e Counted\n",
+        ),
+        (
+            b"x := NOT\n  y AFTER\n  z\n",
+            "1 0 x Assign Not y After z\n",
+        ),
+        (b"x := 1 + $\n2\n", "1 0 L1\n2 0 2\n"),
+        (b"a :=\n  $\nb\n", "1 0 L1\n3 0 b\n"),
+        (b"\"ab*\n \t*cd\" x\n", "1 0 \" 97 98 99 100 x\n"),
+        (b"\"a*\n*b*\n*c\"\n", "1 0 \" 97 98 99\n"),
+        (b"\"a*\n\n*b\"\n", "1 0 L4\n3 0 L4\n"),
+        (b"  \"a*\n*b\"\n", "1 1 L4\n2 0 L4\n"),
+        (b"\"a*\nb\"\n", "1 0 L4\n2 0 L4\n"),
+        (b"\"a*\n*$\nb\n", "1 0 L4\n3 0 b\n"),
+        (b"\"a*", "1 0 L4\n"),
+    ];
+    for (text, want) in rows {
+        let found = shown(rt.alloc(), text)?;
+        assert_eq!(rt; found.as_str(), want);
+    }
+    Ok(())
+}
+
+#[test]
+fn every_single_byte(rt: HostRuntime) -> Result<(), Fail> {
+    for b in 0..=255 {
+        let text = [b];
+        assert!(rt; logical_lines(rt.alloc(), &text).is_ok());
     }
     Ok(())
 }

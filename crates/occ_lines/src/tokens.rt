@@ -1,24 +1,27 @@
-//! The tokens of a text.
-ghost use Rattle.std.specs.Prelude.{◌≡◌, ◌<◌, List, ℕ, IfOk, IfSome, IfNone, MatchOption, length, true};
-ghost use Rattle.occ_lines.specs.Lexeme.{IsFirst, Lexes, is_name as a_name, is_number as a_number, name_token as the_name_token, number_token as the_number_token, symbol_token as the_symbol_token, token_of as the_token};
-ghost use Rattle.occ_lines.specs.declared.token.Token.{Token as AToken};
+//! The tokens of a line of the text.
+ghost use Rattle.std.specs.Prelude.{◌≡◌, ◌<◌, ◌∷◌, List, ℕ, IfErr, IfOk, length, true};
+ghost use Rattle.occ_lines.specs.Lexeme.{IsToken, Lexes, Stops, hexadecimal_token as the_hexadecimal_token, is_hexadecimal as a_hexadecimal, is_name as a_name, is_number as a_number, name_token as the_name_token, number_token as the_number_token, symbol_token as the_symbol_token, token_of as the_token};
+ghost use Rattle.occ_lines.specs.Scan.{IsRead};
 
 use super::Token;
 use crate::blanks::{after_blanks, is_end};
-use crate::lexeme::{is_name, is_number, reserved_row, symbol_row, value};
+use crate::ending::Ending;
+use crate::lexeme::{
+    behind_first, is_hexadecimal, is_name, is_number, reserved_row, symbol_row, value,
+};
+use crate::quoted::{behind, gather, string_ending, unit};
 use crate::scan::lexeme_len;
-use occ_base::{Items, Name};
+use occ_base::{Code, Items, Name};
 use std::alloc::{AllocError, Global};
 
-/// The token that a name is, if it is one.
+/// The token that a name is.
 #[tactic(auto, unfolding(crate::specs::Lexeme::name_token))]
-fn name_token(alloc: Global, name: &[u8]) -> Result<Option<Token>, AllocError>
+fn name_token(alloc: Global, name: &[u8]) -> Result<Token, AllocError>
     ensures { IfOk result (λ found. found ≡ the_name_token name.now) }
 {
     match reserved_row(name) {
-        None => Ok(Some(Token::Name(Name::from_slice(alloc, name)?))),
-        Some(None) => Ok(None),
-        Some(Some(word)) => Ok(Some(Token::Word(word))),
+        None => Ok(Token::Name(Name::from_slice(alloc, name)?)),
+        Some(word) => Ok(Token::Word(word)),
     }
 }
 
@@ -28,8 +31,20 @@ fn number_token(digits: &[u8]) -> Option<Token>
     requires { a_number digits.now ≡ true }
     ensures { result ≡ the_number_token digits.now }
 {
-    match value(digits) {
+    match value(10, digits) {
         Some(value) => Some(Token::Decimal(value)),
+        None => None,
+    }
+}
+
+/// The token that a `#` and hexadecimal digits are, if they are one.
+#[tactic(auto, unfolding(crate::specs::Lexeme::hexadecimal_token))]
+fn hexadecimal_token(bytes: &[u8]) -> Option<Token>
+    requires { a_hexadecimal bytes.now ≡ true }
+    ensures { result ≡ the_hexadecimal_token bytes.now }
+{
+    match value(16, behind_first(bytes)) {
+        Some(value) => Some(Token::Hexadecimal(value)),
         None => None,
     }
 }
@@ -40,8 +55,8 @@ fn symbol_token(bytes: &[u8]) -> Option<Token>
     ensures { result ≡ the_symbol_token bytes.now }
 {
     match symbol_row(bytes) {
-        Some(Some(symbol)) => Some(Token::Symbol(symbol)),
-        _ => None,
+        Some(symbol) => Some(Token::Symbol(symbol)),
+        None => None,
     }
 }
 
@@ -51,39 +66,98 @@ fn token_of(alloc: Global, bytes: &[u8]) -> Result<Option<Token>, AllocError>
     ensures { IfOk result (λ found. found ≡ the_token bytes.now) }
 {
     if is_name(bytes) {
-        name_token(alloc, bytes)
+        Ok(Some(name_token(alloc, bytes)?))
     } else if is_number(bytes) {
         Ok(number_token(bytes))
+    } else if is_hexadecimal(bytes) {
+        Ok(hexadecimal_token(bytes))
     } else {
         Ok(symbol_token(bytes))
     }
 }
 
-/// The first token of the text, and what follows it.
-pub fn first(alloc: Global, text: &[u8]) -> Result<Option<(Token, &[u8])>, AllocError>
-    ensures found { IfOk result (λ r. IfSome r (λ x. IsFirst text.now x.0 x.1.now)) }
-    ensures shorter { IfOk result (λ r. IfSome r (λ x. length x.1.now < length text.now)) }
-    ensures none { IfOk result (λ r. IfNone r ((token : AToken) (rest : List ℕ) → IsFirst text.now token rest → ⊥)) }
+/// The token that begins the text, and what follows it; or how the line ends there. No quote stands first.
+fn lexeme(alloc: Global, text: &[u8]) -> Result<Result<(Token, &[u8]), Ending>, AllocError>
+    requires no_character { (k : List ℕ) → text.now ≡ 39 ∷ k → ⊥ }
+    requires no_string { (k : List ℕ) → text.now ≡ 34 ∷ k → ⊥ }
+    ensures found { IfOk result (λ r. IfOk r (λ x. IsToken text.now x.0 x.1.now)) }
+    ensures shorter { IfOk result (λ r. IfOk r (λ x. length x.1.now < length text.now)) }
+    ensures stops { IfOk result (λ r. IfErr r (λ ending. Stops text.now ending)) }
 {
     let (bytes, rest) = text.split_at(lexeme_len(text));
     match token_of(alloc, bytes)? {
-        Some(token) => Ok(Some((token, rest))),
-        None => Ok(None),
+        Some(token) => Ok(Ok((token, rest))),
+        None => Ok(Err(Ending::Bad(Code::L1))),
     }
 }
 
-/// The tokens of the text, if it can be cut into tokens.
-pub fn tokens(alloc: Global, text: &[u8]) -> Result<Option<Items<Token>>, AllocError>
-    ensures { IfOk result (λ r. MatchOption r ((tokens : List AToken) → Lexes text.now tokens → ⊥) (λ found. Lexes text.now found)) }
+/// The character whose first quote is read, and what follows it.
+fn character<'a>(text: &[u8], body: &'a [u8]) -> Result<(Token, &'a [u8]), Ending>
+    requires { text.now ≡ 39 ∷ body.now }
+    ensures found { IfOk result (λ x. IsToken text.now x.0 x.1.now) }
+    ensures shorter { IfOk result (λ x. length x.1.now < length text.now) }
+    ensures stops { IfErr result (λ ending. Stops text.now ending) }
 {
-    let mut found = Items::new(alloc);
+    let Some((value, after)) = unit(b'\'', body) else {
+        return Err(Ending::Bad(Code::L1));
+    };
+    let Some(rest) = behind(after, b'\'') else {
+        return Err(Ending::Bad(Code::L1));
+    };
+    Ok((Token::Character(value), rest))
+}
+
+/// The string whose first quote is read, and what follows it; or how the line ends with it.
+fn string<'a>(
+    alloc: Global,
+    text: &[u8],
+    body: &'a [u8],
+) -> Result<Result<(Token, &'a [u8]), Ending>, AllocError>
+    requires { text.now ≡ 34 ∷ body.now }
+    ensures found { IfOk result (λ r. IfOk r (λ x. IsToken text.now x.0 x.1.now)) }
+    ensures shorter { IfOk result (λ r. IfOk r (λ x. length x.1.now < length text.now)) }
+    ensures stops { IfOk result (λ r. IfErr r (λ ending. Stops text.now ending)) }
+{
+    let (bytes, rest) = gather(Items::new(alloc), body)?;
+    match behind(rest, b'"') {
+        Some(after) => Ok(Ok((Token::String(bytes), after))),
+        None => Ok(Err(string_ending(bytes, rest))),
+    }
+}
+
+/// The first token of the text, and what follows it; or how the line ends where there is none.
+pub fn first(alloc: Global, text: &[u8]) -> Result<Result<(Token, &[u8]), Ending>, AllocError>
+    ensures found { IfOk result (λ r. IfOk r (λ x. IsToken text.now x.0 x.1.now)) }
+    ensures shorter { IfOk result (λ r. IfOk r (λ x. length x.1.now < length text.now)) }
+    ensures stops { IfOk result (λ r. IfErr r (λ ending. Stops text.now ending)) }
+{
+    if let Some(body) = behind(text, b'"') {
+        return string(alloc, text, body);
+    }
+    if let Some(body) = behind(text, b'\'') {
+        return Ok(character(text, body));
+    }
+    lexeme(alloc, text)
+}
+
+/// The tokens of a line, put behind those that are read already, and how it ends.
+pub fn read(
+    alloc: Global,
+    so_far: Items<Token>,
+    text: &[u8],
+) -> Result<(Items<Token>, Ending), AllocError>
+    ensures { IfOk result (λ x. IsRead so_far text.now x.0 x.1) }
+{
+    let mut found = so_far;
     let mut rest = after_blanks(text);
     'rest: while !is_end(rest) {
-        let Some((token, after)) = first(alloc, rest)? else {
-            return Ok(None);
-        };
-        found.push(token)?;
-        rest = after_blanks(after);
+        match first(alloc, rest)? {
+            Ok((token, after)) => {
+                found.push(token)?;
+                rest = after_blanks(after);
+            }
+            Err(ending) => return Ok((found, ending)),
+        }
     }
-    Ok(Some(found))
+    Ok((found, Ending::Whole))
 }

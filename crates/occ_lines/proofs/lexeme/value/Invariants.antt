@@ -5,6 +5,6 @@ use Rattle.occ_lines.proofs.lexeme.value.Given as goal
 
 abbrev pub invariant-loop-digit : goal.invariant-loop-digit
 invariant-loop-digit l = record {
-  so_far : l.value ≡ digits_value 10 (take l.digit-index l.digits);
+  so_far : l.value ≡ digits_value l.radix (take l.digit-index l.digits);
   held : l.value ≤ greatest;
 }

@@ -1,6 +1,6 @@
-use Rattle.std.proofs.Common.{◌∙◌, ap, arith, length, sym}
+use Rattle.std.proofs.Common.{◌∙◌, ap, arith, length}
 use Rattle.occ_lines.proofs.Sizes.{all_counted, lines_short}
-use Rattle.occ_lines.proofs.Spelled.{goes_begins, goes_over, goes_to_end}
+use Rattle.occ_lines.proofs.Spelled.{goes_begins, goes_over}
 use Rattle.occ_lines.proofs.reader.read.Goals as goal
 
 pub loop-line-init : goal.loop-line-init
@@ -12,14 +12,11 @@ loop-line-init c =
       short = rw all (lines_short _ c.requires.bytes);
     }
 
-pub loop-line-preserved-in_ok-push : goal.loop-line-preserved-in_ok-push
-loop-line-preserved-in_ok-push c =
+pub loop-line-preserved : goal.loop-line-preserved
+loop-line-preserved c =
     let steps = c.in-Some.ensures.steps in
     record {
-      goes = rw c.in_ok-push.ensures.ok (goes_over _ _ _ c.in-Some.line.now _ _ (sym c.is_skipped.ensures ∙ c.if-not-is_skipped.true) c.in_ok-logical_line.ensures (rw steps at c.loop-line.invariant.goes));
+      goes = goes_over _ _ _ _ c.in-Some.line.now _ _ _ c.in_ok-found.ensures (rw steps at c.loop-line.invariant.goes);
       counted = omega (arith, ap length steps);
       short = (rw steps at c.loop-line.invariant.short).1;
     }
-
-pub returns : goal.returns
-returns c = goes_to_end _ _ _ _ c.in-None.ensures.steps.0 c.loop-line.invariant.goes

@@ -6,7 +6,7 @@ use Rattle.occ_lines.proofs.reader.read.Given as goal
 
 abbrev pub invariant-loop-line : goal.invariant-loop-line
 invariant-loop-line l = record {
-  goes : Goes l.fn.text l.found l.number l.line-iterator;
+  goes : Goes l.fn.text l.found l.statement l.number l.line-iterator;
   counted : l.number + length l.line-iterator ≡ line_count l.fn.text;
   short : AreShort l.line-iterator;
 }

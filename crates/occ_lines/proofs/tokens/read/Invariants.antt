@@ -1,9 +1,9 @@
 use Rattle.std.proofs.Common.{length}
 use Rattle.occ_lines.proofs.Reading.{Kept}
-use Rattle.occ_lines.proofs.tokens.tokens.Given as goal
+use Rattle.occ_lines.proofs.tokens.read.Given as goal
 
 abbrev pub invariant-rest : goal.invariant-rest
-invariant-rest l = Kept l.text l.found l.rest
+invariant-rest l = Kept l.fn.so_far l.fn.text l.found l.rest
 
 abbrev pub decreases-rest : goal.decreases-rest
 decreases-rest l = length l.rest

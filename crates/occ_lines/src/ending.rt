@@ -1,0 +1,12 @@
+use occ_base::{Code, Items};
+
+/// How a line of the text ends, behind its last token.
+#[derive(Debug, Drop)]
+pub enum Ending {
+    /// With blanks and perhaps a comment.
+    Whole,
+    /// In a string that is broken, behind these bytes of it.
+    Broken(Items<u8>),
+    /// With a fault: `L1` or `L4`.
+    Bad(Code),
+}

@@ -1,0 +1,194 @@
+//! One line of the text after the other.
+ghost use Rattle.std.specs.Prelude.{◌≡◌, ◌≤◌, IfOk, List, length};
+ghost use Rattle.occ_lines.specs.Directive.{directive_body as the_directive_body};
+ghost use Rattle.occ_lines.specs.Lexeme.{after_blanks as behind_blanks};
+ghost use Rattle.occ_lines.specs.Lines.{BreaksOff, Continues, IsFresh, IsLine, IsWanted, Resumes, Settles, column as the_column, directive_lines as the_directive_lines, is_skipped as a_skipped, logical_of as the_logical_of};
+ghost use Rattle.occ_lines.specs.Scan.{Adds};
+ghost use Rattle.occ_lines.specs.declared.logical.Body.TheVariants as body;
+
+use super::{Body, Logical, Token};
+use crate::blanks::{after_blanks, column, is_end};
+use crate::directive::{Directive, directive_body, directive_of};
+use crate::lexeme::behind_first;
+use crate::statement::{
+    Reached, Statement, Wants, continues, logical_of, read_string, resumes, settled,
+};
+use crate::tokens;
+use occ_base::{Code, Items};
+use std::alloc::{AllocError, Global};
+
+/// The logical lines that are found, and the statement that is open behind them.
+type Found = (Items<Logical>, Option<Statement>);
+
+/// A statement that is read so far is put behind those that are found, or stays open.
+fn settle(found: Items<Logical>, reached: Reached) -> Result<Found, AllocError>
+    ensures { IfOk result (λ x. Adds found x.0 (λ ended. Settles reached ended x.1)) }
+{
+    let mut found = found;
+    match reached {
+        Reached::Open(statement) => Ok((found, Some(statement))),
+        Reached::Done(logical) => {
+            found.push(logical)?;
+            Ok((found, None))
+        }
+    }
+}
+
+/// The line as it goes on with a statement.
+fn continued(
+    alloc: Global,
+    found: Items<Logical>,
+    first: u32,
+    column: u32,
+    tokens: Items<Token>,
+    line: &[u8],
+) -> Result<Found, AllocError>
+    ensures { IfOk result (λ x. Adds found x.0 (λ ended. Continues first column tokens line.now ended x.1)) }
+{
+    let (tokens, ending) = tokens::read(alloc, tokens, line)?;
+    settle(found, settled(first, column, tokens, ending))
+}
+
+/// The line as it goes on with the string of a statement.
+fn resumed(
+    alloc: Global,
+    found: Items<Logical>,
+    first: u32,
+    column: u32,
+    tokens: Items<Token>,
+    bytes: Items<u8>,
+    line: &[u8],
+) -> Result<Found, AllocError>
+    ensures { IfOk result (λ x. Adds found x.0 (λ ended. Resumes first column tokens bytes line.now ended x.1)) }
+{
+    let (tokens, ending) = read_string(alloc, tokens, bytes, behind_first(after_blanks(line)))?;
+    settle(found, settled(first, column, tokens, ending))
+}
+
+/// The line of a directive.
+fn directed(
+    alloc: Global,
+    found: Items<Logical>,
+    number: u32,
+    directive: Directive,
+    line: &[u8],
+) -> Result<Items<Logical>, AllocError>
+    requires { length line.now ≤ 262144 }
+    ensures { IfOk result (λ all. Adds found all (λ ended. ended ≡ the_directive_lines number (the_column line.now) (the_directive_body directive (behind_blanks line.now)))) }
+{
+    let column = column(line);
+    let mut found = found;
+    match directive_body(alloc, directive, after_blanks(line))? {
+        Some(body) => found.push(logical_of(number, column, body))?,
+        None => {
+            if column % 2 == 1 {
+                found.push(logical_of(number, column, Body::Fault(Code::L2)))?;
+            }
+        }
+    }
+    Ok(found)
+}
+
+/// Whether the line is blanks, or blanks and a comment.
+fn is_skipped(line: &[u8]) -> bool
+    ensures { result ≡ a_skipped line.now }
+{
+    is_end(after_blanks(line))
+}
+
+/// The line where no statement is open.
+fn fresh(
+    alloc: Global,
+    found: Items<Logical>,
+    number: u32,
+    line: &[u8],
+) -> Result<Found, AllocError>
+    requires { length line.now ≤ 262144 }
+    ensures { IfOk result (λ x. Adds found x.0 (λ ended. IsFresh number line.now ended x.1)) }
+{
+    if is_skipped(line) {
+        return Ok((found, None));
+    }
+    match directive_of(after_blanks(line)) {
+        Some(directive) => Ok((directed(alloc, found, number, directive, line)?, None)),
+        None => continued(alloc, found, number, column(line), Items::new(alloc), line),
+    }
+}
+
+/// The line where a statement has ended without what it wants.
+fn broken_off(
+    alloc: Global,
+    found: Items<Logical>,
+    ended: Logical,
+    number: u32,
+    line: &[u8],
+) -> Result<Found, AllocError>
+    requires { length line.now ≤ 262144 }
+    ensures { IfOk result (λ x. Adds found x.0 (λ lines. BreaksOff ended number line.now lines x.1)) }
+{
+    let mut found = found;
+    found.push(ended)?;
+    fresh(alloc, found, number, line)
+}
+
+/// The line where a statement is open.
+fn wanted(
+    alloc: Global,
+    found: Items<Logical>,
+    statement: Statement,
+    number: u32,
+    line: &[u8],
+) -> Result<Found, AllocError>
+    requires { length line.now ≤ 262144 }
+    ensures { IfOk result (λ x. Adds found x.0 (λ ended. IsWanted statement.wants statement number line.now ended x.1)) }
+{
+    let Statement {
+        line: first,
+        column,
+        tokens,
+        wants,
+    } = statement;
+    match wants {
+        Wants::More => {
+            if is_skipped(line) {
+                let statement = Statement {
+                    line: first,
+                    column,
+                    tokens,
+                    wants: Wants::More,
+                };
+                Ok((found, Some(statement)))
+            } else if continues(column, line) {
+                continued(alloc, found, first, column, tokens, line)
+            } else {
+                let ended = logical_of(first, column, Body::Fault(Code::L3));
+                broken_off(alloc, found, ended, number, line)
+            }
+        }
+        Wants::Rest(bytes) => {
+            if resumes(column, line) {
+                resumed(alloc, found, first, column, tokens, bytes, line)
+            } else {
+                let ended = logical_of(first, column, Body::Fault(Code::L4));
+                broken_off(alloc, found, ended, number, line)
+            }
+        }
+    }
+}
+
+/// The line, where that statement is open, if there is one.
+pub fn read_line(
+    alloc: Global,
+    found: Items<Logical>,
+    statement: Option<Statement>,
+    number: u32,
+    line: &[u8],
+) -> Result<Found, AllocError>
+    requires { length line.now ≤ 262144 }
+    ensures { IfOk result (λ x. Adds found x.0 (λ ended. IsLine statement number line.now ended x.1)) }
+{
+    match statement {
+        Some(statement) => wanted(alloc, found, statement, number, line),
+        None => fresh(alloc, found, number, line),
+    }
+}

@@ -1,0 +1,192 @@
+//! A statement that is read line by line.
+ghost use Rattle.std.specs.Prelude.{◌≡◌, ◌≤◌, IfOk, List, length};
+ghost use Rattle.occ_lines.specs.Lines.{continues as it_continues, goes_on as it_goes_on, goes_on_symbol as symbol_goes_on, goes_on_token as token_goes_on, goes_on_word as word_goes_on, logical_of as the_logical_of, resumes as it_resumes, settled as the_settled};
+ghost use Rattle.occ_lines.specs.Scan.{IsStringRead};
+
+use super::{Body, Logical, Symbol, Token, Word};
+use crate::blanks::{after_blanks, column};
+use crate::directive::directive_of;
+use crate::ending::Ending;
+use crate::quoted::{behind, gather, string_ending};
+use crate::tokens;
+use occ_base::{Code, Items};
+use std::alloc::{AllocError, Global};
+
+/// What a statement wants of the lines that follow.
+#[derive(Debug, Drop)]
+pub enum Wants {
+    /// A further token.
+    More,
+    /// The rest of a string, of which these bytes are read.
+    Rest(Items<u8>),
+}
+
+/// A statement that is not at its end.
+#[derive(Debug, Drop)]
+pub struct Statement {
+    /// The line on which it begins.
+    pub line: u32,
+    /// The column in which it begins.
+    pub column: u32,
+    /// Its tokens so far.
+    pub tokens: Items<Token>,
+    pub wants: Wants,
+}
+
+/// How far a statement is read.
+#[derive(Debug, Drop)]
+pub enum Reached {
+    /// It goes on.
+    Open(Statement),
+    /// It is at its end.
+    Done(Logical),
+}
+
+/// Whether a statement goes on behind the word.
+fn goes_on_word(word: Word) -> bool
+    ensures { result ≡ word_goes_on word }
+{
+    matches!(
+        word,
+        Word::Rem
+            | Word::Plus
+            | Word::Minus
+            | Word::Times
+            | Word::BitAnd
+            | Word::BitOr
+            | Word::And
+            | Word::Or
+            | Word::After
+            | Word::BitNot
+            | Word::Not
+            | Word::Size
+            | Word::Is
+            | Word::From
+            | Word::For
+            | Word::Retypes
+            | Word::Reshapes
+    )
+}
+
+/// Whether a statement goes on behind the symbol.
+fn goes_on_symbol(symbol: Symbol) -> bool
+    ensures { result ≡ symbol_goes_on symbol }
+{
+    !matches!(
+        symbol,
+        Symbol::Counted
+            | Symbol::Open
+            | Symbol::Close
+            | Symbol::OpenIndex
+            | Symbol::CloseIndex
+            | Symbol::Colon
+            | Symbol::Input
+            | Symbol::Output
+    )
+}
+
+/// Whether a statement goes on behind the token.
+fn goes_on_token(token: &Token) -> bool
+    ensures { result ≡ token_goes_on token.now }
+{
+    match token {
+        Token::Word(word) => goes_on_word(*word),
+        Token::Symbol(symbol) => goes_on_symbol(*symbol),
+        Token::Name(_)
+        | Token::Decimal(_)
+        | Token::Hexadecimal(_)
+        | Token::Character(_)
+        | Token::String(_) => false,
+    }
+}
+
+/// Whether a statement goes on behind these tokens.
+fn goes_on(tokens: &[Token]) -> bool
+    ensures { result ≡ it_goes_on tokens.now }
+{
+    match tokens {
+        [.., last] => goes_on_token(last),
+        [] => false,
+    }
+}
+
+/// The logical line that begins on that line and in that column.
+pub fn logical_of(line: u32, column: u32, body: Body) -> Logical
+    ensures { result ≡ the_logical_of line column body }
+{
+    let body = if column % 2 == 1 {
+        Body::Fault(Code::L2)
+    } else {
+        body
+    };
+    Logical {
+        line,
+        depth: column / 2,
+        body,
+    }
+}
+
+/// How far a statement is read, where one of its lines ends so.
+pub fn settled(line: u32, column: u32, tokens: Items<Token>, ending: Ending) -> Reached
+    ensures { result ≡ the_settled line column tokens ending }
+{
+    match ending {
+        Ending::Whole => {
+            if goes_on(tokens.as_slice()) {
+                Reached::Open(Statement {
+                    line,
+                    column,
+                    tokens,
+                    wants: Wants::More,
+                })
+            } else {
+                Reached::Done(logical_of(line, column, Body::Tokens(tokens)))
+            }
+        }
+        Ending::Broken(bytes) => {
+            Reached::Open(Statement {
+                line,
+                column,
+                tokens,
+                wants: Wants::Rest(bytes),
+            })
+        }
+        Ending::Bad(fault) => Reached::Done(logical_of(line, column, Body::Fault(fault))),
+    }
+}
+
+/// Whether a statement that began in that column goes on with the line, which is not skipped.
+pub fn continues(first: u32, line: &[u8]) -> bool
+    requires { length line.now ≤ 262144 }
+    ensures { result ≡ it_continues first line.now }
+{
+    first <= column(line) && directive_of(after_blanks(line)).is_none()
+}
+
+/// Whether a string of a statement that began in that column goes on with the line.
+pub fn resumes(first: u32, line: &[u8]) -> bool
+    requires { length line.now ≤ 262144 }
+    ensures { result ≡ it_resumes first line.now }
+{
+    first <= column(line) && behind(after_blanks(line), b'*').is_some()
+}
+
+/// The tokens of a line that goes on with a string, put behind those that are read already, and how it ends.
+pub fn read_string(
+    alloc: Global,
+    so_far: Items<Token>,
+    bytes: Items<u8>,
+    text: &[u8],
+) -> Result<(Items<Token>, Ending), AllocError>
+    ensures { IfOk result (λ x. IsStringRead so_far bytes text.now x.0 x.1) }
+{
+    let mut found = so_far;
+    let (bytes, rest) = gather(bytes, text)?;
+    match behind(rest, b'"') {
+        Some(after) => {
+            found.push(Token::String(bytes))?;
+            tokens::read(alloc, found, after)
+        }
+        None => Ok((found, string_ending(bytes, rest))),
+    }
+}
