@@ -1,7 +1,7 @@
 -- The measure of each form of a type from the measures of its parts, and measures that are held.
-use Rattle.std.proofs.Common.{◌≡◌, ◌+◌, ℕ, min, max, List, [], ◌∷◌, map, Option, refl, ap, sym, ◌∙◌, arith}
-use Rattle.occ_types.specs.declared.types.Item.TheOpen.{Item-F, OccType-F, Protocol-F, Field-F, Tag-F}
-use Rattle.occ_types.specs.declared.types.Item.TheFolds.{fold-Item, fold-OccType, fold-Protocol, fold-Field, fold-Tag, fold-roll-Item, fold-roll-OccType, fold-roll-Protocol, fold-roll-Field, fold-roll-Tag}
+use Rattle.std.proofs.Common.{◌≡◌, ℕ, List, [], ◌∷◌, map, Option, refl, ap, sym, ◌∙◌, arith}
+use Rattle.occ_types.specs.declared.types.Item.TheOpen.{Item-F, OccType-F, Protocol-F}
+use Rattle.occ_types.specs.declared.types.Item.TheFolds.{fold-Item, fold-Field, fold-Tag, fold-roll-Item, fold-roll-OccType, fold-roll-Protocol, fold-roll-Field, fold-roll-Tag}
 use Rattle.occ_types.specs.declared.types.Item.TheViews.{roll-out-Field, roll-out-Tag}
 use Rattle.occ_types.specs.declared.types.OccType.{OccType}
 use Rattle.occ_types.specs.declared.types.OccType.TheVariants as t

@@ -1,14 +1,14 @@
 -- The bytes of each form of a type, and sums and products of sizes that are cut at a bound.
-use Rattle.std.proofs.Common.{◌≡◌, ◌≤◌, ◌<◌, ◌+◌, ◌*◌, ℕ, suc, zero, min, List, [], ◌∷◌, map, Option, Some, None, Bool, true, false, refl, ap, sym, ◌∙◌, arith, inl, inr}
+use Rattle.std.proofs.Common.{◌≡◌, ◌≤◌, ◌+◌, ◌*◌, ℕ, suc, zero, min, List, [], ◌∷◌, map, Option, Some, None, refl, ap, sym, ◌∙◌, arith, inl, inr}
 use Rattle.std.proofs.lemmas.Bool.{cases_lt}
-use Rattle.occ_types.specs.declared.types.Item.TheOpen.{Item-F, OccType-F, Protocol-F, Field-F, Tag-F}
-use Rattle.occ_types.specs.declared.types.Item.TheFolds.{fold-OccType, fold-Field, fold-roll-OccType, fold-roll-Field}
+use Rattle.occ_types.specs.declared.types.Item.TheOpen.{OccType-F}
+use Rattle.occ_types.specs.declared.types.Item.TheFolds.{fold-Field, fold-roll-OccType, fold-roll-Field}
 use Rattle.occ_types.specs.declared.types.OccType.{OccType}
 use Rattle.occ_types.specs.declared.types.OccType.TheVariants as t
 use Rattle.occ_types.specs.declared.types.Packing.{Packing}
 use Rattle.occ_types.specs.declared.types.Protocol.{Protocol}
-use Rattle.occ_types.specs.declared.types.Field.{Field, out-Field, roll-Field}
-use Rattle.occ_types.specs.declared.types.Item.TheViews.{roll-out-Field, out-roll-Field}
+use Rattle.occ_types.specs.declared.types.Field.{Field, out-Field}
+use Rattle.occ_types.specs.declared.types.Item.TheViews.{roll-out-Field}
 use Rattle.occ_types.specs.declared.value.Primitive.{Primitive}
 use Rattle.occ_types.specs.Size.{type_step, field_step, size_of, field_size, field_sizes, primitive_size, product_of, total_of, sum_of, cut, capped}
 

@@ -1,7 +1,7 @@
 -- How deep a type is when each name in it is written out, and how many types it then has. A primitive type, TIMER,
 -- ANY, a dimension, CHAN, RECORD and the name of a type or a protocol are each one type, and one level above what
 -- they hold. `T::[]U` has T, a dimension and U.
-use Rattle.std.specs.Prelude.{ℕ, ◌+◌, min, max, List, [], ◌∷◌}
+use Rattle.std.specs.Prelude.{◌+◌, min, max, List, [], ◌∷◌}
 use Rattle.occ_types.specs.declared.types.Item.TheOpen.{Item-F, OccType-F, Protocol-F, Field-F, Tag-F}
 use Rattle.occ_types.specs.declared.types.Item.TheFolds.{fold-Item, fold-OccType, fold-Protocol}
 use Rattle.occ_types.specs.declared.types.OccType.{OccType}

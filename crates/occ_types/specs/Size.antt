@@ -1,6 +1,6 @@
 -- The bytes of a type.
-use Rattle.std.specs.Prelude.{ℕ, ◌+◌, ◌*◌, min, nat_le, cond, Option, Some, None, List, [], ◌∷◌, map}
-use Rattle.occ_types.specs.declared.types.Item.TheOpen.{Item-F, OccType-F, Protocol-F, Field-F, Tag-F}
+use Rattle.std.specs.Prelude.{ℕ, ◌+◌, ◌*◌, min, nat_le, cond, Option, Some, None, List, [], ◌∷◌}
+use Rattle.occ_types.specs.declared.types.Item.TheOpen.{OccType-F, Field-F}
 use Rattle.occ_types.specs.declared.types.Item.TheFolds.{fold-OccType}
 use Rattle.occ_types.specs.declared.types.OccType.{OccType}
 use Rattle.occ_types.specs.declared.types.Field.{Field}
