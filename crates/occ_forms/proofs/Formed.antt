@@ -1,6 +1,6 @@
 -- A loop that gives each line its form: what it has made so far, and that nothing else can stand there.
 use Rattle.std.proofs.Common.{◌≡◌, List, [], ◌∷◌, ◌++◌, refl, sym, ◌∙◌, ap, subst, append_assoc, append-nil}
-use Rattle.occ_lines.specs.declared.logical.Logical.{Logical}
+use Rattle.occ_lines.specs.declared.text.Logical.{Logical}
 use Rattle.occ_forms.specs.declared.source.SourceLine.{SourceLine}
 use Rattle.occ_forms.specs.Prepared.{AreFormed, IsFormedLine}
 

@@ -1,9 +1,9 @@
 -- A text with its lines, each with its form or its one fault.
 use Rattle.std.specs.Prelude.{◌≡◌, ℕ, List, [], ◌∷◌}
 use Rattle.occ_base.specs.declared.code.Code.TheVariants as code
-use Rattle.occ_lines.specs.declared.logical.Body.{Body}
-use Rattle.occ_lines.specs.declared.logical.Body.TheVariants as body
-use Rattle.occ_lines.specs.declared.logical.Logical.{Logical}
+use Rattle.occ_lines.specs.declared.text.Body.{Body}
+use Rattle.occ_lines.specs.declared.text.Body.TheVariants as body
+use Rattle.occ_lines.specs.declared.text.Logical.{Logical}
 use Rattle.occ_lines.specs.Lines.{IsLines}
 use Rattle.occ_forms.specs.declared.source.LineBody.{LineBody}
 use Rattle.occ_forms.specs.declared.source.LineBody.TheVariants as held

@@ -2,13 +2,13 @@ ghost use Rattle.occ_forms.specs.Prepared.{AreFormed, IsFormed, IsPrepared};
 ghost use Rattle.occ_forms.specs.declared.source.LineBody.{LineBody as ALineBody};
 ghost use Rattle.occ_forms.specs.declared.source.SourceLine.{SourceLine as ASourceLine};
 ghost use Rattle.occ_lines.specs.Lines.{IsLines, line_count};
-ghost use Rattle.occ_lines.specs.declared.logical.Logical.{Logical as ALogical};
+ghost use Rattle.occ_lines.specs.declared.text.Logical.{Logical as ALogical};
 ghost use Rattle.std.specs.Prelude.{IfOk, IsErrOf, List, length, ◌↔◌, ◌≡◌, ◌≤◌, ◌<◌};
 
 use super::line::line;
 use super::{LineBody, Source, SourceLine};
 use occ_base::{Code, Items};
-use occ_lines::{Body, Logical, TextFault, logical_lines};
+use occ_lines::{Body, Logical, TextFault, logical};
 use std::alloc::{AllocError, Global};
 
 /// What a line holds: the form of its tokens, or its fault.
@@ -67,6 +67,6 @@ pub fn prepare(alloc: Global, text: &[u8]) -> Result<Source, TextFault>
     ensures large { IsErrOf result TextFault.TooLarge ↔ (262144 < length text.now) }
     ensures many { IsErrOf result TextFault.TooManyLines ↔ ((length text.now ≤ 262144) × (16384 < line_count text.now)) }
 {
-    let logicals = logical_lines(alloc, text)?;
+    let logicals = logical(alloc, text)?;
     Ok(source(alloc, text, logicals.as_slice())?)
 }

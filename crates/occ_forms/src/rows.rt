@@ -6,7 +6,7 @@ ghost use Rattle.occ_forms.specs.declared.tree.Expr.TheVariants as e;
 ghost use Rattle.occ_forms.specs.declared.tree.Form.TheVariants as f;
 ghost use Rattle.occ_forms.specs.declared.tree.Operand.TheVariants as o;
 ghost use Rattle.occ_forms.specs.declared.source.LineBody.TheVariants as held;
-ghost use Rattle.occ_lines.specs.declared.logical.Body.TheVariants as body;
+ghost use Rattle.occ_lines.specs.declared.text.Body.TheVariants as body;
 ghost use Rattle.occ_lines.specs.declared.token.Symbol.TheVariants as s;
 ghost use Rattle.occ_lines.specs.declared.token.Token.TheVariants as t;
 ghost use Rattle.occ_lines.specs.declared.token.Word.TheVariants as w;

@@ -5,7 +5,7 @@ use Rattle.std.proofs.lemmas.List.{append-nil}
 use Rattle.bstr.specs.Text.{lines_of, without_terminator}
 use Rattle.occ_lines.specs.declared.directive.Directive.{Directive}
 use Rattle.occ_lines.specs.declared.ending.Ending.{Ending}
-use Rattle.occ_lines.specs.declared.logical.Logical.{Logical}
+use Rattle.occ_lines.specs.declared.text.Logical.{Logical}
 use Rattle.occ_lines.specs.declared.statement.Reached.{Reached}
 use Rattle.occ_lines.specs.declared.statement.Reached.TheVariants as reached
 use Rattle.occ_lines.specs.declared.statement.Statement.{Statement}

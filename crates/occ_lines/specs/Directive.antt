@@ -7,8 +7,8 @@ use Rattle.occ_base.specs.FileName.{name_fault}
 use Rattle.occ_lines.specs.Lexeme.{after_blanks, found_in, is_end, is_name_byte}
 use Rattle.occ_lines.specs.declared.directive.Directive.{Directive}
 use Rattle.occ_lines.specs.declared.directive.Directive.TheVariants as d
-use Rattle.occ_lines.specs.declared.logical.Body.{Body}
-use Rattle.occ_lines.specs.declared.logical.Body.TheVariants as body
+use Rattle.occ_lines.specs.declared.text.Body.{Body}
+use Rattle.occ_lines.specs.declared.text.Body.TheVariants as body
 
 -- the words of directives
 abbrev pub directives : List (List ℕ × Directive)

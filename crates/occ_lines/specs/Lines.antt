@@ -8,11 +8,11 @@ use Rattle.occ_base.specs.declared.code.Code.TheVariants as code
 use Rattle.occ_lines.specs.declared.directive.Directive.{Directive}
 use Rattle.occ_lines.specs.declared.ending.Ending.{Ending}
 use Rattle.occ_lines.specs.declared.ending.Ending.TheVariants as ending
-use Rattle.occ_lines.specs.declared.logical.Body.{Body}
-use Rattle.occ_lines.specs.declared.logical.Body.TheVariants as body
-use Rattle.occ_lines.specs.declared.logical.Logical.{Logical}
-use Rattle.occ_lines.specs.declared.logical.TextFault.{TextFault}
-use Rattle.occ_lines.specs.declared.logical.TextFault.TheVariants as fault
+use Rattle.occ_lines.specs.declared.text.Body.{Body}
+use Rattle.occ_lines.specs.declared.text.Body.TheVariants as body
+use Rattle.occ_lines.specs.declared.text.Logical.{Logical}
+use Rattle.occ_lines.specs.declared.text.TextFault.{TextFault}
+use Rattle.occ_lines.specs.declared.text.TextFault.TheVariants as fault
 use Rattle.occ_lines.specs.declared.statement.Reached.{Reached}
 use Rattle.occ_lines.specs.declared.statement.Reached.TheVariants as reached
 use Rattle.occ_lines.specs.declared.statement.Statement.{Statement}

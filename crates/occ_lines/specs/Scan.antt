@@ -3,7 +3,7 @@ use Rattle.std.specs.Prelude.{◌≡◌, ◌≤◌, ◌<◌, ℕ, Bool, true, Li
 use Rattle.occ_lines.specs.Lexeme.{Lexes}
 use Rattle.occ_lines.specs.Quoted.{IsQuoted}
 use Rattle.occ_lines.specs.declared.ending.Ending.{Ending}
-use Rattle.occ_lines.specs.declared.logical.Logical.{Logical}
+use Rattle.occ_lines.specs.declared.text.Logical.{Logical}
 use Rattle.occ_lines.specs.declared.token.Token.{Token}
 use Rattle.occ_lines.specs.Lines.{LexesString}
 

@@ -1,5 +1,5 @@
 //! The logical lines of a text: each statement with its line, its depth and its tokens, or its one fault.
-//! `specs/Lines.antt` says what a text spells; `logical_lines` reads it.
+//! `specs/Lines.antt` says what a text spells; `logical` reads it.
 #![tactic(auto)]
 
 mod blanks;
@@ -7,7 +7,6 @@ mod directive;
 mod ending;
 mod lexeme;
 mod line;
-mod logical;
 mod quoted;
 mod reader;
 mod rows;
@@ -15,13 +14,14 @@ mod scan;
 mod statement;
 #[cfg(test)]
 mod tests;
+mod text;
 mod token;
 mod tokens;
 
-pub use logical::{Body, Logical, TextFault};
-pub use reader::{logical_lines, text_fault};
+pub use reader::{logical, text_fault};
 pub use rows::{
     class_rows, directive_rows, first_rows, goes_on_rows, line_rows, name_rows, number_rows,
     quoted_rows, symbol_rows, symbol_token_rows,
 };
+pub use text::{Body, Logical, TextFault};
 pub use token::{Symbol, Token, Word};

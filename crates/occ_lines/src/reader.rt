@@ -1,7 +1,7 @@
 //! The logical lines of a text.
 ghost use Rattle.std.specs.Prelude.{◌≡◌, ◌++◌, ◌≤◌, ◌<◌, ◌↔◌, List, IsTrue, IsErrOf, IfOk, length};
 ghost use Rattle.occ_lines.specs.Lines.{IsLines, limit_fault, line_count, unfinished as the_unfinished};
-ghost use Rattle.occ_lines.specs.declared.logical.Logical.{Logical as ALogical};
+ghost use Rattle.occ_lines.specs.declared.text.Logical.{Logical as ALogical};
 
 use super::{Body, Logical, TextFault};
 use crate::line::read_line;
@@ -78,7 +78,7 @@ fn read(alloc: Global, text: &[u8]) -> Result<Items<Logical>, AllocError>
 }
 
 /// The logical lines of a text: its lines in order, without those that hold nothing but blanks and comments.
-pub fn logical_lines(alloc: Global, text: &[u8]) -> Result<Items<Logical>, TextFault>
+pub fn logical(alloc: Global, text: &[u8]) -> Result<Items<Logical>, TextFault>
     // What is answered is what the text spells.
     ensures found { IfOk result (λ lines. IsLines text.now lines) }
     // The text spells no other.

@@ -7,7 +7,7 @@ ghost use Rattle.occ_lines.specs.Directive.{directive_body, directive_of};
 ghost use Rattle.occ_lines.specs.declared.directive.Directive.TheVariants as d;
 ghost use Rattle.occ_lines.specs.declared.ending.Ending.TheVariants as ending;
 ghost use Rattle.occ_lines.specs.Lines.{column, continues, goes_on, is_skipped, logical_of, resumes};
-ghost use Rattle.occ_lines.specs.declared.logical.Body.TheVariants as body;
+ghost use Rattle.occ_lines.specs.declared.text.Body.TheVariants as body;
 ghost use Rattle.occ_lines.specs.declared.token.Symbol.TheVariants as s;
 ghost use Rattle.occ_lines.specs.declared.token.Token.{Token as AToken};
 ghost use Rattle.occ_lines.specs.declared.token.Token.TheVariants as t;

@@ -1,4 +1,4 @@
-use crate::{Body, TextFault, Token, logical_lines};
+use crate::{Body, TextFault, Token, logical};
 use occ_base::FileName;
 use std::alloc::Global;
 use std::fmt::Write;
@@ -7,7 +7,7 @@ use std::test::Fail;
 /// The logical lines, each as `LINE DEPTH` and then its tokens, or its fault.
 fn shown(alloc: Global, text: &[u8]) -> Result<String, Fail> {
     let mut out = String::new(alloc);
-    let lines = logical_lines(alloc, text)?;
+    let lines = logical(alloc, text)?;
     for logical in lines.as_slice() {
         write!(out, "{} {}", logical.line, logical.depth)?;
         match &logical.body {
@@ -174,7 +174,7 @@ fn statements_of_more_lines(rt: HostRuntime) -> Result<(), Fail> {
 fn every_single_byte(rt: HostRuntime) -> Result<(), Fail> {
     for b in 0..=255 {
         let text = [b];
-        assert!(rt; logical_lines(rt.alloc(), &text).is_ok());
+        assert!(rt; logical(rt.alloc(), &text).is_ok());
     }
     Ok(())
 }
@@ -186,10 +186,10 @@ fn size_of_a_text(rt: HostRuntime) -> Result<(), Fail> {
     for _ in 2..262_144 {
         text.push(b'x')?;
     }
-    let within = logical_lines(rt.alloc(), text.as_slice())?;
+    let within = logical(rt.alloc(), text.as_slice())?;
     assert_eq!(rt; within.len(), 0);
     text.push(b'\n')?;
-    let over = logical_lines(rt.alloc(), text.as_slice());
+    let over = logical(rt.alloc(), text.as_slice());
     assert!(rt; matches!(over, Err(TextFault::TooLarge)));
     Ok(())
 }
@@ -200,10 +200,10 @@ fn lines_of_a_text(rt: HostRuntime) -> Result<(), Fail> {
     for _ in 0..16_384 {
         text.extend_from_slice(b"x\n")?;
     }
-    let within = logical_lines(rt.alloc(), text.as_slice())?;
+    let within = logical(rt.alloc(), text.as_slice())?;
     assert_eq!(rt; within.len(), 16_384);
     text.push(b' ')?;
-    let over = logical_lines(rt.alloc(), text.as_slice());
+    let over = logical(rt.alloc(), text.as_slice());
     assert!(rt; matches!(over, Err(TextFault::TooManyLines)));
     Ok(())
 }
@@ -214,7 +214,7 @@ fn both_limits(rt: HostRuntime) -> Result<(), Fail> {
     for _ in 0..262_145 {
         text.push(b'\n')?;
     }
-    let over = logical_lines(rt.alloc(), text.as_slice());
+    let over = logical(rt.alloc(), text.as_slice());
     assert!(rt; matches!(over, Err(TextFault::TooLarge)));
     Ok(())
 }

@@ -12,8 +12,8 @@ use Rattle.occ_base.specs.declared.diag.Diag.{Diag}
 use Rattle.occ_base.specs.declared.file_name.NameFault.{NameFault}
 use Rattle.occ_base.specs.declared.file_name.NameFault.TheVariants as name
 use Rattle.occ_lines.specs.Lines.{limit_fault}
-use Rattle.occ_lines.specs.declared.logical.TextFault.{TextFault}
-use Rattle.occ_lines.specs.declared.logical.TextFault.TheVariants as text
+use Rattle.occ_lines.specs.declared.text.TextFault.{TextFault}
+use Rattle.occ_lines.specs.declared.text.TextFault.TheVariants as text
 use Rattle.occ_forms.specs.Prepared.{IsPrepared}
 use Rattle.occ_forms.specs.declared.source.SourceLine.{SourceLine}
 use Rattle.occ_first.specs.Diagnostics.{diagnostics_of}

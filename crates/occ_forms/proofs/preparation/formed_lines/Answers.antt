@@ -1,6 +1,6 @@
 use Rattle.std.proofs.Common.{◌≡◌, ◌+◌, ◌<◌, ℕ, suc, refl, List, ◌∷◌, arith, add-one, drop, drop-cons, length, get_or, sym, ◌∙◌, ap}
 use Rattle.std.proofs.lemmas.List.{drop_all}
-use Rattle.occ_lines.specs.declared.logical.Logical.{Logical}
+use Rattle.occ_lines.specs.declared.text.Logical.{Logical}
 use Rattle.occ_forms.specs.declared.source.LineBody.{LineBody}
 use Rattle.occ_forms.specs.declared.source.SourceLine.{SourceLine}
 use Rattle.occ_forms.specs.Prepared.{IsFormed, IsFormedLine}

@@ -1,5 +1,5 @@
 ghost use Rattle.std.specs.Prelude.{◌≡◌};
-ghost use Rattle.occ_lines.specs.declared.logical.TextFault.TheVariants.{Memory};
+ghost use Rattle.occ_lines.specs.declared.text.TextFault.TheVariants.{Memory};
 
 use super::Token;
 use occ_base::{Code, FileName, Items};
