@@ -6,8 +6,9 @@ ghost use Rattle.occ_lines.specs.Quoted.{unit};
 ghost use Rattle.occ_lines.specs.Directive.{directive_body, directive_of};
 ghost use Rattle.occ_lines.specs.declared.directive.Directive.TheVariants as d;
 ghost use Rattle.occ_lines.specs.declared.ending.Ending.TheVariants as ending;
-ghost use Rattle.occ_lines.specs.Lines.{column, continues, goes_on, is_skipped, logical_of, resumes};
+ghost use Rattle.occ_lines.specs.Lines.{IsLines, column, continues, goes_on, is_skipped, logical_of, resumes};
 ghost use Rattle.occ_lines.specs.declared.text.Body.TheVariants as body;
+ghost use Rattle.occ_lines.specs.declared.text.Logical.{Logical as ALogical};
 ghost use Rattle.occ_lines.specs.declared.token.Symbol.TheVariants as s;
 ghost use Rattle.occ_lines.specs.declared.token.Token.{Token as AToken};
 ghost use Rattle.occ_lines.specs.declared.token.Token.TheVariants as t;
@@ -148,4 +149,10 @@ pub fn goes_on_rows()
     ensures output { goes_on (t.Symbol s.Output ∷ []) ≡ false }
     ensures counted { goes_on (t.Symbol s.Counted ∷ []) ≡ false }
     ensures of { goes_on (t.Word w.Of ∷ []) ≡ false }
+{}
+
+/// The law of the lines: a text spells one list of logical lines at most.
+#[tactic(auto, using(crate::proofs::Spelled::one_lines))]
+pub fn lines_law()
+    ensures one { (text : List ℕ) (xs : List ALogical) (ys : List ALogical) → IsLines text xs → IsLines text ys → xs ≡ ys }
 {}
