@@ -134,8 +134,8 @@ fn reads_no_form(rt: HostRuntime) -> Result<(), Fail> {
 /// The fault of the line, where it has one.
 fn fault(line: &SourceLine) -> Option<Code> {
     match line.body {
-        LineBody::Form(_) => None,
         LineBody::Fault(fault) => Some(fault),
+        _ => None,
     }
 }
 
