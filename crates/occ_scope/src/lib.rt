@@ -2,7 +2,5 @@
 #![tactic(auto)]
 
 mod scopes;
-#[cfg(test)]
-mod tests;
 
 pub use scopes::{Scopes, SpecId};
