@@ -2,5 +2,7 @@
 #![tactic(auto)]
 
 mod scopes;
+#[cfg(test)]
+mod tests;
 
 pub use scopes::{Scopes, SpecId};
