@@ -18,13 +18,13 @@ use thiserror::Error;
 #[derive(Clone, Copy, Debug, PartialEq, Eq, Error)]
 pub enum NameFault {
     /// There is no byte, or there are more than 64.
-    #[error("Length")]
+    #[error("a file name has 1 to 64 bytes")]
     Length,
     /// A byte that is no letter, digit, `.`, `_` or `-`.
-    #[error("Byte")]
+    #[error("a file name has letters, digits, `.`, `_` and `-` alone")]
     Byte,
     /// The end is neither `.occ` nor `.inc`.
-    #[error("Suffix")]
+    #[error("a file name ends in .occ or .inc")]
     Suffix,
 }
 
@@ -129,9 +129,8 @@ fn held(bytes: &[u8]) -> FileName
     ensures { result ≡ bytes.now }
 {
     let mut all = [0; 64];
-    for (i, byte) in bytes.iter().enumerate() {
-        all[i] = *byte;
-    }
+    let (front, _) = all.split_at_mut(bytes.len());
+    front.copy_from_slice(bytes);
     FileName {
         bytes: all,
         len: bytes.len() as u8,

@@ -1,5 +1,5 @@
-use Rattle.occ_base.proofs.Filled.{one_more}
+use Rattle.occ_base.proofs.Filled.{filled}
 use Rattle.occ_base.proofs.file_name.held.Goals as goal
 
-pub loop-i-preserved : goal.loop-i-preserved
-loop-i-preserved c = one_more _ _ _ c.loop-i-test.true c.requires.short c.loop-i.invariant
+pub invariant_of-result : goal.invariant_of-result
+invariant_of-result c = filled _ _ _ c.copy_from_slice.ensures.after c.split_at_mut-front.ensures.back c.requires.short c.requires.named
