@@ -1,6 +1,6 @@
 -- What is left to write of bytes that are known.
 use Rattle.std.proofs.Common.{◌≡◌, ℕ, List, [], ◌++◌, Option, Some, refl, ap, sym, ◌∙◌, append_assoc, append-nil, take, subst, length, ◌∷◌, arith}
-use Rattle.occ_script.specs.Devices.{Appends, AppendsFront, Stays}
+use Rattle.occ_script.specs.Devices.{Appends, AppendsFront}
 
 -- a front of all was written after what there was before, and this is left
 unfoldable pub Left : Option (List ℕ) → Option (List ℕ) → List ℕ → List ℕ → Type 0
@@ -27,9 +27,9 @@ unfolding Left
 left_front before now rest all h w e = let f = h w e in (f.0, rest, f.1, f.2)
 
 -- a refused write leaves what was written
-pub same_front : (before now next : Option (List ℕ)) (rest all : List ℕ) → Stays now next → Left before now rest all → AppendsFront before next all
+pub same_front : (before now next : Option (List ℕ)) (rest all : List ℕ) → Appends now next [] → Left before now rest all → AppendsFront before next all
 unfolding Left
-same_front before now next rest all s h w e = let f = h w e in (f.0, rest, f.1, s (w ++ f.0) f.2)
+same_front before now next rest all s h w e = let f = h w e in (f.0, rest, f.1, s (w ++ f.0) f.2 ∙ ap Some (append-nil (w ++ f.0)))
 
 -- a write that takes none leaves all to write
 pub stuck : (before now next : Option (List ℕ)) (rest all : List ℕ) (n : ℕ) → n ≡ 0 → Appends now next (take n rest) → Left before now rest all → AppendsFront before next all

@@ -9,10 +9,6 @@ Appends old new more = (w : List ℕ) → old ≡ Some w → new ≡ Some (w ++ 
 abbrev pub AppendsFront : Option (List ℕ) → Option (List ℕ) → List ℕ → Type 0
 AppendsFront old new all = (w : List ℕ) → old ≡ Some w → (front : List ℕ) × (rest : List ℕ) × (all ≡ front ++ rest) × (new ≡ Some (w ++ front))
 
--- where the bytes are known, they stay
-abbrev pub Stays : Option (List ℕ) → Option (List ℕ) → Type 0
-Stays old new = (w : List ℕ) → old ≡ Some w → new ≡ Some w
-
 -- where the bytes left to read are known, these were the first of them, and the others are left
 abbrev pub Gives : Option (List ℕ) → Option (List ℕ) → List ℕ → Type 0
 Gives old new got = (bytes : List ℕ) → old ≡ Some bytes → (rest : List ℕ) × (bytes ≡ got ++ rest) × (new ≡ Some rest)

@@ -56,19 +56,3 @@ IsFaultTold line before now status.Errors = ⊥
 IsFaultTold line before now status.ScriptFault = Appends before now (fault_text (Some line))
 IsFaultTold line before now status.DeviceFault = AppendsFront before now (fault_text (Some line))
 IsFaultTold line before now status.NoMemory = now ≡ before
-
--- the status tells a device fault exactly where one of the devices failed
-abbrev pub TellsDevices : Status → Bool → Bool → Type 0
-TellsDevices status.Clean reader writer = (reader ≡ false) × (writer ≡ false)
-TellsDevices status.Errors reader writer = (reader ≡ false) × (writer ≡ false)
-TellsDevices status.ScriptFault reader writer = (reader ≡ false) × (writer ≡ false)
-TellsDevices status.DeviceFault reader writer = (reader ≡ true) ⊎ (writer ≡ true)
-TellsDevices status.NoMemory reader writer = (reader ≡ false) × (writer ≡ false)
-
--- the same of the writer alone
-abbrev pub TellsDevice : Status → Bool → Type 0
-TellsDevice status.Clean failed = failed ≡ false
-TellsDevice status.Errors failed = failed ≡ false
-TellsDevice status.ScriptFault failed = failed ≡ false
-TellsDevice status.DeviceFault failed = failed ≡ true
-TellsDevice status.NoMemory failed = failed ≡ false

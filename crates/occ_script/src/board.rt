@@ -116,7 +116,8 @@ impl Board {
         }
     }
 
-    /// The file's name, if it may be opened with the text.
+    /// The file's name, if it may be opened with the text. This takes no memory: each refusal comes before a want
+    /// of it, though `prepare` looks at the limits of the text once more.
     fn judge(&self, name: &[u8], text: &[u8]) -> Result<FileName, Refusal>
         ensures refused { judged result ≡ refusal self.now name.now text.now }
         ensures named { IfOk result (λ file. file ≡ name.now) }

@@ -1,5 +1,5 @@
 ghost use Rattle.std.specs.Prelude.{◌≡◌, ◌≤◌, ◌<◌, ◌&&◌, ◌||◌, ◌==◌, ℕ, Bool, false, true, List, [], IfOk, OnErr, OnOk, Option, Some, length, nat_lt, take};
-ghost use Rattle.occ_script.specs.Devices.{Appends, Gives, Stays, counted};
+ghost use Rattle.occ_script.specs.Devices.{Appends, Gives, counted};
 
 use std::io::{Read, Write};
 
@@ -45,7 +45,7 @@ pub trait ByteOut {
     fn write(&mut self, buffer: &[u8]) -> Result<usize, Failed>
         ensures count { IfOk result (λ n. n ≤ length buffer.now) }
         ensures bytes { IfOk result (λ n. Appends (written self.old) (written self.new) (take n buffer.now)) }
-        ensures none_written { OnErr result (Stays (written self.old) (written self.new)) }
+        ensures none_written { OnErr result (Appends (written self.old) (written self.new) []) }
         ensures failing { OnErr result (has_failed self.new ≡ true) }
         ensures stuck { IfOk result (λ n. has_failed self.new ≡ (has_failed self.old || (n == 0 && nat_lt 0 (length buffer.now)))) };
 

@@ -1,9 +1,10 @@
-ghost use Rattle.std.specs.Prelude.{◌≡◌, ◌≤◌, ◌+◌, ◌⊎◌, IfOk, List, Some, cond, false, length, true, ℕ};
+ghost use Rattle.std.specs.Prelude.{◌≡◌, ◌≤◌, ◌+◌, ◌||◌, ◌⊎◌, IfOk, List, Some, cond, false, length, true, ℕ};
 ghost use Rattle.occ_script.specs.Ended.{IsEnded};
 ghost use Rattle.occ_script.specs.Lines.{cut_lines, script_limit};
 ghost use Rattle.occ_script.specs.Machine.{IsReading, Reading};
-ghost use Rattle.occ_script.specs.Output.{IsFaultTold, IsTold, TellsDevice, TellsDevices, fault_text};
+ghost use Rattle.occ_script.specs.Output.{IsFaultTold, IsTold, fault_text};
 ghost use Rattle.occ_script.specs.Script.{script_from, script_of};
+ghost use Rattle.occ_script.specs.Status.{is_device_fault};
 ghost use Rattle.occ_script.specs.declared.status.Status.TheVariants as status;
 
 use super::answer::line_naming;
@@ -24,7 +25,7 @@ pub fn run_script<R: ByteIn, W: ByteOut>(alloc: Global, reader: &mut R, writer: 
     ensures told { (bytes : List ℕ) → R.unread reader.old ≡ Some bytes → (read : Reading) → IsReading read (script_of bytes).commands → IsTold read (script_of bytes) (W.written writer.old) (W.written writer.new) result }
 
     // A device fault is told exactly where a device failed.
-    ensures devices { TellsDevices result (R.has_failed reader.new) (W.has_failed writer.new) }
+    ensures devices { is_device_fault result ≡ (R.has_failed reader.new || W.has_failed writer.new) }
     ensures unread { R.has_failed reader.new ≡ true → W.written writer.new ≡ W.written writer.old }
     ensures taken { R.taken reader.new ≤ R.taken reader.old + (script_limit + 1) }
 {
@@ -41,7 +42,7 @@ fn run<W: ByteOut>(alloc: Global, bytes: &[u8], over: bool, writer: &mut W) -> S
     requires short { length bytes.now ≤ script_limit + 1 }
     requires writer { W.has_failed writer.old ≡ false }
     ensures told { (read : Reading) → IsReading read (script_from over 1 (cut_lines bytes.now)).commands → IsTold read (script_from over 1 (cut_lines bytes.now)) (W.written writer.old) (W.written writer.new) result }
-    ensures device { TellsDevice result (W.has_failed writer.new) }
+    ensures device { is_device_fault result ≡ W.has_failed writer.new }
 {
     let mut board = Board::new();
     let mut rest = Rest {
@@ -83,7 +84,7 @@ fn end_status(errors: bool) -> Status
 fn tell_fault<W: ByteOut>(alloc: Global, line: usize, writer: &mut W) -> Status
     requires { W.has_failed writer.old ≡ false }
     ensures told { IsFaultTold line (W.written writer.old) (W.written writer.new) result }
-    ensures device { TellsDevice result (W.has_failed writer.new) }
+    ensures device { is_device_fault result ≡ W.has_failed writer.new }
 {
     let Ok(text) = fault_line(alloc, line) else {
         return Status::NoMemory;
