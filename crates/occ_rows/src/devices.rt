@@ -1,7 +1,10 @@
-ghost use Rattle.std.specs.Prelude.{◌≡◌, ◌≤◌, List, None, Some, false, length, take, ℕ};
+ghost use Rattle.std.specs.Prelude.{◌≡◌, ◌≤◌, List, None, [], Some, false, length, take, ℕ};
 
 use occ_script::{ByteIn, ByteOut, Failed};
 use std::alloc::Global;
+
+/// The number of a call that is never made.
+pub const NEVER: u32 = u32::MAX;
 
 /// How many bytes a call reads or writes at most.
 const PIECE: usize = 7;
@@ -17,8 +20,13 @@ pub struct Paper<'a> {
 }
 
 impl<'a> Paper<'a> {
+    /// The bytes, of which nothing was read.
     pub fn new(bytes: &'a [u8], refused: u32) -> Paper<'a>
-        ensures { result.failed ≡ false }
+        ensures bytes { result.bytes.now ≡ bytes.now }
+        ensures reads { result.reads ≡ 0 }
+        ensures refused { result.refused ≡ refused }
+        ensures taken { result.taken ≡ 0 }
+        ensures failed { result.failed ≡ false }
     {
         Paper {
             bytes,
@@ -45,7 +53,8 @@ impl ByteIn for Paper<'_> {
         self.reads = self.reads.saturating_add(1);
         let count = PIECE.min(buffer.len()).min(self.bytes.len());
         let (front, behind) = self.bytes.split_at(count);
-        copy_front(front, buffer);
+        let (room, _) = buffer.split_at_mut(count);
+        room.copy_from_slice(front);
         self.bytes = behind;
         self.taken = self.taken.saturating_add(count as u64);
         Ok(count)
@@ -56,16 +65,6 @@ impl ByteIn for Paper<'_> {
     }
 }
 
-/// Copies the bytes to the front of the buffer.
-fn copy_front(bytes: &[u8], buffer: &mut [u8])
-    requires { length bytes.now ≤ length buffer.old }
-    ensures { take (length bytes.now) buffer.new ≡ bytes.now }
-{
-    for (i, byte) in bytes.iter().enumerate() {
-        buffer[i] = *byte;
-    }
-}
-
 /// Line feeds without end.
 #[derive(Drop)]
 pub struct Endless {
@@ -73,7 +72,10 @@ pub struct Endless {
 }
 
 impl Endless {
-    pub fn new() -> Endless {
+    /// Nothing was read.
+    pub fn new() -> Endless
+        ensures { result.taken ≡ 0 }
+    {
         Endless { taken: 0 }
     }
 }
@@ -110,8 +112,13 @@ pub struct Page {
 }
 
 impl Page {
+    /// Nothing was written.
     pub fn new(alloc: Global, refused: u32, takes_none: bool) -> Page
-        ensures { result.failed ≡ false }
+        ensures bytes { result.bytes.items ≡ [] }
+        ensures writes { result.writes ≡ 0 }
+        ensures refused { result.refused ≡ refused }
+        ensures takes_none { result.takes_none ≡ takes_none }
+        ensures failed { result.failed ≡ false }
     {
         Page {
             bytes: Vec::new(alloc),

@@ -4,10 +4,16 @@
 #![tactic(auto)]
 
 mod devices;
+mod row;
 mod tally;
 
-use devices::{Endless, Page, Paper};
+ghost use Rattle.std.specs.List.{All};
+ghost use Rattle.std.specs.Prelude.{◌≡◌, ◌+◌, IfOk, length, true};
+ghost use Rattle.occ_rows.specs.Met.{IsRight};
+
+use devices::{Endless, NEVER, Page, Paper};
 use occ_script::{Status, run_script};
+use row::{Row, is_met};
 use std::alloc::{AllocError, Global};
 use std::rt::Files;
 use std::{fs, io};
@@ -16,33 +22,13 @@ use tally::Tally;
 /// The row whose script is run over failing devices.
 const FIRST: &str = "first";
 
-/// No call fails.
-const NEVER: u32 = u32::MAX;
-
 /// More calls than a run of the first row makes.
 const CALLS: u32 = 1000;
 
-/// A script, what it has to write, and its status.
-#[derive(Drop)]
-struct Row {
-    script: Vec<u8>,
-    output: Vec<u8>,
-    status: u8,
-}
-
 fn main(rt: HostRuntime) -> io::Result<()> {
-    let rows = fs::read_to_string(&rt, "rows.txt")?;
-    let mut met = Tally::new();
-    for name in rows.as_str().lines() {
-        let row = read_row(&rt, name)?;
-        let is_met = is_met(rt.alloc(), &row);
-        if !is_met {
-            println!(rt; "differs: {name}")?;
-        }
-        met.add(is_met);
-    }
+    let rows = read_rows(&rt)?;
     let first = read_row(&rt, FIRST)?;
-    println!(rt; "rows: {met}")?;
+    println!(rt; "rows: {}", run_rows(&rt, rows.as_slice())?)?;
     println!(rt; "reads that fail: {}", refused_reads(rt.alloc(), &first))?;
     println!(rt;
         "writes that fail: {}",
@@ -55,6 +41,16 @@ fn main(rt: HostRuntime) -> io::Result<()> {
     println!(rt; "a script without end: {}", endless(rt.alloc()))
 }
 
+/// The rows that rows.txt names.
+fn read_rows<R: Files + AllocGlobal>(rt: &R) -> io::Result<Vec<Row>> {
+    let names = fs::read_to_string(rt, "rows.txt")?;
+    let mut rows = Vec::new(rt.alloc());
+    for name in names.as_str().lines() {
+        rows.push(read_row(rt, name)?)?;
+    }
+    Ok(rows)
+}
+
 /// The row of that name.
 fn read_row<R: Files + AllocGlobal>(rt: &R, name: &str) -> io::Result<Row> {
     let script = read_file(rt, name, "script")?;
@@ -65,6 +61,7 @@ fn read_row<R: Files + AllocGlobal>(rt: &R, name: &str) -> io::Result<Row> {
         _ => u8::MAX,
     };
     Ok(Row {
+        name: String::from_str(rt.alloc(), name)?,
         script,
         output,
         status,
@@ -76,12 +73,27 @@ fn read_file<R: Files + AllocGlobal>(rt: &R, name: &str, kind: &str) -> io::Resu
     fs::read(rt, path.as_str())
 }
 
-/// Whether the script writes what it has to, with its status.
-fn is_met(alloc: Global, row: &Row) -> bool {
-    let mut paper = Paper::new(row.script.as_slice(), NEVER);
-    let mut page = Page::new(alloc, NEVER, false);
-    let status = run_script(alloc, &mut paper, &mut page);
-    status.code() == row.status && page.bytes() == row.output.as_slice()
+/// How many rows are met. The names of the others are told.
+fn run_rows<R: Print + AllocGlobal>(rt: &R, rows: &[Row]) -> io::Result<Tally>
+    ensures all { IfOk result (λ met. met.passed + met.failed ≡ length rows.now) }
+    ensures right { IfOk result (λ met. met.failed ≡ 0 → All IsRight rows.now) }
+{
+    let mut met = Tally::new();
+    for row in rows {
+        met.add(run_row(rt, row)?);
+    }
+    Ok(met)
+}
+
+/// Whether the row is met. If it is not, its name is told.
+fn run_row<R: Print + AllocGlobal>(rt: &R, row: &Row) -> io::Result<bool>
+    ensures { IfOk result (λ met. met ≡ true → IsRight row.now) }
+{
+    let is_met = is_met(rt.alloc(), row);
+    if !is_met {
+        println!(rt; "differs: {}", row.name)?;
+    }
+    Ok(is_met)
 }
 
 /// Runs the script with each of its reads refused in turn: nothing is written, and the status tells it.
