@@ -1,7 +1,7 @@
 -- The state behind the opening of a file.
 use Rattle.std.proofs.Common.{◌≡◌, ℕ, Bool, List, Option, Some, None, ap, subst, ◌∙◌}
 use Rattle.occ_forms.specs.declared.source.SourceLine.{SourceLine}
-use Rattle.occ_script.specs.Machine.{Opened, State, after_open}
+use Rattle.occ_script.specs.Machine.{State, after_open}
 use Rattle.occ_script.specs.Machine.Progress.{Waiting}
 
 abbrev with_file : List ℕ → List SourceLine → Bool → State

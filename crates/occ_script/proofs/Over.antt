@@ -1,7 +1,7 @@
 -- The lines of a script, read up to the limit or over it.
 use Rattle.std.proofs.Common.{◌≡◌, ◌<◌, ◌≤◌, ◌+◌, ℕ, zero, suc, List, [], ◌∷◌, Bool, true, false, cond, nat_lt, refl, ap, sym, ◌∙◌, length, take, arith, length-take}
-use Rattle.std.proofs.lemmas.Bool.{ltb-true, lt-ltb, ltb-false, le-ltb}
-use Rattle.occ_script.specs.Lines.{cut_lines, feeds, script_limit, whole_lines}
+use Rattle.std.proofs.lemmas.Bool.{lt-ltb, le-ltb}
+use Rattle.occ_script.specs.Lines.{cut_lines, feeds}
 use Rattle.occ_script.proofs.Known.{take_whole}
 
 shorter_front : (n : ℕ) (xs : List ℕ) → take n (take (n + 1) xs) ≡ take n xs

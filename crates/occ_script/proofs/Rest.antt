@@ -1,14 +1,12 @@
 -- How a script goes on from line to line.
-use Rattle.std.proofs.Common.{◌≡◌, ◌≢◌, ◌<◌, ◌≤◌, ◌+◌, ℕ, zero, suc, List, [], ◌∷◌, ◌++◌, ◌==◌, Bool, true, false, cond, not, nat_le, refl, ap, sym, subst, ◌∙◌, length, take, drop, Option, Some, None, arith, append_assoc, take-append-drop}
+use Rattle.std.proofs.Common.{◌≡◌, ◌≢◌, ◌<◌, ◌+◌, ℕ, zero, suc, List, [], ◌∷◌, Bool, true, false, cond, nat_le, refl, ap, sym, subst, ◌∙◌, length, take, drop, Option, Some, None, arith}
 use Rattle.std.proofs.lemmas.List.{length-drop}
 use Rattle.occ_script.specs.Lines.{cut_lines, text_of}
 use Rattle.occ_script.specs.Ended.{IsEnded}
 use Rattle.occ_script.specs.Script.{Header, Script, header, command_at, script_in, script_from, then}
 use Rattle.occ_script.specs.Script.Header.{Opens, Takes, Finishes, Reports}
 use Rattle.occ_script.specs.Script.Command.{Open, Take, Finish, Report}
-use Rattle.occ_script.specs.Rest.{IsNoFeed}
-use Rattle.occ_script.proofs.Cut.{to_feed}
-use Rattle.occ_script.proofs.Ended.{ended_drop, feed_within, first_cut, feed_at}
+use Rattle.occ_script.proofs.Ended.{ended_drop}
 
 pub blank_step : (over : Bool) (n : ℕ) (bytes behind : List ℕ) → bytes ≡ 10 ∷ behind → script_from over (n + 1) (cut_lines behind) ≡ script_from over n (cut_lines bytes)
 blank_step over n bytes behind e = sym (ap (λ (x : List ℕ). script_from over n (cut_lines x)) e)

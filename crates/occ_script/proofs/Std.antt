@@ -1,5 +1,5 @@
 -- What std's readers and writers do to known bytes, in the words of this crate.
-use Rattle.std.proofs.Common.{◌≡◌, ◌<◌, ℕ, List, [], ◌++◌, Option, Some, None, refl, ap, sym, ◌∙◌, append-nil, length, take, subst}
+use Rattle.std.proofs.Common.{◌≡◌, ℕ, List, [], ◌++◌, Option, Some, None, refl, ap, sym, ◌∙◌, append-nil, take, subst}
 use Rattle.std.specs.Io.KnownBytes.{Appends as StdAppends, Consumes, IsAtEnd, Keeps}
 use Rattle.occ_script.specs.Devices.{Appends, Gives}
 

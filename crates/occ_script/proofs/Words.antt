@@ -1,5 +1,5 @@
 -- A line of more than three words begins no command.
-use Rattle.std.proofs.Common.{◌≡◌, ℕ, List, ◌∷◌, Option, Some, None, ap}
+use Rattle.std.proofs.Common.{◌≡◌, ℕ, List, ◌∷◌, None, ap}
 use Rattle.occ_script.specs.Lines.{words}
 use Rattle.occ_script.specs.Script.{header_of}
 use Rattle.occ_script.proofs.Cut.{words_cut}

@@ -1,5 +1,5 @@
 -- What a script writes, and the status with which it ends.
-use Rattle.std.specs.Prelude.{ℕ, Bool, true, false, ◌≡◌, ◌⊎◌, ◌<◌, cond, length, IsSome, List, [], ◌∷◌, ◌++◌, codes, take, Option, Some, None}
+use Rattle.std.specs.Prelude.{ℕ, ◌≡◌, ◌⊎◌, ◌<◌, cond, length, IsSome, List, [], ◌∷◌, ◌++◌, codes, take, Option, Some, None}
 use Rattle.std.specs.Fmt.{decimal}
 use Rattle.occ_script.specs.Devices.{Appends, AppendsFront}
 use Rattle.occ_script.specs.Machine.{Reading, State, start, answer, after, told}

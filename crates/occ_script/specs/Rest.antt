@@ -1,5 +1,5 @@
 -- What the program's values of a script stand for.
-use Rattle.std.specs.Prelude.{ℕ, ◌≡◌, ◌+◌, ◌<◌, ◌≤◌, ◌^◌, List, [], ◌∷◌, Option, Some, None, length}
+use Rattle.std.specs.Prelude.{ℕ, ◌≡◌, ◌+◌, ◌<◌, ◌≤◌, ◌^◌, List, [], ◌∷◌, Some, None, length}
 use Rattle.occ_script.specs.Ended.{IsEnded}
 use Rattle.occ_script.specs.Lines.{cut_lines}
 use Rattle.occ_script.specs.Script.{Command, Script, script_from, ended, then}

@@ -1,9 +1,9 @@
 -- What a script says: its commands, and where it is wrong.
-use Rattle.std.specs.Prelude.{ℕ, zero, suc, Bool, true, false, List, [], ◌∷◌, ◌+◌, ◌-◌, ◌*◌, cond, nat_le, nat_lt, ◌&&◌, length, take, drop, codes, Option, Some, None}
+use Rattle.std.specs.Prelude.{ℕ, zero, suc, Bool, List, [], ◌∷◌, ◌+◌, ◌-◌, ◌*◌, cond, nat_le, nat_lt, ◌&&◌, length, take, drop, codes, Option, Some, None}
 use Rattle.std.specs.Char.{is_ascii_digit}
 use Rattle.std.specs.List.{list_all}
 use Rattle.std.specs.Str.{bytes_eq}
-use Rattle.occ_script.specs.Lines.{cut_lines, whole_lines, script_limit, text_of, words}
+use Rattle.occ_script.specs.Lines.{whole_lines, script_limit, text_of, words}
 
 -- a command with its text
 pub data Command : Type 0 where

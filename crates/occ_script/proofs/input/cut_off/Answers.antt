@@ -1,5 +1,3 @@
-use Rattle.std.proofs.Common.{◌≡◌, ap, sym, subst, ◌∙◌, take, drop, List, ℕ}
-use Rattle.occ_script.specs.Lines.{cut_lines, feeds, script_limit}
 use Rattle.occ_script.proofs.Whole.{cut_off_is}
 use Rattle.occ_script.proofs.input.cut_off.Goals as goal
 

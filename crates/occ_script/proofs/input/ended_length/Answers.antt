@@ -1,4 +1,4 @@
-use Rattle.occ_script.proofs.Whole.{ended_up_to, no_feed_before}
+use Rattle.occ_script.proofs.Whole.{ended_up_to}
 use Rattle.occ_script.proofs.input.ended_length.Goals as goal
 
 pub returns-else-bytes-length-ne10-clause-ended : goal.returns-else-bytes-length-ne10-clause-ended

@@ -1,4 +1,4 @@
-use Rattle.std.proofs.Common.{◌≡◌, ◌<◌, length, take, arith, length-take}
+use Rattle.std.proofs.Common.{arith, length-take}
 use Rattle.occ_script.proofs.Known.{read_to_end, read_so_many}
 use Rattle.occ_script.proofs.input.read_bytes.Goals as goal
 

@@ -1,4 +1,4 @@
-use Rattle.std.proofs.Common.{ap, Bool}
+use Rattle.std.proofs.Common.{ap}
 use Rattle.occ_script.specs.Machine.{State}
 use Rattle.occ_script.proofs.Opened.{opened_after}
 use Rattle.occ_script.proofs.board.Board.open.Goals as goal
