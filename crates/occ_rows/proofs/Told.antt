@@ -1,5 +1,5 @@
 -- What was written of a script that ended with a status up to 2.
-use Rattle.std.proofs.Common.{◌≡◌, ◌≤◌, ℕ, List, [], Option, Some, ap, sym, subst, ◌∙◌, arith}
+use Rattle.std.proofs.Common.{◌≡◌, ◌≤◌, ℕ, List, [], Some, ap, sym, subst, ◌∙◌, arith}
 use Rattle.occ_script.specs.Machine.{Reading}
 use Rattle.occ_script.specs.Output.{IsTold, output, status_of}
 use Rattle.occ_script.specs.Script.{Script}

@@ -1,4 +1,4 @@
-use Rattle.std.proofs.Common.{◌≡◌, ◌≤◌, length, List, subst, arith}
+use Rattle.std.proofs.Common.{◌≤◌, length, subst, arith}
 use Rattle.std.specs.List.{All}
 use Rattle.std.proofs.lemmas.List.{take_all}
 use Rattle.occ_rows.specs.Met.{IsRight}
