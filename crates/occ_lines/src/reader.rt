@@ -86,11 +86,8 @@ pub fn logical(alloc: Global, text: &[u8]) -> Result<Items<Logical>, TextFault>
     ensures large { IsErrOf result TextFault.TooLarge ↔ (262144 < length text.now) }
     ensures many { IsErrOf result TextFault.TooManyLines ↔ ((length text.now ≤ 262144) × (16384 < line_count text.now)) }
 {
-    if text.len() > MOST_BYTES {
-        return Err(TextFault::TooLarge);
-    }
-    if has_too_many_lines(text) {
-        return Err(TextFault::TooManyLines);
+    if let Some(fault) = text_fault(text) {
+        return Err(fault);
     }
     Ok(read(alloc, text)?)
 }

@@ -151,8 +151,9 @@ pub fn goes_on_rows()
     ensures of { goes_on (t.Word w.Of ∷ []) ≡ false }
 {}
 
-/// The law of the lines: a text spells one list of logical lines at most.
-#[tactic(auto, using(crate::proofs::Spelled::one_lines))]
+/// The law of the lines: a text spells one list of logical lines, and no other.
+#[tactic(auto, using(crate::proofs::Every::some_lines, crate::proofs::Spelled::one_lines))]
 pub fn lines_law()
+    ensures some { (text : List ℕ) → (xs : List ALogical) × IsLines text xs }
     ensures one { (text : List ℕ) (xs : List ALogical) (ys : List ALogical) → IsLines text xs → IsLines text ys → xs ≡ ys }
 {}
