@@ -15,8 +15,8 @@ use Rattle.occ_lines.proofs.Longest.{hexadecimal_longest, name_longest, number_l
 use Rattle.occ_lines.proofs.Reading.{bad_character, bad_lexeme, blanks_le, no_close, no_unit, stop_end, whole_end}
 use Rattle.occ_lines.proofs.Strings.{heads}
 
--- what holds of a text wherever it holds of all shorter ones holds of each
-from_shorter : (P : List ℕ → Type 0) → ((text : List ℕ) → ((after : List ℕ) → length after < length text → P after) → P text) → (n : ℕ) (text : List ℕ) → length text ≤ n → P text
+-- what holds of a list wherever it holds of all shorter ones holds of each
+pub from_shorter : {X : Type 0} (P : List X → Type 0) → ((text : List X) → ((after : List X) → length after < length text → P after) → P text) → (n : ℕ) (text : List X) → length text ≤ n → P text
 from_shorter P step zero text h = step text (λ after l. absurd (omega arith))
 from_shorter P step (suc n) text h = step text (λ after l. from_shorter P step n after (omega arith))
 

@@ -7,4 +7,4 @@ pub mod Reading
 pub mod Sizes
 pub mod Spelled
 pub mod Begun
-pub mod Every
+pub mod Cut

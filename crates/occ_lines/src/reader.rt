@@ -1,6 +1,7 @@
 //! The logical lines of a text.
 ghost use Rattle.std.specs.Prelude.{◌≡◌, ◌++◌, ◌≤◌, ◌<◌, ◌↔◌, List, IsTrue, IsErrOf, IfOk, length};
-ghost use Rattle.occ_lines.specs.Lines.{IsLines, limit_fault, line_count, unfinished as the_unfinished};
+ghost use Rattle.occ_lines.specs.Lines.{IsLines, limit_fault, line_count};
+ghost use Rattle.occ_lines.specs.Walk.{AreRead, unfinished as the_unfinished};
 ghost use Rattle.occ_lines.specs.declared.text.Logical.{Logical as ALogical};
 
 use super::{Body, Logical, TextFault};
@@ -65,7 +66,7 @@ fn finished(
 fn read(alloc: Global, text: &[u8]) -> Result<Items<Logical>, AllocError>
     requires bytes { length text.now ≤ 262144 }
     requires lines { line_count text.now ≤ 16384 }
-    ensures { IfOk result (λ lines. IsLines text.now lines) }
+    ensures { IfOk result (λ lines. AreRead text.now lines) }
 {
     let mut found = Items::new(alloc);
     let mut statement = None;

@@ -6,7 +6,7 @@ ghost use Rattle.occ_lines.specs.Quoted.{unit};
 ghost use Rattle.occ_lines.specs.Directive.{directive_body, directive_of};
 ghost use Rattle.occ_lines.specs.declared.directive.Directive.TheVariants as d;
 ghost use Rattle.occ_lines.specs.declared.ending.Ending.TheVariants as ending;
-ghost use Rattle.occ_lines.specs.Lines.{IsLines, column, continues, goes_on, is_skipped, logical_of, resumes};
+ghost use Rattle.occ_lines.specs.Lines.{IsLines, column, continues, goes_on, is_skipped, logical_of, resumes, takes};
 ghost use Rattle.occ_lines.specs.declared.text.Body.TheVariants as body;
 ghost use Rattle.occ_lines.specs.declared.text.Logical.{Logical as ALogical};
 ghost use Rattle.occ_lines.specs.declared.token.Symbol.TheVariants as s;
@@ -121,6 +121,8 @@ pub fn line_rows()
     ensures star { resumes 2 (codes "   *a") ≡ true }
     ensures none { resumes 2 (codes " *a") ≡ false }
     ensures closed { resumes 0 (codes "a") ≡ false }
+    ensures taken { takes 2 (codes "--") ≡ true }
+    ensures lost { takes 2 (codes "  #USE b") ≡ false }
 {}
 
 /// Which directive begins a text, and what it names.
@@ -151,8 +153,14 @@ pub fn goes_on_rows()
     ensures of { goes_on (t.Word w.Of ∷ []) ≡ false }
 {}
 
+/// What whole texts spell: a statement of three lines, of which one is skipped, and one that a directive ends.
+pub fn text_rows()
+    ensures continued { IsLines (codes "a:=" ++ 10 ∷ codes "--" ++ 10 ∷ codes "  1") (logical_of 1 0 (body.Tokens (t.Name (codes "a") ∷ t.Symbol s.Assign ∷ t.Decimal 1 ∷ [])) ∷ []) }
+    ensures crossed { IsLines (codes "  a," ++ 10 ∷ codes "#USE \"b\"") (logical_of 1 2 (body.Fault code.L3) ∷ logical_of 2 0 (body.Uses (codes "b.occ")) ∷ []) }
+{}
+
 /// The law of the lines: a text spells one list of logical lines, and no other.
-#[tactic(auto, using(crate::proofs::Every::some_lines, crate::proofs::Spelled::one_lines))]
+#[tactic(auto, using(crate::proofs::Cut::some_lines, crate::proofs::Cut::one_lines))]
 pub fn lines_law()
     ensures some { (text : List ℕ) → (xs : List ALogical) × IsLines text xs }
     ensures one { (text : List ℕ) (xs : List ALogical) (ys : List ALogical) → IsLines text xs → IsLines text ys → xs ≡ ys }
