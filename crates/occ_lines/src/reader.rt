@@ -79,6 +79,7 @@ fn read(alloc: Global, text: &[u8]) -> Result<Items<Logical>, AllocError>
 }
 
 /// The logical lines of a text: its lines in order, without those that hold nothing but blanks and comments.
+#[tactic(auto, using(crate::proofs::Cut::read_lines, crate::proofs::Cut::one_lines))]
 pub fn logical(alloc: Global, text: &[u8]) -> Result<Items<Logical>, TextFault>
     // What is answered is what the text spells.
     ensures found { IfOk result (λ lines. IsLines text.now lines) }
