@@ -6,3 +6,5 @@ pub mod Strings
 pub mod Reading
 pub mod Sizes
 pub mod Spelled
+pub mod Begun
+pub mod Cut

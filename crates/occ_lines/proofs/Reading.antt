@@ -137,11 +137,11 @@ goes_on so_far text found rest after token kept more first = record {
 pub is_done : (so_far : List Token) (text : List ℕ) (found : List Token) (rest : List ℕ) (x : Ending) → Kept so_far text found rest → Ends rest x → IsRead so_far text found x
 is_done so_far text found rest x kept end = (kept.done, kept.is, subst (λ (ts : List Token). Lexes text ts x) (append-nil kept.done) (kept.joined [] x end))
 
-same_match : (b : Bool) (P Q : Type 0) → b ≡ true → P → MatchBool b P Q
+pub same_match : (b : Bool) (P Q : Type 0) → b ≡ true → P → MatchBool b P Q
 same_match true P Q h p = p
 same_match false P Q h p = absurd cc
 
-other_match : (b : Bool) (P Q : Type 0) → b ≡ false → Q → MatchBool b P Q
+pub other_match : (b : Bool) (P Q : Type 0) → b ≡ false → Q → MatchBool b P Q
 other_match true P Q h q = absurd cc
 other_match false P Q h q = q
 

@@ -15,7 +15,8 @@ use Rattle.occ_lines.specs.declared.token.Token.{Token}
 use Rattle.occ_lines.specs.declared.token.Token.TheVariants as t
 use Rattle.occ_lines.specs.Directive.{directive_of}
 use Rattle.occ_lines.specs.Lexeme.{Lexes, after_blanks, string_ending}
-use Rattle.occ_lines.specs.Lines.{AreLogical, BreaksOff, Continues, IsClosed, IsFresh, IsLine, IsLines, IsUnclosed, IsWanted, LexesString, Resumes, Settles, Speaks, broken_off, column, continues, goes_on, goes_on_token, is_skipped, resumes, settled, unfinished}
+use Rattle.occ_lines.specs.Lines.{IsClosed, IsUnclosed, LexesString, column, continues, goes_on, goes_on_token, is_skipped, resumes}
+use Rattle.occ_lines.specs.Walk.{AreLogical, AreRead, BreaksOff, Continues, IsFresh, IsLine, IsWanted, Resumes, Settles, Speaks, broken_off, settled, unfinished}
 use Rattle.occ_lines.specs.Scan.{Adds, Gathers, IsStringRead}
 use Rattle.occ_lines.proofs.Reading.{one_list}
 use Rattle.occ_lines.proofs.Strings.{one_quoted, tails}
@@ -35,7 +36,7 @@ last_asked (x ∷ y ∷ more) (suc n) other h = last_asked (y ∷ more) n other 
 
 -- these logical lines are read, and those of the lines that are left go on from them
 pub record Goes (text : List ℕ) (found : List Logical) (statement : Option Statement) (number : ℕ) (left : List (List ℕ)) : Type 0 where
-  pub joined : (more : List Logical) → AreLogical statement (number + 1) left more → IsLines text (found ++ more)
+  pub joined : (more : List Logical) → AreLogical statement (number + 1) left more → AreRead text (found ++ more)
 
 pub goes_begins : (text : List ℕ) (found : List Logical) (left : List (List ℕ)) → found ≡ [] → left ≡ map without_terminator (lines_of text) → Goes text found None 0 left
 goes_begins text found left none all = rw (none, all) (record { joined = λ more h. h })
@@ -43,14 +44,14 @@ goes_begins text found left none all = rw (none, all) (record { joined = λ more
 pub goes_over : (text : List ℕ) (found : List Logical) (statement : Option Statement) (number : ℕ) (line : List ℕ) (left : List (List ℕ)) (all : List Logical) (next : Option Statement)
     → Adds found all (λ ended. IsLine statement (number + 1) line ended next) → Goes text found statement number (line ∷ left) → Goes text all next (number + 1) left
 goes_over text found statement number line left all next adds goes = record {
-  joined = λ more h. subst (λ (xs : List Logical). IsLines text xs) (sym (append_assoc found adds.0 more) ∙ ap (λ (xs : List Logical). xs ++ more) (sym adds.1))
+  joined = λ more h. subst (λ (xs : List Logical). AreRead text xs) (sym (append_assoc found adds.0 more) ∙ ap (λ (xs : List Logical). xs ++ more) (sym adds.1))
       (goes.joined (adds.0 ++ more) (adds.0, next, more, adds.2, refl, h));
 }
 
-pub goes_to_end : (text : List ℕ) (found : List Logical) (statement : Option Statement) (number : ℕ) (left : List (List ℕ)) (all : List Logical) → left ≡ [] → all ≡ found ++ unfinished statement → Goes text found statement number left → IsLines text all
+pub goes_to_end : (text : List ℕ) (found : List Logical) (statement : Option Statement) (number : ℕ) (left : List (List ℕ)) (all : List Logical) → left ≡ [] → all ≡ found ++ unfinished statement → Goes text found statement number left → AreRead text all
 goes_to_end text found statement number left all none is kept =
     let goes : Goes text found statement number [] = rw none at kept in
-    subst (λ (xs : List Logical). IsLines text xs) (sym is) (goes.joined (unfinished statement) refl)
+    subst (λ (xs : List Logical). AreRead text xs) (sym is) (goes.joined (unfinished statement) refl)
 
 -- a text spells one list at most
 
@@ -141,5 +142,5 @@ one_spelled o number (line ∷ lines) xs ys h k =
     let rest = one_spelled k.1 (number + 1) lines h.2 k.2 (subst (λ (m : Option Statement). AreLogical m (number + 1) lines h.2) same.1 h.5) k.5 in
     h.4 ∙ ap (λ (e : List Logical). e ++ h.2) same.0 ∙ ap (λ (r : List Logical). k.0 ++ r) rest ∙ sym k.4
 
-pub one_lines : (text : List ℕ) (xs ys : List Logical) → IsLines text xs → IsLines text ys → xs ≡ ys
-one_lines text xs ys h k = one_spelled None 1 (map without_terminator (lines_of text)) xs ys h k
+pub one_read : (text : List ℕ) (xs ys : List Logical) → AreRead text xs → AreRead text ys → xs ≡ ys
+one_read text xs ys h k = one_spelled None 1 (map without_terminator (lines_of text)) xs ys h k

@@ -3,3 +3,4 @@ pub mod Lexeme
 pub mod Lines
 pub mod Quoted
 pub mod Scan
+pub mod Walk

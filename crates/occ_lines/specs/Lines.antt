@@ -1,9 +1,8 @@
 -- The logical lines that a text spells.
-use Rattle.std.specs.Prelude.{◌≡◌, ◌==◌, ◌+◌, ◌*◌, ◌/◌, ◌%◌, ◌&&◌, ◌⊎◌, ℕ, Bool, true, false, cond, List, [], ◌∷◌, ◌++◌, drop, length, map, nat_le, nat_lt, Option, Some, None}
+use Rattle.std.specs.Prelude.{◌≡◌, ◌==◌, ◌+◌, ◌*◌, ◌/◌, ◌%◌, ◌&&◌, ◌||◌, ◌⊎◌, ℕ, Bool, true, false, cond, List, [], ◌∷◌, ◌++◌, drop, length, map, nat_le, nat_lt, Option, Some, None}
 use Rattle.std.specs.Bool.{MatchBool}
 use Rattle.std.specs.Option.{is_none}
 use Rattle.bstr.specs.Text.{lines_of, without_terminator}
-use Rattle.occ_base.specs.declared.code.Code.{Code}
 use Rattle.occ_base.specs.declared.code.Code.TheVariants as code
 use Rattle.occ_lines.specs.declared.directive.Directive.{Directive}
 use Rattle.occ_lines.specs.declared.ending.Ending.{Ending}
@@ -13,11 +12,6 @@ use Rattle.occ_lines.specs.declared.text.Body.TheVariants as body
 use Rattle.occ_lines.specs.declared.text.Logical.{Logical}
 use Rattle.occ_lines.specs.declared.text.TextFault.{TextFault}
 use Rattle.occ_lines.specs.declared.text.TextFault.TheVariants as fault
-use Rattle.occ_lines.specs.declared.statement.Reached.{Reached}
-use Rattle.occ_lines.specs.declared.statement.Reached.TheVariants as reached
-use Rattle.occ_lines.specs.declared.statement.Statement.{Statement}
-use Rattle.occ_lines.specs.declared.statement.Wants.{Wants}
-use Rattle.occ_lines.specs.declared.statement.Wants.TheVariants as wants
 use Rattle.occ_lines.specs.declared.token.Symbol.{Symbol}
 use Rattle.occ_lines.specs.declared.token.Symbol.TheVariants as s
 use Rattle.occ_lines.specs.declared.token.Token.{Token}
@@ -89,24 +83,9 @@ goes_on (token ∷ next ∷ more) = goes_on (next ∷ more)
 abbrev pub logical_of : ℕ → ℕ → Body → Logical
 logical_of line column x = record { line = line; depth = column / 2; body = cond (column % 2 == 1) (body.Fault code.L2) x }
 
--- a statement of that line and column whose tokens so far are these, and one of whose lines ends so
-abbrev pub settled : ℕ → ℕ → List Token → Ending → Reached
-settled line column tokens ending.Whole = cond (goes_on tokens) (reached.Open (record { line = line; column = column; tokens = tokens; wants = wants.More })) (reached.Done (logical_of line column (body.Tokens tokens)))
-settled line column tokens (ending.Broken bytes) = reached.Open (record { line = line; column = column; tokens = tokens; wants = wants.Rest bytes })
-settled line column tokens (ending.Bad fault) = reached.Done (logical_of line column (body.Fault fault))
-
--- the fault of a statement that does not get what it wants
-abbrev pub lack : Wants → Code
-lack wants.More = code.L3
-lack (wants.Rest bytes) = code.L4
-
--- a statement without what it wants
-abbrev pub broken_off : Statement → Logical
-broken_off statement = logical_of statement.line statement.column (body.Fault (lack statement.wants))
-
 -- a statement that began in that column can go on with the line, which is not skipped: it begins there at least, and is no directive
 abbrev pub continues : ℕ → List ℕ → Bool
-continues first line = nat_le first (column line) && is_none (directive_of (after_blanks line))
+continues margin line = nat_le margin (column line) && is_none (directive_of (after_blanks line))
 
 -- the first byte is a '*' (42)
 abbrev pub starts_star : List ℕ → Bool
@@ -115,7 +94,7 @@ starts_star (b ∷ more) = b == 42
 
 -- a string of a statement that began in that column can go on with the line
 abbrev pub resumes : ℕ → List ℕ → Bool
-resumes first line = nat_le first (column line) && starts_star (after_blanks line)
+resumes margin line = nat_le margin (column line) && starts_star (after_blanks line)
 
 -- a text that begins inside a string of which these bytes are read: the string is closed and the line's tokens follow, or the line ends with it
 pub record IsClosed (bytes text : List ℕ) (tokens : List Token) (x : Ending) : Type 0 where
@@ -137,62 +116,74 @@ pub record IsUnclosed (bytes text : List ℕ) (tokens : List Token) (x : Ending)
 abbrev pub LexesString : List ℕ → List ℕ → List Token → Ending → Type 0
 LexesString bytes text tokens x = IsClosed bytes text tokens x ⊎ IsUnclosed bytes text tokens x
 
--- a statement that is read so far ends this logical line, or stays open
-abbrev pub Settles : Reached → List Logical → Option Statement → Type 0
-Settles (reached.Open statement) ended next = (ended ≡ []) × (next ≡ Some statement)
-Settles (reached.Done x) ended next = (ended ≡ x ∷ []) × (next ≡ None)
-
 -- the logical line of a directive; in an odd column it is not dropped
 abbrev pub directive_lines : ℕ → ℕ → Option Body → List Logical
 directive_lines number column None = cond (column % 2 == 1) (logical_of number column (body.Fault code.L2) ∷ []) []
 directive_lines number column (Some x) = logical_of number column x ∷ []
 
--- the line as it goes on with a statement of that line and column whose tokens so far are these
-abbrev pub Continues : ℕ → ℕ → List Token → List ℕ → List Logical → Option Statement → Type 0
-Continues first column tokens line ended next = (more : List Token) × (x : Ending) × Lexes line more x × Settles (settled first column (tokens ++ more) x) ended next
+-- a statement that wants a further token takes the line: the line is skipped, or goes on with the statement
+abbrev pub takes : ℕ → List ℕ → Bool
+takes margin line = is_skipped line || continues margin line
 
--- the line as it goes on with the statement's string, behind a '*'
-abbrev pub Resumes : ℕ → ℕ → List Token → List ℕ → List ℕ → List Logical → Option Statement → Type 0
-Resumes first column tokens bytes line ended next = (more : List Token) × (x : Ending) × LexesString bytes (drop 1 (after_blanks line)) more x × Settles (settled first column (tokens ++ more) x) ended next
+-- a statement that began in that column, whose tokens so far are these and whose last line so far ended so, takes the line; the line is these further tokens, and ends so
+abbrev pub GoesOn : ℕ → List Token → Ending → List ℕ → List Token → Ending → Type 0
+GoesOn margin tokens ending.Whole line more x = (goes_on tokens ≡ true) × (takes margin line ≡ true) × Lexes line more x
+GoesOn margin tokens (ending.Broken bytes) line more x = (resumes margin line ≡ true) × LexesString bytes (drop 1 (after_blanks line)) more x
+GoesOn margin tokens (ending.Bad fault) line more x = ⊥
 
--- the line as a directive, or as a statement that begins
-abbrev pub Speaks : Option Directive → ℕ → List ℕ → List Logical → Option Statement → Type 0
-Speaks None number line ended next = Continues number (column line) [] line ended next
-Speaks (Some directive) number line ended next = (ended ≡ directive_lines number (column line) (directive_body directive (after_blanks line))) × (next ≡ None)
+-- there is a line, and it passes
+abbrev pub next_passes : (List ℕ → Bool) → List (List ℕ) → Bool
+next_passes passes [] = false
+next_passes passes (line ∷ lines) = passes line
 
--- the line of that number where no statement is open: these logical lines end on it, and this statement is open behind it
-abbrev pub IsFresh : ℕ → List ℕ → List Logical → Option Statement → Type 0
-IsFresh number line ended next = MatchBool (is_skipped line) ((ended ≡ []) × (next ≡ None)) (Speaks (directive_of (after_blanks line)) number line ended next)
+-- what such a statement holds where it takes none of the lines behind it
+abbrev pub IsHeld : ℕ → List Token → Ending → List (List ℕ) → Body → Type 0
+IsHeld margin tokens ending.Whole behind held = MatchBool (goes_on tokens) ((next_passes (takes margin) behind ≡ false) × (held ≡ body.Fault code.L3)) (held ≡ body.Tokens tokens)
+IsHeld margin tokens (ending.Broken bytes) behind held = (next_passes (resumes margin) behind ≡ false) × (held ≡ body.Fault code.L4)
+IsHeld margin tokens (ending.Bad fault) behind held = held ≡ body.Fault fault
 
--- a statement ends with that logical line, without what it wants, and the line begins another
-abbrev pub BreaksOff : Logical → ℕ → List ℕ → List Logical → Option Statement → Type 0
-BreaksOff x number line ended next = (more : List Logical) × (ended ≡ x ∷ more) × IsFresh number line more next
+-- what such a statement holds where it takes these lines, one after the other, and none of those behind them
+abbrev pub Holds : ℕ → List Token → Ending → List (List ℕ) → List (List ℕ) → Body → Type 0
+Holds margin tokens x [] behind held = IsHeld margin tokens x behind held
+Holds margin tokens x (line ∷ lines) behind held = (more : List Token) × (y : Ending) × GoesOn margin tokens x line more y × Holds margin (tokens ++ more) y lines behind held
 
--- the line where a statement is open that wants that
-abbrev pub IsWanted : Wants → Statement → ℕ → List ℕ → List Logical → Option Statement → Type 0
-IsWanted wants.More statement number line ended next = MatchBool (is_skipped line) ((ended ≡ []) × (next ≡ Some statement))
-    (MatchBool (continues statement.column line) (Continues statement.line statement.column statement.tokens line ended next) (BreaksOff (broken_off statement) number line ended next))
-IsWanted (wants.Rest bytes) statement number line ended next = MatchBool (resumes statement.column line) (Resumes statement.line statement.column statement.tokens bytes line ended next) (BreaksOff (broken_off statement) number line ended next)
+-- a statement begins on the line of that number, takes these further lines and none of those behind them, and is this logical line
+pub record IsStatement (number : ℕ) (line : List ℕ) (further behind : List (List ℕ)) (xs : List Logical) : Type 0 where
+  pub tokens : List Token
+  pub end : Ending
+  pub held : Body
+  pub first : Lexes line tokens end
+  pub holds : Holds (column line) tokens end further behind held
+  pub is : xs ≡ logical_of number (column line) held ∷ []
 
--- the line of that number, where that statement is open, if there is one
-abbrev pub IsLine : Option Statement → ℕ → List ℕ → List Logical → Option Statement → Type 0
-IsLine None number line ended next = IsFresh number line ended next
-IsLine (Some statement) number line ended next = IsWanted statement.wants statement number line ended next
+-- a directive stands on the line of that number alone, and is these logical lines, one or none
+pub record IsDirective (directive : Directive) (number : ℕ) (line : List ℕ) (further : List (List ℕ)) (xs : List Logical) : Type 0 where
+  pub alone : further ≡ []
+  pub is : xs ≡ directive_lines number (column line) (directive_body directive (after_blanks line))
 
--- the logical line of a statement that is open at the end of the text
-abbrev pub unfinished : Option Statement → List Logical
-unfinished None = []
-unfinished (Some statement) = broken_off statement ∷ []
+-- what the line of that number begins, which is not skipped
+abbrev pub IsBegun : Option Directive → ℕ → List ℕ → List (List ℕ) → List (List ℕ) → List Logical → Type 0
+IsBegun None number line further behind xs = IsStatement number line further behind xs
+IsBegun (Some directive) number line further behind xs = IsDirective directive number line further xs
 
--- lines from that number on, where that statement is open, and the logical lines that end on them
-abbrev pub AreLogical : Option Statement → ℕ → List (List ℕ) → List Logical → Type 0
-AreLogical open_one number [] xs = xs ≡ unfinished open_one
-AreLogical open_one number (line ∷ lines) xs = (ended : List Logical) × (next : Option Statement) × (more : List Logical)
-    × IsLine open_one number line ended next × (xs ≡ ended ++ more) × AreLogical next (number + 1) lines more
+-- a piece of a text, from the line of that number on, with the lines behind it, and its logical lines: a skipped line, a directive, or a statement with the lines that it takes
+abbrev pub IsPiece : ℕ → List (List ℕ) → List (List ℕ) → List Logical → Type 0
+IsPiece number [] behind xs = ⊥
+IsPiece number (line ∷ further) behind xs = MatchBool (is_skipped line) ((further ≡ []) × (xs ≡ [])) (IsBegun (directive_of (after_blanks line)) number line further behind xs)
 
--- the logical lines of a text: its lines are numbered from 1
-abbrev pub IsLines : List ℕ → List Logical → Type 0
-IsLines text xs = AreLogical None 1 (map without_terminator (lines_of text)) xs
+-- the lines of pieces, one after the other
+abbrev pub joined : List (List (List ℕ)) → List (List ℕ)
+joined [] = []
+joined (piece ∷ pieces) = piece ++ joined pieces
+
+-- pieces, from the line of that number on, and their logical lines
+abbrev pub ArePieces : ℕ → List (List (List ℕ)) → List Logical → Type 0
+ArePieces number [] xs = xs ≡ []
+ArePieces number (piece ∷ pieces) xs = (ended : List Logical) × (more : List Logical) × IsPiece number piece (joined pieces) ended × ArePieces (number + length piece) pieces more × (xs ≡ ended ++ more)
+
+-- the logical lines of a text: its lines, which are numbered from 1, are cut into pieces that have these logical lines
+unfoldable pub IsLines : List ℕ → List Logical → Type 0
+IsLines text xs = (pieces : List (List (List ℕ))) × (map without_terminator (lines_of text) ≡ joined pieces) × ArePieces 1 pieces xs
 
 -- how many lines a text has: its line feeds, and one if bytes stand behind the last
 abbrev pub line_count : List ℕ → ℕ

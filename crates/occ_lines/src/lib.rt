@@ -21,7 +21,7 @@ mod tokens;
 pub use reader::{logical, text_fault};
 pub use rows::{
     class_rows, directive_rows, first_rows, goes_on_rows, line_rows, lines_law, name_rows,
-    number_rows, quoted_rows, symbol_rows, symbol_token_rows,
+    number_rows, quoted_rows, symbol_rows, symbol_token_rows, text_rows,
 };
 pub use text::{Body, Logical, TextFault};
 pub use token::{Symbol, Token, Word};

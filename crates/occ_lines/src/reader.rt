@@ -1,6 +1,7 @@
 //! The logical lines of a text.
 ghost use Rattle.std.specs.Prelude.{◌≡◌, ◌++◌, ◌≤◌, ◌<◌, ◌↔◌, List, IsTrue, IsErrOf, IfOk, length};
-ghost use Rattle.occ_lines.specs.Lines.{IsLines, limit_fault, line_count, unfinished as the_unfinished};
+ghost use Rattle.occ_lines.specs.Lines.{IsLines, limit_fault, line_count};
+ghost use Rattle.occ_lines.specs.Walk.{AreRead, unfinished as the_unfinished};
 ghost use Rattle.occ_lines.specs.declared.text.Logical.{Logical as ALogical};
 
 use super::{Body, Logical, TextFault};
@@ -65,7 +66,7 @@ fn finished(
 fn read(alloc: Global, text: &[u8]) -> Result<Items<Logical>, AllocError>
     requires bytes { length text.now ≤ 262144 }
     requires lines { line_count text.now ≤ 16384 }
-    ensures { IfOk result (λ lines. IsLines text.now lines) }
+    ensures { IfOk result (λ lines. AreRead text.now lines) }
 {
     let mut found = Items::new(alloc);
     let mut statement = None;
@@ -78,6 +79,7 @@ fn read(alloc: Global, text: &[u8]) -> Result<Items<Logical>, AllocError>
 }
 
 /// The logical lines of a text: its lines in order, without those that hold nothing but blanks and comments.
+#[tactic(auto, using(crate::proofs::Cut::read_lines, crate::proofs::Cut::one_lines))]
 pub fn logical(alloc: Global, text: &[u8]) -> Result<Items<Logical>, TextFault>
     // What is answered is what the text spells.
     ensures found { IfOk result (λ lines. IsLines text.now lines) }
@@ -86,11 +88,8 @@ pub fn logical(alloc: Global, text: &[u8]) -> Result<Items<Logical>, TextFault>
     ensures large { IsErrOf result TextFault.TooLarge ↔ (262144 < length text.now) }
     ensures many { IsErrOf result TextFault.TooManyLines ↔ ((length text.now ≤ 262144) × (16384 < line_count text.now)) }
 {
-    if text.len() > MOST_BYTES {
-        return Err(TextFault::TooLarge);
-    }
-    if has_too_many_lines(text) {
-        return Err(TextFault::TooManyLines);
+    if let Some(fault) = text_fault(text) {
+        return Err(fault);
     }
     Ok(read(alloc, text)?)
 }

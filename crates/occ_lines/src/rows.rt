@@ -1,12 +1,13 @@
 //! Worked rows of the definitions: each function has an empty body, and its clauses are computed.
 ghost use Rattle.std.specs.Prelude.{◌≡◌, ◌++◌, [], ◌∷◌, ℕ, List, codes, false, true};
+ghost use Rattle.std.specs.List.{list_all, list_any};
 ghost use Rattle.occ_base.specs.declared.code.Code.TheVariants as code;
 ghost use Rattle.occ_lines.specs.Lexeme.{IsFirst, Lexes, hexadecimal_token, is_hexadecimal, is_name, is_number, is_symbol, name_token, number_token, symbol_token};
 ghost use Rattle.occ_lines.specs.Quoted.{unit};
 ghost use Rattle.occ_lines.specs.Directive.{directive_body, directive_of};
 ghost use Rattle.occ_lines.specs.declared.directive.Directive.TheVariants as d;
 ghost use Rattle.occ_lines.specs.declared.ending.Ending.TheVariants as ending;
-ghost use Rattle.occ_lines.specs.Lines.{IsLines, column, continues, goes_on, is_skipped, logical_of, resumes};
+ghost use Rattle.occ_lines.specs.Lines.{IsLines, column, continues, goes_on, goes_on_symbol, goes_on_word, is_skipped, logical_of, resumes, takes};
 ghost use Rattle.occ_lines.specs.declared.text.Body.TheVariants as body;
 ghost use Rattle.occ_lines.specs.declared.text.Logical.{Logical as ALogical};
 ghost use Rattle.occ_lines.specs.declared.token.Symbol.TheVariants as s;
@@ -121,6 +122,8 @@ pub fn line_rows()
     ensures star { resumes 2 (codes "   *a") ≡ true }
     ensures none { resumes 2 (codes " *a") ≡ false }
     ensures closed { resumes 0 (codes "a") ≡ false }
+    ensures taken { takes 2 (codes "--") ≡ true }
+    ensures lost { takes 2 (codes "  #USE b") ≡ false }
 {}
 
 /// Which directive begins a text, and what it names.
@@ -149,10 +152,24 @@ pub fn goes_on_rows()
     ensures output { goes_on (t.Symbol s.Output ∷ []) ≡ false }
     ensures counted { goes_on (t.Symbol s.Counted ∷ []) ≡ false }
     ensures of { goes_on (t.Word w.Of ∷ []) ≡ false }
+    ensures branch { goes_on (t.Word w.Case ∷ []) ≡ false }
+    ensures words { list_all goes_on_word (w.Rem ∷ w.Plus ∷ w.Minus ∷ w.Times ∷ w.BitAnd ∷ w.BitOr ∷ w.And ∷ w.Or ∷ w.After ∷ w.BitNot ∷ w.Not ∷ w.Size ∷ []) ≡ true }
+    ensures marks { list_all goes_on_word (w.Is ∷ w.From ∷ w.For ∷ w.Retypes ∷ w.Reshapes ∷ []) ≡ true }
+    ensures operators { list_all goes_on_symbol (s.Plus ∷ s.Minus ∷ s.Times ∷ s.Divide ∷ s.Remainder ∷ s.BitAnd ∷ s.BitOr ∷ s.BitXor ∷ s.ShiftLeft ∷ s.ShiftRight ∷ s.BitNot ∷ []) ≡ true }
+    ensures comparisons { list_all goes_on_symbol (s.Equal ∷ s.Unequal ∷ s.Less ∷ s.Greater ∷ s.AtMost ∷ s.AtLeast ∷ []) ≡ true }
+    ensures commas { list_all goes_on_symbol (s.Comma ∷ s.Semicolon ∷ s.Assign ∷ s.Ampersand ∷ []) ≡ true }
+    ensures ends { list_any goes_on_symbol (s.Counted ∷ s.Open ∷ s.Close ∷ s.OpenIndex ∷ s.CloseIndex ∷ s.Colon ∷ s.Input ∷ s.Output ∷ []) ≡ false }
 {}
 
-/// The law of the lines: a text spells one list of logical lines at most.
-#[tactic(auto, using(crate::proofs::Spelled::one_lines))]
+/// What whole texts spell: a statement of three lines, of which one is skipped, and one that a directive ends.
+pub fn text_rows()
+    ensures continued { IsLines (codes "a:=" ++ 10 ∷ codes "--" ++ 10 ∷ codes "  1") (logical_of 1 0 (body.Tokens (t.Name (codes "a") ∷ t.Symbol s.Assign ∷ t.Decimal 1 ∷ [])) ∷ []) }
+    ensures crossed { IsLines (codes "  a," ++ 10 ∷ codes "#USE \"b\"") (logical_of 1 2 (body.Fault code.L3) ∷ logical_of 2 0 (body.Uses (codes "b.occ")) ∷ []) }
+{}
+
+/// The law of the lines: a text spells one list of logical lines, and no other.
+#[tactic(auto, using(crate::proofs::Cut::some_lines, crate::proofs::Cut::one_lines))]
 pub fn lines_law()
+    ensures some { (text : List ℕ) → (xs : List ALogical) × IsLines text xs }
     ensures one { (text : List ℕ) (xs : List ALogical) (ys : List ALogical) → IsLines text xs → IsLines text ys → xs ≡ ys }
 {}

@@ -58,7 +58,7 @@ fn show(out: &mut String, token: &Token) -> Result<(), Fail> {
 
 #[test]
 fn tokens_of_lines(rt: HostRuntime) -> Result<(), Fail> {
-    let rows: [(&[u8], &str); 22] = [
+    let rows: [(&[u8], &str); 26] = [
         (
             b"a[12]:=b+3--c\n",
             "1 0 a OpenIndex 12 CloseIndex Assign b Plus 3\n",
@@ -95,6 +95,22 @@ fn tokens_of_lines(rt: HostRuntime) -> Result<(), Fail> {
         ),
         (b"123abc\ta\n", "1 0 123 abc a\n"),
         (b"\r\r\n\r\n\r", "1 0 L1\n3 0 L1\n"),
+        (
+            b"SKIP\r\r\n\x01\n\x7f\nx\x80\nSKIP\r",
+            "1 0 L1\n2 0 L1\n3 0 L1\n4 0 L1\n5 0 L1\n",
+        ),
+        (
+            b"x := 1.5\na_b\n.a\n#10000000000000000\n",
+            "1 0 L1\n2 0 L1\n3 0 L1\n4 0 L1\n",
+        ),
+        (
+            b"''\n'*''\n'\t'\n\"\t\"\n",
+            "1 0 L1\n2 0 '39\n3 0 L1\n4 0 L1\n",
+        ),
+        (
+            b"\"*#fff\"\n\"*#f\"\n\"*l\"\n\"a\x80\n",
+            "1 0 \" 255 102\n2 0 L1\n3 0 L1\n4 0 L1\n",
+        ),
         (b"", ""),
     ];
     for (text, want) in rows {
@@ -106,7 +122,7 @@ fn tokens_of_lines(rt: HostRuntime) -> Result<(), Fail> {
 
 #[test]
 fn directives(rt: HostRuntime) -> Result<(), Fail> {
-    let rows: [(&[u8], &str); 12] = [
+    let rows: [(&[u8], &str); 16] = [
         (b"  #INCLUDE \"k.inc\" -- k\n", "1 1 include k.inc\n"),
         (
             b"#USE\"b\"\n#USE \"b.??\"\n",
@@ -125,6 +141,19 @@ fn directives(rt: HostRuntime) -> Result<(), Fail> {
         (b"#COMMENTS x\n#FF\n", "1 0 #12 OMMENTS x\n2 0 #255\n"),
         (b"x := 1 +\n#USE b\n", "1 0 L3\n2 0 L1\n"),
         (b"x := 1 +\n#COMMENT b\n2\n", "1 0 L3\n3 0 2\n"),
+        (
+            b"#INCLUDE \"b.occ\"\n#IMPORT \"b\"\n",
+            "1 0 include b.occ\n2 0 L1\n",
+        ),
+        (
+            b"#USE \t \"b\"\t-- c\n#USE \"b.*n\"--\n",
+            "1 0 uses b.occ\n2 0 uses b.occ\n",
+        ),
+        (
+            b"#USE \"b.\t\"\n#USE \"b.\x80\"\n#USE b\n",
+            "1 0 L1\n2 0 L1\n3 0 L1\n",
+        ),
+        (b"\"a*\n  #USE \"b\"\n", "1 0 L4\n2 1 uses b.occ\n"),
     ];
     for (text, want) in rows {
         let found = shown(rt.alloc(), text)?;
@@ -135,7 +164,7 @@ fn directives(rt: HostRuntime) -> Result<(), Fail> {
 
 #[test]
 fn statements_of_more_lines(rt: HostRuntime) -> Result<(), Fail> {
-    let rows: [(&[u8], &str); 17] = [
+    let rows: [(&[u8], &str); 23] = [
         (b"a :=\n\n -- b\n  1\n", "1 0 a Assign 1\n"),
         (
             b"  a :=\n   1 +\n  2\nb\n",
@@ -162,6 +191,15 @@ fn statements_of_more_lines(rt: HostRuntime) -> Result<(), Fail> {
         (b"\"a*\nb\"\n", "1 0 L4\n2 0 L4\n"),
         (b"\"a*\n*$\nb\n", "1 0 L4\n3 0 b\n"),
         (b"\"a*", "1 0 L4\n"),
+        (b"\"a*\n--\n*b\"\n", "1 0 L4\n3 0 L4\n"),
+        (b"\"ab*\n *cd\"\n", "1 0 \" 97 98 99 100\n"),
+        (b" \"a*\n *b\"\nc\n", "1 0 L2\n3 0 c\n"),
+        (b" a, $\nb\n", "1 0 L2\n2 0 b\n"),
+        (b"a +\r\n\"b*\r\n*c\"\r\n", "1 0 a Plus \" 98 99\n"),
+        (
+            b"CHAN OF\na (\nb [\nCASE\n",
+            "1 0 Chan Of\n2 0 a Open\n3 0 b OpenIndex\n4 0 Case\n",
+        ),
     ];
     for (text, want) in rows {
         let found = shown(rt.alloc(), text)?;
@@ -175,6 +213,41 @@ fn every_single_byte(rt: HostRuntime) -> Result<(), Fail> {
     for b in 0..=255 {
         let text = [b];
         assert!(rt; logical(rt.alloc(), &text).is_ok());
+    }
+    Ok(())
+}
+
+/// The bytes with which tokens, comments, escapes, breaks and lines begin, and some others.
+const MARKS: [u8; 16] = *b"a1#-\"'*+:&. \t\r\n$";
+
+/// The next number of a fixed sequence.
+fn next(number: u32) -> u32 {
+    number.wrapping_mul(1_664_525).wrapping_add(1_013_904_223)
+}
+
+/// A text of the next 400 numbers, each as a byte, or as one of the marks.
+fn random_text(alloc: Global, number: u32, marks: bool) -> Result<Vec<u8>, Fail> {
+    let mut number = number;
+    let mut text = Vec::new(alloc);
+    for _ in 0..400 {
+        number = next(number);
+        let byte = (number / 65_536 % 256) as u8;
+        text.push(if marks {
+            MARKS[usize::from(byte % 16)]
+        } else {
+            byte
+        })?;
+    }
+    Ok(text)
+}
+
+#[test]
+fn random_bytes(rt: HostRuntime) -> Result<(), Fail> {
+    for number in 0..200 {
+        for marks in [false, true] {
+            let text = random_text(rt.alloc(), next(number), marks)?;
+            assert!(rt; logical(rt.alloc(), text.as_slice()).is_ok());
+        }
     }
     Ok(())
 }
