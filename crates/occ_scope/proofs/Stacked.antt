@@ -80,7 +80,7 @@ kept_more es all m m' e place chained near is hides at puts =
           ∙ sym (nearest_of_all es all e q is);
     }
 
-equal : (r : Ordering) → is_eq r ≡ true → r ≡ Equal
+pub equal : (r : Ordering) → is_eq r ≡ true → r ≡ Equal
 equal Less h = absurd cc
 equal Equal h = refl
 equal Greater h = absurd cc
@@ -100,7 +100,7 @@ kept_less es all m m' e chained near is puts =
           (near q ∙ nearest_of_all es all e q is);
     }
 
-same_itself : (n : List ℕ) → is_same_name n n ≡ true
+pub same_itself : (n : List ℕ) → is_same_name n n ≡ true
 same_itself n = ap is_eq (tied_itself nat_list_cmp_total n)
 
 pub is_held : (es all : List Entry) (m : BTreeMap (List ℕ) ℕ) (e : Entry) → AreNearest all m → all ≡ es ++ e ∷ [] → IsSome (place_held m e.name)

@@ -1,6 +1,7 @@
 //! Which specifications are in scope, and which of them a name stands for.
 #![tactic(auto)]
 
+pub mod laws;
 mod scopes;
 #[cfg(test)]
 mod tests;

@@ -88,3 +88,6 @@ held_end found all e h = sym h ∙ sym (same_measure _ _ _ _ (omega arith) (omeg
 -- one more part is added
 pub held_step : (found m rest : Measure) → held (beside (held (beside found (held m))) rest) ≡ held (beside found (beside m rest))
 held_step found m rest = same_measure _ _ _ _ (omega arith) (omega arith)
+
+-- what the walks over a type need
+pub ruleset measure_rules = (measure_primitive, measure_array, measure_record, measure_named, measure_channel, measure_timer, measure_any, measure_sequence, measure_variant, measure_defined, measure_value, measure_counted, held_above, held_beside, held_held, held_step, held_end)

@@ -72,3 +72,6 @@ cut_step total e (Some x) (Some y) h = let e' : e ≡ cut x = cc in ap Some (ome
 pub cut_none : (total : ℕ) (s r : Option ℕ) → None ≡ capped s → capped (sum_of (Some total) (sum_of s r)) ≡ None
 cut_none total None r h = refl
 cut_none total (Some x) r h = absurd cc
+
+-- what the walks over a type need
+pub ruleset size_rules = (size_primitive, size_array, size_named, size_channel, size_timer, size_record, cut_product, cut_step, cut_none)

@@ -1,6 +1,6 @@
 -- The values of constants: whole numbers, each in the range of its type, and what the operators give on them.
 -- TRUE is 1 and FALSE 0.
-use Rattle.std.specs.Prelude.{ℕ, ◌-◌, ◌*◌, ◌/◌, ◌%◌, ◌^◌, ℤ, pos, negsuc, ◌+ℤ◌, ◌-ℤ◌, ◌*ℤ◌, neg_ℤ, int_lt, int_le, int_div, int_rem, unsigned_abs, bit_and, bit_or, bit_xor, nat_le, Bool, true, false, cond, not, ◌&&◌, ◌||◌}
+use Rattle.std.specs.Prelude.{◌≡◌, ◌⊎◌, ℕ, ◌-◌, ◌*◌, ◌/◌, ◌%◌, ◌^◌, ℤ, pos, negsuc, ◌+ℤ◌, ◌-ℤ◌, ◌*ℤ◌, neg_ℤ, int_lt, int_le, int_div, int_rem, unsigned_abs, bit_and, bit_or, bit_xor, nat_le, Bool, true, false, cond, not, ◌&&◌, ◌||◌}
 use Rattle.std.specs.Prelude.{Result, Ok, Err, Option, Some, None}
 use Rattle.std.specs.Ordering.{int_eq}
 use Rattle.std.specs.Int.{int_rem_euclid}
@@ -95,6 +95,10 @@ settled_pattern t n = settled t (number_of_pattern t n)
 -- the number in the range of the type that differs from n by a multiple of 2 to the number of bits
 abbrev pub settled_wrapped : Primitive → ℤ → Result Value ConstFault
 settled_wrapped t n = settled_pattern t (pattern_of t n)
+
+-- one of these numbers is the other and a multiple of 2 to the number of bits
+abbrev pub IsCongruent : Primitive → ℤ → ℤ → Type 0
+IsCongruent t m n = (k : ℕ) × ((m +ℤ pos (k * 2 ^ bits_of t) ≡ n) ⊎ (n +ℤ pos (k * 2 ^ bits_of t) ≡ m))
 
 abbrev pub truth : Bool → Result Value ConstFault
 truth b = Ok (v.Bool b)

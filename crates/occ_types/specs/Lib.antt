@@ -1,3 +1,4 @@
 pub mod Constant
 pub mod Size
 pub mod Measure
+pub mod Interface

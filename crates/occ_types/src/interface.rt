@@ -38,7 +38,7 @@ pub enum Effect {
 pub struct Formal {
     pub of: OccType,
     pub passing: Passing,
-    /// The uses of single parts, in one order and none twice.
+    /// The uses of single parts. They count as a set: neither their order nor how often each stands here matters.
     pub uses: Items<Use>,
 }
 

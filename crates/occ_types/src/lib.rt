@@ -4,6 +4,7 @@
 mod comparison;
 mod constant;
 mod interface;
+pub mod laws;
 mod measure;
 mod range;
 pub mod rows;
@@ -11,6 +12,7 @@ mod same;
 mod size;
 #[cfg(test)]
 mod tests;
+pub mod type_rows;
 mod types;
 mod value;
 

@@ -1,3 +1,5 @@
+#![tactic(auto, using(crate::proofs::Measures::measure_rules))]
+
 ghost use Rattle.std.specs.Prelude.{◌≡◌};
 ghost use Rattle.occ_types.specs.Measure.{above, all_of, beside, field_measures, held, item_measure, item_measures, measure_of, none, one, protocol_measure, tag_measures};
 
@@ -55,7 +57,6 @@ impl Measure {
 
 /// The measure of a type. It goes once through the type as it is written out; `Measure::above` and `Measure::beside`
 /// make that of a larger type from those of its parts.
-#[tactic(auto, using(crate::proofs::Measures::measure_primitive, crate::proofs::Measures::measure_array, crate::proofs::Measures::measure_record, crate::proofs::Measures::measure_named, crate::proofs::Measures::measure_channel, crate::proofs::Measures::measure_timer, crate::proofs::Measures::measure_any, crate::proofs::Measures::measure_sequence, crate::proofs::Measures::measure_variant, crate::proofs::Measures::measure_defined, crate::proofs::Measures::measure_value, crate::proofs::Measures::measure_counted, crate::proofs::Measures::held_above, crate::proofs::Measures::held_beside, crate::proofs::Measures::held_held, crate::proofs::Measures::held_step, crate::proofs::Measures::held_end))]
 #[cycle(measure)]
 pub fn measure_of(of: &OccType) -> Measure
     ensures { result ≡ held (measure_of of.now) }
@@ -70,7 +71,6 @@ pub fn measure_of(of: &OccType) -> Measure
 }
 
 /// The measure of a protocol.
-#[tactic(auto, using(crate::proofs::Measures::measure_primitive, crate::proofs::Measures::measure_array, crate::proofs::Measures::measure_record, crate::proofs::Measures::measure_named, crate::proofs::Measures::measure_channel, crate::proofs::Measures::measure_timer, crate::proofs::Measures::measure_any, crate::proofs::Measures::measure_sequence, crate::proofs::Measures::measure_variant, crate::proofs::Measures::measure_defined, crate::proofs::Measures::measure_value, crate::proofs::Measures::measure_counted, crate::proofs::Measures::held_above, crate::proofs::Measures::held_beside, crate::proofs::Measures::held_held, crate::proofs::Measures::held_step, crate::proofs::Measures::held_end))]
 #[cycle(measure)]
 pub fn measure_protocol(of: &Protocol) -> Measure
     ensures { result ≡ held (protocol_measure of.now) }
@@ -83,7 +83,6 @@ pub fn measure_protocol(of: &Protocol) -> Measure
     }
 }
 
-#[tactic(auto, using(crate::proofs::Measures::measure_primitive, crate::proofs::Measures::measure_array, crate::proofs::Measures::measure_record, crate::proofs::Measures::measure_named, crate::proofs::Measures::measure_channel, crate::proofs::Measures::measure_timer, crate::proofs::Measures::measure_any, crate::proofs::Measures::measure_sequence, crate::proofs::Measures::measure_variant, crate::proofs::Measures::measure_defined, crate::proofs::Measures::measure_value, crate::proofs::Measures::measure_counted, crate::proofs::Measures::held_above, crate::proofs::Measures::held_beside, crate::proofs::Measures::held_held, crate::proofs::Measures::held_step, crate::proofs::Measures::held_end))]
 #[cycle(measure)]
 fn measure_item(of: &Item) -> Measure
     ensures { result ≡ held (item_measure of.now) }
@@ -94,7 +93,6 @@ fn measure_item(of: &Item) -> Measure
     }
 }
 
-#[tactic(auto, using(crate::proofs::Measures::measure_primitive, crate::proofs::Measures::measure_array, crate::proofs::Measures::measure_record, crate::proofs::Measures::measure_named, crate::proofs::Measures::measure_channel, crate::proofs::Measures::measure_timer, crate::proofs::Measures::measure_any, crate::proofs::Measures::measure_sequence, crate::proofs::Measures::measure_variant, crate::proofs::Measures::measure_defined, crate::proofs::Measures::measure_value, crate::proofs::Measures::measure_counted, crate::proofs::Measures::held_above, crate::proofs::Measures::held_beside, crate::proofs::Measures::held_held, crate::proofs::Measures::held_step, crate::proofs::Measures::held_end))]
 #[cycle(measure)]
 fn measure_fields(fields: &[Field]) -> Measure
     ensures { result ≡ held (all_of (field_measures fields.now)) }
@@ -106,7 +104,6 @@ fn measure_fields(fields: &[Field]) -> Measure
     found
 }
 
-#[tactic(auto, using(crate::proofs::Measures::measure_primitive, crate::proofs::Measures::measure_array, crate::proofs::Measures::measure_record, crate::proofs::Measures::measure_named, crate::proofs::Measures::measure_channel, crate::proofs::Measures::measure_timer, crate::proofs::Measures::measure_any, crate::proofs::Measures::measure_sequence, crate::proofs::Measures::measure_variant, crate::proofs::Measures::measure_defined, crate::proofs::Measures::measure_value, crate::proofs::Measures::measure_counted, crate::proofs::Measures::held_above, crate::proofs::Measures::held_beside, crate::proofs::Measures::held_held, crate::proofs::Measures::held_step, crate::proofs::Measures::held_end))]
 #[cycle(measure)]
 fn measure_items(items: &[Item]) -> Measure
     ensures { result ≡ held (all_of (item_measures items.now)) }
@@ -118,7 +115,6 @@ fn measure_items(items: &[Item]) -> Measure
     found
 }
 
-#[tactic(auto, using(crate::proofs::Measures::measure_primitive, crate::proofs::Measures::measure_array, crate::proofs::Measures::measure_record, crate::proofs::Measures::measure_named, crate::proofs::Measures::measure_channel, crate::proofs::Measures::measure_timer, crate::proofs::Measures::measure_any, crate::proofs::Measures::measure_sequence, crate::proofs::Measures::measure_variant, crate::proofs::Measures::measure_defined, crate::proofs::Measures::measure_value, crate::proofs::Measures::measure_counted, crate::proofs::Measures::held_above, crate::proofs::Measures::held_beside, crate::proofs::Measures::held_held, crate::proofs::Measures::held_step, crate::proofs::Measures::held_end))]
 #[cycle(measure)]
 fn measure_tags(tags: &[Tag]) -> Measure
     ensures { result ≡ held (all_of (tag_measures tags.now)) }

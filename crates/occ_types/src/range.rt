@@ -1,6 +1,5 @@
-ghost use Rattle.std.specs.Prelude.{pos, ◌<◌, ◌≡◌, ◌≤◌, ◌^◌};
-ghost use Rattle.occ_types.specs.declared.value.Primitive.TheVariants as p;
-ghost use Rattle.occ_types.specs.Constant.{bits_of, greatest_of, least_of, number_of_pattern, pattern_of, settled, settled_pattern, settled_wrapped, wrapped};
+ghost use Rattle.std.specs.Prelude.{int_le, true, ◌<◌, ◌≡◌, ◌≤◌, ◌^◌};
+ghost use Rattle.occ_types.specs.Constant.{bits_of, greatest_of, least_of, number_of_pattern, pattern_of, settled, settled_pattern, value_of, wrapped};
 
 use super::{ConstFault, Primitive, Value};
 
@@ -27,77 +26,30 @@ pub(crate) fn power(k: u32) -> u128
     1 << k
 }
 
-/// The value of a type whose number is n.
+/// The value of a type whose number is n, if n is in its range.
 pub(crate) fn settle(of: Primitive, n: i128) -> Result<Value, ConstFault>
     ensures { result ≡ settled of n }
 {
+    if least(of) <= n && n <= greatest(of) {
+        Ok(value(of, n))
+    } else {
+        Err(ConstFault::Overflow)
+    }
+}
+
+/// The value of a type whose number is n.
+fn value(of: Primitive, n: i128) -> Value
+    requires least { int_le (least_of of) n ≡ true }
+    requires greatest { int_le n (greatest_of of) ≡ true }
+    ensures { result ≡ value_of of n }
+{
     match of {
-        Primitive::Bool => settle_bool(n),
-        Primitive::Byte => settle_byte(n),
-        Primitive::Int16 => settle_int16(n),
-        Primitive::Int => settle_int(n),
-        Primitive::Int32 => settle_int32(n),
-        Primitive::Int64 => settle_int64(n),
-    }
-}
-
-fn settle_bool(n: i128) -> Result<Value, ConstFault>
-    ensures { result ≡ settled p.Bool n }
-{
-    if 0 <= n && n <= 1 {
-        Ok(Value::Bool(n == 1))
-    } else {
-        Err(ConstFault::Overflow)
-    }
-}
-
-fn settle_byte(n: i128) -> Result<Value, ConstFault>
-    ensures { result ≡ settled p.Byte n }
-{
-    if 0 <= n && n <= 255 {
-        Ok(Value::Byte(n as u8))
-    } else {
-        Err(ConstFault::Overflow)
-    }
-}
-
-fn settle_int16(n: i128) -> Result<Value, ConstFault>
-    ensures { result ≡ settled p.Int16 n }
-{
-    if -32_768 <= n && n <= 32_767 {
-        Ok(Value::Int16(n as i16))
-    } else {
-        Err(ConstFault::Overflow)
-    }
-}
-
-fn settle_int(n: i128) -> Result<Value, ConstFault>
-    ensures { result ≡ settled p.Int n }
-{
-    if -2_147_483_648 <= n && n <= 2_147_483_647 {
-        Ok(Value::Int(n as i32))
-    } else {
-        Err(ConstFault::Overflow)
-    }
-}
-
-fn settle_int32(n: i128) -> Result<Value, ConstFault>
-    ensures { result ≡ settled p.Int32 n }
-{
-    if -2_147_483_648 <= n && n <= 2_147_483_647 {
-        Ok(Value::Int32(n as i32))
-    } else {
-        Err(ConstFault::Overflow)
-    }
-}
-
-fn settle_int64(n: i128) -> Result<Value, ConstFault>
-    ensures { result ≡ settled p.Int64 n }
-{
-    if -9_223_372_036_854_775_808 <= n && n <= 9_223_372_036_854_775_807 {
-        Ok(Value::Int64(n as i64))
-    } else {
-        Err(ConstFault::Overflow)
+        Primitive::Bool => Value::Bool(0 < n),
+        Primitive::Byte => Value::Byte(n as u8),
+        Primitive::Int16 => Value::Int16(n as i16),
+        Primitive::Int => Value::Int(n as i32),
+        Primitive::Int32 => Value::Int32(n as i32),
+        Primitive::Int64 => Value::Int64(n as i64),
     }
 }
 
@@ -135,6 +87,18 @@ fn number_with(of: Primitive, pattern: u128) -> i128
         n
     } else {
         n - power(bits(of)) as i128
+    }
+}
+
+/// The least number of a type.
+fn least(of: Primitive) -> i128
+    ensures { result ≡ least_of of }
+{
+    match of {
+        Primitive::Bool | Primitive::Byte => 0,
+        Primitive::Int16 => -32_768,
+        Primitive::Int | Primitive::Int32 => -2_147_483_648,
+        Primitive::Int64 => -9_223_372_036_854_775_808,
     }
 }
 

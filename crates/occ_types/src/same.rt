@@ -2,7 +2,8 @@ ghost use Rattle.std.specs.Prelude.{IsTrue, ◌≡◌, ◌↔◌};
 
 use super::{Field, Item, OccType, Protocol, Tag};
 
-/// Whether two types are one. Two named types are if their names and their definitions are equal.
+/// Whether two types are one. Two named types are if their names and their definitions are equal. It takes no memory,
+/// and goes once through both until they differ.
 #[cycle(same)]
 pub fn same_type(a: &OccType, b: &OccType) -> bool
     ensures { IsTrue result ↔ (a.now ≡ b.now) }

@@ -1,3 +1,5 @@
+#![tactic(auto, using(crate::proofs::Sizes::size_rules))]
+
 ghost use Rattle.std.specs.Prelude.{IfSome, ◌+◌, ◌≡◌, ◌≤◌};
 ghost use Rattle.occ_types.specs.Size.{bytes_in, capped, cut, field_sizes, primitive_size, product_of, size_of, total_of};
 
@@ -21,7 +23,6 @@ fn within(extent: Option<u64>) -> Option<u32>
 }
 
 /// The bytes of a type, or 2,147,483,648 where they are more.
-#[tactic(auto, using(crate::proofs::Sizes::size_primitive, crate::proofs::Sizes::size_array, crate::proofs::Sizes::size_named, crate::proofs::Sizes::size_channel, crate::proofs::Sizes::size_timer, crate::proofs::Sizes::size_record, crate::proofs::Sizes::cut_product, crate::proofs::Sizes::cut_step, crate::proofs::Sizes::cut_none))]
 #[cycle(extent)]
 fn extent(of: &OccType) -> Option<u64>
     ensures value { result ≡ capped (size_of of.now) }
@@ -37,7 +38,6 @@ fn extent(of: &OccType) -> Option<u64>
 }
 
 /// The bytes of all fields, or 2,147,483,648 where they are more.
-#[tactic(auto, using(crate::proofs::Sizes::size_primitive, crate::proofs::Sizes::size_array, crate::proofs::Sizes::size_named, crate::proofs::Sizes::size_channel, crate::proofs::Sizes::size_timer, crate::proofs::Sizes::size_record, crate::proofs::Sizes::cut_product, crate::proofs::Sizes::cut_step, crate::proofs::Sizes::cut_none))]
 #[cycle(extent)]
 fn fields_extent(fields: &[Field]) -> Option<u64>
     ensures value { result ≡ capped (total_of (field_sizes fields.now)) }

@@ -198,24 +198,31 @@ fn measures_types(rt: HostRuntime) -> Result<(), Fail> {
     Ok(())
 }
 
-/// An interface of one PROC with one formal, of which the place is written.
-fn interface(
-    alloc: Global,
-    text: &str,
-    place: i64,
-    effect: Effect,
-) -> Result<Interface, AllocError> {
+/// The use that writes one place of a field.
+fn written(alloc: Global, place: i64) -> Result<Use, AllocError> {
     let mut selectors = Items::new(alloc);
     selectors.push(Selector::Field(name(alloc, "f")?))?;
     selectors.push(Selector::Interval(Interval {
         mark: Mark::Sure,
         places: Places::Run(place, 0),
     }))?;
-    let mut uses = Items::new(alloc);
-    uses.push(Use {
+    Ok(Use {
         selectors,
         kind: UseKind::Write,
-    })?;
+    })
+}
+
+/// An interface of one PROC with one formal, of which these places are written.
+fn interface(
+    alloc: Global,
+    text: &str,
+    places: &[i64],
+    effect: Effect,
+) -> Result<Interface, AllocError> {
+    let mut uses = Items::new(alloc);
+    for place in places {
+        uses.push(written(alloc, *place)?)?;
+    }
     let mut formals = Items::new(alloc);
     formals.push(Formal {
         of: int(),
@@ -236,10 +243,12 @@ fn interface(
 #[test]
 fn tells_interfaces_apart(rt: HostRuntime) -> Result<(), Fail> {
     let alloc = rt.alloc();
-    let first = interface(alloc, "p", 0, Effect::None)?;
-    assert!(rt; same_interface(&first, &interface(alloc, "p", 0, Effect::None)?));
-    assert!(rt; !same_interface(&first, &interface(alloc, "q", 0, Effect::None)?));
-    assert!(rt; !same_interface(&first, &interface(alloc, "p", 1, Effect::None)?));
-    assert!(rt; !same_interface(&first, &interface(alloc, "p", 0, Effect::Some)?));
+    let first = interface(alloc, "p", &[0, 1], Effect::None)?;
+    assert!(rt; same_interface(&first, &interface(alloc, "p", &[0, 1], Effect::None)?));
+    assert!(rt; same_interface(&first, &interface(alloc, "p", &[1, 0, 1], Effect::None)?));
+    assert!(rt; !same_interface(&first, &interface(alloc, "p", &[0, 0], Effect::None)?));
+    assert!(rt; !same_interface(&first, &interface(alloc, "p", &[2, 1, 0], Effect::None)?));
+    assert!(rt; !same_interface(&first, &interface(alloc, "q", &[0, 1], Effect::None)?));
+    assert!(rt; !same_interface(&first, &interface(alloc, "p", &[0, 1], Effect::Some)?));
     Ok(())
 }

@@ -1,0 +1,4 @@
+use Rattle.occ_bench.proofs.+wide.Given as goal
+
+abbrev pub decreases-wide : goal.decreases-wide
+decreases-wide l = l.levels
