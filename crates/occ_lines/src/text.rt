@@ -33,10 +33,10 @@ pub struct Logical {
 #[derive(Clone, Copy, Debug, PartialEq, Eq, Error)]
 pub enum TextFault {
     /// Over 262,144 bytes.
-    #[error("TooLarge")]
+    #[error("a text has 262,144 bytes at most")]
     TooLarge,
     /// Over 16,384 lines.
-    #[error("TooManyLines")]
+    #[error("a text has 16,384 lines at most")]
     TooManyLines,
     /// Memory was refused.
     #[error("out of memory")]
