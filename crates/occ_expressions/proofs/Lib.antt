@@ -1,0 +1,11 @@
+pub mod Arguments
+pub mod Begins
+pub mod Cases
+pub mod Closings
+pub mod Dimensions
+pub mod Lists
+pub mod Many
+pub mod Named
+pub mod Narrow
+pub mod Operands
+pub mod Tailed

@@ -1,0 +1,96 @@
+ghost use Rattle.occ_expressions.specs.Reading.{dyadic_token, IsEnd, Reads, ReadsExpr};
+ghost use Rattle.occ_expressions.specs.Spelling.{many, operated_of, run_token};
+ghost use Rattle.occ_expressions.specs.Tails.{tail_then};
+ghost use Rattle.occ_expressions.specs.declared.operator.Dyadic.{Dyadic as ADyadic};
+ghost use Rattle.occ_expressions.specs.declared.tail.Tail.{Tail as ATail};
+ghost use Rattle.occ_expressions.specs.declared.tree.Operand.{Operand as AnOperand};
+ghost use Rattle.occ_lines.specs.declared.token.Token.{Token as AToken};
+ghost use Rattle.std.specs.Prelude.{IfOk, IfSome, List, MatchOption, length, ◌∷◌, ◌≡◌, ◌≢◌, ◌≤◌, ◌<◌};
+
+use super::operand::operand;
+use super::operator::{Dyadic, dyadic_operator};
+use super::token_reader::first;
+use super::{Expr, Operand, PairOperator, RunOperator};
+use occ_base::Items;
+use occ_lines::Token;
+use std::alloc::{AllocError, Global};
+
+/// What stands behind the first operand of an expression.
+#[derive(Debug, Drop)]
+pub enum Tail {
+    Nothing,
+    Pair(PairOperator, Operand),
+    Run(RunOperator, Operand, Items<Operand>),
+}
+
+/// What follows the operator, where it stands first.
+pub fn after_operator(tokens: &[Token], operator: RunOperator) -> Option<&[Token]>
+    ensures { MatchOption result ((k : List AToken) → tokens.now ≢ run_token operator ∷ k) (λ rest. tokens.now ≡ run_token operator ∷ rest.now) }
+{
+    let (token, rest) = first(tokens)?;
+    match dyadic_operator(token) {
+        Some(Dyadic::Run(found)) if found == operator => Some(rest),
+        _ => None,
+    }
+}
+
+/// Further operands, each behind that operator, perhaps none.
+pub fn operands<'a, F: Fn(Global, &[Token]) -> Result<Option<(Expr, &[Token])>, AllocError>>(
+    alloc: Global,
+    operator: RunOperator,
+    tokens: &'a [Token],
+    inner: &F,
+) -> Result<Option<(Items<Operand>, &'a [Token])>, AllocError>
+    requires inner { ReadsExpr (length tokens.now) (F.pre inner.now) (F.post inner.now) }
+    ensures found { IfOk result (λ r. IfSome r (λ y. tokens.now ≡ many (operated_of operator) y.0 y.1.now)) }
+    ensures shorter { IfOk result (λ r. IfSome r (λ y. length y.1.now ≤ length tokens.now)) }
+    ensures only { IfOk result (λ r. (os : List AnOperand) (k : List AToken) → IsEnd k → tokens.now ≡ many (operated_of operator) os k → Reads r os k) }
+{
+    let mut found = Items::new(alloc);
+    let mut rest = tokens;
+    while let Some(begun) = after_operator(rest, operator) {
+        let Some((one, next)) = operand(alloc, begun, inner)? else {
+            return Ok(None);
+        };
+        found.push(one)?;
+        rest = next;
+    }
+    Ok(Some((found, rest)))
+}
+
+/// What stands behind the first operand.
+pub fn behind_operand<'a, F: Fn(Global, &[Token]) -> Result<Option<(Expr, &[Token])>, AllocError>>(
+    alloc: Global,
+    tokens: &'a [Token],
+    inner: &F,
+) -> Result<Option<(Tail, &'a [Token])>, AllocError>
+    requires inner { ReadsExpr (length tokens.now) (F.pre inner.now) (F.post inner.now) }
+    ensures found { IfOk result (λ r. IfSome r (λ y. tokens.now ≡ tail_then y.0 y.1.now)) }
+    ensures shorter { IfOk result (λ r. IfSome r (λ y. length y.1.now ≤ length tokens.now)) }
+    ensures only { IfOk result (λ r. (x : ATail) (k : List AToken) → IsEnd k → tokens.now ≡ tail_then x k → Reads r x k) }
+{
+    let Some((operator, rest)) = operator(tokens) else {
+        return Ok(Some((Tail::Nothing, tokens)));
+    };
+    let Some((second, rest)) = operand(alloc, rest, inner)? else {
+        return Ok(None);
+    };
+    match operator {
+        Dyadic::Pair(operator) => Ok(Some((Tail::Pair(operator, second), rest))),
+        Dyadic::Run(operator) => {
+            let Some((more, rest)) = operands(alloc, operator, rest, inner)? else {
+                return Ok(None);
+            };
+            Ok(Some((Tail::Run(operator, second, more), rest)))
+        }
+    }
+}
+
+/// The operator between two operands that stands first.
+pub fn operator(tokens: &[Token]) -> Option<(Dyadic, &[Token])>
+    ensures { MatchOption result ((operator : ADyadic) (k : List AToken) → tokens.now ≢ dyadic_token operator ∷ k) (λ y. tokens.now ≡ dyadic_token y.0 ∷ y.1.now) }
+{
+    let (token, rest) = first(tokens)?;
+    let operator = dyadic_operator(token)?;
+    Some((operator, rest))
+}
