@@ -68,8 +68,8 @@ pub fn bracket_operand(
     }
 }
 
-#[tactic(auto, using(crate::proofs::Narrow::narrow_rules))]
 /// The operand as it may stand directly behind the name of a type.
+#[tactic(auto, using(crate::proofs::Narrow::narrow_rules))]
 pub fn narrow(alloc: Global, operand: Operand) -> Result<Option<NamedOperand>, AllocError>
     ensures { IfOk result (λ r. r ≡ narrow_of operand) }
 {
