@@ -21,7 +21,7 @@ use Rattle.occ_expressions.specs.declared.tree.Primitive.{Primitive}
 use Rattle.occ_expressions.specs.declared.tree.Primitive.TheVariants as pr
 use Rattle.occ_expressions.specs.Reading.{begin_of}
 use Rattle.occ_expressions.specs.Spelling.{builtin_then, channel_words, dimension_then, element_then, expr_then, extreme_word, literal_token, many, monadic_token, operand_then, primitive_word, truth_word, type_form_then}
-use Rattle.occ_expressions.proofs.Cases.{builtin_is_any_channel, builtin_is_channel, builtin_is_primitive, builtin_is_timer, dimension_is_open, dimension_is_sized, element_is_named, element_is_segment, expr_is_alone, expr_is_applied, expr_is_array_converted, expr_is_converted, expr_is_most, expr_is_named, expr_is_pair, expr_is_run, operand_is_call, operand_is_decorated, operand_is_decorated_table, operand_is_element, operand_is_literal, operand_is_parens, operand_is_table, operand_is_truth, BuiltinIs, DimensionIs, ElementIs, ExprIs, OperandIs, builtin_is, dimension_is, element_is, expr_is, operand_is, builtin_primitive_spells, builtin_timer_spells, builtin_any_channel_spells, builtin_channel_spells, dimension_open_spells, dimension_sized_spells, element_named_spells, element_segment_spells, operand_element_spells, operand_literal_spells, operand_decorated_spells, operand_truth_spells, operand_parens_spells, operand_table_spells, operand_decorated_table_spells, operand_call_spells, expr_alone_spells, expr_run_spells, expr_pair_spells, expr_applied_spells, expr_converted_spells, expr_array_converted_spells, expr_named_spells, expr_most_spells}
+use Rattle.occ_expressions.proofs.Cases.{builtin_is_any_channel, builtin_is_channel, builtin_is_counted, builtin_is_primitive, builtin_is_timer, dimension_is_open, dimension_is_sized, element_is_named, element_is_segment, expr_is_alone, expr_is_applied, expr_is_array_converted, expr_is_converted, expr_is_most, expr_is_named, expr_is_pair, expr_is_run, operand_is_call, operand_is_decorated, operand_is_decorated_table, operand_is_element, operand_is_literal, operand_is_parens, operand_is_table, operand_is_truth, BuiltinIs, DimensionIs, ElementIs, ExprIs, OperandIs, builtin_is, dimension_is, element_is, expr_is, operand_is, builtin_primitive_spells, builtin_timer_spells, builtin_any_channel_spells, builtin_channel_spells, builtin_counted_spells, dimension_open_spells, dimension_sized_spells, element_named_spells, element_segment_spells, operand_element_spells, operand_literal_spells, operand_decorated_spells, operand_truth_spells, operand_parens_spells, operand_table_spells, operand_decorated_table_spells, operand_call_spells, expr_alone_spells, expr_run_spells, expr_pair_spells, expr_applied_spells, expr_converted_spells, expr_array_converted_spells, expr_named_spells, expr_most_spells}
 
 -- an expression begins here
 abbrev pub is_begun : Begin → Bool
@@ -69,6 +69,7 @@ builtin_begins_by : (b : Builtin) (k : List Token) → BuiltinIs b → begun (bu
 builtin_begins_by b k (builtin_is_primitive p e) = ap (λ (x : Builtin). begun (builtin_then x k)) e ∙ ap begun (builtin_primitive_spells p k) ∙ primitive_begins p k
 builtin_begins_by b k (builtin_is_timer e) = ap (λ (x : Builtin). begun (builtin_then x k)) e ∙ ap begun (builtin_timer_spells k)
 builtin_begins_by b k (builtin_is_any_channel c e) = ap (λ (x : Builtin). begun (builtin_then x k)) e ∙ ap begun (builtin_any_channel_spells c k) ∙ channel_begins c _
+builtin_begins_by b k (builtin_is_counted c ds base es other e) = ap (λ (x : Builtin). begun (builtin_then x k)) e ∙ ap begun (builtin_counted_spells c ds base es other k) ∙ channel_begins c _
 builtin_begins_by b k (builtin_is_channel c ds base e) = ap (λ (x : Builtin). begun (builtin_then x k)) e ∙ ap begun (builtin_channel_spells c ds base k) ∙ channel_begins c _
 
 dimension_begins_by : (d : Dimension) (k : List Token) → DimensionIs d → begun (dimension_then d k) ≡ true
@@ -96,7 +97,7 @@ operand_begins_by o k (operand_is_table first es e) = ap (λ (x : Operand). begu
 operand_begins_by o k (operand_is_decorated_table first es ty e) = ap (λ (x : Operand). begun (operand_then x k)) e ∙ ap begun (operand_decorated_table_spells first es ty k)
 operand_begins_by o k (operand_is_call n es e) = ap (λ (x : Operand). begun (operand_then x k)) e ∙ ap begun (operand_call_spells n es k)
 
-operand_begins : (o : Operand) (k : List Token) → begun (operand_then o k) ≡ true
+pub operand_begins : (o : Operand) (k : List Token) → begun (operand_then o k) ≡ true
 operand_begins o k = operand_begins_by o k (operand_is o)
 
 expr_begins_by : (x : Expr) (k : List Token) → ExprIs x → begun (expr_then x k) ≡ true

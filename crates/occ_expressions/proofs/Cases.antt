@@ -31,7 +31,7 @@ use Rattle.occ_expressions.specs.declared.tree.TypeForm.TheVariants as tv
 use Rattle.occ_expressions.specs.declared.tree.Bounds.TheOpen.{Bounds-F, Builtin-F, Dimension-F, Element-F, Expr-F, NamedOperand-F, Operand-F, TypeForm-F}
 use Rattle.occ_expressions.specs.declared.tree.Bounds.TheFolds.{fold-roll-Bounds, fold-roll-Builtin, fold-roll-Dimension, fold-roll-Element, fold-roll-Expr, fold-roll-NamedOperand, fold-roll-Operand, fold-roll-TypeForm}
 use Rattle.occ_expressions.specs.declared.tree.Bounds.TheViews.{roll-out-Bounds, roll-out-Builtin, roll-out-Dimension, roll-out-Element, roll-out-Expr, roll-out-NamedOperand, roll-out-Operand, roll-out-TypeForm}
-use Rattle.occ_expressions.specs.Spelling.{Spelling, many, itself, primitive_word, channel_words, monadic_token, pair_token, extreme_word, literal_token, truth_word, data_base_token, subscript, next_item, bracketed, arguments, operated, bounds_step, builtin_step, dimension_step, element_step, expr_step, named_operand_step, operand_step, type_form_step, bounds_then, builtin_then, dimension_then, element_then, expr_then, named_operand_then, operand_then, type_form_then, subscript_of, next_item_of, operated_of, table_of, arguments_of, decoration_of}
+use Rattle.occ_expressions.specs.Spelling.{Spelling, many, itself, primitive_word, channel_words, monadic_token, pair_token, extreme_word, literal_token, truth_word, data_base_token, counted_array, subscript, next_item, bracketed, arguments, operated, bounds_step, builtin_step, dimension_step, element_step, expr_step, named_operand_step, operand_step, type_form_step, bounds_then, builtin_then, dimension_then, element_then, expr_then, named_operand_then, operand_then, type_form_then, subscript_of, next_item_of, operated_of, table_of, arguments_of, decoration_of}
 
 at : (k : List Token) (x y : Spelling) → x ≡ y → x k ≡ y k
 at k x y e = ap (λ (f : Spelling). f k) e
@@ -79,18 +79,25 @@ builtin_any_channel_spells c k = at k _ _ (ap builtin_then (sym (uv.rolls-AnyCha
 pub builtin_channel_spells : (c : ChannelWords) (ds : List Dimension) (b : DataBase) (k : List Token) → builtin_then (uv.Channel c ds b) k ≡ channel_words c (many dimension_then ds (data_base_token b ∷ k))
 builtin_channel_spells c ds b k = at k _ _ (ap builtin_then (sym (uv.rolls-Channel c ds b)) ∙ fold-roll-Builtin Spelling Spelling Spelling Spelling Spelling Spelling Spelling Spelling bounds_step builtin_step dimension_step element_step expr_step named_operand_step operand_step type_form_step (Builtin-F.Channel c ds b)) ∙ ap (λ (z : List Token). channel_words c z) (many-map dimension_then itself ds (data_base_token b ∷ k))
 
+pub builtin_counted_spells : (c : ChannelWords) (ds : List Dimension) (b : DataBase) (es : List Dimension) (d : DataBase) (k : List Token)
+    → builtin_then (uv.Counted c ds b es d) k ≡ channel_words c (many dimension_then ds (data_base_token b ∷ counted_array (many dimension_then es (data_base_token d ∷ k))))
+builtin_counted_spells c ds b es d k = at k _ _ (ap builtin_then (sym (uv.rolls-Counted c ds b es d)) ∙ fold-roll-Builtin Spelling Spelling Spelling Spelling Spelling Spelling Spelling Spelling bounds_step builtin_step dimension_step element_step expr_step named_operand_step operand_step type_form_step (Builtin-F.Counted c ds b es d))
+    ∙ ap (λ (z : List Token). channel_words c z) (many-map dimension_then itself ds _ ∙ ap (λ (z : List Token). many dimension_then ds (data_base_token b ∷ counted_array z)) (many-map dimension_then itself es (data_base_token d ∷ k)))
+
 -- the variants of Builtin
 pub data BuiltinIs (x : Builtin) : Type 0 where
   builtin_is_primitive : (p' : Primitive) → x ≡ uv.Primitive p' → BuiltinIs x
   builtin_is_timer : x ≡ uv.Timer → BuiltinIs x
   builtin_is_any_channel : (c' : ChannelWords) → x ≡ uv.AnyChannel c' → BuiltinIs x
   builtin_is_channel : (c' : ChannelWords) (ds' : List Dimension) (b' : DataBase) → x ≡ uv.Channel c' ds' b' → BuiltinIs x
+  builtin_is_counted : (c' : ChannelWords) (ds' : List Dimension) (b' : DataBase) (es' : List Dimension) (d' : DataBase) → x ≡ uv.Counted c' ds' b' es' d' → BuiltinIs x
 
 builtin_layer : (x : Builtin-F Bounds Builtin Dimension Element Expr NamedOperand Operand TypeForm) → BuiltinIs (roll-Builtin x)
 builtin_layer (Builtin-F.Primitive p) = builtin_is_primitive p (uv.rolls-Primitive p)
 builtin_layer Builtin-F.Timer = builtin_is_timer uv.rolls-Timer
 builtin_layer (Builtin-F.AnyChannel c) = builtin_is_any_channel c (uv.rolls-AnyChannel c)
 builtin_layer (Builtin-F.Channel c ds b) = builtin_is_channel c ds b (uv.rolls-Channel c ds b)
+builtin_layer (Builtin-F.Counted c ds b es d) = builtin_is_counted c ds b es d (uv.rolls-Counted c ds b es d)
 
 pub builtin_is : (x : Builtin) → BuiltinIs x
 builtin_is x = subst BuiltinIs (roll-out-Builtin x) (builtin_layer (out-Builtin x))
@@ -289,4 +296,4 @@ pub type_form_is : (x : TypeForm) → TypeFormIs x
 type_form_is x = subst TypeFormIs (roll-out-TypeForm x) (type_form_layer (out-TypeForm x))
 
 -- what each variant spells
-pub ruleset spelling_rules = (bounds_from_spells, bounds_for_spells, bounds_from_for_spells, builtin_primitive_spells, builtin_timer_spells, builtin_any_channel_spells, builtin_channel_spells, dimension_open_spells, dimension_sized_spells, element_named_spells, element_segment_spells, expr_alone_spells, expr_run_spells, expr_pair_spells, expr_applied_spells, expr_converted_spells, expr_array_converted_spells, expr_named_spells, expr_most_spells, named_operand_element_spells, named_operand_literal_spells, named_operand_decorated_spells, named_operand_truth_spells, named_operand_table_spells, named_operand_decorated_table_spells, named_operand_call_spells, operand_element_spells, operand_literal_spells, operand_decorated_spells, operand_truth_spells, operand_parens_spells, operand_table_spells, operand_decorated_table_spells, operand_call_spells, type_form_named_spells, type_form_builtin_spells)
+pub ruleset spelling_rules = (bounds_from_spells, bounds_for_spells, bounds_from_for_spells, builtin_primitive_spells, builtin_timer_spells, builtin_any_channel_spells, builtin_channel_spells, builtin_counted_spells, dimension_open_spells, dimension_sized_spells, element_named_spells, element_segment_spells, expr_alone_spells, expr_run_spells, expr_pair_spells, expr_applied_spells, expr_converted_spells, expr_array_converted_spells, expr_named_spells, expr_most_spells, named_operand_element_spells, named_operand_literal_spells, named_operand_decorated_spells, named_operand_truth_spells, named_operand_table_spells, named_operand_decorated_table_spells, named_operand_call_spells, operand_element_spells, operand_literal_spells, operand_decorated_spells, operand_truth_spells, operand_parens_spells, operand_table_spells, operand_decorated_table_spells, operand_call_spells, type_form_named_spells, type_form_builtin_spells)

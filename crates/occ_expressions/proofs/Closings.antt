@@ -15,7 +15,7 @@ use Rattle.occ_expressions.specs.Spelling.{bounds_then, expr_then, many, next_it
 use Rattle.occ_expressions.proofs.Begins.{no_expr}
 use Rattle.occ_expressions.proofs.Cases.{BoundsIs, bounds_is, bounds_is_for, bounds_is_from, bounds_is_from_for, bounds_for_spells, bounds_from_for_spells, bounds_from_spells}
 
-bounds_begins : (b : Bounds) (k : List Token) → bounds_begin (bounds_then b k) ≡ true
+pub bounds_begins : (b : Bounds) (k : List Token) → bounds_begin (bounds_then b k) ≡ true
 bounds_begins b k = by b k (bounds_is b) where
   by : (b : Bounds) (k : List Token) → BoundsIs b → bounds_begin (bounds_then b k) ≡ true
   by b k (bounds_is_from e q) = ap (λ (x : Bounds). bounds_begin (bounds_then x k)) q ∙ ap bounds_begin (bounds_from_spells e k)
@@ -29,7 +29,7 @@ bounds_end b k = by b k (bounds_is b) where
   by b k (bounds_is_for e q) = ap (λ (x : Bounds). ends_expr (bounds_then x k)) q ∙ ap ends_expr (bounds_for_spells e k)
   by b k (bounds_is_from_for e f q) = ap (λ (x : Bounds). ends_expr (bounds_then x k)) q ∙ ap ends_expr (bounds_from_for_spells e f k)
 
-items_begin : (es : List Expr) (k : List Token) → bounds_begin (many next_item_of es (t.Symbol s.CloseIndex ∷ k)) ≡ false
+pub items_begin : (es : List Expr) (k : List Token) → bounds_begin (many next_item_of es (t.Symbol s.CloseIndex ∷ k)) ≡ false
 items_begin [] k = refl
 items_begin (e ∷ es) k = refl
 

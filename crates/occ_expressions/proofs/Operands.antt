@@ -20,6 +20,7 @@ use Rattle.occ_expressions.specs.declared.tree.Element.{Element}
 use Rattle.occ_expressions.specs.declared.tree.Element.TheVariants as ev
 use Rattle.occ_expressions.specs.declared.tree.Expr.{Expr, out-Expr}
 use Rattle.occ_expressions.specs.declared.tree.Expr.TheVariants as xv
+use Rattle.occ_expressions.specs.declared.tree.Extreme.{Extreme}
 use Rattle.occ_expressions.specs.declared.tree.Literal.{Literal}
 use Rattle.occ_expressions.specs.declared.tree.Literal.TheVariants as li
 use Rattle.occ_expressions.specs.declared.tree.Operand.{Operand, out-Operand}
@@ -106,7 +107,7 @@ operand_step (Expr-F.ArrayConverted d ds n o) = None
 operand_step (Expr-F.Expr::Named n o) = None
 operand_step (Expr-F.Most x type) = None
 
-abbrev element_step : Operand-F Bounds Builtin Dimension Element Expr NamedOperand Operand TypeForm → Option Element
+abbrev pub element_step : Operand-F Bounds Builtin Dimension Element Expr NamedOperand Operand TypeForm → Option Element
 element_step (Operand-F.Operand::Element el) = Some el
 element_step (Operand-F.Operand::Literal l) = None
 element_step (Operand-F.Operand::Decorated l type) = None
@@ -119,14 +120,20 @@ element_step (Operand-F.Operand::Call n es) = None
 alone_back : (o : Operand) → operand_step (out-Expr (xv.Alone o)) ≡ Some o
 alone_back o = ap (λ (x : Expr). operand_step (out-Expr x)) (sym (xv.rolls-Alone o)) ∙ ap operand_step (out-roll-Expr (Expr-F.Alone o))
 
-element_back : (el : Element) → element_step (out-Operand (ov.Element el)) ≡ Some el
+pub element_back : (el : Element) → element_step (out-Operand (ov.Element el)) ≡ Some el
 element_back el = ap (λ (x : Operand). element_step (out-Operand x)) (sym (ov.rolls-Element el)) ∙ ap element_step (out-roll-Operand (Operand-F.Operand::Element el))
 
-same_element : (a b : Element) → xv.Alone (ov.Element a) ≡ xv.Alone (ov.Element b) → a ≡ b
+pub same_element : (a b : Element) → xv.Alone (ov.Element a) ≡ xv.Alone (ov.Element b) → a ≡ b
 same_element a b e =
     let h : Some (ov.Element a) ≡ Some (ov.Element b) = sym (alone_back (ov.Element a)) ∙ ap (λ (x : Expr). operand_step (out-Expr x)) e ∙ alone_back (ov.Element b) in
     let i : ov.Element a ≡ ov.Element b = (cc) in
     let j : Some a ≡ Some b = sym (element_back a) ∙ ap (λ (x : Operand). element_step (out-Operand x)) i ∙ element_back b in (cc)
+
+most_back : (m : Extreme) (type : TypeForm) → operand_step (out-Expr (xv.Most m type)) ≡ None
+most_back m type = ap (λ (x : Expr). operand_step (out-Expr x)) (sym (xv.rolls-Most m type)) ∙ ap operand_step (out-roll-Expr (Expr-F.Most m type))
+
+pub alone_no_most : (o : Operand) (m : Extreme) (type : TypeForm) → xv.Alone o ≡ xv.Most m type → ⊥
+alone_no_most o m type e = let h : Some o ≡ None = sym (alone_back o) ∙ ap (λ (x : Expr). operand_step (out-Expr x)) e ∙ most_back m type in (cc)
 
 pub bracketed_one : (x : Expr) (c : Closing) (o p : Operand) → IsBracketed x c (Some o) → IsBracketed x c (Some p) → o ≡ p
 bracketed_one x (cl.Items es None) o p a b = let h : Some o ≡ Some p = a ∙ sym b in (cc)

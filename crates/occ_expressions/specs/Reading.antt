@@ -1,5 +1,5 @@
 -- What a reader of tokens has to answer, and what may follow the trees.
-use Rattle.std.specs.Prelude.{◌≡◌, ◌<◌, ◌||◌, ℕ, Bool, true, false, List, [], ◌∷◌, length, Option, Some, None, Result, IfOk, IfSome}
+use Rattle.std.specs.Prelude.{◌≡◌, ◌<◌, ◌||◌, ◌&&◌, not, ℕ, Bool, true, false, List, [], ◌∷◌, length, Option, Some, None, Result, IfOk, IfSome}
 use denote.Bor.{Bor}
 use Rattle.std.specs.Global.{Global}
 use Rattle.std.specs.declared.alloc.AllocError.{AllocError}
@@ -83,12 +83,20 @@ is_end_word w.For = true
 is_end_word w.From = true
 is_end_word other = false
 
--- what follows an expression, and what follows an operand
+-- `::[]` goes on with the type of a channel, so it may not follow where a type may end
+abbrev pub is_counted : List Token → Bool
+is_counted (t.Symbol s.Counted ∷ t.Symbol s.OpenIndex ∷ t.Symbol s.CloseIndex ∷ k) = true
+is_counted other = false
+
+-- what follows operands with operators between them, what follows an expression, and what follows an operand
+abbrev pub ends_run : List Token → Bool
+ends_run [] = true
+ends_run (t.Symbol symbol ∷ k) = is_end_symbol symbol
+ends_run (t.Word word ∷ k) = is_end_word word
+ends_run (other ∷ k) = false
+
 abbrev pub ends_expr : List Token → Bool
-ends_expr [] = true
-ends_expr (t.Symbol symbol ∷ k) = is_end_symbol symbol
-ends_expr (t.Word word ∷ k) = is_end_word word
-ends_expr (other ∷ k) = false
+ends_expr k = ends_run k && not (is_counted k)
 
 abbrev pub ends_operand : List Token → Bool
 ends_operand [] = true
@@ -96,8 +104,14 @@ ends_operand (t.Symbol symbol ∷ k) = is_end_symbol symbol || is_dyadic_symbol 
 ends_operand (t.Word word ∷ k) = is_end_word word || is_dyadic_word word
 ends_operand (other ∷ k) = false
 
+abbrev pub IsEndOfRun : List Token → Type 0
+IsEndOfRun k = ends_run k ≡ true
+
 abbrev pub IsEnd : List Token → Type 0
 IsEnd k = ends_expr k ≡ true
+
+abbrev pub IsNotCounted : List Token → Type 0
+IsNotCounted k = is_counted k ≡ false
 
 abbrev pub IsAfter : List Token → Type 0
 IsAfter k = ends_operand k ≡ true
@@ -140,6 +154,24 @@ begin_of (t.Symbol symbol ∷ k) = begin_symbol symbol
 begin_of (t.Word word ∷ k) = begin_word word
 begin_of (t.Name name ∷ k) = be.Name
 begin_of (literal ∷ k) = be.Value
+
+abbrev pub is_type_begin : Begin → Bool
+is_type_begin be.Name = true
+is_type_begin be.Builtin = true
+is_type_begin be.Bracket = true
+is_type_begin other = false
+
+abbrev pub is_operand_begin : Begin → Bool
+is_operand_begin be.Name = true
+is_operand_begin be.Bracket = true
+is_operand_begin be.Parens = true
+is_operand_begin be.Value = true
+is_operand_begin other = false
+
+abbrev pub is_plain_begin : Begin → Bool
+is_plain_begin be.Name = true
+is_plain_begin be.Value = true
+is_plain_begin other = false
 
 -- a function value that reads expressions from fewer than n tokens
 pub record ReadsExpr (n : ℕ) (pre : Global → Bor (List Token) → Type 0) (post : Global → Bor (List Token) → Result (Option (Expr × Bor (List Token))) AllocError → Type 0) : Type 0 where

@@ -25,6 +25,7 @@ use Rattle.occ_expressions.specs.declared.tree.Bounds.{Bounds}
 use Rattle.occ_expressions.specs.declared.tree.Bounds.TheOpen.{Bounds-F, Builtin-F, Dimension-F, Element-F, Expr-F, NamedOperand-F, Operand-F, TypeForm-F}
 use Rattle.occ_expressions.specs.declared.tree.Bounds.TheFolds.{fold-Bounds, fold-Builtin, fold-Dimension, fold-Element, fold-Expr, fold-NamedOperand, fold-Operand, fold-TypeForm}
 use Rattle.occ_expressions.specs.declared.tree.Builtin.{Builtin}
+use Rattle.occ_expressions.specs.declared.tree.DataForm.{DataForm}
 use Rattle.occ_expressions.specs.declared.tree.Dimension.{Dimension}
 use Rattle.occ_expressions.specs.declared.tree.Element.{Element}
 use Rattle.occ_expressions.specs.declared.tree.Expr.{Expr}
@@ -112,6 +113,10 @@ abbrev pub data_base_token : DataBase → Token
 data_base_token (da.Named name) = t.Name name
 data_base_token (da.Primitive p) = t.Word (primitive_word p)
 
+-- `::[]`
+abbrev pub counted_array : Spelling
+counted_array k = t.Symbol s.Counted ∷ t.Symbol s.OpenIndex ∷ t.Symbol s.CloseIndex ∷ k
+
 -- `[e]`
 abbrev pub subscript : Spelling → Spelling
 subscript e k = t.Symbol s.OpenIndex ∷ e (t.Symbol s.CloseIndex ∷ k)
@@ -147,6 +152,7 @@ builtin_step (Builtin-F.Primitive p) k = t.Word (primitive_word p) ∷ k
 builtin_step Builtin-F.Timer k = t.Word w.Timer ∷ k
 builtin_step (Builtin-F.AnyChannel words) k = channel_words words (t.Word w.Any ∷ k)
 builtin_step (Builtin-F.Channel words ds base) k = channel_words words (many itself ds (data_base_token base ∷ k))
+builtin_step (Builtin-F.Counted words ds base es other) k = channel_words words (many itself ds (data_base_token base ∷ counted_array (many itself es (data_base_token other ∷ k))))
 
 abbrev pub dimension_step : Dimension-F Spelling Spelling Spelling Spelling Spelling Spelling Spelling Spelling → Spelling
 dimension_step Dimension-F.Open k = t.Symbol s.OpenIndex ∷ t.Symbol s.CloseIndex ∷ k
@@ -214,6 +220,9 @@ abbrev pub type_form_then : TypeForm → Spelling
 type_form_then = fold-TypeForm Spelling Spelling Spelling Spelling Spelling Spelling Spelling Spelling bounds_step builtin_step dimension_step element_step expr_step named_operand_step operand_step type_form_step
 
 -- the same of trees
+abbrev pub data_form_then : DataForm → Spelling
+data_form_then form k = many dimension_then form.dimensions (data_base_token form.base ∷ k)
+
 abbrev pub subscript_of : Expr → Spelling
 subscript_of e k = subscript (expr_then e) k
 

@@ -4,18 +4,42 @@
 
 mod begin;
 mod bracket;
+mod bracketed;
+mod conversion;
+mod depth;
+mod inner_token;
+mod laws;
+mod line_part;
 mod list;
+mod measured;
+mod naming;
 mod operand;
 mod operator;
 mod part;
+mod reader;
 mod rows;
+mod shape_rows;
 mod tail;
 mod token_reader;
 mod tree;
 mod types;
 
+pub use depth::{
+    array_has_many_dimensions, counted_has_many_dimensions, data_form_has_many_dimensions,
+    element_has_many_dimensions, expr_has_many_dimensions, opens_too_many,
+    prefixed_has_many_dimensions, type_form_has_many_dimensions,
+};
+pub use inner_token::{is_inner, mark};
+pub use laws::{mark_law, most_end_law, one_reading_law, one_tree_law};
+pub use line_part::{data_form, element, type_form};
+pub use measured::{Measured, any_has_many_dimensions};
+pub use operand::element_in;
+pub use reader::expression;
 pub use rows::spelling_rows;
+pub use shape_rows::{bracket_rows, dimension_rows, mark_rows};
+pub use token_reader::{after, after_word, first, name};
 pub use tree::{
-    Bounds, Builtin, ChannelWords, DataBase, Dimension, Element, Expr, Extreme, Literal,
+    Bounds, Builtin, ChannelWords, DataBase, DataForm, Dimension, Element, Expr, Extreme, Literal,
     MonadicOperator, NamedOperand, Operand, PairOperator, Primitive, RunOperator, TypeForm,
 };
+pub use types::after_counted;

@@ -1,4 +1,4 @@
-ghost use Rattle.occ_expressions.specs.Reading.{IsEndOfItems, IsNot, Reads, ReadsExpr, is_end_symbol};
+ghost use Rattle.occ_expressions.specs.Reading.{IsEnd, IsEndOfItems, IsNot, Reads, ReadsExpr};
 ghost use Rattle.occ_expressions.specs.Spelling.{arguments_of, expr_then, many, next_item_of, subscript_of};
 ghost use Rattle.occ_expressions.specs.declared.tree.Expr.{Expr as AnExpr};
 ghost use Rattle.occ_lines.specs.declared.token.Symbol.TheVariants as s;
@@ -19,7 +19,7 @@ pub fn closed<'a, F: Fn(Global, &[Token]) -> Result<Option<(Expr, &[Token])>, Al
     close: Symbol,
     inner: &F,
 ) -> Result<Option<(Expr, &'a [Token])>, AllocError>
-    requires end { is_end_symbol close ≡ true }
+    requires end { (k : List AToken) → IsEnd (t.Symbol close ∷ k) }
     requires inner { ReadsExpr (length tokens.now + 1) (F.pre inner.now) (F.post inner.now) }
     ensures found { IfOk result (λ r. IfSome r (λ x. tokens.now ≡ expr_then x.0 (t.Symbol close ∷ x.1.now))) }
     ensures shorter { IfOk result (λ r. IfSome r (λ x. length x.1.now < length tokens.now)) }

@@ -24,7 +24,7 @@ ghost use Rattle.std.specs.Prelude.{[], true, ◌∷◌, ◌≡◌};
 
 /// What some trees spell, in the order of the clauses: `1 + 2 + 3`, `a - b`, `-5`, `INT x`, `T [1, 2]`, `T x`,
 /// `MOSTPOS INT16`, `a[1][2]`, `[a FROM 1 FOR 2][3]`, `(TRUE)`, `[1] (T)`, `"a"`, `f ()`, `f (1, 2)`, `[3][]T x`,
-/// `5 (BYTE)`, `CHAN OF ANY`, `CHAN [2]BYTE`.
+/// `5 (BYTE)`, `CHAN OF ANY`, `CHAN [2]BYTE`, `MOSTPOS CHAN OF T`, `MOSTPOS CHAN OF T::[]U`.
 pub fn spelling_rows()
     ensures run { expr_then (e.Run r.Add (o.Literal (l.Decimal 1)) (o.Literal (l.Decimal 2)) (o.Literal (l.Decimal 3) ∷ [])) [] ≡ t.Decimal 1 ∷ t.Symbol s.Plus ∷ t.Decimal 2 ∷ t.Symbol s.Plus ∷ t.Decimal 3 ∷ [] }
     ensures pair { expr_then (e.Pair (o.Element (el.Named (97 ∷ []) [])) p.Subtract (o.Element (el.Named (98 ∷ []) []))) [] ≡ t.Name (97 ∷ []) ∷ t.Symbol s.Minus ∷ t.Name (98 ∷ []) ∷ [] }
@@ -44,4 +44,6 @@ pub fn spelling_rows()
     ensures decorated { expr_then (e.Alone (o.Decorated (l.Decimal 5) (ty.Builtin [] (u.Primitive pr.Byte)))) [] ≡ t.Decimal 5 ∷ t.Symbol s.Open ∷ t.Word w.Byte ∷ t.Symbol s.Close ∷ [] }
     ensures any { type_form_then (ty.Builtin [] (u.AnyChannel c.ChanOf)) [] ≡ t.Word w.Chan ∷ t.Word w.Of ∷ t.Word w.Any ∷ [] }
     ensures channel { type_form_then (ty.Builtin [] (u.Channel c.Chan (d.Sized (e.Alone (o.Literal (l.Decimal 2))) ∷ []) (da.Primitive pr.Byte))) [] ≡ t.Word w.Chan ∷ t.Symbol s.OpenIndex ∷ t.Decimal 2 ∷ t.Symbol s.CloseIndex ∷ t.Word w.Byte ∷ [] }
+    ensures most_channel { expr_then (e.Most x.Greatest (ty.Builtin [] (u.Channel c.ChanOf [] (da.Named (84 ∷ []))))) [] ≡ t.Word w.MostPos ∷ t.Word w.Chan ∷ t.Word w.Of ∷ t.Name (84 ∷ []) ∷ [] }
+    ensures most_counted { expr_then (e.Most x.Greatest (ty.Builtin [] (u.Counted c.ChanOf [] (da.Named (84 ∷ [])) [] (da.Named (85 ∷ []))))) [] ≡ t.Word w.MostPos ∷ t.Word w.Chan ∷ t.Word w.Of ∷ t.Name (84 ∷ []) ∷ t.Symbol s.Counted ∷ t.Symbol s.OpenIndex ∷ t.Symbol s.CloseIndex ∷ t.Name (85 ∷ []) ∷ [] }
 {}

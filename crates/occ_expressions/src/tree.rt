@@ -147,6 +147,16 @@ pub enum Builtin {
     AnyChannel(ChannelWords),
     /// `CHAN OF p`, where `p` is the name of a protocol or a data type, whose dimensions stand here.
     Channel(ChannelWords, Items<Dimension>, DataBase),
+    /// `CHAN OF t::[]u`: how many, and then as many of the other data type.
+    Counted(ChannelWords, Items<Dimension>, DataBase, Items<Dimension>, DataBase),
+}
+
+/// A data type: no channel, no timer and no array of them.
+#[derive(Debug, Drop)]
+pub struct DataForm {
+    /// Its dimensions, from the outermost one in.
+    pub dimensions: Items<Dimension>,
+    pub base: DataBase,
 }
 
 /// A type as an expression writes it: its dimensions, from the outermost one in, and what stands behind them.

@@ -1,9 +1,11 @@
-ghost use Rattle.occ_expressions.specs.Reading.{IsNot, IsNotWord, Reads, ReadsExpr};
-ghost use Rattle.occ_expressions.specs.Spelling.{builtin_then, channel_words, data_base_token, dimension_then, many, perhaps_decoration_of, primitive_word, type_form_then};
+ghost use Rattle.occ_expressions.specs.Reading.{IsNot, IsNotCounted, IsNotWord, Reads, ReadsExpr, begin_of, is_operand_begin};
+ghost use Rattle.occ_expressions.specs.Spelling.{builtin_then, channel_words, counted_array, data_base_token, data_form_then, dimension_then, many, perhaps_decoration_of, primitive_word, type_form_then};
+ghost use Rattle.occ_expressions.specs.TypeEnds.{EndsArray, EndsBuiltin, EndsCarried, EndsType};
 ghost use Rattle.occ_expressions.specs.declared.tree.Builtin.{Builtin as ABuiltin};
 ghost use Rattle.occ_expressions.specs.declared.tree.Builtin.TheVariants as u;
 ghost use Rattle.occ_expressions.specs.declared.tree.ChannelWords.{ChannelWords as SomeChannelWords};
 ghost use Rattle.occ_expressions.specs.declared.tree.DataBase.{DataBase as ADataBase};
+ghost use Rattle.occ_expressions.specs.declared.tree.DataForm.{DataForm as ADataForm};
 ghost use Rattle.occ_expressions.specs.declared.tree.Dimension.{Dimension as ADimension};
 ghost use Rattle.occ_expressions.specs.declared.tree.Primitive.{Primitive as APrimitive};
 ghost use Rattle.occ_expressions.specs.declared.tree.TypeForm.TheVariants as ty;
@@ -14,13 +16,24 @@ ghost use Rattle.occ_lines.specs.declared.token.Token.{Token as AToken};
 ghost use Rattle.occ_lines.specs.declared.token.Word.TheVariants as w;
 ghost use Rattle.std.specs.Prelude.{IfOk, IfSome, List, MatchOption, Option, length, ℕ, ◌+◌, ◌∷◌, ◌≡◌, ◌≢◌, ◌≤◌, ◌<◌};
 
+use super::begin::{Begin, begins};
 use super::list::closed;
 use super::part::{data_base, primitive};
 use super::token_reader::{after, after_word, first, name};
-use super::{Builtin, ChannelWords, DataBase, Dimension, Expr, Primitive, TypeForm};
+use super::{Builtin, ChannelWords, DataBase, DataForm, Dimension, Expr, Primitive, TypeForm};
 use occ_base::{Boxed, Items};
 use occ_lines::{Symbol, Token, Word};
 use std::alloc::{AllocError, Global};
+
+/// What stands behind a type, which says whether `::[]` goes on with the type of a channel.
+#[derive(Clone, Copy, Debug)]
+pub enum Behind {
+    /// An operand, a name or a bracket: it always does.
+    More,
+    /// The end of an expression: it does unless an operand stands behind the data type that follows, since `[]` begins
+    /// a conversion then.
+    End,
+}
 
 /// A dimension, of which the first bracket is read.
 pub fn dimension<'a, F: Fn(Global, &[Token]) -> Result<Option<(Expr, &[Token])>, AllocError>>(
@@ -91,9 +104,80 @@ pub fn base(alloc: Global, tokens: &[Token]) -> Result<Option<(DataBase, &[Token
     Ok(Some((base, rest)))
 }
 
+/// A data type.
+pub fn data_form<'a, F: Fn(Global, &[Token]) -> Result<Option<(Expr, &[Token])>, AllocError>>(
+    alloc: Global,
+    tokens: &'a [Token],
+    inner: &F,
+) -> Result<Option<(DataForm, &'a [Token])>, AllocError>
+    requires inner { ReadsExpr (length tokens.now) (F.pre inner.now) (F.post inner.now) }
+    ensures found { IfOk result (λ r. IfSome r (λ x. tokens.now ≡ data_form_then x.0 x.1.now)) }
+    ensures shorter { IfOk result (λ r. IfSome r (λ x. length x.1.now < length tokens.now)) }
+    ensures only { IfOk result (λ r. (form : ADataForm) (k : List AToken) → tokens.now ≡ data_form_then form k → Reads r form k) }
+{
+    let Some((dimensions, rest)) = dimensions(alloc, tokens, inner)? else {
+        return Ok(None);
+    };
+    let Some((base, rest)) = base(alloc, rest)? else {
+        return Ok(None);
+    };
+    Ok(Some((DataForm { dimensions, base }, rest)))
+}
+
+/// What follows `::[]`, where it stands first.
+pub fn after_counted(tokens: &[Token]) -> Option<&[Token]>
+    ensures { MatchOption result (IsNotCounted tokens.now) (λ rest. tokens.now ≡ counted_array rest.now) }
+{
+    match tokens {
+        [
+            Token::Symbol(Symbol::Counted),
+            Token::Symbol(Symbol::OpenIndex),
+            Token::Symbol(Symbol::CloseIndex),
+            rest @ ..,
+        ] => { Some(rest) }
+        _ => None,
+    }
+}
+
+/// Whether an operand may begin here.
+fn begins_operand(tokens: &[Token]) -> bool
+    ensures { result ≡ is_operand_begin (begin_of tokens.now) }
+{
+    matches!(
+        begins(tokens),
+        Begin::Name | Begin::Bracket | Begin::Parens | Begin::Value
+    )
+}
+
+/// The data type behind `::[]`, where they go on with the type of a channel.
+pub fn array<'a, F: Fn(Global, &[Token]) -> Result<Option<(Expr, &[Token])>, AllocError>>(
+    alloc: Global,
+    behind: Behind,
+    tokens: &'a [Token],
+    inner: &F,
+) -> Result<Option<(DataForm, &'a [Token])>, AllocError>
+    requires inner { ReadsExpr (length tokens.now) (F.pre inner.now) (F.post inner.now) }
+    ensures found { IfOk result (λ r. IfSome r (λ x. tokens.now ≡ counted_array (data_form_then x.0 x.1.now))) }
+    ensures shorter { IfOk result (λ r. IfSome r (λ x. length x.1.now < length tokens.now)) }
+    ensures carried { IfOk result (λ r. IfSome r (λ x. EndsCarried behind tokens.now → ⊥)) }
+    ensures only { IfOk result (λ r. (form : ADataForm) (k : List AToken) → EndsArray behind k → tokens.now ≡ counted_array (data_form_then form k) → Reads r form k) }
+{
+    let Some(begun) = after_counted(tokens) else {
+        return Ok(None);
+    };
+    let Some((form, rest)) = data_form(alloc, begun, inner)? else {
+        return Ok(None);
+    };
+    if matches!(behind, Behind::End) && begins_operand(rest) {
+        return Ok(None);
+    }
+    Ok(Some((form, rest)))
+}
+
 /// What a channel carries, of which the words are read.
 pub fn carried<'a, F: Fn(Global, &[Token]) -> Result<Option<(Expr, &[Token])>, AllocError>>(
     alloc: Global,
+    behind: Behind,
     words: ChannelWords,
     tokens: &'a [Token],
     inner: &F,
@@ -102,18 +186,21 @@ pub fn carried<'a, F: Fn(Global, &[Token]) -> Result<Option<(Expr, &[Token])>, A
     ensures found { IfOk result (λ r. IfSome r (λ x. channel_words words tokens.now ≡ builtin_then x.0 x.1.now)) }
     ensures shorter { IfOk result (λ r. IfSome r (λ x. length x.1.now < length tokens.now)) }
     ensures any { IfOk result (λ r. (k : List AToken) → tokens.now ≡ t.Word w.Any ∷ k → Reads r (u.AnyChannel words) k) }
-    ensures data { IfOk result (λ r. (ds : List ADimension) (b : ADataBase) (k : List AToken) → tokens.now ≡ many dimension_then ds (data_base_token b ∷ k) → Reads r (u.Channel words ds b) k) }
+    ensures data { IfOk result (λ r. (ds : List ADimension) (b : ADataBase) (k : List AToken) → EndsCarried behind k → tokens.now ≡ many dimension_then ds (data_base_token b ∷ k) → Reads r (u.Channel words ds b) k) }
+    ensures counted { IfOk result (λ r. (ds : List ADimension) (b : ADataBase) (es : List ADimension) (d : ADataBase) (k : List AToken) → EndsArray behind k → tokens.now ≡ many dimension_then ds (data_base_token b ∷ counted_array (many dimension_then es (data_base_token d ∷ k))) → Reads r (u.Counted words ds b es d) k) }
 {
     if let Some(rest) = after_word(tokens, Word::Any) {
         return Ok(Some((Builtin::AnyChannel(words), rest)));
     }
-    let Some((dimensions, rest)) = dimensions(alloc, tokens, inner)? else {
+    let Some((form, rest)) = data_form(alloc, tokens, inner)? else {
         return Ok(None);
     };
-    let Some((base, rest)) = base(alloc, rest)? else {
-        return Ok(None);
+    let DataForm { dimensions, base } = form;
+    let Some((array, rest)) = array(alloc, behind, rest, inner)? else {
+        return Ok(Some((Builtin::Channel(words, dimensions, base), rest)));
     };
-    Ok(Some((Builtin::Channel(words, dimensions, base), rest)))
+    let counted = Builtin::Counted(words, dimensions, base, array.dimensions, array.base);
+    Ok(Some((counted, rest)))
 }
 
 /// A primitive type.
@@ -128,13 +215,14 @@ pub fn primitive_type(tokens: &[Token]) -> Option<(Primitive, &[Token])>
 /// A type that begins with a reserved word.
 pub fn builtin<'a, F: Fn(Global, &[Token]) -> Result<Option<(Expr, &[Token])>, AllocError>>(
     alloc: Global,
+    behind: Behind,
     tokens: &'a [Token],
     inner: &F,
 ) -> Result<Option<(Builtin, &'a [Token])>, AllocError>
     requires inner { ReadsExpr (length tokens.now) (F.pre inner.now) (F.post inner.now) }
     ensures found { IfOk result (λ r. IfSome r (λ x. tokens.now ≡ builtin_then x.0 x.1.now)) }
     ensures shorter { IfOk result (λ r. IfSome r (λ x. length x.1.now < length tokens.now)) }
-    ensures only { IfOk result (λ r. (b : ABuiltin) (k : List AToken) → tokens.now ≡ builtin_then b k → Reads r b k) }
+    ensures only { IfOk result (λ r. (b : ABuiltin) (k : List AToken) → EndsBuiltin behind b k → tokens.now ≡ builtin_then b k → Reads r b k) }
 {
     if let Some((primitive, rest)) = primitive_type(tokens) {
         return Ok(Some((Builtin::Primitive(primitive), rest)));
@@ -146,12 +234,13 @@ pub fn builtin<'a, F: Fn(Global, &[Token]) -> Result<Option<(Expr, &[Token])>, A
         return Ok(None);
     };
     let (words, rest) = channel_words(rest);
-    carried(alloc, words, rest, inner)
+    carried(alloc, behind, words, rest, inner)
 }
 
 /// A type of which the dimensions are read.
 pub fn type_behind<'a, F: Fn(Global, &[Token]) -> Result<Option<(Expr, &[Token])>, AllocError>>(
     alloc: Global,
+    behind: Behind,
     dimensions: Items<Dimension>,
     tokens: &'a [Token],
     inner: &F,
@@ -160,12 +249,12 @@ pub fn type_behind<'a, F: Fn(Global, &[Token]) -> Result<Option<(Expr, &[Token])
     ensures found { IfOk result (λ r. IfSome r (λ x. many dimension_then dimensions tokens.now ≡ type_form_then x.0 x.1.now)) }
     ensures shorter { IfOk result (λ r. IfSome r (λ x. length x.1.now < length tokens.now)) }
     ensures named { IfOk result (λ r. (n : List ℕ) (k : List AToken) → tokens.now ≡ t.Name n ∷ k → Reads r (ty.Named dimensions n) k) }
-    ensures builtin { IfOk result (λ r. (b : ABuiltin) (k : List AToken) → tokens.now ≡ builtin_then b k → Reads r (ty.Builtin dimensions b) k) }
+    ensures builtin { IfOk result (λ r. (b : ABuiltin) (k : List AToken) → EndsBuiltin behind b k → tokens.now ≡ builtin_then b k → Reads r (ty.Builtin dimensions b) k) }
 {
     if let Some((name, rest)) = name(alloc, tokens)? {
         return Ok(Some((TypeForm::Named(dimensions, name), rest)));
     }
-    let Some((builtin, rest)) = builtin(alloc, tokens, inner)? else {
+    let Some((builtin, rest)) = builtin(alloc, behind, tokens, inner)? else {
         return Ok(None);
     };
     Ok(Some((
@@ -177,18 +266,19 @@ pub fn type_behind<'a, F: Fn(Global, &[Token]) -> Result<Option<(Expr, &[Token])
 /// A type.
 pub fn type_form<'a, F: Fn(Global, &[Token]) -> Result<Option<(Expr, &[Token])>, AllocError>>(
     alloc: Global,
+    behind: Behind,
     tokens: &'a [Token],
     inner: &F,
 ) -> Result<Option<(TypeForm, &'a [Token])>, AllocError>
     requires inner { ReadsExpr (length tokens.now) (F.pre inner.now) (F.post inner.now) }
     ensures found { IfOk result (λ r. IfSome r (λ x. tokens.now ≡ type_form_then x.0 x.1.now)) }
     ensures shorter { IfOk result (λ r. IfSome r (λ x. length x.1.now < length tokens.now)) }
-    ensures only { IfOk result (λ r. (x : ATypeForm) (k : List AToken) → tokens.now ≡ type_form_then x k → Reads r x k) }
+    ensures only { IfOk result (λ r. (x : ATypeForm) (k : List AToken) → EndsType behind x k → tokens.now ≡ type_form_then x k → Reads r x k) }
 {
     let Some((dimensions, rest)) = dimensions(alloc, tokens, inner)? else {
         return Ok(None);
     };
-    type_behind(alloc, dimensions, rest, inner)
+    type_behind(alloc, behind, dimensions, rest, inner)
 }
 
 /// A type in brackets, or nothing where no bracket is open.
@@ -208,7 +298,7 @@ pub fn perhaps_decoration<
     let Some(begun) = after(tokens, Symbol::Open) else {
         return Ok(Some((None, tokens)));
     };
-    let Some((form, rest)) = type_form(alloc, begun, inner)? else {
+    let Some((form, rest)) = type_form(alloc, Behind::More, begun, inner)? else {
         return Ok(None);
     };
     let Some(rest) = after(rest, Symbol::Close) else {

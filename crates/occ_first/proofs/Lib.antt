@@ -4,3 +4,4 @@ pub mod Siblings
 pub mod Scopes
 pub mod Marked
 pub mod Rising
+pub mod Viewed

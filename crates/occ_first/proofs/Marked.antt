@@ -1,7 +1,7 @@
 -- What the marks of a walk tell, one line on.
 use Rattle.std.proofs.Common.{◌≡◌, ℕ, Bool, true, false, cond, ltb, ◌||◌, ◌++◌, ◌+◌, Option, Some, None, List, ◌∷◌, is_some, refl, sym, ap, ◌∙◌, arith, append_assoc}
 use Rattle.std.proofs.lemmas.Bool.Decides.{nat_tests}
-use Rattle.occ_forms.specs.declared.source.SourceLine.{SourceLine}
+use Rattle.occ_first.specs.declared.line.Line.{Line}
 use Rattle.occ_first.specs.declared.parallel.Mark.{Mark}
 use Rattle.occ_first.specs.declared.parallel.Use.{Use}
 use Rattle.occ_first.specs.declared.scope.Specification.{Specification}
@@ -76,7 +76,7 @@ component_is c h before l m =
     ∙ component_entered c (enter h l.place e k) l.place e
 
 -- one line more of a PAR, whose uses are found
-pub uses_more : (ss : List Specification) (before : List LineAt) (place : ℕ) (l : SourceLine) (behind : List SourceLine) (c : Option ℕ) (found found' total : List Use)
+pub uses_more : (ss : List Specification) (before : List LineAt) (place : ℕ) (l : Line) (behind : List Line) (c : Option ℕ) (found found' total : List Use)
     → component (chain (record { place = place; line = l }) before) ≡ c
     → found' ≡ found ++ component_uses ss (record { place = place; line = l }) c
     → found ++ uses ss before place (l ∷ behind) ≡ total

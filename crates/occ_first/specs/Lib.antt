@@ -8,3 +8,4 @@ pub mod Parallel
 pub mod Marks
 pub mod Diagnostics
 pub mod Samples
+pub mod View

@@ -4,17 +4,17 @@ use Rattle.std.specs.List.{flat_map}
 use Rattle.occ_base.specs.declared.code.Code.{Code}
 use Rattle.occ_base.specs.declared.code.Code.TheVariants as code
 use Rattle.occ_base.specs.declared.diag.Diag.{Diag}
-use Rattle.occ_forms.specs.declared.tree.Element.{Element}
-use Rattle.occ_forms.specs.declared.tree.Element.TheVariants as element
-use Rattle.occ_forms.specs.declared.tree.Operand.{Operand}
-use Rattle.occ_forms.specs.declared.tree.Operand.TheVariants as operand
-use Rattle.occ_forms.specs.declared.tree.Expr.{Expr}
-use Rattle.occ_forms.specs.declared.tree.Expr.TheVariants as expr
-use Rattle.occ_forms.specs.declared.tree.Form.{Form}
-use Rattle.occ_forms.specs.declared.tree.Form.TheVariants as form
-use Rattle.occ_forms.specs.declared.source.SourceLine.{SourceLine}
-use Rattle.occ_forms.specs.declared.source.LineBody.{LineBody}
-use Rattle.occ_forms.specs.declared.source.LineBody.TheVariants as body
+use Rattle.occ_first.specs.declared.line.Element.{Element}
+use Rattle.occ_first.specs.declared.line.Element.TheVariants as element
+use Rattle.occ_first.specs.declared.line.Operand.{Operand}
+use Rattle.occ_first.specs.declared.line.Operand.TheVariants as operand
+use Rattle.occ_first.specs.declared.line.Expr.{Expr}
+use Rattle.occ_first.specs.declared.line.Expr.TheVariants as expr
+use Rattle.occ_first.specs.declared.line.Form.{Form}
+use Rattle.occ_first.specs.declared.line.Form.TheVariants as form
+use Rattle.occ_first.specs.declared.line.Line.{Line}
+use Rattle.occ_first.specs.declared.line.Body.{Body}
+use Rattle.occ_first.specs.declared.line.Body.TheVariants as body
 use Rattle.occ_first.specs.declared.mention.Access.{Access}
 use Rattle.occ_first.specs.declared.mention.Access.TheVariants as access
 use Rattle.occ_first.specs.declared.mention.Mention.{Mention}
@@ -45,12 +45,12 @@ form_mentions form.Parallel = []
 form_mentions form.Skip = []
 form_mentions (form.Assignment target value) = element_mention access.Written target ∷ expr_mentions value
 
-abbrev pub body_mentions : LineBody → List Mention
+abbrev pub body_mentions : Body → List Mention
 body_mentions (body.Form f) = form_mentions f
 body_mentions other = []
 
 -- the elements that an assignment names: its target, which is written, and those of its operands, which are read
-abbrev pub mentions : SourceLine → List Mention
+abbrev pub mentions : Line → List Mention
 mentions l = body_mentions l.body
 
 -- why what a name stands for is no variable
@@ -71,6 +71,6 @@ abbrev pub mention_faults : List ℕ → List Specification → ℕ → ℕ → 
 mention_faults file ss place line m = named_error file line m.name (meaning_fault (visible m.name place ss))
 
 -- at each element of each of the lines, the first of which is at the place
-abbrev pub name_faults : List ℕ → List Specification → ℕ → List SourceLine → List Diag
+abbrev pub name_faults : List ℕ → List Specification → ℕ → List Line → List Diag
 name_faults file ss place [] = []
 name_faults file ss place (l ∷ ls) = flat_map (mention_faults file ss place l.line) (mentions l) ++ name_faults file ss (place + 1) ls

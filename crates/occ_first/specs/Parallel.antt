@@ -4,11 +4,11 @@ use Rattle.std.specs.List.{flat_map, list_any}
 use Rattle.std.specs.Str.{bytes_eq}
 use Rattle.occ_base.specs.declared.code.Code.TheVariants as code
 use Rattle.occ_base.specs.declared.diag.Diag.{Diag}
-use Rattle.occ_forms.specs.declared.tree.Form.{Form}
-use Rattle.occ_forms.specs.declared.tree.Form.TheVariants as form
-use Rattle.occ_forms.specs.declared.source.SourceLine.{SourceLine}
-use Rattle.occ_forms.specs.declared.source.LineBody.{LineBody}
-use Rattle.occ_forms.specs.declared.source.LineBody.TheVariants as body
+use Rattle.occ_first.specs.declared.line.Form.{Form}
+use Rattle.occ_first.specs.declared.line.Form.TheVariants as form
+use Rattle.occ_first.specs.declared.line.Line.{Line}
+use Rattle.occ_first.specs.declared.line.Body.{Body}
+use Rattle.occ_first.specs.declared.line.Body.TheVariants as body
 use Rattle.occ_first.specs.declared.mention.Access.{Access}
 use Rattle.occ_first.specs.declared.mention.Access.TheVariants as access
 use Rattle.occ_first.specs.declared.mention.Mention.{Mention}
@@ -25,7 +25,7 @@ use Rattle.occ_first.specs.Shape.{is_head}
 -- a line and its place
 pub record LineAt : Type 0 where
   pub place : ℕ
-  pub line : SourceLine
+  pub line : Line
 
 -- those of the lines before a line of depth d that it stands under, the nearest first; the lines before it are
 -- given last first
@@ -75,7 +75,7 @@ component_uses ss l None = []
 component_uses ss l (Some c) = flat_map (mention_uses ss l.place c) (mentions l.line)
 
 -- the uses of variables by the lines of a PAR, those before them being given, and the place of the first
-abbrev pub uses : List Specification → List LineAt → ℕ → List SourceLine → List Use
+abbrev pub uses : List Specification → List LineAt → ℕ → List Line → List Use
 uses ss before place [] = []
 uses ss before place (l ∷ ls) =
     component_uses ss (record { place = place; line = l }) (component (chain (record { place = place; line = l }) before))
@@ -111,15 +111,15 @@ is_par_form form.Parallel = true
 is_par_form form.Skip = false
 is_par_form (form.Assignment target value) = false
 
-abbrev pub is_par_body : LineBody → Bool
+abbrev pub is_par_body : Body → Bool
 is_par_body (body.Form f) = is_par_form f
 is_par_body other = false
 
-abbrev pub is_par : SourceLine → Bool
+abbrev pub is_par : Line → Bool
 is_par l = is_par_body l.body
 
 -- at each PAR of the lines, the first of which is at the place
-abbrev pub parallel_faults : List ℕ → List Specification → ℕ → List SourceLine → List Diag
+abbrev pub parallel_faults : List ℕ → List Specification → ℕ → List Line → List Diag
 parallel_faults file ss place [] = []
 parallel_faults file ss place (l ∷ ls) =
     (if is_par l then par_faults file l.line (uses ss [] (place + 1) (under l.depth ls)) else []) ++ parallel_faults file ss (place + 1) ls

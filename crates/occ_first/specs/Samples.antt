@@ -1,31 +1,31 @@
 -- Lines for worked rows.
 use Rattle.std.specs.Prelude.{ℕ, List, [], None}
-use Rattle.occ_forms.specs.declared.tree.Form.{Form}
-use Rattle.occ_forms.specs.declared.tree.Form.TheVariants as form
-use Rattle.occ_forms.specs.declared.source.SourceLine.{SourceLine}
-use Rattle.occ_forms.specs.declared.source.LineBody.TheVariants as body
+use Rattle.occ_first.specs.declared.line.Form.{Form}
+use Rattle.occ_first.specs.declared.line.Form.TheVariants as form
+use Rattle.occ_first.specs.declared.line.Line.{Line}
+use Rattle.occ_first.specs.declared.line.Body.TheVariants as body
 use Rattle.occ_first.specs.declared.nesting.Child.{Child}
 use Rattle.occ_first.specs.declared.nesting.Role.{Role}
 use Rattle.occ_first.specs.declared.nesting.Role.TheVariants as role
 use Rattle.occ_first.specs.declared.scope.Sort.TheVariants as sort
 use Rattle.occ_first.specs.declared.scope.Specification.{Specification}
 
-abbrev pub of_form : ℕ → Form → SourceLine
+abbrev pub of_form : ℕ → Form → Line
 of_form d f = record { line = 1; depth = d; body = body.Form f }
 
-abbrev pub skip_at : ℕ → SourceLine
+abbrev pub skip_at : ℕ → Line
 skip_at d = of_form d form.Skip
 
-abbrev pub seq_at : ℕ → SourceLine
+abbrev pub seq_at : ℕ → Line
 seq_at d = of_form d form.Sequence
 
-abbrev pub head_at : ℕ → List ℕ → SourceLine
+abbrev pub head_at : ℕ → List ℕ → Line
 head_at d name = of_form d (form.Procedure name)
 
-abbrev pub close_at : ℕ → SourceLine
+abbrev pub close_at : ℕ → Line
 close_at d = of_form d form.Close
 
-abbrev pub int_at : ℕ → List ℕ → SourceLine
+abbrev pub int_at : ℕ → List ℕ → Line
 int_at d name = of_form d (form.Declaration None name [])
 
 abbrev pub child_at : ℕ → Role → Child

@@ -1,11 +1,11 @@
 -- What the specifications of a file specify, and where. A place is the number of a line among the lines, from 0.
 use Rattle.std.specs.Prelude.{ℕ, Bool, ◌&&◌, ◌==◌, ◌+◌, List, [], ◌∷◌, ◌++◌, Option, Some, None, map, drop, length, nat_lt, nat_le, if◌then◌else◌}
 use Rattle.std.specs.Str.{bytes_eq}
-use Rattle.occ_forms.specs.declared.tree.Form.{Form}
-use Rattle.occ_forms.specs.declared.tree.Form.TheVariants as form
-use Rattle.occ_forms.specs.declared.source.SourceLine.{SourceLine}
-use Rattle.occ_forms.specs.declared.source.LineBody.{LineBody}
-use Rattle.occ_forms.specs.declared.source.LineBody.TheVariants as body
+use Rattle.occ_first.specs.declared.line.Form.{Form}
+use Rattle.occ_first.specs.declared.line.Form.TheVariants as form
+use Rattle.occ_first.specs.declared.line.Line.{Line}
+use Rattle.occ_first.specs.declared.line.Body.{Body}
+use Rattle.occ_first.specs.declared.line.Body.TheVariants as body
 use Rattle.occ_first.specs.declared.scope.Sort.TheVariants as sort
 use Rattle.occ_first.specs.declared.scope.Specification.{Specification}
 use Rattle.occ_first.specs.Nesting.{role_of, under}
@@ -13,19 +13,19 @@ use Rattle.occ_first.specs.Shape.{is_process}
 
 -- what is left of the item that goes on with these lines at depth d: a process at that depth ends it, with the
 -- lines under the process
-abbrev pub rest_of_item : ℕ → List SourceLine → List SourceLine
+abbrev pub rest_of_item : ℕ → List Line → List Line
 rest_of_item d [] = []
 rest_of_item d (l ∷ ls) =
     if nat_lt l.depth d then [] else (if l.depth == d && is_process (role_of l) then l ∷ under d ls else l ∷ rest_of_item d ls)
 
 -- a variable that is declared at the place, at depth d before the lines ls: its scope is the rest of the item
-abbrev pub variable : ℕ → ℕ → List SourceLine → List ℕ → Specification
+abbrev pub variable : ℕ → ℕ → List Line → List ℕ → Specification
 variable place d ls name =
     record { name = name; place = place; sort = sort.Variable; from = place + 1; to = place + 1 + length (rest_of_item d ls) }
 
 -- a procedure whose head is at the place: its body is the lines under the head, then comes its close, and its
 -- scope is the rest of the item behind that
-abbrev pub procedure : ℕ → ℕ → List SourceLine → List ℕ → Specification
+abbrev pub procedure : ℕ → ℕ → List Line → List ℕ → Specification
 procedure place d ls name =
     record {
       name = name;
@@ -35,7 +35,7 @@ procedure place d ls name =
       to = place + length (under d ls) + 2 + length (rest_of_item d (drop (length (under d ls) + 1) ls));
     }
 
-abbrev pub form_specifications : ℕ → ℕ → Form → List SourceLine → List Specification
+abbrev pub form_specifications : ℕ → ℕ → Form → List Line → List Specification
 form_specifications place d (form.Procedure name) ls = procedure place d ls name ∷ []
 form_specifications place d form.Close ls = []
 form_specifications place d (form.Declaration dimension name names) ls = map (variable place d ls) (name ∷ names)
@@ -44,12 +44,12 @@ form_specifications place d form.Parallel ls = []
 form_specifications place d form.Skip ls = []
 form_specifications place d (form.Assignment target value) ls = []
 
-abbrev pub body_specifications : ℕ → ℕ → LineBody → List SourceLine → List Specification
+abbrev pub body_specifications : ℕ → ℕ → Body → List Line → List Specification
 body_specifications place d (body.Form f) ls = form_specifications place d f ls
 body_specifications place d other ls = []
 
 -- those of the lines, the first of which is at the place
-abbrev pub specifications : ℕ → List SourceLine → List Specification
+abbrev pub specifications : ℕ → List Line → List Specification
 specifications place [] = []
 specifications place (l ∷ ls) = body_specifications place l.depth l.body ls ++ specifications (place + 1) ls
 

@@ -3,11 +3,11 @@ use Rattle.std.specs.Prelude.{ℕ, Bool, true, false, not, ◌&&◌, ◌||◌, �
 use Rattle.std.specs.List.{list_any}
 use Rattle.occ_base.specs.declared.code.Code.TheVariants as code
 use Rattle.occ_base.specs.declared.diag.Diag.{Diag}
-use Rattle.occ_forms.specs.declared.tree.Form.{Form}
-use Rattle.occ_forms.specs.declared.tree.Form.TheVariants as form
-use Rattle.occ_forms.specs.declared.source.SourceLine.{SourceLine}
-use Rattle.occ_forms.specs.declared.source.LineBody.{LineBody}
-use Rattle.occ_forms.specs.declared.source.LineBody.TheVariants as body
+use Rattle.occ_first.specs.declared.line.Form.{Form}
+use Rattle.occ_first.specs.declared.line.Form.TheVariants as form
+use Rattle.occ_first.specs.declared.line.Line.{Line}
+use Rattle.occ_first.specs.declared.line.Body.{Body}
+use Rattle.occ_first.specs.declared.line.Body.TheVariants as body
 use Rattle.occ_first.specs.declared.nesting.Role.{Role}
 use Rattle.occ_first.specs.declared.nesting.Role.TheVariants as role
 use Rattle.occ_first.specs.declared.nesting.Child.{Child}
@@ -25,12 +25,12 @@ form_row form.Parallel = row.Many
 form_row form.Skip = row.Nothing
 form_row (form.Assignment target value) = row.Nothing
 
-abbrev pub body_row : LineBody → Row
+abbrev pub body_row : Body → Row
 body_row (body.Form f) = form_row f
 body_row other = row.Nothing
 
 -- what may stand right under the line
-abbrev pub row_of : SourceLine → Row
+abbrev pub row_of : Line → Row
 row_of l = body_row l.body
 
 abbrev pub is_process : Role → Bool
@@ -117,15 +117,15 @@ lacks row.One ks = not (some_is is_process ks) || ends_specified false (items ks
 lacks row.Nothing ks = false
 
 -- at a parent with these children
-abbrev pub parent_faults : List ℕ → SourceLine → List Child → List Diag
+abbrev pub parent_faults : List ℕ → Line → List Child → List Diag
 parent_faults file l ks = sibling_faults file (row_of l) (l.depth + 1) [] ks ++ error_if (lacks (row_of l) ks) file l.line code.S2
 
 -- at each line, with the lines that follow it
-abbrev pub nested_faults : List ℕ → List SourceLine → List Diag
+abbrev pub nested_faults : List ℕ → List Line → List Diag
 nested_faults file [] = []
 nested_faults file (l ∷ ls) =
     parent_faults file l (children (under l.depth ls)) ++ error_if (nat_lt 64 l.depth) file l.line code.S4 ++ nested_faults file ls
 
 -- the diagnostics of shape of a file with these lines
-abbrev pub shape_faults : List ℕ → List SourceLine → List Diag
+abbrev pub shape_faults : List ℕ → List Line → List Diag
 shape_faults file ls = sibling_faults file row.File 0 [] (children ls) ++ nested_faults file ls

@@ -1,6 +1,7 @@
 ghost use Rattle.std.specs.Prelude.{◌≡◌, ◌++◌, IfOk, OnOk};
-ghost use Rattle.occ_first.specs.Faults.{error_at, error_if, line_faults};
+ghost use Rattle.occ_first.specs.Faults.{error_at, error_if, is_other, line_faults, other_faults};
 
+use super::line::{Body, Line};
 use occ_base::{Code, Diag, FileName, Grade, Items, Name};
 use occ_forms::{LineBody, SourceLine};
 use std::alloc::{AllocError, Global};
@@ -45,13 +46,31 @@ pub fn find_line_faults(
     let mut found = Items::new(alloc);
     for line in lines {
         match &line.body {
-            LineBody::Form(_) => (),
-            // No form of lines knows directives yet.
-            LineBody::Include(_) | LineBody::Uses(_) => {
-                found.push(error(file, line.line, Code::S1, None))?
-            }
+            LineBody::Form(_) | LineBody::Include(_) | LineBody::Uses(_) => (),
             LineBody::Fault(code) => found.push(error(file, line.line, *code, None))?,
         }
+    }
+    Ok(found)
+}
+
+/// Whether the first sublanguage does not have the line.
+fn is_unknown(line: &Line) -> bool
+    ensures { result ≡ is_other line.now.body }
+{
+    matches!(line.body, Body::Other)
+}
+
+/// S1 at each line that the first sublanguage does not have.
+pub fn find_other_faults(
+    alloc: Global,
+    file: FileName,
+    lines: &[Line],
+) -> Result<Items<Diag>, AllocError>
+    ensures { IfOk result (λ found. found ≡ other_faults file lines.now) }
+{
+    let mut found = Items::new(alloc);
+    for line in lines {
+        add_error_if(is_unknown(line), file, line.line, Code::S1, &mut found)?;
     }
     Ok(found)
 }

@@ -3,6 +3,7 @@
 #![tactic(auto)]
 
 mod faults;
+mod line;
 mod mention;
 mod names;
 mod nesting;
@@ -14,6 +15,7 @@ mod shape;
 #[cfg(test)]
 mod tests;
 mod unit;
+mod view;
 
 pub use rows::{children_rows, item_rows, order_law, under_rows, visible_rows};
 pub use unit::diagnostics;

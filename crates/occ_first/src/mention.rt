@@ -1,8 +1,8 @@
 ghost use Rattle.std.specs.Prelude.{◌≡◌, ◌++◌, ◌∷◌, [], OnOk, IfOk};
 ghost use Rattle.occ_first.specs.Names.{element_mention, mentions, operand_mentions};
 
+use super::line::{Body, Element, Expr, Form, Line, Operand};
 use occ_base::{Items, Name};
-use occ_forms::{Element, Expr, Form, LineBody, Operand, SourceLine};
 use std::alloc::{AllocError, Global};
 
 /// What is done to an element.
@@ -52,11 +52,11 @@ fn add_operand(
 }
 
 /// The elements that the line names.
-pub fn find_mentions(alloc: Global, line: &SourceLine) -> Result<Items<Mention>, AllocError>
+pub fn find_mentions(alloc: Global, line: &Line) -> Result<Items<Mention>, AllocError>
     ensures { IfOk result (λ found. found ≡ mentions line.now) }
 {
     let mut found = Items::new(alloc);
-    if let LineBody::Form(Form::Assignment(target, value)) = &line.body {
+    if let Body::Form(Form::Assignment(target, value)) = &line.body {
         found.push(Mention::of(alloc, Access::Written, target)?)?;
         match value {
             Expr::Alone(operand) => add_operand(alloc, operand, &mut found)?,

@@ -4,10 +4,10 @@ ghost use Rattle.occ_first.specs.Names.{meaning_fault, mention_faults, mentions,
 ghost use Rattle.occ_first.specs.Scope.{visible as visible_in};
 
 use super::faults::error;
+use super::line::Line;
 use super::mention::find_mentions;
 use super::scope::{Sort, Specification, visible};
 use occ_base::{Code, Diag, FileName, Items, Name};
-use occ_forms::SourceLine;
 use std::alloc::{AllocError, Global};
 
 /// Why the name stands for no variable at the place.
@@ -29,7 +29,7 @@ fn add_name_faults(
     file: FileName,
     specifications: &[Specification],
     place: usize,
-    line: &SourceLine,
+    line: &Line,
     found: &mut Items<Diag>,
 ) -> Result<(), AllocError>
     ensures { OnOk result (found.new ≡ found.old ++ flat_map (mention_faults file specifications.now place line.now.line) (mentions line.now)) }
@@ -49,7 +49,7 @@ pub fn find_name_faults(
     alloc: Global,
     file: FileName,
     specifications: &[Specification],
-    lines: &[SourceLine],
+    lines: &[Line],
 ) -> Result<Items<Diag>, AllocError>
     ensures { IfOk result (λ found. found ≡ name_faults file specifications.now 0 lines.now) }
 {

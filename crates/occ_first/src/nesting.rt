@@ -1,8 +1,8 @@
 ghost use Rattle.std.specs.Prelude.{◌≡◌, ◌≤◌, IfOk, length};
 ghost use Rattle.occ_first.specs.Nesting.{child_of, children, role_of, under as lines_under};
 
+use super::line::{Body, Form, Line};
 use occ_base::Items;
-use occ_forms::{Form, LineBody, SourceLine};
 use std::alloc::{AllocError, Global};
 
 /// The part that a line plays among its siblings.
@@ -29,20 +29,20 @@ pub struct Child {
 }
 
 /// The part that the line plays among its siblings.
-pub fn line_role(line: &SourceLine) -> Role
+pub fn line_role(line: &Line) -> Role
     ensures { result ≡ role_of line.now }
 {
     match &line.body {
-        LineBody::Form(Form::Procedure(_)) => Role::Head,
-        LineBody::Form(Form::Close) => Role::Close,
-        LineBody::Form(Form::Declaration(_, _, _)) => Role::Declaration,
-        LineBody::Form(_) => Role::Process,
-        LineBody::Include(_) | LineBody::Uses(_) | LineBody::Fault(_) => Role::Other,
+        Body::Form(Form::Procedure(_)) => Role::Head,
+        Body::Form(Form::Close) => Role::Close,
+        Body::Form(Form::Declaration(_, _, _)) => Role::Declaration,
+        Body::Form(_) => Role::Process,
+        Body::Other => Role::Other,
     }
 }
 
 /// How many lines deeper than `depth` come first.
-pub fn under_len(depth: u32, lines: &[SourceLine]) -> usize
+pub fn under_len(depth: u32, lines: &[Line]) -> usize
     ensures value { result ≡ length (lines_under depth lines.now) }
     ensures within { result ≤ length lines.now }
 {
@@ -56,7 +56,7 @@ pub fn under_len(depth: u32, lines: &[SourceLine]) -> usize
 
 /// The lines deeper than `depth` that come first.
 #[tactic(auto, using(crate::proofs::Nested::take_under))]
-pub fn under(depth: u32, lines: &[SourceLine]) -> &[SourceLine]
+pub fn under(depth: u32, lines: &[Line]) -> &[Line]
     ensures value { result.now ≡ lines_under depth lines.now }
     ensures within { length result.now ≤ length lines.now }
 {
@@ -64,7 +64,7 @@ pub fn under(depth: u32, lines: &[SourceLine]) -> &[SourceLine]
 }
 
 impl Child {
-    fn of(line: &SourceLine) -> Child
+    fn of(line: &Line) -> Child
         ensures { result ≡ child_of line.now }
     {
         Child {
@@ -76,7 +76,7 @@ impl Child {
 }
 
 /// Those of the lines of a block that stand under none of the others.
-pub fn find_children(alloc: Global, lines: &[SourceLine]) -> Result<Items<Child>, AllocError>
+pub fn find_children(alloc: Global, lines: &[Line]) -> Result<Items<Child>, AllocError>
     ensures { IfOk result (λ kids. kids ≡ children lines.now) }
 {
     let mut kids = Items::new(alloc);

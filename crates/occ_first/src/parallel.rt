@@ -7,11 +7,11 @@ ghost use Rattle.occ_first.specs.Scope.{visible as visible_in};
 ghost use Rattle.occ_first.specs.Shape.{is_head};
 
 use super::faults::error;
+use super::line::{Body, Form, Line};
 use super::mention::{Access, Mention, find_mentions};
 use super::nesting::{Role, line_role, under};
 use super::scope::{Sort, Specification, visible};
 use occ_base::{Code, Diag, FileName, Items, Name};
-use occ_forms::{Form, LineBody, SourceLine};
 use std::alloc::{AllocError, Global};
 
 /// A use of a variable in a component of a PAR.
@@ -56,7 +56,7 @@ fn marked(mark: Option<Mark>, place: usize, depth: u32, is_of_kind: bool) -> Opt
 
 impl Open {
     /// What is known behind a line at the place.
-    fn past(self, place: usize, line: &SourceLine) -> Open
+    fn past(self, place: usize, line: &Line) -> Open
         ensures component { result.component ≡ enter self.component place line.now.depth true }
         ensures head { result.head ≡ enter self.head place line.now.depth (is_head (role_of line.now)) }
     {
@@ -117,7 +117,7 @@ fn add_uses(
     specifications: &[Specification],
     component: Option<usize>,
     place: usize,
-    line: &SourceLine,
+    line: &Line,
     found: &mut Items<Use>,
 ) -> Result<(), AllocError>
     ensures { OnOk result (found.new ≡ found.old ++ component_uses specifications.now (record { place = place; line = line.now }) component) }
@@ -137,7 +137,7 @@ fn find_uses(
     alloc: Global,
     specifications: &[Specification],
     first: usize,
-    lines: &[SourceLine],
+    lines: &[Line],
 ) -> Result<Items<Use>, AllocError>
     requires { first + length lines.now < 2 ^ 64 }
     ensures { IfOk result (λ found. found ≡ uses_of specifications.now [] first lines.now) }
@@ -211,10 +211,10 @@ fn add_par_faults(
     Ok(())
 }
 
-fn is_par(line: &SourceLine) -> bool
+fn is_par(line: &Line) -> bool
     ensures { result ≡ a_par line.now }
 {
-    matches!(&line.body, LineBody::Form(Form::Parallel))
+    matches!(&line.body, Body::Form(Form::Parallel))
 }
 
 /// The diagnostics of the parallel rule.
@@ -222,7 +222,7 @@ pub fn find_parallel_faults(
     alloc: Global,
     file: FileName,
     specifications: &[Specification],
-    lines: &[SourceLine],
+    lines: &[Line],
 ) -> Result<Items<Diag>, AllocError>
     ensures { IfOk result (λ found. found ≡ parallel_faults file specifications.now 0 lines.now) }
 {

@@ -3,9 +3,9 @@ ghost use Rattle.std.specs.Option.{option_copied};
 ghost use Rattle.occ_first.specs.Nesting.{under as lines_under};
 ghost use Rattle.occ_first.specs.Scope.{body_specifications, procedure as a_procedure, reaches as reaching, rest_of_item, specifications, variable as a_variable, visible as visible_in};
 
+use super::line::{Body, Form, Line};
 use super::nesting::{Role, line_role, under_len};
 use occ_base::{Items, Name};
-use occ_forms::{Form, LineBody, SourceLine};
 use std::alloc::{AllocError, Global};
 
 /// What a specification makes its name stand for.
@@ -27,7 +27,7 @@ pub struct Specification {
 }
 
 /// How many lines are left of the item that goes on with these lines at this depth.
-fn item_len(depth: u32, lines: &[SourceLine]) -> usize
+fn item_len(depth: u32, lines: &[Line]) -> usize
     ensures value { result ≡ length (rest_of_item depth lines.now) }
     ensures within { result ≤ length lines.now }
 {
@@ -47,7 +47,7 @@ fn item_len(depth: u32, lines: &[SourceLine]) -> usize
 }
 
 /// The lines from this number on, if there are any.
-fn lines_from(start: usize, lines: &[SourceLine]) -> &[SourceLine]
+fn lines_from(start: usize, lines: &[Line]) -> &[Line]
     ensures value { result.now ≡ drop start lines.now }
     ensures len { length result.now ≡ length lines.now - start }
 {
@@ -63,7 +63,7 @@ fn variable(
     alloc: Global,
     place: usize,
     depth: u32,
-    behind: &[SourceLine],
+    behind: &[Line],
     name: &Name,
 ) -> Result<Specification, AllocError>
     requires { place + length behind.now + 2 < 2 ^ 64 }
@@ -84,7 +84,7 @@ fn procedure(
     alloc: Global,
     place: usize,
     depth: u32,
-    behind: &[SourceLine],
+    behind: &[Line],
     name: &Name,
 ) -> Result<Specification, AllocError>
     requires { place + length behind.now + 2 < 2 ^ 64 }
@@ -105,18 +105,18 @@ fn procedure(
 fn add_specifications(
     alloc: Global,
     place: usize,
-    line: &SourceLine,
-    behind: &[SourceLine],
+    line: &Line,
+    behind: &[Line],
     found: &mut Items<Specification>,
 ) -> Result<(), AllocError>
     requires { place + length behind.now + 2 < 2 ^ 64 }
     ensures { OnOk result (found.new ≡ found.old ++ body_specifications place line.now.depth line.now.body behind.now) }
 {
     match &line.body {
-        LineBody::Form(Form::Procedure(name)) => {
+        Body::Form(Form::Procedure(name)) => {
             found.push(procedure(alloc, place, line.depth, behind, name)?)
         }
-        LineBody::Form(Form::Declaration(_, first, more)) => {
+        Body::Form(Form::Declaration(_, first, more)) => {
             found.push(variable(alloc, place, line.depth, behind, first)?)?;
             for name in more.as_slice() {
                 found.push(variable(alloc, place, line.depth, behind, name)?)?;
@@ -130,7 +130,7 @@ fn add_specifications(
 /// The specifications of the lines, in their order.
 pub fn find_specifications(
     alloc: Global,
-    lines: &[SourceLine],
+    lines: &[Line],
 ) -> Result<Items<Specification>, AllocError>
     ensures { IfOk result (λ found. found ≡ specifications 0 lines.now) }
 {

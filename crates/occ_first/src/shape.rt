@@ -5,9 +5,9 @@ ghost use Rattle.occ_first.specs.Nesting.{children, under as lines_under};
 ghost use Rattle.occ_first.specs.Shape.{ends_specified, first_is, is_close, is_head, is_misplaced as misplaced, is_process, is_wrong as wrong, items, lacks as lacking, lets as row_lets, parent_faults, row_of, shape_faults, sibling_faults, some_is};
 
 use super::faults::add_error_if;
+use super::line::{Body, Form, Line};
 use super::nesting::{Child, Role, find_children, under};
 use occ_base::{Code, Diag, FileName, Items};
-use occ_forms::{Form, LineBody, SourceLine};
 use std::alloc::{AllocError, Global};
 
 /// What may stand right under a line, or in a file.
@@ -23,12 +23,12 @@ pub enum Row {
 }
 
 /// What may stand right under the line.
-fn line_row(line: &SourceLine) -> Row
+fn line_row(line: &Line) -> Row
     ensures { result ≡ row_of line.now }
 {
     match &line.body {
-        LineBody::Form(Form::Procedure(_)) => Row::One,
-        LineBody::Form(Form::Sequence | Form::Parallel) => Row::Many,
+        Body::Form(Form::Procedure(_)) => Row::One,
+        Body::Form(Form::Sequence | Form::Parallel) => Row::Many,
         _ => Row::Nothing,
     }
 }
@@ -165,8 +165,8 @@ fn lacks(row: Row, kids: &[Child]) -> bool
 fn find_parent_faults(
     alloc: Global,
     file: FileName,
-    line: &SourceLine,
-    rest: &[SourceLine],
+    line: &Line,
+    rest: &[Line],
     found: &mut Items<Diag>,
 ) -> Result<(), AllocError>
     ensures { OnOk result (found.new ≡ found.old ++ parent_faults file line.now (children (lines_under line.now.depth rest.now)) ++ error_if (nat_lt 64 line.now.depth) file line.now.line code.S4) }
@@ -183,7 +183,7 @@ fn find_parent_faults(
 pub fn find_shape_faults(
     alloc: Global,
     file: FileName,
-    lines: &[SourceLine],
+    lines: &[Line],
 ) -> Result<Items<Diag>, AllocError>
     ensures { IfOk result (λ found. found ≡ shape_faults file lines.now) }
 {

@@ -1,99 +1,32 @@
 use super::diagnostics;
-use occ_base::{Code, FileName, Items, Name, write_diag};
-use occ_forms::{Element, Expr, Form, LineBody, Operand, SourceLine};
-use std::alloc::{AllocError, Global};
+use occ_base::{FileName, write_diag};
+use occ_forms::prepare;
+use std::alloc::Global;
 use std::test::Fail;
 
-fn at(line: u32, depth: u32, form: Form) -> SourceLine {
-    SourceLine {
-        line,
-        depth,
-        body: LineBody::Form(form),
-    }
-}
-
-fn head(alloc: Global, line: u32, depth: u32) -> Result<SourceLine, AllocError> {
-    Ok(at(line, depth, Form::Procedure(Name::from_slice(alloc, b"p")?)))
-}
-
-fn int(alloc: Global, line: u32, depth: u32, name: &str) -> Result<SourceLine, AllocError> {
-    let name = Name::from_slice(alloc, name.as_bytes())?;
-    Ok(at(
-        line,
-        depth,
-        Form::Declaration(None, name, Items::new(alloc)),
-    ))
-}
-
-fn element(alloc: Global, name: &str, subscript: Option<u64>) -> Result<Element, AllocError> {
-    let name = Name::from_slice(alloc, name.as_bytes())?;
-    Ok(match subscript {
-        None => Element::Whole(name),
-        Some(subscript) => Element::Indexed(name, subscript),
-    })
-}
-
-/// `name := 1`
-fn set(alloc: Global, line: u32, depth: u32, name: &str) -> Result<SourceLine, AllocError> {
-    let target = element(alloc, name, None)?;
-    Ok(at(
-        line,
-        depth,
-        Form::Assignment(target, Expr::Alone(Operand::Decimal(1))),
-    ))
-}
-
-/// `a[to] := a[from]`
-fn moved(
-    alloc: Global,
-    line: u32,
-    depth: u32,
-    to: u64,
-    from: u64,
-) -> Result<SourceLine, AllocError> {
-    let target = element(alloc, "a", Some(to))?;
-    let value = Expr::Alone(Operand::Element(element(alloc, "a", Some(from))?));
-    Ok(at(line, depth, Form::Assignment(target, value)))
-}
-
-/// The diagnostics of the lines, each with a line end.
-fn shown(alloc: Global, lines: &[SourceLine]) -> Result<Vec<u8>, Fail> {
+/// The diagnostics of the text, each with a line end.
+fn shown(alloc: Global, text: &str) -> Result<Vec<u8>, Fail> {
     let file = FileName::read(b"a.occ")?;
-    let mut text = Vec::new(alloc);
-    for diag in diagnostics(alloc, file, lines)?.as_slice() {
-        write_diag(alloc, diag, &mut text)?;
-        text.push(b'\n')?;
+    let source = prepare(alloc, text.as_bytes())?;
+    let mut shown = Vec::new(alloc);
+    for diag in diagnostics(alloc, file, source.lines())?.as_slice() {
+        write_diag(alloc, diag, &mut shown)?;
+        shown.push(b'\n')?;
     }
-    Ok(text)
+    Ok(shown)
 }
 
 #[test]
 fn components_that_write_one_variable(rt: HostRuntime) -> Result<(), Fail> {
     let a = rt.alloc();
-    let two = vec![in a;
-        head(a, 1, 0)?,
-        int(a, 2, 1, "x")?,
-        at(3, 1, Form::Parallel),
-        set(a, 4, 2, "x")?,
-        set(a, 5, 2, "x")?,
-        at(6, 0, Form::Close),
-    ]?;
+    let two = "PROC p ()\n  INT x:\n  PAR\n    x := 1\n    x := 1\n:\n";
     assert_eq!(rt;
-        shown(a, &two)?.as_slice(),
+        shown(a, two)?.as_slice(),
         b"a.occ:3 U1 error x\n".as_slice()
     );
-    let apart = vec![in a;
-        head(a, 1, 0)?,
-        int(a, 2, 1, "x")?,
-        int(a, 3, 1, "y")?,
-        at(4, 1, Form::Parallel),
-        set(a, 5, 2, "x")?,
-        set(a, 6, 2, "y")?,
-        set(a, 7, 2, "x")?,
-        at(8, 0, Form::Close),
-    ]?;
+    let apart = "PROC p ()\n  INT x:\n  INT y:\n  PAR\n    x := 1\n    y := 1\n    x := 1\n:\n";
     assert_eq!(rt;
-        shown(a, &apart)?.as_slice(),
+        shown(a, apart)?.as_slice(),
         b"a.occ:4 U1 error x\n".as_slice()
     );
     Ok(())
@@ -102,25 +35,11 @@ fn components_that_write_one_variable(rt: HostRuntime) -> Result<(), Fail> {
 #[test]
 fn subscripts_that_differ(rt: HostRuntime) -> Result<(), Fail> {
     let a = rt.alloc();
-    let clean = vec![in a;
-        head(a, 1, 0)?,
-        int(a, 2, 1, "a")?,
-        at(3, 1, Form::Parallel),
-        moved(a, 4, 2, 0, 2)?,
-        moved(a, 5, 2, 1, 2)?,
-        at(6, 0, Form::Close),
-    ]?;
-    assert_eq!(rt; shown(a, &clean)?.as_slice(), b"".as_slice());
-    let read = vec![in a;
-        head(a, 1, 0)?,
-        int(a, 2, 1, "a")?,
-        at(3, 1, Form::Parallel),
-        moved(a, 4, 2, 0, 1)?,
-        moved(a, 5, 2, 1, 2)?,
-        at(6, 0, Form::Close),
-    ]?;
+    let clean = "PROC p ()\n  [3]INT a:\n  PAR\n    a[0] := a[2]\n    a[1] := a[2] + 1\n:\n";
+    assert_eq!(rt; shown(a, clean)?.as_slice(), b"".as_slice());
+    let read = "PROC p ()\n  [3]INT a:\n  PAR\n    a[0] := a[1]\n    a[1] := a[2]\n:\n";
     assert_eq!(rt;
-        shown(a, &read)?.as_slice(),
+        shown(a, read)?.as_slice(),
         b"a.occ:3 U1 error a\n".as_slice()
     );
     Ok(())
@@ -129,16 +48,9 @@ fn subscripts_that_differ(rt: HostRuntime) -> Result<(), Fail> {
 #[test]
 fn names(rt: HostRuntime) -> Result<(), Fail> {
     let a = rt.alloc();
-    let lines = vec![in a;
-        head(a, 1, 0)?,
-        head(a, 2, 1)?,
-        set(a, 3, 2, "p")?,
-        at(4, 1, Form::Close),
-        set(a, 5, 1, "p")?,
-        at(6, 0, Form::Close),
-    ]?;
+    let text = "PROC p ()\n  PROC p ()\n    p := 1\n  :\n  p := 1\n:\n";
     assert_eq!(rt;
-        shown(a, &lines)?.as_slice(),
+        shown(a, text)?.as_slice(),
         b"a.occ:3 N1 error p\na.occ:5 N2 error p\n".as_slice()
     );
     Ok(())
@@ -147,20 +59,13 @@ fn names(rt: HostRuntime) -> Result<(), Fail> {
 #[test]
 fn shapes(rt: HostRuntime) -> Result<(), Fail> {
     let a = rt.alloc();
-    let deep = vec![in a; head(a, 1, 0)?, at(2, 2, Form::Skip), at(3, 0, Form::Close)]?;
     assert_eq!(rt;
-        shown(a, &deep)?.as_slice(),
+        shown(a, "PROC p ()\n    SKIP\n:\n")?.as_slice(),
         b"a.occ:2 S2 error -\n".as_slice()
     );
-    let unclosed = vec![in a; head(a, 1, 0)?, at(2, 1, Form::Skip)]?;
     assert_eq!(rt;
-        shown(a, &unclosed)?.as_slice(),
+        shown(a, "PROC p ()\n  SKIP\n")?.as_slice(),
         b"a.occ:1 S2 error -\n".as_slice()
-    );
-    let deepest = vec![in a; at(1, 65, Form::Skip)]?;
-    assert_eq!(rt;
-        shown(a, &deepest)?.as_slice(),
-        b"a.occ:1 S2 error -\na.occ:1 S4 error -\n".as_slice()
     );
     Ok(())
 }
@@ -168,15 +73,23 @@ fn shapes(rt: HostRuntime) -> Result<(), Fail> {
 #[test]
 fn faults_of_lines_alone(rt: HostRuntime) -> Result<(), Fail> {
     let a = rt.alloc();
-    let fault = SourceLine {
-        line: 2,
-        depth: 9,
-        body: LineBody::Fault(Code::L2),
-    };
-    let lines = vec![in a; at(1, 65, Form::Skip), fault]?;
     assert_eq!(rt;
-        shown(a, &lines)?.as_slice(),
+        shown(a, "WHILE x\n SKIP\n")?.as_slice(),
         b"a.occ:2 L2 error -\n".as_slice()
+    );
+    assert_eq!(rt;
+        shown(a, "WHILE x\n  SKIP SKIP\n")?.as_slice(),
+        b"a.occ:2 S1 error -\n".as_slice()
+    );
+    Ok(())
+}
+
+#[test]
+fn lines_of_the_whole_language(rt: HostRuntime) -> Result<(), Fail> {
+    let a = rt.alloc();
+    assert_eq!(rt;
+        shown(a, "PROC p ()\n  WHILE x\n    SKIP\n:\n#USE \"b.occ\"\n")?.as_slice(),
+        b"a.occ:2 S1 error -\na.occ:5 S1 error -\n".as_slice()
     );
     Ok(())
 }

@@ -1,13 +1,15 @@
 ghost use Rattle.std.specs.Prelude.{◌≡◌, IfOk};
-ghost use Rattle.occ_first.specs.Diagnostics.{diagnostics_of, first_faults, meaning_faults};
+ghost use Rattle.occ_first.specs.Diagnostics.{diagnostics_of, first_faults, known_faults, meaning_faults};
 ghost use Rattle.occ_first.specs.Scope.{specifications};
 
-use super::faults::find_line_faults;
+use super::faults::{find_line_faults, find_other_faults};
+use super::line::Line;
 use super::names::find_name_faults;
 use super::order::in_order;
 use super::parallel::find_parallel_faults;
 use super::scope::find_specifications;
 use super::shape::find_shape_faults;
+use super::view::view;
 use occ_base::{Diag, FileName, Items};
 use occ_forms::SourceLine;
 use std::alloc::{AllocError, Global};
@@ -28,7 +30,7 @@ pub fn diagnostics(
 fn find_meaning_faults(
     alloc: Global,
     file: FileName,
-    lines: &[SourceLine],
+    lines: &[Line],
 ) -> Result<Items<Diag>, AllocError>
     ensures { IfOk result (λ found. found ≡ meaning_faults file (specifications 0 lines.now) lines.now) }
 {
@@ -40,7 +42,27 @@ fn find_meaning_faults(
     find_parallel_faults(alloc, file, specifications.as_slice(), lines)
 }
 
-/// Faults of lines, if there are any; else those of shape; else those of names and uses.
+/// Lines that the first sublanguage does not have, if there are any; else faults of shape; else those of names and
+/// uses.
+fn find_known_faults(
+    alloc: Global,
+    file: FileName,
+    lines: &[Line],
+) -> Result<Items<Diag>, AllocError>
+    ensures { IfOk result (λ found. found ≡ known_faults file lines.now) }
+{
+    let found = find_other_faults(alloc, file, lines)?;
+    if !found.is_empty() {
+        return Ok(found);
+    }
+    let found = find_shape_faults(alloc, file, lines)?;
+    if !found.is_empty() {
+        return Ok(found);
+    }
+    find_meaning_faults(alloc, file, lines)
+}
+
+/// Faults of lines, if there are any; else those of the lines as the first sublanguage has them.
 fn find_first_faults(
     alloc: Global,
     file: FileName,
@@ -52,9 +74,6 @@ fn find_first_faults(
     if !found.is_empty() {
         return Ok(found);
     }
-    let found = find_shape_faults(alloc, file, lines)?;
-    if !found.is_empty() {
-        return Ok(found);
-    }
-    find_meaning_faults(alloc, file, lines)
+    let lines = view(alloc, lines)?;
+    find_known_faults(alloc, file, lines.as_slice())
 }

@@ -1,2 +1,9 @@
+pub mod Classes
+pub mod Deep
+pub mod Details
+pub mod Ends
 pub mod Formed
-pub mod Many
+pub mod Lines
+pub mod Lists
+pub mod Outputs
+pub mod Receptions

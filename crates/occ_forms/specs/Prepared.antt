@@ -1,5 +1,5 @@
 -- A text with its lines, each with its form or its one fault.
-use Rattle.std.specs.Prelude.{◌≡◌, ℕ, List, [], ◌∷◌}
+use Rattle.std.specs.Prelude.{◌≡◌, ◌⊎◌, ℕ, List, [], ◌∷◌}
 use Rattle.occ_base.specs.declared.code.Code.TheVariants as code
 use Rattle.occ_lines.specs.declared.text.Body.{Body}
 use Rattle.occ_lines.specs.declared.text.Body.TheVariants as body
@@ -9,17 +9,18 @@ use Rattle.occ_forms.specs.declared.source.LineBody.{LineBody}
 use Rattle.occ_forms.specs.declared.source.LineBody.TheVariants as held
 use Rattle.occ_forms.specs.declared.source.SourceLine.{SourceLine}
 use Rattle.occ_forms.specs.declared.tree.Form.{Form}
-use Rattle.occ_forms.specs.Spelling.{form_tokens}
+use Rattle.occ_forms.specs.Depth.{HasForm, HasNoForm, IsTooDeep}
 
 -- what callers see of a source
 pub record Prepared : Type 0 where
   pub text : List ℕ
   pub lines : List SourceLine
 
--- the form that the tokens spell, S1 where none does; or the directive or fault that the line is already
+-- the form that the tokens spell, S3 where the line is too deep, S1 where it has no form; or the directive or fault
+-- that the line is already
 abbrev pub IsFormed : Body → LineBody → Type 0
-IsFormed (body.Tokens tokens) (held.Form form) = tokens ≡ form_tokens form
-IsFormed (body.Tokens tokens) (held.Fault fault) = (fault ≡ code.S1) × ((form : Form) → tokens ≡ form_tokens form → ⊥)
+IsFormed (body.Tokens tokens) (held.Form form) = HasForm tokens form
+IsFormed (body.Tokens tokens) (held.Fault fault) = ((fault ≡ code.S3) × IsTooDeep tokens) ⊎ ((fault ≡ code.S1) × HasNoForm tokens)
 IsFormed (body.Include given) (held.Include name) = name ≡ given
 IsFormed (body.Uses given) (held.Uses name) = name ≡ given
 IsFormed (body.Fault given) (held.Fault fault) = fault ≡ given

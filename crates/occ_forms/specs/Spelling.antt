@@ -1,61 +1,127 @@
--- What each tree spells: its tokens, and then those that follow.
+-- What each form spells. The parts of lines are given the tokens that follow them.
 use Rattle.std.specs.Prelude.{ℕ, List, [], ◌∷◌, Option, Some, None}
 use Rattle.occ_lines.specs.declared.token.Token.{Token}
 use Rattle.occ_lines.specs.declared.token.Token.TheVariants as t
+use Rattle.occ_lines.specs.declared.token.Symbol.{Symbol}
 use Rattle.occ_lines.specs.declared.token.Symbol.TheVariants as s
 use Rattle.occ_lines.specs.declared.token.Word.TheVariants as w
-use Rattle.occ_forms.specs.declared.tree.Element.{Element}
-use Rattle.occ_forms.specs.declared.tree.Element.TheVariants as el
-use Rattle.occ_forms.specs.declared.tree.Operand.{Operand}
-use Rattle.occ_forms.specs.declared.tree.Operand.TheVariants as o
-use Rattle.occ_forms.specs.declared.tree.Expr.{Expr}
-use Rattle.occ_forms.specs.declared.tree.Expr.TheVariants as e
+use Rattle.occ_expressions.specs.Spelling.{Spelling, builtin_then, counted_array, data_form_then, dimension_then, element_then, expr_then, many}
+use Rattle.occ_specifications.specs.Spelling.{specified_tokens}
+use Rattle.occ_forms.specs.declared.tree.Action.{Action}
+use Rattle.occ_forms.specs.declared.tree.Action.TheVariants as ac
+use Rattle.occ_forms.specs.declared.tree.Construct.{Construct}
+use Rattle.occ_forms.specs.declared.tree.Construct.TheVariants as co
+use Rattle.occ_forms.specs.declared.tree.Detail.{Detail}
+use Rattle.occ_forms.specs.declared.tree.Detail.TheVariants as de
 use Rattle.occ_forms.specs.declared.tree.Form.{Form}
-use Rattle.occ_forms.specs.declared.tree.Form.TheVariants as f
+use Rattle.occ_forms.specs.declared.tree.Form.TheVariants as fo
+use Rattle.occ_forms.specs.declared.tree.Guarded.{Guarded}
+use Rattle.occ_forms.specs.declared.tree.Guarded.TheVariants as gu
+use Rattle.occ_forms.specs.declared.tree.Input.{Input}
+use Rattle.occ_forms.specs.declared.tree.Input.TheVariants as ip
+use Rattle.occ_forms.specs.declared.tree.InputItem.{InputItem}
+use Rattle.occ_forms.specs.declared.tree.InputItem.TheVariants as ii
+use Rattle.occ_forms.specs.declared.tree.Kind.{Kind}
+use Rattle.occ_forms.specs.declared.tree.Kind.TheVariants as ki
+use Rattle.occ_forms.specs.declared.tree.OutputItem.{OutputItem}
+use Rattle.occ_forms.specs.declared.tree.OutputItem.TheVariants as oi
+use Rattle.occ_forms.specs.declared.tree.Part.{Part}
+use Rattle.occ_forms.specs.declared.tree.Part.TheVariants as pa
+use Rattle.occ_forms.specs.declared.tree.Replicator.{Replicator}
 
--- a list of tokens, given those that follow it
-abbrev pub Spelling : Type 0
-Spelling = List Token → List Token
+-- a symbol and what stands behind it
+abbrev pub behind : {X : Type 0} → Symbol → (X → Spelling) → X → Spelling
+behind symbol spells x k = t.Symbol symbol ∷ spells x k
 
--- one after the other
-abbrev pub many : {X : Type 0} → (X → Spelling) → List X → Spelling
-many spells [] k = k
-many spells (x ∷ xs) k = spells x (many spells xs k)
+-- a list of one or more, with the symbol between each two
+abbrev pub list : {X : Type 0} → Symbol → (X → Spelling) → X → List X → Spelling
+list symbol spells first more k = spells first (many (behind symbol spells) more k)
 
--- [n]
-abbrev pub indexed : ℕ → Spelling
-indexed n k = t.Symbol s.OpenIndex ∷ t.Decimal n ∷ t.Symbol s.CloseIndex ∷ k
+-- `a::b`
+abbrev pub counted : Spelling → Spelling → Spelling
+counted count array k = count (t.Symbol s.Counted ∷ array k)
 
-abbrev pub element_then : Element → Spelling
-element_then (el.Whole name) k = t.Name name ∷ k
-element_then (el.Indexed name n) k = t.Name name ∷ indexed n k
+abbrev pub output_item_then : OutputItem → Spelling
+output_item_then (oi.Plain e) k = expr_then e k
+output_item_then (oi.Counted count array) k = counted (expr_then count) (expr_then array) k
 
-abbrev pub operand_then : Operand → Spelling
-operand_then (o.Element element) k = element_then element k
-operand_then (o.Decimal n) k = t.Decimal n ∷ k
+abbrev pub input_item_then : InputItem → Spelling
+input_item_then (ii.Plain el) k = element_then el k
+input_item_then (ii.Counted count array) k = counted (element_then count) (element_then array) k
 
-abbrev pub expr_then : Expr → Spelling
-expr_then (e.Alone operand) k = operand_then operand k
-expr_then (e.Sum first second) k = operand_then first (t.Symbol s.Plus ∷ operand_then second k)
+abbrev pub detail_then : Detail → Spelling
+detail_then (de.Element el) k = element_then el k
+detail_then (de.Counted count array) k = counted (element_then count) (element_then array) k
+detail_then (de.Array d ds name) k = many dimension_then (d ∷ ds) (t.Name name ∷ k)
+detail_then (de.Builtin ds builtin) k = many dimension_then ds (builtin_then builtin k)
+detail_then (de.CountedType count component) k = data_form_then count (counted_array (data_form_then component k))
 
--- a further name of a declaration
-abbrev pub next_name : List ℕ → Spelling
-next_name name k = t.Symbol s.Comma ∷ t.Name name ∷ k
+-- `el ?` and what stands behind it
+abbrev pub input_from : Spelling → Spelling → Spelling
+input_from el received k = el (t.Symbol s.Input ∷ received k)
 
--- the dimension of a declaration, where it has one
-abbrev pub dimension_then : Option ℕ → Spelling
-dimension_then None k = k
-dimension_then (Some n) k = indexed n k
+-- a name, and further items behind semicolons
+abbrev pub tagged : {X : Type 0} → (X → Spelling) → List ℕ → List X → Spelling
+tagged spells name items k = t.Name name ∷ many (behind s.Semicolon spells) items k
 
-abbrev pub form_then : Form → Spelling
-form_then (f.Procedure name) k = t.Word w.Proc ∷ t.Name name ∷ t.Symbol s.Open ∷ t.Symbol s.Close ∷ k
-form_then f.Close k = t.Symbol s.Colon ∷ k
-form_then (f.Declaration dimension name more) k = dimension_then dimension (t.Word w.Int ∷ t.Name name ∷ many next_name more (t.Symbol s.Colon ∷ k))
-form_then f.Sequence k = t.Word w.Seq ∷ k
-form_then f.Parallel k = t.Word w.Par ∷ k
-form_then f.Skip k = t.Word w.Skip ∷ k
-form_then (f.Assignment element expr) k = element_then element (t.Symbol s.Assign ∷ expr_then expr k)
+abbrev pub input_then : Input → Spelling
+input_then (ip.Plain el first more) k = input_from (element_then el) (list s.Semicolon input_item_then first more) k
+input_then (ip.After el e) k = input_from (element_then el) (λ j. t.Word w.After ∷ expr_then e j) k
+input_then (ip.Tagged el name items) k = input_from (element_then el) (λ j. t.Word w.Case ∷ tagged input_item_then name items j) k
+
+-- `el ? CASE`
+abbrev pub case_input_then : Spelling → Spelling
+case_input_then el k = input_from el (λ j. t.Word w.Case ∷ j) k
+
+abbrev pub action_then : Action → Spelling
+action_then ac.Skip k = t.Word w.Skip ∷ k
+action_then ac.Stop k = t.Word w.Stop ∷ k
+action_then (ac.Assignment el els e es) k = list s.Comma element_then el els (t.Symbol s.Assign ∷ list s.Comma expr_then e es k)
+action_then (ac.Output el first more) k = element_then el (t.Symbol s.Output ∷ list s.Semicolon output_item_then first more k)
+action_then (ac.Input input) k = input_then input k
+
+abbrev pub kind_then : Kind → Spelling
+kind_then ki.Sequence k = t.Word w.Seq ∷ k
+kind_then ki.Parallel k = t.Word w.Par ∷ k
+kind_then ki.PriParallel k = t.Word w.Pri ∷ t.Word w.Par ∷ k
+kind_then ki.Conditional k = t.Word w.If ∷ k
+kind_then ki.Alternation k = t.Word w.Alt ∷ k
+kind_then ki.PriAlternation k = t.Word w.Pri ∷ t.Word w.Alt ∷ k
+
+-- `n = base FOR count`
+abbrev pub replicator_then : Replicator → Spelling
+replicator_then r k = t.Name r.name ∷ t.Symbol s.Equal ∷ expr_then r.base (t.Word w.For ∷ expr_then r.count k)
+
+abbrev pub perhaps_replicator_then : Option Replicator → Spelling
+perhaps_replicator_then None k = k
+perhaps_replicator_then (Some replicator) k = replicator_then replicator k
+
+abbrev pub construct_then : Construct → Spelling
+construct_then (co.Replicable kind replicator) k = kind_then kind (perhaps_replicator_then replicator k)
+construct_then (co.While e) k = t.Word w.While ∷ expr_then e k
+construct_then (co.Case e) k = t.Word w.Case ∷ expr_then e k
+construct_then (co.CaseInput el) k = case_input_then (element_then el) k
+
+abbrev pub guarded_then : Guarded → Spelling
+guarded_then gu.Skip k = t.Word w.Skip ∷ k
+guarded_then (gu.Input input) k = input_then input k
+guarded_then (gu.CaseInput el) k = case_input_then (element_then el) k
+
+abbrev pub part_then : Part → Spelling
+part_then pa.Case k = t.Word w.Case ∷ k
+part_then pa.Else k = t.Word w.Else ∷ k
+part_then pa.ValueOf k = t.Word w.ValOf ∷ k
+part_then (pa.Result e es) k = t.Word w.Result ∷ list s.Comma expr_then e es k
+part_then pa.Record k = t.Word w.Record ∷ k
+part_then pa.PackedRecord k = t.Word w.Packed ∷ t.Word w.Record ∷ k
+part_then (pa.Guard e guarded) k = expr_then e (t.Symbol s.Ampersand ∷ guarded_then guarded k)
 
 -- all the tokens of a line of this form
 abbrev pub form_tokens : Form → List Token
-form_tokens form = form_then form []
+form_tokens (fo.Specified specified) = specified_tokens specified
+form_tokens fo.Close = t.Symbol s.Colon ∷ []
+form_tokens (fo.Action action) = action_then action []
+form_tokens (fo.Construct construct) = construct_then construct []
+form_tokens (fo.Part part) = part_then part []
+form_tokens (fo.Expressions e es) = list s.Comma expr_then e es []
+form_tokens (fo.Tagged name first more) = tagged detail_then name (first ∷ more) []

@@ -2,19 +2,29 @@
 //! `prepare`, which gives a text with its lines. `specs/Spelling.antt` says what each tree spells.
 #![tactic(auto)]
 
-mod expression;
+mod action;
+mod class;
+mod construct;
+mod depth;
+mod detail;
+mod end;
+mod input;
+mod item;
 mod line;
 mod parse;
+mod part;
 mod preparation;
 mod rows;
 mod source;
+mod specifying;
 #[cfg(test)]
 mod tests;
-mod token_reader;
 mod tree;
 
 pub use parse::{LineFault, form};
 pub use preparation::prepare;
-pub use rows::{body_rows, spelling_rows};
+pub use rows::{action_rows, body_rows, construct_rows, part_rows, tagged_rows};
 pub use source::{LineBody, Source, SourceLine};
-pub use tree::{Element, Expr, Form, Operand};
+pub use tree::{
+    Action, Construct, Detail, Form, Guarded, Input, InputItem, Kind, OutputItem, Part, Replicator,
+};

@@ -1,138 +1,38 @@
-ghost use Rattle.occ_forms.specs.Reading.{IsFormOf, IsNot, Reads};
-ghost use Rattle.occ_forms.specs.Spelling.{dimension_then, form_tokens, many, next_name};
-ghost use Rattle.occ_forms.specs.declared.tree.Element.{Element as AnElement};
-ghost use Rattle.occ_forms.specs.declared.tree.Expr.{Expr as AnExpr};
-ghost use Rattle.occ_forms.specs.declared.tree.Form.TheVariants as f;
-ghost use Rattle.occ_lines.specs.declared.token.Symbol.TheVariants as s;
-ghost use Rattle.occ_lines.specs.declared.token.Token.TheVariants as t;
-ghost use Rattle.occ_lines.specs.declared.token.Token.{Token as AToken};
-ghost use Rattle.occ_lines.specs.declared.token.Word.TheVariants as w;
-ghost use Rattle.std.specs.Prelude.{IfOk, IfSome, List, MatchOption, Some, [], ℕ, ◌∷◌, ◌≡◌, ◌≢◌};
+ghost use Rattle.occ_forms.specs.Reading.{IsFormOf};
+ghost use Rattle.std.specs.Prelude.{IfOk};
 
-use super::Form;
-use super::expression::{element, expression};
-use super::token_reader::{after, after_int, first, name, number};
-use occ_base::{Items, Name};
-use occ_lines::{Symbol, Token, Word};
+use super::action::{assignment, input_line, output};
+use super::class::{Class, classify};
+use super::construct::{replicable, selection, while_loop};
+use super::end::word_alone;
+use super::part::{expressions, guard, packed, results, tagged_line};
+use super::specifying::{close_or_declaration, specification};
+use super::{Action, Form, Part};
+use occ_lines::{Token, Word};
 use std::alloc::{AllocError, Global};
 
-/// The form, where no token is left.
-pub fn alone(form: Form, rest: &[Token]) -> Option<Form>
-    ensures { MatchOption result (rest.now ≢ []) (λ found. (found ≡ form) × (rest.now ≡ [])) }
-{
-    if rest.is_empty() { Some(form) } else { None }
-}
-
-/// The further names of a declaration, and what follows them.
-pub fn more_names(
-    alloc: Global,
-    tokens: &[Token],
-) -> Result<Option<(Items<Name>, &[Token])>, AllocError>
-    ensures found { IfOk result (λ r. IfSome r (λ x. tokens.now ≡ many next_name x.0 x.1.now)) }
-    ensures only { IfOk result (λ r. (names : List (List ℕ)) (k : List AToken) → IsNot s.Comma k → tokens.now ≡ many next_name names k → Reads r names k) }
-{
-    let mut found = Items::new(alloc);
-    let mut rest = tokens;
-    while let Some(begun) = after(rest, Symbol::Comma) {
-        let Some((name, next)) = name(alloc, begun)? else {
-            return Ok(None);
-        };
-        found.push(name)?;
-        rest = next;
-    }
-    Ok(Some((found, rest)))
-}
-
-/// The head of a procedure, of which the word is read.
-pub fn procedure(alloc: Global, rest: &[Token]) -> Result<Option<Form>, AllocError>
-    ensures { IfOk result (λ answer. IsFormOf (t.Word w.Proc ∷ rest.now) answer) }
-{
-    let Some((name, rest)) = name(alloc, rest)? else {
-        return Ok(None);
-    };
-    let Some(rest) = after(rest, Symbol::Open) else {
-        return Ok(None);
-    };
-    let Some(rest) = after(rest, Symbol::Close) else {
-        return Ok(None);
-    };
-    Ok(alone(Form::Procedure(name), rest))
-}
-
-/// The names of a declaration, of which the dimension and the type are read.
-pub fn declaration(
-    alloc: Global,
-    dimension: Option<u64>,
-    rest: &[Token],
-) -> Result<Option<Form>, AllocError>
-    ensures { IfOk result (λ answer. IsFormOf (dimension_then dimension (t.Word w.Int ∷ rest.now)) answer) }
-{
-    let Some((first, rest)) = name(alloc, rest)? else {
-        return Ok(None);
-    };
-    let Some((more, rest)) = more_names(alloc, rest)? else {
-        return Ok(None);
-    };
-    let Some(rest) = after(rest, Symbol::Colon) else {
-        return Ok(None);
-    };
-    Ok(alone(Form::Declaration(dimension, first, more), rest))
-}
-
-/// A declaration with a dimension, of which the first bracket is read.
-pub fn dimensioned(alloc: Global, rest: &[Token]) -> Result<Option<Form>, AllocError>
-    ensures { IfOk result (λ answer. IsFormOf (t.Symbol s.OpenIndex ∷ rest.now) answer) }
-{
-    let Some((dimension, rest)) = number(rest) else {
-        return Ok(None);
-    };
-    let Some(rest) = after(rest, Symbol::CloseIndex) else {
-        return Ok(None);
-    };
-    let Some(rest) = after_int(rest) else {
-        return Ok(None);
-    };
-    declaration(alloc, Some(dimension), rest)
-}
-
-/// An assignment.
-pub fn assignment(alloc: Global, tokens: &[Token]) -> Result<Option<Form>, AllocError>
-    ensures found { IfOk result (λ answer. IfSome answer (λ form. tokens.now ≡ form_tokens form)) }
-    ensures only { IfOk result (λ answer. (x : AnElement) (e : AnExpr) → tokens.now ≡ form_tokens (f.Assignment x e) → answer ≡ Some (f.Assignment x e)) }
-{
-    let Some((element, rest)) = element(alloc, tokens)? else {
-        return Ok(None);
-    };
-    let Some(rest) = after(rest, Symbol::Assign) else {
-        return Ok(None);
-    };
-    let Some((expression, rest)) = expression(alloc, rest)? else {
-        return Ok(None);
-    };
-    Ok(alone(Form::Assignment(element, expression), rest))
-}
-
-/// The form of a line: its first token says which class of forms it can be.
+/// The form of a line: the first token that stands in no expression and no type says which class it is of.
 pub fn line(alloc: Global, tokens: &[Token]) -> Result<Option<Form>, AllocError>
     ensures { IfOk result (λ answer. IsFormOf tokens.now answer) }
 {
-    let Some((token, rest)) = first(tokens) else {
-        return Ok(None);
-    };
-    match token {
-        Token::Word(Word::Proc) => procedure(alloc, rest),
-        Token::Word(Word::Int) => declaration(alloc, None, rest),
-        Token::Word(Word::Seq) => Ok(alone(Form::Sequence, rest)),
-        Token::Word(Word::Par) => Ok(alone(Form::Parallel, rest)),
-        Token::Word(Word::Skip) => Ok(alone(Form::Skip, rest)),
-        Token::Symbol(Symbol::Colon) => Ok(alone(Form::Close, rest)),
-        Token::Symbol(Symbol::OpenIndex) => dimensioned(alloc, rest),
-        Token::Name(_) => assignment(alloc, tokens),
-        Token::Word(_)
-        | Token::Symbol(_)
-        | Token::Decimal(_)
-        | Token::Hexadecimal(_)
-        | Token::Character(_)
-        | Token::String(_) => Ok(None),
+    match classify(tokens) {
+        Class::Close => close_or_declaration(alloc, tokens),
+        Class::Skip => Ok(word_alone(tokens, Word::Skip, Form::Action(Action::Skip))),
+        Class::Stop => Ok(word_alone(tokens, Word::Stop, Form::Action(Action::Stop))),
+        Class::Else => Ok(word_alone(tokens, Word::Else, Form::Part(Part::Else))),
+        Class::ValueOf => Ok(word_alone(tokens, Word::ValOf, Form::Part(Part::ValueOf))),
+        Class::Record => Ok(word_alone(tokens, Word::Record, Form::Part(Part::Record))),
+        Class::PackedRecord => Ok(packed(tokens)),
+        Class::Replicable => replicable(alloc, tokens),
+        Class::While => while_loop(alloc, tokens),
+        Class::Case => selection(alloc, tokens),
+        Class::Result => results(alloc, tokens),
+        Class::Expressions => expressions(alloc, tokens),
+        Class::Assignment => assignment(alloc, tokens),
+        Class::Output => output(alloc, tokens),
+        Class::Input => input_line(alloc, tokens),
+        Class::Guard => guard(alloc, tokens),
+        Class::Tagged => tagged_line(alloc, tokens),
+        Class::Other => specification(alloc, tokens),
     }
 }

@@ -1,10 +1,13 @@
+ghost use Rattle.occ_expressions.specs.Depth.{most_open};
+ghost use Rattle.occ_forms.specs.Depth.{HasForm, HasNoForm, IsTooDeep};
 ghost use Rattle.occ_forms.specs.Spelling.{form_tokens};
 ghost use Rattle.occ_forms.specs.declared.tree.Form.{Form as AForm};
 ghost use Rattle.occ_forms.specs.declared.parse.LineFault.TheVariants.{Memory};
-ghost use Rattle.std.specs.Prelude.{IfOk, IsErrOf, ◌≡◌, ◌≢◌};
+ghost use Rattle.std.specs.Prelude.{IfOk, IsErrOf, ◌≡◌, ◌<◌};
 
 use super::Form;
 use super::line::line;
+use occ_expressions::{Measured, opens_too_many};
 use occ_lines::Token;
 use std::alloc::{AllocError, Global};
 use thiserror::Error;
@@ -12,9 +15,12 @@ use thiserror::Error;
 /// Why the tokens of a line have no form.
 #[derive(Clone, Copy, Debug, PartialEq, Eq, Error)]
 pub enum LineFault {
-    /// No form spells the tokens.
+    /// No form spells the tokens, and no more than 64 brackets are open at once.
     #[error("no form")]
     NoForm,
+    /// Over 64 brackets are open at once, or a type in the form has over 64 dimensions.
+    #[error("too deep")]
+    TooDeep,
     /// Memory was refused.
     #[error("out of memory")]
     Memory,
@@ -28,14 +34,23 @@ impl From<AllocError> for LineFault {
     }
 }
 
-/// The form of a line, which its tokens spell.
+/// The form of a line, which its tokens spell. Where over 64 brackets are open at once no memory is taken.
 pub fn form(alloc: Global, tokens: &[Token]) -> Result<Form, LineFault>
-    ensures found { IfOk result (λ f. tokens.now ≡ form_tokens f) }
+    ensures found { IfOk result (λ form. HasForm tokens.now form) }
     ensures only { IfOk result (λ found. (f : AForm) → tokens.now ≡ form_tokens f → found ≡ f) }
-    ensures none { IsErrOf result LineFault.NoForm → (f : AForm) → tokens.now ≢ form_tokens f }
+    ensures none { IsErrOf result LineFault.NoForm → HasNoForm tokens.now }
+    ensures deep { IsErrOf result LineFault.TooDeep → IsTooDeep tokens.now }
+    ensures deeper { IsErrOf result LineFault.TooDeep → (f : AForm) → HasForm tokens.now f → ⊥ }
+    ensures brackets { 64 < most_open 0 tokens.now → IsErrOf result LineFault.TooDeep }
 {
-    match line(alloc, tokens)? {
-        Some(form) => Ok(form),
-        None => Err(LineFault::NoForm),
+    if opens_too_many(tokens) {
+        return Err(LineFault::TooDeep);
     }
+    let Some(form) = line(alloc, tokens)? else {
+        return Err(LineFault::NoForm);
+    };
+    if form.has_many_dimensions() {
+        return Err(LineFault::TooDeep);
+    }
+    Ok(form)
 }

@@ -2,14 +2,28 @@ ghost use Rattle.occ_forms.specs.Prepared.{AreFormed, IsFormed, IsPrepared};
 ghost use Rattle.occ_forms.specs.declared.source.LineBody.{LineBody as ALineBody};
 ghost use Rattle.occ_forms.specs.declared.source.SourceLine.{SourceLine as ASourceLine};
 ghost use Rattle.occ_lines.specs.Lines.{IsLines, line_count};
+ghost use Rattle.occ_lines.specs.declared.text.Body.TheVariants as body;
 ghost use Rattle.occ_lines.specs.declared.text.Logical.{Logical as ALogical};
 ghost use Rattle.std.specs.Prelude.{IfOk, IsErrOf, List, length, ◌↔◌, ◌≡◌, ◌≤◌, ◌<◌};
 
-use super::line::line;
+use super::parse::{LineFault, form};
 use super::{LineBody, Source, SourceLine};
 use occ_base::{Code, Items};
-use occ_lines::{Body, Logical, TextFault, logical};
+use occ_lines::{Body, Logical, TextFault, Token, logical};
 use std::alloc::{AllocError, Global};
+
+/// What a line of these tokens holds: their form, or its fault.
+fn formed(alloc: Global, tokens: &[Token]) -> Result<LineBody, AllocError>
+    ensures found { IfOk result (λ found. IsFormed (body.Tokens tokens.now) found) }
+    ensures only { IfOk result (λ found. (other : ALineBody) → IsFormed (body.Tokens tokens.now) other → other ≡ found) }
+{
+    match form(alloc, tokens) {
+        Ok(form) => Ok(LineBody::Form(form)),
+        Err(LineFault::NoForm) => Ok(LineBody::Fault(Code::S1)),
+        Err(LineFault::TooDeep) => Ok(LineBody::Fault(Code::S3)),
+        Err(LineFault::Memory) => Err(AllocError),
+    }
+}
 
 /// What a line holds: the form of its tokens, or its fault.
 fn line_body(alloc: Global, body: &Body) -> Result<LineBody, AllocError>
@@ -20,12 +34,7 @@ fn line_body(alloc: Global, body: &Body) -> Result<LineBody, AllocError>
         Body::Fault(fault) => Ok(LineBody::Fault(*fault)),
         Body::Include(name) => Ok(LineBody::Include(*name)),
         Body::Uses(name) => Ok(LineBody::Uses(*name)),
-        Body::Tokens(tokens) => {
-            match line(alloc, tokens.as_slice())? {
-                Some(form) => Ok(LineBody::Form(form)),
-                None => Ok(LineBody::Fault(Code::S1)),
-            }
-        }
+        Body::Tokens(tokens) => formed(alloc, tokens.as_slice()),
     }
 }
 

@@ -35,9 +35,17 @@ pub struct Source {
 }
 
 impl Model for Source {
+    ghost use Rattle.occ_expressions.specs.contracts.tree.Builtin as builtins;
+    ghost use Rattle.occ_expressions.specs.contracts.tree.Dimension as dimensions;
+    ghost use Rattle.occ_expressions.specs.contracts.tree.Element as elements;
+    ghost use Rattle.occ_expressions.specs.contracts.tree.Expr as expressions;
+    ghost use Rattle.occ_expressions.specs.contracts.tree.TypeForm as types;
     ghost use Rattle.occ_forms.specs.Prepared.{IsPrepared, Prepared};
+    ghost use Rattle.std.specs.Coded.{codes};
 
     ghost Value = { Prepared };
+
+    ghost coded = { Prim.hlevel (codes, builtins.the_row.coded, dimensions.the_row.coded, elements.the_row.coded, expressions.the_row.coded, types.the_row.coded) };
 
     ghost view = { λ a. record { text = a.text; lines = a.lines } };
 

@@ -1,131 +1,203 @@
-use super::{Element, Expr, Form, LineBody, LineFault, Operand, SourceLine, form, prepare};
-use occ_base::{Code, Items, Name};
-use occ_lines::{Symbol, TextFault, Token, Word};
-use std::alloc::{AllocError, Global};
+use super::{
+    Action, Construct, Detail, Form, Guarded, Input, InputItem, Kind, LineBody, OutputItem, Part,
+    SourceLine, prepare,
+};
+use occ_base::Code;
+use occ_lines::TextFault;
+use occ_specifications::Specified;
 use std::test::Fail;
 
-/// The token that the word spells.
-fn token(alloc: Global, word: &str) -> Result<Token, AllocError> {
-    let token = match word {
-        "PROC" => Token::Word(Word::Proc),
-        "INT" => Token::Word(Word::Int),
-        "SEQ" => Token::Word(Word::Seq),
-        "PAR" => Token::Word(Word::Par),
-        "SKIP" => Token::Word(Word::Skip),
-        ":=" => Token::Symbol(Symbol::Assign),
-        "+" => Token::Symbol(Symbol::Plus),
-        "(" => Token::Symbol(Symbol::Open),
-        ")" => Token::Symbol(Symbol::Close),
-        "[" => Token::Symbol(Symbol::OpenIndex),
-        "]" => Token::Symbol(Symbol::CloseIndex),
-        "," => Token::Symbol(Symbol::Comma),
-        ":" => Token::Symbol(Symbol::Colon),
-        _ => {
-            match word.parse::<u64>() {
-                Ok(number) => Token::Decimal(number),
-                Err(_) => Token::Name(Name::from_slice(alloc, word.as_bytes())?),
-            }
-        }
-    };
-    Ok(token)
-}
-
-/// The form of tokens with a blank between each two.
-fn form_of(alloc: Global, line: &str) -> Result<Result<Form, LineFault>, AllocError> {
-    let mut tokens = Items::new(alloc);
-    for word in line.split_ascii_whitespace() {
-        tokens.push(token(alloc, word)?)?;
-    }
-    Ok(form(alloc, tokens.as_slice()))
-}
-
-#[test]
-fn reads_each_form(rt: HostRuntime) -> Result<(), Fail> {
-    let alloc = rt.alloc();
-    assert!(rt; matches!(form_of(alloc, "SEQ")?, Ok(Form::Sequence)));
-    assert!(rt; matches!(form_of(alloc, "PAR")?, Ok(Form::Parallel)));
-    assert!(rt; matches!(form_of(alloc, "SKIP")?, Ok(Form::Skip)));
-    assert!(rt; matches!(form_of(alloc, ":")?, Ok(Form::Close)));
-    let Ok(Form::Procedure(name)) = form_of(alloc, "PROC p ( )")? else {
-        panic!(rt; "no procedure");
-    };
-    assert_eq!(rt; name.as_bytes(), b"p".as_slice());
-    Ok(())
-}
-
-#[test]
-fn reads_declarations(rt: HostRuntime) -> Result<(), Fail> {
-    let alloc = rt.alloc();
-    let Ok(Form::Declaration(None, first, more)) = form_of(alloc, "INT x :")? else {
-        panic!(rt; "no declaration");
-    };
-    assert_eq!(rt; first.as_bytes(), b"x".as_slice());
-    assert_eq!(rt; more.len(), 0);
-    let Ok(Form::Declaration(Some(3), first, more)) = form_of(alloc, "[ 3 ] INT a , b :")? else {
-        panic!(rt; "no declaration of arrays");
-    };
-    assert_eq!(rt; first.as_bytes(), b"a".as_slice());
-    assert_eq!(rt; more.len(), 1);
-    assert_eq!(rt; more.as_slice()[0].as_bytes(), b"b".as_slice());
-    Ok(())
-}
-
-/// Whether the element is the variable of that name, whole.
-fn is_whole(element: &Element, name: &[u8]) -> bool {
-    match element {
-        Element::Whole(found) => found.as_bytes() == name,
-        Element::Indexed(_, _) => false,
-    }
-}
-
-/// Whether the element is that component of the variable of that name.
-fn is_indexed(element: &Element, name: &[u8], index: u64) -> bool {
-    match element {
-        Element::Whole(_) => false,
-        Element::Indexed(found, at) => found.as_bytes() == name && *at == index,
+/// The form of the line, where it has one.
+fn form_of(line: &SourceLine) -> Option<&Form> {
+    match &line.body {
+        LineBody::Form(form) => Some(form),
+        _ => None,
     }
 }
 
 #[test]
-fn reads_assignments(rt: HostRuntime) -> Result<(), Fail> {
-    let alloc = rt.alloc();
-    let Ok(Form::Assignment(element, expression)) = form_of(alloc, "x := 7")? else {
+fn reads_actions(rt: HostRuntime) -> Result<(), Fail> {
+    let source = prepare(
+        rt.alloc(),
+        b"SKIP\nSTOP\nx := 1\na[1], b := f (x), 2\nc ! 1; 2::a\nc ? x; n::a\nt ? AFTER x\nc ? CASE n; x\n",
+    )?;
+    let lines = source.lines();
+    assert_eq!(rt; lines.len(), 8);
+    assert!(rt; matches!(form_of(&lines[0]), Some(Form::Action(Action::Skip))));
+    assert!(rt; matches!(form_of(&lines[1]), Some(Form::Action(Action::Stop))));
+    let Some(Form::Action(Action::Assignment(_, targets, _, values))) = form_of(&lines[2]) else {
         panic!(rt; "no assignment");
     };
-    assert!(rt; is_whole(&element, b"x"));
-    assert!(rt; matches!(expression, Expr::Alone(Operand::Decimal(7))));
-    let Ok(Form::Assignment(element, expression)) = form_of(alloc, "a [ 2 ] := y + 1")? else {
-        panic!(rt; "no second assignment");
+    assert_eq!(rt; targets.len(), 0);
+    assert_eq!(rt; values.len(), 0);
+    let Some(Form::Action(Action::Assignment(_, targets, _, values))) = form_of(&lines[3]) else {
+        panic!(rt; "no assignment of two");
     };
-    assert!(rt; is_indexed(&element, b"a", 2));
-    let Expr::Sum(first, second) = expression else {
-        panic!(rt; "no sum");
+    assert_eq!(rt; targets.len(), 1);
+    assert_eq!(rt; values.len(), 1);
+    let Some(Form::Action(Action::Output(_, OutputItem::Plain(_), more))) = form_of(&lines[4])
+    else {
+        panic!(rt; "no output");
     };
-    assert!(rt; matches!(&first, Operand::Element(added) if is_whole(added, b"y")));
-    assert!(rt; matches!(second, Operand::Decimal(1)));
+    assert!(rt; matches!(more.as_slice(), [OutputItem::Counted(_, _)]));
+    let Some(Form::Action(Action::Input(Input::Plain(_, InputItem::Plain(_), more)))) = form_of(
+        &lines[5],
+    ) else {
+        panic!(rt; "no input");
+    };
+    assert!(rt; matches!(more.as_slice(), [InputItem::Counted(_, _)]));
+    assert!(rt;
+        matches!(
+            form_of(&lines[6]),
+            Some(Form::Action(Action::Input(Input::After(_, _))))
+        )
+    );
+    let Some(Form::Action(Action::Input(Input::Tagged(_, tag, items)))) = form_of(&lines[7]) else {
+        panic!(rt; "no input of a variant");
+    };
+    assert_eq!(rt; tag.as_bytes(), b"n".as_slice());
+    assert_eq!(rt; items.len(), 1);
+    Ok(())
+}
+
+#[test]
+fn reads_constructs(rt: HostRuntime) -> Result<(), Fail> {
+    let source = prepare(
+        rt.alloc(),
+        b"PRI PAR\nALT i = 0 FOR n\nWHILE TRUE\nCASE x + 1\nc ? CASE\n",
+    )?;
+    let lines = source.lines();
+    assert_eq!(rt; lines.len(), 5);
+    assert!(rt;
+        matches!(
+            form_of(&lines[0]),
+            Some(Form::Construct(Construct::Replicable(Kind::PriParallel, None)))
+        )
+    );
+    let Some(Form::Construct(Construct::Replicable(Kind::Alternation, Some(replicator)))) = form_of(
+        &lines[1],
+    ) else {
+        panic!(rt; "no replicator");
+    };
+    assert_eq!(rt; replicator.name.as_bytes(), b"i".as_slice());
+    assert!(rt;
+        matches!(
+            form_of(&lines[2]),
+            Some(Form::Construct(Construct::While(_)))
+        )
+    );
+    assert!(rt;
+        matches!(
+            form_of(&lines[3]),
+            Some(Form::Construct(Construct::Case(_)))
+        )
+    );
+    assert!(rt;
+        matches!(
+            form_of(&lines[4]),
+            Some(Form::Construct(Construct::CaseInput(_)))
+        )
+    );
+    Ok(())
+}
+
+#[test]
+fn reads_parts(rt: HostRuntime) -> Result<(), Fail> {
+    let source = prepare(
+        rt.alloc(),
+        b":\nCASE\nELSE\nVALOF\nRESULT x, y\nRECORD\nPACKED RECORD\nx > 0 & SKIP\nb & c ? CASE\n1, 2\np (x)\nn; x; a::b; [2]t; []BYTE; INT::[]t; CHAN OF ANY\n",
+    )?;
+    let lines = source.lines();
+    assert_eq!(rt; lines.len(), 12);
+    assert!(rt; matches!(form_of(&lines[0]), Some(Form::Close)));
+    assert!(rt; matches!(form_of(&lines[1]), Some(Form::Part(Part::Case))));
+    assert!(rt; matches!(form_of(&lines[2]), Some(Form::Part(Part::Else))));
+    assert!(rt; matches!(form_of(&lines[3]), Some(Form::Part(Part::ValueOf))));
+    assert!(rt;
+        matches!(form_of(&lines[4]), Some(Form::Part(Part::Result(_, more))) if more.len() == 1)
+    );
+    assert!(rt; matches!(form_of(&lines[5]), Some(Form::Part(Part::Record))));
+    assert!(rt; matches!(form_of(&lines[6]), Some(Form::Part(Part::PackedRecord))));
+    assert!(rt;
+        matches!(
+            form_of(&lines[7]),
+            Some(Form::Part(Part::Guard(_, Guarded::Skip)))
+        )
+    );
+    assert!(rt;
+        matches!(
+            form_of(&lines[8]),
+            Some(Form::Part(Part::Guard(_, Guarded::CaseInput(_))))
+        )
+    );
+    assert!(rt; matches!(form_of(&lines[9]), Some(Form::Expressions(_, more)) if more.len() == 1));
+    assert!(rt; matches!(form_of(&lines[10]), Some(Form::Expressions(_, more)) if more.len() == 0));
+    let Some(Form::Tagged(tag, Detail::Element(_), more)) = form_of(&lines[11]) else {
+        panic!(rt; "no tag");
+    };
+    assert_eq!(rt; tag.as_bytes(), b"n".as_slice());
+    assert!(rt;
+        matches!(
+            more.as_slice(),
+            [
+                Detail::Counted(_, _),
+                Detail::Array(_, _, _),
+                Detail::Builtin(_, _),
+                Detail::CountedType(_, _),
+                Detail::Builtin(_, _),
+            ]
+        )
+    );
+    Ok(())
+}
+
+#[test]
+fn reads_specifications(rt: HostRuntime) -> Result<(), Fail> {
+    let source = prepare(
+        rt.alloc(),
+        b"INT x:\nPROC p ()\nn IS a[1]:\nINT FUNCTION f () IS 1:\n",
+    )?;
+    let lines = source.lines();
+    assert_eq!(rt; lines.len(), 4);
+    assert!(rt;
+        matches!(
+            form_of(&lines[0]),
+            Some(Form::Specified(Specified::Line(_)))
+        )
+    );
+    assert!(rt;
+        matches!(
+            form_of(&lines[1]),
+            Some(Form::Specified(Specified::Head(_)))
+        )
+    );
+    assert!(rt;
+        matches!(
+            form_of(&lines[2]),
+            Some(Form::Specified(Specified::Line(_)))
+        )
+    );
+    assert!(rt;
+        matches!(
+            form_of(&lines[3]),
+            Some(Form::Specified(Specified::Line(_)))
+        )
+    );
     Ok(())
 }
 
 #[test]
 fn reads_no_form(rt: HostRuntime) -> Result<(), Fail> {
-    let alloc = rt.alloc();
-    for line in [
-        "",
-        "x := 1 + 2 + 3",
-        "INT x",
-        "INT :",
-        "INT x , :",
-        "PROC p",
-        "PROC p ( ) :",
-        "[ 3 ] x :",
-        "x",
-        "x := 1 2",
-        "SEQ SEQ",
-        "3 := x",
-    ] {
+    let source = prepare(
+        rt.alloc(),
+        b"c !\nc ? ANY\nSEQ SEQ\n3 := x\nx := 1 2\nSEQ i = 0\nx & y\nn; 1\n1 ? x\nCASE ELSE\n",
+    )?;
+    assert_eq!(rt; source.lines().len(), 10);
+    for line in source.lines() {
         assert!(rt;
-            matches!(form_of(alloc, line)?, Err(LineFault::NoForm)),
-            "at {line}"
+            matches!(line.body, LineBody::Fault(Code::S1)),
+            "at {}",
+            line.line
         );
     }
     Ok(())
@@ -141,7 +213,7 @@ fn fault(line: &SourceLine) -> Option<Code> {
 
 #[test]
 fn prepares_a_text(rt: HostRuntime) -> Result<(), Fail> {
-    let text = b"PROC p ()\n  INT x:\n\n x := 1\n  x $ 1\n  x x -- none\n    SKIP\n:";
+    let text = b"SEQ\n  x := 1\n\n x := 1\n  x $ 1\n  x x x -- none\n    SKIP\n:";
     let source = prepare(rt.alloc(), text)?;
     assert_eq!(rt; source.text(), text.as_slice());
     let wanted = [

@@ -1,46 +1,146 @@
 use occ_base::{Items, Name};
-
-/// A variable, whole or at a subscript.
-#[derive(Debug, Drop)]
-pub enum Element {
-    /// `n`
-    Whole(Name),
-    /// `n[k]`
-    Indexed(Name, u64),
-}
-
-/// What an expression is made of.
-#[derive(Debug, Drop)]
-pub enum Operand {
-    Element(Element),
-    /// A number in decimal digits.
-    Decimal(u64),
-}
-
-/// The right side of an assignment.
-#[derive(Debug, Drop)]
-pub enum Expr {
-    Alone(Operand),
-    /// `a + b`
-    Sum(Operand, Operand),
-}
+use occ_expressions::{Builtin, DataForm, Dimension, Element, Expr};
+use occ_specifications::Specified;
 
 /// The form of a line.
 #[derive(Debug, Drop)]
 pub enum Form {
-    /// The head of a procedure, `PROC n ()`.
-    Procedure(Name),
-    /// The end of a procedure, `:`.
+    /// A specification of one line, or the head of one.
+    Specified(Specified),
+    /// `:`
     Close,
-    /// Variables of one type, `INT n, ..:` or with a dimension `[k]INT n, ..:`. There is a first name, and
-    /// perhaps more.
-    Declaration(Option<u64>, Name, Items<Name>),
+    Action(Action),
+    Construct(Construct),
+    Part(Part),
+    /// `e, ..`: the first, and perhaps more. These are options of a selection, a condition, or, where one call
+    /// stands alone, the instance of a procedure.
+    Expressions(Expr, Items<Expr>),
+    /// `n; d; ..`: a tag of a protocol or a variant of a selecting input, with the first of its parts and perhaps
+    /// more.
+    Tagged(Name, Detail, Items<Detail>),
+}
+
+/// A process that stands on one line.
+#[derive(Debug, Drop)]
+pub enum Action {
+    /// `SKIP`
+    Skip,
+    /// `STOP`
+    Stop,
+    /// `el, .. := e, ..`
+    Assignment(Element, Items<Element>, Expr, Items<Expr>),
+    /// `el ! o; ..`
+    Output(Element, OutputItem, Items<OutputItem>),
+    Input(Input),
+}
+
+/// What an output sends as one.
+#[derive(Debug, Drop)]
+pub enum OutputItem {
+    /// `e`
+    Plain(Expr),
+    /// `e::e`: how many components, and the array.
+    Counted(Expr, Expr),
+}
+
+/// An input that is a process by itself.
+#[derive(Debug, Drop)]
+pub enum Input {
+    /// `el ? i; ..`
+    Plain(Element, InputItem, Items<InputItem>),
+    /// `el ? AFTER e`
+    After(Element, Expr),
+    /// `el ? CASE n; i; ..`, perhaps with no item.
+    Tagged(Element, Name, Items<InputItem>),
+}
+
+/// What an input receives as one.
+#[derive(Debug, Drop)]
+pub enum InputItem {
+    /// `el`
+    Plain(Element),
+    /// `el::el`: where the number of components goes, and where they go.
+    Counted(Element, Element),
+}
+
+/// The head of a construct.
+#[derive(Debug, Drop)]
+pub enum Construct {
+    /// A word or two, and perhaps a replicator.
+    Replicable(Kind, Option<Replicator>),
+    /// `WHILE e`
+    While(Expr),
+    /// `CASE e`
+    Case(Expr),
+    /// `el ? CASE`
+    CaseInput(Element),
+}
+
+/// A construct that may be replicated.
+#[derive(Clone, Copy, Debug, PartialEq, Eq)]
+pub enum Kind {
     /// `SEQ`
     Sequence,
     /// `PAR`
     Parallel,
+    /// `PRI PAR`
+    PriParallel,
+    /// `IF`
+    Conditional,
+    /// `ALT`
+    Alternation,
+    /// `PRI ALT`
+    PriAlternation,
+}
+
+/// `n = e FOR e`
+#[derive(Debug, Drop)]
+pub struct Replicator {
+    pub name: Name,
+    pub base: Expr,
+    pub count: Expr,
+}
+
+/// A line that is a part of what stands around it.
+#[derive(Debug, Drop)]
+pub enum Part {
+    /// `CASE`
+    Case,
+    /// `ELSE`
+    Else,
+    /// `VALOF`
+    ValueOf,
+    /// `RESULT e, ..`
+    Result(Expr, Items<Expr>),
+    /// `RECORD`
+    Record,
+    /// `PACKED RECORD`
+    PackedRecord,
+    /// `e & g`
+    Guard(Expr, Guarded),
+}
+
+/// What stands behind the `&` of a guard.
+#[derive(Debug, Drop)]
+pub enum Guarded {
     /// `SKIP`
     Skip,
-    /// `el := e`
-    Assignment(Element, Expr),
+    Input(Input),
+    /// `el ? CASE`
+    CaseInput(Element),
+}
+
+/// A part of a tag or of a variant. What a name stands for decides whether it is a type or an element.
+#[derive(Debug, Drop)]
+pub enum Detail {
+    /// An element; a name alone may also be a type.
+    Element(Element),
+    /// `el::el`
+    Counted(Element, Element),
+    /// `[e].. n`: a named type behind its dimensions, of which there is a first one.
+    Array(Dimension, Items<Dimension>, Name),
+    /// A type that begins with a reserved word behind its dimensions.
+    Builtin(Items<Dimension>, Builtin),
+    /// `t::[]u`: a counted array.
+    CountedType(DataForm, DataForm),
 }

@@ -26,9 +26,17 @@ pub struct Board {
 }
 
 impl Model for Board {
+    ghost use Rattle.occ_expressions.specs.contracts.tree.Builtin as builtins;
+    ghost use Rattle.occ_expressions.specs.contracts.tree.Dimension as dimensions;
+    ghost use Rattle.occ_expressions.specs.contracts.tree.Element as elements;
+    ghost use Rattle.occ_expressions.specs.contracts.tree.Expr as expressions;
+    ghost use Rattle.occ_expressions.specs.contracts.tree.TypeForm as types;
     ghost use Rattle.occ_script.specs.Machine.{State};
+    ghost use Rattle.std.specs.Coded.{codes};
 
     ghost Value = { State };
+
+    ghost coded = { Prim.hlevel (codes, builtins.the_row.coded, dimensions.the_row.coded, elements.the_row.coded, expressions.the_row.coded, types.the_row.coded) };
 
     ghost use Rattle.occ_script.specs.Board.{IsKept, board_seen};
 
