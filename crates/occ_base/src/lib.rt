@@ -1,4 +1,4 @@
-//! What every other crate speaks of: file names, diagnostics with their order, and the two types that all
+//! What every other crate speaks of: file names, diagnostics with their order, and the types that all
 //! trees are made of.
 #![tactic(auto)]
 
@@ -7,6 +7,7 @@ mod diag;
 mod file_name;
 mod name;
 mod rows;
+mod shared;
 #[cfg(test)]
 mod tests;
 
@@ -15,4 +16,5 @@ pub use diag::{Diag, write_diag};
 pub use file_name::{FileName, NameFault};
 pub use name::Name;
 pub use rows::{diag_rows, file_name_rows, order_rows};
+pub use shared::Shared;
 pub use sqlite_items::{Boxed, Items};

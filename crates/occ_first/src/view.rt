@@ -344,7 +344,7 @@ fn body_view(alloc: Global, body: &LineBody) -> Result<Body, AllocError>
     let LineBody::Form(form) = body else {
         return Ok(Body::Other);
     };
-    match form_view(alloc, form)? {
+    match form_view(alloc, form.get())? {
         Some(form) => Ok(Body::Form(form)),
         None => Ok(Body::Other),
     }

@@ -8,7 +8,7 @@ ghost use Rattle.std.specs.Prelude.{IfOk, IsErrOf, List, length, ◌↔◌, ◌�
 
 use super::parse::{LineFault, form};
 use super::{LineBody, Source, SourceLine};
-use occ_base::{Code, Items};
+use occ_base::{Code, Items, Shared};
 use occ_lines::{Body, Logical, TextFault, Token, logical};
 use std::alloc::{AllocError, Global};
 
@@ -18,7 +18,7 @@ fn formed(alloc: Global, tokens: &[Token]) -> Result<LineBody, AllocError>
     ensures only { IfOk result (λ found. (other : ALineBody) → IsFormed (body.Tokens tokens.now) other → other ≡ found) }
 {
     match form(alloc, tokens) {
-        Ok(form) => Ok(LineBody::Form(form)),
+        Ok(form) => Ok(LineBody::Form(Shared::new(alloc, form)?)),
         Err(LineFault::NoForm) => Ok(LineBody::Fault(Code::S1)),
         Err(LineFault::TooDeep) => Ok(LineBody::Fault(Code::S3)),
         Err(LineFault::Memory) => Err(AllocError),

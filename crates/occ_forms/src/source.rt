@@ -2,13 +2,14 @@ ghost use Rattle.occ_forms.specs.Prepared.{IsPrepared};
 ghost use Rattle.std.specs.Prelude.{◌≡◌};
 
 use super::Form;
-use occ_base::{Code, FileName, Items};
+use occ_base::{Code, FileName, Items, Shared};
 use std::marker::Model;
 
 /// What a line of a prepared text holds.
 #[derive(Debug, Drop)]
 pub enum LineBody {
-    Form(Form),
+    /// Shared, since every expansion that holds the line has it.
+    Form(Shared<Form>),
     /// The lines of this file stand here.
     Include(FileName),
     /// The exports of this unit are visible from here on.

@@ -10,7 +10,7 @@ use std::test::Fail;
 /// The form of the line, where it has one.
 fn form_of(line: &SourceLine) -> Option<&Form> {
     match &line.body {
-        LineBody::Form(form) => Some(form),
+        LineBody::Form(form) => Some(form.get()),
         _ => None,
     }
 }
