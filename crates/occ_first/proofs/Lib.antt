@@ -1,6 +1,5 @@
 pub mod Placed
 pub mod Nested
-pub mod Siblings
 pub mod Scopes
 pub mod Marked
 pub mod Rising

@@ -6,9 +6,8 @@ use Rattle.occ_first.specs.declared.parallel.Mark.{Mark}
 use Rattle.occ_first.specs.declared.parallel.Use.{Use}
 use Rattle.occ_first.specs.declared.scope.Specification.{Specification}
 use Rattle.occ_first.specs.Marks.{Marks, begun, enter, open_at, unheaded}
-use Rattle.occ_first.specs.Nesting.{role_of}
+use Rattle.occ_first.specs.Nesting.{is_head, role_of}
 use Rattle.occ_first.specs.Parallel.{LineAt, above, chain, component, component_uses, has_head, or_nearer, outermost, uses}
-use Rattle.occ_first.specs.Shape.{is_head}
 
 outer_at : (m : Option Mark) (place e d : ℕ) → cond (ltb e d) (or_nearer (open_at m e) place) (open_at m d) ≡ open_at (enter m place e true) d
 outer_at None place e d = refl

@@ -1,13 +1,14 @@
 -- The diagnostics of lines that have a fault, and of those that the first sublanguage does not have.
-use Rattle.std.specs.Prelude.{ℕ, Bool, true, false, if◌then◌else◌, List, [], ◌∷◌, Option, None}
+use Rattle.std.specs.Prelude.{ℕ, Bool, true, false, if◌then◌else◌, List, [], ◌∷◌, Option, None, Some, map}
 use Rattle.std.specs.List.{flat_map}
+use Rattle.std.specs.Str.{bytes_eq}
 use Rattle.occ_base.specs.declared.code.Code.{Code}
 use Rattle.occ_base.specs.declared.code.Grade.TheVariants as grade
 use Rattle.occ_base.specs.declared.diag.Diag.{Diag}
-use Rattle.occ_forms.specs.declared.source.SourceLine.{SourceLine}
-use Rattle.occ_base.specs.declared.code.Code.TheVariants.{S1}
-use Rattle.occ_forms.specs.declared.source.LineBody.{LineBody}
-use Rattle.occ_forms.specs.declared.source.LineBody.TheVariants as body
+use Rattle.occ_base.specs.declared.code.Code.TheVariants.{G1, G2, S1}
+use Rattle.occ_project.specs.declared.expanded.ExpandedBody.{ExpandedBody}
+use Rattle.occ_project.specs.declared.expanded.ExpandedBody.TheVariants as body
+use Rattle.occ_project.specs.declared.expanded.ExpandedLine.{ExpandedLine}
 use Rattle.occ_first.specs.declared.line.Body.{Body}
 use Rattle.occ_first.specs.declared.line.Body.TheVariants as known
 use Rattle.occ_first.specs.declared.line.Line.{Line}
@@ -20,16 +21,25 @@ error_at file line code name = record { file = file; line = line; code = code; g
 abbrev pub error_if : Bool → List ℕ → ℕ → Code → List Diag
 error_if test file line code = if test then error_at file line code None ∷ [] else []
 
-abbrev pub body_faults : List ℕ → ℕ → LineBody → List Diag
-body_faults file line (body.Fault code) = error_at file line code None ∷ []
-body_faults file line other = []
+-- what is wrong with a use of a unit, where the unit that uses it is the one open file
+abbrev pub use_code : List ℕ → List ℕ → Code
+use_code unit used = if bytes_eq used unit then G2 else G1
 
--- the fault that the line has instead of a form
-abbrev pub own_faults : List ℕ → SourceLine → List Diag
-own_faults file l = body_faults file l.line l.body
+-- at the line of the use, with the name of the used unit
+abbrev pub use_fault : List ℕ → ExpandedLine → List ℕ → Diag
+use_fault unit l used = error_at l.file l.line (use_code unit used) (Some used)
 
-abbrev pub line_faults : List ℕ → List SourceLine → List Diag
-line_faults file = flat_map (own_faults file)
+abbrev pub body_faults : List ℕ → ExpandedLine → ExpandedBody → List Diag
+body_faults unit l (body.Fault code) = error_at l.file l.line code None ∷ []
+body_faults unit l (body.Uses used) = map (use_fault unit l) used
+body_faults unit l (body.Form form) = []
+
+-- the fault that the line has instead of a form, or those of the units that it uses
+abbrev pub own_faults : List ℕ → ExpandedLine → List Diag
+own_faults unit l = body_faults unit l l.body
+
+abbrev pub line_faults : List ℕ → List ExpandedLine → List Diag
+line_faults unit = flat_map (own_faults unit)
 
 abbrev pub is_other : Body → Bool
 is_other known.Other = true

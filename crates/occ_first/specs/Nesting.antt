@@ -1,5 +1,5 @@
 -- Which lines stand under which.
-use Rattle.std.specs.Prelude.{ℕ, List, [], ◌∷◌, nat_lt, nat_le, if◌then◌else◌}
+use Rattle.std.specs.Prelude.{ℕ, Bool, true, false, List, [], ◌∷◌, nat_lt, if◌then◌else◌}
 use Rattle.occ_first.specs.declared.line.Form.{Form}
 use Rattle.occ_first.specs.declared.line.Form.TheVariants as form
 use Rattle.occ_first.specs.declared.line.Line.{Line}
@@ -7,7 +7,6 @@ use Rattle.occ_first.specs.declared.line.Body.{Body}
 use Rattle.occ_first.specs.declared.line.Body.TheVariants as body
 use Rattle.occ_first.specs.declared.nesting.Role.{Role}
 use Rattle.occ_first.specs.declared.nesting.Role.TheVariants as role
-use Rattle.occ_first.specs.declared.nesting.Child.{Child}
 
 abbrev pub form_role : Form → Role
 form_role (form.Procedure name) = role.Head
@@ -31,15 +30,10 @@ abbrev pub under : ℕ → List Line → List Line
 under d [] = []
 under d (l ∷ ls) = if nat_lt d l.depth then l ∷ under d ls else []
 
-abbrev pub child_of : Line → Child
-child_of l = record { line = l.line; depth = l.depth; role = role_of l }
+abbrev pub is_process : Role → Bool
+is_process role.Process = true
+is_process _ = false
 
--- those that are no deeper than the bound, and than each of those before
-abbrev pub children_within : ℕ → List Line → List Child
-children_within bound [] = []
-children_within bound (l ∷ ls) = if nat_le l.depth bound then child_of l ∷ children_within l.depth ls else children_within bound ls
-
--- those of the lines of a block that stand under none of the others
-abbrev pub children : List Line → List Child
-children [] = []
-children (l ∷ ls) = child_of l ∷ children_within l.depth ls
+abbrev pub is_head : Role → Bool
+is_head role.Head = true
+is_head _ = false

@@ -18,9 +18,8 @@ use Rattle.occ_first.specs.declared.scope.Sort.TheVariants as sort
 use Rattle.occ_first.specs.declared.scope.Specification.{Specification}
 use Rattle.occ_first.specs.Faults.{error_at}
 use Rattle.occ_first.specs.Names.{mentions}
-use Rattle.occ_first.specs.Nesting.{role_of, under}
+use Rattle.occ_first.specs.Nesting.{is_head, role_of, under}
 use Rattle.occ_first.specs.Scope.{visible}
-use Rattle.occ_first.specs.Shape.{is_head}
 
 -- a line and its place
 pub record LineAt : Type 0 where

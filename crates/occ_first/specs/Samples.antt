@@ -4,9 +4,6 @@ use Rattle.occ_first.specs.declared.line.Form.{Form}
 use Rattle.occ_first.specs.declared.line.Form.TheVariants as form
 use Rattle.occ_first.specs.declared.line.Line.{Line}
 use Rattle.occ_first.specs.declared.line.Body.TheVariants as body
-use Rattle.occ_first.specs.declared.nesting.Child.{Child}
-use Rattle.occ_first.specs.declared.nesting.Role.{Role}
-use Rattle.occ_first.specs.declared.nesting.Role.TheVariants as role
 use Rattle.occ_first.specs.declared.scope.Sort.TheVariants as sort
 use Rattle.occ_first.specs.declared.scope.Specification.{Specification}
 
@@ -27,12 +24,6 @@ close_at d = of_form d form.Close
 
 abbrev pub int_at : ℕ → List ℕ → Line
 int_at d name = of_form d (form.Declaration None name [])
-
-abbrev pub child_at : ℕ → Role → Child
-child_at d r = record { line = 1; depth = d; role = r }
-
-abbrev pub process_at : ℕ → Child
-process_at d = child_at d role.Process
 
 -- a variable of the name, declared at the place, that reaches from there to before `to`
 abbrev pub variable_to : List ℕ → ℕ → ℕ → Specification

@@ -8,8 +8,7 @@ use Rattle.occ_first.specs.declared.line.Body.{Body}
 use Rattle.occ_first.specs.declared.line.Body.TheVariants as body
 use Rattle.occ_first.specs.declared.scope.Sort.TheVariants as sort
 use Rattle.occ_first.specs.declared.scope.Specification.{Specification}
-use Rattle.occ_first.specs.Nesting.{role_of, under}
-use Rattle.occ_first.specs.Shape.{is_process}
+use Rattle.occ_first.specs.Nesting.{is_process, role_of, under}
 
 -- what is left of the item that goes on with these lines at depth d: a process at that depth ends it, with the
 -- lines under the process

@@ -29,9 +29,9 @@ use Rattle.occ_first.specs.declared.line.Form.TheVariants as form
 use Rattle.occ_first.specs.declared.line.Line.{Line}
 use Rattle.occ_first.specs.declared.line.Operand.{Operand}
 use Rattle.occ_first.specs.declared.line.Operand.TheVariants as operand
-use Rattle.occ_forms.specs.declared.source.LineBody.{LineBody}
-use Rattle.occ_forms.specs.declared.source.LineBody.TheVariants as held
-use Rattle.occ_forms.specs.declared.source.SourceLine.{SourceLine}
+use Rattle.occ_project.specs.declared.expanded.ExpandedBody.{ExpandedBody}
+use Rattle.occ_project.specs.declared.expanded.ExpandedBody.TheVariants as held
+use Rattle.occ_project.specs.declared.expanded.ExpandedLine.{ExpandedLine}
 use Rattle.occ_forms.specs.declared.tree.Action.{Action}
 use Rattle.occ_forms.specs.declared.tree.Action.TheVariants as action
 use Rattle.occ_forms.specs.declared.tree.Construct.{Construct}
@@ -231,13 +231,13 @@ abbrev pub known : Option Form → Body
 known None = body.Other
 known (Some f) = body.Form f
 
-abbrev pub body_of : LineBody → Body
+abbrev pub body_of : ExpandedBody → Body
 body_of (held.Form f) = known (form_of f)
 body_of other = body.Other
 
-abbrev pub line_of : SourceLine → Line
+abbrev pub line_of : ExpandedLine → Line
 line_of l = record { line = l.line; depth = l.depth; body = body_of l.body }
 
 -- the lines as the first sublanguage has them
-abbrev pub lines_of : List SourceLine → List Line
+abbrev pub lines_of : List ExpandedLine → List Line
 lines_of = map line_of

@@ -1,9 +1,9 @@
-ghost use Rattle.std.specs.Prelude.{◌≡◌, ◌++◌, IfOk, OnOk};
-ghost use Rattle.occ_first.specs.Faults.{error_at, error_if, is_other, line_faults, other_faults};
+ghost use Rattle.std.specs.Prelude.{◌≡◌, ◌++◌, IfOk, OnOk, map};
+ghost use Rattle.occ_first.specs.Faults.{error_at, error_if, is_other, line_faults, other_faults, own_faults, use_code, use_fault};
 
 use super::line::{Body, Line};
 use occ_base::{Code, Diag, FileName, Grade, Items, Name};
-use occ_forms::{LineBody, SourceLine};
+use occ_project::{ExpandedBody, ExpandedLine};
 use std::alloc::{AllocError, Global};
 
 /// An error at a line of the file, with the name that it tells.
@@ -35,22 +35,62 @@ pub fn add_error_if(
     Ok(())
 }
 
-/// The faults that lines have instead of a form.
-pub fn find_line_faults(
-    alloc: Global,
-    file: FileName,
-    lines: &[SourceLine],
-) -> Result<Items<Diag>, AllocError>
-    ensures { IfOk result (λ found. found ≡ line_faults file lines.now) }
+/// What is wrong with a use of a unit, where the unit that uses it is the one open file.
+fn use_error(unit: FileName, used: FileName) -> Code
+    ensures { result ≡ use_code unit used }
 {
-    let mut found = Items::new(alloc);
-    for line in lines {
-        match &line.body {
-            LineBody::Form(_) | LineBody::Include(_) | LineBody::Uses(_) => (),
-            LineBody::Fault(code) => found.push(error(file, line.line, *code, None))?,
+    if used == unit { Code::G2 } else { Code::G1 }
+}
+
+/// Adds the faults of the units that the line uses.
+fn add_use_faults(
+    alloc: Global,
+    unit: FileName,
+    line: &ExpandedLine,
+    used: &[FileName],
+    found: &mut Items<Diag>,
+) -> Result<(), AllocError>
+    ensures { OnOk result (found.new ≡ found.old ++ map (use_fault unit line.now) used.now) }
+{
+    for used in used {
+        let name = Name::from_slice(alloc, used.as_bytes())?;
+        found.push(error(line.file, line.line, use_error(unit, *used), Some(name)))?;
+    }
+    Ok(())
+}
+
+/// Adds the fault that the line has instead of a form, or those of the units that it uses.
+fn add_line_faults(
+    alloc: Global,
+    unit: FileName,
+    line: &ExpandedLine,
+    found: &mut Items<Diag>,
+) -> Result<(), AllocError>
+    ensures { OnOk result (found.new ≡ found.old ++ own_faults unit line.now) }
+{
+    match &line.body {
+        ExpandedBody::Form(_) => Ok(()),
+        ExpandedBody::Uses(used) => add_use_faults(alloc, unit, line, used.as_slice(), found),
+        ExpandedBody::Fault(code) => {
+            found.push(error(line.file, line.line, *code, None))?;
+            Ok(())
         }
     }
-    Ok(found)
+}
+
+/// Adds the faults of the lines of a unit.
+pub fn find_line_faults(
+    alloc: Global,
+    unit: FileName,
+    lines: &[ExpandedLine],
+    found: &mut Items<Diag>,
+) -> Result<(), AllocError>
+    ensures { OnOk result (found.new ≡ found.old ++ line_faults unit lines.now) }
+{
+    for line in lines {
+        add_line_faults(alloc, unit, line, found)?;
+    }
+    Ok(())
 }
 
 /// Whether the first sublanguage does not have the line.

@@ -11,11 +11,10 @@ mod order;
 mod parallel;
 mod rows;
 mod scope;
-mod shape;
 #[cfg(test)]
 mod tests;
 mod unit;
 mod view;
 
-pub use rows::{children_rows, item_rows, order_law, under_rows, visible_rows};
+pub use rows::{item_rows, order_law, under_rows, visible_rows};
 pub use unit::diagnostics;

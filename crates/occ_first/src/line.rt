@@ -59,6 +59,6 @@ pub struct Line {
     /// The line of the text on which it begins, from 1.
     pub line: u32,
     /// The number of levels that it stands in.
-    pub depth: u32,
+    pub depth: u64,
     pub body: Body,
 }

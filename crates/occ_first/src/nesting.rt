@@ -1,9 +1,7 @@
-ghost use Rattle.std.specs.Prelude.{◌≡◌, ◌≤◌, IfOk, length};
-ghost use Rattle.occ_first.specs.Nesting.{child_of, children, role_of, under as lines_under};
+ghost use Rattle.std.specs.Prelude.{◌≡◌, ◌≤◌, length};
+ghost use Rattle.occ_first.specs.Nesting.{role_of, under as lines_under};
 
 use super::line::{Body, Form, Line};
-use occ_base::Items;
-use std::alloc::{AllocError, Global};
 
 /// The part that a line plays among its siblings.
 #[derive(Clone, Copy, Debug, PartialEq, Eq)]
@@ -20,14 +18,6 @@ pub enum Role {
     Other,
 }
 
-/// A line that stands right under another, or under none.
-#[derive(Clone, Copy, Debug)]
-pub struct Child {
-    pub line: u32,
-    pub depth: u32,
-    pub role: Role,
-}
-
 /// The part that the line plays among its siblings.
 pub fn line_role(line: &Line) -> Role
     ensures { result ≡ role_of line.now }
@@ -42,7 +32,7 @@ pub fn line_role(line: &Line) -> Role
 }
 
 /// How many lines deeper than `depth` come first.
-pub fn under_len(depth: u32, lines: &[Line]) -> usize
+pub fn under_len(depth: u64, lines: &[Line]) -> usize
     ensures value { result ≡ length (lines_under depth lines.now) }
     ensures within { result ≤ length lines.now }
 {
@@ -56,40 +46,9 @@ pub fn under_len(depth: u32, lines: &[Line]) -> usize
 
 /// The lines deeper than `depth` that come first.
 #[tactic(auto, using(crate::proofs::Nested::take_under))]
-pub fn under(depth: u32, lines: &[Line]) -> &[Line]
+pub fn under(depth: u64, lines: &[Line]) -> &[Line]
     ensures value { result.now ≡ lines_under depth lines.now }
     ensures within { length result.now ≤ length lines.now }
 {
     &lines[..under_len(depth, lines)]
-}
-
-impl Child {
-    fn of(line: &Line) -> Child
-        ensures { result ≡ child_of line.now }
-    {
-        Child {
-            line: line.line,
-            depth: line.depth,
-            role: line_role(line),
-        }
-    }
-}
-
-/// Those of the lines of a block that stand under none of the others.
-pub fn find_children(alloc: Global, lines: &[Line]) -> Result<Items<Child>, AllocError>
-    ensures { IfOk result (λ kids. kids ≡ children lines.now) }
-{
-    let mut kids = Items::new(alloc);
-    let Some((first, rest)) = lines.split_first() else {
-        return Ok(kids);
-    };
-    kids.push(Child::of(first))?;
-    let mut bound = first.depth;
-    for line in rest {
-        if line.depth <= bound {
-            kids.push(Child::of(line))?;
-            bound = line.depth;
-        }
-    }
-    Ok(kids)
 }

@@ -1,10 +1,9 @@
 ghost use Rattle.std.specs.Prelude.{◌≡◌, ◌++◌, [], ◌+◌, ◌<◌, ◌^◌, true, OnOk, IfOk, length};
 ghost use Rattle.std.specs.List.{list_any};
 ghost use Rattle.occ_first.specs.Marks.{enter, unheaded};
-ghost use Rattle.occ_first.specs.Nesting.{role_of};
+ghost use Rattle.occ_first.specs.Nesting.{is_head, role_of};
 ghost use Rattle.occ_first.specs.Parallel.{component_uses, differ as differing, is_par as a_par, mention_uses, par_faults, parallel_faults, root_of, shares as sharing, uses as uses_of};
 ghost use Rattle.occ_first.specs.Scope.{visible as visible_in};
-ghost use Rattle.occ_first.specs.Shape.{is_head};
 
 use super::faults::error;
 use super::line::{Body, Form, Line};
@@ -29,7 +28,7 @@ pub struct Use {
 /// An outermost line of some kind that later lines may stand under.
 #[derive(Clone, Copy)]
 pub struct Mark {
-    pub depth: u32,
+    pub depth: u64,
     pub place: usize,
 }
 
@@ -44,7 +43,7 @@ pub struct Open {
 
 /// The mark that later lines see, behind a line at the place: the mark so far if the line stands under it, else
 /// the line itself if it is of the kind.
-fn marked(mark: Option<Mark>, place: usize, depth: u32, is_of_kind: bool) -> Option<Mark>
+fn marked(mark: Option<Mark>, place: usize, depth: u64, is_of_kind: bool) -> Option<Mark>
     ensures { result ≡ enter mark place depth is_of_kind }
 {
     match mark {

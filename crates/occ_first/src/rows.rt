@@ -4,7 +4,7 @@ ghost use Rattle.occ_base.specs.Order.{diag_order};
 ghost use Rattle.occ_base.specs.declared.diag.Diag.{Diag};
 ghost use Rattle.occ_first.specs.Order.{in_order};
 ghost use Rattle.std.specs.Prelude.{◌≡◌, [], ◌∷◌, List, None, Some, codes};
-ghost use Rattle.occ_first.specs.Nesting.{children, under};
+ghost use Rattle.occ_first.specs.Nesting.{under};
 ghost use Rattle.occ_first.specs.Samples.{close_at, head_at, int_at, process_at, seq_at, skip_at, variable_to};
 ghost use Rattle.occ_first.specs.Scope.{rest_of_item, visible};
 
@@ -12,12 +12,6 @@ ghost use Rattle.occ_first.specs.Scope.{rest_of_item, visible};
 pub fn under_rows()
     ensures front { under 1 (seq_at 2 ∷ skip_at 3 ∷ skip_at 2 ∷ skip_at 1 ∷ skip_at 2 ∷ []) ≡ seq_at 2 ∷ skip_at 3 ∷ skip_at 2 ∷ [] }
     ensures none { under 1 (skip_at 1 ∷ skip_at 2 ∷ []) ≡ [] }
-{}
-
-/// The children of a block need not stand equally deep.
-pub fn children_rows()
-    ensures equal { children (seq_at 2 ∷ skip_at 3 ∷ skip_at 2 ∷ []) ≡ process_at 2 ∷ process_at 2 ∷ [] }
-    ensures falling { children (skip_at 4 ∷ skip_at 3 ∷ skip_at 4 ∷ skip_at 2 ∷ []) ≡ process_at 4 ∷ process_at 3 ∷ process_at 2 ∷ [] }
 {}
 
 /// A process at its depth ends an item, with the lines under it; a specification before it does not.

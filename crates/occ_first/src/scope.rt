@@ -27,7 +27,7 @@ pub struct Specification {
 }
 
 /// How many lines are left of the item that goes on with these lines at this depth.
-fn item_len(depth: u32, lines: &[Line]) -> usize
+fn item_len(depth: u64, lines: &[Line]) -> usize
     ensures value { result ≡ length (rest_of_item depth lines.now) }
     ensures within { result ≤ length lines.now }
 {
@@ -62,7 +62,7 @@ fn lines_from(start: usize, lines: &[Line]) -> &[Line]
 fn variable(
     alloc: Global,
     place: usize,
-    depth: u32,
+    depth: u64,
     behind: &[Line],
     name: &Name,
 ) -> Result<Specification, AllocError>
@@ -83,7 +83,7 @@ fn variable(
 fn procedure(
     alloc: Global,
     place: usize,
-    depth: u32,
+    depth: u64,
     behind: &[Line],
     name: &Name,
 ) -> Result<Specification, AllocError>

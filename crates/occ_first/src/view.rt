@@ -4,7 +4,8 @@ ghost use Rattle.std.specs.Prelude.{◌≡◌, IfOk};
 use super::line::{Body, Element, Expr, Form, Line, Operand};
 use occ_base::{Items, Name};
 use occ_expressions::{Builtin, Dimension, Literal, Primitive, RunOperator, TypeForm};
-use occ_forms::{Action, Construct, Kind, LineBody, SourceLine};
+use occ_forms::{Action, Construct, Kind};
+use occ_project::{ExpandedBody, ExpandedLine};
 use occ_specifications::{Head, Inlined, Specification, Specified};
 use std::alloc::{AllocError, Global};
 
@@ -338,10 +339,10 @@ fn form_view(alloc: Global, form: &occ_forms::Form) -> Result<Option<Form>, Allo
 }
 
 /// What the line holds, as the first sublanguage has it.
-fn body_view(alloc: Global, body: &LineBody) -> Result<Body, AllocError>
+fn body_view(alloc: Global, body: &ExpandedBody) -> Result<Body, AllocError>
     ensures { IfOk result (λ r. r ≡ body_of body.now) }
 {
-    let LineBody::Form(form) = body else {
+    let ExpandedBody::Form(form) = body else {
         return Ok(Body::Other);
     };
     match form_view(alloc, form.get())? {
@@ -351,7 +352,7 @@ fn body_view(alloc: Global, body: &LineBody) -> Result<Body, AllocError>
 }
 
 /// The line, as the first sublanguage has it.
-fn line_view(alloc: Global, line: &SourceLine) -> Result<Line, AllocError>
+fn line_view(alloc: Global, line: &ExpandedLine) -> Result<Line, AllocError>
     ensures { IfOk result (λ r. r ≡ line_of line.now) }
 {
     let body = body_view(alloc, &line.body)?;
@@ -363,7 +364,7 @@ fn line_view(alloc: Global, line: &SourceLine) -> Result<Line, AllocError>
 }
 
 /// The lines, as the first sublanguage has them.
-pub fn view(alloc: Global, lines: &[SourceLine]) -> Result<Items<Line>, AllocError>
+pub fn view(alloc: Global, lines: &[ExpandedLine]) -> Result<Items<Line>, AllocError>
     ensures { IfOk result (λ r. r ≡ lines_of lines.now) }
 {
     let mut found = Items::new(alloc);
