@@ -27,7 +27,7 @@ form_row (form.Assignment target value) = row.Nothing
 
 abbrev pub body_row : Body → Row
 body_row (body.Form f) = form_row f
-body_row other = row.Nothing
+body_row _ = row.Nothing
 
 -- what may stand right under the line
 abbrev pub row_of : Line → Row
