@@ -43,7 +43,7 @@ line_faults unit = flat_map (own_faults unit)
 
 abbrev pub is_other : Body → Bool
 is_other known.Other = true
-is_other other = false
+is_other _ = false
 
 abbrev pub unknown_faults : List ℕ → Line → List Diag
 unknown_faults file l = error_if (is_other l.body) file l.line S1

@@ -47,7 +47,7 @@ form_mentions (form.Assignment target value) = element_mention access.Written ta
 
 abbrev pub body_mentions : Body → List Mention
 body_mentions (body.Form f) = form_mentions f
-body_mentions other = []
+body_mentions _ = []
 
 -- the elements that an assignment names: its target, which is written, and those of its operands, which are read
 abbrev pub mentions : Line → List Mention

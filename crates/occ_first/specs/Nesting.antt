@@ -19,7 +19,7 @@ form_role (form.Assignment target value) = role.Process
 
 abbrev pub body_role : Body → Role
 body_role (body.Form f) = form_role f
-body_role other = role.Other
+body_role _ = role.Other
 
 -- the part that the line plays among its siblings
 abbrev pub role_of : Line → Role

@@ -112,7 +112,7 @@ is_par_form (form.Assignment target value) = false
 
 abbrev pub is_par_body : Body → Bool
 is_par_body (body.Form f) = is_par_form f
-is_par_body other = false
+is_par_body _ = false
 
 abbrev pub is_par : Line → Bool
 is_par l = is_par_body l.body

@@ -45,7 +45,7 @@ form_specifications place d (form.Assignment target value) ls = []
 
 abbrev pub body_specifications : ℕ → ℕ → Body → List Line → List Specification
 body_specifications place d (body.Form f) ls = form_specifications place d f ls
-body_specifications place d other ls = []
+body_specifications place d _ ls = []
 
 -- those of the lines, the first of which is at the place
 abbrev pub specifications : ℕ → List Line → List Specification
