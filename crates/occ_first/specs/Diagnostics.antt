@@ -1,7 +1,10 @@
 -- The diagnostics of a unit in the first sublanguage.
-use Rattle.std.specs.Prelude.{ℕ, List, [], ◌∷◌}
+use Rattle.std.specs.Prelude.{ℕ, List, [], ◌∷◌, ◌++◌, Some}
 use Rattle.occ_base.specs.declared.diag.Diag.{Diag}
-use Rattle.occ_forms.specs.declared.source.SourceLine.{SourceLine}
+use Rattle.occ_forms.specs.Prepared.{Prepared}
+use Rattle.occ_project.specs.declared.reads.Read.{Read}
+use Rattle.occ_project.specs.Expansion.{Expansion, expansion}
+use Rattle.occ_tree.specs.Faults.{shape_faults}
 use Rattle.occ_first.specs.declared.scope.Specification.{Specification}
 use Rattle.occ_first.specs.declared.line.Line.{Line}
 use Rattle.occ_first.specs.Faults.{line_faults, other_faults}
@@ -9,7 +12,6 @@ use Rattle.occ_first.specs.Names.{name_faults}
 use Rattle.occ_first.specs.Order.{in_order}
 use Rattle.occ_first.specs.Parallel.{parallel_faults}
 use Rattle.occ_first.specs.Scope.{specifications}
-use Rattle.occ_first.specs.Shape.{shape_faults}
 use Rattle.occ_first.specs.View.{lines_of}
 
 -- those alone, if there are any, else the later ones
@@ -21,14 +23,20 @@ first_of (d ∷ ds) later = d ∷ ds
 abbrev pub meaning_faults : List ℕ → List Specification → List Line → List Diag
 meaning_faults file ss ls = first_of (name_faults file ss 0 ls) (parallel_faults file ss 0 ls)
 
--- of lines that have no fault: at those that the first sublanguage does not have, where there are any; else those of
--- shape, else those of names, else those of the parallel rule
+-- of lines that have no fault and are the listing of a tree: at those that the first sublanguage does not have, where
+-- there are any; else those of names, else those of the parallel rule
 abbrev pub known_faults : List ℕ → List Line → List Diag
-known_faults file ls = first_of (other_faults file ls) (first_of (shape_faults file ls) (meaning_faults file (specifications 0 ls) ls))
+known_faults file ls = first_of (other_faults file ls) (meaning_faults file (specifications 0 ls) ls)
 
--- the faults of lines alone, where there are any; else those of the lines as the first sublanguage has them
-abbrev pub first_faults : List ℕ → List SourceLine → List Diag
-first_faults file ls = first_of (line_faults file ls) (known_faults file (lines_of ls))
+-- the faults of the expansion and of its lines alone, where there are any; else those of shape alone; else those of
+-- the lines as the first sublanguage has them
+abbrev pub first_faults : List ℕ → Expansion → List Diag
+first_faults file e = first_of (e.faults ++ line_faults file e.lines) (first_of (shape_faults e.lines) (known_faults file (lines_of e.lines)))
 
-abbrev pub diagnostics_of : List ℕ → List SourceLine → List Diag
-diagnostics_of file ls = in_order (first_faults file ls)
+-- a project in which this file alone is open
+abbrev pub one_file : List ℕ → Prepared → List Read
+one_file file source = record { name = file; revision = 1; source = Some source } ∷ []
+
+-- the diagnostics of the one open file
+abbrev pub diagnostics_of : List ℕ → Prepared → List Diag
+diagnostics_of file source = in_order (first_faults file (expansion (one_file file source) file))

@@ -1,5 +1,5 @@
 use super::diagnostics;
-use occ_base::{FileName, write_diag};
+use occ_base::{FileName, Shared, write_diag};
 use occ_forms::prepare;
 use std::alloc::Global;
 use std::test::Fail;
@@ -7,9 +7,9 @@ use std::test::Fail;
 /// The diagnostics of the text, each with a line end.
 fn shown(alloc: Global, text: &str) -> Result<Vec<u8>, Fail> {
     let file = FileName::read(b"a.occ")?;
-    let source = prepare(alloc, text.as_bytes())?;
+    let source = Shared::new(alloc, prepare(alloc, text.as_bytes())?)?;
     let mut shown = Vec::new(alloc);
-    for diag in diagnostics(alloc, file, source.lines())?.as_slice() {
+    for diag in diagnostics(alloc, file, &source)?.as_slice() {
         write_diag(alloc, diag, &mut shown)?;
         shown.push(b'\n')?;
     }
@@ -88,8 +88,22 @@ fn faults_of_lines_alone(rt: HostRuntime) -> Result<(), Fail> {
 fn lines_of_the_whole_language(rt: HostRuntime) -> Result<(), Fail> {
     let a = rt.alloc();
     assert_eq!(rt;
-        shown(a, "PROC p ()\n  WHILE x\n    SKIP\n:\n#USE \"b.occ\"\n")?.as_slice(),
-        b"a.occ:2 S1 error -\na.occ:5 S1 error -\n".as_slice()
+        shown(a, "PROC p ()\n  WHILE x\n    SKIP\n:\n")?.as_slice(),
+        b"a.occ:2 S1 error -\n".as_slice()
+    );
+    Ok(())
+}
+
+#[test]
+fn other_files_are_absent(rt: HostRuntime) -> Result<(), Fail> {
+    let a = rt.alloc();
+    assert_eq!(rt;
+        shown(a, "#USE \"b.occ\"\n#USE \"a\"\n")?.as_slice(),
+        b"a.occ:1 G1 error b.occ\na.occ:2 G2 error a.occ\n".as_slice()
+    );
+    assert_eq!(rt;
+        shown(a, "#INCLUDE \"b.inc\"\n#INCLUDE \"a.occ\"\n")?.as_slice(),
+        b"a.occ:1 G4 error b.inc\na.occ:2 G5 error a.occ\n".as_slice()
     );
     Ok(())
 }

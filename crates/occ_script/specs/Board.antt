@@ -2,7 +2,7 @@
 use Rattle.std.specs.Prelude.{ℕ, Bool, true, false, ◌≡◌, ◌==◌, List, Option, Some, None, Result, Ok, Err, codes}
 use Rattle.std.specs.Borrow.{Bor}
 use Rattle.occ_base.specs.declared.diag.Diag.{Diag}
-use Rattle.occ_forms.specs.declared.source.SourceLine.{SourceLine}
+use Rattle.occ_forms.specs.Prepared.{Prepared}
 use Rattle.occ_first.specs.Diagnostics.{diagnostics_of}
 use Rattle.occ_script.specs.Machine.{Opened, Progress, name_word, text_word}
 use Rattle.occ_script.specs.Machine.Progress.{Waiting, Taken, Checked}
@@ -18,21 +18,21 @@ progress_seen (held.Taken w) = Taken w
 progress_seen (held.Checked ds) = Checked
 
 abbrev pub file_seen : OpenFile → Opened
-file_seen f = record { name = f.name; lines = f.source.lines; progress = progress_seen f.progress }
+file_seen f = record { name = f.name; source = f.source; progress = progress_seen f.progress }
 
 abbrev pub board_seen : Option OpenFile → Option Opened
 board_seen None = None
 board_seen (Some f) = Some (file_seen f)
 
--- an outcome that is kept has the diagnostics of the lines
-abbrev pub IsOutcome : List ℕ → List SourceLine → Held → Type 0
-IsOutcome name lines held.Waiting = Unit {0}
-IsOutcome name lines (held.Taken w) = Unit {0}
-IsOutcome name lines (held.Checked ds) = ds ≡ diagnostics_of name lines
+-- an outcome that is kept has the diagnostics of the file
+abbrev pub IsOutcome : List ℕ → Prepared → Held → Type 0
+IsOutcome name source held.Waiting = Unit {0}
+IsOutcome name source (held.Taken w) = Unit {0}
+IsOutcome name source (held.Checked ds) = ds ≡ diagnostics_of name source
 
 abbrev pub IsKept : Option OpenFile → Type 0
 IsKept None = Unit {0}
-IsKept (Some f) = IsOutcome f.name f.source.lines f.progress
+IsKept (Some f) = IsOutcome f.name f.source f.progress
 
 abbrev pub refusal_word : Refusal → List ℕ
 refusal_word (why.Name fault) = name_word fault
@@ -55,8 +55,8 @@ has_job_by w Waiting = false
 has_job_by w (Taken v) = v == w
 has_job_by w Checked = false
 
--- there is an outcome where the worker has the job, and it has the diagnostics of the lines
+-- there is an outcome where the worker has the job, and it has the diagnostics of the file
 abbrev pub IsOutcomeOf : ℕ → Option OpenFile → Option (List Diag) → Type 0
 IsOutcomeOf w None outcome = Unit {0}
 IsOutcomeOf w (Some f) None = has_job_by w (progress_seen f.progress) ≡ false
-IsOutcomeOf w (Some f) (Some ds) = (has_job_by w (progress_seen f.progress) ≡ true) × (ds ≡ diagnostics_of f.name f.source.lines)
+IsOutcomeOf w (Some f) (Some ds) = (has_job_by w (progress_seen f.progress) ≡ true) × (ds ≡ diagnostics_of f.name f.source)

@@ -14,7 +14,7 @@ use Rattle.occ_base.specs.declared.file_name.NameFault.TheVariants as name
 use Rattle.occ_lines.specs.Lines.{limit_fault}
 use Rattle.occ_lines.specs.declared.text.TextFault.{TextFault}
 use Rattle.occ_lines.specs.declared.text.TextFault.TheVariants as text
-use Rattle.occ_forms.specs.Prepared.{IsPrepared}
+use Rattle.occ_forms.specs.Prepared.{IsPrepared, Prepared}
 use Rattle.occ_forms.specs.declared.source.SourceLine.{SourceLine}
 use Rattle.occ_first.specs.Diagnostics.{diagnostics_of}
 use Rattle.occ_script.specs.Script.{Command}
@@ -27,6 +27,10 @@ Reading = List ℕ → List SourceLine
 -- the lines are those that the text spells, with their forms, if it is within the limits
 abbrev pub AreLines : List ℕ → List SourceLine → Type 0
 AreLines contents lines = limit_fault contents ≡ None → IsPrepared contents lines
+
+-- a text with its lines
+abbrev pub text_read : Reading → List ℕ → Prepared
+text_read read contents = record { text = contents; lines = read contents }
 
 -- the text that the command opens has its lines
 abbrev pub ReadsCommand : Reading → Command → Type 0
@@ -48,7 +52,7 @@ pub data Progress : Type 0 where
 
 pub record Opened : Type 0 where
   pub name : List ℕ
-  pub lines : List SourceLine
+  pub source : Prepared
   pub progress : Progress
 
 -- the open file, and whether the last report told an error
@@ -90,9 +94,9 @@ abbrev pub open_answer : Option (List ℕ) → List ℕ
 open_answer None = told (codes "ok")
 open_answer (Some word) = told (codes "refused " ++ word)
 
-abbrev pub after_open : Option (List ℕ) → State → List ℕ → List SourceLine → State
-after_open None s file lines = record { opened = Some (record { name = file; lines = lines; progress = Waiting }); errors = s.errors }
-after_open (Some word) s file lines = s
+abbrev pub after_open : Option (List ℕ) → State → List ℕ → Prepared → State
+after_open None s file source = record { opened = Some (record { name = file; source = source; progress = Waiting }); errors = s.errors }
+after_open (Some word) s file source = s
 
 -- a worker asks for a job
 abbrev pub take_by : ℕ → Bool → List ℕ → Progress → List ℕ
@@ -110,7 +114,7 @@ progress_taken w unit (Taken v) = Taken v
 progress_taken w unit Checked = Checked
 
 abbrev pub with_progress : Opened → Progress → Opened
-with_progress o p = record { name = o.name; lines = o.lines; progress = p }
+with_progress o p = record { name = o.name; source = o.source; progress = p }
 
 abbrev pub taken : ℕ → Opened → Opened
 taken w o = with_progress o (progress_taken w (is_unit o.name) o.progress)
@@ -137,7 +141,7 @@ finished w o = with_progress o (progress_finished w o.progress)
 abbrev pub shown : Opened → Progress → Option (List Diag)
 shown o Waiting = None
 shown o (Taken w) = None
-shown o Checked = Some (diagnostics_of o.name o.lines)
+shown o Checked = Some (diagnostics_of o.name o.source)
 
 abbrev pub diag_text : Diag → List ℕ
 diag_text d = told (codes "  " ++ diag_line d)
@@ -174,7 +178,7 @@ answer s (Finish w) = finish_answer w s.opened
 answer s Report = report_answer s
 
 abbrev pub after : Reading → State → Command → State
-after read s (Open file contents) = after_open (refusal s file contents) s file (read contents)
+after read s (Open file contents) = after_open (refusal s file contents) s file (text_read read contents)
 after read s (Take w) = record { opened = option_map (taken w) s.opened; errors = s.errors }
 after read s (Finish w) = record { opened = option_map (finished w) s.opened; errors = s.errors }
 after read s Report = record { opened = s.opened; errors = reported_errors s.opened }

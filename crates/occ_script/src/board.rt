@@ -1,9 +1,8 @@
 ghost use Rattle.std.specs.Option.{option_map};
 ghost use Rattle.std.specs.Prelude.{◌≡◌, IfOk, List, None, OnErr, OnOk, Some};
-ghost use Rattle.occ_forms.specs.declared.source.SourceLine.{SourceLine};
 ghost use Rattle.occ_lines.specs.Lines.{limit_fault};
 ghost use Rattle.occ_script.specs.Board.{judged, refusal_word};
-ghost use Rattle.occ_script.specs.Machine.{AreLines, Reading, ReadsCommand, after, after_open, answer as an_answer, finish_answer, finished, open_answer, refusal, report_answer, reported_errors, start, take_answer, taken};
+ghost use Rattle.occ_script.specs.Machine.{AreLines, Reading, ReadsCommand, after, after_open, answer as an_answer, finish_answer, finished, open_answer, refusal, report_answer, reported_errors, start, take_answer, taken, text_read};
 ghost use Rattle.occ_script.specs.Rest.{meant};
 
 use super::answer::{line, line_naming};
@@ -12,7 +11,7 @@ use super::file::{
     tells_errors,
 };
 use super::script::Command;
-use occ_base::{FileName, NameFault};
+use occ_base::{FileName, NameFault, Shared};
 use occ_forms::{Source, prepare};
 use occ_lines::{TextFault, text_fault};
 use std::alloc::{AllocError, Global};
@@ -106,13 +105,13 @@ impl Board {
 
     fn open(&mut self, alloc: Global, name: &[u8], text: &[u8]) -> Result<Vec<u8>, AllocError>
         ensures answered { IfOk result (λ bytes. bytes.items ≡ open_answer (refusal self.old name.now text.now)) }
-        ensures after { (lines : List SourceLine) → AreLines text.now lines → OnOk result (self.new ≡ after_open (refusal self.old name.now text.now) self.old name.now lines) }
+        ensures after { (read : Reading) → AreLines text.now (read text.now) → OnOk result (self.new ≡ after_open (refusal self.old name.now text.now) self.old name.now (text_read read text.now)) }
         ensures err { OnErr result (self.new ≡ self.old) }
     {
         match self.judge(name, text) {
             Err(refusal) => line_naming(alloc, "refused ", refusal.word().as_bytes()),
             Ok(file) => {
-                let source = prepared(alloc, text)?;
+                let source = Shared::new(alloc, prepared(alloc, text)?)?;
                 let answer = line(alloc, "ok")?;
                 self.opened = Some(OpenFile {
                     name: file,
@@ -180,7 +179,7 @@ impl Board {
 /// The source of a text within the limits.
 fn prepared(alloc: Global, text: &[u8]) -> Result<Source, AllocError>
     requires { limit_fault text.now ≡ None }
-    ensures { (lines : List SourceLine) → AreLines text.now lines → IfOk result (λ source. source.lines ≡ lines) }
+    ensures { (read : Reading) → AreLines text.now (read text.now) → IfOk result (λ source. source ≡ text_read read text.now) }
 {
     match prepare(alloc, text) {
         Ok(source) => Ok(source),

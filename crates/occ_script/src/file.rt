@@ -5,7 +5,7 @@ ghost use Rattle.occ_script.specs.Machine.{finish_answer, finished, opened_text,
 
 use super::answer::{line, line_naming};
 use super::report::{has_error, unit_report};
-use occ_base::{Diag, FileName, Items};
+use occ_base::{Diag, FileName, Items, Shared};
 use occ_first::diagnostics;
 use occ_forms::Source;
 use std::alloc::{AllocError, Global};
@@ -25,7 +25,7 @@ pub enum Progress {
 #[derive(Debug, Drop)]
 pub struct OpenFile {
     pub name: FileName,
-    pub source: Source,
+    pub source: Shared<Source>,
     pub progress: Progress,
 }
 
@@ -113,7 +113,7 @@ pub fn check_job(
         Some(file) if has_job(file, worker) => Ok(Some(diagnostics(
             alloc,
             file.name,
-            file.source.lines(),
+            &file.source,
         )?)),
         _ => Ok(None),
     }
