@@ -1,0 +1,5 @@
+pub mod Table
+pub mod Siblings
+pub mod Nesting
+pub mod Wrong
+pub mod Frames

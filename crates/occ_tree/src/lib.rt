@@ -1,0 +1,16 @@
+//! The shape of a unit: which line stands under which, what may stand there, and the one tree of a unit.
+#![tactic(auto)]
+
+mod marks;
+mod outline;
+mod place;
+mod row;
+mod siblings;
+mod sort;
+mod stack;
+
+pub use marks::wrong_lines;
+pub use outline::Outline;
+pub use row::Row;
+pub use sort::Sort;
+pub use stack::Stack;
