@@ -3,3 +3,5 @@ pub mod Siblings
 pub mod Nesting
 pub mod Wrong
 pub mod Frames
+pub mod Sorts
+pub mod Faults

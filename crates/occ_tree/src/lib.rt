@@ -1,6 +1,7 @@
 //! The shape of a unit: which line stands under which, what may stand there, and the one tree of a unit.
 #![tactic(auto)]
 
+mod faults;
 mod marks;
 mod outline;
 mod place;
@@ -9,6 +10,7 @@ mod siblings;
 mod sort;
 mod stack;
 
+pub use faults::shape_faults;
 pub use marks::wrong_lines;
 pub use outline::Outline;
 pub use row::Row;
