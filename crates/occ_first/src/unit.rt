@@ -13,7 +13,7 @@ use super::view::view;
 use occ_base::{Diag, FileName, Items, Shared};
 use occ_forms::Source;
 use occ_project::{Expanded, Read, expand_over};
-use occ_tree::find_shape_faults;
+use occ_tree::shape_faults;
 use std::alloc::{AllocError, Global};
 
 /// The diagnostics of the one open file, in their order.
@@ -91,7 +91,7 @@ fn find_first_faults(
     if !found.is_empty() {
         return Ok(found);
     }
-    let found = find_shape_faults(alloc, lines.as_slice())?;
+    let found = shape_faults(alloc, lines.as_slice())?;
     if !found.is_empty() {
         return Ok(found);
     }

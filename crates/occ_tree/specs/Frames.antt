@@ -1,0 +1,55 @@
+-- What a walk over the lines knows of the parents that are open.
+use Rattle.std.specs.Prelude.{ℕ, Bool, List, [], ◌∷◌, ◌||◌, not, Option, Some, None, if◌then◌else◌}
+use Rattle.occ_tree.specs.declared.outline.Outline.{Outline}
+use Rattle.occ_tree.specs.declared.place.Frame.{Frame}
+use Rattle.occ_tree.specs.declared.place.Place.{Place}
+use Rattle.occ_tree.specs.declared.row.Row.{Row}
+use Rattle.occ_tree.specs.declared.row.Row.TheVariants as row
+use Rattle.occ_tree.specs.declared.sort.Sort.{Sort}
+use Rattle.occ_tree.specs.Nesting.{beyond, elders, holds, is_right, parent_depth, row_at, sorts, under}
+use Rattle.occ_tree.specs.Siblings.{elders_of, is_misplaced, lacks}
+use Rattle.occ_tree.specs.Table.{row_under}
+use Rattle.occ_tree.specs.Wrong.{closes}
+
+-- a parent of this depth and row, and those under it so far, the nearest first
+abbrev pub frame_of : Option ℕ → Row → List Sort → Frame
+frame_of d r es = record { depth = d; row = r; elders = elders_of r es }
+
+-- the parent of a line of depth d behind these
+abbrev pub frame_at : List Outline → ℕ → Frame
+frame_at before d = frame_of (parent_depth before d) (row_at before d) (elders before d)
+
+abbrev pub place_at : List Outline → Outline → Place
+place_at before l = record { line = l; frame = frame_at before l.depth }
+
+-- the place of each line, the last first
+abbrev pub places : List Outline → List Place
+places [] = []
+places (b ∷ before) = place_at before b ∷ places before
+
+-- the lines in the other order, and then those
+abbrev pub turned : List Outline → List Outline → List Outline
+turned [] ls = ls
+turned (b ∷ before) ls = turned before (b ∷ ls)
+
+-- without the innermost parents that cannot have a line of depth d under them
+abbrev pub closed : ℕ → List Frame → List Frame
+closed d [] = []
+closed d (f ∷ fs) = if holds f.depth d then f ∷ fs else closed d fs
+
+abbrev pub outer : List Frame → List Frame
+outer [] = []
+outer (f ∷ fs) = fs
+
+-- the open parents behind these lines, the innermost first
+abbrev pub opened : List Outline → List Frame
+opened [] = frame_of None row.File [] ∷ []
+opened (b ∷ before) =
+    frame_of (Some b.depth) (row_under (row_at before b.depth) b.sort) []
+    ∷ (frame_of (parent_depth before b.depth) (row_at before b.depth) (b.sort ∷ elders before b.depth) ∷ outer (closed b.depth (opened before)))
+
+-- the line at this place stands wrong, before lines of which these stand under none of each other
+abbrev pub wrong_at : Place → List Outline → Bool
+wrong_at p rs =
+    (not (is_right p.frame.depth p.line.depth) || is_misplaced p.frame.row p.frame.elders p.line.sort (closes p.frame.depth (beyond p.line.depth rs)))
+    || lacks (row_under p.frame.row p.line.sort) (sorts (under p.line.depth rs))

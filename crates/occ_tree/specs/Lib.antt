@@ -1,0 +1,7 @@
+pub mod Table
+pub mod Siblings
+pub mod Nesting
+pub mod Wrong
+pub mod Frames
+pub mod Sorts
+pub mod Faults

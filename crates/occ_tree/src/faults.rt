@@ -1,0 +1,61 @@
+ghost use Rattle.std.specs.Prelude.{◌≡◌, ◌++◌, IfOk, OnOk};
+ghost use Rattle.occ_tree.specs.Faults.{error_if, line_faults as faults_of_line, shape_faults as faults_of_shape};
+
+use super::marks::wrong_lines;
+use super::outline::find_outlines;
+use occ_base::{Code, Diag, Grade, Items};
+use occ_project::ExpandedLine;
+use std::alloc::{AllocError, Global};
+
+/// Adds the error without a name at the line, if the test holds.
+fn add_error_if(
+    test: bool,
+    line: &ExpandedLine,
+    code: Code,
+    found: &mut Items<Diag>,
+) -> Result<(), AllocError>
+    ensures { OnOk result (found.new ≡ found.old ++ error_if test line.now code) }
+{
+    if test {
+        found.push(Diag {
+            file: line.file,
+            line: line.line,
+            code,
+            grade: Grade::Error,
+            name: None,
+        })?;
+    }
+    Ok(())
+}
+
+/// Adds the diagnostics of shape of a line.
+fn add_line_faults(
+    line: &ExpandedLine,
+    wrong: bool,
+    found: &mut Items<Diag>,
+) -> Result<(), AllocError>
+    ensures { OnOk result (found.new ≡ found.old ++ faults_of_line line.now wrong) }
+{
+    add_error_if(wrong, line, Code::S2, found)?;
+    add_error_if(line.depth > 64, line, Code::S4, found)
+}
+
+/// The diagnostics of shape of a unit with these lines, in the order of the lines: `S2` at each line that stands
+/// where it may not, or under which something is missing, and `S4` at each line of a depth over 64. A line that
+/// has a fault instead of a form may stand nowhere.
+pub fn shape_faults(alloc: Global, lines: &[ExpandedLine]) -> Result<Items<Diag>, AllocError>
+    ensures { IfOk result (λ found. found ≡ faults_of_shape lines.now) }
+{
+    let outlines = find_outlines(alloc, lines)?;
+    let mut marks = wrong_lines(alloc, outlines.as_slice())?;
+    let mut found = Items::new(alloc);
+    let mut rest = lines;
+    while let Some((line, after)) = rest.split_first() {
+        let Some(wrong) = marks.pop() else {
+            break;
+        };
+        add_line_faults(line, wrong, &mut found)?;
+        rest = after;
+    }
+    Ok(found)
+}

@@ -1,0 +1,71 @@
+ghost use Rattle.std.specs.Prelude.{◌≡◌, [], ◌∷◌, ◌++◌, IfOk, OnOk};
+ghost use Rattle.occ_tree.specs.Frames.{wrong_at};
+ghost use Rattle.occ_tree.specs.Nesting.{beyond, sorts, under as lines_under};
+ghost use Rattle.occ_tree.specs.Wrong.{closes, wrong};
+
+use super::outline::Outline;
+use super::place::{Place, find_places, holds, is_right};
+use super::row::{is_close, row_under};
+use super::siblings::{is_misplaced, lacks};
+use super::sort::Sort;
+use super::stack::Stack;
+use occ_base::Items;
+use std::alloc::{AllocError, Global};
+
+/// Takes those deeper than `depth` from the top.
+fn take_children(
+    alloc: Global,
+    depth: u64,
+    roots: &mut Stack<Outline>,
+) -> Result<Items<Sort>, AllocError>
+    ensures children { IfOk result (λ children. children ≡ sorts (lines_under depth roots.old)) }
+    ensures rest { OnOk result (roots.new ≡ beyond depth roots.old) }
+{
+    let mut children = Items::new(alloc);
+    while let Some(top) = roots.top() {
+        if top.depth <= depth {
+            break;
+        }
+        children.push(top.sort)?;
+        roots.pop();
+    }
+    Ok(children)
+}
+
+/// Whether the top is a close under the same parent.
+fn closes_next(parent: Option<u64>, roots: &Stack<Outline>) -> bool
+    ensures { result ≡ closes parent roots.now }
+{
+    match roots.top() {
+        Some(next) => holds(parent, next.depth) && is_close(next.sort),
+        None => false,
+    }
+}
+
+/// Whether the line at this place stands wrong or lacks something. On top of the stack are its children, which it
+/// takes, and then the next line under its parent, if there is one.
+fn is_wrong(alloc: Global, place: Place, roots: &mut Stack<Outline>) -> Result<bool, AllocError>
+    ensures wrong { IfOk result (λ wrong. wrong ≡ wrong_at place roots.old) }
+    ensures rest { OnOk result (roots.new ≡ beyond place.line.depth roots.old) }
+{
+    let Place { line, frame } = place;
+    let children = take_children(alloc, line.depth, roots)?;
+    let before_close = closes_next(frame.depth, roots);
+    let lacking = lacks(row_under(frame.row, line.sort), children.as_slice());
+    let misplaced = is_misplaced(frame.row, frame.elders, line.sort, before_close);
+    Ok(!is_right(frame.depth, line.depth) || misplaced || lacking)
+}
+
+/// For each line of a unit, whether it stands wrong or lacks something. The first is on top.
+pub fn wrong_lines(alloc: Global, lines: &[Outline]) -> Result<Stack<bool>, AllocError>
+    ensures { IfOk result (λ found. found ≡ wrong lines.now) }
+{
+    let mut places = find_places(alloc, lines)?;
+    let mut roots = Stack::new(alloc);
+    let mut found = Stack::new(alloc);
+    while let Some(place) = places.pop() {
+        found.push(is_wrong(alloc, place, &mut roots)?)?;
+        roots.push(place.line)?;
+    }
+    Ok(found)
+}

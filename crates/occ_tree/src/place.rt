@@ -1,0 +1,124 @@
+ghost use Rattle.std.specs.Prelude.{◌≡◌, [], ◌∷◌, List, None, Some, IfOk, OnOk};
+ghost use Rattle.occ_tree.specs.declared.outline.Outline.{Outline};
+ghost use Rattle.occ_tree.specs.Frames.{closed, frame_of, opened, places, turned};
+ghost use Rattle.occ_tree.specs.Nesting.{holds as holding, is_right as right};
+ghost use Rattle.occ_tree.specs.declared.place.Frame.{Frame};
+ghost use Rattle.occ_tree.specs.declared.sort.Sort.{Sort};
+ghost use Rattle.occ_tree.specs.declared.row.Row.TheVariants as row;
+ghost use Rattle.occ_tree.specs.Table.{row_under as under};
+
+use super::outline::Outline;
+use super::row::{Row, row_under};
+use super::siblings::Elders;
+use super::stack::Stack;
+use std::alloc::{AllocError, Global};
+
+/// A parent, which the next line may stand under.
+#[derive(Clone, Copy, Debug)]
+pub struct Frame {
+    /// Its depth. The file has none.
+    pub depth: Option<u64>,
+    /// What may stand under it.
+    pub row: Row,
+    /// What stands under it so far.
+    pub elders: Elders,
+}
+
+/// Where a line stands.
+#[derive(Clone, Copy, Debug)]
+pub struct Place {
+    pub line: Outline,
+    /// Its parent, before the line itself stood under it.
+    pub frame: Frame,
+}
+
+/// Whether a line of this depth may stand under a parent of that one, or under none.
+pub fn holds(parent: Option<u64>, depth: u64) -> bool
+    ensures { result ≡ holding parent depth }
+{
+    match parent {
+        Some(parent) => parent < depth,
+        None => true,
+    }
+}
+
+/// Whether it stands right under it.
+pub fn is_right(parent: Option<u64>, depth: u64) -> bool
+    ensures { result ≡ right parent depth }
+{
+    match parent {
+        Some(parent) => parent < depth && depth - parent == 1,
+        None => depth == 0,
+    }
+}
+
+impl Frame {
+    /// A parent under which nothing stands so far.
+    fn new(depth: Option<u64>, row: Row) -> Frame
+        ensures { result ≡ frame_of depth row [] }
+    {
+        Frame {
+            depth,
+            row,
+            elders: Elders::none(row),
+        }
+    }
+}
+
+/// The parents that are open behind a line.
+#[derive(Debug, Drop)]
+pub struct Open {
+    pub innermost: Frame,
+    pub outer: Stack<Frame>,
+}
+
+impl Open {
+    /// Leaves the innermost parents that cannot have a line of this depth under them.
+    fn close(&mut self, depth: u64)
+        ensures { (f : Frame) (fs : List Frame) → closed depth (self.old.innermost ∷ self.old.outer) ≡ f ∷ fs → (self.new.innermost ≡ f) × (self.new.outer ≡ fs) }
+    {
+        while !holds(self.innermost.depth, depth) {
+            match self.outer.pop() {
+                Some(frame) => self.innermost = frame,
+                None => return,
+            }
+        }
+    }
+
+    /// Adds the line under the innermost parent, and makes it the innermost one.
+    fn enter(&mut self, line: Outline) -> Result<(), AllocError>
+        ensures { (es : List Sort) → self.old.innermost ≡ frame_of self.old.innermost.depth self.old.innermost.row es → OnOk result ((self.new.innermost ≡ frame_of (Some line.depth) (under self.old.innermost.row line.sort) []) × (self.new.outer ≡ frame_of self.old.innermost.depth self.old.innermost.row (line.sort ∷ es) ∷ self.old.outer)) }
+    {
+        let row = self.innermost.row;
+        let parent = Frame {
+            depth: self.innermost.depth,
+            row,
+            elders: self.innermost.elders.and(row, line.sort),
+        };
+        self.outer.push(parent)?;
+        self.innermost = Frame::new(Some(line.depth), row_under(row, line.sort));
+        Ok(())
+    }
+}
+
+/// The place of each line of a unit, the last on top.
+pub fn find_places(alloc: Global, lines: &[Outline]) -> Result<Stack<Place>, AllocError>
+    ensures { IfOk result (λ found. found ≡ places (turned lines.now [])) }
+{
+    let mut found = Stack::new(alloc);
+    let mut open = Open {
+        innermost: Frame::new(None, Row::File),
+        outer: Stack::new(alloc),
+    };
+    let mut rest = lines;
+    while let Some((line, after)) = rest.split_first() {
+        open.close(line.depth);
+        found.push(Place {
+            line: *line,
+            frame: open.innermost,
+        })?;
+        open.enter(*line)?;
+        rest = after;
+    }
+    Ok(found)
+}

@@ -1,0 +1,146 @@
+ghost use Rattle.std.specs.Prelude.{◌≡◌, ◌∷◌, [], false, List};
+ghost use Rattle.std.specs.List.{list_any};
+ghost use Rattle.occ_tree.specs.declared.sort.Sort.{Sort};
+ghost use Rattle.occ_tree.specs.Siblings.{elders_of, ends_specified as ending_specified, first_is, is_beyond as beyond, is_disordered as disordered, is_loose as loose, is_misplaced as misplaced, lacks as lacking};
+ghost use Rattle.occ_tree.specs.Table.{is_close as close, is_main as main, is_process as process, is_result as result_line};
+
+use super::row::{
+    Row, is_close, is_head, is_main, is_process, is_result, is_single, is_value, lets_line,
+    may_stand, needs_main, takes_specifications,
+};
+use super::sort::Sort;
+
+/// What stands before a line under the same parent.
+#[derive(Clone, Copy, Debug)]
+pub struct Elders {
+    /// The nearest is a head.
+    pub head: bool,
+    /// One of them is a main line.
+    pub main: bool,
+    /// One of them is a process.
+    pub process: bool,
+    /// One of them is a `RESULT`.
+    pub result: bool,
+    /// The nearest is a process, and the first one.
+    pub first_process: bool,
+}
+
+impl Elders {
+    /// None.
+    pub fn none(row: Row) -> Elders
+        ensures { result ≡ elders_of row [] }
+    {
+        Elders {
+            head: false,
+            main: false,
+            process: false,
+            result: false,
+            first_process: false,
+        }
+    }
+
+    /// Those, and then a line of this sort.
+    pub fn and(self, row: Row, sort: Sort) -> Elders
+        ensures { (before : List Sort) → self ≡ elders_of row before → result ≡ elders_of row (sort ∷ before) }
+    {
+        let process = is_process(sort);
+        Elders {
+            head: is_head(sort),
+            main: is_main(row, sort) || self.main,
+            process: process || self.process,
+            result: is_result(sort) || self.result,
+            first_process: process && !self.process,
+        }
+    }
+}
+
+/// Whether it is a close that is not right behind a head, or a head that is not right before a close.
+fn is_loose(elders: Elders, sort: Sort, before_close: bool) -> bool
+    ensures { result ≡ loose elders sort before_close }
+{
+    is_close(sort) && !elders.head || is_head(sort) && !before_close
+}
+
+/// Whether it is a main line where there may be one and there is one already.
+fn is_beyond(row: Row, elders: Elders, sort: Sort) -> bool
+    ensures { result ≡ beyond row elders sort }
+{
+    is_single(row) && is_main(row, sort) && elders.main
+}
+
+/// Whether it is a second process or `RESULT` under `VALOF`, or a `RESULT` that is not directly behind the first
+/// process.
+fn is_disordered(row: Row, elders: Elders, sort: Sort) -> bool
+    ensures { result ≡ disordered row elders sort }
+{
+    is_value(row)
+        && (is_process(sort) && elders.process
+            || is_result(sort) && (elders.result || !elders.first_process))
+}
+
+/// Whether a line of this sort cannot stand in the row behind those, and right before a close or not.
+pub fn is_misplaced(row: Row, elders: Elders, sort: Sort, before_close: bool) -> bool
+    ensures { result ≡ misplaced row elders sort before_close }
+{
+    !may_stand(row, sort)
+        || is_loose(elders, sort, before_close)
+        || is_beyond(row, elders, sort)
+        || is_disordered(row, elders, sort)
+}
+
+/// Whether a close comes first.
+fn starts_with_close(sorts: &[Sort]) -> bool
+    ensures { result ≡ first_is close sorts.now }
+{
+    match sorts.first() {
+        Some(sort) => is_close(*sort),
+        None => false,
+    }
+}
+
+/// Whether the last item of the row is a specification.
+fn ends_specified(row: Row, sorts: &[Sort]) -> bool
+    ensures { result ≡ ending_specified row sorts.now }
+{
+    let mut specified = false;
+    let mut rest = sorts;
+    while let Some((sort, after)) = rest.split_first() {
+        if is_main(row, *sort) {
+            specified = false;
+        } else if lets_line(row, *sort)
+            || takes_specifications(row) && is_head(*sort) && starts_with_close(after)
+        {
+            specified = true;
+        }
+        rest = after;
+    }
+    specified
+}
+
+/// Whether one of them is a main line of the row.
+fn has_main(row: Row, sorts: &[Sort]) -> bool
+    ensures { result ≡ list_any (main row) sorts.now }
+{
+    sorts.iter().any(|sort| is_main(row, *sort))
+}
+
+fn has_process(sorts: &[Sort]) -> bool
+    ensures { result ≡ list_any process sorts.now }
+{
+    sorts.iter().any(|sort| is_process(*sort))
+}
+
+fn has_result(sorts: &[Sort]) -> bool
+    ensures { result ≡ list_any result_line sorts.now }
+{
+    sorts.iter().any(|sort| is_result(*sort))
+}
+
+/// Whether a parent of this row lacks something, these being the lines under it.
+pub fn lacks(row: Row, sorts: &[Sort]) -> bool
+    ensures { result ≡ lacking row sorts.now }
+{
+    needs_main(row) && !has_main(row, sorts)
+        || is_value(row) && !(has_process(sorts) && has_result(sorts))
+        || ends_specified(row, sorts)
+}

@@ -1,0 +1,61 @@
+ghost use Rattle.std.specs.Prelude.{◌≡◌, [], ◌∷◌, List, MatchOption, OnOk};
+
+use occ_base::Items;
+use std::alloc::{AllocError, Global};
+use std::marker::Model;
+
+/// A stack, which contracts see as the list of what lies on it, the top first.
+#[derive(Debug, Drop)]
+pub struct Stack<T> {
+    items: Items<T>,
+}
+
+impl<T> Model for Stack<T> {
+    ghost use Rattle.std.specs.Prelude.{List, reverse};
+    ghost use Rattle.std.specs.Coded.{coded_list};
+
+    ghost Value = { List T };
+
+    ghost coded = { coded_list T.code };
+
+    ghost view = { λ stack. reverse stack.items };
+}
+
+impl<T> Stack<T> {
+    pub fn new(alloc: Global) -> Stack<T>
+        ensures { result ≡ [] }
+    {
+        Stack {
+            items: Items::new(alloc),
+        }
+    }
+
+    #[tactic(auto, using(crate::proofs::Reversed::reversed_last))]
+    pub fn pop(&mut self) -> Option<T>
+        ensures { MatchOption result ((self.old ≡ []) × (self.new ≡ [])) (λ top. self.old ≡ top ∷ self.new) }
+    {
+        self.items.pop()
+    }
+}
+
+impl<T: Copy> Stack<T> {
+    /// What lies on top.
+    #[tactic(auto, using(crate::proofs::Reversed::reversed_last))]
+    pub fn top(&self) -> Option<T>
+        ensures { MatchOption result (self.now ≡ []) (λ top. (below : List T) × (self.now ≡ top ∷ below)) }
+    {
+        match self.items.as_slice().split_last() {
+            Some((top, _)) => Some(*top),
+            None => None,
+        }
+    }
+}
+
+impl<T: Drop> Stack<T> {
+    #[tactic(auto, using(crate::proofs::Reversed::reversed_last))]
+    pub fn push(&mut self, item: T) -> Result<(), AllocError>
+        ensures { OnOk result (self.new ≡ item ∷ self.old) }
+    {
+        self.items.push(item)
+    }
+}
