@@ -110,11 +110,10 @@ pub fn check_job(
     ensures { IfOk result (λ outcome. IsOutcomeOf worker opened.now outcome) }
 {
     match opened {
-        Some(file) if has_job(file, worker) => Ok(Some(diagnostics(
-            alloc,
-            file.name,
-            &file.source,
-        )?)),
+        Some(file) if has_job(file, worker) => {
+            let outcome = diagnostics(alloc, file.name, &file.source)?;
+            Ok(Some(outcome))
+        }
         _ => Ok(None),
     }
 }
