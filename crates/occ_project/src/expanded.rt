@@ -1,5 +1,8 @@
-use occ_base::{Code, FileName, Items, Shared};
+ghost use Rattle.std.specs.Prelude.{◌≡◌};
+
+use occ_base::{Code, Diag, FileName, Items, Shared};
 use occ_forms::Form;
+use std::marker::Model;
 
 /// What a line of an expansion holds.
 #[derive(Debug, Drop)]
@@ -21,4 +24,96 @@ pub struct ExpandedLine {
     /// The number of levels that it stands in, those of the directives that include its file counted.
     pub depth: u64,
     pub body: ExpandedBody,
+}
+
+/// A `#USE` line of an expansion.
+#[derive(Debug, Drop)]
+pub struct UseLine {
+    /// The file in which it stands.
+    pub file: FileName,
+    /// The line of that file, from 1.
+    pub line: u32,
+    /// The units that it uses, in order.
+    pub units: Items<FileName>,
+}
+
+/// The expansion of a unit.
+#[derive(Debug, Drop)]
+pub struct Expanded {
+    lines: Items<ExpandedLine>,
+    reads: Items<FileName>,
+    uses: Items<UseLine>,
+    faults: Items<Diag>,
+}
+
+impl Model for Expanded {
+    ghost use Rattle.occ_expressions.specs.contracts.tree.Builtin as builtins;
+    ghost use Rattle.occ_expressions.specs.contracts.tree.Dimension as dimensions;
+    ghost use Rattle.occ_expressions.specs.contracts.tree.Element as elements;
+    ghost use Rattle.occ_expressions.specs.contracts.tree.Expr as expressions;
+    ghost use Rattle.occ_expressions.specs.contracts.tree.TypeForm as types;
+    ghost use Rattle.occ_project.specs.Expansion.{Expansion};
+    ghost use Rattle.std.specs.Coded.{codes};
+
+    ghost Value = { Expansion };
+
+    ghost coded = { Prim.hlevel (codes, builtins.the_row.coded, dimensions.the_row.coded, elements.the_row.coded, expressions.the_row.coded, types.the_row.coded) };
+
+    ghost view = { λ a. record { lines = a.lines; reads = a.reads; uses = a.uses; faults = a.faults } };
+}
+
+impl Expanded {
+    /// The expansion that has these parts.
+    pub(crate) fn of(
+        lines: Items<ExpandedLine>,
+        reads: Items<FileName>,
+        uses: Items<UseLine>,
+        faults: Items<Diag>,
+    ) -> Expanded
+        ensures { result ≡ record { lines = lines; reads = reads; uses = uses; faults = faults } }
+    {
+        Expanded {
+            lines,
+            reads,
+            uses,
+            faults,
+        }
+    }
+
+    /// Its lines, in order.
+    pub fn lines(&self) -> &[ExpandedLine]
+        ensures { result.now ≡ self.now.lines }
+    {
+        self.lines.as_slice()
+    }
+
+    /// Its lines and its faults, moved out.
+    pub fn into_lines(self) -> (Items<ExpandedLine>, Items<Diag>)
+        ensures lines { result.0 ≡ self.lines }
+        ensures faults { result.1 ≡ self.faults }
+    {
+        (self.lines, self.faults)
+    }
+
+    /// The names that were looked up, the unit first, each once, in the order of their first look-ups. Those of absent
+    /// files are among them.
+    pub fn reads(&self) -> &[FileName]
+        ensures { result.now ≡ self.now.reads }
+    {
+        self.reads.as_slice()
+    }
+
+    /// The `#USE` lines, in order.
+    pub fn uses(&self) -> &[UseLine]
+        ensures { result.now ≡ self.now.uses }
+    {
+        self.uses.as_slice()
+    }
+
+    /// The diagnostics `G4`, `G5` and `G6`, in the order of their lines.
+    pub fn faults(&self) -> &[Diag]
+        ensures { result.now ≡ self.now.faults }
+    {
+        self.faults.as_slice()
+    }
 }

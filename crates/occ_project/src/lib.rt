@@ -1,6 +1,15 @@
 //! The expansion of a unit: its lines, with those of the files that it includes in their places.
+//! `specs/Entries.antt` and `specs/Expansion.antt` say what it is.
 #![tactic(auto)]
 
+mod entry;
 mod expanded;
+mod expansion;
+mod files;
+mod making;
+mod names;
+mod reads;
 
-pub use expanded::{ExpandedBody, ExpandedLine};
+pub use expanded::{Expanded, ExpandedBody, ExpandedLine, UseLine};
+pub use expansion::{ExpandFault, expand, expand_over};
+pub use reads::{Read, Reads};

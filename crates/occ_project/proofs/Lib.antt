@@ -1,0 +1,5 @@
+pub mod Made
+pub mod Inclusions
+pub mod Members
+pub mod Places
+pub mod Expansions

@@ -1,0 +1,36 @@
+-- An expansion that is being made, entry by entry.
+use Rattle.std.specs.Prelude.{ℕ, ◌-◌, nat_eq, true, false, cond, List, [], ◌∷◌, ◌++◌}
+use Rattle.occ_project.specs.declared.entry.Entry.{Entry}
+use Rattle.occ_project.specs.declared.making.Made.{Made}
+use Rattle.occ_project.specs.Expansion.{entry_faults, entry_lines, entry_names, entry_uses, limit_fault}
+
+-- with one entry more
+abbrev pub with_entry : Made → Entry → Made
+with_entry made entry = record {
+  lines = made.lines ++ entry_lines entry;
+  uses = made.uses ++ entry_uses entry;
+  faults = made.faults ++ entry_faults entry;
+  names = made.names ++ entry_names entry;
+  room = made.room - 1;
+  is_over = false;
+}
+
+-- ended before an entry for which there is no room
+abbrev pub ended : Made → Entry → Made
+ended made entry = record {
+  lines = made.lines;
+  uses = made.uses;
+  faults = made.faults ++ limit_fault entry ∷ [];
+  names = made.names;
+  room = made.room;
+  is_over = true;
+}
+
+-- after an entry comes
+abbrev pub step : Made → Entry → Made
+step made entry = cond made.is_over made (cond (nat_eq made.room 0) (ended made entry) (with_entry made entry))
+
+-- after these come
+abbrev pub after : Made → List Entry → Made
+after made [] = made
+after made (entry ∷ more) = after (step made entry) more

@@ -1,0 +1,35 @@
+-- The files that an expansion may look up.
+use Rattle.std.specs.Prelude.{ℕ, suc, Bool, cond, List, [], ◌∷◌, Option, Some, None}
+use Rattle.std.specs.List.{find}
+use Rattle.std.specs.Ordering.{nat_cmp}
+use Rattle.std.specs.Cmp.Lexicographic.{slice_cmp}
+use Rattle.std.specs.declared.cmp.Ordering.{Ordering}
+use Rattle.std.specs.Option.{is_some, option_and_then, option_map}
+use Rattle.std.specs.Str.{bytes_eq}
+use Rattle.occ_forms.specs.declared.source.SourceLine.{SourceLine}
+use Rattle.occ_project.specs.declared.reads.Read.{Read}
+
+-- the file has that name
+abbrev pub is_named : List ℕ → Read → Bool
+is_named name read = bytes_eq read.name name
+
+-- the first member of that name
+abbrev pub member : List Read → List ℕ → Option Read
+member reads name = find (is_named name) reads
+
+-- the lines of a member, if its file is open
+abbrev pub lines_of : Read → Option (List SourceLine)
+lines_of read = option_map (λ source. source.lines) read.source
+
+-- the lines of the file of that name, if it is open: a file of which there is no member is not
+abbrev pub open_lines : List Read → List ℕ → Option (List SourceLine)
+open_lines reads name = option_and_then lines_of (member reads name)
+
+-- the place of the first member of that name
+abbrev pub place : List ℕ → List Read → Option ℕ
+place name [] = None
+place name (read ∷ reads) = cond (is_named name read) (Some 0) (option_map suc (place name reads))
+
+-- the order of names
+abbrev pub name_cmp : List ℕ → List ℕ → Ordering
+name_cmp = slice_cmp nat_cmp

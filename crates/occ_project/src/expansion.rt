@@ -1,0 +1,177 @@
+ghost use Rattle.occ_project.specs.Entries.{entries, held as what_is_held, included, put_in};
+ghost use Rattle.occ_project.specs.Expansion.{expansion, not_given};
+ghost use Rattle.occ_project.specs.Making.{after};
+ghost use Rattle.occ_project.specs.declared.expansion.ExpandFault.TheVariants.{Memory, NotGiven};
+ghost use Rattle.std.specs.Option.{option_map};
+ghost use Rattle.std.specs.Prelude.{Err, IfOk, List, None, OnOk, Some, ℕ, ◌*◌, ◌+◌, ◌^◌, ◌≡◌, ◌≤◌};
+
+use super::entry::{Entry, Held};
+use super::files::Files;
+use super::making::Made;
+use super::names::first_places;
+use super::{Expanded, ExpandedBody, Reads};
+use occ_base::{FileName, Items};
+use occ_forms::{LineBody, SourceLine};
+use std::alloc::{AllocError, Global};
+use thiserror::Error;
+
+/// The greatest number of lines of an expansion. An `#INCLUDE` counts as one, and a `#USE`.
+const LINE_LIMIT: usize = 65_535;
+
+/// How many inclusions may be nested below the unit.
+const INCLUSION_LIMIT: u32 = 16;
+
+/// Why a unit has no expansion.
+#[derive(Clone, Copy, Debug, PartialEq, Eq, Error)]
+pub enum ExpandFault {
+    /// The expansion looks up this file, and it is not among the reads.
+    #[error("a file that is looked up is not given")]
+    NotGiven(FileName),
+    /// Memory was refused.
+    #[error("out of memory")]
+    Memory,
+}
+
+impl From<AllocError> for ExpandFault {
+    ghost from_gives = { λ _ e. e ≡ Memory };
+
+    fn from(_e: AllocError) -> ExpandFault {
+        ExpandFault::Memory
+    }
+}
+
+/// A file whose lines are added.
+#[derive(Clone, Copy)]
+struct Opened {
+    file: FileName,
+    /// How many inclusions may be nested in it.
+    left: u32,
+    /// What the depths of its lines are raised by.
+    raise: u64,
+}
+
+/// A file that is put in.
+#[derive(Clone, Copy)]
+struct Inner<'a> {
+    name: FileName,
+    lines: &'a [SourceLine],
+}
+
+/// What the entry of a line holds, and the file that the line puts in.
+fn held<'a>(
+    alloc: Global,
+    files: &'a Files<'_>,
+    way: &[FileName],
+    left: u32,
+    depth: u64,
+    body: &LineBody,
+) -> Result<(Held, Option<Inner<'a>>), AllocError>
+    ensures entry { IfOk result (λ found. found.0 ≡ what_is_held (included files.now.reads.now way.now left) depth body.now) }
+    ensures inner { IfOk result (λ found. option_map (λ inner. (inner.name, inner.lines.now)) found.1 ≡ put_in (included files.now.reads.now way.now left) body.now) }
+{
+    let body = match body {
+        LineBody::Form(form) => ExpandedBody::Form(form.share()?),
+        LineBody::Uses(unit) => ExpandedBody::Uses(Items::from_slice(alloc, &[*unit])?),
+        LineBody::Fault(fault) => ExpandedBody::Fault(*fault),
+        LineBody::Include(name) => {
+            return Ok(match files.included(way, left, *name) {
+                Ok(lines) => (
+                    Held::Include(*name, None),
+                    Some(Inner { name: *name, lines }),
+                ),
+                Err(fault) => (Held::Include(*name, Some(fault)), None),
+            });
+        }
+    };
+    Ok((Held::Line(depth, body), None))
+}
+
+/// Adds the entries of the lines of a file, each with those of the file that it puts in.
+fn add_file(
+    alloc: Global,
+    files: &Files<'_>,
+    way: &mut Items<FileName>,
+    opened: Opened,
+    lines: &[SourceLine],
+    made: &mut Made,
+) -> Result<(), AllocError>
+    requires { opened.raise + (opened.left + 1) * 2 ^ 32 ≤ 2 ^ 63 }
+    ensures way { OnOk result (way.new ≡ way.old) }
+    ensures made { OnOk result (made.new ≡ after made.old (entries files.now.reads.now opened.left way.old opened.file opened.raise lines.now)) }
+{
+    for line in lines {
+        if made.is_over {
+            return Ok(());
+        }
+        let depth = opened.raise + u64::from(line.depth);
+        let (held, found) = held(alloc, files, way.as_slice(), opened.left, depth, &line.body)?;
+        made.add(
+            alloc,
+            Entry {
+                file: opened.file,
+                line: line.line,
+                held,
+            },
+        )?;
+        let Some(inner) = found else {
+            continue;
+        };
+        let next = Opened {
+            file: inner.name,
+            left: opened.left - 1,
+            raise: depth,
+        };
+        way.push(inner.name)?;
+        add_file(alloc, files, way, next, inner.lines, made)?;
+        way.pop();
+    }
+    Ok(())
+}
+
+/// The expansion of the unit over these files.
+fn expanded(alloc: Global, files: &Files<'_>, unit: FileName) -> Result<Expanded, AllocError>
+    ensures { IfOk result (λ expanded. expanded ≡ expansion files.now.reads.now unit) }
+{
+    let mut made = Made::new(alloc, LINE_LIMIT);
+    made.names.push(unit)?;
+    if let Some(lines) = files.open_lines(unit) {
+        let opened = Opened {
+            file: unit,
+            left: INCLUSION_LIMIT,
+            raise: 0,
+        };
+        let mut way = Items::new(alloc);
+        way.push(unit)?;
+        add_file(alloc, files, &mut way, opened, lines, &mut made)?;
+    }
+    let reads = first_places(alloc, made.names.as_slice())?;
+    let Made {
+        lines,
+        uses,
+        faults,
+        ..
+    } = made;
+    Ok(Expanded::of(lines, reads, uses, faults))
+}
+
+/// The expansion of the unit over these files: one that is not among them counts as absent.
+pub fn expand_over(alloc: Global, reads: &Reads, unit: FileName) -> Result<Expanded, AllocError>
+    ensures { IfOk result (λ expanded. expanded ≡ expansion reads.now unit) }
+{
+    let files = Files::new(alloc, reads)?;
+    expanded(alloc, &files, unit)
+}
+
+/// The expansion of the unit, if each file that it looks up is among the reads; else the first that is not.
+pub fn expand(alloc: Global, reads: &Reads, unit: FileName) -> Result<Expanded, ExpandFault>
+    ensures found { IfOk result (λ expanded. expanded ≡ expansion reads.now unit) }
+    ensures given { IfOk result (λ expanded. not_given reads.now unit ≡ None) }
+    ensures missing { (name : List ℕ) → result ≡ Err (NotGiven name) → not_given reads.now unit ≡ Some name }
+{
+    let files = Files::new(alloc, reads)?;
+    let expanded = expanded(alloc, &files, unit)?;
+    match files.first_without(expanded.reads()) {
+        Some(name) => Err(ExpandFault::NotGiven(name)),
+        None => Ok(expanded),
+    }
+}

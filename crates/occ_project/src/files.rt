@@ -1,0 +1,89 @@
+ghost use Rattle.occ_project.specs.Entries.{included as what_is_included};
+ghost use Rattle.occ_project.specs.Expansion.{not_given};
+ghost use Rattle.occ_project.specs.Reads.{member as first_member, name_cmp, open_lines as lines_if_open, place};
+ghost use Rattle.std.specs.BTreeMap.{get};
+ghost use Rattle.std.specs.List.{find};
+ghost use Rattle.std.specs.Option.{is_some, option_copied};
+ghost use Rattle.std.specs.Prelude.{Err, IfOk, List, MatchResult, Ok, not, ℕ, ◌≡◌};
+
+use super::{Read, Reads};
+use occ_base::{Code, FileName};
+use occ_forms::SourceLine;
+use std::alloc::{AllocError, Global};
+use std::collections::BTreeMap;
+
+/// The files that an expansion may look up, by name.
+#[derive(Drop)]
+pub struct Files<'a> {
+    reads: &'a Reads,
+    places: BTreeMap<FileName, usize>,
+    ghost placed: { (name : List ℕ) → get name_cmp places name ≡ place name reads.now },
+}
+
+/// The place of the first member of each name.
+fn places(alloc: Global, reads: &[Read]) -> Result<BTreeMap<FileName, usize>, AllocError>
+    ensures { IfOk result (λ places. (name : List ℕ) → get name_cmp places name ≡ place name reads.now) }
+{
+    let mut places = BTreeMap::new(alloc);
+    for (i, read) in reads.iter().enumerate() {
+        if !places.contains_key(&read.name) {
+            places.insert(read.name, i)?;
+        }
+    }
+    Ok(places)
+}
+
+impl<'a> Files<'a> {
+    pub fn new(alloc: Global, reads: &'a Reads) -> Result<Files<'a>, AllocError>
+        ensures { IfOk result (λ files. files.reads.now ≡ reads.now) }
+    {
+        let places = places(alloc, reads.as_slice())?;
+        Ok(Files { reads, places })
+    }
+
+    /// The first member of that name.
+    fn member(&self, name: FileName) -> Option<&Read>
+        ensures { option_copied result ≡ first_member self.now.reads.now name }
+    {
+        let place = self.places.get(&name)?;
+        self.reads.get(*place)
+    }
+
+    /// The lines of the file of that name, if it is open.
+    pub fn open_lines(&self, name: FileName) -> Option<&[SourceLine]>
+        ensures { option_copied result ≡ lines_if_open self.now.reads.now name }
+    {
+        match &self.member(name)?.source {
+            Some(source) => Some(source.get().lines()),
+            None => None,
+        }
+    }
+
+    /// What stands in the place of an include of that file: its lines, or the fault for which nothing does.
+    pub fn included(
+        &self,
+        way: &[FileName],
+        left: u32,
+        name: FileName,
+    ) -> Result<&[SourceLine], Code>
+        ensures { MatchResult result (λ lines. what_is_included self.now.reads.now way.now left name ≡ Ok lines.now) (λ fault. what_is_included self.now.reads.now way.now left name ≡ Err fault) }
+    {
+        if way.contains(&name) {
+            return Err(Code::G5);
+        }
+        if left == 0 {
+            return Err(Code::G6);
+        }
+        self.open_lines(name).ok_or(Code::G4)
+    }
+
+    /// The first of the names that is none of a member.
+    pub fn first_without(&self, names: &[FileName]) -> Option<FileName>
+        ensures { result ≡ find (λ name. not (is_some (first_member self.now.reads.now name))) names.now }
+    {
+        names
+            .iter()
+            .copied()
+            .find(|name| self.member(*name).is_none())
+    }
+}

@@ -1,0 +1,141 @@
+ghost use Rattle.occ_project.specs.Expansion.{body_uses, fault_names, held_faults, limit_fault};
+ghost use Rattle.occ_project.specs.Making.{step};
+ghost use Rattle.occ_project.specs.declared.entry.Held.TheVariants as held;
+ghost use Rattle.std.specs.Prelude.{IfOk, OnOk, [], false, ◌∷◌, ◌≡◌, ◌++◌};
+
+use super::entry::{Entry, Held};
+use super::{ExpandedBody, ExpandedLine, UseLine};
+use occ_base::{Code, Diag, FileName, Grade, Items, Name};
+use std::alloc::{AllocError, Global};
+
+/// An expansion that is being made.
+#[derive(Drop)]
+pub struct Made {
+    pub lines: Items<ExpandedLine>,
+    pub uses: Items<UseLine>,
+    pub faults: Items<Diag>,
+    /// The names that were looked up.
+    pub names: Items<FileName>,
+    /// How many more entries may come.
+    pub room: usize,
+    /// An entry came for which there was no room.
+    pub is_over: bool,
+}
+
+/// Adds the `#USE` that a line is.
+fn add_use(
+    alloc: Global,
+    file: FileName,
+    line: u32,
+    body: &ExpandedBody,
+    uses: &mut Items<UseLine>,
+) -> Result<(), AllocError>
+    ensures { OnOk result (uses.new ≡ uses.old ++ body_uses file line body.now) }
+{
+    match body {
+        ExpandedBody::Uses(units) => {
+            let units = Items::from_slice(alloc, units.as_slice())?;
+            uses.push(UseLine { file, line, units })
+        }
+        ExpandedBody::Form(_) | ExpandedBody::Fault(_) => Ok(()),
+    }
+}
+
+/// Adds the name of an include, if its file was looked up.
+fn add_name(
+    name: FileName,
+    fault: Option<Code>,
+    names: &mut Items<FileName>,
+) -> Result<(), AllocError>
+    ensures { OnOk result (names.new ≡ names.old ++ fault_names name fault) }
+{
+    match fault {
+        Some(Code::G5 | Code::G6) => Ok(()),
+        _ => names.push(name),
+    }
+}
+
+/// Adds the fault of an include, if it has one.
+fn add_fault(
+    alloc: Global,
+    file: FileName,
+    line: u32,
+    name: FileName,
+    fault: Option<Code>,
+    faults: &mut Items<Diag>,
+) -> Result<(), AllocError>
+    ensures { OnOk result (faults.new ≡ faults.old ++ held_faults file line (held.Include name fault)) }
+{
+    match fault {
+        Some(code) => {
+            let name = Name::from_slice(alloc, name.as_bytes())?;
+            faults.push(Diag {
+                file,
+                line,
+                code,
+                grade: Grade::Error,
+                name: Some(name),
+            })
+        }
+        None => Ok(()),
+    }
+}
+
+/// The fault of the entry that is one too many.
+fn too_many(entry: &Entry) -> Diag
+    ensures { result ≡ limit_fault entry.now }
+{
+    Diag {
+        file: entry.file,
+        line: entry.line,
+        code: Code::G6,
+        grade: Grade::Error,
+        name: None,
+    }
+}
+
+impl Made {
+    /// Nothing yet, with room for so many entries.
+    pub fn new(alloc: Global, room: usize) -> Made
+        ensures { result ≡ record { lines = []; uses = []; faults = []; names = []; room = room; is_over = false } }
+    {
+        Made {
+            lines: Items::new(alloc),
+            uses: Items::new(alloc),
+            faults: Items::new(alloc),
+            names: Items::new(alloc),
+            room,
+            is_over: false,
+        }
+    }
+
+    /// Adds an entry, or ends the expansion before it if there is no room.
+    pub fn add(&mut self, alloc: Global, entry: Entry) -> Result<(), AllocError>
+        ensures { OnOk result (self.new ≡ step self.old entry) }
+    {
+        if self.is_over {
+            return Ok(());
+        }
+        if self.room == 0 {
+            self.is_over = true;
+            return self.faults.push(too_many(&entry));
+        }
+        self.room -= 1;
+        let Entry { file, line, held } = entry;
+        match held {
+            Held::Line(depth, body) => {
+                add_use(alloc, file, line, &body, &mut self.uses)?;
+                self.lines.push(ExpandedLine {
+                    file,
+                    line,
+                    depth,
+                    body,
+                })
+            }
+            Held::Include(name, fault) => {
+                add_name(name, fault, &mut self.names)?;
+                add_fault(alloc, file, line, name, fault, &mut self.faults)
+            }
+        }
+    }
+}
