@@ -5,7 +5,7 @@ ghost use Rattle.occ_base.specs.declared.diag.Diag.{Diag};
 ghost use Rattle.occ_first.specs.Order.{in_order};
 ghost use Rattle.std.specs.Prelude.{◌≡◌, [], ◌∷◌, List, None, Some, codes};
 ghost use Rattle.occ_first.specs.Nesting.{under};
-ghost use Rattle.occ_first.specs.Samples.{close_at, head_at, int_at, process_at, seq_at, skip_at, variable_to};
+ghost use Rattle.occ_first.specs.Samples.{close_at, head_at, int_at, seq_at, skip_at, variable_to};
 ghost use Rattle.occ_first.specs.Scope.{rest_of_item, visible};
 
 /// The lines under a line of depth 1 end before the first that is no deeper.
