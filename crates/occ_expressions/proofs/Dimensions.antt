@@ -125,7 +125,7 @@ none_operand : (b : Begin) → BeginsNone b → is_operand_begin b ≡ false
 none_operand b (inl q) = ap is_operand_begin q
 none_operand b (inr q) = ap is_operand_begin q
 
-run_no_operand : (k : List Token) → IsEndOfRun k → is_operand_begin (begin_of k) ≡ false
+pub run_no_operand : (k : List Token) → IsEndOfRun k → is_operand_begin (begin_of k) ≡ false
 run_no_operand k ends = none_operand (begin_of k) (after_begins k (end_after k ends))
 
 ends_array : (behind : Behind) (b : Builtin) (k : List Token) → EndsBuiltin behind b k → EndsArray behind k

@@ -1,5 +1,5 @@
 -- An expression that begins with `[]` is a conversion, so `::` and it never go on with the type of a channel.
-use Rattle.std.proofs.Common.{◌≡◌, ◌∙◌, refl, sym, ap, true, List, ◌∷◌, None}
+use Rattle.std.proofs.Common.{◌≡◌, ◌∙◌, refl, sym, ap, true, false, List, ◌∷◌, None}
 use Rattle.occ_lines.specs.declared.token.Symbol.TheVariants as s
 use Rattle.occ_lines.specs.declared.token.Token.{Token}
 use Rattle.occ_lines.specs.declared.token.Token.TheVariants as t
@@ -12,18 +12,21 @@ use Rattle.occ_expressions.specs.declared.tree.DataForm.{DataForm}
 use Rattle.occ_expressions.specs.declared.tree.Dimension.{Dimension}
 use Rattle.occ_expressions.specs.declared.tree.Dimension.TheVariants as dv
 use Rattle.occ_expressions.specs.declared.tree.Expr.{Expr}
+use Rattle.occ_expressions.specs.declared.tree.Expr.TheVariants as xv
+use Rattle.occ_expressions.specs.declared.tree.Extreme.{Extreme}
 use Rattle.occ_expressions.specs.declared.tree.Operand.{Operand}
 use Rattle.occ_expressions.specs.declared.tree.TypeForm.{TypeForm}
+use Rattle.occ_expressions.specs.declared.tree.TypeForm.TheVariants as tv
 use Rattle.occ_expressions.specs.Parts.{primitive_of}
-use Rattle.occ_expressions.specs.Reading.{begin_of, is_operand_begin}
+use Rattle.occ_expressions.specs.Reading.{IsEndOfRun, begin_of, is_operand_begin}
 use Rattle.occ_expressions.specs.Spelling.{builtin_then, data_base_token, data_form_then, dimension_then, expr_then, many, operand_then}
 use Rattle.occ_expressions.specs.TypeEnds.{EndsChannel, EndsMost}
 use Rattle.occ_expressions.proofs.Begins.{no_expr}
 use Rattle.occ_expressions.proofs.Bracketing.{BehindBracket, BehindDimension, behind_bracket_at, behind_open, behind_operand, behind_sized, dimension_of_builtin, dimension_of_name}
-use Rattle.occ_expressions.proofs.Dimensions.{base_ends, base_word, builtin_ends}
+use Rattle.occ_expressions.proofs.Dimensions.{base_ends, base_word, builtin_ends, run_no_operand}
 use Rattle.occ_expressions.proofs.Operands.{OperandAt, at_bracket, at_call, at_decorated, at_element, at_literal, at_parens, at_truth, operand_at}
-use Rattle.occ_expressions.proofs.UniqueExprs.{one_data_form, one_dimensions_of}
-use Rattle.occ_expressions.proofs.UniqueTypes.{BuiltinAt, at_channel, at_primitive, at_timer, builtin_at, chan_first}
+use Rattle.occ_expressions.proofs.UniqueExprs.{one_data_form, one_dimensions_of, one_run}
+use Rattle.occ_expressions.proofs.UniqueTypes.{BuiltinAt, TypeApart, at_channel, at_primitive, at_timer, builtin_at, chan_first}
 
 -- an operand begins as one
 operand_class : (o : Operand) (k : List Token) → is_operand_begin (begin_of (operand_then o k)) ≡ true
@@ -72,3 +75,13 @@ channel_ends z k form l e =
 -- `::` and an expression may follow the type of MOSTPOS or MOSTNEG
 pub array_ends : (z : Expr) (k : List Token) (type : TypeForm) → EndsMost type (t.Symbol s.Counted ∷ expr_then z k)
 array_ends z k type es words ds base is = channel_ends z k
+
+-- behind it no `::[]` and a type lead to where a run ends
+ends_apart : (type : TypeForm) (j k : List Token) → EndsMost type j → IsEndOfRun k → TypeApart type j k
+ends_apart type j k ends run ds b p c es base q form e =
+    let h : true ≡ false = sym (ends ds c es base (p ∙ ap (λ (z : Builtin). tv.Builtin ds z) q) form k e) ∙ run_no_operand k run in absurd cc
+
+-- an expression that stands before the end of a run is read in one way
+pub one_counting : (x y : Expr) (j k : List Token) → IsEndOfRun j → IsEndOfRun k → ((m : Extreme) (type : TypeForm) → x ≡ xv.Most m type → EndsMost type j) → ((m : Extreme) (type : TypeForm) → y ≡ xv.Most m type → EndsMost type k)
+    → expr_then x j ≡ expr_then y k → (x ≡ y) × (j ≡ k)
+one_counting x y j k a b ends also e = one_run x y j k a b (λ m type p. ends_apart type j k (ends m type p) b) (λ m type p. ends_apart type k j (also m type p) a) e

@@ -45,7 +45,7 @@ use Rattle.occ_expressions.proofs.Operands.{OperandAt, at_bracket, at_call, at_e
 use Rattle.occ_expressions.proofs.Tailed.{cut, dyadic_no_end, end_after, nothing_only, operator_within, pair_only, run_no_end_at, run_only, tail_after}
 use Rattle.occ_expressions.proofs.Unique.{Below, ExprBelow, behind_below, fewer, left_below, list_grows, one_behind, one_many}
 use Rattle.occ_expressions.proofs.UniqueOperands.{arguments_first, one_element_below, one_named_operand_below, one_operand_below, operand_first, same_name, wide}
-use Rattle.occ_expressions.proofs.UniqueTypes.{BuiltinAt, at_channel, at_primitive, at_timer, builtin_at, chan_first, one_builtin_below, one_data_form_below, one_dimension, one_dimensions, one_type_form_below}
+use Rattle.occ_expressions.proofs.UniqueTypes.{BuiltinAt, TypeApart, at_channel, at_primitive, at_timer, builtin_at, chan_first, one_builtin_below, one_data_form_below, one_dimension, one_dimensions, one_type_apart, one_type_form_below, plain_type}
 
 -- what ends an expression ends a run, and is not counted
 parts : (a b : Bool) → (a && not b) ≡ true → (a ≡ true) × (b ≡ false)
@@ -250,15 +250,23 @@ same_first : (d c : Dimension) (ds cs : List Dimension) → d ∷ ds ≡ c ∷ c
 same_first d c ds cs e = (cc, cc)
 
 -- the step of the induction
-one_expr_step : (n : ℕ) → ExprBelow n → ExprBelow (n + 1)
-one_expr_step n one tokens less x y j k a b e f = by (begin_of tokens) refl (expr_at x j tokens (begin_of tokens) e refl) (expr_at y k tokens (begin_of tokens) f refl) where
+-- `::[]` and a type do not lead from the one to the other where MOSTPOS or MOSTNEG of a type could go on
+abbrev pub MostApart : Expr → List Token → List Token → Type 0
+MostApart e j k = (x : Extreme) (type : TypeForm) → e ≡ xv.Most x type → TypeApart type j k
+
+plain_most : (e : Expr) (j k : List Token) → IsNotCounted j → MostApart e j k
+plain_most e j k none x type p = plain_type type j k none
+
+one_expr_apart : (n : ℕ) → ExprBelow n → (tokens : List Token) → length tokens < n + 1 → (x y : Expr) (j k : List Token) → IsEndOfRun j → IsEndOfRun k → MostApart x j k → MostApart y k j
+    → tokens ≡ expr_then x j → tokens ≡ expr_then y k → (x ≡ y) × (j ≡ k)
+one_expr_apart n one tokens less x y j k a b xa ya e f = by (begin_of tokens) refl (expr_at x j tokens (begin_of tokens) e refl) (expr_at y k tokens (begin_of tokens) f refl) where
   one_operand : (o p : Operand) → length (operand_then o j) < n + 1 → operand_then o j ≡ operand_then p k → (o ≡ p) × (j ≡ k)
-  one_operand o p short i = one_operand_below n one (operand_then o j) short o p j k (end_of_operand j a) (end_of_operand k b) refl i
+  one_operand o p short i = one_operand_below n one (operand_then o j) short o p j k (end_after j a) (end_after k b) refl i
 
   operated : (o p : Operand) (u v : Tail) → x ≡ joined o u → y ≡ joined p v → tokens ≡ operand_then o (tail_then u j) → tokens ≡ operand_then p (tail_then v k) → (x ≡ y) × (j ≡ k)
   operated o p u v q r i l =
-      let h = one_operand_below n one tokens less o p (tail_then u j) (tail_then v k) (tail_after u j (end_of_run j a)) (tail_after v k (end_of_run k b)) i l in
-      let m = one_tail n one (tail_then u j) (left_below (operand_then o) tokens (tail_then u j) (n + 1) (inner_operand o) less i) u v j k (end_of_run j a) (end_of_run k b) refl h.1 in
+      let h = one_operand_below n one tokens less o p (tail_then u j) (tail_then v k) (tail_after u j a) (tail_after v k b) i l in
+      let m = one_tail n one (tail_then u j) (left_below (operand_then o) tokens (tail_then u j) (n + 1) (inner_operand o) less i) u v j k a b refl h.1 in
       (q ∙ ap (λ (z : Operand). joined z u) h.0 ∙ ap (λ (z : Tail). joined p z) m.0 ∙ sym r, m.1)
 
   converted : (ds cs : List Dimension) (u v : Builtin) (o p : Operand) → x ≡ xv.Converted ds u o → y ≡ xv.Converted cs v p
@@ -286,7 +294,7 @@ one_expr_step n one tokens less x y j k a b e f = by (begin_of tokens) refl (exp
   by_extreme is (at_most z type q r) (at_operated p u i l) = absurd (no_operand tokens be.Extreme is refl p _ l)
   by_extreme is (at_most z type q r) (at_most v other i l) =
       let c = cut _ _ _ _ (sym r ∙ l) in
-      let m = one_type_form_below n one (type_form_then type j) (omega (arith, behind_below _ tokens (type_form_then type j) n less r)) type other j k (end_no_count j a) (end_no_count k b) refl c.1 in
+      let m = one_type_apart n one (type_form_then type j) (omega (arith, behind_below _ tokens (type_form_then type j) n less r)) type other j k (xa z type q) (ya v other i) refl c.1 in
       (q ∙ ap (λ (g : Extreme). xv.Most g type) (same_extreme z v c.0) ∙ ap (λ (g : TypeForm). xv.Most v g) m.0 ∙ sym i, m.1)
 
   by_builtin : begin_of tokens ≡ be.Builtin → ExprAt tokens j x be.Builtin → ExprAt tokens k y be.Builtin → (x ≡ y) × (j ≡ k)
@@ -296,25 +304,25 @@ one_expr_step n one tokens less x y j k a b e f = by (begin_of tokens) refl (exp
 
   by_name : ExprAt tokens j x be.Name → ExprAt tokens k y be.Name → (x ≡ y) × (j ≡ k)
   by_name (at_operated o u q r) (at_operated p v i l) = operated o p u v q i r l
-  by_name (at_operated o u q r) (at_named m v i l) = absurd (no_named_first n one tokens less o m v (tail_then u j) k (tail_after u j (end_of_run j a)) r l)
-  by_name (at_named m v i l) (at_operated o u q r) = absurd (no_named_first n one tokens less o m v (tail_then u k) j (tail_after u k (end_of_run k b)) r l)
+  by_name (at_operated o u q r) (at_named m v i l) = absurd (no_named_first n one tokens less o m v (tail_then u j) k (tail_after u j a) r l)
+  by_name (at_named m v i l) (at_operated o u q r) = absurd (no_named_first n one tokens less o m v (tail_then u k) j (tail_after u k b) r l)
   by_name (at_named m v q r) (at_named o u i l) =
       let c = cut _ _ _ _ (sym r ∙ l) in
-      let h = one_named_operand_below n one (named_operand_then v j) (omega (arith, behind_below _ tokens (named_operand_then v j) n less r)) v u j k (end_of_operand j a) (end_of_operand k b) refl c.1 in
+      let h = one_named_operand_below n one (named_operand_then v j) (omega (arith, behind_below _ tokens (named_operand_then v j) n less r)) v u j k (end_after j a) (end_after k b) refl c.1 in
       (q ∙ ap (λ (z : List ℕ). xv.Named z v) (same_name m o c.0) ∙ ap (λ (z : NamedOperand). xv.Named o z) h.0 ∙ sym i, h.1)
 
   by_bracket : ExprAt tokens j x be.Bracket → ExprAt tokens k y be.Bracket → (x ≡ y) × (j ≡ k)
   by_bracket (at_operated o u q r) (at_operated p v i l) = operated o p u v q i r l
   by_bracket (at_operated o u q r) (at_converted d ds c p i l) =
-      absurd (no_dimension_first n one tokens less o d (tail_then u j) _ (tail_after u j (end_of_run j a)) (behind_dimension ds (builtin_then c (operand_then p k)) (builtin_begin c (operand_then p k)).1) r l)
+      absurd (no_dimension_first n one tokens less o d (tail_then u j) _ (tail_after u j a) (behind_dimension ds (builtin_then c (operand_then p k)) (builtin_begin c (operand_then p k)).1) r l)
   by_bracket (at_operated o u q r) (at_array d ds m p i l) =
-      absurd (no_dimension_first n one tokens less o d (tail_then u j) _ (tail_after u j (end_of_run j a)) (behind_dimension ds (t.Name m ∷ operand_then p k) (name_begin m (operand_then p k))) r l)
+      absurd (no_dimension_first n one tokens less o d (tail_then u j) _ (tail_after u j a) (behind_dimension ds (t.Name m ∷ operand_then p k) (name_begin m (operand_then p k))) r l)
   by_bracket (at_converted d ds c p i l) (at_operated o u q r) =
-      absurd (no_dimension_first n one tokens less o d (tail_then u k) _ (tail_after u k (end_of_run k b)) (behind_dimension ds (builtin_then c (operand_then p j)) (builtin_begin c (operand_then p j)).1) r l)
+      absurd (no_dimension_first n one tokens less o d (tail_then u k) _ (tail_after u k b) (behind_dimension ds (builtin_then c (operand_then p j)) (builtin_begin c (operand_then p j)).1) r l)
   by_bracket (at_converted d ds u o q r) (at_converted c cs v p i l) = converted (d ∷ ds) (c ∷ cs) u v o p q i r l
   by_bracket (at_converted d ds u o q r) (at_array c cs m p i l) = converted_array (d ∷ ds) (c ∷ cs) u m _ _ r l
   by_bracket (at_array d ds m p i l) (at_operated o u q r) =
-      absurd (no_dimension_first n one tokens less o d (tail_then u k) _ (tail_after u k (end_of_run k b)) (behind_dimension ds (t.Name m ∷ operand_then p j) (name_begin m (operand_then p j))) r l)
+      absurd (no_dimension_first n one tokens less o d (tail_then u k) _ (tail_after u k b) (behind_dimension ds (t.Name m ∷ operand_then p j) (name_begin m (operand_then p j))) r l)
   by_bracket (at_array d ds m p i l) (at_converted c cs u o q r) = converted_array (c ∷ cs) (d ∷ ds) u m _ _ r l
   by_bracket (at_array d ds m o q r) (at_array c cs g p i l) =
       let h = one_dimensions n one tokens less (d ∷ ds) (c ∷ cs) _ _ (name_ends m (operand_then o j)) (name_ends g (operand_then p k)) r l in
@@ -343,6 +351,10 @@ one_expr_step n one tokens less x y j k a b e f = by (begin_of tokens) refl (exp
   by be.Parens is u v = by_parens u v
   by be.Value is u v = by_value u v
 
+one_expr_step : (n : ℕ) → ExprBelow n → ExprBelow (n + 1)
+one_expr_step n one tokens less x y j k a b e f =
+    one_expr_apart n one tokens less x y j k (end_of_run j a) (end_of_run k b) (plain_most x j k (end_no_count j a)) (plain_most y k j (end_no_count k b)) e f
+
 expr_below : (n : ℕ) → ExprBelow n
 expr_below zero tokens less = absurd (omega (arith, less))
 expr_below (suc n) tokens less = one_expr_step n (expr_below n) tokens (omega (arith, less))
@@ -355,6 +367,10 @@ always spells Ends one x y j k a b e = let n = length (spells x j) in one n (exp
 -- an expression is read in one way, and so is each of its parts
 pub one_expr : (a b : Expr) (j k : List Token) → IsEnd j → IsEnd k → expr_then a j ≡ expr_then b k → (a ≡ b) × (j ≡ k)
 one_expr = always expr_then IsEnd one_expr_step
+
+-- where the end of a run follows, too
+pub one_run : (x y : Expr) (j k : List Token) → IsEndOfRun j → IsEndOfRun k → MostApart x j k → MostApart y k j → expr_then x j ≡ expr_then y k → (x ≡ y) × (j ≡ k)
+one_run x y j k a b xa ya e = let n = length (expr_then x j) in one_expr_apart n (expr_below n) (expr_then x j) (omega arith) x y j k a b xa ya refl e
 
 pub one_operand : (a b : Operand) (j k : List Token) → IsAfter j → IsAfter k → operand_then a j ≡ operand_then b k → (a ≡ b) × (j ≡ k)
 one_operand = always operand_then IsAfter one_operand_below

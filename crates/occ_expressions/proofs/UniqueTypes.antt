@@ -85,18 +85,30 @@ carrying c (counted form other) = uv.Counted c form.dimensions form.base other.d
 no_any : {Z : Type 0} (form : DataForm) (tokens j k : List Token) → tokens ≡ t.Word w.Any ∷ j → tokens ≡ data_form_then form k → Z
 no_any form tokens j k e f = absurd (data_word form.dimensions form.base k w.Any j refl (sym f ∙ e))
 
-no_count : {Z : Type 0} (j k : List Token) → IsNotCounted j → j ≡ counted_array k → Z
+no_count : (j k : List Token) → IsNotCounted j → j ≡ counted_array k → ⊥
 no_count j k none e = let h : true ≡ false = sym (ap is_counted e) ∙ none in absurd cc
 
-one_carried : (n : ℕ) → ExprBelow n → Below carried_then IsNotCounted (n + 1)
+-- `::[]` and a type do not lead from the one to the other
+abbrev pub Apart : List Token → List Token → Type 0
+Apart j k = (form : DataForm) → j ≡ counted_array (data_form_then form k) → ⊥
+
+pub plain_apart : (j k : List Token) → IsNotCounted j → Apart j k
+plain_apart j k none form e = no_count j _ none e
+
+-- so where what a channel carries could go on
+abbrev CarriedApart : Carried → List Token → List Token → Type 0
+CarriedApart x j k = (form : DataForm) → x ≡ plain form → Apart j k
+
+one_carried : (n : ℕ) → ExprBelow n → (tokens : List Token) → length tokens < n + 1 → (x y : Carried) (j k : List Token) → CarriedApart x j k → CarriedApart y k j
+    → tokens ≡ carried_then x j → tokens ≡ carried_then y k → (x ≡ y) × (j ≡ k)
 one_carried n one tokens less anything anything j k a b e f = (refl, (cut _ _ _ _ (sym e ∙ f)).1)
 one_carried n one tokens less anything (plain form) j k a b e f = no_any form tokens _ _ e f
 one_carried n one tokens less anything (counted form other) j k a b e f = no_any form tokens _ _ e f
 one_carried n one tokens less (plain form) anything j k a b e f = no_any form tokens _ _ f e
 one_carried n one tokens less (counted form other) anything j k a b e f = no_any form tokens _ _ f e
 one_carried n one tokens less (plain form) (plain same) j k a b e f = let h = one_data_form_below n one tokens less form same j k tt tt e f in (ap (λ (z : DataForm). plain z) h.0, h.1)
-one_carried n one tokens less (plain form) (counted same other) j k a b e f = let h = one_data_form_below n one tokens less form same j _ tt tt e f in no_count j _ a h.1
-one_carried n one tokens less (counted form other) (plain same) j k a b e f = let h = one_data_form_below n one tokens less form same _ k tt tt e f in no_count k _ b (sym h.1)
+one_carried n one tokens less (plain form) (counted same other) j k a b e f = let h = one_data_form_below n one tokens less form same j _ tt tt e f in absurd (a form refl other h.1)
+one_carried n one tokens less (counted form other) (plain same) j k a b e f = let h = one_data_form_below n one tokens less form same _ k tt tt e f in absurd (b same refl other (sym h.1))
 one_carried n one tokens less (counted form other) (counted same equal) j k a b e f =
     let h = one_data_form_below n one tokens less form same _ _ tt tt e f in
     let c = cut _ _ _ _ (cut _ _ _ _ (cut _ _ _ _ h.1).1).1 in
@@ -151,8 +163,16 @@ words_first : (c : ChannelWords) (k : List Token) → length k < length (channel
 words_first ch.Chan k = omega arith
 words_first ch.ChanOf k = omega arith
 
-pub one_builtin_below : (n : ℕ) → ExprBelow n → Below builtin_then IsNotCounted (n + 1)
-one_builtin_below n one tokens less x y j k a b e f = by (builtin_at x j tokens e) (builtin_at y k tokens f) where
+-- so where a type of a reserved word could
+abbrev pub BuiltinApart : Builtin → List Token → List Token → Type 0
+BuiltinApart b j k = (c : ChannelWords) (ds : List Dimension) (base : DataBase) → b ≡ uv.Channel c ds base → Apart j k
+
+one_builtin_apart : (n : ℕ) → ExprBelow n → (tokens : List Token) → length tokens < n + 1 → (x y : Builtin) (j k : List Token) → BuiltinApart x j k → BuiltinApart y k j
+    → tokens ≡ builtin_then x j → tokens ≡ builtin_then y k → (x ≡ y) × (j ≡ k)
+one_builtin_apart n one tokens less x y j k a b e f = by (builtin_at x j tokens e) (builtin_at y k tokens f) where
+  carried : (g : Builtin) (c : ChannelWords) (z : Carried) (i l : List Token) → BuiltinApart g i l → g ≡ carrying c z → CarriedApart z i l
+  carried g c z i l apart p form q = apart c form.dimensions form.base (p ∙ ap (λ (v : Carried). carrying c v) q)
+
   by : BuiltinAt tokens j x → BuiltinAt tokens k y → (x ≡ y) × (j ≡ k)
   by (at_primitive p q r) (at_primitive o u v) =
       let c = cut _ _ _ _ (sym r ∙ v) in
@@ -169,11 +189,19 @@ one_builtin_below n one tokens less x y j k a b e f = by (builtin_at x j tokens 
   by (at_channel c i q r) (at_channel d z u v) =
       let h = one_words c d _ _ (no_of i j) (no_of z k) (sym r ∙ v) in
       let short : length (carried_then i j) < n + 1 = omega (arith, less, ap length r, words_first c (carried_then i j)) in
-      let m = one_carried n one (carried_then i j) short i z j k a b refl h.1 in
+      let m = one_carried n one (carried_then i j) short i z j k (carried x c i j k a q) (carried y d z k j b u) refl h.1 in
       (q ∙ ap (λ (l : ChannelWords). carrying l i) h.0 ∙ ap (λ (l : Carried). carrying d l) m.0 ∙ sym u, m.1)
 
-pub one_type_form_below : (n : ℕ) → ExprBelow n → Below type_form_then IsNotCounted (n + 1)
-one_type_form_below n one tokens less x y j k a b e f = by (type_form_is x) (type_form_is y) where
+pub one_builtin_below : (n : ℕ) → ExprBelow n → Below builtin_then IsNotCounted (n + 1)
+one_builtin_below n one tokens less x y j k a b e f = one_builtin_apart n one tokens less x y j k (λ c ds base p. plain_apart j k a) (λ c ds base p. plain_apart k j b) e f
+
+-- so where a type could
+abbrev pub TypeApart : TypeForm → List Token → List Token → Type 0
+TypeApart type j k = (ds : List Dimension) (b : Builtin) → type ≡ tv.Builtin ds b → BuiltinApart b j k
+
+pub one_type_apart : (n : ℕ) → ExprBelow n → (tokens : List Token) → length tokens < n + 1 → (x y : TypeForm) (j k : List Token) → TypeApart x j k → TypeApart y k j
+    → tokens ≡ type_form_then x j → tokens ≡ type_form_then y k → (x ≡ y) × (j ≡ k)
+one_type_apart n one tokens less x y j k a b e f = by (type_form_is x) (type_form_is y) where
   spelled : (z v : TypeForm) (i read : List Token) → tokens ≡ type_form_then z i → z ≡ v → type_form_then v i ≡ read → tokens ≡ read
   spelled z v i read p q r = p ∙ ap (λ (u : TypeForm). type_form_then u i) q ∙ r
 
@@ -192,8 +220,14 @@ one_type_form_below n one tokens less x y j k a b e f = by (type_form_is x) (typ
   by (type_form_is_builtin ds c p) (type_form_is_builtin es d q) =
       let r = spelled x _ j _ e p (type_form_builtin_spells ds c j) in
       let h = one_dimensions n one tokens less ds es _ _ (builtin_ends c j) (builtin_ends d k) r (spelled y _ k _ f q (type_form_builtin_spells es d k)) in
-      let m = one_builtin_below n one (builtin_then c j) (omega (arith, less, ap length r, list_grows dimension_then inner_dimension ds (builtin_then c j))) c d j k a b refl h.1 in
+      let m = one_builtin_apart n one (builtin_then c j) (omega (arith, less, ap length r, list_grows dimension_then inner_dimension ds (builtin_then c j))) c d j k (a ds c p) (b es d q) refl h.1 in
       (p ∙ ap (λ (z : List Dimension). tv.Builtin z c) h.0 ∙ ap (λ (z : Builtin). tv.Builtin es z) m.0 ∙ sym q, m.1)
+
+pub plain_type : (type : TypeForm) (j k : List Token) → IsNotCounted j → TypeApart type j k
+plain_type type j k none ds b p c es base q = plain_apart j k none
+
+pub one_type_form_below : (n : ℕ) → ExprBelow n → Below type_form_then IsNotCounted (n + 1)
+one_type_form_below n one tokens less x y j k a b e f = one_type_apart n one tokens less x y j k (plain_type x j k a) (plain_type y k j b) e f
 
 -- a type in brackets
 pub one_decoration : (n : ℕ) → ExprBelow n → Below decoration_of Anything (n + 1)

@@ -12,6 +12,7 @@ ghost use Rattle.occ_lines.specs.declared.token.Token.{Token as AToken};
 ghost use Rattle.std.specs.Prelude.{IfOk, IfSome, List, MatchOption, None, Some, length, ℕ, ◌∷◌, ◌≡◌, ◌≤◌, ◌<◌};
 
 use super::bracket::Closing;
+use super::list::joined;
 use super::operand::{bracket_operand, narrow, operand};
 use super::token_reader::name;
 use super::types::{Behind, builtin, dimensions};
@@ -41,20 +42,6 @@ pub fn converted<'a, F: Fn(Global, &[Token]) -> Result<Option<(Expr, &[Token])>,
     let form = Boxed::new(alloc, form)?;
     let operand = Boxed::new(alloc, operand)?;
     Ok(Some((Expr::Converted(dimensions, form, operand), rest)))
-}
-
-/// The list of the first dimension and those behind it.
-fn with_first(
-    alloc: Global,
-    first: Dimension,
-    more: Items<Dimension>,
-) -> Result<Items<Dimension>, AllocError>
-    ensures { IfOk result (λ all. all ≡ first ∷ more) }
-{
-    let mut all = Items::new(alloc);
-    all.push(first)?;
-    all.append(more)?;
-    Ok(all)
 }
 
 /// A conversion to a named type behind its dimensions, which are read, as its name is.
@@ -99,7 +86,7 @@ pub fn behind_dimension<
         return Ok(None);
     };
     let Some((name, behind)) = name(alloc, rest)? else {
-        return converted(alloc, with_first(alloc, first, more)?, rest, inner);
+        return converted(alloc, joined(alloc, first, more)?, rest, inner);
     };
     array_converted(alloc, first, more, name, behind, inner)
 }

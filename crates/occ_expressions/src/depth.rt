@@ -83,7 +83,7 @@ pub fn expr_has_many_dimensions(expr: &Expr) -> bool
 
 /// The same of each expression of a list.
 #[cycle(depth)]
-pub fn exprs_have_many_dimensions(exprs: &[Expr]) -> bool
+fn exprs_have_many_dimensions(exprs: &[Expr]) -> bool
     ensures { IsTrue result ↔ (64 < greatest (map expr_dimensions exprs.now)) }
 {
     for expr in exprs {
@@ -167,18 +167,6 @@ pub fn element_has_many_dimensions(element: &Element) -> bool
     }
 }
 
-/// The same of each element of a list.
-pub fn elements_have_many_dimensions(elements: &[Element]) -> bool
-    ensures { IsTrue result ↔ (64 < greatest (map element_dimensions elements.now)) }
-{
-    for element in elements {
-        if element_has_many_dimensions(element) {
-            return true;
-        }
-    }
-    false
-}
-
 /// The same of the bounds of a segment.
 #[cycle(depth)]
 fn bounds_have_many_dimensions(bounds: &Bounds) -> bool
@@ -207,7 +195,7 @@ pub fn type_form_has_many_dimensions(of: &TypeForm) -> bool
 
 /// The same of a type that begins with a reserved word.
 #[cycle(depth)]
-pub fn builtin_has_many_dimensions(builtin: &Builtin) -> bool
+fn builtin_has_many_dimensions(builtin: &Builtin) -> bool
     ensures { IsTrue result ↔ (64 < builtin_dimensions builtin.now) }
 {
     match builtin {
@@ -244,7 +232,7 @@ fn sizes_have_many_dimensions(dimensions: &[Dimension]) -> bool
 
 /// The same of the size of a dimension.
 #[cycle(depth)]
-pub fn dimension_has_many_dimensions(dimension: &Dimension) -> bool
+fn dimension_has_many_dimensions(dimension: &Dimension) -> bool
     ensures { IsTrue result ↔ (64 < dimension_dimensions dimension.now) }
 {
     match dimension {
@@ -279,28 +267,4 @@ pub fn prefixed_has_many_dimensions(dimensions: &[Dimension], builtin: &Builtin)
     ensures { IsTrue result ↔ ((64 < dimensions_of_type dimensions.now) ⊎ (64 < builtin_dimensions builtin.now)) }
 {
     are_many_dimensions(dimensions) || builtin_has_many_dimensions(builtin)
-}
-
-/// The same of each data type of a list.
-pub fn data_forms_have_many_dimensions(forms: &[DataForm]) -> bool
-    ensures { IsTrue result ↔ (64 < greatest (map data_form_dimensions forms.now)) }
-{
-    for form in forms {
-        if data_form_has_many_dimensions(form) {
-            return true;
-        }
-    }
-    false
-}
-
-/// The same of each type of a list.
-pub fn type_forms_have_many_dimensions(types: &[TypeForm]) -> bool
-    ensures { IsTrue result ↔ (64 < greatest (map type_form_dimensions types.now)) }
-{
-    for of in types {
-        if type_form_has_many_dimensions(of) {
-            return true;
-        }
-    }
-    false
 }

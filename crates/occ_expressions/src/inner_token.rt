@@ -4,7 +4,7 @@ ghost use Rattle.std.specs.Prelude.{MatchOption, None, Some, ◌≡◌};
 use occ_lines::{Symbol, Token, Word};
 
 /// Whether the token may stand in an expression or a type.
-pub fn is_inner(token: &Token) -> bool
+fn is_inner(token: &Token) -> bool
     ensures { result ≡ is_an_inner token.now }
 {
     match token {

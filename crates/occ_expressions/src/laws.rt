@@ -1,12 +1,14 @@
 ghost use Rattle.occ_expressions.specs.Marks.{first_mark};
-ghost use Rattle.occ_expressions.specs.Reading.{IsAfter, IsEnd, IsNotCounted};
+ghost use Rattle.occ_expressions.specs.Reading.{IsAfter, IsEnd, IsEndOfRun, IsNotCounted};
 ghost use Rattle.occ_expressions.specs.Spelling.{builtin_then, data_form_then, dimension_then, element_then, expr_then, many, operand_then, type_form_then};
 ghost use Rattle.occ_expressions.specs.TypeEnds.{EndsMost};
 ghost use Rattle.occ_expressions.specs.declared.tree.Builtin.{Builtin as ABuiltin};
 ghost use Rattle.occ_expressions.specs.declared.tree.DataForm.{DataForm as ADataForm};
 ghost use Rattle.occ_expressions.specs.declared.tree.Dimension.{Dimension as ADimension};
 ghost use Rattle.occ_expressions.specs.declared.tree.Element.{Element as AnElement};
+ghost use Rattle.occ_expressions.specs.declared.tree.Expr.TheVariants as x;
 ghost use Rattle.occ_expressions.specs.declared.tree.Expr.{Expr as AnExpr};
+ghost use Rattle.occ_expressions.specs.declared.tree.Extreme.{Extreme as AnExtreme};
 ghost use Rattle.occ_expressions.specs.declared.tree.Operand.{Operand as AnOperand};
 ghost use Rattle.occ_expressions.specs.declared.tree.TypeForm.{TypeForm as AType};
 ghost use Rattle.occ_lines.specs.declared.token.Symbol.TheVariants as s;
@@ -36,9 +38,11 @@ pub fn one_tree_law()
 {}
 
 /// The same where more follows: what follows is the same too. Behind an expression stands nothing that goes on with one,
-/// behind an operand or an element at most an operator, and behind a type no `::[]`.
+/// behind an operand or an element at most an operator, and behind a type no `::[]`. An expression that counts may
+/// stand before `::`, even where `[]` follows.
 pub fn one_reading_law()
     ensures expressions { (a : AnExpr) (b : AnExpr) (j : List AToken) (k : List AToken) → IsEnd j → IsEnd k → expr_then a j ≡ expr_then b k → (a ≡ b) × (j ≡ k) }
+    ensures counts { (a : AnExpr) (b : AnExpr) (j : List AToken) (k : List AToken) → IsEndOfRun j → IsEndOfRun k → ((m : AnExtreme) (type : AType) → a ≡ x.Most m type → EndsMost type j) → ((m : AnExtreme) (type : AType) → b ≡ x.Most m type → EndsMost type k) → expr_then a j ≡ expr_then b k → (a ≡ b) × (j ≡ k) }
     ensures operands { (a : AnOperand) (b : AnOperand) (j : List AToken) (k : List AToken) → IsAfter j → IsAfter k → operand_then a j ≡ operand_then b k → (a ≡ b) × (j ≡ k) }
     ensures elements { (a : AnElement) (b : AnElement) (j : List AToken) (k : List AToken) → IsAfter j → IsAfter k → element_then a j ≡ element_then b k → (a ≡ b) × (j ≡ k) }
     ensures types { (a : AType) (b : AType) (j : List AToken) (k : List AToken) → IsNotCounted j → IsNotCounted k → type_form_then a j ≡ type_form_then b k → (a ≡ b) × (j ≡ k) }

@@ -29,11 +29,11 @@ pub use depth::{
     element_has_many_dimensions, expr_has_many_dimensions, opens_too_many,
     prefixed_has_many_dimensions, type_form_has_many_dimensions,
 };
-pub use inner_token::{is_inner, mark};
+pub use inner_token::mark;
 pub use laws::{mark_law, most_end_law, one_reading_law, one_tree_law};
 pub use line_part::{data_form, element, type_form};
+pub use list::joined;
 pub use measured::{Measured, any_has_many_dimensions};
-pub use operand::element_in;
 pub use reader::expression;
 pub use rows::spelling_rows;
 pub use shape_rows::{bracket_rows, dimension_rows, mark_rows};

@@ -107,7 +107,7 @@ pub fn arguments<'a, F: Fn(Global, &[Token]) -> Result<Option<(Expr, &[Token])>,
 }
 
 /// The list of the first and those behind it.
-pub fn joined(alloc: Global, first: Expr, more: Items<Expr>) -> Result<Items<Expr>, AllocError>
+pub fn joined<T: Drop>(alloc: Global, first: T, more: Items<T>) -> Result<Items<T>, AllocError>
     ensures { IfOk result (λ all. all ≡ first ∷ more) }
 {
     let mut all = Items::new(alloc);

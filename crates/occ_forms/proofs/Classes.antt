@@ -27,7 +27,7 @@ use Rattle.occ_forms.specs.declared.tree.Kind.TheVariants as ki
 use Rattle.occ_forms.specs.declared.tree.OutputItem.{OutputItem}
 use Rattle.occ_forms.specs.declared.tree.Part.TheVariants as pa
 use Rattle.occ_forms.specs.declared.tree.Replicator.{Replicator}
-use Rattle.occ_specifications.specs.Spelling.{colon, function_head_then, function_then, inlined_then, name_then, next, recast_word, specified_tokens}
+use Rattle.occ_specifications.specs.Spelling.{colon, function_head_then, function_then, inlined_then, listed, name_then, next, recast_word, specified_tokens}
 use Rattle.occ_specifications.specs.declared.tree.FunctionHead.{FunctionHead}
 use Rattle.occ_specifications.specs.declared.tree.Head.TheVariants as he
 use Rattle.occ_specifications.specs.declared.tree.Inlined.{Inlined}
@@ -40,7 +40,7 @@ use Rattle.occ_specifications.specs.declared.tree.Specified.TheVariants as sd
 use Rattle.occ_lines.specs.declared.token.Word.TheVariants as w
 use Rattle.occ_forms.specs.Classes.{class_at, class_of}
 use Rattle.occ_forms.specs.Reading.{IsFormOf}
-use Rattle.occ_forms.specs.Spelling.{behind, form_tokens, list}
+use Rattle.occ_forms.specs.Spelling.{form_tokens}
 
 -- the forms of each class
 pub data FormAt (form : Form) : Class → Type 0 where
@@ -67,11 +67,11 @@ pub data FormAt (form : Form) : Class → Type 0 where
   at_tagged : (n : List ℕ) (x : Detail) (xs : List Detail) → form ≡ fo.Tagged n x xs → FormAt form cl.Tagged
 
 -- a list with commas has no mark of its own
-many_mark : {X : Type 0} (spells : X → Spelling) → ((x : X) → PassesMarks (spells x)) → (xs : List X) (k : List Token) → first_mark (many (behind s.Comma spells) xs k) ≡ first_mark k
+many_mark : {X : Type 0} (spells : X → Spelling) → ((x : X) → PassesMarks (spells x)) → (xs : List X) (k : List Token) → first_mark (many (next s.Comma spells) xs k) ≡ first_mark k
 many_mark spells passes [] k = refl
 many_mark spells passes (x ∷ xs) k = passes x _ ∙ many_mark spells passes xs k
 
-list_mark : {X : Type 0} (spells : X → Spelling) → ((x : X) → PassesMarks (spells x)) → (x : X) (xs : List X) (k : List Token) → first_mark (list s.Comma spells x xs k) ≡ first_mark k
+list_mark : {X : Type 0} (spells : X → Spelling) → ((x : X) → PassesMarks (spells x)) → (x : X) (xs : List X) (k : List Token) → first_mark (listed s.Comma spells x xs k) ≡ first_mark k
 list_mark spells passes x xs k = passes x _ ∙ many_mark spells passes xs k
 
 -- nor have the names and types of specifications

@@ -28,7 +28,7 @@ use Rattle.occ_expressions.specs.declared.tree.Primitive.{Primitive}
 use Rattle.occ_expressions.specs.declared.tree.TypeForm.{TypeForm, out-TypeForm}
 use Rattle.occ_expressions.specs.declared.tree.TypeForm.TheVariants as tv
 use Rattle.occ_expressions.specs.Brackets.{bounds_begin, closing_then}
-use Rattle.occ_expressions.specs.Reading.{IsNotCounted, Reads, ends_expr}
+use Rattle.occ_expressions.specs.Reading.{IsNotCounted, Reads, ends_expr, is_counted}
 use Rattle.occ_expressions.specs.Spelling.{bounds_then, builtin_then, channel_words, counted_array, data_base_token, data_form_then, dimension_then, element_then, expr_then, many, subscript_of, type_form_then}
 use Rattle.occ_expressions.proofs.Begins.{no_expr}
 use Rattle.occ_expressions.proofs.Cases.{BoundsIs, bounds_is, bounds_is_for, bounds_is_from, bounds_is_from_for, bounds_for_spells, bounds_from_for_spells, bounds_from_spells, BuiltinIs, builtin_is, builtin_is_any_channel, builtin_is_channel, builtin_is_counted, builtin_is_primitive, builtin_is_timer, builtin_any_channel_spells, builtin_channel_spells, builtin_counted_spells, builtin_primitive_spells, builtin_timer_spells, DimensionIs, dimension_is, dimension_is_open, dimension_is_sized, dimension_open_spells, dimension_sized_spells, ElementIs, element_is, element_is_named, element_is_segment, element_named_spells, element_segment_spells, expr_alone_spells, operand_element_spells, type_form_builtin_spells}
@@ -128,7 +128,7 @@ builtin_form tokens form rest ds b k found read e = let h = data_primitive form.
     (h.0, h.1, m.0, m.1)
 
 -- `::[]` stands behind no part
-no_count : (begun k : List Token) → IsItemEnd k → k ≡ counted_array begun → ⊥
+pub no_count : (begun k : List Token) → IsItemEnd k → k ≡ counted_array begun → ⊥
 no_count begun k ends e = let h : true ≡ false = sym ends ∙ ap ends_item e in absurd cc
 
 no_count_behind : (begun k : List Token) (es : List Expr) → ends_item k ≡ true → many subscript_of es k ≡ counted_array begun → ⊥
@@ -150,22 +150,25 @@ right_of (Some y) x k h = h
 count_inside : (a b : List Token) → counted_array a ≡ counted_array b → a ≡ b
 count_inside a b q = cc
 
+-- where `::[]` follows the data type, the part is a counted array of that count
+pub counted_part : (tokens : List Token) (form : DataForm) (rest begun : List Token) → tokens ≡ data_form_then form rest → IsFormRead tokens form rest → rest ≡ counted_array begun
+    → (x : Detail) (k : List Token) → IsItemEnd k → tokens ≡ detail_then x k → (c : DataForm) × (de.CountedType form c ≡ x) × (begun ≡ data_form_then c k)
+counted_part tokens form rest begun found read is (de.Element el) k ends e = let h = element_name tokens form rest el k found read e in absurd (no_count_behind begun k h.1 ends (sym h.3 ∙ is))
+counted_part tokens form rest begun found read is (de.Counted el array) k ends e = let h = element_name tokens form rest el _ found read e in absurd (no_count_between begun k h.1 array (sym h.3 ∙ is))
+counted_part tokens form rest begun found read is (de.Array d ds n) k ends e = let h = read (record { dimensions = d ∷ ds; base = da.Named n }) k e in absurd (no_count begun k ends (sym h.1 ∙ is))
+counted_part tokens form rest begun found read is (de.Builtin ds b) k ends e = let h = builtin_form tokens form rest ds b k found read e in absurd (no_count begun k ends (sym h.3 ∙ is))
+counted_part tokens form rest begun found read is (de.CountedType a c) k ends e = let h = read a _ e in
+    (c, ap (λ (y : DataForm). de.CountedType y c) h.0, count_inside begun (data_form_then c k) (sym is ∙ h.1))
+
 pub counted_right : (tokens : List Token) (form : DataForm) (rest begun : List Token) (result : Result (Option (Detail × Bor (List Token))) AllocError) → tokens ≡ data_form_then form rest → IsFormRead tokens form rest
     → rest ≡ counted_array begun → IfOk result (λ r. (c : DataForm) (k : List Token) → begun ≡ data_form_then c k → Reads r (de.CountedType form c) k)
     → IfOk result (IsRight tokens)
 counted_right tokens form rest begun (Err _) found read is only = tt
-counted_right tokens form rest begun (Ok r) found read is only = by where
-  by : IsRight tokens r
-  by (de.Element el) k ends e = let h = element_name tokens form rest el k found read e in absurd (no_count_behind begun k h.1 ends (sym h.3 ∙ is))
-  by (de.Counted el array) k ends e = let h = element_name tokens form rest el _ found read e in absurd (no_count_between begun k h.1 array (sym h.3 ∙ is))
-  by (de.Array d ds n) k ends e = let h = read (record { dimensions = d ∷ ds; base = da.Named n }) k e in absurd (no_count begun k ends (sym h.1 ∙ is))
-  by (de.Builtin ds b) k ends e = let h = builtin_form tokens form rest ds b k found read e in absurd (no_count begun k ends (sym h.3 ∙ is))
-  by (de.CountedType a c) k ends e = let h = read a _ e in
-      let m : begun ≡ data_form_then c k = count_inside begun (data_form_then c k) (sym is ∙ h.1) in
-      right_of r (de.CountedType a c) k (subst (λ (y : DataForm). Reads r (de.CountedType y c) k) h.0 (only c k m))
+counted_right tokens form rest begun (Ok r) found read is only = λ x k ends e. let h = counted_part tokens form rest begun found read is x k ends e in
+    right_of r x k (subst (λ (y : Detail). Reads r y k) h.1 (only h.0 k h.2))
 
 pub typed_right : (tokens : List Token) (form : DataForm) (rest : List Token) (detail : Detail) → tokens ≡ data_form_then form rest → IsFormRead tokens form rest
-    → ((k : List Token) → rest ≢ counted_array k) → typed_of form ≡ Some detail
+    → IsNotCounted rest → typed_of form ≡ Some detail
     → (x : Detail) (k : List Token) → IsItemEnd k → tokens ≡ detail_then x k → (detail ≡ x) × (rest ≡ k)
 typed_right tokens form rest detail found read none is (de.Element el) k ends e = let h = element_name tokens form rest el k found read e in
     let m : Some detail ≡ None = sym is ∙ ap typed_of h.2 in absurd cc
@@ -177,7 +180,7 @@ typed_right tokens form rest detail found read none is (de.Builtin ds b) k ends 
     let m : Some detail ≡ Some (de.Builtin ds (uv.Primitive h.0)) = sym is ∙ ap typed_of h.2 in
     let i : detail ≡ de.Builtin ds (uv.Primitive h.0) = (cc) in
     (i ∙ ap (λ (y : Builtin). de.Builtin ds y) (sym h.1), h.3)
-typed_right tokens form rest detail found read none is (de.CountedType a c) k ends e = absurd (none _ (read a _ e).1)
+typed_right tokens form rest detail found read none is (de.CountedType a c) k ends e = let h : false ≡ true = sym none ∙ ap is_counted (read a _ e).1 in absurd cc
 
 -- what is spelled as an array or a counted array is read as a data type
 pub typed_array : (form : DataForm) (tokens rest : List Token) (d : Dimension) (ds : List Dimension) (n : List ℕ) (k : List Token) → IsFormRead tokens form rest → typed_of form ≡ None
@@ -197,7 +200,7 @@ counted_counts form tokens rest begun (Ok r) read is only = λ a c k e. let h = 
     subst (λ (y : DataForm). Reads r (de.CountedType y c) k) h.0 (only c k m)
 
 -- an element is spelled as no type of a reserved word
-element_no_builtin : (el : Element) (j : List Token) (ds : List Dimension) (b : Builtin) (k : List Token) → element_then el j ≡ many dimension_then ds (builtin_then b k) → ⊥
+pub element_no_builtin : (el : Element) (j : List Token) (ds : List Dimension) (b : Builtin) (k : List Token) → element_then el j ≡ many dimension_then ds (builtin_then b k) → ⊥
 element_no_builtin el j [] b k e = by (element_is el) where
   by : ElementIs el → ⊥
   by (element_is_named n es q) = let i : t.Name n ∷ many subscript_of es j ≡ builtin_then b k = sym (element_named_spells n es j) ∙ sym (ap (λ (x : Element). element_then x j) q) ∙ e in
@@ -239,11 +242,9 @@ builtin_right tokens (Ok r) none element counts builtin = by where
   by (de.CountedType a c) k ends e = absurd (none.counted a c k e)
 
 -- a type of a reserved word, as it is read
-item_not_counted : (k : List Token) → IsItemEnd k → IsNotCounted k
+pub item_not_counted : (k : List Token) → IsItemEnd k → IsNotCounted k
 item_not_counted [] ends = refl
-item_not_counted (t.Symbol s.Comma ∷ k) ends = refl
 item_not_counted (t.Symbol s.Semicolon ∷ k) ends = refl
-item_not_counted (t.Symbol s.Assign ∷ k) ends = refl
 item_not_counted (t.Symbol other ∷ k) ends = absurd cc
 item_not_counted (other ∷ k) ends = absurd cc
 

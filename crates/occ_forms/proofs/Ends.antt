@@ -12,9 +12,7 @@ use Rattle.occ_forms.specs.Reading.{IsItemEnd}
 -- what ends an item of a list ends an element
 pub item_end : (k : List Token) → IsItemEnd k → IsEnd k
 item_end [] ends = refl
-item_end (t.Symbol s.Comma ∷ k) ends = refl
 item_end (t.Symbol s.Semicolon ∷ k) ends = refl
-item_end (t.Symbol s.Assign ∷ k) ends = refl
 item_end (t.Symbol other ∷ k) ends = absurd cc
 item_end (other ∷ k) ends = absurd cc
 

@@ -5,5 +5,7 @@ pub mod Ends
 pub mod Formed
 pub mod Lines
 pub mod Lists
+pub mod OneForm
+pub mod OneItem
 pub mod Outputs
 pub mod Receptions

@@ -92,7 +92,7 @@ pub plain_item : (tokens rest : List Token) (first : Expr) → IsExprRead tokens
 plain_item tokens rest first read run most none (oi.Plain e) k ends q = let h = read e k (item_end k ends) q in (ap (λ (y : Expr). oi.Plain y) h.0, h.1)
 plain_item tokens rest first read run most none (oi.Counted e array) k ends q = absurd (none _ (count_read tokens rest first run most e array k q).1)
 
-no_count : (begun k : List Token) → IsItemEnd k → k ≡ t.Symbol s.Counted ∷ begun → ⊥
+pub no_count : (begun k : List Token) → IsItemEnd k → k ≡ t.Symbol s.Counted ∷ begun → ⊥
 no_count begun k ends e = let h : true ≡ false = sym ends ∙ ap ends_item e in absurd cc
 
 inside : (j k : List Token) → t.Symbol s.Counted ∷ j ≡ t.Symbol s.Counted ∷ k → j ≡ k

@@ -17,7 +17,8 @@ use Rattle.occ_forms.specs.declared.tree.Input.{Input}
 use Rattle.occ_forms.specs.declared.tree.Input.TheVariants as ip
 use Rattle.occ_forms.specs.declared.tree.InputItem.{InputItem}
 use Rattle.occ_forms.specs.Received.{received_tokens}
-use Rattle.occ_forms.specs.Spelling.{guarded_then, input_item_then, list, tagged}
+use Rattle.occ_forms.specs.Spelling.{guarded_then, input_item_then, tagged}
+use Rattle.occ_specifications.specs.Spelling.{listed}
 
 inside : (token : Token) (rest behind read : List Token) → rest ≡ token ∷ behind → rest ≡ token ∷ read → behind ≡ read
 inside token rest behind read a b = let h : token ∷ behind ≡ token ∷ read = sym a ∙ b in (cc)
@@ -25,7 +26,7 @@ inside token rest behind read a b = let h : token ∷ behind ≡ token ∷ read 
 pub reception_only : (tokens rest behind : List Token) (from : Element) (result : Result (Option Received) AllocError)
     → ((el : Element) (k : List Token) → IsEnd k → tokens ≡ element_then el k → (from ≡ el) × (rest ≡ k))
     → rest ≡ t.Symbol s.Input ∷ behind
-    → IfOk result (λ r. (x : InputItem) (xs : List InputItem) → behind ≡ list s.Semicolon input_item_then x xs [] → r ≡ Some (re.Input (ip.Plain from x xs)))
+    → IfOk result (λ r. (x : InputItem) (xs : List InputItem) → behind ≡ listed s.Semicolon input_item_then x xs [] → r ≡ Some (re.Input (ip.Plain from x xs)))
     → IfOk result (λ r. (e : Expr) → behind ≡ t.Word w.After ∷ expr_then e [] → r ≡ Some (re.Input (ip.After from e)))
     → IfOk result (λ r. behind ≡ t.Word w.Case ∷ [] → r ≡ Some (re.Case from))
     → IfOk result (λ r. (n : List ℕ) (xs : List InputItem) → behind ≡ t.Word w.Case ∷ tagged input_item_then n xs [] → r ≡ Some (re.Input (ip.Tagged from n xs)))

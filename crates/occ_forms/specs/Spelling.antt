@@ -6,7 +6,7 @@ use Rattle.occ_lines.specs.declared.token.Symbol.{Symbol}
 use Rattle.occ_lines.specs.declared.token.Symbol.TheVariants as s
 use Rattle.occ_lines.specs.declared.token.Word.TheVariants as w
 use Rattle.occ_expressions.specs.Spelling.{Spelling, builtin_then, counted_array, data_form_then, dimension_then, element_then, expr_then, many}
-use Rattle.occ_specifications.specs.Spelling.{specified_tokens}
+use Rattle.occ_specifications.specs.Spelling.{listed, next, specified_tokens}
 use Rattle.occ_forms.specs.declared.tree.Action.{Action}
 use Rattle.occ_forms.specs.declared.tree.Action.TheVariants as ac
 use Rattle.occ_forms.specs.declared.tree.Construct.{Construct}
@@ -28,14 +28,6 @@ use Rattle.occ_forms.specs.declared.tree.OutputItem.TheVariants as oi
 use Rattle.occ_forms.specs.declared.tree.Part.{Part}
 use Rattle.occ_forms.specs.declared.tree.Part.TheVariants as pa
 use Rattle.occ_forms.specs.declared.tree.Replicator.{Replicator}
-
--- a symbol and what stands behind it
-abbrev pub behind : {X : Type 0} → Symbol → (X → Spelling) → X → Spelling
-behind symbol spells x k = t.Symbol symbol ∷ spells x k
-
--- a list of one or more, with the symbol between each two
-abbrev pub list : {X : Type 0} → Symbol → (X → Spelling) → X → List X → Spelling
-list symbol spells first more k = spells first (many (behind symbol spells) more k)
 
 -- `a::b`
 abbrev pub counted : Spelling → Spelling → Spelling
@@ -62,10 +54,10 @@ input_from el received k = el (t.Symbol s.Input ∷ received k)
 
 -- a name, and further items behind semicolons
 abbrev pub tagged : {X : Type 0} → (X → Spelling) → List ℕ → List X → Spelling
-tagged spells name items k = t.Name name ∷ many (behind s.Semicolon spells) items k
+tagged spells name items k = t.Name name ∷ many (next s.Semicolon spells) items k
 
 abbrev pub input_then : Input → Spelling
-input_then (ip.Plain el first more) k = input_from (element_then el) (list s.Semicolon input_item_then first more) k
+input_then (ip.Plain el first more) k = input_from (element_then el) (listed s.Semicolon input_item_then first more) k
 input_then (ip.After el e) k = input_from (element_then el) (λ j. t.Word w.After ∷ expr_then e j) k
 input_then (ip.Tagged el name items) k = input_from (element_then el) (λ j. t.Word w.Case ∷ tagged input_item_then name items j) k
 
@@ -76,8 +68,8 @@ case_input_then el k = input_from el (λ j. t.Word w.Case ∷ j) k
 abbrev pub action_then : Action → Spelling
 action_then ac.Skip k = t.Word w.Skip ∷ k
 action_then ac.Stop k = t.Word w.Stop ∷ k
-action_then (ac.Assignment el els e es) k = list s.Comma element_then el els (t.Symbol s.Assign ∷ list s.Comma expr_then e es k)
-action_then (ac.Output el first more) k = element_then el (t.Symbol s.Output ∷ list s.Semicolon output_item_then first more k)
+action_then (ac.Assignment el els e es) k = listed s.Comma element_then el els (t.Symbol s.Assign ∷ listed s.Comma expr_then e es k)
+action_then (ac.Output el first more) k = element_then el (t.Symbol s.Output ∷ listed s.Semicolon output_item_then first more k)
 action_then (ac.Input input) k = input_then input k
 
 abbrev pub kind_then : Kind → Spelling
@@ -111,7 +103,7 @@ abbrev pub part_then : Part → Spelling
 part_then pa.Case k = t.Word w.Case ∷ k
 part_then pa.Else k = t.Word w.Else ∷ k
 part_then pa.ValueOf k = t.Word w.ValOf ∷ k
-part_then (pa.Result e es) k = t.Word w.Result ∷ list s.Comma expr_then e es k
+part_then (pa.Result e es) k = t.Word w.Result ∷ listed s.Comma expr_then e es k
 part_then pa.Record k = t.Word w.Record ∷ k
 part_then pa.PackedRecord k = t.Word w.Packed ∷ t.Word w.Record ∷ k
 part_then (pa.Guard e guarded) k = expr_then e (t.Symbol s.Ampersand ∷ guarded_then guarded k)
@@ -123,5 +115,5 @@ form_tokens fo.Close = t.Symbol s.Colon ∷ []
 form_tokens (fo.Action action) = action_then action []
 form_tokens (fo.Construct construct) = construct_then construct []
 form_tokens (fo.Part part) = part_then part []
-form_tokens (fo.Expressions e es) = list s.Comma expr_then e es []
+form_tokens (fo.Expressions e es) = listed s.Comma expr_then e es []
 form_tokens (fo.Tagged name first more) = tagged detail_then name (first ∷ more) []

@@ -8,12 +8,11 @@ ghost use Rattle.occ_forms.specs.declared.tree.Input.{Input as AnInput};
 ghost use Rattle.occ_forms.specs.declared.tree.OutputItem.{OutputItem as AnOutputItem};
 ghost use Rattle.std.specs.Prelude.{IfOk, IfSome, List, Some, ◌≡◌};
 
-use super::end::alone;
 use super::input::{Received, reception};
-use super::item::items;
 use super::{Action, Construct, Form};
 use occ_expressions::{after, element};
 use occ_lines::{Symbol, Token};
+use occ_specifications::{alone, list};
 use std::alloc::{AllocError, Global};
 
 /// An assignment.
@@ -21,13 +20,13 @@ pub fn assignment(alloc: Global, tokens: &[Token]) -> Result<Option<Form>, Alloc
     ensures found { IfOk result (λ answer. IfSome answer (λ form. tokens.now ≡ form_tokens form)) }
     ensures only { IfOk result (λ answer. (el : AnElement) (els : List AnElement) (e : AnExpr) (es : List AnExpr) → tokens.now ≡ form_tokens (fo.Action (ac.Assignment el els e es)) → answer ≡ Some (fo.Action (ac.Assignment el els e es))) }
 {
-    let Some((target, targets, rest)) = items(alloc, Symbol::Comma, tokens)? else {
+    let Some((target, targets, rest)) = list(alloc, tokens, Symbol::Comma)? else {
         return Ok(None);
     };
     let Some(rest) = after(rest, Symbol::Assign) else {
         return Ok(None);
     };
-    let Some((value, values, rest)) = items(alloc, Symbol::Comma, rest)? else {
+    let Some((value, values, rest)) = list(alloc, rest, Symbol::Comma)? else {
         return Ok(None);
     };
     Ok(alone(
@@ -47,7 +46,7 @@ pub fn output(alloc: Global, tokens: &[Token]) -> Result<Option<Form>, AllocErro
     let Some(rest) = after(rest, Symbol::Output) else {
         return Ok(None);
     };
-    let Some((first, more, rest)) = items(alloc, Symbol::Semicolon, rest)? else {
+    let Some((first, more, rest)) = list(alloc, rest, Symbol::Semicolon)? else {
         return Ok(None);
     };
     Ok(alone(Form::Action(Action::Output(to, first, more)), rest))

@@ -11,10 +11,10 @@ ghost use Rattle.occ_lines.specs.declared.token.Token.{Token as AToken};
 ghost use Rattle.occ_lines.specs.declared.token.Word.TheVariants as w;
 ghost use Rattle.std.specs.Prelude.{IfOk, IfSome, List, MatchOption, None, Option, Some, [], ◌∷◌, ◌≡◌, ◌≢◌};
 
-use super::end::alone;
 use super::{Construct, Form, Kind, Part, Replicator};
 use occ_expressions::{Expr, after, after_word, expression, name};
 use occ_lines::{Symbol, Token, Word};
+use occ_specifications::alone;
 use std::alloc::{AllocError, Global};
 
 /// An expression that is all the tokens.

@@ -12,24 +12,15 @@ ghost use Rattle.occ_forms.specs.declared.tree.Detail.{Detail as ADetail};
 ghost use Rattle.occ_lines.specs.declared.token.Symbol.TheVariants as s;
 ghost use Rattle.occ_lines.specs.declared.token.Token.TheVariants as t;
 ghost use Rattle.occ_lines.specs.declared.token.Token.{Token as AToken};
-ghost use Rattle.std.specs.Prelude.{IfOk, IfSome, List, MatchOption, length, ℕ, ◌∷◌, ◌≡◌, ◌≢◌, ◌<◌};
+ghost use Rattle.std.specs.Prelude.{IfOk, IfSome, List, length, ℕ, ◌≡◌, ◌<◌};
 
 use super::Detail;
-use super::item::Item;
 use occ_expressions::{
-    Builtin, DataBase, DataForm, TypeForm, after, data_form, element, type_form,
+    Builtin, DataBase, DataForm, TypeForm, after, after_counted, data_form, element, type_form,
 };
 use occ_lines::{Symbol, Token};
+use occ_specifications::FromTokens;
 use std::alloc::{AllocError, Global};
-
-/// What follows `::[]`, where it stands first.
-pub fn after_open_array(tokens: &[Token]) -> Option<&[Token]>
-    ensures { MatchOption result ((k : List AToken) → tokens.now ≢ counted_array k) (λ rest. tokens.now ≡ counted_array rest.now) }
-{
-    let rest = after(tokens, Symbol::Counted)?;
-    let rest = after(rest, Symbol::OpenIndex)?;
-    after(rest, Symbol::CloseIndex)
-}
 
 /// The data type, if it is more than a name alone.
 pub fn typed(form: DataForm) -> Option<Detail>
@@ -83,7 +74,7 @@ pub fn type_detail(
     let Some((form, rest)) = data_form(alloc, tokens)? else {
         return Ok(None);
     };
-    if let Some(begun) = after_open_array(rest) {
+    if let Some(begun) = after_counted(rest) {
         return counted_detail(alloc, form, begun);
     }
     match typed(form) {
@@ -133,10 +124,12 @@ pub fn builtin_detail(
     Ok(Some((Detail::Builtin(dimensions, builtin.into_inner()), rest)))
 }
 
-impl Item for Detail {
+impl FromTokens for Detail {
     ghost spells = { detail_then };
 
-    fn item(alloc: Global, tokens: &[Token]) -> Result<Option<(Detail, &[Token])>, AllocError> {
+    ghost ends = { IsItemEnd };
+
+    fn read(alloc: Global, tokens: &[Token]) -> Result<Option<(Detail, &[Token])>, AllocError> {
         if let Some(found) = type_detail(alloc, tokens)? {
             return Ok(Some(found));
         }

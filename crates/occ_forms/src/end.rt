@@ -3,13 +3,7 @@ ghost use Rattle.std.specs.Prelude.{MatchOption, [], ◌∷◌, ◌≡◌, ◌�
 
 use occ_expressions::{after, after_word};
 use occ_lines::{Symbol, Token, Word};
-
-/// What was read, where no token is left.
-pub fn alone<T: Drop>(read: T, rest: &[Token]) -> Option<T>
-    ensures { MatchOption result (rest.now ≢ []) (λ found. (found ≡ read) × (rest.now ≡ [])) }
-{
-    if rest.is_empty() { Some(read) } else { None }
-}
+use occ_specifications::alone;
 
 /// What the word alone stands for.
 pub fn word_alone<T: Drop>(tokens: &[Token], word: Word, meant: T) -> Option<T>

@@ -2,7 +2,7 @@ ghost use Rattle.occ_expressions.specs.Spelling.{element_then, expr_then, many};
 ghost use Rattle.occ_expressions.specs.declared.tree.Element.{Element as AnElement};
 ghost use Rattle.occ_expressions.specs.declared.tree.Expr.{Expr as AnExpr};
 ghost use Rattle.occ_forms.specs.Received.{received_behind, received_tokens};
-ghost use Rattle.occ_forms.specs.Spelling.{input_item_then, list, tagged};
+ghost use Rattle.occ_forms.specs.Spelling.{input_item_then, tagged};
 ghost use Rattle.occ_forms.specs.declared.input.Received.TheVariants as re;
 ghost use Rattle.occ_forms.specs.declared.input.Received.{Received as SomeReceived};
 ghost use Rattle.occ_forms.specs.declared.tree.Input.TheVariants as ip;
@@ -11,14 +11,14 @@ ghost use Rattle.occ_lines.specs.declared.token.Symbol.TheVariants as s;
 ghost use Rattle.occ_lines.specs.declared.token.Token.TheVariants as t;
 ghost use Rattle.occ_lines.specs.declared.token.Token.{Token as AToken};
 ghost use Rattle.occ_lines.specs.declared.token.Word.TheVariants as w;
+ghost use Rattle.occ_specifications.specs.Spelling.{listed};
 ghost use Rattle.std.specs.Prelude.{IfOk, IfSome, List, Some, [], ℕ, ◌∷◌, ◌≡◌};
 
 use super::Input;
 use super::construct::one_expression;
-use super::end::alone;
-use super::item::{items, more_items};
 use occ_expressions::{Element, after, after_word, element, name};
 use occ_lines::{Symbol, Token, Word};
+use occ_specifications::{alone, list, more};
 use std::alloc::{AllocError, Global};
 
 /// What a line says that begins with `el ?`.
@@ -60,7 +60,7 @@ pub fn variant(
     let Some((tag, rest)) = name(alloc, tokens)? else {
         return Ok(None);
     };
-    let Some((found, rest)) = more_items(alloc, Symbol::Semicolon, rest)? else {
+    let Some((found, rest)) = more(alloc, rest, Symbol::Semicolon)? else {
         return Ok(None);
     };
     Ok(alone(Received::Input(Input::Tagged(from, tag, found)), rest))
@@ -69,9 +69,9 @@ pub fn variant(
 /// An input of items, of which `?` is read.
 pub fn plain(alloc: Global, from: Element, tokens: &[Token]) -> Result<Option<Received>, AllocError>
     ensures found { IfOk result (λ r. IfSome r (λ x. received_behind from tokens.now ≡ received_tokens x)) }
-    ensures only { IfOk result (λ r. (x : AnInputItem) (xs : List AnInputItem) → tokens.now ≡ list s.Semicolon input_item_then x xs [] → r ≡ Some (re.Input (ip.Plain from x xs))) }
+    ensures only { IfOk result (λ r. (x : AnInputItem) (xs : List AnInputItem) → tokens.now ≡ listed s.Semicolon input_item_then x xs [] → r ≡ Some (re.Input (ip.Plain from x xs))) }
 {
-    let Some((first, more, rest)) = items(alloc, Symbol::Semicolon, tokens)? else {
+    let Some((first, more, rest)) = list(alloc, tokens, Symbol::Semicolon)? else {
         return Ok(None);
     };
     Ok(alone(Received::Input(Input::Plain(from, first, more)), rest))
@@ -84,7 +84,7 @@ pub fn behind_input(
     tokens: &[Token],
 ) -> Result<Option<Received>, AllocError>
     ensures found { IfOk result (λ r. IfSome r (λ x. received_behind from tokens.now ≡ received_tokens x)) }
-    ensures plain { IfOk result (λ r. (x : AnInputItem) (xs : List AnInputItem) → tokens.now ≡ list s.Semicolon input_item_then x xs [] → r ≡ Some (re.Input (ip.Plain from x xs))) }
+    ensures plain { IfOk result (λ r. (x : AnInputItem) (xs : List AnInputItem) → tokens.now ≡ listed s.Semicolon input_item_then x xs [] → r ≡ Some (re.Input (ip.Plain from x xs))) }
     ensures after { IfOk result (λ r. (e : AnExpr) → tokens.now ≡ t.Word w.After ∷ expr_then e [] → r ≡ Some (re.Input (ip.After from e))) }
     ensures case { IfOk result (λ r. tokens.now ≡ t.Word w.Case ∷ [] → r ≡ Some (re.Case from)) }
     ensures tagged { IfOk result (λ r. (n : List ℕ) (xs : List AnInputItem) → tokens.now ≡ t.Word w.Case ∷ tagged input_item_then n xs [] → r ≡ Some (re.Input (ip.Tagged from n xs))) }

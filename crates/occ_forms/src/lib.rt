@@ -10,6 +10,7 @@ mod detail;
 mod end;
 mod input;
 mod item;
+mod laws;
 mod line;
 mod parse;
 mod part;
@@ -21,6 +22,7 @@ mod specifying;
 mod tests;
 mod tree;
 
+pub use laws::one_form_law;
 pub use parse::{LineFault, form};
 pub use preparation::prepare;
 pub use rows::{action_rows, body_rows, construct_rows, part_rows, tagged_rows};

@@ -6,12 +6,12 @@ ghost use Rattle.occ_forms.specs.declared.tree.Guarded.{Guarded as SomeGuarded};
 ghost use Rattle.occ_forms.specs.declared.tree.Part.TheVariants as pa;
 ghost use Rattle.std.specs.Prelude.{IfOk, IfSome, List, MatchOption, Some, [], ℕ, ◌≡◌, ◌≢◌};
 
-use super::end::{alone, word_alone};
+use super::end::word_alone;
 use super::input::{Received, reception};
-use super::item::items;
 use super::{Form, Guarded, Part};
 use occ_expressions::{after, after_word, expression, name};
 use occ_lines::{Symbol, Token, Word};
+use occ_specifications::{alone, list};
 use std::alloc::{AllocError, Global};
 
 /// Expressions that are the whole line.
@@ -19,7 +19,7 @@ pub fn expressions(alloc: Global, tokens: &[Token]) -> Result<Option<Form>, Allo
     ensures found { IfOk result (λ answer. IfSome answer (λ form. tokens.now ≡ form_tokens form)) }
     ensures only { IfOk result (λ answer. (e : AnExpr) (es : List AnExpr) → tokens.now ≡ form_tokens (fo.Expressions e es) → answer ≡ Some (fo.Expressions e es)) }
 {
-    let Some((first, more, rest)) = items(alloc, Symbol::Comma, tokens)? else {
+    let Some((first, more, rest)) = list(alloc, tokens, Symbol::Comma)? else {
         return Ok(None);
     };
     Ok(alone(Form::Expressions(first, more), rest))
@@ -33,7 +33,7 @@ pub fn results(alloc: Global, tokens: &[Token]) -> Result<Option<Form>, AllocErr
     let Some(rest) = after_word(tokens, Word::Result) else {
         return Ok(None);
     };
-    let Some((first, more, rest)) = items(alloc, Symbol::Comma, rest)? else {
+    let Some((first, more, rest)) = list(alloc, rest, Symbol::Comma)? else {
         return Ok(None);
     };
     Ok(alone(Form::Part(Part::Result(first, more)), rest))
@@ -90,7 +90,7 @@ pub fn tagged_line(alloc: Global, tokens: &[Token]) -> Result<Option<Form>, Allo
     let Some(rest) = after(rest, Symbol::Semicolon) else {
         return Ok(None);
     };
-    let Some((first, more, rest)) = items(alloc, Symbol::Semicolon, rest)? else {
+    let Some((first, more, rest)) = list(alloc, rest, Symbol::Semicolon)? else {
         return Ok(None);
     };
     Ok(alone(Form::Tagged(tag, first, more), rest))

@@ -13,8 +13,8 @@ ghost use Rattle.occ_specifications.specs.declared.tree.Specified.TheVariants as
 ghost use Rattle.std.specs.Prelude.{IfOk, IfSome, List, Some, [], ℕ, ◌∷◌, ◌≡◌};
 
 use super::formals::formals;
+use super::from_tokens::{alone, list_to_end, to_end};
 use super::function::perhaps_inline;
-use super::list::{alone, list_to_end, to_end};
 use super::{Head, Item, Specification, Specified};
 use occ_expressions::{TypeForm, after_word, name};
 use occ_lines::{Symbol, Token, Word};

@@ -8,7 +8,7 @@ ghost use Rattle.occ_specifications.specs.declared.tree.FormalGroup.{FormalGroup
 ghost use Rattle.occ_specifications.specs.declared.tree.ValueGroup.{ValueGroup as AValueGroup};
 ghost use Rattle.std.specs.Prelude.{IfOk, IfSome, List, length, ◌∷◌, ◌≡◌, ◌<◌};
 
-use super::list::{Part, closed_list};
+use super::from_tokens::{FromTokens, closed_list};
 use super::names::names;
 use super::{FormalGroup, ValueGroup};
 use occ_base::Items;
@@ -34,7 +34,7 @@ fn value_group(
     Ok(Some((ValueGroup { form, first, more }, rest)))
 }
 
-impl Part for ValueGroup {
+impl FromTokens for ValueGroup {
     ghost spells = { value_group_then };
 
     ghost ends = { IsEndOfNames };
@@ -47,7 +47,7 @@ impl Part for ValueGroup {
     }
 }
 
-impl Part for FormalGroup {
+impl FromTokens for FormalGroup {
     ghost spells = { formal_group_then };
 
     ghost ends = { IsEndOfNames };

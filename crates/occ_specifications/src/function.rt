@@ -9,7 +9,7 @@ ghost use Rattle.occ_specifications.specs.declared.tree.Inlined.{Inlined as Some
 ghost use Rattle.std.specs.Prelude.{IfOk, IfSome, List, length, ◌≡◌, ◌≤◌, ◌<◌};
 
 use super::formals::value_formals;
-use super::list::more;
+use super::from_tokens::more;
 use super::{FunctionHead, Inlined};
 use occ_expressions::{TypeForm, after_word, name};
 use occ_lines::{Symbol, Token, Word};

@@ -2,12 +2,12 @@ ghost use Rattle.occ_expressions.specs.Reading.{IsNotCounted};
 ghost use Rattle.occ_specifications.specs.Spelling.{item_then};
 
 use super::Item;
-use super::list::Part;
+use super::from_tokens::FromTokens;
 use occ_expressions::{after_counted, data_form};
 use occ_lines::Token;
 use std::alloc::{AllocError, Global};
 
-impl Part for Item {
+impl FromTokens for Item {
     ghost spells = { item_then };
 
     ghost ends = { IsNotCounted };

@@ -16,8 +16,8 @@ ghost use Rattle.occ_specifications.specs.declared.tree.Specified.TheVariants as
 ghost use Rattle.std.specs.Prelude.{IfOk, IfSome, List, None, Some, [], ℕ, ◌∷◌, ◌≡◌};
 
 use super::binding::{Binding, bound_by};
+use super::from_tokens::{alone, ended, list_to_end, to_end};
 use super::function::function_head;
-use super::list::{alone, ended, list_to_end, to_end};
 use super::names::{more_names, name_is};
 use super::{Head, Specification, Specified};
 use occ_base::Name;

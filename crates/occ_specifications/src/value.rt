@@ -12,7 +12,7 @@ ghost use Rattle.occ_specifications.specs.declared.tree.Specified.TheVariants as
 ghost use Rattle.std.specs.Prelude.{IfOk, IfSome, List, None, Some, ℕ, ◌∷◌, ◌≡◌};
 
 use super::binding::{Binding, bound_by};
-use super::list::to_end;
+use super::from_tokens::to_end;
 use super::names::name_is;
 use super::{Specification, Specified};
 use occ_base::Name;

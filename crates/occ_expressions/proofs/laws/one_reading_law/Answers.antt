@@ -1,8 +1,12 @@
+use Rattle.occ_expressions.proofs.TypeEnds.{one_counting}
 use Rattle.occ_expressions.proofs.UniqueExprs.{one_builtin, one_data_form, one_dimension_of, one_element, one_expr, one_operand, one_type}
 use Rattle.occ_expressions.proofs.laws.one_reading_law.Goals as goal
 
 pub returns-clause-expressions : goal.returns-clause-expressions
 returns-clause-expressions c = one_expr
+
+pub returns-clause-counts : goal.returns-clause-counts
+returns-clause-counts c = one_counting
 
 pub returns-clause-operands : goal.returns-clause-operands
 returns-clause-operands c = one_operand

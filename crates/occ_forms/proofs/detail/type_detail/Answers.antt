@@ -7,14 +7,14 @@ use Rattle.occ_forms.proofs.detail.type_detail.Goals as goal
 pub returns-in_default-clause-array : goal.returns-in_default-clause-array
 returns-in_default-clause-array c d ds n k ends e = rw c.in_default.is at c.in_ok-form.ensures.only (record { dimensions = d ∷ ds; base = da.Named n }) k e
 
-pub returns-in-Some-after_open_array-clause-right : goal.returns-in-Some-after_open_array-clause-right
-returns-in-Some-after_open_array-clause-right c = counted_right _ _ _ _ _ (rw c.in-Some.is at c.in_ok-form.ensures.found) (rw c.in-Some.is at c.in_ok-form.ensures.only) c.in-Some-after_open_array.ensures c.counted_detail.ensures.only
+pub returns-in-Some-after_counted-clause-right : goal.returns-in-Some-after_counted-clause-right
+returns-in-Some-after_counted-clause-right c = counted_right _ _ _ _ _ (rw c.in-Some.is at c.in_ok-form.ensures.found) (rw c.in-Some.is at c.in_ok-form.ensures.only) c.in-Some-after_counted.ensures c.counted_detail.ensures.only
 
-pub returns-in-Some-after_open_array-clause-array : goal.returns-in-Some-after_open_array-clause-array
-returns-in-Some-after_open_array-clause-array c = array_right _ _ _ _ _ (rw c.in-Some.is at c.in_ok-form.ensures.only) c.in-Some-after_open_array.ensures
+pub returns-in-Some-after_counted-clause-array : goal.returns-in-Some-after_counted-clause-array
+returns-in-Some-after_counted-clause-array c = array_right _ _ _ _ _ (rw c.in-Some.is at c.in_ok-form.ensures.only) c.in-Some-after_counted.ensures
 
 pub returns-in-Some-typed-clause-right : goal.returns-in-Some-typed-clause-right
-returns-in-Some-typed-clause-right c = typed_right _ _ _ _ (rw c.in-Some.is at c.in_ok-form.ensures.found) (rw c.in-Some.is at c.in_ok-form.ensures.only) c.in_default-after_open_array.ensures (sym c.in-Some-typed.ensures)
+returns-in-Some-typed-clause-right c = typed_right _ _ _ _ (rw c.in-Some.is at c.in_ok-form.ensures.found) (rw c.in-Some.is at c.in_ok-form.ensures.only) c.in_default-after_counted.ensures (sym c.in-Some-typed.ensures)
 
 pub returns-in-Some-typed-clause-array : goal.returns-in-Some-typed-clause-array
-returns-in-Some-typed-clause-array c d ds n k ends e = typed_right _ _ _ _ (rw c.in-Some.is at c.in_ok-form.ensures.found) (rw c.in-Some.is at c.in_ok-form.ensures.only) c.in_default-after_open_array.ensures (sym c.in-Some-typed.ensures) (de.Array d ds n) k ends e
+returns-in-Some-typed-clause-array c d ds n k ends e = typed_right _ _ _ _ (rw c.in-Some.is at c.in_ok-form.ensures.found) (rw c.in-Some.is at c.in_ok-form.ensures.only) c.in_default-after_counted.ensures (sym c.in-Some-typed.ensures) (de.Array d ds n) k ends e

@@ -1,5 +1,5 @@
 use Rattle.occ_forms.proofs.Outputs.{counted_item, no_array, no_item, plain_item}
-use Rattle.occ_forms.proofs.item.OutputItemItem.item.Goals as goal
+use Rattle.occ_forms.proofs.item.OutputItemFromTokens.read.Goals as goal
 
 pub returns-in_default-clause-only : goal.returns-in_default-clause-only
 returns-in_default-clause-only c = no_item _ (rw c.in_default.is at c.in_ok-first.ensures.only) (rw c.in_default.is at c.in_ok-first.ensures.run) (rw c.in_default.is at c.in_ok-first.ensures.most)

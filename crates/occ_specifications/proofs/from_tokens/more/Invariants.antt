@@ -2,10 +2,10 @@ use Rattle.occ_expressions.proofs.Many.{Kept}
 use Rattle.occ_specifications.specs.Spelling.{next}
 use Rattle.occ_specifications.proofs.Lists.{ListEnds}
 use Rattle.std.proofs.Common.{length}
-use Rattle.occ_specifications.proofs.list.more.Given as goal
+use Rattle.occ_specifications.proofs.from_tokens.more.Given as goal
 
 abbrev pub invariant-loop-begun : goal.invariant-loop-begun
-invariant-loop-begun g l = Kept (next l.separator g.T.Part.spells) (ListEnds l.separator g.T.Part.ends) l.tokens l.found l.rest
+invariant-loop-begun g l = Kept (next l.separator g.T.FromTokens.spells) (ListEnds l.separator g.T.FromTokens.ends) l.tokens l.found l.rest
 
 abbrev pub decreases-loop-begun : goal.decreases-loop-begun
 decreases-loop-begun g l = length l.rest

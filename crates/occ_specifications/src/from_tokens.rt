@@ -8,12 +8,12 @@ ghost use Rattle.occ_specifications.specs.Spelling.{colon, in_parens, listed, ne
 ghost use Rattle.std.specs.Prelude.{IfOk, IfSome, List, MatchOption, Some, [], length, ◌∷◌, ◌≡◌, ◌≢◌, ◌≤◌, ◌<◌};
 
 use occ_base::Items;
-use occ_expressions::{Element, Expr, TypeForm, after, element, expression, type_form};
+use occ_expressions::{Element, Expr, TypeForm, after, element, expression, joined, type_form};
 use occ_lines::{Symbol, Token};
 use std::alloc::{AllocError, Global};
 
-/// What stands alone in front of a colon, or in a list.
-pub trait Part: Drop {
+/// What the front of tokens spells, where what follows may end it.
+pub trait FromTokens: Drop {
     ghost spells: { Self → List AToken → List AToken };
 
     ghost ends: { List AToken → Type 0 };
@@ -25,7 +25,7 @@ pub trait Part: Drop {
         ensures only { IfOk result (λ r. (x : Self) (k : List AToken) → ends k → tokens.now ≡ spells x k → Reads r x k) };
 }
 
-impl Part for Element {
+impl FromTokens for Element {
     ghost spells = { element_then };
 
     ghost ends = { IsEnd };
@@ -35,7 +35,7 @@ impl Part for Element {
     }
 }
 
-impl Part for Expr {
+impl FromTokens for Expr {
     ghost spells = { expr_then };
 
     ghost ends = { IsEnd };
@@ -45,7 +45,7 @@ impl Part for Expr {
     }
 }
 
-impl Part for TypeForm {
+impl FromTokens for TypeForm {
     ghost spells = { type_form_then };
 
     ghost ends = { IsNotCounted };
@@ -71,7 +71,7 @@ pub fn ended<T: Drop>(found: T, rest: &[Token]) -> Option<T>
 }
 
 /// One, and the colon that ends the line.
-pub fn to_end<T: Part>(alloc: Global, tokens: &[Token]) -> Result<Option<T>, AllocError>
+pub fn to_end<T: FromTokens>(alloc: Global, tokens: &[Token]) -> Result<Option<T>, AllocError>
     requires ends { T.ends colon }
     ensures found { IfOk result (λ r. IfSome r (λ x. tokens.now ≡ T.spells x colon)) }
     ensures only { IfOk result (λ r. (x : T) → tokens.now ≡ T.spells x colon → r ≡ Some x) }
@@ -83,7 +83,7 @@ pub fn to_end<T: Part>(alloc: Global, tokens: &[Token]) -> Result<Option<T>, All
 }
 
 /// Further items of a list, each behind the separator, perhaps none.
-pub fn more<T: Part>(
+pub fn more<T: FromTokens>(
     alloc: Global,
     tokens: &[Token],
     separator: Symbol,
@@ -106,7 +106,7 @@ pub fn more<T: Part>(
 }
 
 /// A list of one item or more.
-pub fn list<T: Part>(
+pub fn list<T: FromTokens>(
     alloc: Global,
     tokens: &[Token],
     separator: Symbol,
@@ -126,7 +126,7 @@ pub fn list<T: Part>(
 }
 
 /// A list of one item or more, and the colon that ends the line.
-pub fn list_to_end<T: Part>(
+pub fn list_to_end<T: FromTokens>(
     alloc: Global,
     tokens: &[Token],
     separator: Symbol,
@@ -144,7 +144,7 @@ pub fn list_to_end<T: Part>(
 }
 
 /// A list in parentheses, perhaps of no item, of which the first parenthesis is read.
-pub fn closed_list<T: Part>(
+pub fn closed_list<T: FromTokens>(
     alloc: Global,
     tokens: &[Token],
 ) -> Result<Option<(Items<T>, &[Token])>, AllocError>
@@ -165,14 +165,4 @@ pub fn closed_list<T: Part>(
         return Ok(None);
     };
     Ok(Some((joined(alloc, first, others)?, rest)))
-}
-
-/// The list of the first item and those behind it.
-fn joined<T: Drop>(alloc: Global, first: T, others: Items<T>) -> Result<Items<T>, AllocError>
-    ensures { IfOk result (λ all. all ≡ first ∷ others) }
-{
-    let mut all = Items::new(alloc);
-    all.push(first)?;
-    all.append(others)?;
-    Ok(all)
 }

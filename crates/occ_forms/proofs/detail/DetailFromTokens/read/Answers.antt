@@ -1,6 +1,6 @@
 use Rattle.std.proofs.Common.{Some}
 use Rattle.occ_forms.proofs.Details.{builtin_right, element_right}
-use Rattle.occ_forms.proofs.detail.DetailItem.item.Goals as goal
+use Rattle.occ_forms.proofs.detail.DetailFromTokens.read.Goals as goal
 
 pub returns-in-Some-2-clause-only : goal.returns-in-Some-2-clause-only
 returns-in-Some-2-clause-only c = element_right _ (Some c.in-Some-2.found) (record { array = rw c.in_default.is at c.in_ok-found.ensures.array; counted = rw c.in_default.is at c.in_ok-found.ensures.counted })

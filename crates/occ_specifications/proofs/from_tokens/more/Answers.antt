@@ -1,7 +1,7 @@
 use Rattle.occ_expressions.proofs.Lists.{behind, behind_same, shorter_behind}
 use Rattle.occ_expressions.proofs.Many.{fails, goes_on, is_done}
 use Rattle.occ_specifications.proofs.Lists.{list_within}
-use Rattle.occ_specifications.proofs.list.more.Goals as goal
+use Rattle.occ_specifications.proofs.from_tokens.more.Goals as goal
 
 pub returns-in_default-2-clause-only : goal.returns-in_default-2-clause-only
 returns-in_default-2-clause-only g c xs k ends none is = fails _ _ _ (list_within _ _ _ c.requires.apart) _ _ _ c.loop-begun.invariant (λ h. h.no_more _ c.in-Some.ensures)
@@ -14,4 +14,4 @@ loop-begun-preserved g c = rw c.in_ok-push.ensures.ok (goes_on _ _ _ (list_withi
     (λ y k ends e. rw c.in-Some-2.is at c.in_ok-item.ensures.only y k ends (behind_same _ _ _ _ c.in-Some.ensures e)))
 
 pub returns-clause-only : goal.returns-clause-only
-returns-clause-only g c xs k ends none is = is_done _ g.T.Part.ends _ (list_within _ _ g.T.Part.ends c.requires.apart) _ _ _ c.loop-begun.invariant (λ y j inside e. c.in_default.ensures _ e) xs k (record { ends = ends; no_more = none }) is
+returns-clause-only g c xs k ends none is = is_done _ g.T.FromTokens.ends _ (list_within _ _ g.T.FromTokens.ends c.requires.apart) _ _ _ c.loop-begun.invariant (λ y j inside e. c.in_default.ensures _ e) xs k (record { ends = ends; no_more = none }) is

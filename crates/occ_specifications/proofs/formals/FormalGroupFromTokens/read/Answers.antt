@@ -1,5 +1,5 @@
 use Rattle.occ_specifications.proofs.Groups.{no_plain_names, no_plain_type, no_value, plain_only, value_group_only}
-use Rattle.occ_specifications.proofs.formals.FormalGroupPart.read.Goals as goal
+use Rattle.occ_specifications.proofs.formals.FormalGroupFromTokens.read.Goals as goal
 
 pub returns-in_default-2-clause-only : goal.returns-in_default-2-clause-only
 returns-in_default-2-clause-only c = no_value _ _ c.in-Some.ensures (rw c.in_default-2.is at c.in_ok-group.ensures.only)
