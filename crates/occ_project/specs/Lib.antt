@@ -2,3 +2,4 @@ pub mod Reads
 pub mod Entries
 pub mod Expansion
 pub mod Making
+pub mod Samples

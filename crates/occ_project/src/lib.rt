@@ -9,7 +9,11 @@ mod files;
 mod making;
 mod names;
 mod reads;
+mod rows;
+#[cfg(test)]
+mod tests;
 
 pub use expanded::{Expanded, ExpandedBody, ExpandedLine, UseLine};
 pub use expansion::{ExpandFault, expand, expand_over};
 pub use reads::{Read, Reads};
+pub use rows::{fault_rows, include_rows, limit_rows, read_rows, use_rows};
