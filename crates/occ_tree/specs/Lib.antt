@@ -5,3 +5,4 @@ pub mod Wrong
 pub mod Frames
 pub mod Sorts
 pub mod Faults
+pub mod Forest

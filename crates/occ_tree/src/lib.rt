@@ -3,12 +3,16 @@
 
 mod faults;
 mod marks;
+mod nest;
 mod outline;
 mod place;
 mod row;
 mod siblings;
 mod sort;
 mod stack;
+#[cfg(test)]
+mod tests;
+mod tree;
 
 pub use faults::shape_faults;
 pub use marks::wrong_lines;
@@ -16,3 +20,4 @@ pub use outline::Outline;
 pub use row::Row;
 pub use sort::Sort;
 pub use stack::Stack;
+pub use tree::Node;

@@ -30,24 +30,22 @@ impl<T> Stack<T> {
         }
     }
 
+    /// What lies on top.
+    #[tactic(auto, using(crate::proofs::Reversed::reversed_last))]
+    pub fn top(&self) -> Option<&T>
+        ensures { MatchOption result (self.now ≡ []) (λ top. (below : List T) × (self.now ≡ top.now ∷ below)) }
+    {
+        match self.items.as_slice().split_last() {
+            Some((top, _)) => Some(top),
+            None => None,
+        }
+    }
+
     #[tactic(auto, using(crate::proofs::Reversed::reversed_last))]
     pub fn pop(&mut self) -> Option<T>
         ensures { MatchOption result ((self.old ≡ []) × (self.new ≡ [])) (λ top. self.old ≡ top ∷ self.new) }
     {
         self.items.pop()
-    }
-}
-
-impl<T: Copy> Stack<T> {
-    /// What lies on top.
-    #[tactic(auto, using(crate::proofs::Reversed::reversed_last))]
-    pub fn top(&self) -> Option<T>
-        ensures { MatchOption result (self.now ≡ []) (λ top. (below : List T) × (self.now ≡ top ∷ below)) }
-    {
-        match self.items.as_slice().split_last() {
-            Some((top, _)) => Some(*top),
-            None => None,
-        }
     }
 }
 
