@@ -6,3 +6,4 @@ pub mod Frames
 pub mod Sorts
 pub mod Faults
 pub mod Forest
+pub mod Shapes

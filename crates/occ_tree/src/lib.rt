@@ -13,6 +13,7 @@ mod stack;
 #[cfg(test)]
 mod tests;
 mod tree;
+mod unit;
 
 pub use faults::shape_faults;
 pub use marks::wrong_lines;
@@ -21,3 +22,4 @@ pub use row::Row;
 pub use sort::Sort;
 pub use stack::Stack;
 pub use tree::Node;
+pub use unit::{ShapeFault, Unit, shape};

@@ -1,4 +1,4 @@
-ghost use Rattle.std.specs.Prelude.{◌≡◌, [], ◌∷◌, List, MatchOption, OnOk};
+ghost use Rattle.std.specs.Prelude.{◌≡◌, [], ◌∷◌, List, IfOk, MatchOption, OnOk};
 
 use occ_base::Items;
 use std::alloc::{AllocError, Global};
@@ -55,5 +55,17 @@ impl<T: Drop> Stack<T> {
         ensures { OnOk result (self.new ≡ item ∷ self.old) }
     {
         self.items.push(item)
+    }
+
+    /// What lies on it, the top first.
+    pub fn into_items(self, alloc: Global) -> Result<Items<T>, AllocError>
+        ensures { IfOk result (λ items. items ≡ self) }
+    {
+        let mut stack = self;
+        let mut items = Items::new(alloc);
+        while let Some(top) = stack.pop() {
+            items.push(top)?;
+        }
+        Ok(items)
     }
 }
