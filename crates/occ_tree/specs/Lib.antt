@@ -7,3 +7,4 @@ pub mod Sorts
 pub mod Faults
 pub mod Forest
 pub mod Shapes
+pub mod Samples
