@@ -1,3 +1,4 @@
 pub mod Reversed
 pub mod Walk
 pub mod Trees
+pub mod Grown

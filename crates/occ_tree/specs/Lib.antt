@@ -5,3 +5,6 @@ pub mod Wrong
 pub mod Frames
 pub mod Sorts
 pub mod Faults
+pub mod Forest
+pub mod Shapes
+pub mod Samples

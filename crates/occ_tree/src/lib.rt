@@ -3,16 +3,24 @@
 
 mod faults;
 mod marks;
+mod nest;
 mod outline;
 mod place;
 mod row;
+mod rows;
 mod siblings;
 mod sort;
 mod stack;
+#[cfg(test)]
+mod tests;
+mod tree;
+mod unit;
 
 pub use faults::shape_faults;
-pub use marks::wrong_lines;
-pub use outline::Outline;
-pub use row::Row;
-pub use sort::Sort;
-pub use stack::Stack;
+pub use rows::{
+    alternation_rows, block_rows, close_rows, conditional_rows, definition_rows, depth_rows,
+    expression_rows, file_rows, function_rows, misplaced_rows, nesting_rows, process_rows,
+    selection_rows, tagged_rows, word_rows,
+};
+pub use tree::Node;
+pub use unit::{ShapeFault, Unit, shape};

@@ -1,4 +1,4 @@
-ghost use Rattle.std.specs.Prelude.{◌≡◌, [], ◌∷◌, List, MatchOption, OnOk};
+ghost use Rattle.std.specs.Prelude.{◌≡◌, [], ◌∷◌, List, IfOk, MatchOption, OnOk};
 
 use occ_base::Items;
 use std::alloc::{AllocError, Global};
@@ -30,24 +30,22 @@ impl<T> Stack<T> {
         }
     }
 
+    /// What lies on top.
+    #[tactic(auto, using(crate::proofs::Reversed::reversed_last))]
+    pub fn top(&self) -> Option<&T>
+        ensures { MatchOption result (self.now ≡ []) (λ top. (below : List T) × (self.now ≡ top.now ∷ below)) }
+    {
+        match self.items.as_slice().split_last() {
+            Some((top, _)) => Some(top),
+            None => None,
+        }
+    }
+
     #[tactic(auto, using(crate::proofs::Reversed::reversed_last))]
     pub fn pop(&mut self) -> Option<T>
         ensures { MatchOption result ((self.old ≡ []) × (self.new ≡ [])) (λ top. self.old ≡ top ∷ self.new) }
     {
         self.items.pop()
-    }
-}
-
-impl<T: Copy> Stack<T> {
-    /// What lies on top.
-    #[tactic(auto, using(crate::proofs::Reversed::reversed_last))]
-    pub fn top(&self) -> Option<T>
-        ensures { MatchOption result (self.now ≡ []) (λ top. (below : List T) × (self.now ≡ top ∷ below)) }
-    {
-        match self.items.as_slice().split_last() {
-            Some((top, _)) => Some(*top),
-            None => None,
-        }
     }
 }
 
@@ -57,5 +55,17 @@ impl<T: Drop> Stack<T> {
         ensures { OnOk result (self.new ≡ item ∷ self.old) }
     {
         self.items.push(item)
+    }
+
+    /// What lies on it, the top first.
+    pub fn into_items(self, alloc: Global) -> Result<Items<T>, AllocError>
+        ensures { IfOk result (λ items. items ≡ self) }
+    {
+        let mut stack = self;
+        let mut items = Items::new(alloc);
+        while let Some(top) = stack.pop() {
+            items.push(top)?;
+        }
+        Ok(items)
     }
 }
