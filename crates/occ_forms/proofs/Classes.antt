@@ -1,7 +1,6 @@
 -- Which forms are of which class, and that the tokens say so.
-use Rattle.std.proofs.Common.{◌≡◌, ◌≢◌, ◌∙◌, ℕ, refl, sym, ap, subst, true, List, [], ◌∷◌, Option, Some, None, Result, Ok, Err, IfOk, IfSome, MatchOption, ◌<◌, arith, length}
+use Rattle.std.proofs.Common.{◌≡◌, ◌≢◌, ◌∙◌, ℕ, refl, sym, ap, subst, List, [], ◌∷◌, Option, Some, None, Result, Ok, Err, IfOk, IfSome, MatchOption, ◌<◌, arith, length}
 use Rattle.std.specs.declared.alloc.AllocError.{AllocError}
-use Rattle.occ_lines.specs.declared.token.Symbol.{Symbol}
 use Rattle.occ_lines.specs.declared.token.Symbol.TheVariants as s
 use Rattle.occ_lines.specs.declared.token.Token.{Token}
 use Rattle.occ_lines.specs.declared.token.Token.TheVariants as t

@@ -4,7 +4,6 @@ use Rattle.occ_base.specs.declared.code.Code.{Code}
 use Rattle.occ_base.specs.declared.code.Code.TheVariants as code
 use Rattle.occ_lines.specs.declared.token.Token.{Token}
 use Rattle.occ_lines.specs.declared.text.Body.TheVariants as body
-use Rattle.occ_expressions.specs.Depth.{most_open}
 use Rattle.occ_forms.specs.declared.source.LineBody.{LineBody}
 use Rattle.occ_forms.specs.declared.source.LineBody.TheVariants as held
 use Rattle.occ_forms.specs.declared.tree.Form.{Form}

@@ -1,5 +1,5 @@
 -- That the items of lines are spelled in one way.
-use Rattle.std.proofs.Common.{◌≡◌, ◌∙◌, ℕ, refl, sym, ap, List, [], ◌∷◌, Option, Some, None}
+use Rattle.std.proofs.Common.{◌≡◌, ◌∙◌, ℕ, refl, sym, ap, List, ◌∷◌}
 use Rattle.occ_lines.specs.declared.token.Symbol.TheVariants as s
 use Rattle.occ_lines.specs.declared.token.Token.{Token}
 use Rattle.occ_lines.specs.declared.token.Token.TheVariants as t
@@ -11,7 +11,7 @@ use Rattle.occ_expressions.specs.declared.tree.Dimension.{Dimension}
 use Rattle.occ_expressions.specs.declared.tree.Element.{Element}
 use Rattle.occ_expressions.specs.declared.tree.Expr.{Expr}
 use Rattle.occ_expressions.specs.declared.tree.TypeForm.TheVariants as tv
-use Rattle.occ_expressions.specs.Spelling.{builtin_then, counted_array, data_form_then, dimension_then, element_then, expr_then, many, subscript_of}
+use Rattle.occ_expressions.specs.Spelling.{counted_array, data_form_then, element_then, expr_then, many, subscript_of}
 use Rattle.occ_expressions.proofs.Cases.{ElementIs, element_is, element_is_named, element_is_segment, element_named_spells, element_segment_spells, type_form_builtin_spells}
 use Rattle.occ_expressions.proofs.Classes.{plain_ends}
 use Rattle.occ_expressions.proofs.TypeEnds.{array_ends, one_counting}
@@ -21,7 +21,6 @@ use Rattle.occ_forms.specs.declared.tree.Detail.{Detail}
 use Rattle.occ_forms.specs.declared.tree.Detail.TheVariants as de
 use Rattle.occ_forms.specs.declared.tree.InputItem.{InputItem}
 use Rattle.occ_forms.specs.declared.tree.InputItem.TheVariants as ii
-use Rattle.occ_forms.specs.declared.tree.OutputItem.{OutputItem}
 use Rattle.occ_forms.specs.declared.tree.OutputItem.TheVariants as oi
 use Rattle.occ_forms.specs.Reading.{IsItemEnd}
 use Rattle.occ_forms.specs.Spelling.{counted, detail_then, input_item_then, output_item_then}

@@ -8,7 +8,6 @@ use Rattle.occ_lines.specs.Lines.{IsLines}
 use Rattle.occ_forms.specs.declared.source.LineBody.{LineBody}
 use Rattle.occ_forms.specs.declared.source.LineBody.TheVariants as held
 use Rattle.occ_forms.specs.declared.source.SourceLine.{SourceLine}
-use Rattle.occ_forms.specs.declared.tree.Form.{Form}
 use Rattle.occ_forms.specs.Depth.{HasForm, HasNoForm, IsTooDeep}
 
 -- what callers see of a source

@@ -2,7 +2,6 @@
 use Rattle.std.specs.Prelude.{ℕ, List, [], ◌∷◌, Option, Some, None}
 use Rattle.occ_lines.specs.declared.token.Token.{Token}
 use Rattle.occ_lines.specs.declared.token.Token.TheVariants as t
-use Rattle.occ_lines.specs.declared.token.Symbol.{Symbol}
 use Rattle.occ_lines.specs.declared.token.Symbol.TheVariants as s
 use Rattle.occ_lines.specs.declared.token.Word.TheVariants as w
 use Rattle.occ_expressions.specs.Spelling.{Spelling, builtin_then, counted_array, data_form_then, dimension_then, element_then, expr_then, many}

@@ -1,5 +1,5 @@
-use Rattle.std.proofs.Common.{◌⊎◌, inl, inr, refl, [], ◌∷◌}
-use Rattle.occ_base.specs.declared.code.Code.TheVariants.{S1, S3}
+use Rattle.std.proofs.Common.{inl, inr, refl, [], ◌∷◌}
+use Rattle.occ_base.specs.declared.code.Code.TheVariants.{S1}
 use Rattle.occ_forms.specs.Prepared.{IsFormed}
 use Rattle.occ_forms.specs.declared.source.LineBody.TheVariants as held
 use Rattle.occ_forms.specs.declared.tree.Action.TheVariants as a
