@@ -1,5 +1,5 @@
 -- The expansion of a unit is what is made of its entries.
-use Rattle.std.proofs.Common.{◌≡◌, ℕ, false, List, [], ◌∷◌, ◌++◌, take, drop, Option, Some, None, refl, sym, ap, ◌∙◌}
+use Rattle.std.proofs.Common.{◌≡◌, ℕ, false, List, [], ◌∷◌, ◌++◌, take, drop, Option, refl, ap, ◌∙◌}
 use Rattle.std.specs.List.{flat_map}
 use Rattle.occ_base.specs.declared.diag.Diag.{Diag}
 use Rattle.occ_forms.specs.declared.source.SourceLine.{SourceLine}
@@ -8,7 +8,6 @@ use Rattle.occ_project.specs.declared.expanded.ExpandedLine.{ExpandedLine}
 use Rattle.occ_project.specs.declared.expanded.UseLine.{UseLine}
 use Rattle.occ_project.specs.declared.making.Made.{Made}
 use Rattle.occ_project.specs.declared.reads.Read.{Read}
-use Rattle.occ_project.specs.Entries.{entries}
 use Rattle.occ_project.specs.Expansion.{Expansion, entry_faults, entry_lines, entry_names, entry_uses, expansion, expansion_of, first_places, limit_faults, unit_entries}
 use Rattle.occ_project.specs.Making.{after}
 use Rattle.occ_project.specs.Reads.{open_lines}

@@ -1,8 +1,7 @@
 -- Laws of the entries of a file, line by line.
-use Rattle.std.proofs.Common.{◌≡◌, ℕ, zero, suc, ◌+◌, ◌-◌, ◌<◌, true, false, Bool, cond, List, [], ◌∷◌, ◌++◌, Option, Some, None, Result, Err, refl, subst, sym, ap, ◌∙◌, arith}
+use Rattle.std.proofs.Common.{◌≡◌, ℕ, zero, suc, ◌+◌, ◌-◌, ◌<◌, true, false, Bool, cond, List, [], ◌∷◌, ◌++◌, Option, Some, None, Err, refl, sym, ap, ◌∙◌, arith}
 use Rattle.std.specs.Option.{MatchOption, option_map}
 use Rattle.std.specs.Result.{result_ok}
-use Rattle.occ_base.specs.declared.code.Code.{Code}
 use Rattle.occ_base.specs.declared.code.Code.TheVariants.{G5, G6}
 use Rattle.occ_forms.specs.declared.source.LineBody.{LineBody}
 use Rattle.occ_forms.specs.declared.source.LineBody.TheVariants as body
@@ -11,7 +10,7 @@ use Rattle.occ_project.specs.declared.entry.Entry.{Entry}
 use Rattle.occ_project.specs.declared.entry.Held.{Held}
 use Rattle.occ_project.specs.declared.making.Made.{Made}
 use Rattle.occ_project.specs.declared.reads.Read.{Read}
-use Rattle.occ_project.specs.Entries.{FileEntries, entries, file_entries, held, included, inner_entries, is_among, line_entries, put_in}
+use Rattle.occ_project.specs.Entries.{FileEntries, entries, file_entries, held, included, inner_entries, is_among, put_in}
 use Rattle.occ_project.specs.Making.{after, step}
 use Rattle.occ_project.proofs.Made.{after_both, after_over}
 

@@ -4,10 +4,8 @@ use Rattle.std.specs.List.{flat_map}
 use Rattle.std.proofs.lemmas.Bool.Decides.{nat_tests}
 use Rattle.occ_base.specs.declared.diag.Diag.{Diag}
 use Rattle.occ_project.specs.declared.entry.Entry.{Entry}
-use Rattle.occ_project.specs.declared.expanded.ExpandedLine.{ExpandedLine}
-use Rattle.occ_project.specs.declared.expanded.UseLine.{UseLine}
 use Rattle.occ_project.specs.declared.making.Made.{Made}
-use Rattle.occ_project.specs.Expansion.{entry_faults, entry_lines, entry_names, entry_uses, limit_fault, limit_faults}
+use Rattle.occ_project.specs.Expansion.{entry_faults, entry_lines, entry_names, entry_uses, limit_faults}
 use Rattle.occ_project.specs.Making.{after, ended, step, with_entry}
 
 -- first these, then those

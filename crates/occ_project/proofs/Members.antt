@@ -1,10 +1,9 @@
 -- The first member of a name stands at the place that is kept for the name.
-use Rattle.std.proofs.Common.{◌≡◌, ℕ, zero, suc, ◌+◌, true, false, Bool, cond, List, [], ◌∷◌, ◌++◌, length, take, Option, Some, None, refl, subst, sym, ap, ◌∙◌}
+use Rattle.std.proofs.Common.{◌≡◌, ℕ, suc, ◌+◌, true, false, Bool, cond, List, [], ◌∷◌, ◌++◌, length, Option, Some, None, refl, sym, ap, ◌∙◌}
 use Rattle.std.specs.Cmp.Lexicographic.{same_text}
-use Rattle.std.specs.List.{find, slice_get}
+use Rattle.std.specs.List.{slice_get}
 use Rattle.std.specs.Option.{is_some, option_and_then, option_map, option_or}
 use Rattle.std.specs.Ordering.{is_eq}
-use Rattle.std.specs.Str.{bytes_eq}
 use Rattle.std.proofs.lemmas.Map.Text.{is_eq-slice_cmp}
 use Rattle.occ_project.specs.declared.reads.Read.{Read}
 use Rattle.occ_project.specs.Reads.{is_named, member, name_cmp, place}

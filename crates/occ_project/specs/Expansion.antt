@@ -1,5 +1,5 @@
 -- The expansion of a unit: what the first 65,535 of its entries give.
-use Rattle.std.specs.Prelude.{ℕ, Bool, List, [], ◌∷◌, ◌++◌, take, drop, not, Option, Some, None}
+use Rattle.std.specs.Prelude.{ℕ, List, [], ◌∷◌, ◌++◌, take, drop, not, Option, Some, None}
 use Rattle.std.specs.List.{filter, find, flat_map}
 use Rattle.std.specs.Option.{is_some}
 use Rattle.std.specs.Str.{bytes_eq}

@@ -1,5 +1,5 @@
 -- An expansion that is being made, entry by entry.
-use Rattle.std.specs.Prelude.{ℕ, ◌-◌, nat_eq, true, false, cond, List, [], ◌∷◌, ◌++◌}
+use Rattle.std.specs.Prelude.{◌-◌, nat_eq, true, false, cond, List, [], ◌∷◌, ◌++◌}
 use Rattle.occ_project.specs.declared.entry.Entry.{Entry}
 use Rattle.occ_project.specs.declared.making.Made.{Made}
 use Rattle.occ_project.specs.Expansion.{entry_faults, entry_lines, entry_names, entry_uses, limit_fault}

@@ -1,5 +1,4 @@
 ghost use Rattle.occ_project.specs.Entries.{included as what_is_included};
-ghost use Rattle.occ_project.specs.Expansion.{not_given};
 ghost use Rattle.occ_project.specs.Reads.{member as first_member, name_cmp, open_lines as lines_if_open, place};
 ghost use Rattle.std.specs.BTreeMap.{get};
 ghost use Rattle.std.specs.List.{find};

@@ -1,7 +1,7 @@
 ghost use Rattle.occ_project.specs.Expansion.{body_uses, fault_names, held_faults, limit_fault};
 ghost use Rattle.occ_project.specs.Making.{step};
 ghost use Rattle.occ_project.specs.declared.entry.Held.TheVariants as held;
-ghost use Rattle.std.specs.Prelude.{IfOk, OnOk, [], false, ◌∷◌, ◌≡◌, ◌++◌};
+ghost use Rattle.std.specs.Prelude.{OnOk, [], false, ◌≡◌, ◌++◌};
 
 use super::entry::{Entry, Held};
 use super::{ExpandedBody, ExpandedLine, UseLine};

@@ -1,11 +1,9 @@
-use Rattle.std.proofs.Common.{◌≡◌, ◌+◌, ◌<◌, ℕ, List, [], ◌∷◌, ◌++◌, Some, Bor, drop, refl, sym, ap, ◌∙◌, arith}
+use Rattle.std.proofs.Common.{◌+◌, ℕ, List, [], ◌∷◌, ◌++◌, Some, drop, refl, sym, ap, ◌∙◌, arith}
 use Rattle.std.proofs.lemmas.List.{drop_more}
 use Rattle.std.specs.Option.{option_map}
 use Rattle.occ_forms.specs.declared.source.SourceLine.{SourceLine}
 use Rattle.occ_project.specs.declared.expansion.Inner.{Inner}
-use Rattle.occ_project.specs.declared.making.Made.{Made}
-use Rattle.occ_project.specs.declared.reads.Read.{Read}
-use Rattle.occ_project.specs.Entries.{FileEntries, entries, included, put_in}
+use Rattle.occ_project.specs.Entries.{FileEntries}
 use Rattle.occ_project.specs.Making.{after}
 use Rattle.occ_project.proofs.Inclusions.{entries_are, inner_done, line_done, over_now, popped, some_left}
 use Rattle.occ_project.proofs.expansion.+add_file.Goals as goal

@@ -1,9 +1,9 @@
-use Rattle.std.proofs.Common.{◌≡◌, ◌∙◌, ◌∷◌, [], ◌++◌, false, Bor, Option, Some, None, List, ℕ, refl, ap, sym, rules}
+use Rattle.std.proofs.Common.{◌≡◌, ◌∙◌, ◌∷◌, [], ◌++◌, false, Bor, Option, Some, List, ℕ, ap, sym}
 use Rattle.std.specs.Option.{option_copied}
 use Rattle.occ_forms.specs.declared.source.SourceLine.{SourceLine}
 use Rattle.occ_project.specs.declared.making.Made.{Made}
 use Rattle.occ_project.specs.Entries.{entries}
-use Rattle.occ_project.specs.Expansion.{Expansion, expansion, first_places, unit_entries}
+use Rattle.occ_project.specs.Expansion.{first_places, unit_entries}
 use Rattle.occ_project.specs.Making.{after}
 use Rattle.occ_project.proofs.Expansions.{expansion_is, shown, started}
 use Rattle.occ_project.proofs.expansion.expanded.Goals as goal
