@@ -384,3 +384,96 @@ fits_of r ss h n =
         begun_none p.1 (ap (λ (b : Bool). begun b p.1) (sym (settled_false p.0)) ∙ sym (last_items r false p.0 p.1 p.2 p.3)
           ∙ ap (λ (x : List Sort). last_or false (items r x)) (sym p.4) ∙ (parts f).2);
     }
+
+ordered_any : (r : Row) (es : List Sort) (is : List Item) → is_single r ≡ false → is_value r ≡ false → AreOrdered r es is
+ordered_any r es [] s v = tt
+ordered_any r es (i ∷ is) s v = (rw s refl, rw v refl, ordered_any r (i.main ∷ after i.openings es) is s v)
+
+both_false : (a b c : Bool) → c ≡ false → (a && (b && c)) ≡ false
+both_false a b c h = rw h (rw (and_false b) (and_false a))
+
+ordered_single : (r : Row) (is : List Item) → is_single r ≡ true → AreItems r is → length is ≡ 1 → AreOrdered r [] is
+ordered_single r [] s h n = tt
+ordered_single r (i ∷ []) s h n =
+    (both_false (is_single r) (is_main r i.main) (list_any (is_main r) (after i.openings [])) (any_after r (is_main r) i.openings [] (quiet_main r) h.0),
+     rw (single_value r s) refl, tt)
+ordered_single r (i ∷ j ∷ is) s h n = absurd (omega (arith, n))
+
+first_ordered : (v p x q y : Bool) → x ≡ false → q ≡ false → (v && ((p && x) || (q && y))) ≡ false
+first_ordered v p x q y a b = rw a (rw b (rw (and_false p) (and_false v)))
+
+second_ordered : (v p x q e f : Bool) → p ≡ false → e ≡ false → f ≡ true → (v && ((p && x) || (q && (e || not f)))) ≡ false
+second_ordered v p x q e f a b c = rw a (rw b (rw c (rw (and_false q) (and_false v))))
+
+ordered_value : (r : Row) (is : List Item) → is_value r ≡ true → AreItems r is → IsValue is → AreOrdered r [] is
+ordered_value r [] v h x = tt
+ordered_value r (i ∷ []) v h x = absurd x
+ordered_value r (i ∷ j ∷ []) v h x =
+    let no_process = any_after r is_process i.openings [] (quiet_process r) h.0 in
+    let no_result = any_after r is_result i.openings [] (quiet_result r) h.0 in
+    let before = i.main ∷ after i.openings [] in
+    let here : after j.openings before ≡ before = ap (λ (os : List Opening). after os before) x.1 in
+    (rw (value_single r v) refl,
+     first_ordered (is_value r) (is_process i.main) (list_any is_process (after i.openings [])) (is_result i.main) _ no_process (process_result i.main x.0),
+     (rw (value_single r v) refl,
+      second_ordered (is_value r) (is_process j.main) (list_any is_process (after j.openings before)) (is_result j.main) (list_any is_result (after j.openings before)) (follows_first_process (after j.openings before))
+        (ap is_process x.2)
+        (ap (list_any is_result) here ∙ rw (process_result i.main x.0) no_result)
+        (ap follows_first_process here ∙ rw x.0 (rw no_process refl)),
+      tt))
+ordered_value r (i ∷ j ∷ k ∷ is) v h x = absurd x
+
+fits_ordered : (r : Row) (ss : List Sort) (f : Fits r ss) → AreOrdered r [] f.items
+fits_ordered r ss f = elim (cases_Bool (is_single r)) [
+  | inl single ↦ ordered_single r f.items single f.are_items (f.one single)
+  | inr many ↦ elim (cases_Bool (is_value r)) [
+    | inl value ↦ ordered_value r f.items value f.are_items (f.value value)
+    | inr other ↦ ordered_any r [] f.items many other
+    ]
+  ]
+
+pub placed_of : (r : Row) (ss : List Sort) → Fits r ss → AllPlaced r [] ss
+placed_of r ss f =
+    subst (AllPlaced r []) (sym f.spelled) (ordered_placed r [] f.items f.last refl f.are_items f.are_openings (fits_ordered r ss f))
+
+needs_ok : (a b c : Bool) → (a ≡ true → c ≡ true) → (b ≡ true → c ≡ true) → ((a || b) && not c) ≡ false
+needs_ok a b true f g = and_false (a || b)
+needs_ok true b false f g = absurd (false≢true (f refl))
+needs_ok false true false f g = absurd (false≢true (g refl))
+needs_ok false false false f g = refl
+
+one_some : (is : List Item) → length is ≡ 1 → is_some is ≡ true
+one_some [] n = absurd (omega (arith, n))
+one_some (i ∷ is) n = refl
+
+many_some : (is : List Item) → 1 ≤ length is → is_some is ≡ true
+many_some [] n = absurd (omega (arith, n))
+many_some (i ∷ is) n = refl
+
+value_ok : (v p q : Bool) → (v ≡ true → (p ≡ true) × (q ≡ true)) → (v && not (p && q)) ≡ false
+value_ok false p q f = refl
+value_ok true p q f = rw (f refl).0 (rw (f refl).1 refl)
+
+value_has : (r : Row) (is : List Item) (os : List Opening) → AreItems r is → IsValue is
+    → (list_any is_process (items_sorts is (openings_sorts os [])) ≡ true) × (list_any is_result (items_sorts is (openings_sorts os [])) ≡ true)
+value_has r [] os h x = absurd x
+value_has r (i ∷ []) os h x = absurd x
+value_has r (i ∷ j ∷ []) os h x =
+    (any_openings r is_process i.openings _ (quiet_process r) h.0 ∙ rw x.0 refl,
+     any_openings r is_result i.openings _ (quiet_result r) h.0
+       ∙ rw (process_result i.main x.0) (any_openings r is_result j.openings _ (quiet_result r) h.2.0 ∙ rw x.2 refl))
+value_has r (i ∷ j ∷ k ∷ is) os h x = absurd x
+
+lacks_whole : (a b c : Bool) → a ≡ false → b ≡ false → c ≡ false → (a || (b || c)) ≡ false
+lacks_whole a b c p q r = rw p (rw q r)
+
+pub lacks_of : (r : Row) (ss : List Sort) → Fits r ss → NoneLacks r ss
+lacks_of r ss f file =
+    let any : list_any (is_main r) ss ≡ is_some f.items = ap (list_any (is_main r)) f.spelled ∙ any_items r f.items f.last f.are_items f.are_openings in
+    lacks_whole (needs_main r && not (list_any (is_main r) ss)) (is_value r && not (list_any is_process ss && list_any is_result ss)) (ends_specified r ss)
+      (needs_ok (is_single r) (is_list r) (list_any (is_main r) ss) (λ s. any ∙ one_some f.items (f.one s)) (λ l. any ∙ many_some f.items (f.some l)))
+      (value_ok (is_value r) (list_any is_process ss) (list_any is_result ss) (λ v.
+        let has = value_has r f.items f.last f.are_items (f.value v) in
+        (ap (list_any is_process) f.spelled ∙ has.0, ap (list_any is_result) f.spelled ∙ has.1)))
+      (ap (λ (x : List Sort). last_or false (items r x)) f.spelled ∙ last_items r false f.items f.last f.are_items f.are_openings
+        ∙ ap (λ (os : List Opening). begun (settled false f.items) os) (f.alone file) ∙ settled_false f.items)

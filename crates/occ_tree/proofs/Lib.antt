@@ -7,3 +7,5 @@ pub mod Listed
 pub mod Exact
 pub mod Clean
 pub mod Arranged
+pub mod Judged
+pub mod Context

@@ -21,11 +21,11 @@ listing_nested [] = refl
 listing_nested (l ∷ ls) = ap (λ (x : List ExpandedLine). l ∷ x) (listing_split l.depth (nested ls) ∙ listing_nested ls)
 
 -- a line of depth less than d comes first, or none
-abbrev IsAbove : ℕ → List ExpandedLine → Type 0
+abbrev pub IsAbove : ℕ → List ExpandedLine → Type 0
 IsAbove d [] = Unit {0}
 IsAbove d (l ∷ ls) = l.depth < d
 
-above_more : (d : ℕ) (f : Forest) (ls : List ExpandedLine) → HasDepths d f → IsAbove d ls → IsAbove (d + 1) (listing f ++ ls)
+pub above_more : (d : ℕ) (f : Forest) (ls : List ExpandedLine) → HasDepths d f → IsAbove d ls → IsAbove (d + 1) (listing f ++ ls)
 above_more d Empty [] h a = tt
 above_more d Empty (l ∷ ls) h a = omega (arith, a)
 above_more d (Tree l under behind) ls h a = omega (arith, h.0)
