@@ -9,3 +9,4 @@ pub mod Clean
 pub mod Arranged
 pub mod Judged
 pub mod Context
+pub mod Lawful
