@@ -2,3 +2,11 @@ pub mod Reversed
 pub mod Walk
 pub mod Trees
 pub mod Grown
+pub mod Exclusive
+pub mod Listed
+pub mod Exact
+pub mod Clean
+pub mod Arranged
+pub mod Judged
+pub mod Context
+pub mod Lawful

@@ -8,3 +8,4 @@ pub mod Faults
 pub mod Forest
 pub mod Shapes
 pub mod Samples
+pub mod Obeys

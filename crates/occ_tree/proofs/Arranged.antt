@@ -1,0 +1,479 @@
+-- Siblings stand right exactly where they are items.
+use Rattle.std.proofs.Common.{◌≡◌, ◌∙◌, ◌≤◌, ◌⊎◌, ◌||◌, ◌&&◌, ◌++◌, not, ℕ, Bool, true, false, cond, List, [], ◌∷◌, length, inl, inr, refl, sym, ap, subst, arith}
+use Rattle.std.specs.List.{list_any}
+use Rattle.std.proofs.lemmas.Bool.{cases_Bool, false≢true, true≢false}
+use Rattle.occ_tree.specs.declared.row.Row.{Row}
+use Rattle.occ_tree.specs.declared.sort.Sort.{Sort}
+use Rattle.occ_tree.specs.declared.sort.Sort.TheVariants as sort
+use Rattle.occ_tree.specs.Obeys.{AreItems, AreOpenings, Fits, Headed, IsOpening, IsValue, Item, OneLine, Opening, is_file, items_sorts, opening_sorts, openings_sorts}
+use Rattle.occ_tree.specs.Siblings.{elders_of, ends_specified, first_is, follows_first_process, is_beyond, is_disordered, is_loose, is_misplaced, items, lacks, last_or}
+use Rattle.occ_tree.specs.Table.{is_close, is_head, is_list, is_main, is_process, is_result, is_single, is_value, lets_line, may_stand, needs_main, takes_specifications}
+use Rattle.occ_tree.proofs.Exclusive.{close_is, close_main, head_close, head_line, head_main, head_process, head_result, line_close, line_head, line_main, line_process, line_result, list_file, main_head, main_no_close, process_result, result_is, result_process, single_file, single_value, value_file, value_main, value_single}
+
+-- none of them is misplaced, behind those
+abbrev pub AllPlaced : Row → List Sort → List Sort → Type 0
+AllPlaced r es [] = Unit {0}
+AllPlaced r es (s ∷ ss) = (is_misplaced r (elders_of r es) s (first_is is_close ss) ≡ false) × AllPlaced r (s ∷ es) ss
+
+misplaced_parts : (a b c d : Bool) → (not a || (b || (c || d))) ≡ false → (a ≡ true) × (b ≡ false) × (c ≡ false) × (d ≡ false)
+misplaced_parts false b c d e = absurd (true≢false e)
+misplaced_parts true true c d e = absurd (true≢false e)
+misplaced_parts true false true d e = absurd (true≢false e)
+misplaced_parts true false false true e = absurd (true≢false e)
+misplaced_parts true false false false e = (refl, refl, refl, refl)
+
+misplaced_whole : (a b c d : Bool) → a ≡ true → b ≡ false → c ≡ false → d ≡ false → (not a || (b || (c || d))) ≡ false
+misplaced_whole a b c d p q r s = rw p (rw q (rw r (rw s refl)))
+
+stand_rest : (m l t h c : Bool) → (m || (l || (t && (h || c)))) ≡ true → m ≡ false → l ≡ false → (t ≡ true) × ((h || c) ≡ true)
+stand_rest true l t h c e p q = absurd (true≢false p)
+stand_rest false true t h c e p q = absurd (true≢false q)
+stand_rest false false true h c e p q = (refl, e)
+stand_rest false false false h c e p q = absurd (false≢true e)
+
+loose_close : (k h d b : Bool) → ((k && not h) || (d && not b)) ≡ false → k ≡ true → h ≡ true
+loose_close true true d b e p = refl
+loose_close true false d b e p = absurd (true≢false e)
+loose_close false h d b e p = absurd (false≢true p)
+
+loose_head : (k h d b : Bool) → ((k && not h) || (d && not b)) ≡ false → d ≡ true → b ≡ true
+loose_head k h true true e p = refl
+loose_head k h false b e p = absurd (false≢true p)
+loose_head true true true false e p = absurd (true≢false e)
+loose_head true false true false e p = absurd (true≢false e)
+loose_head false h true false e p = absurd (true≢false e)
+
+or_second : (a b : Bool) → (a || b) ≡ true → a ≡ false → b ≡ true
+or_second true b e p = absurd (true≢false p)
+or_second false b e p = e
+
+abbrev Parsed : Row → List Sort → Type 0
+Parsed r ss = (is : List Item) × (os : List Opening) × AreItems r is × AreOpenings r os × (ss ≡ items_sorts is (openings_sorts os []))
+
+add_at : (r : Row) (o : Opening) (ss : List Sort) → IsOpening r o → (is : List Item) (os : List Opening) → AreItems r is → AreOpenings r os
+    → ss ≡ items_sorts is (openings_sorts os []) → Parsed r (opening_sorts o ss)
+add_at r o ss h [] os a b e = ([], o ∷ os, tt, (h, b), ap (opening_sorts o) e)
+add_at r o ss h (i ∷ is) os a b e =
+    ((record { openings = o ∷ i.openings; main = i.main }) ∷ is, os, ((h, a.0), a.1, a.2), b, ap (opening_sorts o) e)
+
+add_opening : (r : Row) (o : Opening) (ss : List Sort) → IsOpening r o → Parsed r ss → Parsed r (opening_sorts o ss)
+add_opening r o ss h p = add_at r o ss h p.0 p.1 p.2 p.3 p.4
+
+add_main : (r : Row) (s : Sort) (ss : List Sort) → is_main r s ≡ true → Parsed r ss → Parsed r (s ∷ ss)
+add_main r s ss h p = ((record { openings = []; main = s }) ∷ p.0, p.1, (tt, h, p.2), p.3, ap (λ (x : List Sort). s ∷ x) p.4)
+
+-- a line that is neither a main line nor a specification of one line
+add_body : (r : Row) (es : List Sort) (s : Sort) (ss : List Sort) → first_is is_head es ≡ false → is_misplaced r (elders_of r es) s (first_is is_close ss) ≡ false
+    → is_main r s ≡ false → lets_line r s ≡ false → (takes_specifications r ≡ true) × (is_head s ≡ true) × (first_is is_close ss ≡ true)
+add_body r es s ss b h other none =
+    let m = misplaced_parts (may_stand r s) (is_loose (elders_of r es) s (first_is is_close ss)) (is_beyond r (elders_of r es) s) (is_disordered r (elders_of r es) s) h in
+    let rest = stand_rest (is_main r s) (lets_line r s) (takes_specifications r) (is_head s) (is_close s) m.0 other none in
+    elim (cases_Bool (is_head s)) [
+    | inl head ↦ (rest.0, head, loose_head (is_close s) (first_is is_head es) (is_head s) (first_is is_close ss) m.1 head)
+    | inr headless ↦
+      absurd (true≢false (sym (loose_close (is_close s) (first_is is_head es) (is_head s) (first_is is_close ss) m.1 (or_second (is_head s) (is_close s) rest.1 headless)) ∙ b))
+    ]
+
+parse : (r : Row) (es ss : List Sort) → first_is is_head es ≡ false → AllPlaced r es ss → Parsed r ss
+parse r es [] b h = ([], [], tt, tt, refl)
+parse r es (s ∷ []) b h = elim (cases_Bool (is_main r s)) [
+  | inl main ↦ add_main r s [] main ([], [], tt, tt, refl)
+  | inr other ↦ elim (cases_Bool (lets_line r s)) [
+    | inl line ↦ add_opening r (OneLine s) [] line ([], [], tt, tt, refl)
+    | inr none ↦ absurd (false≢true (add_body r es s [] b h.0 other none).2)
+    ]
+  ]
+parse r es (s ∷ c ∷ ss) b h = elim (cases_Bool (is_main r s)) [
+  | inl main ↦ add_main r s (c ∷ ss) main (parse r (s ∷ es) (c ∷ ss) (main_head r s main) h.1)
+  | inr other ↦ elim (cases_Bool (lets_line r s)) [
+    | inl line ↦ add_opening r (OneLine s) (c ∷ ss) line (parse r (s ∷ es) (c ∷ ss) (line_head r s line) h.1)
+    | inr none ↦
+      let body = add_body r es s (c ∷ ss) b h.0 other none in
+      let closed = close_is c body.2 in
+      subst (λ (x : Sort). Parsed r (s ∷ x ∷ ss)) (sym closed)
+        (add_opening r (Headed s) ss (body.0, body.1) (parse r (c ∷ s ∷ es) ss (ap is_head closed) h.1.1))
+    ]
+  ]
+
+-- what stands before, the nearest first, behind the specifications
+abbrev after : List Opening → List Sort → List Sort
+after [] es = es
+after (OneLine s ∷ os) es = after os (s ∷ es)
+after (Headed s ∷ os) es = after os (sort.Close ∷ (s ∷ es))
+
+-- no line of a specification passes
+record Quiet (r : Row) (p : Sort → Bool) : Type 0 where
+  line : (s : Sort) → lets_line r s ≡ true → p s ≡ false
+  head : (s : Sort) → is_head s ≡ true → p s ≡ false
+  close : p sort.Close ≡ false
+
+quiet_main : (r : Row) → Quiet r (is_main r)
+quiet_main r = record { line = line_main r; head = head_main r; close = close_main r }
+
+quiet_process : (r : Row) → Quiet r is_process
+quiet_process r = record { line = line_process r; head = head_process; close = refl }
+
+quiet_result : (r : Row) → Quiet r is_result
+quiet_result r = record { line = line_result r; head = head_result; close = refl }
+
+any_after : (r : Row) (p : Sort → Bool) (os : List Opening) (es : List Sort) → Quiet r p → AreOpenings r os → list_any p (after os es) ≡ list_any p es
+any_after r p [] es q h = refl
+any_after r p (OneLine s ∷ os) es q h = any_after r p os (s ∷ es) q h.1 ∙ rw (q.line s h.0) refl
+any_after r p (Headed s ∷ os) es q h = any_after r p os (sort.Close ∷ (s ∷ es)) q h.1 ∙ rw q.close (rw (q.head s h.0.1) refl)
+
+any_openings : (r : Row) (p : Sort → Bool) (os : List Opening) (k : List Sort) → Quiet r p → AreOpenings r os → list_any p (openings_sorts os k) ≡ list_any p k
+any_openings r p [] k q h = refl
+any_openings r p (OneLine s ∷ os) k q h = rw (q.line s h.0) (any_openings r p os k q h.1)
+any_openings r p (Headed s ∷ os) k q h = rw (q.head s h.0.1) (rw q.close (any_openings r p os k q h.1))
+
+head_after : (r : Row) (os : List Opening) (es : List Sort) → first_is is_head es ≡ false → AreOpenings r os → first_is is_head (after os es) ≡ false
+head_after r [] es b h = b
+head_after r (OneLine s ∷ os) es b h = head_after r os (s ∷ es) (line_head r s h.0) h.1
+head_after r (Headed s ∷ os) es b h = head_after r os (sort.Close ∷ (s ∷ es)) refl h.1
+
+unopened : (r : Row) (os : List Opening) (es k : List Sort) → AllPlaced r es (openings_sorts os k) → AllPlaced r (after os es) k
+unopened r [] es k h = h
+unopened r (OneLine s ∷ os) es k h = unopened r os (s ∷ es) k h.1
+unopened r (Headed s ∷ os) es k h = unopened r os (sort.Close ∷ (s ∷ es)) k h.1.1
+
+and_false : (a : Bool) → (a && false) ≡ false
+and_false true = refl
+and_false false = refl
+
+quiet_beyond : (r : Row) (s : Sort) (m : Bool) → is_main r s ≡ false → (is_single r && (is_main r s && m)) ≡ false
+quiet_beyond r s m h = rw h (and_false (is_single r))
+
+quiet_order : (r : Row) (s : Sort) (p q f : Bool) → is_process s ≡ false → is_result s ≡ false
+    → (is_value r && ((is_process s && p) || (is_result s && (q || not f)))) ≡ false
+quiet_order r s p q f h k = rw h (rw k (and_false (is_value r)))
+
+opened : (r : Row) (os : List Opening) (es k : List Sort) → first_is is_head es ≡ false → AreOpenings r os → AllPlaced r (after os es) k → AllPlaced r es (openings_sorts os k)
+opened r [] es k b h p = p
+opened r (OneLine s ∷ os) es k b h p =
+    (misplaced_whole _ _ _ _ (rw (line_main r s h.0) (rw h.0 refl)) (rw (line_close r s h.0) (rw (line_head r s h.0) refl))
+       (quiet_beyond r s _ (line_main r s h.0)) (quiet_order r s _ _ _ (line_process r s h.0) (line_result r s h.0)),
+     opened r os (s ∷ es) k (line_head r s h.0) h.1 p)
+opened r (Headed s ∷ os) es k b h p =
+    (misplaced_whole _ _ _ _ (rw (head_main r s h.0.1) (rw (head_line r s h.0.1) (rw h.0.0 (rw h.0.1 refl)))) (rw (head_close s h.0.1) (rw h.0.1 refl))
+       (quiet_beyond r s _ (head_main r s h.0.1)) (quiet_order r s _ _ _ (head_process s h.0.1) (head_result s h.0.1)),
+     (misplaced_whole _ _ _ _ (rw (close_main r) (rw h.0.0 refl)) (rw h.0.1 refl)
+        (quiet_beyond r sort.Close _ (close_main r)) (quiet_order r sort.Close (elders_of r (s ∷ es)).process (elders_of r (s ∷ es)).result (elders_of r (s ∷ es)).first_process refl refl),
+      opened r os (sort.Close ∷ (s ∷ es)) k refl h.1 p))
+
+-- whether the last item is a specification, behind specifications
+abbrev begun : Bool → List Opening → Bool
+begun b [] = b
+begun b (o ∷ os) = begun true os
+
+last_openings : (r : Row) (b : Bool) (os : List Opening) (k : List Sort) → AreOpenings r os → last_or b (items r (openings_sorts os k)) ≡ last_or (begun b os) (items r k)
+last_openings r b [] k h = refl
+last_openings r b (OneLine s ∷ os) k h = rw (line_main r s h.0) (rw h.0 (last_openings r true os k h.1))
+last_openings r b (Headed s ∷ os) k h =
+    rw (head_main r s h.0.1) (rw (head_line r s h.0.1) (rw h.0.0 (rw h.0.1 (rw (close_main r) (last_openings r true os k h.1)))))
+
+abbrev settled : Bool → List Item → Bool
+settled b [] = b
+settled b (i ∷ is) = settled false is
+
+last_items : (r : Row) (b : Bool) (is : List Item) (os : List Opening) → AreItems r is → AreOpenings r os
+    → last_or b (items r (items_sorts is (openings_sorts os []))) ≡ begun (settled b is) os
+last_items r b [] os h k = last_openings r b os [] k
+last_items r b (i ∷ is) os h k =
+    last_openings r b i.openings (i.main ∷ items_sorts is (openings_sorts os [])) h.0 ∙ rw h.1 (last_items r false is os h.2 k)
+
+settled_false : (is : List Item) → settled false is ≡ false
+settled_false [] = refl
+settled_false (i ∷ is) = settled_false is
+
+begun_true : (os : List Opening) → begun true os ≡ true
+begun_true [] = refl
+begun_true (o ∷ os) = begun_true os
+
+begun_none : (os : List Opening) → begun false os ≡ false → os ≡ []
+begun_none [] e = refl
+begun_none (o ∷ os) e = absurd (true≢false (sym (begun_true os) ∙ e))
+
+abbrev is_some : List Item → Bool
+is_some [] = false
+is_some (i ∷ is) = true
+
+any_items : (r : Row) (is : List Item) (os : List Opening) → AreItems r is → AreOpenings r os
+    → list_any (is_main r) (items_sorts is (openings_sorts os [])) ≡ is_some is
+any_items r [] os h k = any_openings r (is_main r) os [] (quiet_main r) k
+any_items r (i ∷ is) os h k = any_openings r (is_main r) i.openings _ (quiet_main r) h.0 ∙ rw h.1 refl
+
+-- behind those no main line of the items is one too many, and none is out of order
+abbrev AreOrdered : Row → List Sort → List Item → Type 0
+AreOrdered r es [] = Unit {0}
+AreOrdered r es (i ∷ is) =
+    (is_beyond r (elders_of r (after i.openings es)) i.main ≡ false) × (is_disordered r (elders_of r (after i.openings es)) i.main ≡ false)
+    × AreOrdered r (i.main ∷ after i.openings es) is
+
+placed_main : (r : Row) (es : List Sort) (s : Sort) (b : Bool) → is_main r s ≡ true → is_beyond r (elders_of r es) s ≡ false
+    → is_disordered r (elders_of r es) s ≡ false → is_misplaced r (elders_of r es) s b ≡ false
+placed_main r es s b h p q =
+    misplaced_whole (may_stand r s) (is_loose (elders_of r es) s b) (is_beyond r (elders_of r es) s) (is_disordered r (elders_of r es) s)
+      (rw h refl) (rw (main_no_close r s h) (rw (main_head r s h) refl)) p q
+
+ordered_placed : (r : Row) (es : List Sort) (is : List Item) (os : List Opening) → first_is is_head es ≡ false → AreItems r is → AreOpenings r os
+    → AreOrdered r es is → AllPlaced r es (items_sorts is (openings_sorts os []))
+ordered_placed r es [] os b h k o = opened r os es [] b k tt
+ordered_placed r es (i ∷ is) os b h k o =
+    let rest = items_sorts is (openings_sorts os []) in
+    opened r i.openings es (i.main ∷ rest) b h.0
+      (placed_main r (after i.openings es) i.main (first_is is_close rest) h.1 o.0 o.1, ordered_placed r (i.main ∷ after i.openings es) is os (main_head r i.main h.1) h.2 k o.2)
+
+placed_ordered : (r : Row) (es : List Sort) (is : List Item) (os : List Opening) → AllPlaced r es (items_sorts is (openings_sorts os [])) → AreOrdered r es is
+placed_ordered r es [] os h = tt
+placed_ordered r es (i ∷ is) os h =
+    let rest = items_sorts is (openings_sorts os []) in
+    let p = unopened r i.openings es (i.main ∷ rest) h in
+    let before = after i.openings es in
+    let m = misplaced_parts (may_stand r i.main) (is_loose (elders_of r before) i.main (first_is is_close rest)) (is_beyond r (elders_of r before) i.main) (is_disordered r (elders_of r before) i.main) p.0 in
+    (m.2, m.3, placed_ordered r (i.main ∷ before) is os p.1)
+
+or_true : (a : Bool) → (a || true) ≡ true
+or_true true = refl
+or_true false = refl
+
+order_process : (v p x y : Bool) → v ≡ true → p ≡ true → x ≡ true → (v && ((p && x) || y)) ≡ true
+order_process v p x y a b c = rw a (rw b (rw c refl))
+
+order_result : (v p x q y : Bool) → v ≡ true → p ≡ false → q ≡ true → y ≡ true → (v && ((p && x) || (q && y))) ≡ true
+order_result v p x q y a b c d = rw a (rw b (rw c (rw d refl)))
+
+first_no : (e f : Bool) → f ≡ false → (e || not f) ≡ true
+first_no e f h = rw h (or_true e)
+
+none_first : (a b : Bool) → (a || b) ≡ false → (a && not b) ≡ false
+none_first true b h = absurd (true≢false h)
+none_first false b h = refl
+
+follows_none : (es : List Sort) → list_any is_process es ≡ false → follows_first_process es ≡ false
+follows_none [] h = refl
+follows_none (s ∷ es) h = none_first (is_process s) (list_any is_process es) h
+
+follows_opened : (r : Row) (o : Opening) (os : List Opening) (es : List Sort) → AreOpenings r (o ∷ os) → follows_first_process (after (o ∷ os) es) ≡ false
+follows_opened r (OneLine s) [] es h = rw (line_process r s h.0) refl
+follows_opened r (Headed s) [] es h = refl
+follows_opened r (OneLine s) (o ∷ os) es h = follows_opened r o os (s ∷ es) h.1
+follows_opened r (Headed s) (o ∷ os) es h = follows_opened r o os (sort.Close ∷ (s ∷ es)) h.1
+
+-- a line is a process if it is no RESULT
+value_process : {Z : Type 0} (r : Row) (es : List Sort) (s : Sort) → is_value r ≡ true → is_main r s ≡ true
+    → is_disordered r (elders_of r es) s ≡ false → follows_first_process es ≡ false → (is_process s ≡ true → Z) → Z
+value_process r es s v m o f z = elim (value_main r s v m) [
+  | inl process ↦ z process
+  | inr result ↦ absurd (true≢false (sym (order_result (is_value r) (is_process s) (list_any is_process es) (is_result s) (list_any is_result es || not (follows_first_process es)) v (result_process s result) result (first_no _ _ f)) ∙ o))
+  ]
+
+-- and a RESULT if a process stands before it
+value_result : {Z : Type 0} (r : Row) (es : List Sort) (s : Sort) → is_value r ≡ true → is_main r s ≡ true
+    → is_disordered r (elders_of r es) s ≡ false → list_any is_process es ≡ true → (is_result s ≡ true → Z) → Z
+value_result r es s v m o f z = elim (value_main r s v m) [
+  | inl process ↦ absurd (true≢false (sym (order_process (is_value r) (is_process s) (list_any is_process es) (is_result s && (list_any is_result es || not (follows_first_process es))) v process f) ∙ o))
+  | inr result ↦ z result
+  ]
+
+-- which no other RESULT stands before, and no specification
+result_alone : (r : Row) (es : List Sort) (s : Sort) → is_value r ≡ true → is_result s ≡ true → is_disordered r (elders_of r es) s ≡ false
+    → (list_any is_result es || not (follows_first_process es)) ≡ false
+result_alone r es s v h o = elim (cases_Bool (list_any is_result es || not (follows_first_process es))) [
+  | inl bad ↦ absurd (true≢false (sym (order_result (is_value r) (is_process s) (list_any is_process es) (is_result s) (list_any is_result es || not (follows_first_process es)) v (result_process s h) h bad) ∙ o))
+  | inr good ↦ good
+  ]
+
+parted : (a b : Bool) → (a || not b) ≡ false → (a ≡ false) × (b ≡ true)
+parted true b h = absurd (true≢false h)
+parted false true h = (refl, refl)
+parted false false h = absurd (true≢false h)
+
+no_opening : (r : Row) (os : List Opening) (es : List Sort) → AreOpenings r os → follows_first_process (after os es) ≡ true → os ≡ []
+no_opening r [] es h f = refl
+no_opening r (o ∷ os) es h f = absurd (true≢false (sym f ∙ follows_opened r o os es h))
+
+any_process : (r : Row) (os : List Opening) (s : Sort) (es : List Sort) → AreOpenings r os → is_process s ≡ true → list_any is_process (after os (s ∷ es)) ≡ true
+any_process r os s es h p = any_after r is_process os (s ∷ es) (quiet_process r) h ∙ rw p refl
+
+value_items : (r : Row) (is : List Item) (os : List Opening) → is_value r ≡ true → AreItems r is → AreOpenings r os → AreOrdered r [] is
+    → list_any is_process (items_sorts is (openings_sorts os [])) ≡ true → list_any is_result (items_sorts is (openings_sorts os [])) ≡ true → IsValue is
+value_items r [] os v h k o p q = absurd (true≢false (sym p ∙ any_openings r is_process os [] (quiet_process r) k))
+value_items r (i ∷ []) os v h k o p q =
+    let none = follows_none (after i.openings []) (any_after r is_process i.openings [] (quiet_process r) h.0) in
+    value_process r (after i.openings []) i.main v h.1 o.1 none (λ process.
+      absurd (true≢false (sym q ∙ any_openings r is_result i.openings (i.main ∷ openings_sorts os []) (quiet_result r) h.0
+        ∙ rw (process_result i.main process) (any_openings r is_result os [] (quiet_result r) k))))
+value_items r (i ∷ j ∷ []) os v h k o p q =
+    let none = follows_none (after i.openings []) (any_after r is_process i.openings [] (quiet_process r) h.0) in
+    let before = i.main ∷ after i.openings [] in
+    value_process r (after i.openings []) i.main v h.1 o.1 none (λ process.
+      value_result r (after j.openings before) j.main v h.2.1 o.2.1 (any_process r j.openings i.main (after i.openings []) h.2.0 process) (λ result.
+        let alone = parted _ _ (result_alone r (after j.openings before) j.main v result o.2.1) in
+        (process, no_opening r j.openings before h.2.0 alone.1, result_is j.main result)))
+value_items r (i ∷ j ∷ k ∷ is) os v h l o p q =
+    let none = follows_none (after i.openings []) (any_after r is_process i.openings [] (quiet_process r) h.0) in
+    let one = i.main ∷ after i.openings [] in
+    let two = j.main ∷ after j.openings one in
+    value_process r (after i.openings []) i.main v h.1 o.1 none (λ process.
+      let some = any_process r j.openings i.main (after i.openings []) h.2.0 process in
+      value_result r (after j.openings one) j.main v h.2.1 o.2.1 some (λ result.
+        let more : list_any is_process (after k.openings two) ≡ true
+            = any_after r is_process k.openings two (quiet_process r) h.2.2.0 ∙ rw some (or_true (is_process j.main)) in
+        value_result r (after k.openings two) k.main v h.2.2.1 o.2.2.1 more (λ again.
+          let alone = parted _ _ (result_alone r (after k.openings two) k.main v again o.2.2.1) in
+          absurd (true≢false (sym (any_after r is_result k.openings two (quiet_result r) h.2.2.0 ∙ rw result refl) ∙ alone.0)))))
+
+single_one : (r : Row) (is : List Item) → is_single r ≡ true → AreItems r is → AreOrdered r [] is → is_some is ≡ true → length is ≡ 1
+single_one r [] s h o n = absurd (false≢true n)
+single_one r (i ∷ []) s h o n = refl
+single_one r (i ∷ j ∷ is) s h o n =
+    absurd (true≢false (sym (rw s (rw h.2.1 (any_after r (is_main r) j.openings (i.main ∷ after i.openings []) (quiet_main r) h.2.0 ∙ rw h.1 refl))) ∙ o.2.0))
+
+some_one : (is : List Item) → is_some is ≡ true → 1 ≤ length is
+some_one [] n = absurd (false≢true n)
+some_one (i ∷ is) n = omega arith
+
+needed : (a m x : Bool) → ((a && not m) || x) ≡ false → a ≡ true → m ≡ true
+needed true true x e h = refl
+needed true false x e h = absurd (true≢false e)
+needed false m x e h = absurd (false≢true h)
+
+or_rest : (a b : Bool) → (a || b) ≡ false → b ≡ false
+or_rest true b e = absurd (true≢false e)
+or_rest false b e = e
+
+both : (v p q : Bool) → ((v && not (p && q)) || false) ≡ false → v ≡ true → (p ≡ true) × (q ≡ true)
+both true true true e h = (refl, refl)
+both true true false e h = absurd (true≢false e)
+both true false q e h = absurd (true≢false e)
+both false p q e h = absurd (false≢true h)
+
+no_true : (a v : Bool) → (a || (v || true)) ≡ true
+no_true true v = refl
+no_true false v = or_true v
+
+lacks_parts : (a m v p q b : Bool) → ((a && not m) || ((v && not (p && q)) || b)) ≡ false
+    → (a ≡ true → m ≡ true) × (v ≡ true → (p ≡ true) × (q ≡ true)) × (b ≡ false)
+lacks_parts a m v p q true e = absurd (true≢false (sym (no_true (a && not m) (v && not (p && q))) ∙ e))
+lacks_parts a m v p q false e = (λ h. needed a m _ e h, λ h. both v p q (or_rest (a && not m) _ e) h, refl)
+
+-- nothing lacks but in a file, where nothing is asked
+abbrev pub NoneLacks : Row → List Sort → Type 0
+NoneLacks r ss = is_file r ≡ false → lacks r ss ≡ false
+
+pub fits_of : (r : Row) (ss : List Sort) → AllPlaced r [] ss → NoneLacks r ss → Fits r ss
+fits_of r ss h n =
+    let p = parse r [] ss refl h in
+    let ordered = placed_ordered r [] p.0 p.1 (subst (AllPlaced r []) p.4 h) in
+    let parts : is_file r ≡ false → (needs_main r ≡ true → list_any (is_main r) ss ≡ true) × (is_value r ≡ true → (list_any is_process ss ≡ true) × (list_any is_result ss ≡ true)) × (ends_specified r ss ≡ false)
+        = λ f. lacks_parts (needs_main r) (list_any (is_main r) ss) (is_value r) (list_any is_process ss) (list_any is_result ss) (ends_specified r ss) (n f) in
+    let some : is_file r ≡ false → needs_main r ≡ true → is_some p.0 ≡ true
+        = λ f a. sym (any_items r p.0 p.1 p.2 p.3) ∙ ap (list_any (is_main r)) (sym p.4) ∙ (parts f).0 a in
+    record {
+      items = p.0;
+      last = p.1;
+      are_items = p.2;
+      are_openings = p.3;
+      spelled = p.4;
+      one = λ s. single_one r p.0 s p.2 ordered (some (single_file r s) (rw s refl));
+      some = λ l. some_one p.0 (some (list_file r l) (rw l (or_true (is_single r))));
+      value = λ v.
+        let both = (parts (value_file r v)).1 v in
+        value_items r p.0 p.1 v p.2 p.3 ordered (ap (list_any is_process) (sym p.4) ∙ both.0) (ap (list_any is_result) (sym p.4) ∙ both.1);
+      alone = λ f.
+        begun_none p.1 (ap (λ (b : Bool). begun b p.1) (sym (settled_false p.0)) ∙ sym (last_items r false p.0 p.1 p.2 p.3)
+          ∙ ap (λ (x : List Sort). last_or false (items r x)) (sym p.4) ∙ (parts f).2);
+    }
+
+ordered_any : (r : Row) (es : List Sort) (is : List Item) → is_single r ≡ false → is_value r ≡ false → AreOrdered r es is
+ordered_any r es [] s v = tt
+ordered_any r es (i ∷ is) s v = (rw s refl, rw v refl, ordered_any r (i.main ∷ after i.openings es) is s v)
+
+both_false : (a b c : Bool) → c ≡ false → (a && (b && c)) ≡ false
+both_false a b c h = rw h (rw (and_false b) (and_false a))
+
+ordered_single : (r : Row) (is : List Item) → is_single r ≡ true → AreItems r is → length is ≡ 1 → AreOrdered r [] is
+ordered_single r [] s h n = tt
+ordered_single r (i ∷ []) s h n =
+    (both_false (is_single r) (is_main r i.main) (list_any (is_main r) (after i.openings [])) (any_after r (is_main r) i.openings [] (quiet_main r) h.0),
+     rw (single_value r s) refl, tt)
+ordered_single r (i ∷ j ∷ is) s h n = absurd (omega (arith, n))
+
+first_ordered : (v p x q y : Bool) → x ≡ false → q ≡ false → (v && ((p && x) || (q && y))) ≡ false
+first_ordered v p x q y a b = rw a (rw b (rw (and_false p) (and_false v)))
+
+second_ordered : (v p x q e f : Bool) → p ≡ false → e ≡ false → f ≡ true → (v && ((p && x) || (q && (e || not f)))) ≡ false
+second_ordered v p x q e f a b c = rw a (rw b (rw c (rw (and_false q) (and_false v))))
+
+ordered_value : (r : Row) (is : List Item) → is_value r ≡ true → AreItems r is → IsValue is → AreOrdered r [] is
+ordered_value r [] v h x = tt
+ordered_value r (i ∷ []) v h x = absurd x
+ordered_value r (i ∷ j ∷ []) v h x =
+    let no_process = any_after r is_process i.openings [] (quiet_process r) h.0 in
+    let no_result = any_after r is_result i.openings [] (quiet_result r) h.0 in
+    let before = i.main ∷ after i.openings [] in
+    let here : after j.openings before ≡ before = ap (λ (os : List Opening). after os before) x.1 in
+    (rw (value_single r v) refl,
+     first_ordered (is_value r) (is_process i.main) (list_any is_process (after i.openings [])) (is_result i.main) _ no_process (process_result i.main x.0),
+     (rw (value_single r v) refl,
+      second_ordered (is_value r) (is_process j.main) (list_any is_process (after j.openings before)) (is_result j.main) (list_any is_result (after j.openings before)) (follows_first_process (after j.openings before))
+        (ap is_process x.2)
+        (ap (list_any is_result) here ∙ rw (process_result i.main x.0) no_result)
+        (ap follows_first_process here ∙ rw x.0 (rw no_process refl)),
+      tt))
+ordered_value r (i ∷ j ∷ k ∷ is) v h x = absurd x
+
+fits_ordered : (r : Row) (ss : List Sort) (f : Fits r ss) → AreOrdered r [] f.items
+fits_ordered r ss f = elim (cases_Bool (is_single r)) [
+  | inl single ↦ ordered_single r f.items single f.are_items (f.one single)
+  | inr many ↦ elim (cases_Bool (is_value r)) [
+    | inl value ↦ ordered_value r f.items value f.are_items (f.value value)
+    | inr other ↦ ordered_any r [] f.items many other
+    ]
+  ]
+
+pub placed_of : (r : Row) (ss : List Sort) → Fits r ss → AllPlaced r [] ss
+placed_of r ss f =
+    subst (AllPlaced r []) (sym f.spelled) (ordered_placed r [] f.items f.last refl f.are_items f.are_openings (fits_ordered r ss f))
+
+needs_ok : (a b c : Bool) → (a ≡ true → c ≡ true) → (b ≡ true → c ≡ true) → ((a || b) && not c) ≡ false
+needs_ok a b true f g = and_false (a || b)
+needs_ok true b false f g = absurd (false≢true (f refl))
+needs_ok false true false f g = absurd (false≢true (g refl))
+needs_ok false false false f g = refl
+
+one_some : (is : List Item) → length is ≡ 1 → is_some is ≡ true
+one_some [] n = absurd (omega (arith, n))
+one_some (i ∷ is) n = refl
+
+many_some : (is : List Item) → 1 ≤ length is → is_some is ≡ true
+many_some [] n = absurd (omega (arith, n))
+many_some (i ∷ is) n = refl
+
+value_ok : (v p q : Bool) → (v ≡ true → (p ≡ true) × (q ≡ true)) → (v && not (p && q)) ≡ false
+value_ok false p q f = refl
+value_ok true p q f = rw (f refl).0 (rw (f refl).1 refl)
+
+value_has : (r : Row) (is : List Item) (os : List Opening) → AreItems r is → IsValue is
+    → (list_any is_process (items_sorts is (openings_sorts os [])) ≡ true) × (list_any is_result (items_sorts is (openings_sorts os [])) ≡ true)
+value_has r [] os h x = absurd x
+value_has r (i ∷ []) os h x = absurd x
+value_has r (i ∷ j ∷ []) os h x =
+    (any_openings r is_process i.openings _ (quiet_process r) h.0 ∙ rw x.0 refl,
+     any_openings r is_result i.openings _ (quiet_result r) h.0
+       ∙ rw (process_result i.main x.0) (any_openings r is_result j.openings _ (quiet_result r) h.2.0 ∙ rw x.2 refl))
+value_has r (i ∷ j ∷ k ∷ is) os h x = absurd x
+
+lacks_whole : (a b c : Bool) → a ≡ false → b ≡ false → c ≡ false → (a || (b || c)) ≡ false
+lacks_whole a b c p q r = rw p (rw q r)
+
+pub lacks_of : (r : Row) (ss : List Sort) → Fits r ss → NoneLacks r ss
+lacks_of r ss f file =
+    let any : list_any (is_main r) ss ≡ is_some f.items = ap (list_any (is_main r)) f.spelled ∙ any_items r f.items f.last f.are_items f.are_openings in
+    lacks_whole (needs_main r && not (list_any (is_main r) ss)) (is_value r && not (list_any is_process ss && list_any is_result ss)) (ends_specified r ss)
+      (needs_ok (is_single r) (is_list r) (list_any (is_main r) ss) (λ s. any ∙ one_some f.items (f.one s)) (λ l. any ∙ many_some f.items (f.some l)))
+      (value_ok (is_value r) (list_any is_process ss) (list_any is_result ss) (λ v.
+        let has = value_has r f.items f.last f.are_items (f.value v) in
+        (ap (list_any is_process) f.spelled ∙ has.0, ap (list_any is_result) f.spelled ∙ has.1)))
+      (ap (λ (x : List Sort). last_or false (items r x)) f.spelled ∙ last_items r false f.items f.last f.are_items f.are_openings
+        ∙ ap (λ (os : List Opening). begun (settled false f.items) os) (f.alone file) ∙ settled_false f.items)

@@ -1,0 +1,5 @@
+use Rattle.occ_tree.proofs.Lawful.{one_law, shape_law}
+use Rattle.occ_tree.proofs.laws.shape_law.Goals as goal
+
+pub returns : goal.returns
+returns c = record { exact = shape_law; one = one_law }
