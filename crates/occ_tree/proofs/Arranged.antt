@@ -1,5 +1,5 @@
 -- Siblings stand right exactly where they are items.
-use Rattle.std.proofs.Common.{◌≡◌, ◌∙◌, ◌≤◌, ◌⊎◌, ◌||◌, ◌&&◌, ◌++◌, not, ℕ, Bool, true, false, cond, List, [], ◌∷◌, length, inl, inr, refl, sym, ap, subst, arith}
+use Rattle.std.proofs.Common.{◌≡◌, ◌∙◌, ◌≤◌, ◌||◌, ◌&&◌, not, Bool, true, false, List, [], ◌∷◌, length, inl, inr, refl, sym, ap, subst, arith}
 use Rattle.std.specs.List.{list_any}
 use Rattle.std.proofs.lemmas.Bool.{cases_Bool, false≢true, true≢false}
 use Rattle.occ_tree.specs.declared.row.Row.{Row}
@@ -69,9 +69,9 @@ add_body r es s ss b h other none =
     let m = misplaced_parts (may_stand r s) (is_loose (elders_of r es) s (first_is is_close ss)) (is_beyond r (elders_of r es) s) (is_disordered r (elders_of r es) s) h in
     let rest = stand_rest (is_main r s) (lets_line r s) (takes_specifications r) (is_head s) (is_close s) m.0 other none in
     elim (cases_Bool (is_head s)) [
-    | inl head ↦ (rest.0, head, loose_head (is_close s) (first_is is_head es) (is_head s) (first_is is_close ss) m.1 head)
-    | inr headless ↦
-      absurd (true≢false (sym (loose_close (is_close s) (first_is is_head es) (is_head s) (first_is is_close ss) m.1 (or_second (is_head s) (is_close s) rest.1 headless)) ∙ b))
+      | inl head ↦ (rest.0, head, loose_head (is_close s) (first_is is_head es) (is_head s) (first_is is_close ss) m.1 head)
+      | inr headless ↦
+          absurd (true≢false (sym (loose_close (is_close s) (first_is is_head es) (is_head s) (first_is is_close ss) m.1 (or_second (is_head s) (is_close s) rest.1 headless)) ∙ b))
     ]
 
 parse : (r : Row) (es ss : List Sort) → first_is is_head es ≡ false → AllPlaced r es ss → Parsed r ss
@@ -81,19 +81,19 @@ parse r es (s ∷ []) b h = elim (cases_Bool (is_main r s)) [
   | inr other ↦ elim (cases_Bool (lets_line r s)) [
     | inl line ↦ add_opening r (OneLine s) [] line ([], [], tt, tt, refl)
     | inr none ↦ absurd (false≢true (add_body r es s [] b h.0 other none).2)
-    ]
   ]
+]
 parse r es (s ∷ c ∷ ss) b h = elim (cases_Bool (is_main r s)) [
   | inl main ↦ add_main r s (c ∷ ss) main (parse r (s ∷ es) (c ∷ ss) (main_head r s main) h.1)
   | inr other ↦ elim (cases_Bool (lets_line r s)) [
     | inl line ↦ add_opening r (OneLine s) (c ∷ ss) line (parse r (s ∷ es) (c ∷ ss) (line_head r s line) h.1)
     | inr none ↦
-      let body = add_body r es s (c ∷ ss) b h.0 other none in
-      let closed = close_is c body.2 in
-      subst (λ (x : Sort). Parsed r (s ∷ x ∷ ss)) (sym closed)
+        let body = add_body r es s (c ∷ ss) b h.0 other none in
+        let closed = close_is c body.2 in
+        subst (λ (x : Sort). Parsed r (s ∷ x ∷ ss)) (sym closed)
         (add_opening r (Headed s) ss (body.0, body.1) (parse r (c ∷ s ∷ es) ss (ap is_head closed) h.1.1))
-    ]
   ]
+]
 
 -- what stands before, the nearest first, behind the specifications
 abbrev after : List Opening → List Sort → List Sort
@@ -149,16 +149,20 @@ quiet_order r s p q f h k = rw h (rw k (and_false (is_value r)))
 
 opened : (r : Row) (os : List Opening) (es k : List Sort) → first_is is_head es ≡ false → AreOpenings r os → AllPlaced r (after os es) k → AllPlaced r es (openings_sorts os k)
 opened r [] es k b h p = p
-opened r (OneLine s ∷ os) es k b h p =
-    (misplaced_whole _ _ _ _ (rw (line_main r s h.0) (rw h.0 refl)) (rw (line_close r s h.0) (rw (line_head r s h.0) refl))
-       (quiet_beyond r s _ (line_main r s h.0)) (quiet_order r s _ _ _ (line_process r s h.0) (line_result r s h.0)),
-     opened r os (s ∷ es) k (line_head r s h.0) h.1 p)
-opened r (Headed s ∷ os) es k b h p =
-    (misplaced_whole _ _ _ _ (rw (head_main r s h.0.1) (rw (head_line r s h.0.1) (rw h.0.0 (rw h.0.1 refl)))) (rw (head_close s h.0.1) (rw h.0.1 refl))
-       (quiet_beyond r s _ (head_main r s h.0.1)) (quiet_order r s _ _ _ (head_process s h.0.1) (head_result s h.0.1)),
-     (misplaced_whole _ _ _ _ (rw (close_main r) (rw h.0.0 refl)) (rw h.0.1 refl)
+opened r (OneLine s ∷ os) es k b h p = (
+  misplaced_whole _ _ _ _ (rw (line_main r s h.0) (rw h.0 refl)) (rw (line_close r s h.0) (rw (line_head r s h.0) refl))
+      (quiet_beyond r s _ (line_main r s h.0)) (quiet_order r s _ _ _ (line_process r s h.0) (line_result r s h.0)),
+  opened r os (s ∷ es) k (line_head r s h.0) h.1 p,
+)
+opened r (Headed s ∷ os) es k b h p = (
+  misplaced_whole _ _ _ _ (rw (head_main r s h.0.1) (rw (head_line r s h.0.1) (rw h.0.0 (rw h.0.1 refl)))) (rw (head_close s h.0.1) (rw h.0.1 refl))
+      (quiet_beyond r s _ (head_main r s h.0.1)) (quiet_order r s _ _ _ (head_process s h.0.1) (head_result s h.0.1)),
+  (
+    misplaced_whole _ _ _ _ (rw (close_main r) (rw h.0.0 refl)) (rw h.0.1 refl)
         (quiet_beyond r sort.Close _ (close_main r)) (quiet_order r sort.Close (elders_of r (s ∷ es)).process (elders_of r (s ∷ es)).result (elders_of r (s ∷ es)).first_process refl refl),
-      opened r os (sort.Close ∷ (s ∷ es)) k refl h.1 p))
+    opened r os (sort.Close ∷ (s ∷ es)) k refl h.1 p,
+  ),
+)
 
 -- whether the last item is a specification, behind specifications
 abbrev begun : Bool → List Opening → Bool
@@ -213,7 +217,7 @@ placed_main : (r : Row) (es : List Sort) (s : Sort) (b : Bool) → is_main r s �
     → is_disordered r (elders_of r es) s ≡ false → is_misplaced r (elders_of r es) s b ≡ false
 placed_main r es s b h p q =
     misplaced_whole (may_stand r s) (is_loose (elders_of r es) s b) (is_beyond r (elders_of r es) s) (is_disordered r (elders_of r es) s)
-      (rw h refl) (rw (main_no_close r s h) (rw (main_head r s h) refl)) p q
+    (rw h refl) (rw (main_no_close r s h) (rw (main_head r s h) refl)) p q
 
 ordered_placed : (r : Row) (es : List Sort) (is : List Item) (os : List Opening) → first_is is_head es ≡ false → AreItems r is → AreOpenings r os
     → AreOrdered r es is → AllPlaced r es (items_sorts is (openings_sorts os []))
@@ -221,7 +225,7 @@ ordered_placed r es [] os b h k o = opened r os es [] b k tt
 ordered_placed r es (i ∷ is) os b h k o =
     let rest = items_sorts is (openings_sorts os []) in
     opened r i.openings es (i.main ∷ rest) b h.0
-      (placed_main r (after i.openings es) i.main (first_is is_close rest) h.1 o.0 o.1, ordered_placed r (i.main ∷ after i.openings es) is os (main_head r i.main h.1) h.2 k o.2)
+    (placed_main r (after i.openings es) i.main (first_is is_close rest) h.1 o.0 o.1, ordered_placed r (i.main ∷ after i.openings es) is os (main_head r i.main h.1) h.2 k o.2)
 
 placed_ordered : (r : Row) (es : List Sort) (is : List Item) (os : List Opening) → AllPlaced r es (items_sorts is (openings_sorts os [])) → AreOrdered r es is
 placed_ordered r es [] os h = tt
@@ -265,7 +269,7 @@ value_process : {Z : Type 0} (r : Row) (es : List Sort) (s : Sort) → is_value 
 value_process r es s v m o f z = elim (value_main r s v m) [
   | inl process ↦ z process
   | inr result ↦ absurd (true≢false (sym (order_result (is_value r) (is_process s) (list_any is_process es) (is_result s) (list_any is_result es || not (follows_first_process es)) v (result_process s result) result (first_no _ _ f)) ∙ o))
-  ]
+]
 
 -- and a RESULT if a process stands before it
 value_result : {Z : Type 0} (r : Row) (es : List Sort) (s : Sort) → is_value r ≡ true → is_main r s ≡ true
@@ -273,7 +277,7 @@ value_result : {Z : Type 0} (r : Row) (es : List Sort) (s : Sort) → is_value r
 value_result r es s v m o f z = elim (value_main r s v m) [
   | inl process ↦ absurd (true≢false (sym (order_process (is_value r) (is_process s) (list_any is_process es) (is_result s && (list_any is_result es || not (follows_first_process es))) v process f) ∙ o))
   | inr result ↦ z result
-  ]
+]
 
 -- which no other RESULT stands before, and no specification
 result_alone : (r : Row) (es : List Sort) (s : Sort) → is_value r ≡ true → is_result s ≡ true → is_disordered r (elders_of r es) s ≡ false
@@ -281,7 +285,7 @@ result_alone : (r : Row) (es : List Sort) (s : Sort) → is_value r ≡ true →
 result_alone r es s v h o = elim (cases_Bool (list_any is_result es || not (follows_first_process es))) [
   | inl bad ↦ absurd (true≢false (sym (order_result (is_value r) (is_process s) (list_any is_process es) (is_result s) (list_any is_result es || not (follows_first_process es)) v (result_process s h) h bad) ∙ o))
   | inr good ↦ good
-  ]
+]
 
 parted : (a b : Bool) → (a || not b) ≡ false → (a ≡ false) × (b ≡ true)
 parted true b h = absurd (true≢false h)
@@ -301,27 +305,27 @@ value_items r [] os v h k o p q = absurd (true≢false (sym p ∙ any_openings r
 value_items r (i ∷ []) os v h k o p q =
     let none = follows_none (after i.openings []) (any_after r is_process i.openings [] (quiet_process r) h.0) in
     value_process r (after i.openings []) i.main v h.1 o.1 none (λ process.
-      absurd (true≢false (sym q ∙ any_openings r is_result i.openings (i.main ∷ openings_sorts os []) (quiet_result r) h.0
-        ∙ rw (process_result i.main process) (any_openings r is_result os [] (quiet_result r) k))))
+    absurd (true≢false (sym q ∙ any_openings r is_result i.openings (i.main ∷ openings_sorts os []) (quiet_result r) h.0
+    ∙ rw (process_result i.main process) (any_openings r is_result os [] (quiet_result r) k))))
 value_items r (i ∷ j ∷ []) os v h k o p q =
     let none = follows_none (after i.openings []) (any_after r is_process i.openings [] (quiet_process r) h.0) in
     let before = i.main ∷ after i.openings [] in
     value_process r (after i.openings []) i.main v h.1 o.1 none (λ process.
-      value_result r (after j.openings before) j.main v h.2.1 o.2.1 (any_process r j.openings i.main (after i.openings []) h.2.0 process) (λ result.
-        let alone = parted _ _ (result_alone r (after j.openings before) j.main v result o.2.1) in
-        (process, no_opening r j.openings before h.2.0 alone.1, result_is j.main result)))
+    value_result r (after j.openings before) j.main v h.2.1 o.2.1 (any_process r j.openings i.main (after i.openings []) h.2.0 process) (λ result.
+    let alone = parted _ _ (result_alone r (after j.openings before) j.main v result o.2.1) in
+    (process, no_opening r j.openings before h.2.0 alone.1, result_is j.main result)))
 value_items r (i ∷ j ∷ k ∷ is) os v h l o p q =
     let none = follows_none (after i.openings []) (any_after r is_process i.openings [] (quiet_process r) h.0) in
     let one = i.main ∷ after i.openings [] in
     let two = j.main ∷ after j.openings one in
     value_process r (after i.openings []) i.main v h.1 o.1 none (λ process.
-      let some = any_process r j.openings i.main (after i.openings []) h.2.0 process in
-      value_result r (after j.openings one) j.main v h.2.1 o.2.1 some (λ result.
-        let more : list_any is_process (after k.openings two) ≡ true
-            = any_after r is_process k.openings two (quiet_process r) h.2.2.0 ∙ rw some (or_true (is_process j.main)) in
-        value_result r (after k.openings two) k.main v h.2.2.1 o.2.2.1 more (λ again.
-          let alone = parted _ _ (result_alone r (after k.openings two) k.main v again o.2.2.1) in
-          absurd (true≢false (sym (any_after r is_result k.openings two (quiet_result r) h.2.2.0 ∙ rw result refl) ∙ alone.0)))))
+    let some = any_process r j.openings i.main (after i.openings []) h.2.0 process in
+    value_result r (after j.openings one) j.main v h.2.1 o.2.1 some (λ result.
+    let more : list_any is_process (after k.openings two) ≡ true
+    = any_after r is_process k.openings two (quiet_process r) h.2.2.0 ∙ rw some (or_true (is_process j.main)) in
+    value_result r (after k.openings two) k.main v h.2.2.1 o.2.2.1 more (λ again.
+    let alone = parted _ _ (result_alone r (after k.openings two) k.main v again o.2.2.1) in
+    absurd (true≢false (sym (any_after r is_result k.openings two (quiet_result r) h.2.2.0 ∙ rw result refl) ∙ alone.0)))))
 
 single_one : (r : Row) (is : List Item) → is_single r ≡ true → AreItems r is → AreOrdered r [] is → is_some is ≡ true → length is ≡ 1
 single_one r [] s h o n = absurd (false≢true n)
@@ -366,9 +370,9 @@ fits_of r ss h n =
     let p = parse r [] ss refl h in
     let ordered = placed_ordered r [] p.0 p.1 (subst (AllPlaced r []) p.4 h) in
     let parts : is_file r ≡ false → (needs_main r ≡ true → list_any (is_main r) ss ≡ true) × (is_value r ≡ true → (list_any is_process ss ≡ true) × (list_any is_result ss ≡ true)) × (ends_specified r ss ≡ false)
-        = λ f. lacks_parts (needs_main r) (list_any (is_main r) ss) (is_value r) (list_any is_process ss) (list_any is_result ss) (ends_specified r ss) (n f) in
+    = λ f. lacks_parts (needs_main r) (list_any (is_main r) ss) (is_value r) (list_any is_process ss) (list_any is_result ss) (ends_specified r ss) (n f) in
     let some : is_file r ≡ false → needs_main r ≡ true → is_some p.0 ≡ true
-        = λ f a. sym (any_items r p.0 p.1 p.2 p.3) ∙ ap (list_any (is_main r)) (sym p.4) ∙ (parts f).0 a in
+    = λ f a. sym (any_items r p.0 p.1 p.2 p.3) ∙ ap (list_any (is_main r)) (sym p.4) ∙ (parts f).0 a in
     record {
       items = p.0;
       last = p.1;
@@ -378,10 +382,10 @@ fits_of r ss h n =
       one = λ s. single_one r p.0 s p.2 ordered (some (single_file r s) (rw s refl));
       some = λ l. some_one p.0 (some (list_file r l) (rw l (or_true (is_single r))));
       value = λ v.
-        let both = (parts (value_file r v)).1 v in
-        value_items r p.0 p.1 v p.2 p.3 ordered (ap (list_any is_process) (sym p.4) ∙ both.0) (ap (list_any is_result) (sym p.4) ∙ both.1);
+          let both = (parts (value_file r v)).1 v in
+          value_items r p.0 p.1 v p.2 p.3 ordered (ap (list_any is_process) (sym p.4) ∙ both.0) (ap (list_any is_result) (sym p.4) ∙ both.1);
       alone = λ f.
-        begun_none p.1 (ap (λ (b : Bool). begun b p.1) (sym (settled_false p.0)) ∙ sym (last_items r false p.0 p.1 p.2 p.3)
+          begun_none p.1 (ap (λ (b : Bool). begun b p.1) (sym (settled_false p.0)) ∙ sym (last_items r false p.0 p.1 p.2 p.3)
           ∙ ap (λ (x : List Sort). last_or false (items r x)) (sym p.4) ∙ (parts f).2);
     }
 
@@ -394,9 +398,11 @@ both_false a b c h = rw h (rw (and_false b) (and_false a))
 
 ordered_single : (r : Row) (is : List Item) → is_single r ≡ true → AreItems r is → length is ≡ 1 → AreOrdered r [] is
 ordered_single r [] s h n = tt
-ordered_single r (i ∷ []) s h n =
-    (both_false (is_single r) (is_main r i.main) (list_any (is_main r) (after i.openings [])) (any_after r (is_main r) i.openings [] (quiet_main r) h.0),
-     rw (single_value r s) refl, tt)
+ordered_single r (i ∷ []) s h n = (
+  both_false (is_single r) (is_main r i.main) (list_any (is_main r) (after i.openings [])) (any_after r (is_main r) i.openings [] (quiet_main r) h.0),
+  rw (single_value r s) refl,
+  tt,
+)
 ordered_single r (i ∷ j ∷ is) s h n = absurd (omega (arith, n))
 
 first_ordered : (v p x q y : Bool) → x ≡ false → q ≡ false → (v && ((p && x) || (q && y))) ≡ false
@@ -412,15 +418,18 @@ ordered_value r (i ∷ j ∷ []) v h x =
     let no_process = any_after r is_process i.openings [] (quiet_process r) h.0 in
     let no_result = any_after r is_result i.openings [] (quiet_result r) h.0 in
     let before = i.main ∷ after i.openings [] in
-    let here : after j.openings before ≡ before = ap (λ (os : List Opening). after os before) x.1 in
-    (rw (value_single r v) refl,
-     first_ordered (is_value r) (is_process i.main) (list_any is_process (after i.openings [])) (is_result i.main) _ no_process (process_result i.main x.0),
-     (rw (value_single r v) refl,
-      second_ordered (is_value r) (is_process j.main) (list_any is_process (after j.openings before)) (is_result j.main) (list_any is_result (after j.openings before)) (follows_first_process (after j.openings before))
-        (ap is_process x.2)
-        (ap (list_any is_result) here ∙ rw (process_result i.main x.0) no_result)
-        (ap follows_first_process here ∙ rw x.0 (rw no_process refl)),
-      tt))
+    let here : after j.openings before ≡ before = ap (λ (os : List Opening). after os before) x.1 in (
+      rw (value_single r v) refl,
+      first_ordered (is_value r) (is_process i.main) (list_any is_process (after i.openings [])) (is_result i.main) _ no_process (process_result i.main x.0),
+      (
+        rw (value_single r v) refl,
+        second_ordered (is_value r) (is_process j.main) (list_any is_process (after j.openings before)) (is_result j.main) (list_any is_result (after j.openings before)) (follows_first_process (after j.openings before))
+            (ap is_process x.2)
+            (ap (list_any is_result) here ∙ rw (process_result i.main x.0) no_result)
+            (ap follows_first_process here ∙ rw x.0 (rw no_process refl)),
+        tt,
+      ),
+    )
 ordered_value r (i ∷ j ∷ k ∷ is) v h x = absurd x
 
 fits_ordered : (r : Row) (ss : List Sort) (f : Fits r ss) → AreOrdered r [] f.items
@@ -429,8 +438,8 @@ fits_ordered r ss f = elim (cases_Bool (is_single r)) [
   | inr many ↦ elim (cases_Bool (is_value r)) [
     | inl value ↦ ordered_value r f.items value f.are_items (f.value value)
     | inr other ↦ ordered_any r [] f.items many other
-    ]
   ]
+]
 
 pub placed_of : (r : Row) (ss : List Sort) → Fits r ss → AllPlaced r [] ss
 placed_of r ss f =
@@ -458,10 +467,11 @@ value_has : (r : Row) (is : List Item) (os : List Opening) → AreItems r is →
     → (list_any is_process (items_sorts is (openings_sorts os [])) ≡ true) × (list_any is_result (items_sorts is (openings_sorts os [])) ≡ true)
 value_has r [] os h x = absurd x
 value_has r (i ∷ []) os h x = absurd x
-value_has r (i ∷ j ∷ []) os h x =
-    (any_openings r is_process i.openings _ (quiet_process r) h.0 ∙ rw x.0 refl,
-     any_openings r is_result i.openings _ (quiet_result r) h.0
-       ∙ rw (process_result i.main x.0) (any_openings r is_result j.openings _ (quiet_result r) h.2.0 ∙ rw x.2 refl))
+value_has r (i ∷ j ∷ []) os h x = (
+  any_openings r is_process i.openings _ (quiet_process r) h.0 ∙ rw x.0 refl,
+  any_openings r is_result i.openings _ (quiet_result r) h.0
+      ∙ rw (process_result i.main x.0) (any_openings r is_result j.openings _ (quiet_result r) h.2.0 ∙ rw x.2 refl),
+)
 value_has r (i ∷ j ∷ k ∷ is) os h x = absurd x
 
 lacks_whole : (a b c : Bool) → a ≡ false → b ≡ false → c ≡ false → (a || (b || c)) ≡ false
@@ -471,9 +481,9 @@ pub lacks_of : (r : Row) (ss : List Sort) → Fits r ss → NoneLacks r ss
 lacks_of r ss f file =
     let any : list_any (is_main r) ss ≡ is_some f.items = ap (list_any (is_main r)) f.spelled ∙ any_items r f.items f.last f.are_items f.are_openings in
     lacks_whole (needs_main r && not (list_any (is_main r) ss)) (is_value r && not (list_any is_process ss && list_any is_result ss)) (ends_specified r ss)
-      (needs_ok (is_single r) (is_list r) (list_any (is_main r) ss) (λ s. any ∙ one_some f.items (f.one s)) (λ l. any ∙ many_some f.items (f.some l)))
-      (value_ok (is_value r) (list_any is_process ss) (list_any is_result ss) (λ v.
-        let has = value_has r f.items f.last f.are_items (f.value v) in
-        (ap (list_any is_process) f.spelled ∙ has.0, ap (list_any is_result) f.spelled ∙ has.1)))
-      (ap (λ (x : List Sort). last_or false (items r x)) f.spelled ∙ last_items r false f.items f.last f.are_items f.are_openings
-        ∙ ap (λ (os : List Opening). begun (settled false f.items) os) (f.alone file) ∙ settled_false f.items)
+    (needs_ok (is_single r) (is_list r) (list_any (is_main r) ss) (λ s. any ∙ one_some f.items (f.one s)) (λ l. any ∙ many_some f.items (f.some l)))
+    (value_ok (is_value r) (list_any is_process ss) (list_any is_result ss) (λ v.
+    let has = value_has r f.items f.last f.are_items (f.value v) in
+    (ap (list_any is_process) f.spelled ∙ has.0, ap (list_any is_result) f.spelled ∙ has.1)))
+    (ap (λ (x : List Sort). last_or false (items r x)) f.spelled ∙ last_items r false f.items f.last f.are_items f.are_openings
+    ∙ ap (λ (os : List Opening). begun (settled false f.items) os) (f.alone file) ∙ settled_false f.items)

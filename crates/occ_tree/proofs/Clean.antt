@@ -1,14 +1,13 @@
 -- What the lines of a unit without a diagnostic of shape are.
-use Rattle.std.proofs.Common.{◌≡◌, ◌∙◌, ◌≤◌, ◌∷◌, ◌++◌, ◌||◌, not, ℕ, Bool, true, false, cond, ltb, List, [], refl, sym, ap, arith}
-use Rattle.std.proofs.lemmas.Bool.{ltb-false, false≢true, true≢false}
+use Rattle.std.proofs.Common.{◌≡◌, ◌∷◌, ◌++◌, ◌||◌, not, Bool, true, false, ltb, List, [], refl}
+use Rattle.std.proofs.lemmas.Bool.{ltb-false, true≢false}
 use Rattle.occ_base.specs.declared.code.Code.{Code}
 use Rattle.occ_base.specs.declared.code.Code.TheVariants as code
 use Rattle.occ_base.specs.declared.diag.Diag.{Diag}
 use Rattle.occ_project.specs.declared.expanded.ExpandedLine.{ExpandedLine}
 use Rattle.occ_tree.specs.declared.outline.Outline.{Outline}
 use Rattle.occ_tree.specs.Faults.{error_if, faults_at, shape_faults}
-use Rattle.occ_tree.specs.Forest.{Forest, nested}
-use Rattle.occ_tree.specs.Nesting.{is_right, parent_depth}
+use Rattle.occ_tree.specs.Forest.{nested}
 use Rattle.occ_tree.specs.Obeys.{AreShallow, IsTreesOf}
 use Rattle.occ_tree.specs.Sorts.{outline, outlines}
 use Rattle.occ_tree.specs.Wrong.{is_wrong, wrong_from}

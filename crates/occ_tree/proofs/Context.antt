@@ -1,12 +1,12 @@
 -- What the lines before and behind a line of trees say of it is what the trees say.
-use Rattle.std.proofs.Common.{◌≡◌, ◌∙◌, ◌≤◌, ◌<◌, ◌+◌, ◌||◌, ◌&&◌, ◌++◌, not, ℕ, Bool, true, false, ltb, List, [], ◌∷◌, Option, None, Some, refl, sym, ap, subst, arith, append_assoc}
+use Rattle.std.proofs.Common.{◌≡◌, ◌∙◌, ◌≤◌, ◌<◌, ◌+◌, ◌||◌, ◌++◌, not, ℕ, Bool, true, false, ltb, List, [], ◌∷◌, Option, None, Some, refl, sym, ap, subst, arith, append_assoc}
 use Rattle.std.proofs.lemmas.Bool.{eqb-true, eq-eqb, le-ltb, lt-ltb, true≢false}
 use Rattle.occ_project.specs.declared.expanded.ExpandedLine.{ExpandedLine}
 use Rattle.occ_tree.specs.declared.outline.Outline.{Outline}
 use Rattle.occ_tree.specs.declared.row.Row.{Row}
 use Rattle.occ_tree.specs.declared.sort.Sort.{Sort}
 use Rattle.occ_tree.specs.Forest.{Forest, Empty, Tree, listing}
-use Rattle.occ_tree.specs.Nesting.{beyond, children, elders, holds, is_right, parent_depth, roots, row_at, sorts, under}
+use Rattle.occ_tree.specs.Nesting.{beyond, elders, holds, is_right, parent_depth, roots, row_at, sorts, under}
 use Rattle.occ_tree.specs.Obeys.{HasDepths, root_sorts, sort_of}
 use Rattle.occ_tree.specs.Siblings.{elders_of, first_is, is_misplaced, lacks}
 use Rattle.occ_tree.specs.Sorts.{outline, outlines}
@@ -43,7 +43,7 @@ passed (Tree l u b) e d before h lt k =
     let deeper : l.depth < e + 1 = omega (arith, h.0) in
     let kid_parent : parent_depth kid (e + 1) ≡ Some l.depth = parent_kid (outline l) before (e + 1) deeper in
     let kid_holds : (c : ℕ) → c ≤ e → holds (parent_depth kid (e + 1)) c ≡ false
-        = λ c le. ap (λ (p : Option ℕ). holds p c) kid_parent ∙ le-ltb l.depth c (omega (arith, le, h.0)) in
+    = λ c le. ap (λ (p : Option ℕ). holds p c) kid_parent ∙ le-ltb l.depth c (omega (arith, le, h.0)) in
     let first = same_deeper (outline l) before d (omega (arith, lt, h.0)) (ap (λ (n : ℕ). holds (parent_depth before n) d) h.0 ∙ k) in
     let inner = passed u (e + 1) d kid h.1 (omega (arith, lt)) (kid_holds d (omega (arith, lt))) in
     let level = passed u (e + 1) e kid h.1 (omega arith) (kid_holds e (omega arith)) in
@@ -64,7 +64,7 @@ behind_tree l u before h k =
     let kid = outline l ∷ before in
     let no : ltb l.depth l.depth ≡ false = le-ltb l.depth l.depth (omega arith) in
     let kid_holds : holds (parent_depth kid (l.depth + 1)) l.depth ≡ false
-        = ap (λ (p : Option ℕ). holds p l.depth) (parent_kid (outline l) before (l.depth + 1) (omega arith)) ∙ no in
+    = ap (λ (p : Option ℕ). holds p l.depth) (parent_kid (outline l) before (l.depth + 1) (omega arith)) ∙ no in
     let inner = passed u (l.depth + 1) l.depth kid h (omega arith) kid_holds in
     (inner.0 ∙ rw no refl, inner.1 ∙ rw no refl, inner.2 ∙ rw no (rw (right_holds (parent_depth before l.depth) l.depth k) refl))
 
@@ -95,9 +95,9 @@ mutual_roots (Tree l u b) d ys h a =
     let rest = listing b ++ ys in
     let above : IsAbove (d + 1) rest = above_more d b ys h.2 a in
     let split : roots (outlines ((listing u ++ listing b) ++ ys)) ≡ root_outlines u ++ roots (outlines rest)
-        = ap (λ (x : List ExpandedLine). roots (outlines x)) (append_assoc (listing u) (listing b) ys) ∙ mutual_roots u (d + 1) rest h.1 above in
+    = ap (λ (x : List ExpandedLine). roots (outlines x)) (append_assoc (listing u) (listing b) ys) ∙ mutual_roots u (d + 1) rest h.1 above in
     let past : beyond d (roots (outlines ((listing u ++ listing b) ++ ys))) ≡ root_outlines b ++ roots (outlines ys)
-        = ap (beyond d) split ∙ beyond_deeper d u (roots (outlines rest)) h.1 ∙ beyond_above d rest above ∙ mutual_roots b d ys h.2 a in
+    = ap (beyond d) split ∙ beyond_deeper d u (roots (outlines rest)) h.1 ∙ beyond_above d rest above ∙ mutual_roots b d ys h.2 a in
     ap (λ (x : List Outline). outline l ∷ x) (ap (λ (n : ℕ). beyond n (roots (outlines ((listing u ++ listing b) ++ ys)))) h.0 ∙ past)
 
 sorts_roots : (f : Forest) → sorts (root_outlines f) ≡ root_sorts f
@@ -122,27 +122,27 @@ closes_trees p d (Tree l u b) ys k h a = rw (ap (holds p) h.0 ∙ right_holds p 
 told_by_trees : (before : List Outline) (l : ExpandedLine) (u b : Forest) (ys : List ExpandedLine) → is_right (parent_depth before l.depth) l.depth ≡ true
     → HasDepths (l.depth + 1) u → HasDepths l.depth b → IsAbove l.depth ys
     → is_wrong before (outline l) (outlines ((listing u ++ listing b) ++ ys))
-      ≡ (is_misplaced (row_at before l.depth) (elders_of (row_at before l.depth) (elders before l.depth)) (sort_of l) (first_is is_close (root_sorts b))
-        || lacks (row_under (row_at before l.depth) (sort_of l)) (root_sorts u))
+    ≡ (is_misplaced (row_at before l.depth) (elders_of (row_at before l.depth) (elders before l.depth)) (sort_of l) (first_is is_close (root_sorts b))
+    || lacks (row_under (row_at before l.depth) (sort_of l)) (root_sorts u))
 told_by_trees before l u b ys k h g a =
     let rest = listing b ++ ys in
     let r = row_at before l.depth in
     let above : IsAbove (l.depth + 1) rest = above_more l.depth b ys g a in
     let split : roots (outlines ((listing u ++ listing b) ++ ys)) ≡ root_outlines u ++ roots (outlines rest)
-        = ap (λ (x : List ExpandedLine). roots (outlines x)) (append_assoc (listing u) (listing b) ys) ∙ mutual_roots u (l.depth + 1) rest h above in
+    = ap (λ (x : List ExpandedLine). roots (outlines x)) (append_assoc (listing u) (listing b) ys) ∙ mutual_roots u (l.depth + 1) rest h above in
     let next : closes (parent_depth before l.depth) (beyond l.depth (roots (outlines ((listing u ++ listing b) ++ ys)))) ≡ first_is is_close (root_sorts b)
-        = ap (λ (x : List Outline). closes (parent_depth before l.depth) (beyond l.depth x)) split
-          ∙ ap (closes (parent_depth before l.depth)) (beyond_deeper l.depth u (roots (outlines rest)) h ∙ beyond_above l.depth rest above)
-          ∙ closes_trees (parent_depth before l.depth) l.depth b ys k g a in
+    = ap (λ (x : List Outline). closes (parent_depth before l.depth) (beyond l.depth x)) split
+    ∙ ap (closes (parent_depth before l.depth)) (beyond_deeper l.depth u (roots (outlines rest)) h ∙ beyond_above l.depth rest above)
+    ∙ closes_trees (parent_depth before l.depth) l.depth b ys k g a in
     let kids : sorts (under l.depth (roots (outlines ((listing u ++ listing b) ++ ys)))) ≡ root_sorts u
-        = ap (λ (x : List Outline). sorts (under l.depth x)) split ∙ ap sorts (under_deeper l.depth u (roots (outlines rest)) h)
-          ∙ ap (λ (x : List Outline). sorts (root_outlines u ++ x)) (under_above l.depth rest above) ∙ sorts_append (root_outlines u) ∙ sorts_roots u in
+    = ap (λ (x : List Outline). sorts (under l.depth x)) split ∙ ap sorts (under_deeper l.depth u (roots (outlines rest)) h)
+    ∙ ap (λ (x : List Outline). sorts (root_outlines u ++ x)) (under_above l.depth rest above) ∙ sorts_append (root_outlines u) ∙ sorts_roots u in
     ap (λ (c : Bool). (not (is_right (parent_depth before l.depth) l.depth) || is_misplaced r (elders_of r (elders before l.depth)) (sort_of l) c)
-          || lacks (row_under r (sort_of l)) (sorts (under l.depth (roots (outlines ((listing u ++ listing b) ++ ys)))))) next
+    || lacks (row_under r (sort_of l)) (sorts (under l.depth (roots (outlines ((listing u ++ listing b) ++ ys)))))) next
     ∙ ap (λ (ss : List Sort). (not (is_right (parent_depth before l.depth) l.depth) || is_misplaced r (elders_of r (elders before l.depth)) (sort_of l) (first_is is_close (root_sorts b)))
-          || lacks (row_under r (sort_of l)) ss) kids
+    || lacks (row_under r (sort_of l)) ss) kids
     ∙ ap (λ (x : Bool). (not x || is_misplaced r (elders_of r (elders before l.depth)) (sort_of l) (first_is is_close (root_sorts b)))
-          || lacks (row_under r (sort_of l)) (root_sorts u)) k
+    || lacks (row_under r (sort_of l)) (root_sorts u)) k
 
 or_parts : (a b : Bool) → (a || b) ≡ false → (a ≡ false) × (b ≡ false)
 or_parts true b e = absurd (true≢false e)
@@ -171,12 +171,13 @@ judged_from (Tree l u b) d before xs h k a n =
     let above : IsAbove l.depth xs = subst (λ (x : ℕ). IsAbove x xs) (sym h.0) a in
     let here = or_parts _ _ (sym (told_by_trees before l u b xs right inside beside above) ∙ n.0) in
     let inner = judged_from u (l.depth + 1) kid (listing b ++ xs) inside (right_kid (outline l) before) (above_more l.depth b xs beside above)
-        (subst (NoneWrong kid) (append_assoc (listing u) (listing b) xs) n.1) in
+    (subst (NoneWrong kid) (append_assoc (listing u) (listing b) xs) n.1) in
     let same = behind_tree l u before inside right in
-    let outer = judged_from b l.depth (onto u kid) xs beside (ap (λ (p : Option ℕ). is_right p l.depth) same.0 ∙ right) above inner.1 in
-    (subst (λ (x : ℕ). AreJudged (row_at before x) (elders before x) (Tree l u b)) h.0
-       (here.0, here.1, judged_same u _ _ _ _ (row_kid (outline l) before) (elders_kid (outline l) before) inner.0, judged_same b _ _ _ _ same.1 same.2 outer.0),
-     outer.1)
+    let outer = judged_from b l.depth (onto u kid) xs beside (ap (λ (p : Option ℕ). is_right p l.depth) same.0 ∙ right) above inner.1 in (
+      subst (λ (x : ℕ). AreJudged (row_at before x) (elders before x) (Tree l u b)) h.0
+          (here.0, here.1, judged_same u _ _ _ _ (row_kid (outline l) before) (elders_kid (outline l) before) inner.0, judged_same b _ _ _ _ same.1 same.2 outer.0),
+      outer.1,
+    )
 
 pub judged_back : (f : Forest) (d : ℕ) (before : List Outline) (xs : List ExpandedLine) → HasDepths d f → is_right (parent_depth before d) d ≡ true → IsAbove d xs
     → AreJudged (row_at before d) (elders before d) f → NoneWrong (onto f before) xs → NoneWrong before (listing f ++ xs)
@@ -188,11 +189,12 @@ judged_back (Tree l u b) d before xs h k a j n =
     let beside : HasDepths l.depth b = subst (λ (x : ℕ). HasDepths x b) (sym h.0) h.2 in
     let above : IsAbove l.depth xs = subst (λ (x : ℕ). IsAbove x xs) (sym h.0) a in
     let here : AreJudged (row_at before l.depth) (elders before l.depth) (Tree l u b)
-        = subst (λ (x : ℕ). AreJudged (row_at before x) (elders before x) (Tree l u b)) (sym h.0) j in
+    = subst (λ (x : ℕ). AreJudged (row_at before x) (elders before x) (Tree l u b)) (sym h.0) j in
     let same = behind_tree l u before inside right in
     let rest = judged_back b l.depth (onto u kid) xs beside (ap (λ (p : Option ℕ). is_right p l.depth) same.0 ∙ right) above
-        (judged_same b _ _ _ _ (sym same.1) (sym same.2) here.3) n in
+    (judged_same b _ _ _ _ (sym same.1) (sym same.2) here.3) n in
     let inner = judged_back u (l.depth + 1) kid (listing b ++ xs) inside (right_kid (outline l) before) (above_more l.depth b xs beside above)
-        (judged_same u _ _ _ _ (sym (row_kid (outline l) before)) (sym (elders_kid (outline l) before)) here.2) rest in
-    (told_by_trees before l u b xs right inside beside above ∙ rw here.0 here.1,
-     subst (NoneWrong kid) (sym (append_assoc (listing u) (listing b) xs)) inner)
+    (judged_same u _ _ _ _ (sym (row_kid (outline l) before)) (sym (elders_kid (outline l) before)) here.2) rest in (
+      told_by_trees before l u b xs right inside beside above ∙ rw here.0 here.1,
+      subst (NoneWrong kid) (sym (append_assoc (listing u) (listing b) xs)) inner,
+    )

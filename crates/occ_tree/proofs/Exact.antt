@@ -1,5 +1,5 @@
 -- Where each line stands right below its parent, the trees are as deep as their lines.
-use Rattle.std.proofs.Common.{◌≡◌, ◌∙◌, ◌≤◌, ◌+◌, ◌&&◌, ◌||◌, ℕ, Bool, true, false, cond, ltb, List, [], ◌∷◌, Option, None, Some, inl, inr, refl, sym, ap, subst, arith}
+use Rattle.std.proofs.Common.{◌≡◌, ◌≤◌, ◌+◌, ℕ, Bool, true, false, cond, ltb, List, [], ◌∷◌, refl, subst, arith}
 use Rattle.std.proofs.lemmas.Bool.{eqb-true, ltb-false, le-ltb}
 use Rattle.occ_project.specs.declared.expanded.ExpandedLine.{ExpandedLine}
 use Rattle.occ_tree.specs.declared.outline.Outline.{Outline}
@@ -84,9 +84,10 @@ nested_exact : (before : List Outline) (ls : List ExpandedLine) → AreRight bef
 nested_exact before [] h = tt
 nested_exact before (l ∷ ls) h =
     let inner = nested_exact (outline l ∷ before) ls h.1 in
-    let falling = other_falls l.depth (nested ls) (nested_falling ls) in
-    ((h.0, first_exact (outline l) before (nested ls) inner),
-     falls_exact (outline l) before l.depth (other_trees l.depth (nested ls)) (omega arith) falling (other_exact l.depth (outline l ∷ before) (nested ls) inner))
+    let falling = other_falls l.depth (nested ls) (nested_falling ls) in (
+      (h.0, first_exact (outline l) before (nested ls) inner),
+      falls_exact (outline l) before l.depth (other_trees l.depth (nested ls)) (omega arith) falling (other_exact l.depth (outline l ∷ before) (nested ls) inner),
+    )
 
 roots_exact : (f : Forest) → Exact [] f → HasDepths 0 f
 roots_exact Empty h = tt

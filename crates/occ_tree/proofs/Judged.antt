@@ -1,19 +1,14 @@
 -- The lines of trees that are as deep as their lines stand right exactly where the trees obey the table.
-use Rattle.std.proofs.Common.{◌≡◌, ◌∙◌, ◌≤◌, ◌<◌, ◌+◌, ◌||◌, ◌&&◌, ◌++◌, not, ℕ, Bool, true, false, cond, ltb, List, [], ◌∷◌, map, Option, None, Some, inl, inr, refl, sym, ap, subst, arith, append_assoc}
-use Rattle.std.proofs.lemmas.Bool.{cases_Bool, eqb-true, eq-eqb, false≢true, le-ltb, lt-ltb, ltb-true, true≢false}
-use Rattle.occ_project.specs.declared.expanded.ExpandedLine.{ExpandedLine}
-use Rattle.occ_tree.specs.declared.outline.Outline.{Outline}
+use Rattle.std.proofs.Common.{◌≡◌, Bool, true, false, cond, List, [], ◌∷◌, refl}
+use Rattle.std.proofs.lemmas.Bool.{true≢false}
 use Rattle.occ_tree.specs.declared.row.Row.{Row}
 use Rattle.occ_tree.specs.declared.row.Row.TheVariants as row
 use Rattle.occ_tree.specs.declared.sort.Sort.{Sort}
 use Rattle.occ_tree.specs.declared.sort.Sort.TheVariants as sort
-use Rattle.occ_tree.specs.Forest.{Forest, Empty, Tree, listing}
-use Rattle.occ_tree.specs.Nesting.{beyond, children, elders, holds, is_right, parent_depth, roots, row_at, sorts, under}
-use Rattle.occ_tree.specs.Obeys.{Fits, HasDepths, ObeysUnder, is_file, root_sorts, sort_of}
+use Rattle.occ_tree.specs.Forest.{Forest, Empty, Tree}
+use Rattle.occ_tree.specs.Obeys.{Fits, ObeysUnder, is_file, root_sorts, sort_of}
 use Rattle.occ_tree.specs.Siblings.{elders_of, first_is, is_misplaced, lacks}
-use Rattle.occ_tree.specs.Sorts.{outline, outlines}
-use Rattle.occ_tree.specs.Table.{is_close, is_main, own_row, row_under, under_main}
-use Rattle.occ_tree.specs.Wrong.{closes, is_wrong}
+use Rattle.occ_tree.specs.Table.{is_close, is_main, row_under, under_main}
 use Rattle.occ_tree.proofs.Arranged.{AllPlaced, fits_of, lacks_of, placed_of}
 
 -- none of the lines is misplaced behind those, and none lacks something
@@ -64,18 +59,20 @@ judged_placed r es (Tree l u b) h = (h.0, judged_placed r (sort_of l ∷ es) b h
 
 pub judged_obeys : (r : Row) (es : List Sort) (f : Forest) → AreJudged r es f → ObeysUnder r f
 judged_obeys r es Empty h = tt
-judged_obeys r es (Tree l u b) h =
-    (fits_of (row_under r (sort_of l)) (root_sorts u) (judged_placed (row_under r (sort_of l)) [] u h.2) (λ _. h.1),
-     judged_obeys (row_under r (sort_of l)) [] u h.2,
-     judged_obeys r (sort_of l ∷ es) b h.3)
+judged_obeys r es (Tree l u b) h = (
+  fits_of (row_under r (sort_of l)) (root_sorts u) (judged_placed (row_under r (sort_of l)) [] u h.2) (λ _. h.1),
+  judged_obeys (row_under r (sort_of l)) [] u h.2,
+  judged_obeys r (sort_of l ∷ es) b h.3,
+)
 
 pub file_obeys : (f : Forest) → AreJudged row.File [] f → Fits row.File (root_sorts f)
 file_obeys f h = fits_of row.File (root_sorts f) (judged_placed row.File [] f h) (λ n. absurd (true≢false n))
 
 pub obeys_judged : (r : Row) (es : List Sort) (f : Forest) → AllPlaced r es (root_sorts f) → ObeysUnder r f → AreJudged r es f
 obeys_judged r es Empty p h = tt
-obeys_judged r es (Tree l u b) p h =
-    (p.0,
-     lacks_of (row_under r (sort_of l)) (root_sorts u) h.0 (no_file r (sort_of l)),
-     obeys_judged (row_under r (sort_of l)) [] u (placed_of (row_under r (sort_of l)) (root_sorts u) h.0) h.1,
-     obeys_judged r (sort_of l ∷ es) b p.1 h.2)
+obeys_judged r es (Tree l u b) p h = (
+  p.0,
+  lacks_of (row_under r (sort_of l)) (root_sorts u) h.0 (no_file r (sort_of l)),
+  obeys_judged (row_under r (sort_of l)) [] u (placed_of (row_under r (sort_of l)) (root_sorts u) h.0) h.1,
+  obeys_judged r (sort_of l ∷ es) b p.1 h.2,
+)

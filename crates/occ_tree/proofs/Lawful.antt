@@ -1,5 +1,5 @@
 -- A unit has no diagnostic of shape exactly where trees that obey the table list its lines.
-use Rattle.std.proofs.Common.{◌≡◌, ◌∙◌, ◌↔◌, ◌++◌, List, [], ◌∷◌, refl, sym, ap, subst}
+use Rattle.std.proofs.Common.{◌≡◌, ◌∙◌, ◌↔◌, List, [], ◌∷◌, refl, sym, subst}
 use Rattle.std.proofs.lemmas.Bool.{le-ltb}
 use Rattle.std.proofs.lemmas.List.{append-nil}
 use Rattle.occ_project.specs.declared.expanded.ExpandedLine.{ExpandedLine}
@@ -42,9 +42,10 @@ has_shape ls e f t =
     (t, clean_obeys ls f t clean.0, clean.1)
 
 pub shape_law : (ls : List ExpandedLine) → (shape_faults ls ≡ []) ↔ HasShape ls
-shape_law ls =
-    (λ e. let shape = has_shape ls e (nested ls) (clean_trees ls e) in (nested ls, shape.0, shape.1, shape.2),
-     λ h. none_told [] ls (obeys_clean ls h.0 h.1 h.2) h.3)
+shape_law ls = (
+  λ e. let shape = has_shape ls e (nested ls) (clean_trees ls e) in (nested ls, shape.0, shape.1, shape.2),
+  λ h. none_told [] ls (obeys_clean ls h.0 h.1 h.2) h.3,
+)
 
 pub one_law : (ls : List ExpandedLine) (f g : Forest) → IsTreesOf ls f → IsTreesOf ls g → f ≡ g
 one_law = one_trees

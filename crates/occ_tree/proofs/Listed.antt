@@ -1,6 +1,5 @@
 -- Trees that list lines, each as deep as it stands, are the only ones that do.
-use Rattle.std.proofs.Common.{◌≡◌, ◌∙◌, ◌≤◌, ◌<◌, ◌+◌, ℕ, Bool, true, false, cond, ltb, List, [], ◌∷◌, ◌++◌, inl, inr, refl, sym, ap, arith, append_assoc}
-use Rattle.std.proofs.lemmas.Bool.{cases_Bool, ltb-true, ltb-false, lt-ltb, le-ltb}
+use Rattle.std.proofs.Common.{◌≡◌, ◌∙◌, ◌<◌, ◌+◌, ℕ, Bool, true, false, cond, ltb, List, [], ◌∷◌, ◌++◌, refl, sym, ap, arith, append_assoc}
 use Rattle.std.proofs.lemmas.List.{append-nil}
 use Rattle.occ_project.specs.declared.expanded.ExpandedLine.{ExpandedLine}
 use Rattle.occ_tree.specs.Forest.{Forest, Empty, Tree, first_trees, listing, nested, other_trees}
@@ -45,7 +44,7 @@ one_more d (Tree l u b) (Tree m v c) xs ys h k a z e =
     let head : l ≡ m = cc in
     let tail : (listing u ++ listing b) ++ xs ≡ (listing v ++ listing c) ++ ys = cc in
     let parts : listing u ++ (listing b ++ xs) ≡ listing v ++ (listing c ++ ys)
-        = sym (append_assoc (listing u) (listing b) xs) ∙ tail ∙ append_assoc (listing v) (listing c) ys in
+    = sym (append_assoc (listing u) (listing b) xs) ∙ tail ∙ append_assoc (listing v) (listing c) ys in
     let inner = one_more (d + 1) u v (listing b ++ xs) (listing c ++ ys) h.1 k.1 (above_more d b xs h.2 a) (above_more d c ys k.2 z) parts in
     let outer = one_more d b c xs ys h.2 k.2 a z inner.1 in
     (rw head (rw inner.0 (rw outer.0 refl)), outer.1)

@@ -1,5 +1,5 @@
 -- The trees of a unit, which list its lines.
-use Rattle.std.specs.Prelude.{ℕ, Bool, List, [], ◌∷◌, ◌++◌, map, nat_lt, if◌then◌else◌}
+use Rattle.std.specs.Prelude.{ℕ, List, [], ◌∷◌, ◌++◌, map, nat_lt, if◌then◌else◌}
 use Rattle.occ_project.specs.declared.expanded.ExpandedLine.{ExpandedLine}
 use Rattle.occ_tree.specs.declared.tree.Node.{Node, out-Node}
 use Rattle.occ_tree.specs.declared.tree.Node.TheOpen.{Node-F}

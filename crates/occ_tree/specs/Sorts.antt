@@ -1,5 +1,5 @@
 -- What the form of a line says of where it may stand.
-use Rattle.std.specs.Prelude.{Bool, true, false, not, ◌||◌, List, [], ◌∷◌, map, Option, Some, None, if◌then◌else◌}
+use Rattle.std.specs.Prelude.{Bool, true, false, not, ◌||◌, List, [], ◌∷◌, map, Some, None, if◌then◌else◌}
 use Rattle.std.specs.List.{list_any}
 use Rattle.occ_expressions.specs.declared.tree.Bounds.{Bounds}
 use Rattle.occ_expressions.specs.declared.tree.Bounds.TheOpen.{Element-F, Expr-F, Operand-F}

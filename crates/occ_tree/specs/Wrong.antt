@@ -1,5 +1,5 @@
 -- Which lines of a unit stand wrong.
-use Rattle.std.specs.Prelude.{ℕ, Bool, true, false, not, ◌&&◌, ◌||◌, List, [], ◌∷◌, Option}
+use Rattle.std.specs.Prelude.{ℕ, Bool, false, not, ◌&&◌, ◌||◌, List, [], ◌∷◌, Option}
 use Rattle.occ_tree.specs.declared.outline.Outline.{Outline}
 use Rattle.occ_tree.specs.Nesting.{beyond, children, elders, holds, is_right, parent_depth, roots, row_at}
 use Rattle.occ_tree.specs.Siblings.{elders_of, is_misplaced, lacks}

@@ -1,4 +1,4 @@
-use super::shape_faults;
+use super::{ShapeFault, shape, shape_faults};
 use occ_base::{FileName, Items, Shared, write_diag};
 use occ_forms::{Form, LineBody, SourceLine, prepare};
 use occ_project::{ExpandedBody, ExpandedLine};
@@ -67,54 +67,70 @@ fn repeated(alloc: Global, text: &str, count: u32, rise: u64) -> Result<Items<Ex
 }
 
 #[test]
-fn finds_what_stands_wrong(rt: HostRuntime) -> Result<(), Fail> {
+fn tells_lines_of_wrong_depth_and_place(rt: HostRuntime) -> Result<(), Fail> {
     let a = rt.alloc();
-    for (text, want) in [
-        ("PROC p ()\n  SKIP\n:\n", ""),
-        ("PROC p ()\n      SKIP\n:\n", "a.occ:2 S2 error -\n"),
-        (
-            "PROC p ()\n  SEQ\n    SKIP\n    INT x:\n:\n",
-            "a.occ:2 S2 error -\n",
-        ),
-        (
-            "PROC p ()\n  SEQ\n    x > 0\n      SKIP\n:\n",
-            "a.occ:3 S2 error -\na.occ:4 S2 error -\n",
-        ),
-        (
-            "PROC p ()\n  SEQ\n    ELSE\n      SKIP\n:\n",
-            "a.occ:3 S2 error -\n",
-        ),
-        (
-            "PROC p ()\n  SKIP\n  PROC q ()\n    SKIP\n:\n",
-            "a.occ:3 S2 error -\n",
-        ),
-        (
-            "INT FUNCTION f ()\n  VALOF\n    RESULT 1\n    SKIP\n:\n",
-            "a.occ:3 S2 error -\n",
-        ),
-        (
-            "INT FUNCTION f ()\n  VALOF\n    SKIP\n    INT x:\n    RESULT 1\n:\n",
-            "a.occ:5 S2 error -\n",
-        ),
-        (
-            "#USE \"b\"\nPROC p ()\n  #USE \"b\"\n  WHILE TRUE\n    SKIP\n:\n",
-            "",
-        ),
-        (
-            "PROC p ()\n  IF\n    TRUE, FALSE\n      SKIP\n:\n",
-            "a.occ:3 S2 error -\na.occ:4 S2 error -\n",
-        ),
-        (
-            "PROTOCOL P\n  CASE\n    m\n    n; a[0]\n:\n",
-            "a.occ:4 S2 error -\n",
-        ),
-        (
-            "DATA TYPE D\n  RECORD\n    VAL x IS 1:\n:\n",
-            "a.occ:2 S2 error -\na.occ:3 S2 error -\n",
-        ),
-    ] {
-        assert_eq!(rt; faults_in(a, text)?.as_slice(), want.as_bytes());
-    }
+    let text = "PROC p ()\n  SKIP\n:\n";
+    assert_eq!(rt; faults_in(a, text)?.as_slice(), b"".as_slice());
+    let text = "PROC p ()\n      SKIP\n:\n";
+    assert_eq!(rt;
+        faults_in(a, text)?.as_slice(),
+        b"a.occ:2 S2 error -\n".as_slice()
+    );
+    let text = "PROC p ()\n  SEQ\n    x > 0\n      SKIP\n:\n";
+    assert_eq!(rt;
+        faults_in(a, text)?.as_slice(),
+        b"a.occ:3 S2 error -\na.occ:4 S2 error -\n".as_slice()
+    );
+    Ok(())
+}
+
+#[test]
+fn tells_what_lacks_something(rt: HostRuntime) -> Result<(), Fail> {
+    let a = rt.alloc();
+    let text = "PROC p ()\n  SEQ\n    SKIP\n    INT x:\n:\n";
+    assert_eq!(rt;
+        faults_in(a, text)?.as_slice(),
+        b"a.occ:2 S2 error -\n".as_slice()
+    );
+    let text = "PROC p ()\n  SKIP\n  PROC q ()\n    SKIP\n:\n";
+    assert_eq!(rt;
+        faults_in(a, text)?.as_slice(),
+        b"a.occ:3 S2 error -\n".as_slice()
+    );
+    let text = "DATA TYPE D\n  RECORD\n    VAL x IS 1:\n:\n";
+    assert_eq!(rt;
+        faults_in(a, text)?.as_slice(),
+        b"a.occ:2 S2 error -\na.occ:3 S2 error -\n".as_slice()
+    );
+    Ok(())
+}
+
+#[test]
+fn tells_the_order_under_valof(rt: HostRuntime) -> Result<(), Fail> {
+    let a = rt.alloc();
+    let text = "INT FUNCTION f ()\n  VALOF\n    RESULT 1\n    SKIP\n:\n";
+    assert_eq!(rt;
+        faults_in(a, text)?.as_slice(),
+        b"a.occ:3 S2 error -\n".as_slice()
+    );
+    let text = "INT FUNCTION f ()\n  VALOF\n    SKIP\n    INT x:\n    RESULT 1\n:\n";
+    assert_eq!(rt;
+        faults_in(a, text)?.as_slice(),
+        b"a.occ:5 S2 error -\n".as_slice()
+    );
+    Ok(())
+}
+
+#[test]
+fn tells_parts_of_tags_and_uses(rt: HostRuntime) -> Result<(), Fail> {
+    let a = rt.alloc();
+    let text = "PROTOCOL P\n  CASE\n    m\n    n; a[0]\n:\n";
+    assert_eq!(rt;
+        faults_in(a, text)?.as_slice(),
+        b"a.occ:4 S2 error -\n".as_slice()
+    );
+    let text = "#USE \"b\"\nPROC p ()\n  #USE \"b\"\n  WHILE TRUE\n    SKIP\n:\n";
+    assert_eq!(rt; faults_in(a, text)?.as_slice(), b"".as_slice());
     Ok(())
 }
 
@@ -125,5 +141,51 @@ fn stands_any_number_of_lines(rt: HostRuntime) -> Result<(), Fail> {
     assert_eq!(rt; shape_faults(a, wide.as_slice())?.len(), 65_535);
     let deep = repeated(a, "SEQ\n", 65_535, 1)?;
     assert_eq!(rt; shape_faults(a, deep.as_slice())?.len(), 65_471);
+    Ok(())
+}
+
+/// A procedure of so many `SEQ`, each under the one before, and one `SKIP` under the last.
+fn nested(alloc: Global, count: usize) -> Result<String, Fail> {
+    let mut text = String::from_str(alloc, "PROC p ()\n")?;
+    let mut blanks = String::from_str(alloc, "  ")?;
+    for _ in 0..count {
+        text.push_str(&blanks)?;
+        text.push_str("SEQ\n")?;
+        blanks.push_str("  ")?;
+    }
+    text.push_str(&blanks)?;
+    text.push_str("SKIP\n:\n")?;
+    Ok(text)
+}
+
+#[test]
+fn nests_64_levels(rt: HostRuntime) -> Result<(), Fail> {
+    let a = rt.alloc();
+    let unit = shape(a, lines_of(a, &nested(a, 63)?)?)?;
+    assert_eq!(rt; unit.roots.len(), 2);
+    let head = &unit.roots.as_slice()[0];
+    assert_eq!(rt; head.line.line, 1);
+    assert_eq!(rt; head.children.len(), 1);
+    assert_eq!(rt;
+        head.children.as_slice()[0].children.as_slice()[0].line.line,
+        3
+    );
+    let deeper = lines_of(a, &nested(a, 64)?)?;
+    assert_eq!(rt;
+        shown(a, deeper.as_slice())?.as_slice(),
+        b"a.occ:66 S4 error -\n".as_slice()
+    );
+    let Err(ShapeFault::Faults(faults)) = shape(a, deeper) else {
+        panic!(rt; "no fault");
+    };
+    assert_eq!(rt; faults.len(), 1);
+    Ok(())
+}
+
+#[test]
+fn nests_65_535_lines(rt: HostRuntime) -> Result<(), Fail> {
+    let a = rt.alloc();
+    let unit = shape(a, repeated(a, "VAL x IS 1:\n", 65_535, 0)?)?;
+    assert_eq!(rt; unit.roots.len(), 65_535);
     Ok(())
 }
