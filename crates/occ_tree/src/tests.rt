@@ -1,4 +1,4 @@
-use super::{ShapeFault, shape, shape_faults};
+use super::{ShapeFault, shape, shape_faults, share_lines};
 use occ_base::{FileName, Items, Shared, write_diag};
 use occ_forms::{Form, LineBody, SourceLine, prepare};
 use occ_project::{ExpandedBody, ExpandedLine};
@@ -161,7 +161,8 @@ fn nested(alloc: Global, count: usize) -> Result<String, Fail> {
 #[test]
 fn nests_64_levels(rt: HostRuntime) -> Result<(), Fail> {
     let a = rt.alloc();
-    let unit = shape(a, lines_of(a, &nested(a, 63)?)?)?;
+    let lines = lines_of(a, &nested(a, 63)?)?;
+    let unit = shape(a, share_lines(a, lines.as_slice())?)?;
     assert_eq!(rt; unit.roots.len(), 2);
     let head = &unit.roots.as_slice()[0];
     assert_eq!(rt; head.line.line, 1);
