@@ -1,54 +1,92 @@
-use super::{ExpandFault, Expanded, ExpandedBody, Read, Reads, expand, expand_over};
+use super::{ExpandFault, Expanded, Read, Reads, expand, expand_over};
 use occ_base::{FileName, Items, Shared, write_diag};
-use occ_forms::prepare;
-use std::alloc::Global;
+use occ_forms::{Source, prepare};
+use std::alloc::{AllocError, Global};
 use std::test::Fail;
 
-/// A member of the reads with this text.
-fn open(alloc: Global, name: &str, text: &str) -> Result<Read, Fail> {
-    let source = Shared::new(alloc, prepare(alloc, text.as_bytes())?)?;
+/// A member of the reads.
+fn member(name: &str, source: Option<Shared<Source>>) -> Result<Read, Fail> {
     Ok(Read {
         name: FileName::read(name.as_bytes())?,
         revision: 1,
-        source: Some(source),
+        source,
     })
 }
 
-/// The expansion of a.occ over these members.
-fn expanded(alloc: Global, reads: &Reads) -> Result<Expanded, Fail> {
-    Ok(expand(alloc, reads, FileName::read(b"a.occ")?)?)
+/// The same with this text.
+fn open(alloc: Global, name: &str, text: &str) -> Result<Read, Fail> {
+    let source = prepare(alloc, text.as_bytes())?;
+    member(name, Some(Shared::new(alloc, source)?))
 }
 
-/// The diagnostics, each with a line end.
-fn faults(alloc: Global, expanded: &Expanded) -> Result<Vec<u8>, Fail> {
-    let mut shown = Vec::new(alloc);
+/// Each name behind a blank.
+fn show_names(names: &[FileName], shown: &mut Vec<u8>) -> Result<(), AllocError> {
+    for name in names {
+        shown.push(b' ')?;
+        shown.extend_from_slice(name.as_bytes())?;
+    }
+    shown.push(b'\n')?;
+    Ok(())
+}
+
+/// The lines, each with its file, number and depth.
+fn show_lines(alloc: Global, expanded: &Expanded, shown: &mut Vec<u8>) -> Result<(), AllocError> {
+    for line in expanded.lines() {
+        let place = format!(in alloc; ":{} {}\n", line.line, line.depth)?;
+        shown.extend_from_slice(line.file.as_bytes())?;
+        shown.extend_from_slice(place.as_bytes())?;
+    }
+    Ok(())
+}
+
+/// The diagnostics, the names that were looked up and the units that are used, each list with a line end.
+fn show(alloc: Global, expanded: &Expanded, shown: &mut Vec<u8>) -> Result<(), AllocError> {
     for diag in expanded.faults() {
-        write_diag(alloc, diag, &mut shown)?;
+        write_diag(alloc, diag, shown)?;
         shown.push(b'\n')?;
     }
-    Ok(shown)
+    show_names(expanded.reads(), shown)?;
+    for used in expanded.uses() {
+        show_names(used.units.as_slice(), shown)?;
+    }
+    Ok(())
 }
 
-/// The names, with a blank behind each.
-fn joined(alloc: Global, names: &[FileName]) -> Result<Vec<u8>, Fail> {
+/// What is shown of the expansion of a.occ, or the name that is not given.
+fn shown(alloc: Global, reads: &Reads) -> Result<Vec<u8>, Fail> {
     let mut shown = Vec::new(alloc);
-    for name in names {
-        shown.extend_from_slice(name.as_bytes())?;
-        shown.push(b' ')?;
+    match expand(alloc, reads, FileName::read(b"a.occ")?) {
+        Ok(expanded) => show(alloc, &expanded, &mut shown)?,
+        Err(fault) => show_fault(fault, &mut shown)?,
     }
     Ok(shown)
 }
 
-/// k1.inc to k15.inc, each with two lines that include the next, and k16.inc, a comment.
-fn doubled(alloc: Global, reads: &mut Reads) -> Result<(), Fail> {
-    for i in 1..16u32 {
+/// The name that is not given, or that memory was refused.
+fn show_fault(fault: ExpandFault, shown: &mut Vec<u8>) -> Result<(), AllocError> {
+    match fault {
+        ExpandFault::NotGiven(name) => shown.extend_from_slice(name.as_bytes()),
+        ExpandFault::Memory => shown.extend_from_slice(b"memory"),
+    }
+}
+
+/// a.occ with this text, and k1.inc and so on: each includes the next, once or twice, and the last one is a comment.
+fn nested(alloc: Global, text: &str, last: u32, twice: bool) -> Result<Reads, Fail> {
+    let mut reads = Items::new(alloc);
+    reads.push(open(alloc, "a.occ", text)?)?;
+    for i in 1..last {
         let name = format!(in alloc; "k{i}.inc")?;
         let next = i + 1;
-        let text = format!(in alloc; "#INCLUDE \"k{next}.inc\"\n#INCLUDE \"k{next}.inc\"\n")?;
+        let once = format!(in alloc; "#INCLUDE \"k{next}.inc\"\n")?;
+        let mut text = once.clone()?;
+        if twice {
+            text.push_str(once.as_str())?;
+        }
         reads.push(open(alloc, name.as_str(), text.as_str())?)?;
     }
-    reads.push(open(alloc, "k16.inc", "-- x\n")?)?;
-    Ok(())
+    let name = format!(in alloc; "k{last}.inc")?;
+    reads.push(open(alloc, name.as_str(), "-- x\n")?)?;
+    Ok(reads)
 }
 
 #[test]
@@ -58,66 +96,39 @@ fn puts_lines_in(rt: HostRuntime) -> Result<(), Fail> {
     reads.push(open(a, "a.occ", "SEQ\n  #INCLUDE \"k.inc\"\n#USE \"b\"\n")?)?;
     reads.push(open(a, "k.inc", "-- x\n  SKIP\n")?)?;
     reads.push(open(a, "k.inc", "STOP\n")?)?;
-    let expanded = expanded(a, &reads)?;
-    let [first, second, third] = expanded.lines() else {
-        panic!(rt; "no three lines");
-    };
-    assert_eq!(rt; first.file.as_bytes(), b"a.occ".as_slice());
-    assert_eq!(rt; first.line, 1);
-    assert_eq!(rt; first.depth, 0);
-    assert_eq!(rt; second.file.as_bytes(), b"k.inc".as_slice());
-    assert_eq!(rt; second.line, 2);
-    assert_eq!(rt; second.depth, 2);
-    assert_eq!(rt; third.line, 3);
-    assert!(rt; matches!(&third.body, ExpandedBody::Uses(_)));
     assert_eq!(rt;
-        joined(a, expanded.reads())?.as_slice(),
-        b"a.occ k.inc ".as_slice()
+        shown(a, &reads)?.as_slice(),
+        b" a.occ k.inc\n b.occ\n".as_slice()
     );
-    let [used] = expanded.uses() else {
-        panic!(rt; "no one use");
-    };
-    assert_eq!(rt; used.line, 3);
+    let mut lines = Vec::new(a);
+    let expanded = expand_over(a, &reads, FileName::read(b"a.occ")?)?;
+    show_lines(a, &expanded, &mut lines)?;
     assert_eq!(rt;
-        joined(a, used.units.as_slice())?.as_slice(),
-        b"b.occ ".as_slice()
+        lines.as_slice(),
+        b"a.occ:1 0\nk.inc:2 2\na.occ:3 0\n".as_slice()
     );
-    assert_eq!(rt; expanded.faults().len(), 0);
     Ok(())
 }
 
 #[test]
 fn asks_for_what_is_not_given(rt: HostRuntime) -> Result<(), Fail> {
     let a = rt.alloc();
-    let unit = FileName::read(b"a.occ")?;
     let mut reads = Items::new(a);
-    let Err(ExpandFault::NotGiven(name)) = expand(a, &reads, unit) else {
-        panic!(rt; "the unit is not given");
-    };
-    assert_eq!(rt; name.as_bytes(), b"a.occ".as_slice());
+    assert_eq!(rt; shown(a, &reads)?.as_slice(), b"a.occ".as_slice());
     reads.push(open(a, "a.occ", "#INCLUDE \"a.occ\"\n#INCLUDE \"k.inc\"\n")?)?;
-    let Err(ExpandFault::NotGiven(name)) = expand(a, &reads, unit) else {
-        panic!(rt; "k.inc is not given");
-    };
-    assert_eq!(rt; name.as_bytes(), b"k.inc".as_slice());
-    let over = expand_over(a, &reads, unit)?;
-    reads.push(Read {
-        name,
-        revision: 0,
-        source: None,
-    })?;
-    let expanded = expanded(a, &reads)?;
+    assert_eq!(rt; shown(a, &reads)?.as_slice(), b"k.inc".as_slice());
+    Ok(())
+}
+
+#[test]
+fn reads_absent_files(rt: HostRuntime) -> Result<(), Fail> {
+    let a = rt.alloc();
+    let mut reads = Items::new(a);
+    reads.push(open(a, "a.occ", "#INCLUDE \"a.occ\"\n#INCLUDE \"k.inc\"\n")?)?;
+    reads.push(member("k.inc", None)?)?;
     assert_eq!(rt;
-        faults(a, &expanded)?.as_slice(),
-        b"a.occ:1 G5 error a.occ\na.occ:2 G4 error k.inc\n".as_slice()
-    );
-    assert_eq!(rt;
-        joined(a, expanded.reads())?.as_slice(),
-        b"a.occ k.inc ".as_slice()
-    );
-    assert_eq!(rt;
-        faults(a, &over)?.as_slice(),
-        faults(a, &expanded)?.as_slice()
+        shown(a, &reads)?.as_slice(),
+        b"a.occ:1 G5 error a.occ\na.occ:2 G4 error k.inc\n a.occ k.inc\n".as_slice()
     );
     Ok(())
 }
@@ -125,41 +136,23 @@ fn asks_for_what_is_not_given(rt: HostRuntime) -> Result<(), Fail> {
 #[test]
 fn ends_at_the_limit_of_lines(rt: HostRuntime) -> Result<(), Fail> {
     let a = rt.alloc();
-    let mut reads = Items::new(a);
-    reads.push(open(a, "a.occ", "#INCLUDE \"k1.inc\"\n")?)?;
-    doubled(a, &mut reads)?;
-    let whole = expanded(a, &reads)?;
-    assert_eq!(rt; whole.faults().len(), 0);
-    assert_eq!(rt; whole.reads().len(), 17);
-    let mut reads = Items::new(a);
-    reads.push(open(a, "a.occ", "#INCLUDE \"k1.inc\"\nVAL n IS 1:\n")?)?;
-    doubled(a, &mut reads)?;
-    let cut = expanded(a, &reads)?;
-    assert_eq!(rt;
-        faults(a, &cut)?.as_slice(),
-        b"a.occ:2 G6 error -\n".as_slice()
-    );
-    assert_eq!(rt; cut.lines().len(), 0);
+    let names =
+        " a.occ k1.inc k2.inc k3.inc k4.inc k5.inc k6.inc k7.inc k8.inc k9.inc k10.inc k11.inc k12.inc k13.inc k14.inc k15.inc k16.inc\n";
+    let whole = nested(a, "#INCLUDE \"k1.inc\"\n", 16, true)?;
+    assert_eq!(rt; shown(a, &whole)?.as_slice(), names.as_bytes());
+    let more = nested(a, "#INCLUDE \"k1.inc\"\nVAL n IS 1:\n", 16, true)?;
+    let told = format!(in a; "a.occ:2 G6 error -\n{names}")?;
+    assert_eq!(rt; shown(a, &more)?.as_slice(), told.as_bytes());
     Ok(())
 }
 
 #[test]
 fn ends_at_the_limit_of_inclusions(rt: HostRuntime) -> Result<(), Fail> {
     let a = rt.alloc();
-    let mut reads = Items::new(a);
-    reads.push(open(a, "a.occ", "#INCLUDE \"k1.inc\"\n")?)?;
-    for i in 1..17u32 {
-        let name = format!(in a; "k{i}.inc")?;
-        let next = i + 1;
-        let text = format!(in a; "#INCLUDE \"k{next}.inc\"\n")?;
-        reads.push(open(a, name.as_str(), text.as_str())?)?;
-    }
-    reads.push(open(a, "k17.inc", "")?)?;
-    let expanded = expanded(a, &reads)?;
-    assert_eq!(rt;
-        faults(a, &expanded)?.as_slice(),
-        b"k16.inc:1 G6 error k17.inc\n".as_slice()
-    );
-    assert_eq!(rt; expanded.reads().len(), 17);
+    let reads = nested(a, "#INCLUDE \"k1.inc\"\n", 17, false)?;
+    let names =
+        " a.occ k1.inc k2.inc k3.inc k4.inc k5.inc k6.inc k7.inc k8.inc k9.inc k10.inc k11.inc k12.inc k13.inc k14.inc k15.inc k16.inc\n";
+    let told = format!(in a; "k16.inc:1 G6 error k17.inc\n{names}")?;
+    assert_eq!(rt; shown(a, &reads)?.as_slice(), told.as_bytes());
     Ok(())
 }
