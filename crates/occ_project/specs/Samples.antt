@@ -2,7 +2,6 @@
 use Rattle.std.specs.Prelude.{ℕ, List, [], ◌∷◌, map, Option, Some, None}
 use Rattle.std.specs.List.{range_with_len}
 use Rattle.occ_base.specs.declared.code.Code.{Code}
-use Rattle.occ_base.specs.declared.code.Code.TheVariants as code
 use Rattle.occ_base.specs.declared.code.Grade.TheVariants.{Error}
 use Rattle.occ_base.specs.declared.diag.Diag.{Diag}
 use Rattle.occ_forms.specs.declared.source.LineBody.TheVariants as body
