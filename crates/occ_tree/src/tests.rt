@@ -50,18 +50,25 @@ fn faults_in(alloc: Global, text: &str) -> Result<Vec<u8>, Fail> {
     shown(alloc, lines.as_slice())
 }
 
-/// As many lines, each with the form of the first line of the text, where the depths rise by `rise`.
-fn repeated(alloc: Global, text: &str, count: u32, rise: u64) -> Result<Items<ExpandedLine>, Fail> {
+/// The lines of the text so many times, each at the depth of its turn or at 0.
+fn repeated(
+    alloc: Global,
+    text: &str,
+    count: u32,
+    deeper: bool,
+) -> Result<Items<ExpandedLine>, Fail> {
     let file = FileName::read(b"a.occ")?;
     let source = prepare(alloc, text.as_bytes())?;
     let mut lines = Items::new(alloc);
-    for i in 0..count {
-        lines.push(ExpandedLine {
-            file,
-            line: i + 1,
-            depth: u64::from(i) * rise,
-            body: body_of(alloc, &source.lines()[0])?,
-        })?;
+    for turn in 0..count {
+        for line in source.lines() {
+            lines.push(ExpandedLine {
+                file,
+                line: line.line,
+                depth: if deeper { u64::from(turn) } else { 0 },
+                body: body_of(alloc, line)?,
+            })?;
+        }
     }
     Ok(lines)
 }
@@ -137,9 +144,9 @@ fn tells_parts_of_tags_and_uses(rt: HostRuntime) -> Result<(), Fail> {
 #[test]
 fn stands_any_number_of_lines(rt: HostRuntime) -> Result<(), Fail> {
     let a = rt.alloc();
-    let wide = repeated(a, "SEQ\n", 65_535, 0)?;
+    let wide = repeated(a, "SEQ\n", 65_535, false)?;
     assert_eq!(rt; shape_faults(a, wide.as_slice())?.len(), 65_535);
-    let deep = repeated(a, "SEQ\n", 65_535, 1)?;
+    let deep = repeated(a, "SEQ\n", 65_535, true)?;
     assert_eq!(rt; shape_faults(a, deep.as_slice())?.len(), 65_471);
     Ok(())
 }
@@ -164,13 +171,16 @@ fn nests_64_levels(rt: HostRuntime) -> Result<(), Fail> {
     let lines = lines_of(a, &nested(a, 63)?)?;
     let unit = shape(a, share_lines(a, lines.as_slice())?)?;
     assert_eq!(rt; unit.roots.len(), 2);
-    let head = &unit.roots.as_slice()[0];
-    assert_eq!(rt; head.line.line, 1);
-    assert_eq!(rt; head.children.len(), 1);
-    assert_eq!(rt;
-        head.children.as_slice()[0].children.as_slice()[0].line.line,
-        3
-    );
+    let Some(head) = unit.roots.as_slice().first() else {
+        panic!(rt; "no head");
+    };
+    let Some(outer) = head.children.as_slice().first() else {
+        panic!(rt; "nothing under the head");
+    };
+    let Some(inner) = outer.children.as_slice().first() else {
+        panic!(rt; "nothing under the outer construct");
+    };
+    assert_eq!(rt; inner.line.line, 3);
     let deeper = lines_of(a, &nested(a, 64)?)?;
     assert_eq!(rt;
         shown(a, deeper.as_slice())?.as_slice(),
@@ -186,7 +196,7 @@ fn nests_64_levels(rt: HostRuntime) -> Result<(), Fail> {
 #[test]
 fn nests_65_535_lines(rt: HostRuntime) -> Result<(), Fail> {
     let a = rt.alloc();
-    let unit = shape(a, repeated(a, "VAL x IS 1:\n", 65_535, 0)?)?;
+    let unit = shape(a, repeated(a, "VAL x IS 1:\n", 65_535, false)?)?;
     assert_eq!(rt; unit.roots.len(), 65_535);
     Ok(())
 }
