@@ -14,7 +14,7 @@ pub enum LineBody {
     Include(FileName),
     /// The exports of this unit are visible from here on.
     Uses(FileName),
-    /// The one fault of the line: `L1`, `L2`, `L3`, `L4` or `S1`.
+    /// The one fault of the line: `L1`, `L2`, `L3`, `L4`, `S1` or `S3`.
     Fault(Code),
 }
 

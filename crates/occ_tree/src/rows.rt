@@ -138,13 +138,14 @@ pub fn depth_rows()
     ensures falling { in_procedure (at 1 so.Block ∷ at 4 so.Action ∷ at 3 so.Action ∷ at 2 so.Action ∷ []) ≡ false ∷ false ∷ true ∷ true ∷ false ∷ false ∷ [] }
 {}
 
-/// A head and its close stand right behind each other, at whatever depths. A head without its close and a close
+/// A head and its close stand right behind each other, also where the head is the deeper one. A head without its close and a close
 /// without its head are wrong, and are no specification.
 pub fn close_rows()
     ensures no_close { in_procedure (at 1 so.Action ∷ at 1 so.ProcedureHead ∷ at 2 so.Action ∷ []) ≡ false ∷ false ∷ true ∷ false ∷ false ∷ [] }
     ensures no_head { in_procedure (at 1 so.Action ∷ at 1 so.Close ∷ []) ≡ false ∷ false ∷ true ∷ false ∷ [] }
     ensures parted { in_procedure (at 1 so.ProcedureHead ∷ at 2 so.Action ∷ at 1 so.Declaration ∷ at 1 so.Close ∷ at 1 so.Action ∷ []) ≡ false ∷ true ∷ false ∷ false ∷ true ∷ false ∷ false ∷ [] }
     ensures closed { in_procedure (at 1 so.ProcedureHead ∷ at 2 so.Action ∷ at 1 so.Close ∷ at 1 so.Action ∷ []) ≡ false ∷ false ∷ false ∷ false ∷ false ∷ false ∷ [] }
+    ensures deeper { in_procedure (at 2 so.ProcedureHead ∷ at 3 so.Action ∷ at 1 so.Close ∷ at 1 so.Action ∷ []) ≡ false ∷ true ∷ false ∷ false ∷ false ∷ false ∷ [] }
     ensures last { in_procedure (at 1 so.Action ∷ at 1 so.ProcedureHead ∷ at 2 so.Action ∷ at 1 so.Close ∷ []) ≡ true ∷ false ∷ false ∷ false ∷ false ∷ false ∷ [] }
     ensures under_nothing { in_procedure (at 1 so.Action ∷ at 2 so.ProcedureHead ∷ at 3 so.Action ∷ at 2 so.Close ∷ []) ≡ false ∷ false ∷ true ∷ false ∷ true ∷ false ∷ [] }
 {}
