@@ -3,3 +3,5 @@ pub mod Padded
 pub mod Diag
 pub mod Sample
 pub mod Order
+pub mod formers
+pub mod Errors

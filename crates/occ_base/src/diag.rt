@@ -1,7 +1,9 @@
 ghost use Rattle.std.specs.Prelude.{◌≡◌, ◌++◌, IfOk, OnErr, OnOk};
 ghost use Rattle.occ_base.specs.Diag.{diag_line, name_text};
+ghost use Rattle.occ_base.specs.Errors.{error_at, error_if};
 
 use super::{Code, FileName, Grade, Name};
+use sqlite_items::Items;
 use std::alloc::{AllocError, Global};
 
 /// One diagnostic. The order is by file, line (from 1), code, grade and name; a diagnostic without a name,
@@ -13,6 +15,38 @@ pub struct Diag {
     pub code: Code,
     pub grade: Grade,
     pub name: Option<Name>,
+}
+
+impl Diag {
+    /// An error at a line of a file, with the name that it tells.
+    pub fn error(file: FileName, line: u32, code: Code, name: Option<Name>) -> Diag
+        ensures { result ≡ error_at file line code name }
+    {
+        Diag {
+            file,
+            line,
+            code,
+            grade: Grade::Error,
+            name,
+        }
+    }
+}
+
+/// Adds the error without a name at a line of a file, if the test holds. Where memory is refused `found` stays.
+pub fn add_error_if(
+    test: bool,
+    file: FileName,
+    line: u32,
+    code: Code,
+    found: &mut Items<Diag>,
+) -> Result<(), AllocError>
+    ensures ok { OnOk result (found.new ≡ found.old ++ error_if test file line code) }
+    ensures err { OnErr result (found.new ≡ found.old) }
+{
+    if test {
+        found.push(Diag::error(file, line, code, None))?;
+    }
+    Ok(())
 }
 
 /// Appends the line of a diagnostic, `FILE:LINE CODE GRADE NAME`. Where memory is refused `out` stays.

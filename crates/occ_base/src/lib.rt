@@ -12,7 +12,7 @@ mod shared;
 mod tests;
 
 pub use code::{Code, Grade};
-pub use diag::{Diag, write_diag};
+pub use diag::{Diag, add_error_if, write_diag};
 pub use file_name::{FileName, NameFault};
 pub use name::Name;
 pub use rows::{diag_rows, file_name_rows, order_rows};

@@ -2,7 +2,7 @@
 //! error.
 #![tactic(auto)]
 
-use occ_base::{Boxed, Items, Name};
+use occ_base::{Items, Name, Shared};
 use occ_scope::Scopes;
 use occ_types::{Field, Measure, OccType, Packing, Primitive, measure_of};
 use std::alloc::{AllocError, Global};
@@ -104,7 +104,7 @@ fn measures(rt: &HostRuntime) -> io::Result<()> {
 fn deep(alloc: Global, names: u32) -> Result<OccType, AllocError> {
     let mut of = OccType::Primitive(Primitive::Int);
     for _ in 0..names {
-        of = OccType::Named(Name::from_slice(alloc, b"N")?, Boxed::new(alloc, of)?);
+        of = OccType::Named(Name::from_slice(alloc, b"N")?, Shared::new(alloc, of)?);
     }
     Ok(of)
 }
@@ -122,6 +122,7 @@ fn wide(alloc: Global, levels: u32) -> Result<OccType, AllocError> {
 
 fn field(alloc: Global, text: &[u8], of: OccType) -> Result<Field, AllocError> {
     let name = Name::from_slice(alloc, text)?;
+    let of = Shared::new(alloc, of)?;
     Ok(Field { name, of })
 }
 

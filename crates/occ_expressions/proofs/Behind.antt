@@ -1,5 +1,5 @@
 -- Expressions that begin with a name, step by step as they are read.
-use Rattle.std.proofs.Common.{◌≡◌, ◌≢◌, ◌∙◌, ◌⊎◌, inl, inr, refl, sym, ap, subst, ℕ, Bool, true, false, List, [], ◌∷◌, Option, Some, None, Result, Ok, Err, IfOk, IfSome, Bor}
+use Rattle.std.proofs.Common.{◌≡◌, ◌∙◌, inl, inr, refl, sym, ap, subst, ℕ, true, false, List, [], ◌∷◌, Option, Some, None, Result, Ok, Err, IfOk, IfSome, Bor}
 use Rattle.std.specs.declared.alloc.AllocError.{AllocError}
 use Rattle.occ_lines.specs.declared.token.Symbol.TheVariants as s
 use Rattle.occ_lines.specs.declared.token.Token.{Token}
@@ -24,7 +24,7 @@ use Rattle.occ_expressions.specs.Spelling.{arguments_of, element_then, expr_then
 use Rattle.occ_expressions.specs.Tails.{joined, tail_then}
 use Rattle.occ_expressions.proofs.Cases.{element_named_spells, operand_element_spells}
 use Rattle.occ_expressions.proofs.Classes.{ExprAt, at_named, expr_at, run_at_name}
-use Rattle.occ_expressions.proofs.Conversions.{Widened, narrow_spells, widen}
+use Rattle.occ_expressions.proofs.Conversions.{widen}
 use Rattle.occ_expressions.proofs.Narrow.{narrow_of_table, narrow_parens}
 use Rattle.occ_expressions.proofs.Operands.{OperandAt, after_no_index, after_no_open, at_bracket, at_call, at_decorated, at_element, at_literal, at_parens, at_truth, operand_at}
 use Rattle.occ_expressions.proofs.Tailed.{end_after, tail_after}

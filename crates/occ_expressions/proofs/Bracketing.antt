@@ -1,5 +1,5 @@
 -- Expressions that begin with a square bracket, step by step as they are read.
-use Rattle.std.proofs.Common.{◌≡◌, ◌≢◌, ◌∙◌, ◌⊎◌, inl, inr, refl, sym, ap, subst, ℕ, Bool, true, false, List, [], ◌∷◌, Option, Some, None, Result, Ok, Err, IfOk, IfSome, Bor}
+use Rattle.std.proofs.Common.{◌≡◌, ◌∙◌, inl, inr, refl, sym, ap, subst, ℕ, Bool, true, false, List, [], ◌∷◌, Option, Some, None, Result, Ok, Err, IfOk, IfSome, Bor}
 use Rattle.std.specs.declared.alloc.AllocError.{AllocError}
 use Rattle.occ_lines.specs.declared.token.Symbol.TheVariants as s
 use Rattle.occ_lines.specs.declared.token.Token.{Token}
@@ -18,7 +18,7 @@ use Rattle.occ_expressions.specs.declared.tree.Expr.{Expr}
 use Rattle.occ_expressions.specs.declared.tree.Expr.TheVariants as xv
 use Rattle.occ_expressions.specs.declared.tree.Operand.{Operand}
 use Rattle.occ_expressions.specs.Brackets.{Fits, IsBracketed, closing_then}
-use Rattle.occ_expressions.specs.Reading.{IsAfter, IsEndOfRun, IsNot, Reads, begin_of, is_type_begin}
+use Rattle.occ_expressions.specs.Reading.{IsAfter, IsEndOfRun, Reads, begin_of, is_type_begin}
 use Rattle.occ_expressions.specs.Spelling.{builtin_then, dimension_then, expr_then, many, operand_then}
 use Rattle.occ_expressions.specs.Tails.{joined, tail_then}
 use Rattle.occ_expressions.proofs.Behind.{IsBracketRead, fitting}

@@ -1,5 +1,5 @@
 -- Conversions, step by step as they are read.
-use Rattle.std.proofs.Common.{◌≡◌, ◌∙◌, refl, sym, ap, ℕ, List, [], ◌∷◌, Option, Some, None}
+use Rattle.std.proofs.Common.{◌≡◌, ◌∙◌, sym, ap, ℕ, List, [], ◌∷◌, Some, None}
 use Rattle.occ_lines.specs.declared.token.Symbol.TheVariants as s
 use Rattle.occ_lines.specs.declared.token.Token.{Token}
 use Rattle.occ_lines.specs.declared.token.Token.TheVariants as t
@@ -9,7 +9,6 @@ use Rattle.occ_expressions.specs.declared.tree.Dimension.{Dimension}
 use Rattle.occ_expressions.specs.declared.tree.Expr.{Expr}
 use Rattle.occ_expressions.specs.declared.tree.Expr.TheVariants as xv
 use Rattle.occ_expressions.specs.declared.tree.NamedOperand.{NamedOperand}
-use Rattle.occ_expressions.specs.declared.tree.NamedOperand.TheVariants as nv
 use Rattle.occ_expressions.specs.declared.tree.Operand.{Operand}
 use Rattle.occ_expressions.specs.declared.tree.Operand.TheVariants as ov
 use Rattle.occ_expressions.specs.Brackets.{IsBracketed, closing_then, narrow_of}

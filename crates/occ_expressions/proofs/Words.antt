@@ -1,5 +1,5 @@
 -- What may follow an operand begins none, word by word and symbol by symbol.
-use Rattle.std.proofs.Common.{◌≡◌, ◌⊎◌, ◌||◌, inl, inr, refl, ℕ, Bool, true, false, List, [], ◌∷◌}
+use Rattle.std.proofs.Common.{◌≡◌, ◌⊎◌, ◌||◌, inl, inr, refl, true, List, [], ◌∷◌}
 use Rattle.occ_lines.specs.declared.token.Token.{Token}
 use Rattle.occ_lines.specs.declared.token.Token.TheVariants as t
 use Rattle.occ_lines.specs.declared.token.Symbol.{Symbol}
@@ -9,7 +9,7 @@ use Rattle.occ_lines.specs.declared.token.Word.TheVariants as w
 use Rattle.occ_expressions.specs.declared.begin.Begin.{Begin}
 use Rattle.occ_expressions.specs.declared.begin.Begin.TheVariants as be
 use Rattle.occ_expressions.specs.declared.tree.Operand.{Operand}
-use Rattle.occ_expressions.specs.Reading.{IsAfter, IsNotCounted, begin_of, begin_symbol, begin_word, is_counted, is_dyadic_symbol, is_dyadic_word, is_end_symbol, is_end_word}
+use Rattle.occ_expressions.specs.Reading.{IsAfter, IsNotCounted, begin_of, begin_symbol, begin_word, is_dyadic_symbol, is_dyadic_word, is_end_symbol, is_end_word}
 use Rattle.occ_expressions.specs.Spelling.{operand_then}
 use Rattle.occ_expressions.proofs.Begins.{begun, operand_begins}
 

@@ -1,10 +1,10 @@
 -- The diagnostics of lines that have a fault, and of those that the first sublanguage does not have.
-use Rattle.std.specs.Prelude.{ℕ, Bool, true, false, if◌then◌else◌, List, [], ◌∷◌, Option, None, Some, map}
+use Rattle.std.specs.Prelude.{ℕ, Bool, true, false, if◌then◌else◌, List, [], ◌∷◌, None, Some, map}
 use Rattle.std.specs.List.{flat_map}
 use Rattle.std.specs.Str.{bytes_eq}
 use Rattle.occ_base.specs.declared.code.Code.{Code}
-use Rattle.occ_base.specs.declared.code.Grade.TheVariants as grade
 use Rattle.occ_base.specs.declared.diag.Diag.{Diag}
+use Rattle.occ_base.specs.Errors.{error_at, error_if}
 use Rattle.occ_base.specs.declared.code.Code.TheVariants.{G1, G2, S1}
 use Rattle.occ_project.specs.declared.expanded.ExpandedBody.{ExpandedBody}
 use Rattle.occ_project.specs.declared.expanded.ExpandedBody.TheVariants as body
@@ -12,14 +12,6 @@ use Rattle.occ_project.specs.declared.expanded.ExpandedLine.{ExpandedLine}
 use Rattle.occ_first.specs.declared.line.Body.{Body}
 use Rattle.occ_first.specs.declared.line.Body.TheVariants as known
 use Rattle.occ_first.specs.declared.line.Line.{Line}
-
--- an error at a line of the file, with the name that it tells
-abbrev pub error_at : List ℕ → ℕ → Code → Option (List ℕ) → Diag
-error_at file line code name = record { file = file; line = line; code = code; grade = grade.Error; name = name }
-
--- the error without a name, if the test holds
-abbrev pub error_if : Bool → List ℕ → ℕ → Code → List Diag
-error_if test file line code = if test then error_at file line code None ∷ [] else []
 
 -- what is wrong with a use of a unit, where the unit that uses it is the one open file
 abbrev pub use_code : List ℕ → List ℕ → Code

@@ -4,6 +4,7 @@ use Rattle.std.specs.List.{flat_map}
 use Rattle.occ_base.specs.declared.code.Code.{Code}
 use Rattle.occ_base.specs.declared.code.Code.TheVariants as code
 use Rattle.occ_base.specs.declared.diag.Diag.{Diag}
+use Rattle.occ_base.specs.Errors.{error_at}
 use Rattle.occ_first.specs.declared.line.Element.{Element}
 use Rattle.occ_first.specs.declared.line.Element.TheVariants as element
 use Rattle.occ_first.specs.declared.line.Operand.{Operand}
@@ -21,7 +22,6 @@ use Rattle.occ_first.specs.declared.mention.Mention.{Mention}
 use Rattle.occ_first.specs.declared.scope.Sort.{Sort}
 use Rattle.occ_first.specs.declared.scope.Sort.TheVariants as sort
 use Rattle.occ_first.specs.declared.scope.Specification.{Specification}
-use Rattle.occ_first.specs.Faults.{error_at}
 use Rattle.occ_first.specs.Scope.{visible}
 
 abbrev pub element_mention : Access → Element → Mention

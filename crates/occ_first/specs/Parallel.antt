@@ -4,6 +4,7 @@ use Rattle.std.specs.List.{flat_map, list_any}
 use Rattle.std.specs.Str.{bytes_eq}
 use Rattle.occ_base.specs.declared.code.Code.TheVariants as code
 use Rattle.occ_base.specs.declared.diag.Diag.{Diag}
+use Rattle.occ_base.specs.Errors.{error_at}
 use Rattle.occ_first.specs.declared.line.Form.{Form}
 use Rattle.occ_first.specs.declared.line.Form.TheVariants as form
 use Rattle.occ_first.specs.declared.line.Line.{Line}
@@ -16,7 +17,6 @@ use Rattle.occ_first.specs.declared.parallel.Use.{Use}
 use Rattle.occ_first.specs.declared.scope.Sort.{Sort}
 use Rattle.occ_first.specs.declared.scope.Sort.TheVariants as sort
 use Rattle.occ_first.specs.declared.scope.Specification.{Specification}
-use Rattle.occ_first.specs.Faults.{error_at}
 use Rattle.occ_first.specs.Names.{mentions}
 use Rattle.occ_first.specs.Nesting.{is_head, role_of, under}
 use Rattle.occ_first.specs.Scope.{visible}

@@ -1,39 +1,10 @@
 ghost use Rattle.std.specs.Prelude.{◌≡◌, ◌++◌, IfOk, OnOk, map};
-ghost use Rattle.occ_first.specs.Faults.{error_at, error_if, is_other, line_faults, other_faults, own_faults, use_code, use_fault};
+ghost use Rattle.occ_first.specs.Faults.{is_other, line_faults, other_faults, own_faults, use_code, use_fault};
 
 use super::line::{Body, Line};
-use occ_base::{Code, Diag, FileName, Grade, Items, Name};
+use occ_base::{Code, Diag, FileName, Items, Name, add_error_if};
 use occ_project::{ExpandedBody, ExpandedLine};
 use std::alloc::{AllocError, Global};
-
-/// An error at a line of the file, with the name that it tells.
-pub fn error(file: FileName, line: u32, code: Code, name: Option<Name>) -> Diag
-    ensures { result ≡ error_at file line code name }
-{
-    Diag {
-        file,
-        line,
-        code,
-        grade: Grade::Error,
-        name,
-    }
-}
-
-/// Adds the error without a name, if the test holds.
-pub fn add_error_if(
-    test: bool,
-    file: FileName,
-    line: u32,
-    code: Code,
-    found: &mut Items<Diag>,
-) -> Result<(), AllocError>
-    ensures { OnOk result (found.new ≡ found.old ++ error_if test file line code) }
-{
-    if test {
-        found.push(error(file, line, code, None))?;
-    }
-    Ok(())
-}
 
 /// What is wrong with a use of a unit, where the unit that uses it is the one open file.
 fn use_error(unit: FileName, used: FileName) -> Code
@@ -54,7 +25,7 @@ fn add_use_faults(
 {
     for used in used {
         let name = Name::from_slice(alloc, used.as_bytes())?;
-        found.push(error(line.file, line.line, use_error(unit, *used), Some(name)))?;
+        found.push(Diag::error(line.file, line.line, use_error(unit, *used), Some(name)))?;
     }
     Ok(())
 }
@@ -72,7 +43,7 @@ fn add_line_faults(
         ExpandedBody::Form(_) => Ok(()),
         ExpandedBody::Uses(used) => add_use_faults(alloc, unit, line, used.as_slice(), found),
         ExpandedBody::Fault(code) => {
-            found.push(error(line.file, line.line, *code, None))?;
+            found.push(Diag::error(line.file, line.line, *code, None))?;
             Ok(())
         }
     }

@@ -3,7 +3,6 @@ ghost use Rattle.std.specs.List.{flat_map};
 ghost use Rattle.occ_first.specs.Names.{meaning_fault, mention_faults, mentions, name_faults};
 ghost use Rattle.occ_first.specs.Scope.{visible as visible_in};
 
-use super::faults::error;
 use super::line::Line;
 use super::mention::find_mentions;
 use super::scope::{Sort, Specification, visible};
@@ -38,7 +37,7 @@ fn add_name_faults(
     for mention in named.as_slice() {
         if let Some(code) = name_fault(specifications, place, &mention.name) {
             let name = mention.name.copied(alloc)?;
-            found.push(error(file, line.line, code, Some(name)))?;
+            found.push(Diag::error(file, line.line, code, Some(name)))?;
         }
     }
     Ok(())

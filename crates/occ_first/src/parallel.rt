@@ -5,7 +5,6 @@ ghost use Rattle.occ_first.specs.Nesting.{is_head, role_of};
 ghost use Rattle.occ_first.specs.Parallel.{component_uses, differ as differing, is_par as a_par, mention_uses, par_faults, parallel_faults, root_of, shares as sharing, uses as uses_of};
 ghost use Rattle.occ_first.specs.Scope.{visible as visible_in};
 
-use super::faults::error;
 use super::line::{Body, Form, Line};
 use super::mention::{Access, Mention, find_mentions};
 use super::nesting::{Role, line_role, under};
@@ -204,7 +203,7 @@ fn add_par_faults(
     for written in uses {
         if written.access == Access::Written && is_shared(written, uses) {
             let name = written.name.copied(alloc)?;
-            found.push(error(file, line, Code::U1, Some(name)))?;
+            found.push(Diag::error(file, line, Code::U1, Some(name)))?;
         }
     }
     Ok(())

@@ -5,35 +5,33 @@ use Rattle.occ_base.specs.declared.diag.Diag.{Diag}
 use Rattle.occ_forms.specs.declared.source.SourceLine.{SourceLine}
 use Rattle.occ_project.specs.declared.entry.Entry.{Entry}
 use Rattle.occ_project.specs.declared.expanded.ExpandedLine.{ExpandedLine}
-use Rattle.occ_project.specs.declared.expanded.UseLine.{UseLine}
 use Rattle.occ_project.specs.declared.making.Made.{Made}
 use Rattle.occ_project.specs.declared.reads.Read.{Read}
-use Rattle.occ_project.specs.Expansion.{Expansion, entry_faults, entry_lines, entry_names, entry_uses, expansion, expansion_of, first_places, limit_faults, unit_entries}
+use Rattle.occ_project.specs.Expansion.{Expansion, entry_faults, entry_lines, entry_names, expansion, expansion_of, first_places, limit_faults, unit_entries}
 use Rattle.occ_project.specs.Making.{after}
 use Rattle.occ_project.specs.Reads.{open_lines}
 use Rattle.occ_project.proofs.Made.{made_of}
 
 -- at the start the unit alone is looked up
 abbrev pub started : ℕ → List ℕ → Made
-started room unit = record { lines = []; uses = []; faults = []; names = unit ∷ []; room = room; is_over = false }
+started room unit = record { lines = []; faults = []; names = unit ∷ []; room = room; is_over = false }
 
 -- what was made, with the names that were looked up at their first places
 abbrev pub shown : Made → Expansion
-shown made = record { lines = made.lines; reads = first_places made.names; uses = made.uses; faults = made.faults }
+shown made = record { lines = made.lines; reads = first_places made.names; faults = made.faults }
 
-whole : (lines : List ExpandedLine) (names : List (List ℕ)) (uses : List UseLine) (faults : List Diag) (made : Made) → made.lines ≡ lines → made.names ≡ names → made.uses ≡ uses → made.faults ≡ faults
-    → shown made ≡ record { lines = lines; reads = first_places names; uses = uses; faults = faults }
-whole lines names uses faults made l n u f =
-    ap (λ (x : List ExpandedLine). record { lines = x; reads = first_places made.names; uses = made.uses; faults = made.faults }) l
-    ∙ ap (λ (x : List (List ℕ)). record { lines = lines; reads = first_places x; uses = made.uses; faults = made.faults }) n
-    ∙ ap (λ (x : List UseLine). record { lines = lines; reads = first_places names; uses = x; faults = made.faults }) u
-    ∙ ap (λ (x : List Diag). record { lines = lines; reads = first_places names; uses = uses; faults = x }) f
+whole : (lines : List ExpandedLine) (names : List (List ℕ)) (faults : List Diag) (made : Made) → made.lines ≡ lines → made.names ≡ names → made.faults ≡ faults
+    → shown made ≡ record { lines = lines; reads = first_places names; faults = faults }
+whole lines names faults made l n f =
+    ap (λ (x : List ExpandedLine). record { lines = x; reads = first_places made.names; faults = made.faults }) l
+    ∙ ap (λ (x : List (List ℕ)). record { lines = lines; reads = first_places x; faults = made.faults }) n
+    ∙ ap (λ (x : List Diag). record { lines = lines; reads = first_places names; faults = x }) f
 
 pub made_is : (limit : ℕ) (unit : List ℕ) (all : List Entry) → shown (after (started limit unit) all) ≡ expansion_of limit unit all
 made_is limit unit all =
     let h = made_of all (started limit unit) refl in
-    whole (flat_map entry_lines (take limit all)) (unit ∷ flat_map entry_names (take limit all)) (flat_map entry_uses (take limit all)) (flat_map entry_faults (take limit all) ++ limit_faults (drop limit all))
-    (after (started limit unit) all) h.lines h.names h.uses h.faults
+    whole (flat_map entry_lines (take limit all)) (unit ∷ flat_map entry_names (take limit all)) (flat_map entry_faults (take limit all) ++ limit_faults (drop limit all))
+    (after (started limit unit) all) h.lines h.names h.faults
 
 -- the same of the entries of a unit
 pub expansion_is : (reads : List Read) (unit : List ℕ) (found : Option (List SourceLine)) (made : Made) → found ≡ open_lines reads unit → made ≡ after (started 65535 unit) (unit_entries reads unit found) → shown made ≡ expansion reads unit

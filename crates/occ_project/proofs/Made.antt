@@ -5,7 +5,7 @@ use Rattle.std.proofs.lemmas.Bool.Decides.{nat_tests}
 use Rattle.occ_base.specs.declared.diag.Diag.{Diag}
 use Rattle.occ_project.specs.declared.entry.Entry.{Entry}
 use Rattle.occ_project.specs.declared.making.Made.{Made}
-use Rattle.occ_project.specs.Expansion.{entry_faults, entry_lines, entry_names, entry_uses, limit_faults}
+use Rattle.occ_project.specs.Expansion.{entry_faults, entry_lines, entry_names, limit_faults}
 use Rattle.occ_project.specs.Making.{after, ended, step, with_entry}
 
 -- first these, then those
@@ -23,7 +23,6 @@ after_over made (entry ∷ more) over =
 -- what is made of the entries within the room
 pub record IsMadeOf (made : Made) (all : List Entry) (found : Made) : Type 0 where
   pub lines : found.lines ≡ made.lines ++ flat_map entry_lines (take made.room all)
-  pub uses : found.uses ≡ made.uses ++ flat_map entry_uses (take made.room all)
   pub names : found.names ≡ made.names ++ flat_map entry_names (take made.room all)
   pub faults : found.faults ≡ made.faults ++ (flat_map entry_faults (take made.room all) ++ limit_faults (drop made.room all))
 
@@ -31,13 +30,11 @@ pub record IsMadeOf (made : Made) (all : List Entry) (found : Made) : Type 0 whe
 ends : (made : Made) (n : ℕ) → made.room ≡ n → IsMadeOf made [] made
 ends made zero e = record {
   lines = rw e (sym (append-nil made.lines));
-  uses = rw e (sym (append-nil made.uses));
   names = rw e (sym (append-nil made.names));
   faults = rw e (sym (append-nil made.faults));
 }
 ends made (suc n) e = record {
   lines = rw e (sym (append-nil made.lines));
-  uses = rw e (sym (append-nil made.uses));
   names = rw e (sym (append-nil made.names));
   faults = rw e (sym (append-nil made.faults));
 }
@@ -46,7 +43,6 @@ ends made (suc n) e = record {
 full : (made : Made) (entry : Entry) (more : List Entry) → made.room ≡ 0 → IsMadeOf made (entry ∷ more) (ended made entry)
 full made entry more e = record {
   lines = rw e (sym (append-nil made.lines));
-  uses = rw e (sym (append-nil made.uses));
   names = rw e (sym (append-nil made.names));
   faults = rw e refl;
 }
@@ -57,7 +53,6 @@ more_made made n entry more found e h =
     let room : made.room - 1 ≡ n = omega arith in
     record {
       lines = rw e (rw room at h.lines ∙ append_assoc made.lines (entry_lines entry) (flat_map entry_lines (take n more)));
-      uses = rw e (rw room at h.uses ∙ append_assoc made.uses (entry_uses entry) (flat_map entry_uses (take n more)));
       names = rw e (rw room at h.names ∙ append_assoc made.names (entry_names entry) (flat_map entry_names (take n more)));
       faults = rw e (rw room at h.faults ∙ append_assoc made.faults (entry_faults entry) (flat_map entry_faults (take n more) ++ limit_faults (drop n more))
           ∙ ap (λ (ds : List Diag). made.faults ++ ds) (sym (append_assoc (entry_faults entry) (flat_map entry_faults (take n more)) (limit_faults (drop n more)))));

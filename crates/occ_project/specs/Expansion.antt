@@ -5,16 +5,13 @@ use Rattle.std.specs.Option.{is_some}
 use Rattle.std.specs.Str.{bytes_eq}
 use Rattle.occ_base.specs.declared.code.Code.{Code}
 use Rattle.occ_base.specs.declared.code.Code.TheVariants as code
-use Rattle.occ_base.specs.declared.code.Grade.TheVariants.{Error}
 use Rattle.occ_base.specs.declared.diag.Diag.{Diag}
+use Rattle.occ_base.specs.Errors.{error_at}
 use Rattle.occ_forms.specs.declared.source.SourceLine.{SourceLine}
 use Rattle.occ_project.specs.declared.entry.Entry.{Entry}
 use Rattle.occ_project.specs.declared.entry.Held.{Held}
 use Rattle.occ_project.specs.declared.entry.Held.TheVariants.{Line, Include}
-use Rattle.occ_project.specs.declared.expanded.ExpandedBody.{ExpandedBody}
-use Rattle.occ_project.specs.declared.expanded.ExpandedBody.TheVariants as to
 use Rattle.occ_project.specs.declared.expanded.ExpandedLine.{ExpandedLine}
-use Rattle.occ_project.specs.declared.expanded.UseLine.{UseLine}
 use Rattle.occ_project.specs.declared.reads.Read.{Read}
 use Rattle.occ_project.specs.Reads.{member, open_lines}
 use Rattle.occ_project.specs.Entries.{entries}
@@ -23,7 +20,6 @@ use Rattle.occ_project.specs.Entries.{entries}
 pub record Expansion : Type 0 where
   pub lines : List ExpandedLine
   pub reads : List (List ℕ)
-  pub uses : List UseLine
   pub faults : List Diag
 
 -- the line that an entry is, unless it is an `#INCLUDE`
@@ -33,18 +29,6 @@ held_lines file line (Include name fault) = []
 
 abbrev pub entry_lines : Entry → List ExpandedLine
 entry_lines entry = held_lines entry.file entry.line entry.held
-
--- the `#USE` that a line is
-abbrev pub body_uses : List ℕ → ℕ → ExpandedBody → List UseLine
-body_uses file line (to.Uses units) = record { file = file; line = line; units = units } ∷ []
-body_uses file line other = []
-
-abbrev pub held_uses : List ℕ → ℕ → Held → List UseLine
-held_uses file line (Line depth body) = body_uses file line body
-held_uses file line (Include name fault) = []
-
-abbrev pub entry_uses : Entry → List UseLine
-entry_uses entry = held_uses entry.file entry.line entry.held
 
 -- an `#INCLUDE` looks its file up unless it is refused for the files under way or for their number
 abbrev pub fault_names : List ℕ → Option Code → List (List ℕ)
@@ -61,7 +45,7 @@ entry_names entry = held_names entry.held
 
 -- the fault of an `#INCLUDE`, with the name of its file
 abbrev pub held_faults : List ℕ → ℕ → Held → List Diag
-held_faults file line (Include name (Some fault)) = record { file = file; line = line; code = fault; grade = Error; name = Some name } ∷ []
+held_faults file line (Include name (Some fault)) = error_at file line fault (Some name) ∷ []
 held_faults file line other = []
 
 abbrev pub entry_faults : Entry → List Diag
@@ -69,7 +53,7 @@ entry_faults entry = held_faults entry.file entry.line entry.held
 
 -- where there are more entries than may be, the first of them has the fault for that
 abbrev pub limit_fault : Entry → Diag
-limit_fault entry = record { file = entry.file; line = entry.line; code = code.G6; grade = Error; name = None }
+limit_fault entry = error_at entry.file entry.line code.G6 None
 
 abbrev pub limit_faults : List Entry → List Diag
 limit_faults [] = []
@@ -90,7 +74,6 @@ abbrev pub expansion_of : ℕ → List ℕ → List Entry → Expansion
 expansion_of limit unit all = record {
   lines = flat_map entry_lines (take limit all);
   reads = first_places (unit ∷ flat_map entry_names (take limit all));
-  uses = flat_map entry_uses (take limit all);
   faults = flat_map entry_faults (take limit all) ++ limit_faults (drop limit all);
 }
 

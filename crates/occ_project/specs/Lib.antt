@@ -1,5 +1,6 @@
 pub mod Reads
 pub mod Entries
 pub mod Expansion
+pub mod Uses
 pub mod Making
 pub mod Samples

@@ -1,14 +1,13 @@
--- An expansion that is being made, entry by entry.
+-- What is kept while an expansion is made, entry by entry. No definition of the expansion needs it.
 use Rattle.std.specs.Prelude.{◌-◌, nat_eq, true, false, cond, List, [], ◌∷◌, ◌++◌}
 use Rattle.occ_project.specs.declared.entry.Entry.{Entry}
 use Rattle.occ_project.specs.declared.making.Made.{Made}
-use Rattle.occ_project.specs.Expansion.{entry_faults, entry_lines, entry_names, entry_uses, limit_fault}
+use Rattle.occ_project.specs.Expansion.{entry_faults, entry_lines, entry_names, limit_fault}
 
 -- with one entry more
 abbrev pub with_entry : Made → Entry → Made
 with_entry made entry = record {
   lines = made.lines ++ entry_lines entry;
-  uses = made.uses ++ entry_uses entry;
   faults = made.faults ++ entry_faults entry;
   names = made.names ++ entry_names entry;
   room = made.room - 1;
@@ -19,7 +18,6 @@ with_entry made entry = record {
 abbrev pub ended : Made → Entry → Made
 ended made entry = record {
   lines = made.lines;
-  uses = made.uses;
   faults = made.faults ++ limit_fault entry ∷ [];
   names = made.names;
   room = made.room;

@@ -1,9 +1,6 @@
 -- Files for rows.
-use Rattle.std.specs.Prelude.{ℕ, List, [], ◌∷◌, map, Option, Some, None}
+use Rattle.std.specs.Prelude.{ℕ, List, [], ◌∷◌, map, Some, None}
 use Rattle.std.specs.List.{range_with_len}
-use Rattle.occ_base.specs.declared.code.Code.{Code}
-use Rattle.occ_base.specs.declared.code.Grade.TheVariants.{Error}
-use Rattle.occ_base.specs.declared.diag.Diag.{Diag}
 use Rattle.occ_forms.specs.declared.source.LineBody.TheVariants as body
 use Rattle.occ_forms.specs.declared.source.SourceLine.{SourceLine}
 use Rattle.occ_forms.specs.declared.tree.Form.TheVariants as form
@@ -26,14 +23,15 @@ include_at line depth name = record { line = line; depth = depth; body = body.In
 abbrev pub use_at : ℕ → ℕ → List ℕ → SourceLine
 use_at line depth unit = record { line = line; depth = depth; body = body.Uses unit }
 
+-- that line in an expansion
+abbrev pub use_in : List ℕ → ℕ → ℕ → List ℕ → ExpandedLine
+use_in file line depth unit = record { file = file; line = line; depth = depth; body = to.Uses (unit ∷ []) }
+
 abbrev pub open_file : List ℕ → List SourceLine → Read
 open_file name lines = record { name = name; revision = 1; source = Some (record { text = []; lines = lines }) }
 
 abbrev pub absent_file : List ℕ → Read
 absent_file name = record { name = name; revision = 0; source = None }
-
-abbrev pub error_at : List ℕ → ℕ → Code → Option (List ℕ) → Diag
-error_at file line fault name = record { file = file; line = line; code = fault; grade = Error; name = name }
 
 -- files of which each includes the next by its one line
 abbrev pub chain : List (List ℕ) → List Read

@@ -1,3 +1,4 @@
+ghost use Rattle.occ_project.specs.Uses.{units_of};
 ghost use Rattle.std.specs.Prelude.{◌≡◌};
 
 use occ_base::{Code, Diag, FileName, Items, Shared};
@@ -26,15 +27,16 @@ pub struct ExpandedLine {
     pub body: ExpandedBody,
 }
 
-/// A `#USE` line of an expansion.
-#[derive(Debug, Drop)]
-pub struct UseLine {
-    /// The file in which it stands.
-    pub file: FileName,
-    /// The line of that file, from 1.
-    pub line: u32,
-    /// The units that it uses, in order.
-    pub units: Items<FileName>,
+impl ExpandedLine {
+    /// The units that a `#USE` names, in order; any other line names none.
+    pub fn units(&self) -> &[FileName]
+        ensures { result.now ≡ units_of self.now }
+    {
+        match &self.body {
+            ExpandedBody::Uses(units) => units.as_slice(),
+            ExpandedBody::Form(_) | ExpandedBody::Fault(_) => &[],
+        }
+    }
 }
 
 /// The expansion of a unit.
@@ -42,7 +44,6 @@ pub struct UseLine {
 pub struct Expanded {
     lines: Items<ExpandedLine>,
     reads: Items<FileName>,
-    uses: Items<UseLine>,
     faults: Items<Diag>,
 }
 
@@ -59,7 +60,7 @@ impl Model for Expanded {
 
     ghost coded = { Prim.hlevel (codes, builtins.the_row.coded, dimensions.the_row.coded, elements.the_row.coded, expressions.the_row.coded, types.the_row.coded) };
 
-    ghost view = { λ a. record { lines = a.lines; reads = a.reads; uses = a.uses; faults = a.faults } };
+    ghost view = { λ a. record { lines = a.lines; reads = a.reads; faults = a.faults } };
 }
 
 impl Expanded {
@@ -67,15 +68,13 @@ impl Expanded {
     pub(crate) fn of(
         lines: Items<ExpandedLine>,
         reads: Items<FileName>,
-        uses: Items<UseLine>,
         faults: Items<Diag>,
     ) -> Expanded
-        ensures { result ≡ record { lines = lines; reads = reads; uses = uses; faults = faults } }
+        ensures { result ≡ record { lines = lines; reads = reads; faults = faults } }
     {
         Expanded {
             lines,
             reads,
-            uses,
             faults,
         }
     }
@@ -101,13 +100,6 @@ impl Expanded {
         ensures { result.now ≡ self.now.reads }
     {
         self.reads.as_slice()
-    }
-
-    /// The `#USE` lines, in order.
-    pub fn uses(&self) -> &[UseLine]
-        ensures { result.now ≡ self.now.uses }
-    {
-        self.uses.as_slice()
     }
 
     /// The diagnostics `G4`, `G5` and `G6`, in the order of their lines.

@@ -145,13 +145,8 @@ fn expanded(alloc: Global, files: &Files<'_>, unit: FileName) -> Result<Expanded
         add_file(alloc, files, &mut way, opened, lines, &mut made)?;
     }
     let reads = first_places(alloc, made.names.as_slice())?;
-    let Made {
-        lines,
-        uses,
-        faults,
-        ..
-    } = made;
-    Ok(Expanded::of(lines, reads, uses, faults))
+    let Made { lines, faults, .. } = made;
+    Ok(Expanded::of(lines, reads, faults))
 }
 
 /// The expansion of the unit over these files: one that is not among them counts as absent.

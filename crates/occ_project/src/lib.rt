@@ -13,7 +13,7 @@ mod rows;
 #[cfg(test)]
 mod tests;
 
-pub use expanded::{Expanded, ExpandedBody, ExpandedLine, UseLine};
+pub use expanded::{Expanded, ExpandedBody, ExpandedLine};
 pub use expansion::{ExpandFault, expand, expand_over};
 pub use reads::{Read, Reads};
 pub use rows::{fault_rows, include_rows, limit_rows, read_rows, use_rows};

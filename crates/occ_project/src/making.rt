@@ -1,18 +1,17 @@
-ghost use Rattle.occ_project.specs.Expansion.{body_uses, fault_names, held_faults, limit_fault};
+ghost use Rattle.occ_project.specs.Expansion.{fault_names, held_faults, limit_fault};
 ghost use Rattle.occ_project.specs.Making.{step};
 ghost use Rattle.occ_project.specs.declared.entry.Held.TheVariants as held;
 ghost use Rattle.std.specs.Prelude.{OnOk, [], false, ◌≡◌, ◌++◌};
 
+use super::ExpandedLine;
 use super::entry::{Entry, Held};
-use super::{ExpandedBody, ExpandedLine, UseLine};
-use occ_base::{Code, Diag, FileName, Grade, Items, Name};
+use occ_base::{Code, Diag, FileName, Items, Name};
 use std::alloc::{AllocError, Global};
 
 /// An expansion that is being made.
 #[derive(Drop)]
 pub struct Made {
     pub lines: Items<ExpandedLine>,
-    pub uses: Items<UseLine>,
     pub faults: Items<Diag>,
     /// The names that were looked up.
     pub names: Items<FileName>,
@@ -20,25 +19,6 @@ pub struct Made {
     pub room: usize,
     /// An entry came for which there was no room.
     pub is_over: bool,
-}
-
-/// Adds the `#USE` that a line is.
-fn add_use(
-    alloc: Global,
-    file: FileName,
-    line: u32,
-    body: &ExpandedBody,
-    uses: &mut Items<UseLine>,
-) -> Result<(), AllocError>
-    ensures { OnOk result (uses.new ≡ uses.old ++ body_uses file line body.now) }
-{
-    match body {
-        ExpandedBody::Uses(units) => {
-            let units = Items::from_slice(alloc, units.as_slice())?;
-            uses.push(UseLine { file, line, units })
-        }
-        ExpandedBody::Form(_) | ExpandedBody::Fault(_) => Ok(()),
-    }
 }
 
 /// Adds the name of an include, if its file was looked up.
@@ -69,13 +49,7 @@ fn add_fault(
     match fault {
         Some(code) => {
             let name = Name::from_slice(alloc, name.as_bytes())?;
-            faults.push(Diag {
-                file,
-                line,
-                code,
-                grade: Grade::Error,
-                name: Some(name),
-            })
+            faults.push(Diag::error(file, line, code, Some(name)))
         }
         None => Ok(()),
     }
@@ -85,23 +59,16 @@ fn add_fault(
 fn too_many(entry: &Entry) -> Diag
     ensures { result ≡ limit_fault entry.now }
 {
-    Diag {
-        file: entry.file,
-        line: entry.line,
-        code: Code::G6,
-        grade: Grade::Error,
-        name: None,
-    }
+    Diag::error(entry.file, entry.line, Code::G6, None)
 }
 
 impl Made {
     /// Nothing yet, with room for so many entries.
     pub fn new(alloc: Global, room: usize) -> Made
-        ensures { result ≡ record { lines = []; uses = []; faults = []; names = []; room = room; is_over = false } }
+        ensures { result ≡ record { lines = []; faults = []; names = []; room = room; is_over = false } }
     {
         Made {
             lines: Items::new(alloc),
-            uses: Items::new(alloc),
             faults: Items::new(alloc),
             names: Items::new(alloc),
             room,
@@ -123,15 +90,12 @@ impl Made {
         self.room -= 1;
         let Entry { file, line, held } = entry;
         match held {
-            Held::Line(depth, body) => {
-                add_use(alloc, file, line, &body, &mut self.uses)?;
-                self.lines.push(ExpandedLine {
-                    file,
-                    line,
-                    depth,
-                    body,
-                })
-            }
+            Held::Line(depth, body) => self.lines.push(ExpandedLine {
+                file,
+                line,
+                depth,
+                body,
+            }),
             Held::Include(name, fault) => {
                 add_name(name, fault, &mut self.names)?;
                 add_fault(alloc, file, line, name, fault, &mut self.faults)

@@ -1,9 +1,11 @@
 //! Worked rows of the definitions.
 #![tactic(auto, unfolding(crate::specs::Entries::entries, crate::specs::Expansion::expansion))]
 
+ghost use Rattle.occ_base.specs.Errors.{error_at};
 ghost use Rattle.occ_base.specs.declared.code.Code.TheVariants.{G4, G5, G6};
 ghost use Rattle.occ_project.specs.Expansion.{expansion, first_places, not_given};
-ghost use Rattle.occ_project.specs.Samples.{absent_file, chain, close_at, close_in, error_at, include_at, limited, open_file, some_names, use_at};
+ghost use Rattle.occ_project.specs.Samples.{absent_file, chain, close_at, close_in, include_at, limited, open_file, some_names, use_at, use_in};
+ghost use Rattle.occ_project.specs.Uses.{units_of};
 ghost use Rattle.std.specs.Prelude.{None, Some, [], codes, ◌∷◌, ◌≡◌};
 
 /// The lines of an included file stand in the place of the directive, whose depth is added to theirs.
@@ -30,10 +32,12 @@ pub fn read_rows()
     ensures alone { not_given [] (codes "a") ≡ Some (codes "a") }
 {}
 
-/// A `#USE` is a line, and is told with the unit that it uses.
+/// A `#USE` is a line, which names the unit that it uses.
 pub fn use_rows()
-    ensures { (expansion (open_file (codes "a") (include_at 1 0 (codes "k") ∷ use_at 2 0 (codes "b") ∷ []) ∷ open_file (codes "k") (use_at 7 0 (codes "c") ∷ []) ∷ []) (codes "a")).uses
-        ≡ record { file = codes "k"; line = 7; units = codes "c" ∷ [] } ∷ record { file = codes "a"; line = 2; units = codes "b" ∷ [] } ∷ [] }
+    ensures lines { (expansion (open_file (codes "a") (include_at 1 0 (codes "k") ∷ use_at 2 0 (codes "b") ∷ []) ∷ open_file (codes "k") (use_at 7 0 (codes "c") ∷ []) ∷ []) (codes "a")).lines
+        ≡ use_in (codes "k") 7 0 (codes "c") ∷ use_in (codes "a") 2 0 (codes "b") ∷ [] }
+    ensures units { units_of (use_in (codes "a") 2 0 (codes "b")) ≡ codes "b" ∷ [] }
+    ensures none { units_of (close_in (codes "a") 1 0) ≡ [] }
 {}
 
 /// An include puts nothing in if its file is under way, if 16 are nested, or if it is not open, in this order.

@@ -46,8 +46,10 @@ fn show(alloc: Global, expanded: &Expanded, shown: &mut Vec<u8>) -> Result<(), A
         shown.push(b'\n')?;
     }
     show_names(expanded.reads(), shown)?;
-    for used in expanded.uses() {
-        show_names(used.units.as_slice(), shown)?;
+    for line in expanded.lines() {
+        if !line.units().is_empty() {
+            show_names(line.units(), shown)?;
+        }
     }
     Ok(())
 }

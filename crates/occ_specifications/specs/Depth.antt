@@ -1,7 +1,6 @@
 -- The greatest number of dimensions that a type in a line has that specifies names.
-use Rattle.std.specs.Prelude.{max, ℕ, List, map, Option, Some, None}
+use Rattle.std.specs.Prelude.{max, ℕ, map, Option, Some, None}
 use Rattle.occ_expressions.specs.Depth.{counted_dimensions, data_form_dimensions, element_dimensions, expr_dimensions, greatest, type_form_dimensions}
-use Rattle.occ_expressions.specs.declared.tree.Expr.{Expr}
 use Rattle.occ_expressions.specs.declared.tree.TypeForm.{TypeForm}
 use Rattle.occ_specifications.specs.declared.tree.FormalGroup.{FormalGroup}
 use Rattle.occ_specifications.specs.declared.tree.FormalGroup.TheVariants as fo

@@ -6,14 +6,14 @@ use Rattle.occ_tree.specs.declared.row.Row.{Row}
 use Rattle.occ_tree.specs.declared.sort.Sort.{Sort}
 use Rattle.occ_tree.specs.declared.sort.Sort.TheVariants as sort
 use Rattle.occ_tree.specs.Obeys.{AreItems, AreOpenings, Fits, Headed, IsOpening, IsValue, Item, OneLine, Opening, is_file, items_sorts, opening_sorts, openings_sorts}
-use Rattle.occ_tree.specs.Siblings.{elders_of, ends_specified, first_is, follows_first_process, is_beyond, is_disordered, is_loose, is_misplaced, items, lacks, last_or}
+use Rattle.occ_tree.specs.Siblings.{begins_specification, ends_specified, first_is, follows_first_process, is_disordered, is_loose, is_misplaced, is_one_too_many, lacks}
 use Rattle.occ_tree.specs.Table.{is_close, is_head, is_list, is_main, is_process, is_result, is_single, is_value, lets_line, may_stand, needs_main, takes_specifications}
-use Rattle.occ_tree.proofs.Exclusive.{close_is, close_main, head_close, head_line, head_main, head_process, head_result, line_close, line_head, line_main, line_process, line_result, list_file, main_head, main_no_close, process_result, result_is, result_process, single_file, single_value, value_file, value_main, value_single}
+use Rattle.occ_tree.proofs.Exclusive.{close_is, close_main, head_close, head_line, head_main, head_process, head_result, line_close, line_head, line_main, line_process, line_result, list_file, main_head, main_line, main_no_close, process_result, result_is, result_process, single_file, single_value, value_file, value_main, value_single}
 
 -- none of them is misplaced, behind those
 abbrev pub AllPlaced : Row → List Sort → List Sort → Type 0
 AllPlaced r es [] = Unit {0}
-AllPlaced r es (s ∷ ss) = (is_misplaced r (elders_of r es) s (first_is is_close ss) ≡ false) × AllPlaced r (s ∷ es) ss
+AllPlaced r es (s ∷ ss) = (is_misplaced r es s (first_is is_close ss) ≡ false) × AllPlaced r (s ∷ es) ss
 
 misplaced_parts : (a b c d : Bool) → (not a || (b || (c || d))) ≡ false → (a ≡ true) × (b ≡ false) × (c ≡ false) × (d ≡ false)
 misplaced_parts false b c d e = absurd (true≢false e)
@@ -63,10 +63,10 @@ add_main : (r : Row) (s : Sort) (ss : List Sort) → is_main r s ≡ true → Pa
 add_main r s ss h p = ((record { openings = []; main = s }) ∷ p.0, p.1, (tt, h, p.2), p.3, ap (λ (x : List Sort). s ∷ x) p.4)
 
 -- a line that is neither a main line nor a specification of one line
-add_body : (r : Row) (es : List Sort) (s : Sort) (ss : List Sort) → first_is is_head es ≡ false → is_misplaced r (elders_of r es) s (first_is is_close ss) ≡ false
+add_body : (r : Row) (es : List Sort) (s : Sort) (ss : List Sort) → first_is is_head es ≡ false → is_misplaced r es s (first_is is_close ss) ≡ false
     → is_main r s ≡ false → lets_line r s ≡ false → (takes_specifications r ≡ true) × (is_head s ≡ true) × (first_is is_close ss ≡ true)
 add_body r es s ss b h other none =
-    let m = misplaced_parts (may_stand r s) (is_loose (elders_of r es) s (first_is is_close ss)) (is_beyond r (elders_of r es) s) (is_disordered r (elders_of r es) s) h in
+    let m = misplaced_parts (may_stand r s) (is_loose es s (first_is is_close ss)) (is_one_too_many r es s) (is_disordered r es s) h in
     let rest = stand_rest (is_main r s) (lets_line r s) (takes_specifications r) (is_head s) (is_close s) m.0 other none in
     elim (cases_Bool (is_head s)) [
       | inl head ↦ (rest.0, head, loose_head (is_close s) (first_is is_head es) (is_head s) (first_is is_close ss) m.1 head)
@@ -140,8 +140,8 @@ and_false : (a : Bool) → (a && false) ≡ false
 and_false true = refl
 and_false false = refl
 
-quiet_beyond : (r : Row) (s : Sort) (m : Bool) → is_main r s ≡ false → (is_single r && (is_main r s && m)) ≡ false
-quiet_beyond r s m h = rw h (and_false (is_single r))
+quiet_many : (r : Row) (s : Sort) (m : Bool) → is_main r s ≡ false → (is_single r && (is_main r s && m)) ≡ false
+quiet_many r s m h = rw h (and_false (is_single r))
 
 quiet_order : (r : Row) (s : Sort) (p q f : Bool) → is_process s ≡ false → is_result s ≡ false
     → (is_value r && ((is_process s && p) || (is_result s && (q || not f)))) ≡ false
@@ -151,51 +151,26 @@ opened : (r : Row) (os : List Opening) (es k : List Sort) → first_is is_head e
 opened r [] es k b h p = p
 opened r (OneLine s ∷ os) es k b h p = (
   misplaced_whole _ _ _ _ (rw (line_main r s h.0) (rw h.0 refl)) (rw (line_close r s h.0) (rw (line_head r s h.0) refl))
-      (quiet_beyond r s _ (line_main r s h.0)) (quiet_order r s _ _ _ (line_process r s h.0) (line_result r s h.0)),
+      (quiet_many r s _ (line_main r s h.0)) (quiet_order r s _ _ _ (line_process r s h.0) (line_result r s h.0)),
   opened r os (s ∷ es) k (line_head r s h.0) h.1 p,
 )
 opened r (Headed s ∷ os) es k b h p = (
   misplaced_whole _ _ _ _ (rw (head_main r s h.0.1) (rw (head_line r s h.0.1) (rw h.0.0 (rw h.0.1 refl)))) (rw (head_close s h.0.1) (rw h.0.1 refl))
-      (quiet_beyond r s _ (head_main r s h.0.1)) (quiet_order r s _ _ _ (head_process s h.0.1) (head_result s h.0.1)),
+      (quiet_many r s _ (head_main r s h.0.1)) (quiet_order r s _ _ _ (head_process s h.0.1) (head_result s h.0.1)),
   (
     misplaced_whole _ _ _ _ (rw (close_main r) (rw h.0.0 refl)) (rw h.0.1 refl)
-        (quiet_beyond r sort.Close _ (close_main r)) (quiet_order r sort.Close (elders_of r (s ∷ es)).process (elders_of r (s ∷ es)).result (elders_of r (s ∷ es)).first_process refl refl),
+        (quiet_many r sort.Close _ (close_main r)) (quiet_order r sort.Close (list_any is_process (s ∷ es)) (list_any is_result (s ∷ es)) (follows_first_process (s ∷ es)) refl refl),
     opened r os (sort.Close ∷ (s ∷ es)) k refl h.1 p,
   ),
 )
 
--- whether the last item is a specification, behind specifications
-abbrev begun : Bool → List Opening → Bool
-begun b [] = b
-begun b (o ∷ os) = begun true os
+or_true : (a : Bool) → (a || true) ≡ true
+or_true true = refl
+or_true false = refl
 
-last_openings : (r : Row) (b : Bool) (os : List Opening) (k : List Sort) → AreOpenings r os → last_or b (items r (openings_sorts os k)) ≡ last_or (begun b os) (items r k)
-last_openings r b [] k h = refl
-last_openings r b (OneLine s ∷ os) k h = rw (line_main r s h.0) (rw h.0 (last_openings r true os k h.1))
-last_openings r b (Headed s ∷ os) k h =
-    rw (head_main r s h.0.1) (rw (head_line r s h.0.1) (rw h.0.0 (rw h.0.1 (rw (close_main r) (last_openings r true os k h.1)))))
-
-abbrev settled : Bool → List Item → Bool
-settled b [] = b
-settled b (i ∷ is) = settled false is
-
-last_items : (r : Row) (b : Bool) (is : List Item) (os : List Opening) → AreItems r is → AreOpenings r os
-    → last_or b (items r (items_sorts is (openings_sorts os []))) ≡ begun (settled b is) os
-last_items r b [] os h k = last_openings r b os [] k
-last_items r b (i ∷ is) os h k =
-    last_openings r b i.openings (i.main ∷ items_sorts is (openings_sorts os [])) h.0 ∙ rw h.1 (last_items r false is os h.2 k)
-
-settled_false : (is : List Item) → settled false is ≡ false
-settled_false [] = refl
-settled_false (i ∷ is) = settled_false is
-
-begun_true : (os : List Opening) → begun true os ≡ true
-begun_true [] = refl
-begun_true (o ∷ os) = begun_true os
-
-begun_none : (os : List Opening) → begun false os ≡ false → os ≡ []
-begun_none [] e = refl
-begun_none (o ∷ os) e = absurd (true≢false (sym (begun_true os) ∙ e))
+or_false : (a : Bool) → (a || false) ≡ a
+or_false true = refl
+or_false false = refl
 
 abbrev is_some : List Item → Bool
 is_some [] = false
@@ -206,17 +181,73 @@ any_items : (r : Row) (is : List Item) (os : List Opening) → AreItems r is →
 any_items r [] os h k = any_openings r (is_main r) os [] (quiet_main r) k
 any_items r (i ∷ is) os h k = any_openings r (is_main r) i.openings _ (quiet_main r) h.0 ∙ rw h.1 refl
 
+and_not : (a b m : Bool) → m ≡ true → (a || (b && not m)) ≡ a
+and_not a b m h = rw h (rw (and_false b) (or_false a))
+
+and_none : (a b m : Bool) → b ≡ false → (a || (b && not m)) ≡ a
+and_none a b m h = rw h (or_false a)
+
+and_last : (a b m : Bool) → b ≡ true → m ≡ false → (a || (b && not m)) ≡ true
+and_last a b m h k = rw h (rw k (or_true a))
+
+before_main : (r : Row) (s : Sort) (ss : List Sort) → list_any (is_main r) ss ≡ true → ends_specified r (s ∷ ss) ≡ ends_specified r ss
+before_main r s ss h = and_not (ends_specified r ss) (begins_specification r s ss) (list_any (is_main r) ss) h
+
+begins_none : (r : Row) (s : Sort) (ss : List Sort) → begins_specification r s ss ≡ false → ends_specified r (s ∷ ss) ≡ ends_specified r ss
+begins_none r s ss h = and_none (ends_specified r ss) (begins_specification r s ss) (list_any (is_main r) ss) h
+
+begins_last : (r : Row) (s : Sort) (ss : List Sort) → begins_specification r s ss ≡ true → list_any (is_main r) ss ≡ false → ends_specified r (s ∷ ss) ≡ true
+begins_last r s ss h k = and_last (ends_specified r ss) (begins_specification r s ss) (list_any (is_main r) ss) h k
+
+begins_line : (r : Row) (s : Sort) (ss : List Sort) → lets_line r s ≡ true → begins_specification r s ss ≡ true
+begins_line r s ss h = rw h refl
+
+begins_head : (r : Row) (s : Sort) (ss : List Sort) → takes_specifications r ≡ true → is_head s ≡ true → begins_specification r s (sort.Close ∷ ss) ≡ true
+begins_head r s ss h k = rw (head_line r s k) (rw h (rw k refl))
+
+pub begins_main : (r : Row) (s : Sort) (ss : List Sort) → is_main r s ≡ true → begins_specification r s ss ≡ false
+begins_main r s ss h = rw (main_line r s h) (rw (main_head r s h) (and_false (takes_specifications r)))
+
+-- behind specifications that a main line stands behind
+ends_openings : (r : Row) (os : List Opening) (k : List Sort) → AreOpenings r os → list_any (is_main r) k ≡ true
+    → ends_specified r (openings_sorts os k) ≡ ends_specified r k
+ends_openings r [] k h m = refl
+ends_openings r (OneLine s ∷ os) k h m =
+    before_main r s (openings_sorts os k) (any_openings r (is_main r) os k (quiet_main r) h.1 ∙ m) ∙ ends_openings r os k h.1 m
+ends_openings r (Headed s ∷ os) k h m =
+    let main : list_any (is_main r) (openings_sorts os k) ≡ true = any_openings r (is_main r) os k (quiet_main r) h.1 ∙ m in
+    before_main r s (sort.Close ∷ openings_sorts os k) (rw (close_main r) main) ∙ before_main r sort.Close (openings_sorts os k) main ∙ ends_openings r os k h.1 m
+
+-- behind items
+ends_items : (r : Row) (is : List Item) (k : List Sort) → AreItems r is → ends_specified r (items_sorts is k) ≡ ends_specified r k
+ends_items r [] k h = refl
+ends_items r (i ∷ is) k h =
+    ends_openings r i.openings (i.main ∷ items_sorts is k) h.0 (rw h.1 refl)
+    ∙ begins_none r i.main (items_sorts is k) (begins_main r i.main (items_sorts is k) h.1) ∙ ends_items r is k h.2
+
+-- with specifications at the end
+ends_last : (r : Row) (o : Opening) (os : List Opening) → AreOpenings r (o ∷ os) → ends_specified r (openings_sorts (o ∷ os) []) ≡ true
+ends_last r (OneLine s) os h =
+    begins_last r s (openings_sorts os []) (begins_line r s (openings_sorts os []) h.0) (any_openings r (is_main r) os [] (quiet_main r) h.1)
+ends_last r (Headed s) os h =
+    begins_last r s (sort.Close ∷ openings_sorts os []) (begins_head r s (openings_sorts os []) h.0.0 h.0.1)
+    (rw (close_main r) (any_openings r (is_main r) os [] (quiet_main r) h.1))
+
+ends_none : (r : Row) (os : List Opening) → AreOpenings r os → ends_specified r (openings_sorts os []) ≡ false → os ≡ []
+ends_none r [] h e = refl
+ends_none r (o ∷ os) h e = absurd (true≢false (sym (ends_last r o os h) ∙ e))
+
 -- behind those no main line of the items is one too many, and none is out of order
 abbrev AreOrdered : Row → List Sort → List Item → Type 0
 AreOrdered r es [] = Unit {0}
 AreOrdered r es (i ∷ is) =
-    (is_beyond r (elders_of r (after i.openings es)) i.main ≡ false) × (is_disordered r (elders_of r (after i.openings es)) i.main ≡ false)
+    (is_one_too_many r (after i.openings es) i.main ≡ false) × (is_disordered r (after i.openings es) i.main ≡ false)
     × AreOrdered r (i.main ∷ after i.openings es) is
 
-placed_main : (r : Row) (es : List Sort) (s : Sort) (b : Bool) → is_main r s ≡ true → is_beyond r (elders_of r es) s ≡ false
-    → is_disordered r (elders_of r es) s ≡ false → is_misplaced r (elders_of r es) s b ≡ false
+placed_main : (r : Row) (es : List Sort) (s : Sort) (b : Bool) → is_main r s ≡ true → is_one_too_many r es s ≡ false
+    → is_disordered r es s ≡ false → is_misplaced r es s b ≡ false
 placed_main r es s b h p q =
-    misplaced_whole (may_stand r s) (is_loose (elders_of r es) s b) (is_beyond r (elders_of r es) s) (is_disordered r (elders_of r es) s)
+    misplaced_whole (may_stand r s) (is_loose es s b) (is_one_too_many r es s) (is_disordered r es s)
     (rw h refl) (rw (main_no_close r s h) (rw (main_head r s h) refl)) p q
 
 ordered_placed : (r : Row) (es : List Sort) (is : List Item) (os : List Opening) → first_is is_head es ≡ false → AreItems r is → AreOpenings r os
@@ -233,12 +264,8 @@ placed_ordered r es (i ∷ is) os h =
     let rest = items_sorts is (openings_sorts os []) in
     let p = unopened r i.openings es (i.main ∷ rest) h in
     let before = after i.openings es in
-    let m = misplaced_parts (may_stand r i.main) (is_loose (elders_of r before) i.main (first_is is_close rest)) (is_beyond r (elders_of r before) i.main) (is_disordered r (elders_of r before) i.main) p.0 in
+    let m = misplaced_parts (may_stand r i.main) (is_loose before i.main (first_is is_close rest)) (is_one_too_many r before i.main) (is_disordered r before i.main) p.0 in
     (m.2, m.3, placed_ordered r (i.main ∷ before) is os p.1)
-
-or_true : (a : Bool) → (a || true) ≡ true
-or_true true = refl
-or_true false = refl
 
 order_process : (v p x y : Bool) → v ≡ true → p ≡ true → x ≡ true → (v && ((p && x) || y)) ≡ true
 order_process v p x y a b c = rw a (rw b (rw c refl))
@@ -265,7 +292,7 @@ follows_opened r (Headed s) (o ∷ os) es h = follows_opened r o os (sort.Close 
 
 -- a line is a process if it is no RESULT
 value_process : {Z : Type 0} (r : Row) (es : List Sort) (s : Sort) → is_value r ≡ true → is_main r s ≡ true
-    → is_disordered r (elders_of r es) s ≡ false → follows_first_process es ≡ false → (is_process s ≡ true → Z) → Z
+    → is_disordered r es s ≡ false → follows_first_process es ≡ false → (is_process s ≡ true → Z) → Z
 value_process r es s v m o f z = elim (value_main r s v m) [
   | inl process ↦ z process
   | inr result ↦ absurd (true≢false (sym (order_result (is_value r) (is_process s) (list_any is_process es) (is_result s) (list_any is_result es || not (follows_first_process es)) v (result_process s result) result (first_no _ _ f)) ∙ o))
@@ -273,14 +300,14 @@ value_process r es s v m o f z = elim (value_main r s v m) [
 
 -- and a RESULT if a process stands before it
 value_result : {Z : Type 0} (r : Row) (es : List Sort) (s : Sort) → is_value r ≡ true → is_main r s ≡ true
-    → is_disordered r (elders_of r es) s ≡ false → list_any is_process es ≡ true → (is_result s ≡ true → Z) → Z
+    → is_disordered r es s ≡ false → list_any is_process es ≡ true → (is_result s ≡ true → Z) → Z
 value_result r es s v m o f z = elim (value_main r s v m) [
   | inl process ↦ absurd (true≢false (sym (order_process (is_value r) (is_process s) (list_any is_process es) (is_result s && (list_any is_result es || not (follows_first_process es))) v process f) ∙ o))
   | inr result ↦ z result
 ]
 
 -- which no other RESULT stands before, and no specification
-result_alone : (r : Row) (es : List Sort) (s : Sort) → is_value r ≡ true → is_result s ≡ true → is_disordered r (elders_of r es) s ≡ false
+result_alone : (r : Row) (es : List Sort) (s : Sort) → is_value r ≡ true → is_result s ≡ true → is_disordered r es s ≡ false
     → (list_any is_result es || not (follows_first_process es)) ≡ false
 result_alone r es s v h o = elim (cases_Bool (list_any is_result es || not (follows_first_process es))) [
   | inl bad ↦ absurd (true≢false (sym (order_result (is_value r) (is_process s) (list_any is_process es) (is_result s) (list_any is_result es || not (follows_first_process es)) v (result_process s h) h bad) ∙ o))
@@ -384,9 +411,7 @@ fits_of r ss h n =
       value = λ v.
           let both = (parts (value_file r v)).1 v in
           value_items r p.0 p.1 v p.2 p.3 ordered (ap (list_any is_process) (sym p.4) ∙ both.0) (ap (list_any is_result) (sym p.4) ∙ both.1);
-      alone = λ f.
-          begun_none p.1 (ap (λ (b : Bool). begun b p.1) (sym (settled_false p.0)) ∙ sym (last_items r false p.0 p.1 p.2 p.3)
-          ∙ ap (λ (x : List Sort). last_or false (items r x)) (sym p.4) ∙ (parts f).2);
+      alone = λ f. ends_none r p.1 p.3 (sym (ends_items r p.0 (openings_sorts p.1 []) p.2) ∙ ap (ends_specified r) (sym p.4) ∙ (parts f).2);
     }
 
 ordered_any : (r : Row) (es : List Sort) (is : List Item) → is_single r ≡ false → is_value r ≡ false → AreOrdered r es is
@@ -485,5 +510,5 @@ lacks_of r ss f file =
     (value_ok (is_value r) (list_any is_process ss) (list_any is_result ss) (λ v.
     let has = value_has r f.items f.last f.are_items (f.value v) in
     (ap (list_any is_process) f.spelled ∙ has.0, ap (list_any is_result) f.spelled ∙ has.1)))
-    (ap (λ (x : List Sort). last_or false (items r x)) f.spelled ∙ last_items r false f.items f.last f.are_items f.are_openings
-    ∙ ap (λ (os : List Opening). begun (settled false f.items) os) (f.alone file) ∙ settled_false f.items)
+    (ap (ends_specified r) f.spelled ∙ ends_items r f.items (openings_sorts f.last []) f.are_items
+    ∙ ap (λ (os : List Opening). ends_specified r (openings_sorts os [])) (f.alone file))

@@ -1,12 +1,12 @@
 -- What the lines of a unit without a diagnostic of shape are.
 use Rattle.std.proofs.Common.{◌≡◌, ◌∷◌, ◌++◌, ◌||◌, not, Bool, true, false, ltb, List, [], refl}
 use Rattle.std.proofs.lemmas.Bool.{ltb-false, true≢false}
-use Rattle.occ_base.specs.declared.code.Code.{Code}
 use Rattle.occ_base.specs.declared.code.Code.TheVariants as code
 use Rattle.occ_base.specs.declared.diag.Diag.{Diag}
+use Rattle.occ_base.specs.Errors.{error_if}
 use Rattle.occ_project.specs.declared.expanded.ExpandedLine.{ExpandedLine}
 use Rattle.occ_tree.specs.declared.outline.Outline.{Outline}
-use Rattle.occ_tree.specs.Faults.{error_if, faults_at, shape_faults}
+use Rattle.occ_tree.specs.Faults.{faults_at, shape_faults}
 use Rattle.occ_tree.specs.Forest.{nested}
 use Rattle.occ_tree.specs.Obeys.{AreShallow, IsTreesOf}
 use Rattle.occ_tree.specs.Sorts.{outline, outlines}
@@ -19,11 +19,7 @@ abbrev pub NoneWrong : List Outline → List ExpandedLine → Type 0
 NoneWrong before [] = Unit {0}
 NoneWrong before (l ∷ ls) = (is_wrong before (outline l) (outlines ls) ≡ false) × NoneWrong (outline l ∷ before) ls
 
-none_told : (b : Bool) (l : ExpandedLine) (c : Code) (ds : List Diag) → error_if b l c ++ ds ≡ [] → (b ≡ false) × (ds ≡ [])
-none_told true l c ds e = absurd cc
-none_told false l c ds e = (refl, e)
-
-one_told : (v w : Bool) (l : ExpandedLine) (ds : List Diag) → (error_if v l code.S2 ++ error_if w l code.S4) ++ ds ≡ []
+one_told : (v w : Bool) (l : ExpandedLine) (ds : List Diag) → (error_if v l.file l.line code.S2 ++ error_if w l.file l.line code.S4) ++ ds ≡ []
     → (v ≡ false) × (w ≡ false) × (ds ≡ [])
 one_told true w l ds e = absurd cc
 one_told false true l ds e = absurd cc

@@ -4,19 +4,19 @@ use Rattle.std.proofs.lemmas.Bool.{eqb-true, ltb-false, le-ltb}
 use Rattle.occ_project.specs.declared.expanded.ExpandedLine.{ExpandedLine}
 use Rattle.occ_tree.specs.declared.outline.Outline.{Outline}
 use Rattle.occ_tree.specs.Forest.{Forest, Empty, Tree, first_trees, nested, other_trees}
-use Rattle.occ_tree.specs.Nesting.{is_right, parent_depth}
+use Rattle.occ_tree.specs.Nesting.{is_right_under, parent_depth}
 use Rattle.occ_tree.specs.Obeys.{HasDepths}
 use Rattle.occ_tree.specs.Sorts.{outline}
 
 -- each line stands right below its parent, these being before them
 abbrev pub AreRight : List Outline → List ExpandedLine → Type 0
 AreRight before [] = Unit {0}
-AreRight before (l ∷ ls) = (is_right (parent_depth before l.depth) l.depth ≡ true) × AreRight (outline l ∷ before) ls
+AreRight before (l ∷ ls) = (is_right_under (parent_depth before l.depth) l.depth ≡ true) × AreRight (outline l ∷ before) ls
 
 -- the lines that stand under none of the others do, and each tree under them is as deep as its lines
 abbrev Exact : List Outline → Forest → Type 0
 Exact before Empty = Unit {0}
-Exact before (Tree l under behind) = ((is_right (parent_depth before l.depth) l.depth ≡ true) × HasDepths (l.depth + 1) under) × Exact before behind
+Exact before (Tree l under behind) = ((is_right_under (parent_depth before l.depth) l.depth ≡ true) × HasDepths (l.depth + 1) under) × Exact before behind
 
 -- these are no deeper than the bound, and than each of those before
 abbrev Falls : ℕ → Forest → Type 0
@@ -45,11 +45,11 @@ nested_falling : (ls : List ExpandedLine) → IsFalling (nested ls)
 nested_falling [] = tt
 nested_falling (l ∷ ls) = other_falls l.depth (nested ls) (nested_falling ls)
 
-below_right : (l : Outline) (before : List Outline) (d : ℕ) → ltb l.depth d ≡ true → is_right (parent_depth (l ∷ before) d) d ≡ true → d ≡ l.depth + 1
+below_right : (l : Outline) (before : List Outline) (d : ℕ) → ltb l.depth d ≡ true → is_right_under (parent_depth (l ∷ before) d) d ≡ true → d ≡ l.depth + 1
 below_right l before d deeper h = eqb-true d (l.depth + 1) (rw deeper at h)
 
 first_split : (b : Bool) (k : Outline) (before : List Outline) (l : ExpandedLine) (under first : Forest) → ltb k.depth l.depth ≡ b
-    → (is_right (parent_depth (k ∷ before) l.depth) l.depth ≡ true) × HasDepths (l.depth + 1) under → HasDepths (k.depth + 1) first
+    → (is_right_under (parent_depth (k ∷ before) l.depth) l.depth ≡ true) × HasDepths (l.depth + 1) under → HasDepths (k.depth + 1) first
     → HasDepths (k.depth + 1) (cond b (Tree l under first) Empty)
 first_split true k before l under first e h r =
     let right = below_right k before l.depth e h.0 in
@@ -62,7 +62,7 @@ first_exact k before (Tree l under behind) h =
     first_split (ltb k.depth l.depth) k before l under (first_trees k.depth behind) refl h.0 (first_exact k before behind h.1)
 
 -- below no line that is deeper, k is no parent
-passed_right : (k : Outline) (before : List Outline) (d : ℕ) → d ≤ k.depth → is_right (parent_depth (k ∷ before) d) d ≡ true → is_right (parent_depth before d) d ≡ true
+passed_right : (k : Outline) (before : List Outline) (d : ℕ) → d ≤ k.depth → is_right_under (parent_depth (k ∷ before) d) d ≡ true → is_right_under (parent_depth before d) d ≡ true
 passed_right k before d le h = rw (le-ltb k.depth d le) at h
 
 falls_exact : (k : Outline) (before : List Outline) (d : ℕ) (f : Forest) → d ≤ k.depth → Falls d f → Exact (k ∷ before) f → Exact before f

@@ -7,7 +7,7 @@ use Rattle.occ_tree.specs.declared.sort.Sort.{Sort}
 use Rattle.occ_tree.specs.declared.sort.Sort.TheVariants as sort
 use Rattle.occ_tree.specs.Forest.{Forest, Empty, Tree}
 use Rattle.occ_tree.specs.Obeys.{Fits, ObeysUnder, is_file, root_sorts, sort_of}
-use Rattle.occ_tree.specs.Siblings.{elders_of, first_is, is_misplaced, lacks}
+use Rattle.occ_tree.specs.Siblings.{first_is, is_misplaced, lacks}
 use Rattle.occ_tree.specs.Table.{is_close, is_main, row_under, under_main}
 use Rattle.occ_tree.proofs.Arranged.{AllPlaced, fits_of, lacks_of, placed_of}
 
@@ -15,7 +15,7 @@ use Rattle.occ_tree.proofs.Arranged.{AllPlaced, fits_of, lacks_of, placed_of}
 abbrev pub AreJudged : Row → List Sort → Forest → Type 0
 AreJudged r es Empty = Unit {0}
 AreJudged r es (Tree l u b) =
-    (is_misplaced r (elders_of r es) (sort_of l) (first_is is_close (root_sorts b)) ≡ false)
+    (is_misplaced r es (sort_of l) (first_is is_close (root_sorts b)) ≡ false)
     × (lacks (row_under r (sort_of l)) (root_sorts u) ≡ false)
     × AreJudged (row_under r (sort_of l)) [] u × AreJudged r (sort_of l ∷ es) b
 

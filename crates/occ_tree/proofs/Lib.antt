@@ -7,6 +7,7 @@ pub mod Listed
 pub mod Exact
 pub mod Clean
 pub mod Arranged
+pub mod Ends
 pub mod Judged
 pub mod Context
 pub mod Lawful

@@ -7,17 +7,17 @@ use Rattle.occ_tree.specs.declared.place.Frame.{Frame}
 use Rattle.occ_tree.specs.declared.row.Row.{Row}
 use Rattle.occ_tree.specs.declared.sort.Sort.{Sort}
 use Rattle.occ_tree.specs.declared.place.Place.{Place}
-use Rattle.occ_tree.specs.Frames.{closed, frame_at, frame_of, opened, outer, place_at, places, turned, wrong_at}
-use Rattle.occ_tree.specs.Nesting.{beyond, elders, holds, parent_depth, roots, row_at}
+use Rattle.occ_tree.specs.Frames.{frame_at, frame_of, open_parents, outer, place_at, places, still_open, turned}
+use Rattle.occ_tree.specs.Nesting.{behind_deeper, can_hold, elders, parent_depth, roots, row_at}
 use Rattle.occ_tree.specs.Wrong.{is_wrong, wrong, wrong_from}
 use Rattle.occ_tree.specs.Table.{row_under}
 
 -- what a line may stand under, a deeper one may stand under too
-pub holds_deeper : (p : Option ℕ) (d e : ℕ) → d ≤ e → holds p d ≡ true → holds p e ≡ true
-holds_deeper None d e le h = refl
-holds_deeper (Some p) d e le h = lt-ltb p e (omega (arith, le, ltb-true p d h))
+pub can_hold_deeper : (p : Option ℕ) (d e : ℕ) → d ≤ e → can_hold p d ≡ true → can_hold p e ≡ true
+can_hold_deeper None d e le h = refl
+can_hold_deeper (Some p) d e le h = lt-ltb p e (omega (arith, le, ltb-true p d h))
 
-pub same_parent : (before : List Outline) (d e : ℕ) → d ≤ e → holds (parent_depth before e) d ≡ true → parent_depth before e ≡ parent_depth before d
+pub same_parent : (before : List Outline) (d e : ℕ) → d ≤ e → can_hold (parent_depth before e) d ≡ true → parent_depth before e ≡ parent_depth before d
 same_parent [] d e le h = refl
 same_parent (b ∷ before) d e le h = elim (cases_Bool (ltb b.depth d)) [
   | inl shallower ↦ rw shallower (rw (lt-ltb b.depth e (omega (arith, le, ltb-true b.depth d shallower))) refl)
@@ -27,7 +27,7 @@ same_parent (b ∷ before) d e le h = elim (cases_Bool (ltb b.depth d)) [
   ]
 ]
 
-pub same_row : (before : List Outline) (d e : ℕ) → d ≤ e → holds (parent_depth before e) d ≡ true → row_at before e ≡ row_at before d
+pub same_row : (before : List Outline) (d e : ℕ) → d ≤ e → can_hold (parent_depth before e) d ≡ true → row_at before e ≡ row_at before d
 same_row [] d e le h = refl
 same_row (b ∷ before) d e le h = elim (cases_Bool (ltb b.depth d)) [
   | inl shallower ↦ rw shallower (rw (lt-ltb b.depth e (omega (arith, le, ltb-true b.depth d shallower))) refl)
@@ -38,17 +38,17 @@ same_row (b ∷ before) d e le h = elim (cases_Bool (ltb b.depth d)) [
 ]
 
 -- where two depths have the same parent, the lines of a deeper one have it alike
-same_holds : (before : List Outline) (d e c : ℕ) → d ≤ e → e ≤ c → holds (parent_depth before e) d ≡ true
-    → holds (parent_depth before c) e ≡ holds (parent_depth before c) d
-same_holds before d e c le ge h = elim (cases_Bool (holds (parent_depth before c) e)) [
-  | inl has ↦ has ∙ sym (ap (λ (p : Option ℕ). holds p d) (same_parent before e c ge has) ∙ h)
-  | inr lacking ↦ elim (cases_Bool (holds (parent_depth before c) d)) [
-    | inl other ↦ absurd (true≢false (sym (holds_deeper (parent_depth before c) d e le other) ∙ lacking))
+same_holds : (before : List Outline) (d e c : ℕ) → d ≤ e → e ≤ c → can_hold (parent_depth before e) d ≡ true
+    → can_hold (parent_depth before c) e ≡ can_hold (parent_depth before c) d
+same_holds before d e c le ge h = elim (cases_Bool (can_hold (parent_depth before c) e)) [
+  | inl has ↦ has ∙ sym (ap (λ (p : Option ℕ). can_hold p d) (same_parent before e c ge has) ∙ h)
+  | inr lacking ↦ elim (cases_Bool (can_hold (parent_depth before c) d)) [
+    | inl other ↦ absurd (true≢false (sym (can_hold_deeper (parent_depth before c) d e le other) ∙ lacking))
     | inr neither ↦ lacking ∙ sym neither
   ]
 ]
 
-pub same_elders : (before : List Outline) (d e : ℕ) → d ≤ e → holds (parent_depth before e) d ≡ true → elders before e ≡ elders before d
+pub same_elders : (before : List Outline) (d e : ℕ) → d ≤ e → can_hold (parent_depth before e) d ≡ true → elders before e ≡ elders before d
 same_elders [] d e le h = refl
 same_elders (b ∷ before) d e le h = elim (cases_Bool (ltb b.depth d)) [
   | inl shallower ↦ rw shallower (rw (lt-ltb b.depth e (omega (arith, le, ltb-true b.depth d shallower))) refl)
@@ -60,16 +60,16 @@ same_elders (b ∷ before) d e le h = elim (cases_Bool (ltb b.depth d)) [
   ]
 ]
 
-closed_past : (f : Frame) (fs : List Frame) (d : ℕ) → holds f.depth d ≡ false → closed d (f ∷ fs) ≡ closed d fs
-closed_past f fs d lacking = rw lacking refl
+still_open_past : (f : Frame) (fs : List Frame) (d : ℕ) → can_hold f.depth d ≡ false → still_open d (f ∷ fs) ≡ still_open d fs
+still_open_past f fs d lacking = rw lacking refl
 
-pub closed_twice : (fs : List Frame) (d e : ℕ) → d ≤ e → closed d (closed e fs) ≡ closed d fs
-closed_twice [] d e le = refl
-closed_twice (f ∷ fs) d e le = elim (cases_Bool (holds f.depth e)) [
+pub still_open_twice : (fs : List Frame) (d e : ℕ) → d ≤ e → still_open d (still_open e fs) ≡ still_open d fs
+still_open_twice [] d e le = refl
+still_open_twice (f ∷ fs) d e le = elim (cases_Bool (can_hold f.depth e)) [
   | inl has ↦ rw has refl
-  | inr lacking ↦ elim (cases_Bool (holds f.depth d)) [
-    | inl other ↦ absurd (true≢false (sym (holds_deeper f.depth d e le other) ∙ lacking))
-    | inr neither ↦ rw lacking (closed_twice fs d e le ∙ sym (closed_past f fs d neither))
+  | inr lacking ↦ elim (cases_Bool (can_hold f.depth d)) [
+    | inl other ↦ absurd (true≢false (sym (can_hold_deeper f.depth d e le other) ∙ lacking))
+    | inr neither ↦ rw lacking (still_open_twice fs d e le ∙ sym (still_open_past f fs d neither))
   ]
 ]
 
@@ -83,26 +83,26 @@ behind before b fs =
     ∷ (frame_of (parent_depth before b.depth) (row_at before b.depth) (b.sort ∷ elders before b.depth) ∷ fs)
 
 open_behind : (before : List Outline) (b : Outline) (d : ℕ) (fs : List Frame) → fs ≡ frame_at before b.depth ∷ outer fs
-    → (d ≤ b.depth → closed d fs ≡ frame_at before d ∷ outer (closed d fs))
-    → closed d (behind before b (outer fs)) ≡ frame_at (b ∷ before) d ∷ outer (closed d (behind before b (outer fs)))
+    → (d ≤ b.depth → still_open d fs ≡ frame_at before d ∷ outer (still_open d fs))
+    → still_open d (behind before b (outer fs)) ≡ frame_at (b ∷ before) d ∷ outer (still_open d (behind before b (outer fs)))
 open_behind before b d fs first up = elim (cases_Bool (ltb b.depth d)) [
   | inl shallower ↦ rw shallower refl
-  | inr deep ↦ elim (cases_Bool (holds (parent_depth before b.depth) d)) [
+  | inr deep ↦ elim (cases_Bool (can_hold (parent_depth before b.depth) d)) [
     | inl has ↦
         let le = ltb-false b.depth d deep in
         rw deep (rw has (ap (λ (f : Frame). f ∷ outer fs) (frame_same _ _ _ _ _ _ (same_parent before d b.depth le has) (same_row before d b.depth le has) (ap (λ (es : List Sort). b.sort ∷ es) (same_elders before d b.depth le has)))))
     | inr lacking ↦
-        let past : closed d fs ≡ closed d (outer fs) = ap (closed d) first ∙ closed_past (frame_at before b.depth) (outer fs) d lacking in
+        let past : still_open d fs ≡ still_open d (outer fs) = ap (still_open d) first ∙ still_open_past (frame_at before b.depth) (outer fs) d lacking in
         rw deep (rw lacking (rw past at (up (ltb-false b.depth d deep))))
   ]
 ]
 
 -- the innermost parent that may have a line of depth d under it is the one that the lines before say
-pub open_at : (before : List Outline) (d : ℕ) → closed d (opened before) ≡ frame_at before d ∷ outer (closed d (opened before))
+pub open_at : (before : List Outline) (d : ℕ) → still_open d (open_parents before) ≡ frame_at before d ∷ outer (still_open d (open_parents before))
 open_at [] d = refl
 open_at (b ∷ before) d =
-    open_behind before b d (closed b.depth (opened before)) (open_at before b.depth)
-    (λ le. rw (closed_twice (opened before) d b.depth le) (open_at before d))
+    open_behind before b d (still_open b.depth (open_parents before)) (open_at before b.depth)
+    (λ le. rw (still_open_twice (open_parents before) d b.depth le) (open_at before d))
 
 pub turned_back : (xs ys zs : List Outline) → turned (turned xs ys) zs ≡ turned ys (xs ++ zs)
 turned_back [] ys zs = refl
@@ -113,7 +113,7 @@ turned_twice xs = turned_back xs [] [] ∙ append-nil xs
 
 -- what `close` does to an innermost parent and those round it
 abbrev pub Closes : ℕ → Frame → List Frame → Frame → List Frame → Type 0
-Closes d i o j q = (f : Frame) (fs : List Frame) → closed d (i ∷ o) ≡ f ∷ fs → (j ≡ f) × (q ≡ fs)
+Closes d i o j q = (f : Frame) (fs : List Frame) → still_open d (i ∷ o) ≡ f ∷ fs → (j ≡ f) × (q ≡ fs)
 
 -- what `enter` does to them
 abbrev pub Enters : Outline → Frame → List Frame → Frame → List Frame → Type 0
@@ -134,14 +134,14 @@ round_framed i o q l p r es e h = h ∙ ap (λ (f : Frame). frame_of f.depth f.r
 
 -- one line more
 pub place_more : (before rest after lines : List Outline) (l : Outline) (i j k : Frame) (o p q : List Frame) (found more : List Place)
-    → i ∷ o ≡ opened before → Closes l.depth i o j p → Enters l j p k q
+    → i ∷ o ≡ open_parents before → Closes l.depth i o j p → Enters l j p k q
     → found ≡ places before → more ≡ record { line = l; frame = j } ∷ found
     → rest ≡ l ∷ after → turned rest before ≡ turned lines []
-    → (x : List Outline) × (k ∷ q ≡ opened x) × (more ≡ places x) × (turned after x ≡ turned lines [])
+    → (x : List Outline) × (k ∷ q ≡ open_parents x) × (more ≡ places x) × (turned after x ≡ turned lines [])
 place_more before rest after lines l i j k o p q found more is closing entering here put split whole =
-    let there = closing (frame_at before l.depth) (outer (closed l.depth (opened before))) (ap (closed l.depth) is ∙ open_at before l.depth) in
+    let there = closing (frame_at before l.depth) (outer (still_open l.depth (open_parents before))) (ap (still_open l.depth) is ∙ open_at before l.depth) in
     let inner = entering (elders before l.depth) (framed j _ _ _ there.0) in
-    let round : q ≡ frame_of (parent_depth before l.depth) (row_at before l.depth) (l.sort ∷ elders before l.depth) ∷ outer (closed l.depth (opened before))
+    let round : q ≡ frame_of (parent_depth before l.depth) (row_at before l.depth) (l.sort ∷ elders before l.depth) ∷ outer (still_open l.depth (open_parents before))
     = round_framed j p q l _ _ _ there.0 inner.1 ∙ ap (λ (fs : List Frame). frame_of (parent_depth before l.depth) (row_at before l.depth) (l.sort ∷ elders before l.depth) ∷ fs) there.1 in
     let kid : k ≡ frame_of (Some l.depth) (row_under (row_at before l.depth) l.sort) [] = under_framed j k l _ _ _ there.0 inner.0 in
     let placed : more ≡ place_at before l ∷ places before
@@ -158,20 +158,25 @@ pub places_none : (before : List Outline) → places before ≡ [] → before �
 places_none [] e = refl
 places_none (b ∷ bs) e = absurd cc
 
+-- what is told of the line at a place, before lines of which these stand under none of each other
+abbrev pub Judges : Place → List Outline → Bool → Type 0
+Judges p rs w = (before after : List Outline) → p ≡ place_at before p.line → rs ≡ roots after → w ≡ is_wrong before p.line after
+
 -- one line more, from the last on
 pub wrong_more : (before after lines : List Outline) (left left' : List Place) (p : Place) (rs rs' rs'' : List Outline) (found found' : List Bool) (w : Bool)
     → left ≡ places before → left ≡ p ∷ left' → rs ≡ roots after → found ≡ wrong_from before after → turned before after ≡ lines
-    → w ≡ wrong_at p rs → rs' ≡ beyond p.line.depth rs → rs'' ≡ p.line ∷ rs' → found' ≡ w ∷ found
+    → Judges p rs w → rs' ≡ behind_deeper p.line.depth rs → rs'' ≡ p.line ∷ rs' → found' ≡ w ∷ found
     → (x : List Outline) × (y : List Outline) × (left' ≡ places x) × (rs'' ≡ roots y) × (found' ≡ wrong_from x y) × (turned x y ≡ lines)
 wrong_more before after lines left left' p rs rs' rs'' found found' w here top there marked whole judged kept pushed put =
     let first = places_first before p left' (sym here ∙ top) in
     let b = first.0 in
     let bs = first.1 in
     let placed = first.3 in
+    let same : p.line ≡ b = ap (λ (x : Place). x.line) placed in
     let verdict : w ≡ is_wrong bs b after
-    = judged ∙ ap (λ (x : Place). wrong_at x rs) placed ∙ ap (λ (x : List Outline). wrong_at (place_at bs b) x) there in
+    = judged bs after (placed ∙ ap (place_at bs) (sym same)) there ∙ ap (λ (x : Outline). is_wrong bs x after) same in
     let standing : rs'' ≡ roots (b ∷ after)
-    = pushed ∙ ap (λ (x : List Outline). p.line ∷ x) (kept ∙ ap (λ (x : List Outline). beyond p.line.depth x) there) ∙ ap (λ (x : Place). x.line ∷ beyond x.line.depth (roots after)) placed in
+    = pushed ∙ ap (λ (x : List Outline). p.line ∷ x) (kept ∙ ap (λ (x : List Outline). behind_deeper p.line.depth x) there) ∙ ap (λ (x : Place). x.line ∷ behind_deeper x.line.depth (roots after)) placed in
     let marks : found' ≡ is_wrong bs b after ∷ wrong_from (b ∷ bs) after
     = put ∙ ap (λ (x : Bool). x ∷ found) verdict ∙ ap (λ (x : List Bool). is_wrong bs b after ∷ x) (marked ∙ ap (λ (x : List Outline). wrong_from x after) first.2) in
     (bs, b ∷ after, first.4, standing, marks, ap (λ (x : List Outline). turned x after) (sym first.2) ∙ whole)

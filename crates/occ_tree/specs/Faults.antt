@@ -1,20 +1,15 @@
 -- The diagnostics of shape of a unit.
-use Rattle.std.specs.Prelude.{Bool, List, [], ◌∷◌, ◌++◌, None, nat_lt, if◌then◌else◌}
-use Rattle.occ_base.specs.declared.code.Code.{Code}
+use Rattle.std.specs.Prelude.{Bool, List, [], ◌∷◌, ◌++◌, nat_lt}
 use Rattle.occ_base.specs.declared.code.Code.TheVariants as code
-use Rattle.occ_base.specs.declared.code.Grade.TheVariants as grade
 use Rattle.occ_base.specs.declared.diag.Diag.{Diag}
+use Rattle.occ_base.specs.Errors.{error_if}
 use Rattle.occ_project.specs.declared.expanded.ExpandedLine.{ExpandedLine}
 use Rattle.occ_tree.specs.Sorts.{outlines}
 use Rattle.occ_tree.specs.Wrong.{wrong}
 
--- an error without a name at the line, if the test holds
-abbrev pub error_if : Bool → ExpandedLine → Code → List Diag
-error_if test l c = if test then (record { file = l.file; line = l.line; code = c; grade = grade.Error; name = None }) ∷ [] else []
-
 -- S2 at a line that stands wrong or lacks something, S4 at a line of a depth over 64
 abbrev pub line_faults : ExpandedLine → Bool → List Diag
-line_faults l is_wrong = error_if is_wrong l code.S2 ++ error_if (nat_lt 64 l.depth) l code.S4
+line_faults l is_wrong = error_if is_wrong l.file l.line code.S2 ++ error_if (nat_lt 64 l.depth) l.file l.line code.S4
 
 -- those of each line, where one is told for each whether it is wrong
 abbrev pub faults_at : List ExpandedLine → List Bool → List Diag

@@ -1,15 +1,14 @@
--- What a walk over the lines knows of the parents that are open.
-use Rattle.std.specs.Prelude.{ℕ, Bool, List, [], ◌∷◌, ◌||◌, not, Option, Some, None, if◌then◌else◌}
+-- What the walk down the lines knows at each place of the parents that are open there. No definition of shape needs it.
+use Rattle.std.specs.Prelude.{ℕ, List, [], ◌∷◌, Option, Some, None, if◌then◌else◌}
 use Rattle.occ_tree.specs.declared.outline.Outline.{Outline}
 use Rattle.occ_tree.specs.declared.place.Frame.{Frame}
 use Rattle.occ_tree.specs.declared.place.Place.{Place}
 use Rattle.occ_tree.specs.declared.row.Row.{Row}
 use Rattle.occ_tree.specs.declared.row.Row.TheVariants as row
 use Rattle.occ_tree.specs.declared.sort.Sort.{Sort}
-use Rattle.occ_tree.specs.Nesting.{beyond, elders, holds, is_right, parent_depth, row_at, sorts, under}
-use Rattle.occ_tree.specs.Siblings.{elders_of, is_misplaced, lacks}
+use Rattle.occ_tree.specs.Elders.{elders_of}
+use Rattle.occ_tree.specs.Nesting.{can_hold, elders, parent_depth, row_at}
 use Rattle.occ_tree.specs.Table.{row_under}
-use Rattle.occ_tree.specs.Wrong.{closes}
 
 -- a parent of this depth and row, and those under it so far, the nearest first
 abbrev pub frame_of : Option ℕ → Row → List Sort → Frame
@@ -33,23 +32,17 @@ turned [] ls = ls
 turned (b ∷ before) ls = turned before (b ∷ ls)
 
 -- without the innermost parents that cannot have a line of depth d under them
-abbrev pub closed : ℕ → List Frame → List Frame
-closed d [] = []
-closed d (f ∷ fs) = if holds f.depth d then f ∷ fs else closed d fs
+abbrev pub still_open : ℕ → List Frame → List Frame
+still_open d [] = []
+still_open d (f ∷ fs) = if can_hold f.depth d then f ∷ fs else still_open d fs
 
 abbrev pub outer : List Frame → List Frame
 outer [] = []
 outer (f ∷ fs) = fs
 
 -- the open parents behind these lines, the innermost first
-abbrev pub opened : List Outline → List Frame
-opened [] = frame_of None row.File [] ∷ []
-opened (b ∷ before) =
+abbrev pub open_parents : List Outline → List Frame
+open_parents [] = frame_of None row.File [] ∷ []
+open_parents (b ∷ before) =
     frame_of (Some b.depth) (row_under (row_at before b.depth) b.sort) []
-    ∷ (frame_of (parent_depth before b.depth) (row_at before b.depth) (b.sort ∷ elders before b.depth) ∷ outer (closed b.depth (opened before)))
-
--- the line at this place stands wrong, before lines of which these stand under none of each other
-abbrev pub wrong_at : Place → List Outline → Bool
-wrong_at p rs =
-    (not (is_right p.frame.depth p.line.depth) || is_misplaced p.frame.row p.frame.elders p.line.sort (closes p.frame.depth (beyond p.line.depth rs)))
-    || lacks (row_under p.frame.row p.line.sort) (sorts (under p.line.depth rs))
+    ∷ (frame_of (parent_depth before b.depth) (row_at before b.depth) (b.sort ∷ elders before b.depth) ∷ outer (still_open b.depth (open_parents before)))

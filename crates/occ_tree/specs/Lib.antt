@@ -2,6 +2,7 @@ pub mod Table
 pub mod Siblings
 pub mod Nesting
 pub mod Wrong
+pub mod Elders
 pub mod Frames
 pub mod Sorts
 pub mod Faults

@@ -1,8 +1,7 @@
 -- What a line asks of those that stand under the same parent, and a parent of those under it.
-use Rattle.std.specs.Prelude.{Bool, true, false, not, ◌&&◌, ◌||◌, List, [], ◌∷◌, ◌++◌, if◌then◌else◌}
+use Rattle.std.specs.Prelude.{Bool, false, not, ◌&&◌, ◌||◌, List, [], ◌∷◌}
 use Rattle.std.specs.List.{list_any}
 use Rattle.occ_tree.specs.declared.row.Row.{Row}
-use Rattle.occ_tree.specs.declared.siblings.Elders.{Elders}
 use Rattle.occ_tree.specs.declared.sort.Sort.{Sort}
 use Rattle.occ_tree.specs.Table.{is_close, is_head, is_main, is_process, is_result, is_single, is_value, lets_line, may_stand, needs_main, takes_specifications}
 
@@ -16,53 +15,31 @@ abbrev pub follows_first_process : List Sort → Bool
 follows_first_process [] = false
 follows_first_process (s ∷ ss) = is_process s && not (list_any is_process ss)
 
--- what stands before a line of the row, the nearest first
-abbrev pub elders_of : Row → List Sort → Elders
-elders_of r before =
-    record {
-      head = first_is is_head before;
-      main = list_any (is_main r) before;
-      process = list_any is_process before;
-      result = list_any is_result before;
-      first_process = follows_first_process before;
-    }
-
 -- a close that is not right behind a head, or a head that is not right before a close
-abbrev pub is_loose : Elders → Sort → Bool → Bool
-is_loose e s before_close = (is_close s && not e.head) || (is_head s && not before_close)
+abbrev pub is_loose : List Sort → Sort → Bool → Bool
+is_loose before s before_close = (is_close s && not (first_is is_head before)) || (is_head s && not before_close)
 
 -- a main line where there may be one and there is one already
-abbrev pub is_beyond : Row → Elders → Sort → Bool
-is_beyond r e s = is_single r && (is_main r s && e.main)
+abbrev pub is_one_too_many : Row → List Sort → Sort → Bool
+is_one_too_many r before s = is_single r && (is_main r s && list_any (is_main r) before)
 
 -- under VALOF a second process, a second RESULT, or a RESULT that is not directly behind the first process
-abbrev pub is_disordered : Row → Elders → Sort → Bool
-is_disordered r e s = is_value r && ((is_process s && e.process) || (is_result s && (e.result || not e.first_process)))
+abbrev pub is_disordered : Row → List Sort → Sort → Bool
+is_disordered r before s =
+    is_value r && ((is_process s && list_any is_process before) || (is_result s && (list_any is_result before || not (follows_first_process before))))
 
--- a line of this sort cannot stand in the row behind those, and right before a close or not
-abbrev pub is_misplaced : Row → Elders → Sort → Bool → Bool
-is_misplaced r e s before_close = not (may_stand r s) || (is_loose e s before_close || (is_beyond r e s || is_disordered r e s))
+-- a line of this sort cannot stand in the row behind those siblings, the nearest first, and right before a close or not
+abbrev pub is_misplaced : Row → List Sort → Sort → Bool → Bool
+is_misplaced r before s before_close = not (may_stand r s) || (is_loose before s before_close || (is_one_too_many r before s || is_disordered r before s))
 
--- a head and its close make a specification
-abbrev pub is_closed : Row → Sort → List Sort → Bool
-is_closed r s after = takes_specifications r && (is_head s && first_is is_close after)
+-- the line is a specification, or a head with its close right behind it
+abbrev pub begins_specification : Row → Sort → List Sort → Bool
+begins_specification r s after = lets_line r s || (takes_specifications r && (is_head s && first_is is_close after))
 
--- for the item that begins with a line of this sort, if one does: whether it is a specification
-abbrev pub item : Row → Sort → List Sort → List Bool
-item r s after = if is_main r s then false ∷ [] else (if lets_line r s || is_closed r s after then true ∷ [] else [])
-
-abbrev pub items : Row → List Sort → List Bool
-items r [] = []
-items r (s ∷ ss) = item r s ss ++ items r ss
-
--- the last of them; if there is none, `none`
-abbrev pub last_or : Bool → List Bool → Bool
-last_or none [] = none
-last_or none (b ∷ bs) = last_or b bs
-
--- the last item is a specification
+-- one of the specifications has no main line behind it
 abbrev pub ends_specified : Row → List Sort → Bool
-ends_specified r ss = last_or false (items r ss)
+ends_specified r [] = false
+ends_specified r (s ∷ after) = ends_specified r after || (begins_specification r s after && not (list_any (is_main r) after))
 
 -- a parent with these under it lacks a main line, also behind its last specification
 abbrev pub lacks : Row → List Sort → Bool

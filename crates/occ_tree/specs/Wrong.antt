@@ -1,20 +1,24 @@
 -- Which lines of a unit stand wrong.
 use Rattle.std.specs.Prelude.{ℕ, Bool, false, not, ◌&&◌, ◌||◌, List, [], ◌∷◌, Option}
 use Rattle.occ_tree.specs.declared.outline.Outline.{Outline}
-use Rattle.occ_tree.specs.Nesting.{beyond, children, elders, holds, is_right, parent_depth, roots, row_at}
-use Rattle.occ_tree.specs.Siblings.{elders_of, is_misplaced, lacks}
+use Rattle.occ_tree.specs.Nesting.{behind_deeper, can_hold, children, elders, is_right_under, parent_depth, roots, row_at}
+use Rattle.occ_tree.specs.Siblings.{is_misplaced, lacks}
 use Rattle.occ_tree.specs.Table.{is_close, row_under}
 
--- the next line under the same parent is a close, these being the lines behind that stand under none of each other
-abbrev pub closes : Option ℕ → List Outline → Bool
-closes parent [] = false
-closes parent (l ∷ ls) = holds parent l.depth && is_close l.sort
+-- of lines that stand under none of each other the first one is a close under a parent of that depth
+abbrev pub close_is_next : Option ℕ → List Outline → Bool
+close_is_next parent [] = false
+close_is_next parent (l ∷ ls) = can_hold parent l.depth && is_close l.sort
 
--- the line stands at the wrong depth or where it may not, those before it being given with the nearest first
+-- the next line under its parent is a close; the lines before are given with the nearest first
+abbrev pub stands_before_close : List Outline → Outline → List Outline → Bool
+stands_before_close before l after = close_is_next (parent_depth before l.depth) (behind_deeper l.depth (roots after))
+
+-- the line stands at the wrong depth or where it may not
 abbrev pub stands_wrong : List Outline → Outline → List Outline → Bool
 stands_wrong before l after =
-    not (is_right (parent_depth before l.depth) l.depth)
-    || is_misplaced (row_at before l.depth) (elders_of (row_at before l.depth) (elders before l.depth)) l.sort (closes (parent_depth before l.depth) (beyond l.depth (roots after)))
+    not (is_right_under (parent_depth before l.depth) l.depth)
+    || is_misplaced (row_at before l.depth) (elders before l.depth) l.sort (stands_before_close before l after)
 
 -- it lacks something under it
 abbrev pub lacks_something : List Outline → Outline → List Outline → Bool

@@ -1,32 +1,11 @@
 ghost use Rattle.std.specs.Prelude.{◌≡◌, ◌++◌, IfOk, OnOk};
-ghost use Rattle.occ_tree.specs.Faults.{error_if, line_faults as faults_of_line, shape_faults as faults_of_shape};
+ghost use Rattle.occ_tree.specs.Faults.{line_faults as faults_of_line, shape_faults as faults_of_shape};
 
 use super::marks::wrong_lines;
 use super::outline::find_outlines;
-use occ_base::{Code, Diag, Grade, Items};
+use occ_base::{Code, Diag, Items, add_error_if};
 use occ_project::ExpandedLine;
 use std::alloc::{AllocError, Global};
-
-/// Adds the error without a name at the line, if the test holds.
-fn add_error_if(
-    test: bool,
-    line: &ExpandedLine,
-    code: Code,
-    found: &mut Items<Diag>,
-) -> Result<(), AllocError>
-    ensures { OnOk result (found.new ≡ found.old ++ error_if test line.now code) }
-{
-    if test {
-        found.push(Diag {
-            file: line.file,
-            line: line.line,
-            code,
-            grade: Grade::Error,
-            name: None,
-        })?;
-    }
-    Ok(())
-}
 
 /// Adds the diagnostics of shape of a line.
 fn add_line_faults(
@@ -36,8 +15,8 @@ fn add_line_faults(
 ) -> Result<(), AllocError>
     ensures { OnOk result (found.new ≡ found.old ++ faults_of_line line.now wrong) }
 {
-    add_error_if(wrong, line, Code::S2, found)?;
-    add_error_if(line.depth > 64, line, Code::S4, found)
+    add_error_if(wrong, line.file, line.line, Code::S2, found)?;
+    add_error_if(line.depth > 64, line.file, line.line, Code::S4, found)
 }
 
 /// The diagnostics of shape of a unit with these lines, in the order of the lines: `S2` at each line that stands

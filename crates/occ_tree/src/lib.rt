@@ -9,7 +9,6 @@ mod outline;
 mod place;
 mod row;
 mod rows;
-mod sharing;
 mod siblings;
 mod sort;
 mod stack;
@@ -25,6 +24,5 @@ pub use rows::{
     expression_rows, file_rows, function_rows, misplaced_rows, nesting_rows, process_rows,
     selection_rows, tagged_rows, word_rows,
 };
-pub use sharing::share_lines;
 pub use tree::Node;
 pub use unit::{ShapeFault, Unit, shape};

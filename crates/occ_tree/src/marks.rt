@@ -1,10 +1,11 @@
-ghost use Rattle.std.specs.Prelude.{◌≡◌, [], ◌∷◌, ◌++◌, IfOk, OnOk};
-ghost use Rattle.occ_tree.specs.Frames.{wrong_at};
-ghost use Rattle.occ_tree.specs.Nesting.{beyond, sorts, under as lines_under};
-ghost use Rattle.occ_tree.specs.Wrong.{closes, wrong};
+ghost use Rattle.std.specs.Prelude.{◌≡◌, List, IfOk, OnOk};
+ghost use Rattle.occ_tree.specs.declared.outline.Outline.{Outline};
+ghost use Rattle.occ_tree.specs.Frames.{place_at};
+ghost use Rattle.occ_tree.specs.Nesting.{behind_deeper, first_deeper, roots as roots_of, sorts};
+ghost use Rattle.occ_tree.specs.Wrong.{close_is_next as next_is_close, is_wrong as line_is_wrong, wrong};
 
 use super::outline::Outline;
-use super::place::{Place, find_places, holds, is_right};
+use super::place::{Place, can_hold, find_places, is_right_under};
 use super::row::{is_close, row_under};
 use super::siblings::{is_misplaced, lacks};
 use super::sort::Sort;
@@ -18,8 +19,8 @@ fn take_children(
     depth: u64,
     roots: &mut Stack<Outline>,
 ) -> Result<Items<Sort>, AllocError>
-    ensures children { IfOk result (λ children. children ≡ sorts (lines_under depth roots.old)) }
-    ensures rest { OnOk result (roots.new ≡ beyond depth roots.old) }
+    ensures children { IfOk result (λ children. children ≡ sorts (first_deeper depth roots.old)) }
+    ensures rest { OnOk result (roots.new ≡ behind_deeper depth roots.old) }
 {
     let mut children = Items::new(alloc);
     while let Some(top) = roots.top() {
@@ -33,11 +34,11 @@ fn take_children(
 }
 
 /// Whether the top is a close under the same parent.
-fn closes_next(parent: Option<u64>, roots: &Stack<Outline>) -> bool
-    ensures { result ≡ closes parent roots.now }
+fn close_is_next(parent: Option<u64>, roots: &Stack<Outline>) -> bool
+    ensures { result ≡ next_is_close parent roots.now }
 {
     match roots.top() {
-        Some(next) => holds(parent, next.depth) && is_close(next.sort),
+        Some(next) => can_hold(parent, next.depth) && is_close(next.sort),
         None => false,
     }
 }
@@ -45,15 +46,15 @@ fn closes_next(parent: Option<u64>, roots: &Stack<Outline>) -> bool
 /// Whether the line at this place stands wrong or lacks something. On top of the stack are its children, which it
 /// takes, and then the next line under its parent, if there is one.
 fn is_wrong(alloc: Global, place: Place, roots: &mut Stack<Outline>) -> Result<bool, AllocError>
-    ensures wrong { IfOk result (λ wrong. wrong ≡ wrong_at place roots.old) }
-    ensures rest { OnOk result (roots.new ≡ beyond place.line.depth roots.old) }
+    ensures wrong { IfOk result (λ wrong. (before : List Outline) (after : List Outline) → place ≡ place_at before place.line → roots.old ≡ roots_of after → wrong ≡ line_is_wrong before place.line after) }
+    ensures rest { OnOk result (roots.new ≡ behind_deeper place.line.depth roots.old) }
 {
     let Place { line, frame } = place;
     let children = take_children(alloc, line.depth, roots)?;
-    let before_close = closes_next(frame.depth, roots);
+    let before_close = close_is_next(frame.depth, roots);
     let lacking = lacks(row_under(frame.row, line.sort), children.as_slice());
     let misplaced = is_misplaced(frame.row, frame.elders, line.sort, before_close);
-    Ok(!is_right(frame.depth, line.depth) || misplaced || lacking)
+    Ok(!is_right_under(frame.depth, line.depth) || misplaced || lacking)
 }
 
 /// For each line of a unit, whether it stands wrong or lacks something. The first is on top.

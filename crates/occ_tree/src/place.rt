@@ -1,7 +1,7 @@
 ghost use Rattle.std.specs.Prelude.{◌≡◌, [], ◌∷◌, List, None, Some, IfOk, OnOk};
 ghost use Rattle.occ_tree.specs.declared.outline.Outline.{Outline};
-ghost use Rattle.occ_tree.specs.Frames.{closed, frame_of, opened, places, turned};
-ghost use Rattle.occ_tree.specs.Nesting.{holds as holding, is_right as right};
+ghost use Rattle.occ_tree.specs.Frames.{frame_of, open_parents, places, still_open, turned};
+ghost use Rattle.occ_tree.specs.Nesting.{can_hold as holding, is_right_under as right_under};
 ghost use Rattle.occ_tree.specs.declared.place.Frame.{Frame};
 ghost use Rattle.occ_tree.specs.declared.sort.Sort.{Sort};
 ghost use Rattle.occ_tree.specs.declared.row.Row.TheVariants as row;
@@ -32,8 +32,8 @@ pub struct Place {
     pub frame: Frame,
 }
 
-/// Whether a line of this depth may stand under a parent of that one, or under none.
-pub fn holds(parent: Option<u64>, depth: u64) -> bool
+/// Whether a parent of this depth can have a line of that one under it, as the file can.
+pub fn can_hold(parent: Option<u64>, depth: u64) -> bool
     ensures { result ≡ holding parent depth }
 {
     match parent {
@@ -42,9 +42,9 @@ pub fn holds(parent: Option<u64>, depth: u64) -> bool
     }
 }
 
-/// Whether it stands right under it.
-pub fn is_right(parent: Option<u64>, depth: u64) -> bool
-    ensures { result ≡ right parent depth }
+/// Whether the line is as deep as one right under that parent.
+pub fn is_right_under(parent: Option<u64>, depth: u64) -> bool
+    ensures { result ≡ right_under parent depth }
 {
     match parent {
         Some(parent) => parent < depth && depth - parent == 1,
@@ -75,9 +75,9 @@ pub struct Open {
 impl Open {
     /// Leaves the innermost parents that cannot have a line of this depth under them.
     fn close(&mut self, depth: u64)
-        ensures { (f : Frame) (fs : List Frame) → closed depth (self.old.innermost ∷ self.old.outer) ≡ f ∷ fs → (self.new.innermost ≡ f) × (self.new.outer ≡ fs) }
+        ensures { (f : Frame) (fs : List Frame) → still_open depth (self.old.innermost ∷ self.old.outer) ≡ f ∷ fs → (self.new.innermost ≡ f) × (self.new.outer ≡ fs) }
     {
-        while !holds(self.innermost.depth, depth) {
+        while !can_hold(self.innermost.depth, depth) {
             match self.outer.pop() {
                 Some(frame) => self.innermost = frame,
                 None => return,

@@ -1,7 +1,9 @@
-ghost use Rattle.std.specs.Prelude.{◌≡◌, ◌∷◌, [], false, List};
+ghost use Rattle.std.specs.Prelude.{◌≡◌, ◌∷◌, [], List};
 ghost use Rattle.std.specs.List.{list_any};
+ghost use Rattle.occ_tree.specs.declared.row.Row.{Row};
 ghost use Rattle.occ_tree.specs.declared.sort.Sort.{Sort};
-ghost use Rattle.occ_tree.specs.Siblings.{elders_of, ends_specified as ending_specified, first_is, is_beyond as beyond, is_disordered as disordered, is_loose as loose, is_misplaced as misplaced, lacks as lacking};
+ghost use Rattle.occ_tree.specs.Elders.{elders_of};
+ghost use Rattle.occ_tree.specs.Siblings.{begins_specification as beginning, ends_specified as ending_specified, first_is, is_disordered as disordered, is_loose as loose, is_misplaced as misplaced, is_one_too_many as one_too_many, lacks as lacking};
 ghost use Rattle.occ_tree.specs.Table.{is_close as close, is_main as main, is_process as process, is_result as result_line};
 
 use super::row::{
@@ -10,7 +12,7 @@ use super::row::{
 };
 use super::sort::Sort;
 
-/// What stands before a line under the same parent.
+/// What the walk knows of the lines before one under the same parent.
 #[derive(Clone, Copy, Debug)]
 pub struct Elders {
     /// The nearest is a head.
@@ -56,14 +58,14 @@ impl Elders {
 
 /// Whether it is a close that is not right behind a head, or a head that is not right before a close.
 fn is_loose(elders: Elders, sort: Sort, before_close: bool) -> bool
-    ensures { result ≡ loose elders sort before_close }
+    ensures { (row : Row) (before : List Sort) → elders ≡ elders_of row before → result ≡ loose before sort before_close }
 {
     is_close(sort) && !elders.head || is_head(sort) && !before_close
 }
 
 /// Whether it is a main line where there may be one and there is one already.
-fn is_beyond(row: Row, elders: Elders, sort: Sort) -> bool
-    ensures { result ≡ beyond row elders sort }
+fn is_one_too_many(row: Row, elders: Elders, sort: Sort) -> bool
+    ensures { (before : List Sort) → elders ≡ elders_of row before → result ≡ one_too_many row before sort }
 {
     is_single(row) && is_main(row, sort) && elders.main
 }
@@ -71,7 +73,7 @@ fn is_beyond(row: Row, elders: Elders, sort: Sort) -> bool
 /// Whether it is a second process or `RESULT` under `VALOF`, or a `RESULT` that is not directly behind the first
 /// process.
 fn is_disordered(row: Row, elders: Elders, sort: Sort) -> bool
-    ensures { result ≡ disordered row elders sort }
+    ensures { (before : List Sort) → elders ≡ elders_of row before → result ≡ disordered row before sort }
 {
     is_value(row)
         && (is_process(sort) && elders.process
@@ -80,11 +82,11 @@ fn is_disordered(row: Row, elders: Elders, sort: Sort) -> bool
 
 /// Whether a line of this sort cannot stand in the row behind those, and right before a close or not.
 pub fn is_misplaced(row: Row, elders: Elders, sort: Sort, before_close: bool) -> bool
-    ensures { result ≡ misplaced row elders sort before_close }
+    ensures { (before : List Sort) → elders ≡ elders_of row before → result ≡ misplaced row before sort before_close }
 {
     !may_stand(row, sort)
         || is_loose(elders, sort, before_close)
-        || is_beyond(row, elders, sort)
+        || is_one_too_many(row, elders, sort)
         || is_disordered(row, elders, sort)
 }
 
@@ -98,7 +100,14 @@ fn starts_with_close(sorts: &[Sort]) -> bool
     }
 }
 
-/// Whether the last item of the row is a specification.
+/// Whether the line is a specification, or a head with its close right behind it.
+fn begins_specification(row: Row, sort: Sort, after: &[Sort]) -> bool
+    ensures { result ≡ beginning row sort after.now }
+{
+    lets_line(row, sort) || takes_specifications(row) && is_head(sort) && starts_with_close(after)
+}
+
+/// Whether one of the specifications has no main line of the row behind it.
 fn ends_specified(row: Row, sorts: &[Sort]) -> bool
     ensures { result ≡ ending_specified row sorts.now }
 {
@@ -107,9 +116,7 @@ fn ends_specified(row: Row, sorts: &[Sort]) -> bool
     while let Some((sort, after)) = rest.split_first() {
         if is_main(row, *sort) {
             specified = false;
-        } else if lets_line(row, *sort)
-            || takes_specifications(row) && is_head(*sort) && starts_with_close(after)
-        {
+        } else if begins_specification(row, *sort, after) {
             specified = true;
         }
         rest = after;

@@ -1,4 +1,4 @@
-use super::{ShapeFault, shape, shape_faults, share_lines};
+use super::{ShapeFault, shape, shape_faults};
 use occ_base::{FileName, Items, Shared, write_diag};
 use occ_forms::{Form, LineBody, SourceLine, prepare};
 use occ_project::{ExpandedBody, ExpandedLine};
@@ -169,7 +169,7 @@ fn nested(alloc: Global, count: usize) -> Result<String, Fail> {
 fn nests_64_levels(rt: HostRuntime) -> Result<(), Fail> {
     let a = rt.alloc();
     let lines = lines_of(a, &nested(a, 63)?)?;
-    let unit = shape(a, share_lines(a, lines.as_slice())?)?;
+    let unit = shape(a, lines)?;
     assert_eq!(rt; unit.roots.len(), 2);
     let Some(head) = unit.roots.as_slice().first() else {
         panic!(rt; "no head");

@@ -52,6 +52,9 @@ measure_channel carried = ap measure_of (sym (t.rolls-Channel carried)) ∙ fold
 pub measure_timer : measure_of t.Timer ≡ one
 measure_timer = ap measure_of (sym t.rolls-Timer) ∙ fold-roll-OccType Measure Measure Measure Measure Measure item_step type_step protocol_step field_step tag_step OccType-F.Timer
 
+pub measure_unknown : measure_of t.Unknown ≡ none
+measure_unknown = ap measure_of (sym t.rolls-Unknown) ∙ fold-roll-OccType Measure Measure Measure Measure Measure item_step type_step protocol_step field_step tag_step OccType-F.Unknown
+
 pub measure_any : protocol_measure p.Any ≡ one
 measure_any = ap protocol_measure (sym p.rolls-Any) ∙ fold-roll-Protocol Measure Measure Measure Measure Measure item_step type_step protocol_step field_step tag_step Protocol-F.Any
 
@@ -90,4 +93,4 @@ pub held_step : (found m rest : Measure) → held (beside (held (beside found (h
 held_step found m rest = same_measure _ _ _ _ (omega arith) (omega arith)
 
 -- what the walks over a type need
-pub ruleset measure_rules = (measure_primitive, measure_array, measure_record, measure_named, measure_channel, measure_timer, measure_any, measure_sequence, measure_variant, measure_defined, measure_value, measure_counted, held_above, held_beside, held_held, held_step, held_end)
+pub ruleset measure_rules = (measure_primitive, measure_array, measure_record, measure_named, measure_channel, measure_timer, measure_unknown, measure_any, measure_sequence, measure_variant, measure_defined, measure_value, measure_counted, held_above, held_beside, held_held, held_step, held_end)

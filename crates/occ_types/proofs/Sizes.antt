@@ -30,6 +30,9 @@ size_channel carried = ap size_of (sym (t.rolls-Channel carried)) ∙ fold-roll-
 pub size_timer : size_of t.Timer ≡ None
 size_timer = ap size_of (sym t.rolls-Timer) ∙ fold-roll-OccType (Unit {0}) (Option ℕ) (Unit {0}) (Option ℕ) (Unit {0}) (λ _. tt) type_step (λ _. tt) field_step (λ _. tt) OccType-F.Timer
 
+pub size_unknown : size_of t.Unknown ≡ None
+size_unknown = ap size_of (sym t.rolls-Unknown) ∙ fold-roll-OccType (Unit {0}) (Option ℕ) (Unit {0}) (Option ℕ) (Unit {0}) (λ _. tt) type_step (λ _. tt) field_step (λ _. tt) OccType-F.Unknown
+
 fold_field : Field → Option ℕ
 fold_field = fold-Field (Unit {0}) (Option ℕ) (Unit {0}) (Option ℕ) (Unit {0}) (λ _. tt) type_step (λ _. tt) field_step (λ _. tt)
 
@@ -74,4 +77,4 @@ cut_none total None r h = refl
 cut_none total (Some x) r h = absurd cc
 
 -- what the walks over a type need
-pub ruleset size_rules = (size_primitive, size_array, size_named, size_channel, size_timer, size_record, cut_product, cut_step, cut_none)
+pub ruleset size_rules = (size_primitive, size_array, size_named, size_channel, size_timer, size_unknown, size_record, cut_product, cut_step, cut_none)

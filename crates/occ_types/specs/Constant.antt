@@ -1,6 +1,6 @@
 -- The values of constants: whole numbers, each in the range of its type, and what the operators give on them.
 -- TRUE is 1 and FALSE 0.
-use Rattle.std.specs.Prelude.{◌≡◌, ◌⊎◌, ℕ, ◌-◌, ◌*◌, ◌/◌, ◌%◌, ◌^◌, ℤ, pos, negsuc, ◌+ℤ◌, ◌-ℤ◌, ◌*ℤ◌, neg_ℤ, int_lt, int_le, int_div, int_rem, unsigned_abs, bit_and, bit_or, bit_xor, nat_le, Bool, true, false, cond, not, ◌&&◌, ◌||◌}
+use Rattle.std.specs.Prelude.{◌≡◌, ◌⊎◌, ℕ, ◌-◌, ◌*◌, ◌/◌, ◌%◌, ◌^◌, ℤ, pos, negsuc, ◌+ℤ◌, ◌-ℤ◌, ◌*ℤ◌, neg_ℤ, int_lt, int_le, int_div, int_rem, unsigned_abs, bit_and, bit_or, bit_xor, nat_le, nat_lt, Bool, true, false, cond, not, ◌&&◌, ◌||◌}
 use Rattle.std.specs.Prelude.{Result, Ok, Err, Option, Some, None}
 use Rattle.std.specs.Ordering.{int_eq}
 use Rattle.std.specs.Int.{int_rem_euclid}
@@ -91,6 +91,14 @@ number_of_pattern t n = cond (int_le (pos n) (greatest_of t)) (pos n) (pos n -�
 
 abbrev pub settled_pattern : Primitive → ℕ → Result Value ConstFault
 settled_pattern t n = settled t (number_of_pattern t n)
+
+-- a literal in decimal digits, with the - in front if there is one, stands for its number
+abbrev pub number_value : Primitive → ℤ → Option Value
+number_value t n = cond (is_in_range t n) (Some (value_of t n)) None
+
+-- a literal in hexadecimal digits stands for the bits of its number
+abbrev pub pattern_value : Primitive → ℕ → Option Value
+pattern_value t n = cond (nat_lt n (2 ^ bits_of t)) (Some (value_of t (number_of_pattern t n))) None
 
 -- the number in the range of the type that differs from n by a multiple of 2 to the number of bits
 abbrev pub settled_wrapped : Primitive → ℤ → Result Value ConstFault

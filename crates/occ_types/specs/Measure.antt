@@ -40,6 +40,7 @@ type_step (OccType-F.Record packing ms) = above (all_of ms)
 type_step (OccType-F.Named name m) = above m
 type_step (OccType-F.Channel m) = above m
 type_step OccType-F.Timer = one
+type_step OccType-F.Unknown = none
 
 abbrev pub protocol_step : Protocol-F Measure Measure Measure Measure Measure → Measure
 protocol_step Protocol-F.Any = one

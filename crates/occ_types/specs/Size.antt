@@ -38,11 +38,12 @@ type_step (OccType-F.Record packing ss) = total_of ss
 type_step (OccType-F.Named name s) = s
 type_step (OccType-F.Channel c) = None
 type_step OccType-F.Timer = None
+type_step OccType-F.Unknown = None
 
 abbrev pub field_step : Field-F (Unit {0}) (Option ℕ) (Unit {0}) (Option ℕ) (Unit {0}) → Option ℕ
 field_step f = f.of
 
--- the bytes of a type, none where it is or holds a channel or a timer, or has an open dimension
+-- the bytes of a type, none where it is or holds a channel, a timer or an unknown type, or has an open dimension
 abbrev pub size_of : OccType → Option ℕ
 size_of = fold-OccType (Unit {0}) (Option ℕ) (Unit {0}) (Option ℕ) (Unit {0}) (λ _. tt) type_step (λ _. tt) field_step (λ _. tt)
 

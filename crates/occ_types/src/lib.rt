@@ -3,8 +3,10 @@
 
 mod comparison;
 mod constant;
+mod fit;
 mod interface;
 pub mod laws;
+mod literal;
 mod measure;
 mod range;
 pub mod rows;
@@ -18,10 +20,14 @@ mod value;
 
 pub use comparison::same_interface;
 pub use constant::{ConstFault, Monadic, Operator, convert, fold, fold_one};
+pub use fit::{
+    alike, array_of, as_primitive, base_of, fields_of, fits, is_data, is_unknown, unnamed,
+};
 pub use interface::{
     Effect, Export, ExportKind, Formal, Interface, Interval, Mark, Passing, Places, Selector, Use,
     UseKind,
 };
+pub use literal::{value_of_number, value_of_pattern};
 pub use measure::{Measure, measure_of, measure_protocol};
 pub use same::{same_protocol, same_type};
 pub use size::bytes_of;

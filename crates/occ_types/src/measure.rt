@@ -63,6 +63,7 @@ pub fn measure_of(of: &OccType) -> Measure
 {
     match of {
         OccType::Primitive(_) | OccType::Timer => Measure::one(),
+        OccType::Unknown => Measure::none(),
         OccType::Array(_, inner) => measure_of(inner.get()).above(),
         OccType::Record(_, fields) => measure_fields(fields.as_slice()).above(),
         OccType::Named(_, inner) => measure_of(inner.get()).above(),
@@ -88,8 +89,8 @@ fn measure_item(of: &Item) -> Measure
     ensures { result ≡ held (item_measure of.now) }
 {
     match of {
-        Item::Value(of) => measure_of(of),
-        Item::Counted(_, of) => Measure::one().beside(measure_of(of).above()),
+        Item::Value(of) => measure_of(of.get()),
+        Item::Counted(_, of) => Measure::one().beside(measure_of(of.get()).above()),
     }
 }
 
@@ -99,7 +100,7 @@ fn measure_fields(fields: &[Field]) -> Measure
 {
     let mut found = Measure::none();
     for field in fields {
-        found = found.beside(measure_of(&field.of));
+        found = found.beside(measure_of(field.of.get()));
     }
     found
 }

@@ -20,7 +20,7 @@ pub fn same_type(a: &OccType, b: &OccType) -> bool
             carried.get(),
             other.get(),
         ),
-        (OccType::Timer, OccType::Timer) => true,
+        (OccType::Timer, OccType::Timer) | (OccType::Unknown, OccType::Unknown) => true,
         _ => false,
     }
 }
@@ -50,7 +50,7 @@ pub fn same_protocol(a: &Protocol, b: &Protocol) -> bool
 fn same_field(a: &Field, b: &Field) -> bool
     ensures { IsTrue result ↔ (a.now ≡ b.now) }
 {
-    a.name == b.name && same_type(&a.of, &b.of)
+    a.name == b.name && same_type(a.of.get(), b.of.get())
 }
 
 #[cycle(same)]
@@ -58,8 +58,8 @@ fn same_item(a: &Item, b: &Item) -> bool
     ensures { IsTrue result ↔ (a.now ≡ b.now) }
 {
     match (a, b) {
-        (Item::Value(x), Item::Value(y)) => same_type(x, y),
-        (Item::Counted(count, x), Item::Counted(other, y)) => count == other && same_type(x, y),
+        (Item::Value(x), Item::Value(y)) => same_type(x.get(), y.get()),
+        (Item::Counted(count, x), Item::Counted(other, y)) => count == other && same_type(x.get(), y.get()),
         _ => false,
     }
 }

@@ -33,7 +33,7 @@ fn extent(of: &OccType) -> Option<u64>
         OccType::Array(dimension, inner) => array_extent(*dimension, extent(inner.get())),
         OccType::Record(_, fields) => fields_extent(fields.as_slice()),
         OccType::Named(_, inner) => extent(inner.get()),
-        OccType::Channel(_) | OccType::Timer => None,
+        OccType::Channel(_) | OccType::Timer | OccType::Unknown => None,
     }
 }
 
@@ -45,7 +45,7 @@ fn fields_extent(fields: &[Field]) -> Option<u64>
 {
     let mut total = 0;
     for field in fields {
-        let bytes = extent(&field.of)?;
+        let bytes = extent(field.of.get())?;
         total = add(total, bytes);
     }
     Some(total)

@@ -4,7 +4,7 @@ use super::{
     Tag, Use, UseKind, Value, bytes_of, convert, fold, fold_one, measure_of, measure_protocol,
     same_interface, same_protocol, same_type,
 };
-use occ_base::{Boxed, Items, Name};
+use occ_base::{Items, Name, Shared};
 use std::alloc::{AllocError, Global};
 use std::test::Fail;
 
@@ -21,11 +21,11 @@ fn byte() -> OccType {
 }
 
 fn array(alloc: Global, n: Option<u32>, of: OccType) -> Result<OccType, AllocError> {
-    Ok(OccType::Array(n, Boxed::new(alloc, of)?))
+    Ok(OccType::Array(n, Shared::new(alloc, of)?))
 }
 
 fn named(alloc: Global, text: &str, of: OccType) -> Result<OccType, AllocError> {
-    Ok(OccType::Named(name(alloc, text)?, Boxed::new(alloc, of)?))
+    Ok(OccType::Named(name(alloc, text)?, Shared::new(alloc, of)?))
 }
 
 /// A record of an INT and a BYTE with these names.
@@ -33,30 +33,30 @@ fn record(alloc: Global, first: &str, second: &str) -> Result<OccType, AllocErro
     let mut fields = Items::new(alloc);
     fields.push(Field {
         name: name(alloc, first)?,
-        of: int(),
+        of: Shared::new(alloc, int())?,
     })?;
     fields.push(Field {
         name: name(alloc, second)?,
-        of: byte(),
+        of: Shared::new(alloc, byte())?,
     })?;
     Ok(OccType::Record(Packing::Plain, fields))
 }
 
 fn channel(alloc: Global, carried: Protocol) -> Result<OccType, AllocError> {
-    Ok(OccType::Channel(Boxed::new(alloc, carried)?))
+    Ok(OccType::Channel(Shared::new(alloc, carried)?))
 }
 
 /// The protocol of one item, `BYTE::[]INT`.
 fn counted(alloc: Global) -> Result<Protocol, AllocError> {
     let mut items = Items::new(alloc);
-    items.push(Item::Counted(Primitive::Byte, int()))?;
+    items.push(Item::Counted(Primitive::Byte, Shared::new(alloc, int())?))?;
     Ok(Protocol::Sequence(items))
 }
 
 /// The protocol of one tag, which has one INT.
 fn tagged(alloc: Global, tag: &str) -> Result<Protocol, AllocError> {
     let mut items = Items::new(alloc);
-    items.push(Item::Value(int()))?;
+    items.push(Item::Value(Shared::new(alloc, int())?))?;
     let mut tags = Items::new(alloc);
     tags.push(Tag {
         name: name(alloc, tag)?,
@@ -127,7 +127,7 @@ fn tells_types_apart(rt: HostRuntime) -> Result<(), Fail> {
     assert!(rt; !same_type(&record(alloc, "a", "b")?, &record(alloc, "b", "a")?));
     assert!(rt; !same_type(&array(alloc, None, int())?, &array(alloc, Some(0), int())?));
     assert!(rt; same_type(&OccType::Timer, &OccType::Timer));
-    let carried = Protocol::Defined(name(alloc, "P")?, Boxed::new(alloc, counted(alloc)?)?);
+    let carried = Protocol::Defined(name(alloc, "P")?, Shared::new(alloc, counted(alloc)?)?);
     let over = channel(alloc, carried)?;
     assert!(rt; same_type(&over, &over));
     assert!(rt; !same_type(&over, &channel(alloc, counted(alloc)?)?));

@@ -1,18 +1,20 @@
 use super::Primitive;
-use occ_base::{Boxed, Items, Name};
+use occ_base::{Items, Name, Shared};
 
-/// A type, with each name in it resolved to its definition.
+/// A type, with each name in it resolved to its definition. Types that hold a type share it.
 #[cycle(types)]
 #[derive(Debug, Drop)]
 pub enum OccType {
     Primitive(Primitive),
     /// `[n]T`, or `[]T` where there is no n.
-    Array(Option<u32>, Boxed<OccType>),
+    Array(Option<u32>, Shared<OccType>),
     Record(Packing, Items<Field>),
     /// A type with a name, and the type that it is defined to be.
-    Named(Name, Boxed<OccType>),
-    Channel(Boxed<Protocol>),
+    Named(Name, Shared<OccType>),
+    Channel(Shared<Protocol>),
     Timer,
+    /// The type of a field whose line has a fault.
+    Unknown,
 }
 
 /// Whether a record is PACKED.
@@ -27,7 +29,7 @@ pub enum Packing {
 #[derive(Debug, Drop)]
 pub struct Field {
     pub name: Name,
-    pub of: OccType,
+    pub of: Shared<OccType>,
 }
 
 /// What a channel carries.
@@ -40,16 +42,16 @@ pub enum Protocol {
     Sequence(Items<Item>),
     Variant(Items<Tag>),
     /// A protocol with a name, and what it is defined to be.
-    Defined(Name, Boxed<Protocol>),
+    Defined(Name, Shared<Protocol>),
 }
 
 /// An item of a protocol.
 #[cycle(types)]
 #[derive(Debug, Drop)]
 pub enum Item {
-    Value(OccType),
+    Value(Shared<OccType>),
     /// `T::[]U`: a count of type T, and so many values of type U.
-    Counted(Primitive, OccType),
+    Counted(Primitive, Shared<OccType>),
 }
 
 /// A variant of a protocol: its tag, and the items that follow the tag.

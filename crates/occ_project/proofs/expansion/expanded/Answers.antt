@@ -15,12 +15,12 @@ returns c =
     let unit = c.args.unit in
     let made = c.match-open_lines.made in
     let names = c.in_ok-reads.ensures ∙ ap first_places c.as_slice.ensures in
-    let shows : c.of.result ≡ shown made = c.of.ensures ∙ ap (λ (rs : List (List ℕ)). record { lines = made.lines; reads = rs; uses = made.uses; faults = made.faults }) names in
-    let begun : Made = record { lines = c.new-made.result.lines; uses = c.new-made.result.uses; faults = c.new-made.result.faults; names = c.push.new.self; room = c.new-made.result.room; is_over = c.new-made.result.is_over } in
+    let shows : c.of.result ≡ shown made = c.of.ensures ∙ ap (λ (rs : List (List ℕ)). record { lines = made.lines; reads = rs; faults = made.faults }) names in
+    let begun : Made = record { lines = c.new-made.result.lines; faults = c.new-made.result.faults; names = c.push.new.self; room = c.new-made.result.room; is_over = c.new-made.result.is_over } in
     let n = c.new-made.ensures in
     let at_start : begun ≡ started 65535 unit =
-    ap (λ (m : Made). record { lines = m.lines; uses = m.uses; faults = m.faults; names = c.push.new.self; room = m.room; is_over = m.is_over }) n
-    ∙ ap (λ (ns : List (List ℕ)). record { lines = []; uses = []; faults = []; names = ns; room = 65535; is_over = false }) (c.in_ok-push.ensures.ok ∙ ap (λ (m : Made). m.names ++ unit ∷ []) n)
+    ap (λ (m : Made). record { lines = m.lines; faults = m.faults; names = c.push.new.self; room = m.room; is_over = m.is_over }) n
+    ∙ ap (λ (ns : List (List ℕ)). record { lines = []; faults = []; names = ns; room = 65535; is_over = false }) (c.in_ok-push.ensures.ok ∙ ap (λ (m : Made). m.names ++ unit ∷ []) n)
     in
     let comes : made ≡ after (started 65535 unit) (unit_entries reads unit (option_copied c.open_lines.result)) =
     elim c.match-open_lines.branch [

@@ -1,0 +1,18 @@
+//! What is known of operands, and what operators give on them.
+#![tactic(auto)]
+
+mod kind;
+mod operate;
+mod outcome;
+mod part;
+pub mod rows;
+mod settle;
+#[cfg(test)]
+mod tests;
+mod want;
+
+pub use kind::{Fault, Free, Kind, Known, Outcome};
+pub use operate::{applied, operated, shifted};
+pub use part::{field, subscripted};
+pub use settle::settled;
+pub use want::{converted, wanted};

@@ -1,0 +1,4 @@
+pub mod Behind
+pub mod Cases
+pub mod Weights
+pub mod Listing

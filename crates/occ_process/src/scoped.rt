@@ -1,0 +1,55 @@
+ghost use Rattle.occ_process.specs.Layout.{body_of};
+ghost use Rattle.occ_process.specs.Reading.{Lays, ReadsScoped, value_laid, weight};
+ghost use Rattle.std.specs.Prelude.{IfOk, IfSome, ◌+◌};
+
+use super::tree::{Body, FunctionResult, Place, Spec};
+use occ_base::{Boxed, Items};
+use occ_tree::Node;
+use std::alloc::{AllocError, Global};
+
+/// The values of a function, behind the specifications before its `VALOF`.
+#[derive(Drop)]
+pub struct Value<'a> {
+    pub specs: Items<Spec<'a>>,
+    /// Where `VALOF` stands.
+    pub valof: Place,
+    pub body: Boxed<Body<'a>>,
+    pub result: FunctionResult<'a>,
+}
+
+/// A process or the values of a function, behind specifications.
+#[derive(Drop)]
+pub enum Scoped<'a> {
+    Body(Body<'a>),
+    Value(Value<'a>),
+}
+
+/// The process behind its specifications that the nodes are.
+pub fn read_body<'a, F: Fn(Global, &'a [Node]) -> Result<Option<Scoped<'a>>, AllocError>>(
+    alloc: Global,
+    nodes: &'a [Node],
+    inner: &F,
+) -> Result<Option<Body<'a>>, AllocError>
+    requires inner { ReadsScoped (weight nodes.now + 1) (F.pre inner.now) (F.post inner.now) }
+    ensures found { IfOk result (λ r. IfSome r (λ b. Lays (body_of b) nodes.now)) }
+{
+    match inner(alloc, nodes)? {
+        Some(Scoped::Body(body)) => Ok(Some(body)),
+        _ => Ok(None),
+    }
+}
+
+/// The values of a function that the nodes are.
+pub fn read_value<'a, F: Fn(Global, &'a [Node]) -> Result<Option<Scoped<'a>>, AllocError>>(
+    alloc: Global,
+    nodes: &'a [Node],
+    inner: &F,
+) -> Result<Option<Value<'a>>, AllocError>
+    requires inner { ReadsScoped (weight nodes.now + 1) (F.pre inner.now) (F.post inner.now) }
+    ensures found { IfOk result (λ r. IfSome r (λ v. Lays (value_laid v) nodes.now)) }
+{
+    match inner(alloc, nodes)? {
+        Some(Scoped::Value(value)) => Ok(Some(value)),
+        _ => Ok(None),
+    }
+}

@@ -1,0 +1,272 @@
+#![tactic(auto, using(crate::proofs::Agreeing::fit_rules))]
+
+ghost use Rattle.std.specs.Prelude.{◌≡◌, MatchOption, None, Some};
+ghost use Rattle.occ_types.specs.View.{as_array as array_in, as_primitive as primitive_without_name, fields_in, is_unknown as unknown};
+ghost use Rattle.occ_types.specs.Fits.{alike as same_but_names, counts_fit, field_alike as field_same_but_names, fields_alike as fields_same_but_names, is_data as holds_data, field_fits as field_agrees, fields_fit as fields_agree, fits as agree, item_fits as item_agrees, items_fit as items_agree, protocol_fits as protocol_agrees, tag_fits as tag_agrees, tags_fit as tags_agree, unnamed as without_name};
+
+use super::{Field, Item, OccType, Primitive, Protocol, Tag};
+use occ_base::Shared;
+
+/// The type under the names of a type: itself, if it has none.
+pub fn unnamed(of: &OccType) -> &OccType
+    ensures { result.now ≡ without_name of.now }
+{
+    match of {
+        OccType::Named(_, inner) => unnamed(inner.get()),
+        _ => of,
+    }
+}
+
+/// Whether two types are one, but for numbers of components that are not known.
+#[cycle(fits)]
+pub fn fits(a: &OccType, b: &OccType) -> bool
+    ensures { result ≡ agree a.now b.now }
+{
+    match a {
+        OccType::Primitive(x) => match b {
+            OccType::Primitive(y) => x == y,
+            _ => false,
+        },
+        OccType::Array(n, inner) => match b {
+            OccType::Array(m, other) => count_fits(*n, *m) && fits(inner.get(), other.get()),
+            _ => false,
+        },
+        OccType::Record(packing, fields) => match b {
+            OccType::Record(other, others) => packing == other
+                && fields_fit(fields.as_slice(), others.as_slice()),
+            _ => false,
+        },
+        OccType::Named(name, inner) => match b {
+            OccType::Named(other, defined) => name == other && fits(inner.get(), defined.get()),
+            _ => false,
+        },
+        OccType::Channel(carried) => match b {
+            OccType::Channel(other) => protocol_fits(carried.get(), other.get()),
+            _ => false,
+        },
+        OccType::Timer => matches!(b, OccType::Timer),
+        OccType::Unknown => matches!(b, OccType::Unknown),
+    }
+}
+
+#[cycle(fits)]
+fn protocol_fits(a: &Protocol, b: &Protocol) -> bool
+    ensures { result ≡ protocol_agrees a.now b.now }
+{
+    match a {
+        Protocol::Any => matches!(b, Protocol::Any),
+        Protocol::Sequence(items) => match b {
+            Protocol::Sequence(others) => items_fit(items.as_slice(), others.as_slice()),
+            _ => false,
+        },
+        Protocol::Variant(tags) => match b {
+            Protocol::Variant(others) => tags_fit(tags.as_slice(), others.as_slice()),
+            _ => false,
+        },
+        Protocol::Defined(name, inner) => match b {
+            Protocol::Defined(other, defined) => name == other
+                && protocol_fits(inner.get(), defined.get()),
+            _ => false,
+        },
+    }
+}
+
+#[cycle(fits)]
+fn item_fits(a: &Item, b: &Item) -> bool
+    ensures { result ≡ item_agrees a.now b.now }
+{
+    match a {
+        Item::Value(of) => match b {
+            Item::Value(other) => fits(of.get(), other.get()),
+            _ => false,
+        },
+        Item::Counted(count, of) => match b {
+            Item::Counted(other, values) => count == other && fits(of.get(), values.get()),
+            _ => false,
+        },
+    }
+}
+
+#[cycle(fits)]
+fn field_fits(a: &Field, b: &Field) -> bool
+    ensures { result ≡ field_agrees a.now b.now }
+{
+    a.name == b.name && fits(a.of.get(), b.of.get())
+}
+
+#[cycle(fits)]
+fn tag_fits(a: &Tag, b: &Tag) -> bool
+    ensures { result ≡ tag_agrees a.now b.now }
+{
+    a.name == b.name && items_fit(a.items.as_slice(), b.items.as_slice())
+}
+
+#[cycle(fits)]
+fn fields_fit(a: &[Field], b: &[Field]) -> bool
+    ensures { result ≡ fields_agree a.now b.now }
+{
+    let mut others = b;
+    for field in a {
+        let Some((other, rest)) = others.split_first() else {
+            return false;
+        };
+        if !field_fits(field, other) {
+            return false;
+        }
+        others = rest;
+    }
+    others.is_empty()
+}
+
+#[cycle(fits)]
+fn items_fit(a: &[Item], b: &[Item]) -> bool
+    ensures { result ≡ items_agree a.now b.now }
+{
+    let mut others = b;
+    for item in a {
+        let Some((other, rest)) = others.split_first() else {
+            return false;
+        };
+        if !item_fits(item, other) {
+            return false;
+        }
+        others = rest;
+    }
+    others.is_empty()
+}
+
+#[cycle(fits)]
+fn tags_fit(a: &[Tag], b: &[Tag]) -> bool
+    ensures { result ≡ tags_agree a.now b.now }
+{
+    let mut others = b;
+    for tag in a {
+        let Some((other, rest)) = others.split_first() else {
+            return false;
+        };
+        if !tag_fits(tag, other) {
+            return false;
+        }
+        others = rest;
+    }
+    others.is_empty()
+}
+
+/// Whether two types are one when each name of a type is dropped, at any depth. No channel and no timer is in them, and
+/// fields of unknown type are alike.
+#[cycle(alike)]
+pub fn alike(a: &OccType, b: &OccType) -> bool
+    ensures { result ≡ same_but_names a.now b.now }
+{
+    match a {
+        OccType::Named(_, inner) => alike(inner.get(), b),
+        OccType::Primitive(x) => match unnamed(b) {
+            OccType::Primitive(y) => x == y,
+            _ => false,
+        },
+        OccType::Array(n, inner) => match unnamed(b) {
+            OccType::Array(m, other) => count_fits(*n, *m) && alike(inner.get(), other.get()),
+            _ => false,
+        },
+        OccType::Record(packing, fields) => match unnamed(b) {
+            OccType::Record(other, others) => {
+                packing == other && fields_alike(fields.as_slice(), others.as_slice())
+            }
+            _ => false,
+        },
+        OccType::Unknown => is_unknown(unnamed(b)),
+        OccType::Channel(_) | OccType::Timer => false,
+    }
+}
+
+#[cycle(alike)]
+fn field_alike(a: &Field, b: &Field) -> bool
+    ensures { result ≡ field_same_but_names a.now b.now }
+{
+    a.name == b.name && alike(a.of.get(), b.of.get())
+}
+
+#[cycle(alike)]
+fn fields_alike(a: &[Field], b: &[Field]) -> bool
+    ensures { result ≡ fields_same_but_names a.now b.now }
+{
+    let mut others = b;
+    for field in a {
+        let Some((other, rest)) = others.split_first() else {
+            return false;
+        };
+        if !field_alike(field, other) {
+            return false;
+        }
+        others = rest;
+    }
+    others.is_empty()
+}
+
+/// Whether a type is no channel, no timer and no array of them.
+pub fn is_data(of: &OccType) -> bool
+    ensures { result ≡ holds_data of.now }
+{
+    match of {
+        OccType::Array(_, inner) => is_data(inner.get()),
+        OccType::Channel(_) | OccType::Timer => false,
+        OccType::Primitive(_)
+        | OccType::Record(_, _)
+        | OccType::Named(_, _)
+        | OccType::Unknown => true,
+    }
+}
+
+/// Whether two numbers of components are one, or one is not known.
+fn count_fits(a: Option<u32>, b: Option<u32>) -> bool
+    ensures { result ≡ counts_fit a b }
+{
+    match (a, b) {
+        (Some(m), Some(n)) => m == n,
+        _ => true,
+    }
+}
+
+/// The primitive type that a type is, if it is one without a name.
+pub fn as_primitive(of: &OccType) -> Option<Primitive>
+    ensures { result ≡ primitive_without_name of.now }
+{
+    match of {
+        OccType::Primitive(primitive) => Some(*primitive),
+        _ => None,
+    }
+}
+
+/// The primitive type that a type is under its names, if it is one.
+pub fn base_of(of: &OccType) -> Option<Primitive>
+    ensures { result ≡ primitive_without_name (without_name of.now) }
+{
+    as_primitive(unnamed(of))
+}
+
+/// The number of components of an array without a name, if it is known, and their type.
+pub fn array_of(of: &OccType) -> Option<(Option<u32>, &Shared<OccType>)>
+    ensures { MatchOption result (array_in of.now ≡ None) (λ parts. array_in of.now ≡ Some (parts.0, parts.1.now)) }
+{
+    match of {
+        OccType::Array(count, inner) => Some((*count, inner)),
+        _ => None,
+    }
+}
+
+/// The fields of a record without a name.
+pub fn fields_of(of: &OccType) -> Option<&[Field]>
+    ensures { MatchOption result (fields_in of.now ≡ None) (λ fields. fields_in of.now ≡ Some fields.now) }
+{
+    match of {
+        OccType::Record(_, fields) => Some(fields.as_slice()),
+        _ => None,
+    }
+}
+
+/// Whether the type is that of a field whose line has a fault.
+pub fn is_unknown(of: &OccType) -> bool
+    ensures { result ≡ unknown of.now }
+{
+    matches!(of, OccType::Unknown)
+}
