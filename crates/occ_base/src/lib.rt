@@ -8,8 +8,6 @@ mod file_name;
 mod name;
 mod rows;
 mod shared;
-#[cfg(test)]
-mod tests;
 
 pub use code::{Code, Grade};
 pub use diag::{Diag, add_error_if, write_diag};

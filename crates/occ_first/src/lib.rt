@@ -11,8 +11,6 @@ mod order;
 mod parallel;
 mod rows;
 mod scope;
-#[cfg(test)]
-mod tests;
 mod unit;
 mod view;
 

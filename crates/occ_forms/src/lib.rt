@@ -18,8 +18,6 @@ mod preparation;
 mod rows;
 mod source;
 mod specifying;
-#[cfg(test)]
-mod tests;
 mod tree;
 
 pub use laws::one_form_law;

@@ -12,8 +12,6 @@ mod reader;
 mod rows;
 mod scan;
 mod statement;
-#[cfg(test)]
-mod tests;
 mod text;
 mod token;
 mod tokens;

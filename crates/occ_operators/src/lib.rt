@@ -7,8 +7,6 @@ mod outcome;
 mod part;
 pub mod rows;
 mod settle;
-#[cfg(test)]
-mod tests;
 mod want;
 
 pub use kind::{Fault, Free, Kind, Known, Outcome};

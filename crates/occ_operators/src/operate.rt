@@ -9,9 +9,7 @@ use super::kind::{Fault, Free, Kind, Known, Outcome};
 use super::outcome::{Running, apply, shift};
 use super::settle::{int, landed, number, settled, tell};
 use occ_base::{Code, Items, Shared};
-use occ_types::{
-    Monadic, OccType, Operator, Primitive, Value, as_primitive, base_of, fits,
-};
+use occ_types::{Monadic, OccType, Operator, Primitive, Value, as_primitive, base_of, fits};
 use std::alloc::{AllocError, Global};
 
 /// What an operator asks of its operands, and which type it gives.
@@ -76,11 +74,7 @@ fn allows(class: Class, base: Option<Primitive>) -> bool
 }
 
 /// The type of what an operator gives on operands of a type.
-fn given(
-    alloc: Global,
-    class: Class,
-    of: &Shared<OccType>,
-) -> Result<Shared<OccType>, AllocError>
+fn given(alloc: Global, class: Class, of: &Shared<OccType>) -> Result<Shared<OccType>, AllocError>
     ensures { IfOk result (λ given. given ≡ giving class of.now) }
 {
     match class {

@@ -12,8 +12,6 @@ mod protocol;
 mod scoped;
 mod selection;
 mod spec;
-#[cfg(test)]
-mod tests;
 mod tree;
 mod unit;
 

@@ -10,8 +10,6 @@ mod making;
 mod names;
 mod reads;
 mod rows;
-#[cfg(test)]
-mod tests;
 
 pub use expanded::{Expanded, ExpandedBody, ExpandedLine};
 pub use expansion::{ExpandFault, expand, expand_over};

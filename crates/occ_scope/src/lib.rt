@@ -3,7 +3,5 @@
 
 pub mod laws;
 mod scopes;
-#[cfg(test)]
-mod tests;
 
 pub use scopes::{Scopes, SpecId};

@@ -12,8 +12,6 @@ mod rows;
 mod siblings;
 mod sort;
 mod stack;
-#[cfg(test)]
-mod tests;
 mod tree;
 mod unit;
 

@@ -210,10 +210,8 @@ pub fn is_data(of: &OccType) -> bool
     match of {
         OccType::Array(_, inner) => is_data(inner.get()),
         OccType::Channel(_) | OccType::Timer => false,
-        OccType::Primitive(_)
-        | OccType::Record(_, _)
-        | OccType::Named(_, _)
-        | OccType::Unknown => true,
+        OccType::Primitive(_) | OccType::Record(_, _) | OccType::Named(_, _) | OccType::Unknown =>
+            true,
     }
 }
 

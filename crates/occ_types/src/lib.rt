@@ -12,8 +12,6 @@ mod range;
 pub mod rows;
 mod same;
 mod size;
-#[cfg(test)]
-mod tests;
 pub mod type_rows;
 mod types;
 mod value;

@@ -59,7 +59,8 @@ fn same_item(a: &Item, b: &Item) -> bool
 {
     match (a, b) {
         (Item::Value(x), Item::Value(y)) => same_type(x.get(), y.get()),
-        (Item::Counted(count, x), Item::Counted(other, y)) => count == other && same_type(x.get(), y.get()),
+        (Item::Counted(count, x), Item::Counted(other, y)) => count == other
+            && same_type(x.get(), y.get()),
         _ => false,
     }
 }

@@ -1,6 +1,6 @@
-use super::{Spec, unit_specs};
 use occ_base::{FileName, Items};
 use occ_forms::{LineBody, SourceLine, prepare};
+use occ_process::{Spec, unit_specs};
 use occ_project::{ExpandedBody, ExpandedLine};
 use occ_tree::{Unit, shape};
 use std::alloc::Global;

@@ -1,5 +1,5 @@
-use super::Scopes;
 use occ_base::Name;
+use occ_scope::Scopes;
 use std::test::Fail;
 
 #[test]

@@ -1,10 +1,10 @@
-use super::{
+use occ_base::{Items, Name, Shared};
+use occ_types::{
     ConstFault, Effect, Export, ExportKind, Field, Formal, Interface, Interval, Item, Mark,
     Measure, Monadic, OccType, Operator, Packing, Passing, Places, Primitive, Protocol, Selector,
     Tag, Use, UseKind, Value, bytes_of, convert, fold, fold_one, measure_of, measure_protocol,
     same_interface, same_protocol, same_type,
 };
-use occ_base::{Items, Name, Shared};
 use std::alloc::{AllocError, Global};
 use std::test::Fail;
 

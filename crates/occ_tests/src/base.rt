@@ -1,4 +1,4 @@
-use super::{Code, Diag, FileName, Grade, Name, NameFault, write_diag};
+use occ_base::{Code, Diag, FileName, Grade, Name, NameFault, write_diag};
 use std::alloc::Global;
 use std::test::Fail;
 

@@ -1,5 +1,5 @@
-use crate::{Body, TextFault, Token, logical};
 use occ_base::FileName;
+use occ_lines::{Body, TextFault, Token, logical};
 use std::alloc::Global;
 use std::fmt::Write;
 use std::test::Fail;

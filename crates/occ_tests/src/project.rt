@@ -1,6 +1,6 @@
-use super::{ExpandFault, Expanded, Read, Reads, expand, expand_over};
 use occ_base::{FileName, Items, Shared, write_diag};
 use occ_forms::{Source, prepare};
+use occ_project::{ExpandFault, Expanded, Read, Reads, expand, expand_over};
 use std::alloc::{AllocError, Global};
 use std::test::Fail;
 

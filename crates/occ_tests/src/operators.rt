@@ -1,8 +1,8 @@
-use super::{
+use occ_base::{Code, Items, Name, Shared};
+use occ_operators::{
     Fault, Free, Kind, Known, applied, converted, field, operated, settled, shifted, subscripted,
     wanted,
 };
-use occ_base::{Code, Items, Name, Shared};
 use occ_types::{Field, Monadic, OccType, Operator, Primitive, Value};
 use std::alloc::{AllocError, Global};
 use std::test::Fail;
@@ -57,10 +57,7 @@ fn settles(rt: HostRuntime) -> Result<(), Fail> {
     let alloc = rt.alloc();
     let mut faults = Items::new(alloc);
     let byte = of(alloc, Primitive::Byte)?;
-    let named = OccType::Named(
-        Name::from_slice(alloc, b"N")?,
-        of(alloc, Primitive::Int16)?,
-    );
+    let named = OccType::Named(Name::from_slice(alloc, b"N")?, of(alloc, Primitive::Int16)?);
     let named = Shared::new(alloc, named)?;
     let small = settled(alloc, &byte, &literal(255), &mut faults)?;
     assert_eq!(rt; value(&small), Some(Value::Byte(255)));
@@ -85,7 +82,13 @@ fn operates(rt: HostRuntime) -> Result<(), Fail> {
     let less = pair(alloc, literal(1), literal(2))?;
     let less = operated(alloc, Operator::Less, less.as_slice(), &mut faults)?;
     assert_eq!(rt; value(&less), Some(Value::Bool(true)));
-    let shift = shifted(alloc, Operator::ShiftLeft, &literal(1), &literal(8), &mut faults)?;
+    let shift = shifted(
+        alloc,
+        Operator::ShiftLeft,
+        &literal(1),
+        &literal(8),
+        &mut faults,
+    )?;
     let byte = of(alloc, Primitive::Byte)?;
     let shift = settled(alloc, &byte, &shift, &mut faults)?;
     assert_eq!(rt; value(&shift), Some(Value::Byte(0)));

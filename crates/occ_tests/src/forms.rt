@@ -1,8 +1,8 @@
-use super::{
+use occ_base::Code;
+use occ_forms::{
     Action, Construct, Detail, Form, Guarded, Input, InputItem, Kind, LineBody, OutputItem, Part,
     SourceLine, prepare,
 };
-use occ_base::Code;
 use occ_lines::TextFault;
 use occ_specifications::Specified;
 use std::test::Fail;

@@ -1,5 +1,5 @@
-use super::diagnostics;
 use occ_base::{FileName, Shared, write_diag};
+use occ_first::diagnostics;
 use occ_forms::prepare;
 use std::alloc::Global;
 use std::test::Fail;

@@ -1,7 +1,7 @@
-use super::{ShapeFault, shape, shape_faults};
 use occ_base::{FileName, Items, Shared, write_diag};
 use occ_forms::{Form, LineBody, SourceLine, prepare};
 use occ_project::{ExpandedBody, ExpandedLine};
+use occ_tree::{ShapeFault, shape, shape_faults};
 use std::alloc::Global;
 use std::test::Fail;
 
