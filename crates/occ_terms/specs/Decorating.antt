@@ -1,0 +1,53 @@
+-- Tables, characters and strings with their type behind them.
+use Rattle.std.specs.Prelude.{ℕ, ◌==◌, Bool, true, Option, Some, None, List, [], ◌∷◌, length, map, if◌then◌else◌}
+use Rattle.occ_base.specs.declared.code.Code.TheVariants as code
+use Rattle.occ_types.specs.Fits.{alike, unnamed}
+use Rattle.occ_types.specs.View.{as_array, fields_in, is_unknown}
+use Rattle.occ_types.specs.declared.types.Field.{Field}
+use Rattle.occ_types.specs.declared.types.OccType.{OccType}
+use Rattle.occ_types.specs.declared.value.Value.{Value}
+use Rattle.occ_operators.specs.Settling.{Told, fault_of, known, silent}
+use Rattle.occ_terms.specs.Terms.{Judged, alone, under, with_items}
+
+-- ---- a character or a string, which is of a type of its own, as a value of a type that is this one but for names
+abbrev pub decorated : OccType → OccType → Option Value → Told
+decorated to own value = if alike to own then record { faults = []; kind = known to value } else fault_of code.T2
+
+-- ---- tables
+
+abbrev pub is_counted : Option ℕ → ℕ → Bool
+is_counted None n = true
+is_counted (Some m) n = m == n
+
+abbrev pub whole : OccType → Told
+whole to = record { faults = []; kind = known to None }
+
+abbrev pub of_array : OccType → Option ℕ → OccType → List Judged → Told
+of_array to n of xs = with_items (map (under of) xs) (if is_counted n (length xs) then whole to else fault_of code.T2)
+
+-- of a field whose line has a fault it is not known what it holds
+abbrev pub field_value : Field → Judged → Told
+field_value f x = if is_unknown f.of then silent else x.under f.of
+
+abbrev pub field_values : List Field → List Judged → List Told
+field_values [] xs = []
+field_values (f ∷ fs) [] = []
+field_values (f ∷ fs) (x ∷ xs) = field_value f x ∷ field_values fs xs
+
+-- the values of the fields, in their order; where there are more or fewer, no type is wanted of them
+abbrev pub of_record : OccType → List Field → List Judged → Told
+of_record to fs xs =
+    if length fs == length xs then with_items (field_values fs xs) (whole to)
+    else with_items (map alone xs) (fault_of code.T4)
+
+abbrev pub of_fields : OccType → Option (List Field) → List Judged → Told
+of_fields to None xs = with_items (map alone xs) (fault_of code.T2)
+of_fields to (Some fs) xs = of_record to fs xs
+
+abbrev pub of_components : OccType → Option (Option ℕ × OccType) → List Judged → Told
+of_components to None xs = of_fields to (fields_in (unnamed to)) xs
+of_components to (Some parts) xs = of_array to parts.0 parts.1 xs
+
+-- a table of a type that is an array or a record under its names
+abbrev pub decorated_table : OccType → List Judged → Told
+decorated_table to xs = of_components to (as_array (unnamed to)) xs

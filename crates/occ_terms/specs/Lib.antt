@@ -1,0 +1,4 @@
+pub mod Terms
+pub mod Merging
+pub mod Extents
+pub mod Decorating

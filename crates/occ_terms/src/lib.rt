@@ -1,0 +1,11 @@
+//! Operands before a type is wanted of them, tables among them, and the types that they then take.
+#![tactic(auto)]
+
+mod extent;
+mod merge;
+mod table;
+mod term;
+
+pub use extent::arrayed;
+pub use table::{alone, under};
+pub use term::Term;
