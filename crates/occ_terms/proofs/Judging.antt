@@ -1,5 +1,5 @@
 -- What is told of an operand, form by form.
-use Rattle.std.proofs.Common.{◌≡◌, ◌∙◌, Option, List, [], ◌∷◌, map, refl, ap, sym}
+use Rattle.std.proofs.Common.{◌≡◌, ◌∙◌, Option, List, [], ◌∷◌, length, map, refl, ap, sym, arith}
 use Rattle.occ_operators.specs.declared.kind.Kind.{Kind}
 use Rattle.occ_terms.specs.declared.term.Term.{Term}
 use Rattle.occ_terms.specs.declared.term.Term.TheFolds.{fold-roll-Term}
@@ -19,4 +19,10 @@ judged_table xs =
     ap judged (sym (v.rolls-Table xs)) ∙ fold-roll-Term Judged term_step (Term-F.Table xs)
     ∙ ap (λ (js : List Judged). term_step (Term-F.Table js)) (all_judged xs)
 
+pub judged_length : (xs : List Term) → length (judged_all xs) ≡ length xs
+judged_length [] = refl
+judged_length (x ∷ xs) = omega (arith, judged_length xs)
+
 pub ruleset judging_rules = (judged_single, judged_table)
+
+pub ruleset counting_rules = (judged_single, judged_table, judged_length)

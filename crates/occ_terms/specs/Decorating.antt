@@ -1,11 +1,13 @@
 -- Tables, characters and strings with their type behind them.
 use Rattle.std.specs.Prelude.{ℕ, ◌==◌, Bool, true, Option, Some, None, List, [], ◌∷◌, length, map, if◌then◌else◌}
+use Rattle.occ_base.specs.declared.code.Code.{Code}
 use Rattle.occ_base.specs.declared.code.Code.TheVariants as code
 use Rattle.occ_types.specs.Fits.{alike, unnamed}
 use Rattle.occ_types.specs.View.{as_array, fields_in, is_unknown}
 use Rattle.occ_types.specs.declared.types.Field.{Field}
 use Rattle.occ_types.specs.declared.types.OccType.{OccType}
 use Rattle.occ_types.specs.declared.value.Value.{Value}
+use Rattle.occ_operators.specs.Operators.{kinds}
 use Rattle.occ_operators.specs.Settling.{Told, fault_of, known, silent}
 use Rattle.occ_terms.specs.Terms.{Judged, alone, under, with_items}
 
@@ -22,8 +24,11 @@ is_counted (Some m) n = m == n
 abbrev pub whole : OccType → Told
 whole to = record { faults = []; kind = known to None }
 
+abbrev pub of_count : OccType → Option ℕ → ℕ → Told
+of_count to n items = if is_counted n items then whole to else fault_of code.T2
+
 abbrev pub of_array : OccType → Option ℕ → OccType → List Judged → Told
-of_array to n of xs = with_items (map (under of) xs) (if is_counted n (length xs) then whole to else fault_of code.T2)
+of_array to n of xs = let ys = map (under of) xs in with_items ys (of_count to n (length (kinds ys)))
 
 -- of a field whose line has a fault it is not known what it holds
 abbrev pub field_value : Field → Judged → Told
@@ -34,14 +39,20 @@ field_values [] xs = []
 field_values (f ∷ fs) [] = []
 field_values (f ∷ fs) (x ∷ xs) = field_value f x ∷ field_values fs xs
 
+-- no type is wanted of the items of a table that has this fault
+abbrev pub misused : Code → List Judged → Told
+misused c xs = with_items (map alone xs) (fault_of c)
+
 -- the values of the fields, in their order; where there are more or fewer, no type is wanted of them
+abbrev pub of_values : OccType → List Field → List Judged → Told
+of_values to fs xs = with_items (field_values fs xs) (whole to)
+
 abbrev pub of_record : OccType → List Field → List Judged → Told
 of_record to fs xs =
-    if length fs == length xs then with_items (field_values fs xs) (whole to)
-    else with_items (map alone xs) (fault_of code.T4)
+    if length fs == length xs then of_values to fs xs else misused code.T4 xs
 
 abbrev pub of_fields : OccType → Option (List Field) → List Judged → Told
-of_fields to None xs = with_items (map alone xs) (fault_of code.T2)
+of_fields to None xs = misused code.T2 xs
 of_fields to (Some fs) xs = of_record to fs xs
 
 abbrev pub of_components : OccType → Option (Option ℕ × OccType) → List Judged → Told

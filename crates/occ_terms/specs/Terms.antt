@@ -43,9 +43,13 @@ abbrev pub table_type : ℕ → Option OccType → Told
 table_type n None = fault_of code.T2
 table_type n (Some of) = if nat_le n 4294967295 then arrayed (Some n) of else fault_of code.T9
 
--- what is told of items, and then, if none of them is faulty, of the whole
+-- nothing more is told of a whole with a faulty item
+abbrev pub unless_faulty : List Kind → Told → Told
+unless_faulty ks whole = if list_any is_faulty ks then silent else whole
+
+-- what is told of items, and then of the whole
 abbrev pub with_items : List Told → Told → Told
-with_items xs whole = let y = if list_any is_faulty (kinds xs) then silent else whole in record { faults = all_faults xs ++ y.faults; kind = y.kind }
+with_items xs whole = let y = unless_faulty (kinds xs) whole in record { faults = all_faults xs ++ y.faults; kind = y.kind }
 
 -- items of which this type was wanted must agree with one another
 abbrev pub joined : OccType → List Told → Told
