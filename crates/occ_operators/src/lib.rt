@@ -12,5 +12,5 @@ mod want;
 pub use kind::{Fault, Free, Kind, Known, Outcome};
 pub use operate::{applied, operated, shifted};
 pub use part::{field, subscripted};
-pub use settle::{int, known, settled, tell};
+pub use settle::{int, known, landed, number, settled, tell};
 pub use want::{converted, wanted};

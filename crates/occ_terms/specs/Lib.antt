@@ -2,3 +2,5 @@ pub mod Terms
 pub mod Merging
 pub mod Extents
 pub mod Decorating
+pub mod Measuring
+pub mod Segments

@@ -3,11 +3,15 @@
 
 mod decorate;
 mod extent;
+mod measure;
 mod merge;
+mod selection;
 mod table;
 mod term;
 
 pub use decorate::{decorated, decorated_table};
 pub use extent::arrayed;
+pub use measure::{Limit, most, sized};
+pub use selection::{Bounds, segment};
 pub use table::{alone, under};
 pub use term::Term;
