@@ -18,6 +18,8 @@ mod project;
 #[cfg(test)]
 mod scope;
 #[cfg(test)]
+mod terms;
+#[cfg(test)]
 mod tree;
 #[cfg(test)]
 mod types;

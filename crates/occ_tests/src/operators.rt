@@ -7,12 +7,12 @@ use occ_types::{Field, Monadic, OccType, Operator, Primitive, Value};
 use std::alloc::{AllocError, Global};
 use std::test::Fail;
 
-fn of(alloc: Global, primitive: Primitive) -> Result<Shared<OccType>, AllocError> {
+pub(crate) fn of(alloc: Global, primitive: Primitive) -> Result<Shared<OccType>, AllocError> {
     Shared::new(alloc, OccType::Primitive(primitive))
 }
 
 /// A variable of a primitive type.
-fn variable(alloc: Global, primitive: Primitive) -> Result<Kind, AllocError> {
+pub(crate) fn variable(alloc: Global, primitive: Primitive) -> Result<Kind, AllocError> {
     Ok(Kind::Known(Known {
         of: of(alloc, primitive)?,
         value: None,
@@ -20,7 +20,7 @@ fn variable(alloc: Global, primitive: Primitive) -> Result<Kind, AllocError> {
 }
 
 /// A literal in decimal digits.
-fn literal(n: i128) -> Kind {
+pub(crate) fn literal(n: i128) -> Kind {
     Kind::Free(Free::decimal(n))
 }
 
@@ -33,19 +33,19 @@ fn pair(alloc: Global, a: Kind, b: Kind) -> Result<Items<Kind>, AllocError> {
 }
 
 /// The value, where the operand is known and constant.
-fn value(kind: &Kind) -> Option<Value> {
+pub(crate) fn value(kind: &Kind) -> Option<Value> {
     match kind {
         Kind::Known(known) => known.value,
         _ => None,
     }
 }
 
-fn is_faulty(kind: &Kind) -> bool {
+pub(crate) fn is_faulty(kind: &Kind) -> bool {
     matches!(kind, Kind::Faulty)
 }
 
 /// Whether the one fault has this code.
-fn is_told(faults: &Items<Fault>, code: Code) -> bool {
+pub(crate) fn is_told(faults: &Items<Fault>, code: Code) -> bool {
     match faults.as_slice().first() {
         Some(fault) => fault.code == code && faults.len() == 1,
         None => false,

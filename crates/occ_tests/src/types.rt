@@ -2,8 +2,9 @@ use occ_base::{Items, Name, Shared};
 use occ_types::{
     ConstFault, Effect, Export, ExportKind, Field, Formal, Interface, Interval, Item, Mark,
     Measure, Monadic, OccType, Operator, Packing, Passing, Places, Primitive, Protocol, Selector,
-    Tag, Use, UseKind, Value, bytes_of, convert, fold, fold_one, measure_of, measure_protocol,
-    same_interface, same_protocol, same_type,
+    Tag, Use, UseKind, Value, alike, array_of, as_primitive, base_of, bytes_of, convert, fields_of,
+    fits, fold, fold_one, is_data, is_unknown, measure_of, measure_protocol, same_interface,
+    same_protocol, same_type, unnamed, value_of_number, value_of_pattern,
 };
 use std::alloc::{AllocError, Global};
 use std::test::Fail;
@@ -250,5 +251,69 @@ fn tells_interfaces_apart(rt: HostRuntime) -> Result<(), Fail> {
     assert!(rt; !same_interface(&first, &interface(alloc, "p", &[2, 1, 0], Effect::None)?));
     assert!(rt; !same_interface(&first, &interface(alloc, "q", &[0, 1], Effect::None)?));
     assert!(rt; !same_interface(&first, &interface(alloc, "p", &[0, 1], Effect::Some)?));
+    Ok(())
+}
+
+#[test]
+fn tells_types_that_agree(rt: HostRuntime) -> Result<(), Fail> {
+    let alloc = rt.alloc();
+    let open = array(alloc, None, int())?;
+    let four = array(alloc, Some(4), int())?;
+    let three = array(alloc, Some(3), int())?;
+    assert!(rt; fits(&open, &four) && fits(&four, &open));
+    assert!(rt; !fits(&four, &three));
+    let vector = named(alloc, "V", array(alloc, Some(3), int())?)?;
+    assert!(rt; !fits(&three, &vector));
+    assert!(rt; alike(&three, &vector) && alike(&vector, &three));
+    assert!(rt; !alike(&vector, &four));
+    let to_channel = channel(alloc, counted(alloc)?)?;
+    let to_other = channel(alloc, counted(alloc)?)?;
+    assert!(rt; fits(&to_channel, &to_other));
+    assert!(rt; !alike(&to_channel, &to_other));
+    Ok(())
+}
+
+#[test]
+fn looks_under_names(rt: HostRuntime) -> Result<(), Fail> {
+    let alloc = rt.alloc();
+    let number = named(alloc, "N", int())?;
+    assert_eq!(rt; as_primitive(&number), None);
+    assert_eq!(rt; base_of(&number), Some(Primitive::Int));
+    assert_eq!(rt; as_primitive(unnamed(&number)), Some(Primitive::Int));
+    let four = array(alloc, Some(4), int())?;
+    let Some((count, of)) = array_of(&four) else {
+        panic!(rt; "no array");
+    };
+    assert_eq!(rt; count, Some(4));
+    assert_eq!(rt; as_primitive(of.get()), Some(Primitive::Int));
+    assert!(rt; array_of(&number).is_none());
+    let pair = record(alloc, "a", "b")?;
+    let Some(fields) = fields_of(&pair) else {
+        panic!(rt; "no record");
+    };
+    assert_eq!(rt; fields.len(), 2);
+    assert!(rt; fields_of(&four).is_none());
+    assert!(rt; is_data(&pair));
+    assert!(rt; !is_data(&array(alloc, Some(2), OccType::Timer)?));
+    assert!(rt; is_unknown(&OccType::Unknown) && !is_unknown(&pair));
+    Ok(())
+}
+
+#[test]
+fn fits_literals_into_types(rt: HostRuntime) -> Result<(), Fail> {
+    assert_eq!(rt;
+        value_of_number(Primitive::Byte, 255),
+        Some(Value::Byte(255))
+    );
+    assert_eq!(rt; value_of_number(Primitive::Byte, 256), None);
+    assert_eq!(rt;
+        value_of_number(Primitive::Int16, -32_768),
+        Some(Value::Int16(-32_768))
+    );
+    assert_eq!(rt;
+        value_of_pattern(Primitive::Int16, 0xFFFF),
+        Some(Value::Int16(-1))
+    );
+    assert_eq!(rt; value_of_pattern(Primitive::Int16, 0x10000), None);
     Ok(())
 }

@@ -1,0 +1,29 @@
+-- Which specification a name has at a place: the nearest of those in scope there.
+use Rattle.std.specs.Prelude.{ℕ, ◌-◌, List, [], ◌∷◌, ◌++◌, Option, Some, None, length, take}
+use Rattle.std.specs.List.{slice_get}
+use Rattle.occ_scope.specs.Nearest.{nearest}
+use Rattle.occ_names.specs.declared.meaning.Meaning.{Meaning}
+use Rattle.occ_names.specs.declared.scope.Scope.{Scope}
+
+-- no specification at all
+abbrev pub nothing : Scope
+nothing = record { names = []; meanings = [] }
+
+-- with one specification more, which is nearer than the others
+abbrev pub entered : Scope → List ℕ → Meaning → Scope
+entered s name meaning = record { names = s.names ++ name ∷ []; meanings = s.meanings ++ meaning ∷ [] }
+
+abbrev pub but_last : {X : Type 0} → List X → List X
+but_last xs = take (length xs - 1) xs
+
+-- without the one that was entered last
+abbrev pub left : Scope → Scope
+left s = record { names = but_last s.names; meanings = but_last s.meanings }
+
+abbrev pub meaning_at : List Meaning → Option ℕ → Option Meaning
+meaning_at meanings None = None
+meaning_at meanings (Some place) = slice_get meanings place
+
+-- what a name stands for
+abbrev pub visible : Scope → List ℕ → Option Meaning
+visible s name = meaning_at s.meanings (nearest s.names name)

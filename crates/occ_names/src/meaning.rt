@@ -1,0 +1,44 @@
+use occ_base::{Items, Name, Shared};
+use occ_types::{OccType, Passing, Protocol, Value};
+
+/// Whether something may be written through a name.
+#[derive(Clone, Copy, Debug, PartialEq, Eq)]
+pub enum Access {
+    /// A variable, a channel, a timer, or a formal that is not `VAL`.
+    Variable,
+    /// A `VAL` name, a `VAL` formal, or the index of a replicator.
+    Value,
+}
+
+/// All of what an element may name.
+#[derive(Debug, Drop)]
+pub struct Whole {
+    pub of: Shared<OccType>,
+    pub access: Access,
+    /// Its value, where it is a constant.
+    pub value: Option<Value>,
+    /// The name that is told with faults: its own, or, of an abbreviation, that of the variable, channel or timer
+    /// which it abbreviates.
+    pub root: Name,
+}
+
+/// A formal, as a call sees it.
+#[derive(Debug, Drop)]
+pub struct Parameter {
+    pub of: Shared<OccType>,
+    pub passing: Passing,
+}
+
+/// What a name stands for.
+#[derive(Debug, Drop)]
+pub enum Meaning {
+    /// The line that specifies it has a fault: where it is used, nothing is told of it.
+    Faulty,
+    Type(Shared<OccType>),
+    Protocol(Shared<Protocol>),
+    /// A procedure with these formals.
+    Procedure(Items<Parameter>),
+    /// A function with these formals, and the types of its results.
+    Function(Items<Parameter>, Items<Shared<OccType>>),
+    Element(Whole),
+}
