@@ -1,1 +1,2 @@
 pub mod Visible
+pub mod Lookup

@@ -1,8 +1,10 @@
 //! What the names in scope stand for.
 #![tactic(auto)]
 
+mod lookup;
 mod meaning;
 mod scope;
 
+pub use lookup::{Carried, carries, data_type, element};
 pub use meaning::{Access, Meaning, Parameter, Whole};
 pub use scope::Scope;

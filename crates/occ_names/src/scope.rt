@@ -49,7 +49,7 @@ impl Scope {
     pub fn leave(&mut self)
         ensures { self.new ≡ left self.old }
     {
-
+        self.names.leave();
         self.meanings.pop();
     }
 }
