@@ -4,3 +4,4 @@ pub mod Extents
 pub mod Decorating
 pub mod Measuring
 pub mod Segments
+pub mod Dimensions

@@ -78,16 +78,16 @@ segment_within n of (bounds.For count) = for_count n of (bound (judged count))
 segment_within n of (bounds.FromFor base count) = from_for n of (bound (judged base)) (bound (judged count))
 
 -- what has no components has no segment; a faulty bound was told
-abbrev pub lone : Told → Told
-lone x = with_items (x ∷ []) (fault_of code.T2)
+abbrev pub no_part : Told → Told
+no_part x = with_items (x ∷ []) (fault_of code.T2)
 
-abbrev pub lone_pair : Told → Told → Told
-lone_pair x y = with_items (x ∷ y ∷ []) (fault_of code.T2)
+abbrev pub no_parts : Told → Told → Told
+no_parts x y = with_items (x ∷ y ∷ []) (fault_of code.T2)
 
 abbrev pub no_segment : Bounds → Told
-no_segment (bounds.From base) = lone (judged base).alone
-no_segment (bounds.For count) = lone (judged count).alone
-no_segment (bounds.FromFor base count) = lone_pair (judged base).alone (judged count).alone
+no_segment (bounds.From base) = no_part (bound (judged base))
+no_segment (bounds.For count) = no_part (bound (judged count))
+no_segment (bounds.FromFor base count) = no_parts (bound (judged base)) (bound (judged count))
 
 abbrev pub segment_in : Option (Option ℕ × OccType) → Bounds → Told
 segment_in None b = no_segment b

@@ -7,15 +7,17 @@ use Rattle.occ_types.specs.Fits.{is_data}
 use Rattle.occ_types.specs.View.{as_array}
 use Rattle.occ_types.specs.declared.types.OccType.{OccType}
 use Rattle.occ_operators.specs.Operators.{all_faults, is_faulty, kinds}
-use Rattle.occ_operators.specs.Settling.{Told, fault_of, int, known, settled, silent}
+use Rattle.occ_operators.specs.Settling.{Told, fault_of, int, known, nameless, settled, silent}
 use Rattle.occ_operators.specs.Wanting.{wanted}
+use Rattle.occ_operators.specs.declared.kind.Fault.{Fault}
 use Rattle.occ_operators.specs.declared.kind.Kind.{Kind}
 use Rattle.occ_operators.specs.declared.kind.Kind.TheVariants as k
 use Rattle.occ_terms.specs.Extents.{arrayed}
 use Rattle.occ_terms.specs.Merging.{merged}
-use Rattle.occ_terms.specs.declared.term.Term.{Term}
+use Rattle.occ_terms.specs.declared.term.Term.{Term, out-Term}
 use Rattle.occ_terms.specs.declared.term.Term.TheFolds.{fold-Term}
 use Rattle.occ_terms.specs.declared.term.Term.TheOpen.{Term-F}
+use Rattle.occ_terms.specs.declared.term.Term.TheVariants as v
 
 -- what is told first, and then of what is known
 abbrev pub and_then : Told → (Kind → Told) → Told
@@ -51,21 +53,27 @@ unless_faulty ks whole = if list_any is_faulty ks then silent else whole
 abbrev pub with_items : List Told → Told → Told
 with_items xs whole = let y = unless_faulty (kinds xs) whole in record { faults = all_faults xs ++ y.faults; kind = y.kind }
 
--- items of which this type was wanted must agree with one another
+-- the type of the first item; this one, if there is none
+abbrev pub first_type : OccType → List Kind → OccType
+first_type of [] = of
+first_type of (k.Faulty ∷ ks) = first_type of ks
+first_type of (k.Free f ∷ ks) = first_type of ks
+first_type of (k.Known x ∷ ks) = x.of
+
+-- settled items, of which this type was wanted, must agree with one another
+abbrev pub items_type : OccType → List Kind → Told
+items_type of ks = table_type (length ks) (merged_all (Some (first_type of ks)) ks)
+
 abbrev pub joined : OccType → List Told → Told
-joined of xs = with_items xs (table_type (length (kinds xs)) (merged_all (Some of) (kinds xs)))
+joined of xs = with_items xs (items_type of (kinds xs))
 
 -- ---- operands, tables among them
 
--- a channel, a timer or an array of them is no item of a table
-abbrev pub as_item : Kind → Told
-as_item k.Faulty = silent
-as_item (k.Free f) = silent
-as_item (k.Known x) = if is_data x.of then record { faults = []; kind = k.Known x } else fault_of code.T2
-
--- an operand: whether it is free, what is told of it where no type is wanted, and where one is
+-- an operand: whether it is free, whether something in it is faulty, what is told of it where no type is wanted, and
+-- where one is
 pub record Judged : Type 0 where
   pub is_free : Bool
+  pub is_faulty : Bool
   pub alone : Told
   pub under : OccType → Told
 
@@ -81,7 +89,7 @@ all_under of xs = joined of (map (under of) xs)
 -- the first item that is not free; if all are, an INT
 abbrev pub first_settled : List Judged → Told
 first_settled [] = record { faults = []; kind = known int None }
-first_settled (x ∷ xs) = if x.is_free then first_settled xs else and_then x.alone as_item
+first_settled (x ∷ xs) = if x.is_free then first_settled xs else x.alone
 
 -- the items take the type of this one, if it is not faulty
 abbrev pub after_first : List Judged → Kind → Told
@@ -101,9 +109,12 @@ table_of xs (Some parts) = all_under parts.1 xs
 abbrev pub table_under : List Judged → OccType → Told
 table_under xs of = and_then (table_of xs (as_array of)) (wanted of)
 
+abbrev pub has_fault : Judged → Bool
+has_fault x = x.is_faulty
+
 abbrev pub term_step : Term-F Judged → Judged
-term_step (Term-F.Single k) = record { is_free = is_free_kind k; alone = settled int k; under = λ of. wanted of k }
-term_step (Term-F.Table xs) = record { is_free = false; alone = table_alone xs; under = table_under xs }
+term_step (Term-F.Single k) = record { is_free = is_free_kind k; is_faulty = is_faulty k; alone = settled int k; under = λ of. wanted of k }
+term_step (Term-F.Table xs) = record { is_free = false; is_faulty = list_any has_fault xs; alone = table_alone xs; under = table_under xs }
 
 abbrev pub judged : Term → Judged
 judged = fold-Term Judged term_step
@@ -111,3 +122,25 @@ judged = fold-Term Judged term_step
 abbrev pub judged_all : List Term → List Judged
 judged_all [] = []
 judged_all (x ∷ xs) = judged x ∷ judged_all xs
+
+-- ---- an operand as an item of a table: no channel, no timer and no array of them
+
+abbrev pub is_no_data : Kind → Bool
+is_no_data k.Faulty = false
+is_no_data (k.Free f) = false
+is_no_data (k.Known x) = not (is_data x.of)
+
+abbrev pub no_item_layer : Term-F Term → Bool
+no_item_layer (Term-F.Single k) = is_no_data k
+no_item_layer (Term-F.Table xs) = false
+
+unfoldable pub is_no_item : Term → Bool
+is_no_item x = no_item_layer (out-Term x)
+
+-- the faults of an item, and what it then is
+pub record Item : Type 0 where
+  pub faults : List Fault
+  pub term : Term
+
+abbrev pub item : Term → Item
+item x = if is_no_item x then record { faults = nameless code.T2 ∷ []; term = v.Single k.Faulty } else record { faults = []; term = x }

@@ -1,12 +1,13 @@
 #![tactic(auto, using(crate::proofs::Judging::counting_rules))]
 
-ghost use Rattle.std.specs.Prelude.{◌≡◌, ◌++◌, IfOk, OnOk, length, map};
+ghost use Rattle.std.specs.Prelude.{◌≡◌, ◌++◌, IfOk, OnOk, Some, length, map};
 ghost use Rattle.occ_operators.specs.Operators.{all_faults, kinds as kinds_of};
-ghost use Rattle.occ_terms.specs.Decorating.{decorated as told_decorated, decorated_table as told_decorated_table, field_value as told_field_value, field_values as told_field_values, is_counted as counted, misused as told_misused, of_array as told_of_array, of_count as told_of_count, of_fields as told_of_fields, of_record as told_of_record, of_values as told_of_values};
+ghost use Rattle.occ_terms.specs.Decorating.{decorated as told_decorated, decorated_table as told_decorated_table, field_value as told_field_value, field_values as told_field_values, misused as told_misused, of_another_number as told_of_another_number, of_array as told_of_array, of_count as told_of_count, of_fields as told_of_fields, of_record as told_of_record, of_values as told_of_values};
 ghost use Rattle.occ_terms.specs.Terms.{alone as told_alone, judged, judged_all};
-ghost use Rattle.occ_types.specs.Fits.{unnamed as without_name};
+ghost use Rattle.occ_types.specs.Fits.{counts_fit, unnamed as without_name};
 ghost use Rattle.occ_types.specs.View.{fields_in};
 
+use super::placing::{any_has_fault, has_fault};
 use super::table::{alone, any_faulty, each_under, under};
 use super::term::Term;
 use occ_base::{Code, Items, Shared};
@@ -33,7 +34,7 @@ pub fn decorated(
 
 /// Whether there are so many items, if it is known how many there have to be.
 fn is_counted(count: Option<u32>, items: usize) -> bool
-    ensures { result ≡ counted count items }
+    ensures { result ≡ counts_fit count (Some items) }
 {
     match count {
         Some(count) => count as usize == items,
@@ -87,10 +88,13 @@ fn field_value(
     ensures kind { IfOk result (λ kind. kind ≡ (told_field_value field.now (judged item.now)).kind) }
     ensures faults { OnOk result (faults.new ≡ faults.old ++ (told_field_value field.now (judged item.now)).faults) }
 {
-    if is_unknown(field.of.get()) {
+    if !is_unknown(field.of.get()) {
+        return under(alloc, item, &field.of, faults);
+    }
+    if has_fault(item) {
         return Ok(Kind::Faulty);
     }
-    under(alloc, item, &field.of, faults)
+    known(&field.of, None)
 }
 
 /// The values of the fields, in their order.
@@ -133,20 +137,31 @@ fn each_alone(
     Ok(kinds)
 }
 
-/// Items of which no type is wanted, in a table that has this fault.
-fn misused(
-    alloc: Global,
-    items: &[Term],
-    code: Code,
-    faults: &mut Items<Fault>,
-) -> Result<Kind, AllocError>
-    ensures kind { IfOk result (λ kind. kind ≡ (told_misused code (judged_all items.now)).kind) }
-    ensures faults { OnOk result (faults.new ≡ faults.old ++ (told_misused code (judged_all items.now)).faults) }
+/// A table of a type that is neither an array nor a record under its names.
+fn misused(alloc: Global, items: &[Term], faults: &mut Items<Fault>) -> Result<Kind, AllocError>
+    ensures kind { IfOk result (λ kind. kind ≡ (told_misused (judged_all items.now)).kind) }
+    ensures faults { OnOk result (faults.new ≡ faults.old ++ (told_misused (judged_all items.now)).faults) }
 {
     let kinds = each_alone(alloc, items, faults)?;
     if !any_faulty(kinds.as_slice()) {
-        tell(faults, code)?;
+        tell(faults, Code::T2)?;
     }
+    Ok(Kind::Faulty)
+}
+
+/// More or fewer values than a record has fields.
+fn of_another_number(
+    alloc: Global,
+    items: &[Term],
+    faults: &mut Items<Fault>,
+) -> Result<Kind, AllocError>
+    ensures kind { IfOk result (λ kind. kind ≡ (told_of_another_number (judged_all items.now)).kind) }
+    ensures faults { OnOk result (faults.new ≡ faults.old ++ (told_of_another_number (judged_all items.now)).faults) }
+{
+    if !any_has_fault(items) {
+        tell(faults, Code::T4)?;
+    }
+    each_alone(alloc, items, faults)?;
     Ok(Kind::Faulty)
 }
 
@@ -180,7 +195,7 @@ fn of_record(
     ensures faults { OnOk result (faults.new ≡ faults.old ++ (told_of_record to.now fields.now (judged_all items.now)).faults) }
 {
     if fields.len() != items.len() {
-        return misused(alloc, items, Code::T4, faults);
+        return of_another_number(alloc, items, faults);
     }
     of_values(alloc, items, to, fields, faults)
 }
@@ -197,7 +212,7 @@ fn of_fields(
 {
     match fields_of(unnamed(to.get())) {
         Some(fields) => of_record(alloc, items, to, fields, faults),
-        None => misused(alloc, items, Code::T2, faults),
+        None => misused(alloc, items, faults),
     }
 }
 

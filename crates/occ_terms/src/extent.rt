@@ -1,38 +1,50 @@
+#![tactic(auto, using(crate::proofs::Dimensions::dimension_rules))]
+
 ghost use Rattle.std.specs.Prelude.{◌≡◌, ◌++◌, IfOk, OnOk};
-ghost use Rattle.occ_terms.specs.Extents.{arrayed as array_told, has_too_many_bytes as too_many_bytes, is_over as over, is_too_large as too_large};
-ghost use Rattle.occ_types.specs.Measure.{above};
-ghost use Rattle.occ_types.specs.Size.{bytes_in};
+ghost use Rattle.occ_terms.specs.Extents.{arrayed as array_told, innermost as behind_dimensions, is_oversized as oversized, is_too_large as too_large, is_too_wide as too_wide};
+ghost use Rattle.occ_types.specs.Measure.{measure_of as measured};
 
 use occ_base::{Code, Items, Shared};
 use occ_operators::{Fault, Kind, known, tell};
-use occ_types::{Measure, OccType, bytes_of, measure_of};
+use occ_types::{OccType, has_bytes, is_oversized as has_too_many_bytes, measure_of};
 use std::alloc::{AllocError, Global};
 
-/// Whether a type of this measure has over 128 levels or over 4,096 types.
-fn is_over(measure: Measure) -> bool
-    ensures { result ≡ over measure }
+/// Whether a type, or one that it is an array of, has over 2,147,483,647 bytes.
+fn is_oversized(of: &OccType) -> bool
+    ensures { result ≡ oversized of.now }
 {
-    measure.levels > 128 || measure.types > 4096
-}
-
-/// Whether so many components have over 2,147,483,647 bytes, where both are known.
-fn has_too_many_bytes(count: Option<u32>, bytes: Option<u32>) -> bool
-    ensures { result ≡ too_many_bytes count bytes }
-{
-    match (count, bytes) {
-        (Some(count), Some(bytes)) => u64::from(count) * u64::from(bytes) > 2_147_483_647,
-        _ => false,
+    match of {
+        OccType::Array(_, inner) => has_too_many_bytes(of) || is_oversized(inner.get()),
+        _ => has_too_many_bytes(of),
     }
 }
 
-/// Whether an array of so many components of a type, which is itself not too large, is too large.
-fn is_too_large(count: Option<u32>, of: &OccType) -> bool
-    ensures { result ≡ too_large count of.now }
+/// The type behind all dimensions.
+fn innermost(of: &OccType) -> &OccType
+    ensures { result.now ≡ behind_dimensions of.now }
 {
-    has_too_many_bytes(count, bytes_of(of)) || is_over(measure_of(of).above())
+    match of {
+        OccType::Array(_, inner) => innermost(inner.get()),
+        _ => of,
+    }
 }
 
-/// An array of so many components as the type of an operand.
+/// Whether a type of this measure has over 128 levels or over 4,096 types.
+fn is_too_wide(of: &OccType) -> bool
+    ensures { result ≡ too_wide (measured of.now) }
+{
+    let measure = measure_of(of);
+    measure.levels > 128 || measure.types > 4096
+}
+
+/// Whether the type of an operand is too large.
+fn is_too_large(of: &OccType) -> bool
+    ensures { result ≡ too_large of.now }
+{
+    is_oversized(of) || has_bytes(innermost(of)) && is_too_wide(of)
+}
+
+/// An array of so many components of a data type, as the type of an operand: T9 is told where it is too large.
 pub fn arrayed(
     alloc: Global,
     count: Option<u32>,
@@ -42,10 +54,10 @@ pub fn arrayed(
     ensures kind { IfOk result (λ kind. kind ≡ (array_told count of.now).kind) }
     ensures faults { OnOk result (faults.new ≡ faults.old ++ (array_told count of.now).faults) }
 {
-    if is_too_large(count, of.get()) {
+    let array = Shared::new(alloc, OccType::Array(count, of.share()?))?;
+    if is_too_large(array.get()) {
         tell(faults, Code::T9)?;
         return Ok(Kind::Faulty);
     }
-    let array = Shared::new(alloc, OccType::Array(count, of.share()?))?;
     known(&array, None)
 }

@@ -2,16 +2,20 @@
 #![tactic(auto)]
 
 mod decorate;
+mod dimension;
 mod extent;
 mod measure;
 mod merge;
+mod placing;
 mod selection;
 mod table;
 mod term;
 
 pub use decorate::{decorated, decorated_table};
+pub use dimension::size;
 pub use extent::arrayed;
 pub use measure::{Limit, most, sized};
+pub use placing::{any_has_fault, has_fault, item};
 pub use selection::{Bounds, segment};
 pub use table::{alone, under};
 pub use term::Term;

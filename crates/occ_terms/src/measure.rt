@@ -30,11 +30,7 @@ fn size_outcome(count: Option<u32>) -> Outcome
 }
 
 /// `SIZE` of a settled operand.
-pub fn sized(
-    alloc: Global,
-    kind: &Kind,
-    faults: &mut Items<Fault>,
-) -> Result<Kind, AllocError>
+pub fn sized(alloc: Global, kind: &Kind, faults: &mut Items<Fault>) -> Result<Kind, AllocError>
     ensures kind { IfOk result (λ size. size ≡ (told_size kind.now).kind) }
     ensures faults { OnOk result (faults.new ≡ faults.old ++ (told_size kind.now).faults) }
 {

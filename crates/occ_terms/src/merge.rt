@@ -14,11 +14,7 @@ fn known_count(a: Option<u32>, b: Option<u32>) -> Option<u32>
 }
 
 /// The first type, with the numbers of components that it leaves unknown as the other has them.
-fn filled(
-    alloc: Global,
-    a: &Shared<OccType>,
-    b: &OccType,
-) -> Result<Shared<OccType>, AllocError>
+fn filled(alloc: Global, a: &Shared<OccType>, b: &OccType) -> Result<Shared<OccType>, AllocError>
     ensures { IfOk result (λ of. of ≡ filling a.now b.now) }
 {
     match a.get() {

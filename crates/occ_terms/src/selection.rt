@@ -1,9 +1,9 @@
 ghost use Rattle.std.specs.Prelude.{◌≡◌, ◌++◌, IfOk, OnOk};
 ghost use Rattle.occ_operators.specs.Operators.{is_faulty as faulty};
-ghost use Rattle.occ_terms.specs.Segments.{bound as told_bound, constant_of as the_constant, count_of as the_count, ends_behind as end_is_behind, for_count as told_for, from_base as told_from, from_for as told_from_for, is_beyond as beyond, is_negative as negative, lone as told_lone, lone_pair as told_lone_pair, no_segment as told_no_segment, segment as told_segment, segment_within as told_within, taken as told_taken, to_the_end as the_rest};
-ghost use Rattle.occ_terms.specs.Terms.{alone as told_alone, judged};
+ghost use Rattle.occ_terms.specs.Segments.{bound as told_bound, constant_of as the_constant, count_of as the_count, ends_behind as end_is_behind, for_count as told_for, from_base as told_from, from_for as told_from_for, is_beyond as beyond, is_negative as negative, no_part as told_no_part, no_parts as told_no_parts, no_segment as told_no_segment, segment as told_segment, segment_within as told_within, taken as told_taken, to_the_end as the_rest};
+ghost use Rattle.occ_terms.specs.Terms.{judged};
 
-use super::table::{alone, under};
+use super::table::under;
 use super::term::Term;
 use occ_base::{Code, Items, Shared};
 use occ_operators::{Fault, Kind, int, known, tell};
@@ -84,7 +84,7 @@ fn is_beyond(size: Option<u32>, base: Option<i64>, count: Option<i128>) -> bool
     ensures { result ≡ beyond size base count }
 {
     match (base, count) {
-        (Some(base), Some(count)) => base < 0 || ends_behind(size, base, count),
+        (Some(base), Some(count)) => base < -1 || ends_behind(size, base, count),
         _ => false,
     }
 }
@@ -144,7 +144,14 @@ fn from_for(
     if is_faulty(&base) || is_faulty(&count) {
         return Ok(Kind::Faulty);
     }
-    taken(alloc, size, of, constant_of(&base), wide(constant_of(&count)), faults)
+    taken(
+        alloc,
+        size,
+        of,
+        constant_of(&base),
+        wide(constant_of(&count)),
+        faults,
+    )
 }
 
 /// `FROM e` of an array.
@@ -203,29 +210,29 @@ fn segment_within(
 }
 
 /// A bound of what has no components.
-fn lone_bound(alloc: Global, bound: &Term, faults: &mut Items<Fault>) -> Result<Kind, AllocError>
-    ensures kind { IfOk result (λ kind. kind ≡ (told_lone (told_alone (judged bound.now))).kind) }
-    ensures faults { OnOk result (faults.new ≡ faults.old ++ (told_lone (told_alone (judged bound.now))).faults) }
+fn no_part(alloc: Global, term: &Term, faults: &mut Items<Fault>) -> Result<Kind, AllocError>
+    ensures kind { IfOk result (λ kind. kind ≡ (told_no_part (told_bound (judged term.now))).kind) }
+    ensures faults { OnOk result (faults.new ≡ faults.old ++ (told_no_part (told_bound (judged term.now))).faults) }
 {
-    let bound = alone(alloc, bound, faults)?;
-    if !is_faulty(&bound) {
+    let kind = bound(alloc, term, faults)?;
+    if !is_faulty(&kind) {
         tell(faults, Code::T2)?;
     }
     Ok(Kind::Faulty)
 }
 
 /// Both bounds of what has no components.
-fn lone_bounds(
+fn no_parts(
     alloc: Global,
     base: &Term,
     count: &Term,
     faults: &mut Items<Fault>,
 ) -> Result<Kind, AllocError>
-    ensures kind { IfOk result (λ kind. kind ≡ (told_lone_pair (told_alone (judged base.now)) (told_alone (judged count.now))).kind) }
-    ensures faults { OnOk result (faults.new ≡ faults.old ++ (told_lone_pair (told_alone (judged base.now)) (told_alone (judged count.now))).faults) }
+    ensures kind { IfOk result (λ kind. kind ≡ (told_no_parts (told_bound (judged base.now)) (told_bound (judged count.now))).kind) }
+    ensures faults { OnOk result (faults.new ≡ faults.old ++ (told_no_parts (told_bound (judged base.now)) (told_bound (judged count.now))).faults) }
 {
-    let base = alone(alloc, base, faults)?;
-    let count = alone(alloc, count, faults)?;
+    let base = bound(alloc, base, faults)?;
+    let count = bound(alloc, count, faults)?;
     if !is_faulty(&base) && !is_faulty(&count) {
         tell(faults, Code::T2)?;
     }
@@ -238,8 +245,8 @@ fn no_segment(alloc: Global, bounds: &Bounds, faults: &mut Items<Fault>) -> Resu
     ensures faults { OnOk result (faults.new ≡ faults.old ++ (told_no_segment bounds.now).faults) }
 {
     match bounds {
-        Bounds::From(bound) | Bounds::For(bound) => lone_bound(alloc, bound, faults),
-        Bounds::FromFor(base, count) => lone_bounds(alloc, base, count, faults),
+        Bounds::From(bound) | Bounds::For(bound) => no_part(alloc, bound, faults),
+        Bounds::FromFor(base, count) => no_parts(alloc, base, count, faults),
     }
 }
 

@@ -3,7 +3,7 @@
 ghost use Rattle.std.specs.Prelude.{◌≡◌, ◌++◌, IfOk, OnOk, Some, length, map};
 ghost use Rattle.std.specs.List.{list_any};
 ghost use Rattle.occ_operators.specs.Operators.{all_faults, is_faulty as faulty, kinds as kinds_of};
-ghost use Rattle.occ_terms.specs.Terms.{after_first as told_after_first, all_under as told_all_under, alone as told_alone, as_item as told_as_item, first_settled as told_first, judged, judged_all, merged_all as merging_all, merged_next as merging_next, table_alone as told_table_alone, table_of as told_table_of, table_type as told_type, table_under as told_table_under, under as told_under};
+ghost use Rattle.occ_terms.specs.Terms.{after_first as told_after_first, all_under as told_all_under, alone as told_alone, first_settled as told_first, first_type as type_of_first, items_type as told_items_type, judged, judged_all, merged_all as merging_all, merged_next as merging_next, table_alone as told_table_alone, table_of as told_table_of, table_type as told_type, table_under as told_table_under, under as told_under};
 ghost use Rattle.occ_types.specs.View.{as_array};
 
 use super::extent::arrayed;
@@ -11,7 +11,7 @@ use super::merge::merged;
 use super::term::Term;
 use occ_base::{Code, Items, Shared};
 use occ_operators::{Fault, Kind, int, known, settled, tell, wanted};
-use occ_types::{OccType, array_of, is_data};
+use occ_types::{OccType, array_of};
 use std::alloc::{AllocError, Global};
 
 /// The one type of the items so far, with one item more.
@@ -64,6 +64,32 @@ fn table_type(
     arrayed(alloc, Some(count), &of, faults)
 }
 
+/// The type of the first item; this one, if there is none.
+fn first_type<'a>(of: &'a Shared<OccType>, kinds: &'a [Kind]) -> &'a Shared<OccType>
+    ensures { result.now ≡ type_of_first of.now kinds.now }
+{
+    for kind in kinds {
+        if let Kind::Known(found) = kind {
+            return &found.of;
+        }
+    }
+    of
+}
+
+/// A table of settled items, of which this type was wanted.
+fn items_type(
+    alloc: Global,
+    of: &Shared<OccType>,
+    kinds: &[Kind],
+    faults: &mut Items<Fault>,
+) -> Result<Kind, AllocError>
+    ensures kind { IfOk result (λ kind. kind ≡ (told_items_type of.now kinds.now).kind) }
+    ensures faults { OnOk result (faults.new ≡ faults.old ++ (told_items_type of.now kinds.now).faults) }
+{
+    let of = merged_all(alloc, first_type(of, kinds), kinds)?;
+    table_type(alloc, kinds.len(), of, faults)
+}
+
 /// Whether one of the items is faulty.
 pub fn any_faulty(kinds: &[Kind]) -> bool
     ensures { result ≡ list_any faulty kinds.now }
@@ -74,21 +100,6 @@ pub fn any_faulty(kinds: &[Kind]) -> bool
         }
     }
     false
-}
-
-/// A channel, a timer or an array of them is no item of a table.
-fn as_item(kind: &Kind, faults: &mut Items<Fault>) -> Result<Kind, AllocError>
-    ensures kind { IfOk result (λ item. item ≡ (told_as_item kind.now).kind) }
-    ensures faults { OnOk result (faults.new ≡ faults.old ++ (told_as_item kind.now).faults) }
-{
-    match kind {
-        Kind::Known(found) if is_data(found.of.get()) => known(&found.of, found.value),
-        Kind::Known(_) => {
-            tell(faults, Code::T2)?;
-            Ok(Kind::Faulty)
-        }
-        _ => Ok(Kind::Faulty),
-    }
 }
 
 /// Whether an operand is free.
@@ -164,8 +175,7 @@ fn all_under(
     if any_faulty(kinds.as_slice()) {
         return Ok(Kind::Faulty);
     }
-    let of = merged_all(alloc, of, kinds.as_slice())?;
-    table_type(alloc, kinds.len(), of, faults)
+    items_type(alloc, of, kinds.as_slice(), faults)
 }
 
 /// The first item that is not free; if all are, an INT.
@@ -180,8 +190,7 @@ fn first_settled(
 {
     for item in items {
         if !is_free(item) {
-            let kind = alone(alloc, item, faults)?;
-            return as_item(&kind, faults);
+            return alone(alloc, item, faults);
         }
     }
     known(&int(alloc)?, None)
@@ -206,11 +215,7 @@ fn after_first(
 
 /// A table of which no type is wanted.
 #[cycle(judge)]
-fn table_alone(
-    alloc: Global,
-    items: &[Term],
-    faults: &mut Items<Fault>,
-) -> Result<Kind, AllocError>
+fn table_alone(alloc: Global, items: &[Term], faults: &mut Items<Fault>) -> Result<Kind, AllocError>
     ensures kind { IfOk result (λ kind. kind ≡ (told_table_alone (judged_all items.now)).kind) }
     ensures faults { OnOk result (faults.new ≡ faults.old ++ (told_table_alone (judged_all items.now)).faults) }
 {

@@ -10,6 +10,8 @@ mod forms;
 #[cfg(test)]
 mod lines;
 #[cfg(test)]
+mod names;
+#[cfg(test)]
 mod operators;
 #[cfg(test)]
 mod process;

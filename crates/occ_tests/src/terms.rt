@@ -1,8 +1,9 @@
 use super::operators::{is_faulty, is_told, literal, of, value, variable};
 use occ_base::{Code, Items, Name, Shared};
-use occ_operators::Kind;
+use occ_operators::{Kind, Known};
 use occ_terms::{
-    Bounds, Limit, Term, alone, arrayed, decorated, decorated_table, most, segment, sized, under,
+    Bounds, Limit, Term, alone, any_has_fault, arrayed, decorated, decorated_table, item, most,
+    segment, size, sized, under,
 };
 use occ_types::{Field, OccType, Packing, Primitive, Value, array_of, bytes_of};
 use std::alloc::{AllocError, Global};
@@ -62,6 +63,45 @@ fn settles_tables(rt: HostRuntime) -> Result<(), Fail> {
     let wrong = Term::Table(pair(alloc, truth, Term::Single(literal(1)))?);
     let wrong = alone(alloc, &wrong, &mut faults)?;
     assert!(rt; is_faulty(&wrong) && is_told(&faults, Code::T2));
+    Ok(())
+}
+
+#[test]
+fn places_items(rt: HostRuntime) -> Result<(), Fail> {
+    let alloc = rt.alloc();
+    let mut faults = Items::new(alloc);
+    let free = item(Term::Single(literal(1)), &mut faults)?;
+    assert!(rt; faults.is_empty());
+    let timer = Kind::Known(Known {
+        of: Shared::new(alloc, OccType::Timer)?,
+        value: None,
+    });
+    let timer = item(Term::Single(timer), &mut faults)?;
+    assert!(rt; is_told(&faults, Code::T2));
+    let items = pair(alloc, free, timer)?;
+    assert!(rt; any_has_fault(items.as_slice()));
+    Ok(())
+}
+
+#[test]
+fn reads_sizes(rt: HostRuntime) -> Result<(), Fail> {
+    let alloc = rt.alloc();
+    let mut faults = Items::new(alloc);
+    assert_eq!(rt;
+        size(alloc, &Term::Single(literal(0)), &mut faults)?,
+        Some(0)
+    );
+    assert!(rt; faults.is_empty());
+    assert_eq!(rt; size(alloc, &Term::Single(literal(-1)), &mut faults)?, None);
+    assert!(rt; is_told(&faults, Code::T6));
+    let mut faults = Items::new(alloc);
+    let varying = Term::Single(variable(alloc, Primitive::Int)?);
+    assert_eq!(rt; size(alloc, &varying, &mut faults)?, None);
+    assert!(rt; is_told(&faults, Code::T5));
+    let mut faults = Items::new(alloc);
+    let byte = Term::Single(variable(alloc, Primitive::Byte)?);
+    assert_eq!(rt; size(alloc, &byte, &mut faults)?, None);
+    assert!(rt; is_told(&faults, Code::T2));
     Ok(())
 }
 

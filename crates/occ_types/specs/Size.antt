@@ -1,5 +1,5 @@
 -- The bytes of a type.
-use Rattle.std.specs.Prelude.{ℕ, ◌+◌, ◌*◌, min, nat_le, cond, Option, Some, None, List, [], ◌∷◌}
+use Rattle.std.specs.Prelude.{ℕ, ◌+◌, ◌*◌, min, nat_le, cond, Bool, true, false, not, Option, Some, None, List, [], ◌∷◌}
 use Rattle.occ_types.specs.declared.types.Item.TheOpen.{OccType-F, Field-F}
 use Rattle.occ_types.specs.declared.types.Item.TheFolds.{fold-OccType}
 use Rattle.occ_types.specs.declared.types.OccType.{OccType}
@@ -58,6 +58,15 @@ field_sizes (f ∷ fs) = field_size f ∷ field_sizes fs
 abbrev pub bytes_in : Option ℕ → Option ℕ
 bytes_in (Some n) = cond (nat_le n 2147483647) (Some n) None
 bytes_in None = None
+
+abbrev pub is_known : Option ℕ → Bool
+is_known None = false
+is_known (Some n) = true
+
+-- over 2147483647
+abbrev pub is_over : Option ℕ → Bool
+is_over None = false
+is_over (Some n) = not (nat_le n 2147483647)
 
 -- n, or 2147483648 where n is more
 abbrev pub cut : ℕ → ℕ

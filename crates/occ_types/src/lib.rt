@@ -28,6 +28,6 @@ pub use interface::{
 pub use literal::{value_of_number, value_of_pattern};
 pub use measure::{Measure, measure_of, measure_protocol};
 pub use same::{same_protocol, same_type};
-pub use size::bytes_of;
+pub use size::{bytes_of, has_bytes, is_oversized};
 pub use types::{Field, Item, OccType, Packing, Protocol, Tag};
 pub use value::{Primitive, Value};
