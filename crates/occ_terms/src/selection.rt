@@ -84,7 +84,7 @@ fn is_beyond(size: Option<u32>, base: Option<i64>, count: Option<i128>) -> bool
     ensures { result ≡ beyond size base count }
 {
     match (base, count) {
-        (Some(base), Some(count)) => base < -1 || ends_behind(size, base, count),
+        (Some(base), Some(count)) => base < 0 || ends_behind(size, base, count),
         _ => false,
     }
 }
