@@ -7,6 +7,7 @@ mod extent;
 mod measure;
 mod merge;
 mod placing;
+pub mod rows;
 mod selection;
 mod table;
 mod term;
