@@ -1,4 +1,10 @@
 pub mod Behind
 pub mod Cases
+pub mod Plain
+pub mod Standing
+pub mod Under
+pub mod Items
+pub mod Parts
+pub mod Mains
 pub mod Weights
 pub mod Listing

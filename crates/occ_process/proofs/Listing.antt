@@ -1,7 +1,6 @@
 -- The lines that nodes lay are the listing of their trees.
-use Rattle.std.proofs.Common.{◌≡◌, ◌∙◌, ◌+◌, ℕ, Bool, true, false, List, [], ◌∷◌, ◌++◌, Option, Some, None, Result, Ok, Err, IfOk, IfSome, refl, sym, ap}
+use Rattle.std.proofs.Common.{◌≡◌, ◌∙◌, ◌+◌, ℕ, Bool, true, false, List, [], ◌∷◌, ◌++◌, refl, sym, ap}
 use Rattle.std.proofs.lemmas.Bool.{true≢false}
-use Rattle.std.specs.declared.alloc.AllocError.{AllocError}
 use Rattle.occ_process.specs.declared.tree.Spec.{Spec}
 use Rattle.occ_process.specs.Layout.{Empty, lines, nodes, specs}
 use Rattle.occ_process.specs.Layout.{listing as listing_of}
@@ -54,8 +53,5 @@ listed d (Tree l u b) (n ∷ ns) e h =
 pub nodes_listing : (ns : List Node) → HasDepths 0 (forest_of ns) → lines 0 (nodes ns Empty) ≡ listing (forest_of ns)
 nodes_listing ns h = listed 0 (forest_of ns) ns refl h
 
-pub unit_listing : (roots : List Node) (r : Result (Option (List Spec)) AllocError) → IfOk r (λ o. IfSome o (λ ss. Lays (specs ss) roots))
-    → (ls : List ExpandedLine) → IsTreesOf ls (forest_of roots) → IfOk r (λ o. IfSome o (λ ss. listing_of ss ≡ ls))
-unit_listing roots (Ok (Some ss)) h ls t = ap (lines 0) (h Empty) ∙ nodes_listing roots t.0 ∙ t.1
-unit_listing roots (Ok None) h ls t = tt
-unit_listing roots (Err e) h ls t = tt
+pub specs_listing : (roots : List Node) (ss : List Spec) → Lays (specs ss) roots → (ls : List ExpandedLine) → IsTreesOf ls (forest_of roots) → listing_of ss ≡ ls
+specs_listing roots ss h ls t = ap (lines 0) (h Empty) ∙ nodes_listing roots t.0 ∙ t.1

@@ -1,12 +1,16 @@
-#![tactic(auto, using(crate::proofs::Cases::laid_rules))]
+#![tactic(auto, using(crate::proofs::Cases::laid_rules, crate::proofs::Items::item_rules, crate::proofs::Mains::main_rules, crate::proofs::Parts::part_rules))]
 
 ghost use Rattle.occ_forms.specs.declared.tree.Form.TheVariants as f;
 ghost use Rattle.occ_forms.specs.declared.tree.Guarded.TheVariants as gu;
 ghost use Rattle.occ_forms.specs.declared.tree.Part.TheVariants as pa;
 ghost use Rattle.occ_process.specs.Layout.{Empty, Layout as ALayout, alternative as alternative_laid, body_of, guard_form, nodes as nodes_then, one_behind_other, parent};
 ghost use Rattle.occ_process.specs.Reading.{Lays, ReadsScoped, weight};
-ghost use Rattle.std.specs.Prelude.{IfOk, IfSome, map, ◌+◌, ◌≡◌};
+ghost use Rattle.occ_process.specs.Standing.{AreSpecs, IsItem, Stands};
+ghost use Rattle.occ_process.specs.Reading.{is_alternation, last_sort};
+ghost use Rattle.occ_tree.specs.declared.row.Row.TheVariants as row;
+ghost use Rattle.std.specs.Prelude.{IfNone, IfOk, IfSome, false, map, ◌+◌, ◌≡◌};
 
+use super::form::{case_guard, guard};
 use super::line::{first_item, main_line};
 use super::scoped::{Scoped, read_body};
 use super::selection::variants;
@@ -14,13 +18,13 @@ use super::spec::specs;
 use super::tree::{Alternative, Body, Guard, Place, Process};
 use occ_base::{Boxed, Items};
 use occ_expressions::{Element, Expr};
-use occ_forms::{Action, Form, Guarded, Part};
 use occ_tree::Node;
 use std::alloc::{AllocError, Global};
 
 /// The alternative, if the process is an alternation or selects among variants.
 fn as_alternative<'a>(body: Body<'a>) -> Option<Alternative<'a>>
-    ensures { IfSome result (λ a. (k : ALayout) → alternative_laid a k ≡ body_of body.entry k) }
+    ensures found { IfSome result (λ a. (k : ALayout) → alternative_laid a k ≡ body_of body.entry k) }
+    ensures none { IfNone result (is_alternation (last_sort (body_of body.entry Empty)) ≡ false) }
 {
     let Body { specs, process } = body;
     match process.into_inner() {
@@ -36,7 +40,14 @@ fn as_alternative<'a>(body: Body<'a>) -> Option<Alternative<'a>>
         Process::CaseInput(place, channel, variants) => {
             Some(Alternative::CaseInput(specs, place, channel, variants))
         }
-        _ => None,
+        Process::Action(_, _)
+        | Process::Call(_, _, _)
+        | Process::Block(_, _, _)
+        | Process::ReplicatedBlock(_, _, _, _)
+        | Process::While(_, _, _)
+        | Process::Conditional(_, _)
+        | Process::ReplicatedConditional(_, _, _)
+        | Process::Selection(_, _, _) => None,
     }
 }
 
@@ -51,6 +62,7 @@ fn guarded<'a, F: Fn(Global, &'a [Node]) -> Result<Option<Scoped<'a>>, AllocErro
 ) -> Result<Option<Alternative<'a>>, AllocError>
     requires inner { ReadsScoped (weight before.now + weight under.now + 1) (F.pre inner.now) (F.post inner.now) }
     ensures found { IfOk result (λ r. IfSome r (λ x. (k : ALayout) → alternative_laid x k ≡ nodes_then before.now (parent place (guard_form guard.entry) (nodes_then under.now Empty) k))) }
+    ensures none { IfOk result (λ r. IfNone r (AreSpecs false before.now → Stands row.Process under.now → ⊥)) }
 {
     let Some(specs) = specs(alloc, before, inner)? else {
         return Ok(None);
@@ -74,6 +86,7 @@ fn guarded_case_input<'a, F: Fn(Global, &'a [Node]) -> Result<Option<Scoped<'a>>
 ) -> Result<Option<Alternative<'a>>, AllocError>
     requires inner { ReadsScoped (weight before.now + weight under.now + 1) (F.pre inner.now) (F.post inner.now) }
     ensures found { IfOk result (λ r. IfSome r (λ x. (k : ALayout) → alternative_laid x k ≡ nodes_then before.now (parent place (f.Part (pa.Guard condition.now (gu.CaseInput channel.now))) (nodes_then under.now Empty) k))) }
+    ensures none { IfOk result (λ r. IfNone r (AreSpecs false before.now → Stands row.Variants under.now → ⊥)) }
 {
     let Some(specs) = specs(alloc, before, inner)? else {
         return Ok(None);
@@ -92,36 +105,23 @@ pub fn alternative<'a, F: Fn(Global, &'a [Node]) -> Result<Option<Scoped<'a>>, A
 ) -> Result<Option<Alternative<'a>>, AllocError>
     requires inner { ReadsScoped (weight item.now + 1) (F.pre inner.now) (F.post inner.now) }
     ensures found { IfOk result (λ r. IfSome r (λ x. Lays (alternative_laid x) item.now)) }
+    ensures none { IfOk result (λ r. IfNone r (IsItem row.Guards item.now → ⊥)) }
 {
     let Some((before, line)) = main_line(item) else {
         return Ok(None);
     };
-    match line.form {
-        Form::Construct(_) => {
-            let Some(body) = read_body(alloc, item, inner)? else {
-                return Ok(None);
-            };
-            Ok(as_alternative(body))
-        }
-        Form::Action(Action::Input(input)) => {
-            let guard = Guard::Input(input);
-            guarded(alloc, before, line.place, guard, line.under, inner)
-        }
-        Form::Part(Part::Guard(condition, Guarded::Input(input))) => {
-            let guard = Guard::GuardedInput(condition, input);
-            guarded(alloc, before, line.place, guard, line.under, inner)
-        }
-        Form::Part(Part::Guard(condition, Guarded::Skip)) => {
-            let guard = Guard::Skip(condition);
-            guarded(alloc, before, line.place, guard, line.under, inner)
-        }
-        Form::Part(Part::Guard(condition, Guarded::CaseInput(channel))) => {
-            guarded_case_input(
-                alloc, before, line.place, condition, channel, line.under, inner,
-            )
-        }
-        _ => Ok(None),
+    if let Some(guard) = guard(line.form) {
+        return guarded(alloc, before, line.place, guard, line.under, inner);
     }
+    if let Some((condition, channel)) = case_guard(line.form) {
+        return guarded_case_input(
+            alloc, before, line.place, condition, channel, line.under, inner,
+        );
+    }
+    let Some(body) = read_body(alloc, item, inner)? else {
+        return Ok(None);
+    };
+    Ok(as_alternative(body))
 }
 
 /// The alternatives of these lines.
@@ -132,6 +132,7 @@ pub fn alternatives<'a, F: Fn(Global, &'a [Node]) -> Result<Option<Scoped<'a>>, 
 ) -> Result<Option<Items<Alternative<'a>>>, AllocError>
     requires inner { ReadsScoped (weight nodes.now + 1) (F.pre inner.now) (F.post inner.now) }
     ensures found { IfOk result (λ r. IfSome r (λ xs. Lays (one_behind_other (map alternative_laid xs)) nodes.now)) }
+    ensures none { IfOk result (λ r. IfNone r (Stands row.Guards nodes.now → ⊥)) }
 {
     let mut found = Items::new(alloc);
     let mut rest = nodes;

@@ -5,6 +5,7 @@ mod alternative;
 mod body;
 mod choice;
 mod detail;
+mod form;
 mod item;
 mod line;
 mod process;

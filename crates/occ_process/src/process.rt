@@ -1,9 +1,13 @@
-#![tactic(auto, using(crate::proofs::Cases::laid_rules))]
+#![tactic(auto, using(crate::proofs::Cases::laid_rules, crate::proofs::Items::item_rules, crate::proofs::Mains::main_rules))]
 
 ghost use Rattle.occ_forms.specs.declared.tree.Form.TheVariants as f;
 ghost use Rattle.occ_process.specs.Layout.{Empty, Layout as ALayout, construct_form, order_kind, priority_kind, process as process_laid, replicated_form, nodes as nodes_then, parent};
 ghost use Rattle.occ_process.specs.Reading.{Lays, ReadsScoped, weight};
-ghost use Rattle.std.specs.Prelude.{IfOk, IfSome, [], ◌+◌, ◌∷◌, ◌≡◌};
+ghost use Rattle.occ_process.specs.Standing.{IsMain, Stands, is_called};
+ghost use Rattle.occ_tree.specs.Sorts.{construct_sort, expressions_sort, plain_sort, replicated_sort};
+ghost use Rattle.occ_tree.specs.Table.{row_under};
+ghost use Rattle.occ_tree.specs.declared.row.Row.TheVariants as row;
+ghost use Rattle.std.specs.Prelude.{IfNone, IfOk, IfSome, [], true, ◌+◌, ◌∷◌, ◌≡◌};
 
 use super::alternative::{alternative, alternatives};
 use super::body::bodies;
@@ -14,7 +18,8 @@ use super::scoped::{Scoped, read_body};
 use super::selection::{options, variants};
 use super::tree::{Order, Place, Priority, Process};
 use occ_base::Boxed;
-use occ_forms::{Construct, Form, Kind, Replicator};
+use occ_expressions::Expr;
+use occ_forms::{Action, Construct, Form, Kind, Replicator};
 use occ_tree::Node;
 use std::alloc::{AllocError, Global};
 
@@ -28,6 +33,7 @@ fn block<'a, F: Fn(Global, &'a [Node]) -> Result<Option<Scoped<'a>>, AllocError>
 ) -> Result<Option<Process<'a>>, AllocError>
     requires inner { ReadsScoped (weight under.now + 1) (F.pre inner.now) (F.post inner.now) }
     ensures found { IfOk result (λ r. IfSome r (λ x. (k : ALayout) → process_laid x k ≡ parent place (construct_form (order_kind order)) (nodes_then under.now Empty) k)) }
+    ensures none { IfOk result (λ r. IfNone r (Stands row.Processes under.now → ⊥)) }
 {
     let Some(bodies) = bodies(alloc, under, inner)? else {
         return Ok(None);
@@ -46,6 +52,7 @@ fn replicated_block<'a, F: Fn(Global, &'a [Node]) -> Result<Option<Scoped<'a>>, 
 ) -> Result<Option<Process<'a>>, AllocError>
     requires inner { ReadsScoped (weight under.now + 1) (F.pre inner.now) (F.post inner.now) }
     ensures found { IfOk result (λ r. IfSome r (λ x. (k : ALayout) → process_laid x k ≡ parent place (replicated_form (order_kind order) replicator.now) (nodes_then under.now Empty) k)) }
+    ensures none { IfOk result (λ r. IfNone r (Stands row.Process under.now → ⊥)) }
 {
     let Some(body) = read_body(alloc, under, inner)? else {
         return Ok(None);
@@ -64,6 +71,7 @@ fn alternation<'a, F: Fn(Global, &'a [Node]) -> Result<Option<Scoped<'a>>, Alloc
 ) -> Result<Option<Process<'a>>, AllocError>
     requires inner { ReadsScoped (weight under.now + 1) (F.pre inner.now) (F.post inner.now) }
     ensures found { IfOk result (λ r. IfSome r (λ x. (k : ALayout) → process_laid x k ≡ parent place (construct_form (priority_kind priority)) (nodes_then under.now Empty) k)) }
+    ensures none { IfOk result (λ r. IfNone r (Stands row.Guards under.now → ⊥)) }
 {
     let Some(alternatives) = alternatives(alloc, under, inner)? else {
         return Ok(None);
@@ -82,6 +90,7 @@ fn replicated_alternation<'a, F: Fn(Global, &'a [Node]) -> Result<Option<Scoped<
 ) -> Result<Option<Process<'a>>, AllocError>
     requires inner { ReadsScoped (weight under.now + 1) (F.pre inner.now) (F.post inner.now) }
     ensures found { IfOk result (λ r. IfSome r (λ x. (k : ALayout) → process_laid x k ≡ parent place (replicated_form (priority_kind priority) replicator.now) (nodes_then under.now Empty) k)) }
+    ensures none { IfOk result (λ r. IfNone r (Stands row.Guard under.now → ⊥)) }
 {
     let Some(alternative) = alternative(alloc, under, inner)? else {
         return Ok(None);
@@ -100,6 +109,7 @@ fn plain<'a, F: Fn(Global, &'a [Node]) -> Result<Option<Scoped<'a>>, AllocError>
 ) -> Result<Option<Process<'a>>, AllocError>
     requires inner { ReadsScoped (weight under.now + 1) (F.pre inner.now) (F.post inner.now) }
     ensures found { IfOk result (λ r. IfSome r (λ x. (k : ALayout) → process_laid x k ≡ parent place (construct_form kind) (nodes_then under.now Empty) k)) }
+    ensures none { IfOk result (λ r. IfNone r (Stands (row_under row.Process (plain_sort kind)) under.now → ⊥)) }
 {
     match kind {
         Kind::Sequence => block(alloc, place, Order::Sequence, under, inner),
@@ -127,6 +137,7 @@ fn replicated<'a, F: Fn(Global, &'a [Node]) -> Result<Option<Scoped<'a>>, AllocE
 ) -> Result<Option<Process<'a>>, AllocError>
     requires inner { ReadsScoped (weight under.now + 1) (F.pre inner.now) (F.post inner.now) }
     ensures found { IfOk result (λ r. IfSome r (λ x. (k : ALayout) → process_laid x k ≡ parent place (replicated_form kind replicator.now) (nodes_then under.now Empty) k)) }
+    ensures none { IfOk result (λ r. IfNone r (Stands (row_under row.Process (replicated_sort kind)) under.now → ⊥)) }
 {
     match kind {
         Kind::Sequence => {
@@ -164,6 +175,7 @@ fn constructed<'a, F: Fn(Global, &'a [Node]) -> Result<Option<Scoped<'a>>, Alloc
 ) -> Result<Option<Process<'a>>, AllocError>
     requires inner { ReadsScoped (weight under.now + 1) (F.pre inner.now) (F.post inner.now) }
     ensures found { IfOk result (λ r. IfSome r (λ x. (k : ALayout) → process_laid x k ≡ parent place (f.Construct construct.now) (nodes_then under.now Empty) k)) }
+    ensures none { IfOk result (λ r. IfNone r (Stands (row_under row.Process (construct_sort construct.now)) under.now → ⊥)) }
 {
     match construct {
         Construct::Replicable(kind, None) => plain(alloc, place, *kind, under, inner),
@@ -192,39 +204,29 @@ fn constructed<'a, F: Fn(Global, &'a [Node]) -> Result<Option<Scoped<'a>>, Alloc
     }
 }
 
-/// The action, if the line is one.
-fn action(node: &Node) -> Option<Process<'_>>
-    ensures { IfSome result (λ p. Lays (process_laid p) (node.now ∷ [])) }
+/// The action that stands on a line, if nothing stands under it.
+fn line_action<'a>(place: Place, action: &'a Action, under: &[Node]) -> Option<Process<'a>>
+    ensures found { IfSome result (λ p. (k : ALayout) → process_laid p k ≡ parent place (f.Action action.now) (nodes_then under.now Empty) k) }
+    ensures none { IfNone result (under.now ≡ [] → ⊥) }
 {
-    let Some(line) = open_line(node) else {
-        return None;
-    };
-    let Form::Action(action) = line.form else {
-        return None;
-    };
-    if !line.under.is_empty() {
+    if !under.is_empty() {
         return None;
     }
-    Some(Process::Action(line.place, action))
+    Some(Process::Action(place, action))
 }
 
-/// The instance of a procedure, if the line is one.
-fn instance(node: &Node) -> Option<Process<'_>>
-    ensures { IfSome result (λ p. Lays (process_laid p) (node.now ∷ [])) }
+/// The instance of a procedure, if the expressions are one call alone and nothing stands under it.
+fn instance<'a>(place: Place, first: &'a Expr, more: &[Expr], under: &[Node]) -> Option<Process<'a>>
+    ensures found { IfSome result (λ p. (k : ALayout) → process_laid p k ≡ parent place (f.Expressions first.now more.now) (nodes_then under.now Empty) k) }
+    ensures none { IfNone result (is_called (expressions_sort first.now more.now) ≡ true → under.now ≡ [] → ⊥) }
 {
-    let Some(line) = open_line(node) else {
-        return None;
-    };
-    let Form::Expressions(expr, more) = line.form else {
-        return None;
-    };
-    if !more.is_empty() || !line.under.is_empty() {
+    if !more.is_empty() || !under.is_empty() {
         return None;
     }
-    let Some((name, actuals)) = call(expr) else {
-        return None;
-    };
-    Some(Process::Call(line.place, name, actuals))
+    match call(first) {
+        Some((name, actuals)) => Some(Process::Call(place, name, actuals)),
+        None => None,
+    }
 }
 
 /// The process that the line is with what stands under it.
@@ -235,6 +237,7 @@ pub fn process<'a, F: Fn(Global, &'a [Node]) -> Result<Option<Scoped<'a>>, Alloc
 ) -> Result<Option<Process<'a>>, AllocError>
     requires inner { ReadsScoped (weight (node.now ∷ [])) (F.pre inner.now) (F.post inner.now) }
     ensures found { IfOk result (λ r. IfSome r (λ x. Lays (process_laid x) (node.now ∷ []))) }
+    ensures none { IfOk result (λ r. IfNone r (IsMain row.Process node.now → ⊥)) }
 {
     let Some(line) = open_line(node) else {
         return Ok(None);
@@ -243,8 +246,10 @@ pub fn process<'a, F: Fn(Global, &'a [Node]) -> Result<Option<Scoped<'a>>, Alloc
         Form::Construct(construct) => {
             constructed(alloc, line.place, construct, line.under, inner)
         }
-        Form::Action(_) => Ok(action(node)),
-        Form::Expressions(_, _) => Ok(instance(node)),
-        _ => Ok(None),
+        Form::Action(action) => Ok(line_action(line.place, action, line.under)),
+        Form::Expressions(first, more) => {
+            Ok(instance(line.place, first, more.as_slice(), line.under))
+        }
+        Form::Specified(_) | Form::Close | Form::Part(_) | Form::Tagged(_, _, _) => Ok(None),
     }
 }

@@ -1,19 +1,26 @@
-ghost use Rattle.occ_process.specs.Layout.{Empty, field_line, nodes as nodes_then, one_behind_other, record_form, record_lines, tag_line, tags_lines};
-ghost use Rattle.occ_process.specs.Reading.{Lays};
-ghost use Rattle.std.specs.Prelude.{IfOk, IfSome, [], map, ◌∷◌, ◌≡◌};
+#![tactic(auto, using(crate::proofs::Under::under_rules))]
+
+ghost use Rattle.occ_forms.specs.declared.tree.Form.TheVariants as f;
+ghost use Rattle.occ_forms.specs.declared.tree.Part.TheVariants as pa;
+ghost use Rattle.occ_process.specs.Layout.{Empty, field_line, nodes as nodes_then, one_behind_other, parent, record_form, record_lines, tag_line, tags_lines};
+ghost use Rattle.occ_process.specs.Reading.{Lays, Opens};
+ghost use Rattle.occ_process.specs.Standing.{AreMain, IsMain, Stands, sort_at, under_of};
+ghost use Rattle.occ_tree.specs.Table.{is_case as case_sort, is_record};
+ghost use Rattle.occ_tree.specs.declared.row.Row.TheVariants as row;
+ghost use Rattle.std.specs.Prelude.{IfNone, IfOk, IfSome, MatchOption, [], false, map, true, ◌∷◌, ◌≡◌};
 
 use super::detail::name_and_items;
-use super::line::open_line;
-use super::tree::{FieldGroup, Packing, Record, Tag, Tags};
+use super::form::{declaration, is_case, packing};
+use super::line::{first_line, only_line, open_line};
+use super::tree::{FieldGroup, Packing, Place, Record, Tag, Tags};
 use occ_base::Items;
-use occ_forms::{Form, Part};
-use occ_specifications::{Specification, Specified};
 use occ_tree::Node;
 use std::alloc::{AllocError, Global};
 
 /// The tag of the line.
 fn tag<'a>(alloc: Global, node: &'a Node) -> Result<Option<Tag<'a>>, AllocError>
-    ensures { IfOk result (λ r. IfSome r (λ t. Lays (tag_line t) (node.now ∷ []))) }
+    ensures found { IfOk result (λ r. IfSome r (λ t. Lays (tag_line t) (node.now ∷ []))) }
+    ensures none { IfOk result (λ r. IfNone r (IsMain row.Tags node.now → ⊥)) }
 {
     let Some(line) = open_line(node) else {
         return Ok(None);
@@ -33,7 +40,8 @@ fn tag<'a>(alloc: Global, node: &'a Node) -> Result<Option<Tag<'a>>, AllocError>
 
 /// The tags of the lines.
 fn more_tags<'a>(alloc: Global, nodes: &'a [Node]) -> Result<Option<Items<Tag<'a>>>, AllocError>
-    ensures { IfOk result (λ r. IfSome r (λ ts. Lays (one_behind_other (map tag_line ts)) nodes.now)) }
+    ensures found { IfOk result (λ r. IfSome r (λ ts. Lays (one_behind_other (map tag_line ts)) nodes.now)) }
+    ensures none { IfOk result (λ r. IfNone r (AreMain row.Tags nodes.now → ⊥)) }
 {
     let mut found = Items::new(alloc);
     for node in nodes {
@@ -45,20 +53,28 @@ fn more_tags<'a>(alloc: Global, nodes: &'a [Node]) -> Result<Option<Items<Tag<'a
     Ok(Some(found))
 }
 
-/// The tags under the head of a protocol, which stand under its `CASE`.
-pub fn tags<'a>(alloc: Global, nodes: &'a [Node]) -> Result<Option<Tags<'a>>, AllocError>
-    ensures { IfOk result (λ r. IfSome r (λ ts. tags_lines ts ≡ nodes_then nodes.now Empty)) }
+/// Where `CASE` stands, if the line is that, and what stands under it.
+fn case_line(node: &Node) -> Option<(Place, &[Node])>
+    ensures opens { IfSome result (λ x. Opens (node.now ∷ []) x.0 (f.Part pa.Case) x.1.now) }
+    ensures case { MatchOption result (case_sort (sort_at node.now) ≡ false) (λ x. case_sort (sort_at node.now) ≡ true) }
+    ensures under { IfSome result (λ x. under_of node.now ≡ x.1.now) }
 {
-    let Some((first, [])) = nodes.split_first() else {
-        return Ok(None);
-    };
-    let Some(case) = open_line(first) else {
-        return Ok(None);
-    };
-    let Form::Part(Part::Case) = case.form else {
-        return Ok(None);
-    };
-    let Some((first, more)) = case.under.split_first() else {
+    match open_line(node) {
+        Some(line) if is_case(line.form) => Some((line.place, line.under)),
+        _ => None,
+    }
+}
+
+/// The tags that stand under a `CASE`.
+fn case_tags<'a>(
+    alloc: Global,
+    place: Place,
+    under: &'a [Node],
+) -> Result<Option<Tags<'a>>, AllocError>
+    ensures found { IfOk result (λ r. IfSome r (λ ts. tags_lines ts ≡ parent place (f.Part pa.Case) (nodes_then under.now Empty) Empty)) }
+    ensures none { IfOk result (λ r. IfNone r (Stands row.Tags under.now → ⊥)) }
+{
+    let Some((first, more)) = first_line(under) else {
         return Ok(None);
     };
     let Some(first) = tag(alloc, first)? else {
@@ -67,23 +83,32 @@ pub fn tags<'a>(alloc: Global, nodes: &'a [Node]) -> Result<Option<Tags<'a>>, Al
     let Some(more) = more_tags(alloc, more)? else {
         return Ok(None);
     };
-    Ok(Some(Tags {
-        place: case.place,
-        first,
-        more,
-    }))
+    Ok(Some(Tags { place, first, more }))
+}
+
+/// The tags under the head of a protocol, which stand under its `CASE`.
+pub fn tags<'a>(alloc: Global, nodes: &'a [Node]) -> Result<Option<Tags<'a>>, AllocError>
+    ensures found { IfOk result (λ r. IfSome r (λ ts. tags_lines ts ≡ nodes_then nodes.now Empty)) }
+    ensures none { IfOk result (λ r. IfNone r (Stands row.Case nodes.now → ⊥)) }
+{
+    let Some(node) = only_line(nodes) else {
+        return Ok(None);
+    };
+    let Some((place, under)) = case_line(node) else {
+        return Ok(None);
+    };
+    case_tags(alloc, place, under)
 }
 
 /// The fields of the line.
 fn field_group(node: &Node) -> Option<FieldGroup<'_>>
-    ensures { IfSome result (λ f. Lays (field_line f) (node.now ∷ [])) }
+    ensures found { IfSome result (λ f. Lays (field_line f) (node.now ∷ [])) }
+    ensures none { IfNone result (IsMain row.Fields node.now → ⊥) }
 {
     let Some(line) = open_line(node) else {
         return None;
     };
-    let Form::Specified(Specified::Line(Specification::Declaration(type_form, first, more))) =
-        line.form
-    else {
+    let Some((type_form, first, more)) = declaration(line.form) else {
         return None;
     };
     if !line.under.is_empty() {
@@ -102,7 +127,8 @@ fn more_fields<'a>(
     alloc: Global,
     nodes: &'a [Node],
 ) -> Result<Option<Items<FieldGroup<'a>>>, AllocError>
-    ensures { IfOk result (λ r. IfSome r (λ fs. Lays (one_behind_other (map field_line fs)) nodes.now)) }
+    ensures found { IfOk result (λ r. IfSome r (λ fs. Lays (one_behind_other (map field_line fs)) nodes.now)) }
+    ensures none { IfOk result (λ r. IfNone r (AreMain row.Fields nodes.now → ⊥)) }
 {
     let mut found = Items::new(alloc);
     for node in nodes {
@@ -114,31 +140,32 @@ fn more_fields<'a>(
     Ok(Some(found))
 }
 
-/// Whether `PACKED` stands before `RECORD`, if the form is one of these.
-fn packing(form: &Form) -> Option<Packing>
-    ensures { IfSome result (λ p. form.now ≡ record_form p) }
+/// Where `RECORD` stands, if the line is that, and what stands under it.
+fn record_line(node: &Node) -> Option<(Place, Packing, &[Node])>
+    ensures opens { IfSome result (λ x. Opens (node.now ∷ []) x.0 (record_form x.1) x.2.now) }
+    ensures record { MatchOption result (is_record (sort_at node.now) ≡ false) (λ x. is_record (sort_at node.now) ≡ true) }
+    ensures under { IfSome result (λ x. under_of node.now ≡ x.2.now) }
 {
-    match form {
-        Form::Part(Part::Record) => Some(Packing::None),
-        Form::Part(Part::PackedRecord) => Some(Packing::Packed),
-        _ => None,
+    let Some(line) = open_line(node) else {
+        return None;
+    };
+    match packing(line.form) {
+        Some(packing) => Some((line.place, packing, line.under)),
+        None => None,
     }
 }
 
-/// The fields under the head of a data type, which stand under its `RECORD`.
-pub fn record<'a>(alloc: Global, nodes: &'a [Node]) -> Result<Option<Record<'a>>, AllocError>
-    ensures { IfOk result (λ r. IfSome r (λ fs. record_lines fs ≡ nodes_then nodes.now Empty)) }
+/// The fields that stand under a `RECORD`.
+fn record_fields<'a>(
+    alloc: Global,
+    place: Place,
+    packing: Packing,
+    under: &'a [Node],
+) -> Result<Option<Record<'a>>, AllocError>
+    ensures found { IfOk result (λ r. IfSome r (λ fs. record_lines fs ≡ parent place (record_form packing) (nodes_then under.now Empty) Empty)) }
+    ensures none { IfOk result (λ r. IfNone r (Stands row.Fields under.now → ⊥)) }
 {
-    let Some((first, [])) = nodes.split_first() else {
-        return Ok(None);
-    };
-    let Some(line) = open_line(first) else {
-        return Ok(None);
-    };
-    let Some(packing) = packing(line.form) else {
-        return Ok(None);
-    };
-    let Some((first, more)) = line.under.split_first() else {
+    let Some((first, more)) = first_line(under) else {
         return Ok(None);
     };
     let Some(first) = field_group(first) else {
@@ -148,9 +175,23 @@ pub fn record<'a>(alloc: Global, nodes: &'a [Node]) -> Result<Option<Record<'a>>
         return Ok(None);
     };
     Ok(Some(Record {
-        place: line.place,
+        place,
         packing,
         first,
         more,
     }))
+}
+
+/// The fields under the head of a data type, which stand under its `RECORD`.
+pub fn record<'a>(alloc: Global, nodes: &'a [Node]) -> Result<Option<Record<'a>>, AllocError>
+    ensures found { IfOk result (λ r. IfSome r (λ fs. record_lines fs ≡ nodes_then nodes.now Empty)) }
+    ensures none { IfOk result (λ r. IfNone r (Stands row.Record nodes.now → ⊥)) }
+{
+    let Some(node) = only_line(nodes) else {
+        return Ok(None);
+    };
+    let Some((place, packing, under)) = record_line(node) else {
+        return Ok(None);
+    };
+    record_fields(alloc, place, packing, under)
 }

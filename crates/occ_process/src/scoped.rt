@@ -1,6 +1,8 @@
 ghost use Rattle.occ_process.specs.Layout.{body_of};
 ghost use Rattle.occ_process.specs.Reading.{Lays, ReadsScoped, value_laid, weight};
-ghost use Rattle.std.specs.Prelude.{IfOk, IfSome, ◌+◌};
+ghost use Rattle.occ_process.specs.Standing.{IsItem};
+ghost use Rattle.occ_tree.specs.declared.row.Row.TheVariants as row;
+ghost use Rattle.std.specs.Prelude.{IfNone, IfOk, IfSome, ◌+◌};
 
 use super::tree::{Body, FunctionResult, Place, Spec};
 use occ_base::{Boxed, Items};
@@ -32,10 +34,11 @@ pub fn read_body<'a, F: Fn(Global, &'a [Node]) -> Result<Option<Scoped<'a>>, All
 ) -> Result<Option<Body<'a>>, AllocError>
     requires inner { ReadsScoped (weight nodes.now + 1) (F.pre inner.now) (F.post inner.now) }
     ensures found { IfOk result (λ r. IfSome r (λ b. Lays (body_of b) nodes.now)) }
+    ensures none { IfOk result (λ r. IfNone r (IsItem row.Process nodes.now → ⊥)) }
 {
     match inner(alloc, nodes)? {
         Some(Scoped::Body(body)) => Ok(Some(body)),
-        _ => Ok(None),
+        Some(Scoped::Value(_)) | None => Ok(None),
     }
 }
 
@@ -47,9 +50,10 @@ pub fn read_value<'a, F: Fn(Global, &'a [Node]) -> Result<Option<Scoped<'a>>, Al
 ) -> Result<Option<Value<'a>>, AllocError>
     requires inner { ReadsScoped (weight nodes.now + 1) (F.pre inner.now) (F.post inner.now) }
     ensures found { IfOk result (λ r. IfSome r (λ v. Lays (value_laid v) nodes.now)) }
+    ensures none { IfOk result (λ r. IfNone r (IsItem row.ValueOf nodes.now → ⊥)) }
 {
     match inner(alloc, nodes)? {
         Some(Scoped::Value(value)) => Ok(Some(value)),
-        _ => Ok(None),
+        Some(Scoped::Body(_)) | None => Ok(None),
     }
 }
