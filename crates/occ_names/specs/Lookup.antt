@@ -4,7 +4,6 @@ use Rattle.std.specs.Prelude.{ℕ, List, [], ◌∷◌, Option, Some, None}
 use Rattle.occ_base.specs.declared.code.Code.TheVariants as code
 use Rattle.occ_operators.specs.declared.kind.Fault.{Fault}
 use Rattle.occ_types.specs.declared.types.OccType.{OccType}
-use Rattle.occ_types.specs.declared.types.Protocol.{Protocol}
 use Rattle.occ_names.specs.declared.lookup.Carried.{Carried}
 use Rattle.occ_names.specs.declared.lookup.Carried.TheVariants as carried
 use Rattle.occ_names.specs.declared.meaning.Meaning.{Meaning}

@@ -1,5 +1,5 @@
 -- What is told of a type dimension by dimension.
-use Rattle.std.proofs.Common.{◌≡◌, ◌≢◌, ◌∙◌, ℕ, Bool, false, Option, Some, None, ap, sym}
+use Rattle.std.proofs.Common.{◌≡◌, ◌≢◌, ◌∙◌, ℕ, Bool, false, Option, ap, sym}
 use Rattle.std.specs.Prelude.{◌||◌}
 use Rattle.occ_types.specs.declared.types.Item.TheFolds.{fold-OccType, fold-roll-OccType}
 use Rattle.occ_types.specs.declared.types.Item.TheOpen.{OccType-F}
@@ -7,7 +7,7 @@ use Rattle.occ_types.specs.declared.types.Item.TheViews.{roll-out-OccType}
 use Rattle.occ_types.specs.declared.types.OccType.{OccType, out-OccType, roll-OccType}
 use Rattle.occ_types.specs.declared.types.OccType.TheVariants as t
 use Rattle.occ_types.specs.Size.{is_over, size_of}
-use Rattle.occ_types.specs.View.{Layer, as_array}
+use Rattle.occ_types.specs.View.{Layer}
 use Rattle.occ_types.proofs.Agreeing.{as_array_at_array}
 use Rattle.occ_terms.specs.Extents.{innermost, innermost_step, is_oversized, of_component, oversized_step}
 

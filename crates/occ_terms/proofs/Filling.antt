@@ -1,5 +1,5 @@
 -- The numbers of components that a type leaves unknown, form by form.
-use Rattle.std.proofs.Common.{◌≡◌, ◌≢◌, ◌∙◌, ℕ, Option, Some, None, refl, ap, sym}
+use Rattle.std.proofs.Common.{◌≡◌, ◌≢◌, ◌∙◌, ℕ, Option, Some, None, ap, sym}
 use Rattle.occ_types.specs.declared.types.Item.TheFolds.{fold-OccType, fold-roll-OccType}
 use Rattle.occ_types.specs.declared.types.Item.TheOpen.{OccType-F}
 use Rattle.occ_types.specs.declared.types.Item.TheViews.{roll-out-OccType}

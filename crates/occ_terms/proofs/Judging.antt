@@ -1,5 +1,5 @@
 -- What is told of an operand, form by form.
-use Rattle.std.proofs.Common.{◌≡◌, ◌∙◌, Option, List, [], ◌∷◌, length, map, refl, ap, sym, arith, false}
+use Rattle.std.proofs.Common.{◌≡◌, ◌∙◌, List, [], ◌∷◌, length, map, refl, ap, sym, arith, false}
 use Rattle.occ_operators.specs.declared.kind.Kind.{Kind}
 use Rattle.occ_terms.specs.declared.term.Term.{Term}
 use Rattle.occ_terms.specs.declared.term.Term.TheFolds.{fold-roll-Term}

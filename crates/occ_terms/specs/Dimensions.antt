@@ -1,11 +1,10 @@
 -- The size that a type has in a dimension.
 use Rattle.std.specs.Prelude.{ℕ, nat_le, ℤ, pos, negsuc, List, [], ◌∷◌, ◌++◌, Option, Some, None, if◌then◌else◌}
 use Rattle.occ_base.specs.declared.code.Code.TheVariants as code
-use Rattle.occ_operators.specs.Settling.{Told, nameless}
+use Rattle.occ_operators.specs.Settling.{nameless}
 use Rattle.occ_operators.specs.declared.kind.Fault.{Fault}
 use Rattle.occ_operators.specs.declared.kind.Kind.{Kind}
 use Rattle.occ_operators.specs.declared.kind.Kind.TheVariants as k
-use Rattle.occ_operators.specs.declared.kind.Known.{Known}
 use Rattle.occ_terms.specs.Segments.{bound, number_in}
 use Rattle.occ_terms.specs.Terms.{Judged}
 

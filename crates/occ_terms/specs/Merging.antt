@@ -1,5 +1,5 @@
 -- The one type of several that agree: a number of components that one leaves unknown is that of another.
-use Rattle.std.specs.Prelude.{ℕ, Bool, Option, Some, None, List, [], ◌∷◌, if◌then◌else◌}
+use Rattle.std.specs.Prelude.{ℕ, Option, Some, None, if◌then◌else◌}
 use Rattle.occ_types.specs.Fits.{fits}
 use Rattle.occ_types.specs.View.{as_array}
 use Rattle.occ_types.specs.declared.types.Item.TheFolds.{fold-OccType}

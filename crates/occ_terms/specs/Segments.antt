@@ -1,5 +1,5 @@
 -- Segments of arrays.
-use Rattle.std.specs.Prelude.{ℕ, nat_le, ℤ, pos, negsuc, ◌-ℤ◌, int_lt, Bool, true, false, ◌||◌, Option, Some, None, [], ◌∷◌, if◌then◌else◌}
+use Rattle.std.specs.Prelude.{ℕ, nat_le, ℤ, pos, negsuc, ◌-ℤ◌, int_lt, Bool, false, ◌||◌, Option, Some, None, [], ◌∷◌, if◌then◌else◌}
 use Rattle.occ_base.specs.declared.code.Code.TheVariants as code
 use Rattle.occ_types.specs.Constant.{number_of}
 use Rattle.occ_types.specs.Fits.{unnamed}
