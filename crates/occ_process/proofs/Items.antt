@@ -7,8 +7,8 @@ use Rattle.occ_tree.specs.declared.sort.Sort.{Sort}
 use Rattle.occ_tree.specs.declared.sort.Sort.TheVariants as sort
 use Rattle.occ_tree.specs.declared.tree.Node.{Node}
 use Rattle.occ_tree.specs.Table.{is_close, is_head, is_process, is_valof, row_under}
-use Rattle.occ_process.specs.Standing.{AreSpecs, IsFormless, IsItem, IsMain, IsSpec, Stands, is_line, sort_at, under_of}
-use Rattle.occ_process.proofs.Standing.{item_cut, no_item, stands_item, stands_nothing}
+use Rattle.occ_process.specs.Standing.{IsFormless, IsItem, IsSpec, Stands, is_line, sort_at, under_of}
+use Rattle.occ_process.proofs.Standing.{item_cut, stands_item, stands_nothing}
 
 pub item_process : (ns : List Node) → Stands row.Process ns → IsItem row.Process ns
 item_process ns = stands_item row.Process ns refl refl

@@ -1,5 +1,5 @@
 -- The items of a row, one behind the other.
-use Rattle.std.proofs.Common.{◌≡◌, ◌<◌, true, List, [], ◌∷◌, length, refl, ap, arith}
+use Rattle.std.proofs.Common.{◌≡◌, ◌<◌, true, List, [], length, refl, ap, arith}
 use Rattle.occ_process.specs.Standing.{IsItem, Stands, behind_part, first_part}
 use Rattle.occ_process.proofs.Standing.{AreParts, part_more, stands_parts}
 use Rattle.occ_tree.specs.declared.row.Row.{Row}

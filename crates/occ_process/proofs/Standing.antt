@@ -1,5 +1,5 @@
 -- Nodes that obey the table are specifications and main lines.
-use Rattle.std.proofs.Common.{◌≡◌, ◌∙◌, ◌<◌, ◌≤◌, ◌+◌, ◌||◌, ℕ, suc, Bool, true, false, List, [], ◌∷◌, ◌++◌, length, map, refl, sym, ap, subst, arith, append_assoc}
+use Rattle.std.proofs.Common.{◌≡◌, ◌∙◌, ◌≤◌, ◌||◌, ℕ, suc, Bool, true, false, List, [], ◌∷◌, ◌++◌, length, map, refl, sym, ap, subst, arith, append_assoc}
 use Rattle.std.proofs.lemmas.Bool.{false≢true, true≢false}
 use Rattle.std.proofs.lemmas.List.{append-nil}
 use Rattle.occ_tree.specs.declared.row.Row.{Row}
@@ -9,9 +9,9 @@ use Rattle.occ_tree.specs.declared.sort.Sort.TheVariants as sort
 use Rattle.occ_tree.specs.declared.tree.Node.{Node, out-Node}
 use Rattle.occ_tree.specs.declared.tree.Node.TheFolds.{fold_out-Node}
 use Rattle.occ_tree.specs.Forest.{Forest, Tree, forest_of, tree_of, tree_step}
-use Rattle.occ_tree.specs.Obeys.{AreItems, AreOpenings, Fits, Headed, IsOpening, IsValue, Item, ObeysUnder, OneLine, Opening, is_file, items_sorts, openings_sorts, root_sorts}
+use Rattle.occ_tree.specs.Obeys.{AreItems, AreOpenings, Headed, IsValue, Item, ObeysUnder, OneLine, Opening, is_file, items_sorts, openings_sorts, root_sorts}
 use Rattle.occ_tree.specs.Table.{is_close, is_head, is_list, is_main, is_process, is_single, lets_line, row_under, takes_local, takes_specifications}
-use Rattle.occ_tree.proofs.Exclusive.{close_main, head_main, line_head, line_main, main_head, main_line, main_no_close}
+use Rattle.occ_tree.proofs.Exclusive.{close_main, head_main, line_head, line_main, main_head, main_no_close}
 use Rattle.occ_process.specs.Standing.{AreMain, AreSpecs, IsItem, IsMain, Stands, begins, behind_part, first_part, is_line, sort_at, specifies, under_of}
 
 opened_tree : (n : Node) (f : Forest) → tree_of n f ≡ Tree (out-Node n).line (forest_of (out-Node n).children) f

@@ -1,5 +1,5 @@
 -- What stands under a main line, and in a row of main lines alone.
-use Rattle.std.proofs.Common.{◌≡◌, ◌∙◌, ◌≤◌, ◌||◌, ◌⊎◌, not, Bool, true, false, List, [], ◌∷◌, inl, inr, length, refl, sym, ap, subst, arith}
+use Rattle.std.proofs.Common.{◌≡◌, ◌∙◌, ◌≤◌, ◌||◌, not, Bool, true, false, List, [], ◌∷◌, inl, inr, length, refl, sym, ap, subst, arith}
 use Rattle.std.proofs.Common.{None, Some, ℕ, ◌<◌, ◌+◌, ◌++◌, drop, take, slice_index_or, take-append-drop}
 use Rattle.std.proofs.lemmas.Bool.{false≢true, true≢false}
 use Rattle.std.specs.List.{list_any}

@@ -1,4 +1,3 @@
-use Rattle.std.proofs.Common.{[]}
 use Rattle.occ_process.proofs.Mains.{choice_item, choice_last, choice_under, none_still, still_none}
 use Rattle.occ_tree.specs.declared.row.Row.TheVariants as row
 use Rattle.occ_process.proofs.choice.choice.Goals as goal
