@@ -94,21 +94,26 @@ fn reads_sizes(rt: HostRuntime) -> Result<(), Fail> {
     assert!(rt; faults.is_empty());
     assert_eq!(rt; size(alloc, &Term::Single(literal(-1)), &mut faults)?, None);
     assert!(rt; is_told(&faults, Code::T6));
-    let mut faults = Items::new(alloc);
-    let varying = Term::Single(variable(alloc, Primitive::Int)?);
-    assert_eq!(rt; size(alloc, &varying, &mut faults)?, None);
-    assert!(rt; is_told(&faults, Code::T5));
-    let mut faults = Items::new(alloc);
-    let byte = Term::Single(variable(alloc, Primitive::Byte)?);
-    assert_eq!(rt; size(alloc, &byte, &mut faults)?, None);
-    assert!(rt; is_told(&faults, Code::T2));
     Ok(())
 }
 
-#[test]
-fn settles_tables_with_their_type(rt: HostRuntime) -> Result<(), Fail> {
-    let alloc = rt.alloc();
+/// The size that a variable of this type would be has the one fault.
+fn is_no_size(alloc: Global, primitive: Primitive, code: Code) -> Result<bool, Fail> {
     let mut faults = Items::new(alloc);
+    let varying = Term::Single(variable(alloc, primitive)?);
+    Ok(size(alloc, &varying, &mut faults)?.is_none() && is_told(&faults, code))
+}
+
+#[test]
+fn refuses_sizes(rt: HostRuntime) -> Result<(), Fail> {
+    let alloc = rt.alloc();
+    assert!(rt; is_no_size(alloc, Primitive::Int, Code::T5)?);
+    assert!(rt; is_no_size(alloc, Primitive::Byte, Code::T2)?);
+    Ok(())
+}
+
+/// A record of two BYTEs.
+fn record(alloc: Global) -> Result<Shared<OccType>, AllocError> {
     let mut fields = Items::new(alloc);
     for name in [b"a", b"b"] {
         fields.push(Field {
@@ -116,21 +121,32 @@ fn settles_tables_with_their_type(rt: HostRuntime) -> Result<(), Fail> {
             of: of(alloc, Primitive::Byte)?,
         })?;
     }
-    let record = Shared::new(alloc, OccType::Record(Packing::Plain, fields))?;
+    Shared::new(alloc, OccType::Record(Packing::Plain, fields))
+}
+
+#[test]
+fn settles_tables_with_their_type(rt: HostRuntime) -> Result<(), Fail> {
+    let alloc = rt.alloc();
+    let mut faults = Items::new(alloc);
     let values = pair(alloc, Term::Single(literal(1)), Term::Single(literal(255)))?;
-    let whole = decorated_table(alloc, values.as_slice(), &record, &mut faults)?;
+    let whole = decorated_table(alloc, values.as_slice(), &record(alloc)?, &mut faults)?;
     assert_eq!(rt; bytes(&whole), Some(2));
+    assert!(rt; faults.is_empty());
+    let short = decorated_table(alloc, &values.as_slice()[..1], &record(alloc)?, &mut faults)?;
+    assert!(rt; is_faulty(&short) && is_told(&faults, Code::T4));
+    Ok(())
+}
+
+#[test]
+fn settles_characters_with_their_type(rt: HostRuntime) -> Result<(), Fail> {
+    let alloc = rt.alloc();
+    let mut faults = Items::new(alloc);
     let named = OccType::Named(Name::from_slice(alloc, b"C")?, of(alloc, Primitive::Byte)?);
     let named = Shared::new(alloc, named)?;
     let byte = OccType::Primitive(Primitive::Byte);
     let letter = decorated(&named, &byte, Some(Value::Byte(65)), &mut faults)?;
     assert_eq!(rt; value(&letter), Some(Value::Byte(65)));
     assert!(rt; faults.is_empty());
-    let mut one = Items::new(alloc);
-    one.push(Term::Single(literal(300)))?;
-    let short = decorated_table(alloc, one.as_slice(), &record, &mut faults)?;
-    assert!(rt; is_faulty(&short) && is_told(&faults, Code::T4));
-    let mut faults = Items::new(alloc);
     let int = of(alloc, Primitive::Int)?;
     let wrong = decorated(&int, &byte, Some(Value::Byte(65)), &mut faults)?;
     assert!(rt; is_faulty(&wrong) && is_told(&faults, Code::T2));
