@@ -17,6 +17,13 @@ fn pair(alloc: Global, a: Term, b: Term) -> Result<Items<Term>, AllocError> {
     Ok(items)
 }
 
+/// A table of one item.
+fn one(alloc: Global, item: Term) -> Result<Items<Term>, AllocError> {
+    let mut items = Items::new(alloc);
+    items.push(item)?;
+    Ok(items)
+}
+
 /// A variable that is an array of INTs.
 fn array(alloc: Global, count: Option<u32>) -> Result<Kind, Fail> {
     let mut faults = Items::new(alloc);
@@ -132,7 +139,8 @@ fn settles_tables_with_their_type(rt: HostRuntime) -> Result<(), Fail> {
     let whole = decorated_table(alloc, values.as_slice(), &record(alloc)?, &mut faults)?;
     assert_eq!(rt; bytes(&whole), Some(2));
     assert!(rt; faults.is_empty());
-    let short = decorated_table(alloc, &values.as_slice()[..1], &record(alloc)?, &mut faults)?;
+    let short = one(alloc, Term::Single(literal(1)))?;
+    let short = decorated_table(alloc, short.as_slice(), &record(alloc)?, &mut faults)?;
     assert!(rt; is_faulty(&short) && is_told(&faults, Code::T4));
     Ok(())
 }
