@@ -10,7 +10,8 @@ use occ_operators::{Fault, Kind, int, tell};
 use occ_types::Value;
 use std::alloc::{AllocError, Global};
 
-fn number_in(value: Option<Value>) -> Option<i64>
+/// The number of a constant.
+pub(super) fn number_in(value: Option<Value>) -> Option<i64>
     ensures { result ≡ the_number value }
 {
     match value {

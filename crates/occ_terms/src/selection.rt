@@ -3,6 +3,7 @@ ghost use Rattle.occ_operators.specs.Operators.{is_faulty as faulty};
 ghost use Rattle.occ_terms.specs.Segments.{bound as told_bound, constant_of as the_constant, count_of as the_count, ends_behind as end_is_behind, for_count as told_for, from_base as told_from, from_for as told_from_for, is_beyond as beyond, is_negative as negative, no_part as told_no_part, no_parts as told_no_parts, no_segment as told_no_segment, segment as told_segment, segment_within as told_within, taken as told_taken, to_the_end as the_rest};
 ghost use Rattle.occ_terms.specs.Terms.{judged};
 
+use super::dimension::number_in;
 use super::table::under;
 use super::term::Term;
 use occ_base::{Code, Items, Shared};
@@ -26,10 +27,7 @@ fn constant_of(kind: &Kind) -> Option<i64>
     ensures { result ≡ the_constant kind.now }
 {
     match kind {
-        Kind::Known(found) => match found.value {
-            Some(value) => Some(value.number()),
-            None => None,
-        },
+        Kind::Known(found) => number_in(found.value),
         _ => None,
     }
 }

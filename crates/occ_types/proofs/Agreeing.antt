@@ -2,7 +2,7 @@
 use Rattle.std.proofs.Common.{◌≡◌, ℕ, List, [], ◌∷◌, map, Option, Some, None, Bool, true, false, refl, ap, sym, ◌∙◌, ◌≢◌}
 use Rattle.std.specs.Prelude.{◌&&◌}
 use Rattle.occ_types.specs.declared.types.Item.TheOpen.{Item-F, OccType-F, Protocol-F}
-use Rattle.occ_types.specs.declared.types.Item.TheFolds.{fold-Item, fold-OccType, fold-Protocol, fold-Field, fold-Tag, fold-roll-Item, fold-roll-OccType, fold-roll-Protocol, fold-roll-Field, fold-roll-Tag}
+use Rattle.occ_types.specs.declared.types.Item.TheFolds.{fold-OccType, fold-Field, fold-Tag, fold-roll-Item, fold-roll-OccType, fold-roll-Protocol, fold-roll-Field, fold-roll-Tag}
 use Rattle.occ_types.specs.declared.types.Item.TheViews.{roll-out-Field, roll-out-Item, roll-out-OccType, roll-out-Protocol, roll-out-Tag, out-roll-Item, out-roll-OccType, out-roll-Protocol}
 use Rattle.occ_types.specs.declared.types.OccType.{OccType, out-OccType, roll-OccType}
 use Rattle.occ_types.specs.declared.types.OccType.TheVariants as t

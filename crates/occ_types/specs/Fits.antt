@@ -6,7 +6,6 @@ use Rattle.occ_types.specs.declared.types.Item.{Item}
 use Rattle.occ_types.specs.declared.types.Item.TheFolds.{fold-Item, fold-OccType, fold-Protocol}
 use Rattle.occ_types.specs.declared.types.Item.TheOpen.{Field-F, Item-F, OccType-F, Protocol-F, Tag-F}
 use Rattle.occ_types.specs.declared.types.OccType.{OccType}
-use Rattle.occ_types.specs.declared.types.OccType.TheVariants as t
 use Rattle.occ_types.specs.declared.types.Packing.{Packing}
 use Rattle.occ_types.specs.declared.types.Packing.TheVariants as k
 use Rattle.occ_types.specs.declared.types.Protocol.{Protocol}

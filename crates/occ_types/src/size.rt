@@ -12,7 +12,8 @@ pub fn bytes_of(of: &OccType) -> Option<u32>
     within(extent(of))
 }
 
-/// Whether a type has bytes, be they too many: it is no channel and no timer, and has no open dimension.
+/// Whether a type has bytes, be they too many: it is and holds no channel, no timer and no unknown type, and has no open
+/// dimension.
 pub fn has_bytes(of: &OccType) -> bool
     ensures { result ≡ is_known (size_of of.now) }
 {
