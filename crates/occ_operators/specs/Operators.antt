@@ -14,10 +14,8 @@ use Rattle.occ_types.specs.declared.value.Primitive.{Primitive}
 use Rattle.occ_types.specs.declared.value.Primitive.TheVariants as p
 use Rattle.occ_types.specs.declared.value.Value.{Value}
 use Rattle.occ_operators.specs.declared.kind.Fault.{Fault}
-use Rattle.occ_operators.specs.declared.kind.Free.{Free}
 use Rattle.occ_operators.specs.declared.kind.Kind.{Kind}
 use Rattle.occ_operators.specs.declared.kind.Kind.TheVariants as k
-use Rattle.occ_operators.specs.declared.kind.Known.{Known}
 use Rattle.occ_operators.specs.declared.kind.Outcome.{Outcome}
 use Rattle.occ_operators.specs.declared.kind.Outcome.TheVariants as o
 use Rattle.occ_operators.specs.declared.operate.Class.{Class}
