@@ -9,13 +9,10 @@ use Rattle.occ_types.specs.declared.types.OccType.TheVariants as t
 use Rattle.occ_types.specs.Size.{is_over, size_of}
 use Rattle.occ_types.specs.View.{Layer}
 use Rattle.occ_types.proofs.Agreeing.{as_array_at_array}
-use Rattle.occ_terms.specs.Extents.{innermost, innermost_step, is_oversized, of_component, oversized_step}
+use Rattle.occ_terms.specs.Extents.{is_oversized, of_component, oversized_step}
 
 abbrev oversized_fold : OccType → OccType → Bool
 oversized_fold = fold-OccType (Unit {0}) (OccType → Bool) (Unit {0}) (Unit {0}) (Unit {0}) (λ _. tt) oversized_step (λ _. tt) (λ _. tt) (λ _. tt)
-
-abbrev innermost_fold : OccType → OccType → OccType
-innermost_fold = fold-OccType (Unit {0}) (OccType → OccType) (Unit {0}) (Unit {0}) (Unit {0}) (λ _. tt) innermost_step (λ _. tt) (λ _. tt) (λ _. tt)
 
 pub is_oversized_array : (n : Option ℕ) (inner : OccType) → is_oversized (t.Array n inner) ≡ (is_over (size_of (t.Array n inner)) || is_oversized inner)
 unfolding is_oversized
@@ -39,26 +36,4 @@ is_oversized_itself u h =
     ∙ is_oversized_layer (out-OccType u) (λ n inner e. h n inner (sym (roll-out-OccType u) ∙ e))
     ∙ ap (λ (v : OccType). is_over (size_of v)) (roll-out-OccType u)
 
-pub innermost_array : (n : Option ℕ) (inner : OccType) → innermost (t.Array n inner) ≡ (innermost inner)
-unfolding innermost
-innermost_array n inner =
-    ap (λ (f : OccType → OccType). f (t.Array n inner)) (ap innermost_fold (sym (t.rolls-Array n inner)) ∙ fold-roll-OccType (Unit {0}) (OccType → OccType) (Unit {0}) (Unit {0}) (Unit {0}) (λ _. tt) innermost_step (λ _. tt) (λ _. tt) (λ _. tt) (OccType-F.Array n inner))
-    ∙ ap (λ (p : Option (Option ℕ × OccType)). of_component (t.Array n inner) (innermost_fold inner) p) (as_array_at_array n inner)
-
-innermost_layer : (y : Layer) → ((n : Option ℕ) (inner : OccType) → roll-OccType y ≢ t.Array n inner) → innermost (roll-OccType y) ≡ (roll-OccType y)
-unfolding innermost
-innermost_layer (OccType-F.Array n inner) h = absurd (h n inner (t.rolls-Array n inner))
-innermost_layer (OccType-F.Primitive x) h = ap (λ (f : OccType → OccType). f (roll-OccType (OccType-F.Primitive x))) (fold-roll-OccType (Unit {0}) (OccType → OccType) (Unit {0}) (Unit {0}) (Unit {0}) (λ _. tt) innermost_step (λ _. tt) (λ _. tt) (λ _. tt) (OccType-F.Primitive x))
-innermost_layer (OccType-F.Record packing fields) h = ap (λ (f : OccType → OccType). f (roll-OccType (OccType-F.Record packing fields))) (fold-roll-OccType (Unit {0}) (OccType → OccType) (Unit {0}) (Unit {0}) (Unit {0}) (λ _. tt) innermost_step (λ _. tt) (λ _. tt) (λ _. tt) (OccType-F.Record packing fields))
-innermost_layer (OccType-F.Named name inner) h = ap (λ (f : OccType → OccType). f (roll-OccType (OccType-F.Named name inner))) (fold-roll-OccType (Unit {0}) (OccType → OccType) (Unit {0}) (Unit {0}) (Unit {0}) (λ _. tt) innermost_step (λ _. tt) (λ _. tt) (λ _. tt) (OccType-F.Named name inner))
-innermost_layer (OccType-F.Channel carried) h = ap (λ (f : OccType → OccType). f (roll-OccType (OccType-F.Channel carried))) (fold-roll-OccType (Unit {0}) (OccType → OccType) (Unit {0}) (Unit {0}) (Unit {0}) (λ _. tt) innermost_step (λ _. tt) (λ _. tt) (λ _. tt) (OccType-F.Channel carried))
-innermost_layer OccType-F.Timer h = ap (λ (f : OccType → OccType). f (roll-OccType OccType-F.Timer)) (fold-roll-OccType (Unit {0}) (OccType → OccType) (Unit {0}) (Unit {0}) (Unit {0}) (λ _. tt) innermost_step (λ _. tt) (λ _. tt) (λ _. tt) OccType-F.Timer)
-innermost_layer OccType-F.Unknown h = ap (λ (f : OccType → OccType). f (roll-OccType OccType-F.Unknown)) (fold-roll-OccType (Unit {0}) (OccType → OccType) (Unit {0}) (Unit {0}) (Unit {0}) (λ _. tt) innermost_step (λ _. tt) (λ _. tt) (λ _. tt) OccType-F.Unknown)
-
-pub innermost_itself : (u : OccType) → ((n : Option ℕ) (inner : OccType) → u ≢ t.Array n inner) → innermost u ≡ u
-innermost_itself u h =
-    ap innermost (sym (roll-out-OccType u))
-    ∙ innermost_layer (out-OccType u) (λ n inner e. h n inner (sym (roll-out-OccType u) ∙ e))
-    ∙ roll-out-OccType u
-
-pub ruleset dimension_rules = (is_oversized_array, is_oversized_itself, innermost_array, innermost_itself)
+pub ruleset dimension_rules = (is_oversized_array, is_oversized_itself)

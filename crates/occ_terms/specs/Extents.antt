@@ -1,8 +1,9 @@
--- When the type of a table is too large.
+-- When a type is too large.
 use Rattle.std.specs.Prelude.{ℕ, nat_le, Bool, false, not, ◌||◌, ◌&&◌, Option, Some, None, [], if◌then◌else◌}
 use Rattle.occ_base.specs.declared.code.Code.TheVariants as code
 use Rattle.occ_types.specs.Measure.{measure_of}
-use Rattle.occ_types.specs.Size.{is_known, is_over, size_of}
+use Rattle.occ_types.specs.Size.{is_over, size_of}
+use Rattle.occ_types.specs.Unknown.{holds_unknown}
 use Rattle.occ_types.specs.View.{as_array}
 use Rattle.occ_types.specs.declared.measure.Measure.{Measure}
 use Rattle.occ_types.specs.declared.types.Item.TheFolds.{fold-OccType}
@@ -29,26 +30,13 @@ oversized_step OccType-F.Unknown self = is_over (size_of self)
 unfoldable pub is_oversized : OccType → Bool
 is_oversized u = fold-OccType (Unit {0}) (OccType → Bool) (Unit {0}) (Unit {0}) (Unit {0}) (λ _. tt) oversized_step (λ _. tt) (λ _. tt) (λ _. tt) u u
 
-abbrev pub innermost_step : OccType-F (Unit {0}) (OccType → OccType) (Unit {0}) (Unit {0}) (Unit {0}) → OccType → OccType
-innermost_step (OccType-F.Array n inner) self = of_component self inner (as_array self)
-innermost_step (OccType-F.Primitive primitive) self = self
-innermost_step (OccType-F.Record packing fields) self = self
-innermost_step (OccType-F.Named name inner) self = self
-innermost_step (OccType-F.Channel carried) self = self
-innermost_step OccType-F.Timer self = self
-innermost_step OccType-F.Unknown self = self
-
--- the type behind all dimensions
-unfoldable pub innermost : OccType → OccType
-innermost u = fold-OccType (Unit {0}) (OccType → OccType) (Unit {0}) (Unit {0}) (Unit {0}) (λ _. tt) innermost_step (λ _. tt) (λ _. tt) (λ _. tt) u u
-
 -- over 128 levels, or over 4,096 types
 abbrev pub is_too_wide : Measure → Bool
 is_too_wide m = not (nat_le m.levels 128) || not (nat_le m.types 4096)
 
 -- it has too many bytes, levels or types; these two are not asked of a type that holds a field with a faulty line
 abbrev pub is_too_large : OccType → Bool
-is_too_large u = is_oversized u || (is_known (size_of (innermost u)) && is_too_wide (measure_of u))
+is_too_large u = is_oversized u || (not (holds_unknown u) && is_too_wide (measure_of u))
 
 -- an array of so many components of a data type
 abbrev pub arrayed : Option ℕ → OccType → Told

@@ -69,13 +69,14 @@ joined of xs = with_items xs (items_type of (kinds xs))
 
 -- ---- operands, tables among them
 
--- an operand: whether it is free, whether something in it is faulty, what is told of it where no type is wanted, and
--- where one is
+-- an operand: whether it is free, whether something in it is faulty, what is told of it where no type is wanted, where
+-- one is, and beside other operands, of which one has a fault or none has
 pub record Judged : Type 0 where
   pub is_free : Bool
   pub is_faulty : Bool
   pub alone : Told
   pub under : OccType → Told
+  pub beside : Bool → Told
 
 abbrev pub under : OccType → Judged → Told
 under of x = x.under of
@@ -112,9 +113,16 @@ table_under xs of = and_then (table_of xs (as_array of)) (wanted of)
 abbrev pub has_fault : Judged → Bool
 has_fault x = x.is_faulty
 
+abbrev pub as_it_is : Kind → Told
+as_it_is k = record { faults = []; kind = k }
+
+-- no type is wanted of a table beside other operands; beside one with a fault nothing is asked of it
+abbrev pub table_beside : List Judged → Bool → Told
+table_beside xs other_has_fault = if other_has_fault then silent else table_alone xs
+
 abbrev pub term_step : Term-F Judged → Judged
-term_step (Term-F.Single k) = record { is_free = is_free_kind k; is_faulty = is_faulty k; alone = settled int k; under = λ of. wanted of k }
-term_step (Term-F.Table xs) = record { is_free = false; is_faulty = list_any has_fault xs; alone = table_alone xs; under = table_under xs }
+term_step (Term-F.Single k) = record { is_free = is_free_kind k; is_faulty = is_faulty k; alone = settled int k; under = λ of. wanted of k; beside = λ other_has_fault. as_it_is k }
+term_step (Term-F.Table xs) = record { is_free = false; is_faulty = list_any has_fault xs; alone = table_alone xs; under = table_under xs; beside = table_beside xs }
 
 abbrev pub judged : Term → Judged
 judged = fold-Term Judged term_step

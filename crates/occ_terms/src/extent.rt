@@ -1,12 +1,12 @@
 #![tactic(auto, using(crate::proofs::Dimensions::dimension_rules))]
 
 ghost use Rattle.std.specs.Prelude.{◌≡◌, ◌++◌, IfOk, OnOk};
-ghost use Rattle.occ_terms.specs.Extents.{arrayed as array_told, innermost as behind_dimensions, is_oversized as oversized, is_too_large as too_large, is_too_wide as too_wide};
+ghost use Rattle.occ_terms.specs.Extents.{arrayed as array_told, is_oversized as oversized, is_too_large as too_large, is_too_wide as too_wide};
 ghost use Rattle.occ_types.specs.Measure.{measure_of as measured};
 
 use occ_base::{Code, Items, Shared};
 use occ_operators::{Fault, Kind, known, tell};
-use occ_types::{OccType, has_bytes, is_oversized as has_too_many_bytes, measure_of};
+use occ_types::{OccType, holds_unknown, is_oversized as has_too_many_bytes, measure_of};
 use std::alloc::{AllocError, Global};
 
 /// Whether a type, or one that it is an array of, has over 2,147,483,647 bytes.
@@ -19,16 +19,6 @@ fn is_oversized(of: &OccType) -> bool
     }
 }
 
-/// The type behind all dimensions.
-fn innermost(of: &OccType) -> &OccType
-    ensures { result.now ≡ behind_dimensions of.now }
-{
-    match of {
-        OccType::Array(_, inner) => innermost(inner.get()),
-        _ => of,
-    }
-}
-
 /// Whether a type of this measure has over 128 levels or over 4,096 types.
 fn is_too_wide(of: &OccType) -> bool
     ensures { result ≡ too_wide (measured of.now) }
@@ -37,11 +27,12 @@ fn is_too_wide(of: &OccType) -> bool
     measure.levels > 128 || measure.types > 4096
 }
 
-/// Whether the type of an operand is too large.
-fn is_too_large(of: &OccType) -> bool
+/// Whether a type is too large: it, or a type that it is an array of, has over 2,147,483,647 bytes, or it has over 128
+/// levels or over 4,096 types. Levels and types are not asked of a type that holds a field with a faulty line.
+pub fn is_too_large(of: &OccType) -> bool
     ensures { result ≡ too_large of.now }
 {
-    is_oversized(of) || has_bytes(innermost(of)) && is_too_wide(of)
+    is_oversized(of) || !holds_unknown(of) && is_too_wide(of)
 }
 
 /// An array of so many components of a data type, as the type of an operand: T9 is told where it is too large.

@@ -1,6 +1,7 @@
 //! Operands before a type is wanted of them, tables among them, and the types that they then take.
 #![tactic(auto)]
 
+mod beside;
 mod decorate;
 mod dimension;
 mod extent;
@@ -12,11 +13,13 @@ mod selection;
 mod table;
 mod term;
 
+pub use beside::operand;
 pub use decorate::{decorated, decorated_table};
 pub use dimension::size;
-pub use extent::arrayed;
+pub use extent::{arrayed, is_too_large};
 pub use measure::{Limit, most, sized};
+pub use merge::merged;
 pub use placing::{any_has_fault, has_fault, item};
 pub use selection::{Bounds, segment};
-pub use table::{alone, under};
+pub use table::{alone, table_type, under};
 pub use term::Term;

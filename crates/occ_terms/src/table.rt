@@ -44,7 +44,7 @@ fn merged_all(
 }
 
 /// A table of so many items of one type, if they have one.
-fn table_type(
+pub fn table_type(
     alloc: Global,
     count: usize,
     of: Option<Shared<OccType>>,
@@ -215,7 +215,11 @@ fn after_first(
 
 /// A table of which no type is wanted.
 #[cycle(judge)]
-fn table_alone(alloc: Global, items: &[Term], faults: &mut Items<Fault>) -> Result<Kind, AllocError>
+pub(super) fn table_alone(
+    alloc: Global,
+    items: &[Term],
+    faults: &mut Items<Fault>,
+) -> Result<Kind, AllocError>
     ensures kind { IfOk result (λ kind. kind ≡ (told_table_alone (judged_all items.now)).kind) }
     ensures faults { OnOk result (faults.new ≡ faults.old ++ (told_table_alone (judged_all items.now)).faults) }
 {

@@ -4,3 +4,4 @@ pub mod Measure
 pub mod Interface
 pub mod View
 pub mod Fits
+pub mod Unknown

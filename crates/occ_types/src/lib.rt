@@ -14,6 +14,7 @@ mod same;
 mod size;
 pub mod type_rows;
 mod types;
+mod unknown;
 mod value;
 
 pub use comparison::same_interface;
@@ -30,4 +31,5 @@ pub use measure::{Measure, measure_of, measure_protocol};
 pub use same::{same_protocol, same_type};
 pub use size::{bytes_of, has_bytes, is_oversized};
 pub use types::{Field, Item, OccType, Packing, Protocol, Tag};
+pub use unknown::holds_unknown;
 pub use value::{Primitive, Value};

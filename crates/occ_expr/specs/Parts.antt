@@ -1,0 +1,180 @@
+-- What is said of expressions and elements from what is said of their parts.
+use Rattle.std.specs.Prelude.{ℕ, Option, Some, None, List, [], ◌∷◌, ◌++◌}
+use Rattle.occ_base.specs.declared.code.Code.TheVariants as code
+use Rattle.occ_types.specs.Fits.{unnamed}
+use Rattle.occ_types.specs.View.{fields_in}
+use Rattle.occ_types.specs.declared.types.Field.{Field}
+use Rattle.occ_types.specs.declared.types.OccType.{OccType}
+use Rattle.occ_operators.specs.Parts.{field, subscripted}
+use Rattle.occ_operators.specs.Settling.{Told, known, nameless, silent}
+use Rattle.occ_operators.specs.declared.kind.Fault.{Fault}
+use Rattle.occ_operators.specs.declared.kind.Kind.{Kind}
+use Rattle.occ_operators.specs.declared.kind.Kind.TheVariants as k
+use Rattle.occ_names.specs.Lookup.{Found, element}
+use Rattle.occ_names.specs.Visible.{visible}
+use Rattle.occ_names.specs.declared.meaning.Meaning.{Meaning}
+use Rattle.occ_names.specs.declared.meaning.Meaning.TheVariants as m
+use Rattle.occ_names.specs.declared.meaning.Whole.{Whole}
+use Rattle.occ_names.specs.declared.scope.Scope.{Scope}
+use Rattle.occ_terms.specs.Decorating.{decorated_table}
+use Rattle.occ_terms.specs.Segments.{segment}
+use Rattle.occ_terms.specs.Terms.{and_then, item, judged, judged_all}
+use Rattle.occ_terms.specs.declared.selection.Bounds.{Bounds}
+use Rattle.occ_terms.specs.declared.term.Term.{Term}
+use Rattle.occ_terms.specs.declared.term.Term.TheVariants as v
+use Rattle.occ_expr.specs.Operations.{converted, plain}
+
+-- what is said of an expression: its faults, and what it is before a type is wanted of it
+pub record Said : Type 0 where
+  pub faults : List Fault
+  pub term : Term
+
+-- an expression in any scope, and the name that it is, if it is a name alone
+pub record ExprView : Type 0 where
+  pub name : Option (List ℕ)
+  pub said : Scope → Said
+
+abbrev pub single : Told → Said
+single x = record { faults = x.faults; term = v.Single x.kind }
+
+abbrev pub after : List Fault → Told → Told
+after faults x = record { faults = faults ++ x.faults; kind = x.kind }
+
+abbrev pub in_scope : Scope → List ExprView → List Said
+in_scope s [] = []
+in_scope s (e ∷ es) = e.said s ∷ in_scope s es
+
+abbrev pub terms : List Said → List Term
+terms [] = []
+terms (x ∷ xs) = x.term ∷ terms xs
+
+abbrev pub own_faults : List Said → List Fault
+own_faults [] = []
+own_faults (x ∷ xs) = x.faults ++ own_faults xs
+
+abbrev pub only : {X : Type 0} → List X → Option X
+only [] = None
+only (x ∷ []) = Some x
+only (x ∷ y ∷ xs) = None
+
+-- ---- items of tables
+
+unfoldable pub table_item : Said → Said
+table_item x = let i = item x.term in record { faults = x.faults ++ i.faults; term = i.term }
+
+abbrev pub table_items : List Said → List Said
+table_items [] = []
+table_items (x ∷ xs) = table_item x ∷ table_items xs
+
+abbrev pub table : List Said → Said
+table xs = let ys = table_items xs in record { faults = own_faults ys; term = v.Table (terms ys) }
+
+-- nothing is asked of the items where the type is not known
+unfoldable pub table_as : Option OccType → List Term → Told
+table_as None xs = silent
+table_as (Some to) xs = decorated_table to (judged_all xs)
+
+abbrev pub table_with_type : List Said → Found OccType → Told
+table_with_type xs of = let ys = table_items xs in after (own_faults ys ++ of.faults) (table_as of.found (terms ys))
+
+-- ---- elements
+
+abbrev pub kind_of_whole : Option Whole → Kind
+kind_of_whole None = k.Faulty
+kind_of_whole (Some whole) = known whole.of whole.value
+
+abbrev pub named : Found Whole → Told
+named x = record { faults = x.faults; kind = kind_of_whole x.found }
+
+-- behind what is faulty a name may be a field's, and is not looked up
+abbrev pub hidden_from : Scope → ExprView → Option (List ℕ) → Told
+hidden_from s e None = record { faults = (e.said s).faults; kind = k.Faulty }
+hidden_from s e (Some name) = silent
+
+unfoldable pub hidden : Scope → ExprView → Told
+hidden s e = hidden_from s e e.name
+
+unfoldable pub component : Scope → OccType → ExprView → Told
+component s of e = let x = e.said s in after x.faults (and_then (plain (judged x.term)) (subscripted of))
+
+-- of a record a name alone selects a field
+abbrev pub field_or_component : Scope → OccType → List Field → ExprView → Option (List ℕ) → Told
+field_or_component s of fields e None = component s of e
+field_or_component s of fields e (Some name) = field fields name
+
+unfoldable pub part : Scope → OccType → Option (List Field) → ExprView → Told
+part s of None e = component s of e
+part s of (Some fields) e = field_or_component s of fields e e.name
+
+unfoldable pub subscript : Scope → ExprView → Kind → Told
+subscript s e k.Faulty = hidden s e
+subscript s e (k.Free f) = hidden s e
+subscript s e (k.Known x) = part s x.of (fields_in (unnamed x.of)) e
+
+abbrev pub subscripts : Scope → List ExprView → Kind → Told
+subscripts s [] kind = record { faults = []; kind = kind }
+subscripts s (e ∷ es) kind = and_then (subscript s e kind) (subscripts s es)
+
+unfoldable pub named_element : Scope → List ℕ → List ExprView → Told
+named_element s name es = and_then (named (element name (visible s name))) (subscripts s es)
+
+pub record SaidBounds : Type 0 where
+  pub faults : List Fault
+  pub bounds : Bounds
+
+unfoldable pub segment_of : Kind → Bounds → Told
+segment_of k.Faulty b = silent
+segment_of (k.Free f) b = silent
+segment_of (k.Known x) b = segment x.of b
+
+abbrev pub segment_within : SaidBounds → Kind → Told
+segment_within b kind = after b.faults (segment_of kind b.bounds)
+
+abbrev pub segment_element : Scope → Told → SaidBounds → List ExprView → Told
+segment_element s x b es = and_then (and_then x (segment_within b)) (subscripts s es)
+
+-- ---- calls, and what has the form of a call or of an element and is a conversion
+
+-- a call of a function is not of the first sublanguage
+abbrev pub call_faults : List ℕ → Option Meaning → List Fault
+call_faults name None = (record { code = code.N1; name = Some name }) ∷ []
+call_faults name (Some m.Faulty) = []
+call_faults name (Some (m.Type of)) = (record { code = code.N2; name = Some name }) ∷ []
+call_faults name (Some (m.Protocol p)) = (record { code = code.N2; name = Some name }) ∷ []
+call_faults name (Some (m.Procedure formals)) = (record { code = code.N2; name = Some name }) ∷ []
+call_faults name (Some (m.Function formals results)) = nameless code.S1 ∷ []
+call_faults name (Some (m.Element whole)) = (record { code = code.N2; name = Some name }) ∷ []
+
+-- no types are wanted of the arguments
+unfoldable pub call : Scope → List ℕ → List ExprView → Told
+call s name es = record { faults = call_faults name (visible s name) ++ own_faults (in_scope s es); kind = k.Faulty }
+
+abbrev pub argument_as : OccType → Said → Told
+argument_as to x = after x.faults (converted (Some to) (judged x.term))
+
+abbrev pub call_of_type : Scope → List ℕ → List ExprView → OccType → Option ExprView → Told
+call_of_type s name es to None = call s name es
+call_of_type s name es to (Some e) = argument_as to (e.said s)
+
+abbrev pub whole_call_of : Scope → List ℕ → List ExprView → Option Meaning → Told
+whole_call_of s name es (Some (m.Type to)) = call_of_type s name es to (only es)
+whole_call_of s name es meaning = call s name es
+
+-- `n (e)` as a whole expression: a conversion, if n is a data type
+unfoldable pub whole_call : Scope → List ℕ → List ExprView → Told
+whole_call s name es = whole_call_of s name es (visible s name)
+
+abbrev pub table_of_one_as : OccType → Said → Told
+table_of_one_as to x = let y = table (x ∷ []) in after y.faults (converted (Some to) (judged y.term))
+
+abbrev pub element_of_type : Scope → List ℕ → List ExprView → OccType → Option ExprView → Told
+element_of_type s name es to None = named_element s name es
+element_of_type s name es to (Some e) = table_of_one_as to (e.said s)
+
+abbrev pub whole_element_of : Scope → List ℕ → List ExprView → Option Meaning → Told
+whole_element_of s name es (Some (m.Type to)) = element_of_type s name es to (only es)
+whole_element_of s name es meaning = named_element s name es
+
+-- `n [e]` as a whole expression: the conversion of a table of one item, if n is a data type
+unfoldable pub whole_element : Scope → List ℕ → List ExprView → Told
+whole_element s name es = whole_element_of s name es (visible s name)

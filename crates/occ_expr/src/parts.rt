@@ -1,0 +1,197 @@
+#![tactic(auto, using(crate::proofs::Views::name_rules))]
+
+ghost use Rattle.std.specs.Prelude.{◌≡◌, ◌∷◌, ◌++◌, [], IfOk, IfSome, MatchOption, None, OnOk, Some};
+ghost use Rattle.occ_expr.specs.Operations.{converted as told_converted};
+ghost use Rattle.occ_expr.specs.Parts.{call_faults as told_call_faults, named as told_named, only as only_one, segment_of as told_segment, table_as as told_table};
+ghost use Rattle.occ_expr.specs.Views.{digits_of as digits, element_view, expr_view, expr_views, operand_view};
+ghost use Rattle.occ_names.specs.Lookup.{element as told_element};
+ghost use Rattle.occ_names.specs.Visible.{visible};
+ghost use Rattle.occ_terms.specs.Terms.{judged};
+ghost use Rattle.occ_terms.specs.declared.term.Term.TheVariants as v;
+
+use super::operation::converted;
+use occ_base::{Code, Items, Name, Shared};
+use occ_expressions::{Element, Expr, Literal, Operand};
+use occ_names::{Meaning, Scope, element};
+use occ_operators::{Fault, Kind, known, tell};
+use occ_terms::{Bounds, Term, decorated_table, segment};
+use occ_types::OccType;
+use std::alloc::{AllocError, Global};
+
+/// The one expression of a list, if it has one and no more.
+pub fn only(exprs: &[Expr]) -> Option<&Expr>
+    ensures view { MatchOption result (only_one (expr_views exprs.now) ≡ None) (λ expr. only_one (expr_views exprs.now) ≡ Some (expr_view expr.now)) }
+    ensures part { IfSome result (λ expr. exprs.now ≡ expr.now ∷ []) }
+{
+    let (first, others) = exprs.split_first()?;
+    match others.split_first() {
+        Some(_) => None,
+        None => Some(first),
+    }
+}
+
+/// The name that an element is alone, without subscripts.
+fn element_name(element: &Element) -> Option<&Name>
+    ensures { MatchOption result ((element_view element.now).name ≡ None) (λ name. (element_view element.now).name ≡ Some name.now) }
+{
+    match element {
+        Element::Named(name, subscripts) => match subscripts.as_slice().split_first() {
+            Some(_) => None,
+            None => Some(name),
+        },
+        Element::Segment(_, _, _) => None,
+    }
+}
+
+/// The name that an operand is alone.
+fn operand_name(operand: &Operand) -> Option<&Name>
+    ensures { MatchOption result ((operand_view operand.now).name ≡ None) (λ name. (operand_view operand.now).name ≡ Some name.now) }
+{
+    match operand {
+        Operand::Element(element) => element_name(element.get()),
+        Operand::Literal(_) => None,
+        Operand::Decorated(_, _) => None,
+        Operand::Truth(_) => None,
+        Operand::Parens(_) => None,
+        Operand::Table(_, _) => None,
+        Operand::DecoratedTable(_, _, _) => None,
+        Operand::Call(_, _) => None,
+    }
+}
+
+/// The name that an expression is, if it is a name alone: a field's, behind a record.
+pub fn name_alone(expr: &Expr) -> Option<&Name>
+    ensures { MatchOption result ((expr_view expr.now).name ≡ None) (λ name. (expr_view expr.now).name ≡ Some name.now) }
+{
+    match expr {
+        Expr::Alone(operand) => operand_name(operand.get()),
+        Expr::Run(_, _, _, _) => None,
+        Expr::Pair(_, _, _) => None,
+        Expr::Applied(_, _) => None,
+        Expr::Converted(_, _, _) => None,
+        Expr::ArrayConverted(_, _, _, _) => None,
+        Expr::Named(_, _) => None,
+        Expr::Most(_, _) => None,
+    }
+}
+
+/// The integer in decimal digits that an operand is, without a type of its own.
+pub fn digits_of(operand: &Operand) -> Option<u64>
+    ensures { result ≡ (operand_view operand.now).digits }
+{
+    match operand {
+        Operand::Literal(literal) => digits_in(literal),
+        Operand::Element(_) => None,
+        Operand::Decorated(_, _) => None,
+        Operand::Truth(_) => None,
+        Operand::Parens(_) => None,
+        Operand::Table(_, _) => None,
+        Operand::DecoratedTable(_, _, _) => None,
+        Operand::Call(_, _) => None,
+    }
+}
+
+/// The integer in decimal digits that a literal is.
+fn digits_in(literal: &Literal) -> Option<u64>
+    ensures { result ≡ digits literal.now }
+{
+    match literal {
+        Literal::Decimal(n) => Some(*n),
+        Literal::Hexadecimal(_) => None,
+        Literal::Character(_) => None,
+        Literal::String(_) => None,
+    }
+}
+
+/// What is told of a name that is called in an expression.
+pub fn tell_call(
+    alloc: Global,
+    scope: &Scope,
+    name: &Name,
+    faults: &mut Items<Fault>,
+) -> Result<(), AllocError>
+    ensures { OnOk result (faults.new ≡ faults.old ++ told_call_faults name.now (visible scope.now name.now)) }
+{
+    let code = match scope.find(name) {
+        None => Code::N1,
+        Some(Meaning::Faulty) => return Ok(()),
+        Some(Meaning::Function(_, _)) => return tell(faults, Code::S1),
+        Some(_) => Code::N2,
+    };
+    let name = Some(name.copied(alloc)?);
+    faults.push(Fault { code, name })
+}
+
+/// What is known of all that a name stands for.
+pub fn named(
+    alloc: Global,
+    scope: &Scope,
+    name: &Name,
+    faults: &mut Items<Fault>,
+) -> Result<Kind, AllocError>
+    ensures kind { IfOk result (λ kind. kind ≡ (told_named (told_element name.now (visible scope.now name.now))).kind) }
+    ensures faults { OnOk result (faults.new ≡ faults.old ++ (told_named (told_element name.now (visible scope.now name.now))).faults) }
+{
+    match element(alloc, scope, name, faults)? {
+        Some(whole) => known(&whole.of, whole.value),
+        None => Ok(Kind::Faulty),
+    }
+}
+
+/// A segment of what is known; none of what is faulty.
+#[tactic(auto, unfolding(crate::specs::Parts::segment_of))]
+pub fn segment_of(
+    alloc: Global,
+    kind: &Kind,
+    bounds: &Bounds,
+    faults: &mut Items<Fault>,
+) -> Result<Kind, AllocError>
+    ensures kind { IfOk result (λ segment. segment ≡ (told_segment kind.now bounds.now).kind) }
+    ensures faults { OnOk result (faults.new ≡ faults.old ++ (told_segment kind.now bounds.now).faults) }
+{
+    match kind {
+        Kind::Known(found) => segment(alloc, bounds, found.of.get(), faults),
+        Kind::Faulty => Ok(Kind::Faulty),
+        Kind::Free(_) => Ok(Kind::Faulty),
+    }
+}
+
+/// A table of these items with its type, if that has no fault.
+#[tactic(auto, unfolding(crate::specs::Parts::table_as))]
+pub fn table_as(
+    alloc: Global,
+    items: &[Term],
+    to: Option<Shared<OccType>>,
+    faults: &mut Items<Fault>,
+) -> Result<Kind, AllocError>
+    ensures kind { IfOk result (λ kind. kind ≡ (told_table to items.now).kind) }
+    ensures faults { OnOk result (faults.new ≡ faults.old ++ (told_table to items.now).faults) }
+{
+    match to {
+        Some(to) => decorated_table(alloc, items, &to, faults),
+        None => Ok(Kind::Faulty),
+    }
+}
+
+/// A list of one item.
+pub fn listed(alloc: Global, item: Term) -> Result<Items<Term>, AllocError>
+    ensures { IfOk result (λ items. items ≡ item ∷ []) }
+{
+    let mut items = Items::new(alloc);
+    items.push(item)?;
+    Ok(items)
+}
+
+/// The conversion of a table of one item.
+pub fn converted_table(
+    alloc: Global,
+    item: Term,
+    to: Shared<OccType>,
+    faults: &mut Items<Fault>,
+) -> Result<Kind, AllocError>
+    ensures kind { IfOk result (λ kind. kind ≡ (told_converted (Some to) (judged (v.Table (item ∷ [])))).kind) }
+    ensures faults { OnOk result (faults.new ≡ faults.old ++ (told_converted (Some to) (judged (v.Table (item ∷ [])))).faults) }
+{
+    let items = listed(alloc, item)?;
+    converted(alloc, &Term::Table(items), Some(to), faults)
+}

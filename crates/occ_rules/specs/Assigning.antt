@@ -1,0 +1,53 @@
+-- Assignments: what is told of the targets, and then of the values for them.
+use Rattle.std.specs.Prelude.{ℕ, ◌==◌, List, [], ◌∷◌, ◌++◌, Some, length, map, if◌then◌else◌}
+use Rattle.std.specs.List.{list_any}
+use Rattle.occ_base.specs.declared.code.Code.TheVariants as code
+use Rattle.occ_types.specs.Fits.{is_data}
+use Rattle.occ_types.specs.declared.types.OccType.{OccType}
+use Rattle.occ_operators.specs.Operators.{all_faults, is_faulty}
+use Rattle.occ_operators.specs.Settling.{Told, nameless, silent}
+use Rattle.occ_operators.specs.declared.kind.Fault.{Fault}
+use Rattle.occ_operators.specs.declared.kind.Kind.{Kind}
+use Rattle.occ_operators.specs.declared.kind.Kind.TheVariants as k
+use Rattle.occ_operators.specs.declared.kind.Known.{Known}
+use Rattle.occ_names.specs.declared.meaning.Access.{Access}
+use Rattle.occ_names.specs.declared.meaning.Access.TheVariants as access
+use Rattle.occ_names.specs.declared.meaning.Whole.{Whole}
+use Rattle.occ_terms.specs.Decorating.{of_another_number}
+use Rattle.occ_terms.specs.Terms.{Judged, alone}
+
+-- ---- targets
+
+abbrev pub reached : Access → List ℕ → Known → Told
+reached access.Variable root x = record { faults = []; kind = k.Known x }
+reached access.Value root x = record { faults = (record { code = code.T3; name = Some root }) ∷ []; kind = k.Faulty }
+
+-- nothing is written through a VAL name; a faulty target was told
+abbrev pub target : Whole → Kind → Told
+target whole k.Faulty = silent
+target whole (k.Free f) = silent
+target whole (k.Known x) = reached whole.access whole.root x
+
+-- ---- values, each for its target
+
+-- a target that holds no data is told, unless the value has a fault, and then no type is wanted
+abbrev pub value_for : OccType → Judged → List Fault
+value_for of x = if is_data of then (x.under of).faults else (if x.is_faulty then [] else nameless code.T2 ∷ [])
+
+-- nothing is asked of the value for a faulty target
+abbrev pub pair : Kind → Judged → List Fault
+pair k.Faulty x = []
+pair (k.Free f) x = []
+pair (k.Known target) x = value_for target.of x
+
+abbrev pub pairs : List Kind → List Judged → List Fault
+pairs [] xs = []
+pairs (target ∷ targets) [] = []
+pairs (target ∷ targets) (x ∷ xs) = pair target x ++ pairs targets xs
+
+-- another number of values than of targets is told where none of them is faulty; no type is wanted of the values
+abbrev pub unpaired : List Kind → List Judged → List Fault
+unpaired targets xs = if list_any is_faulty targets then all_faults (map alone xs) else (of_another_number xs).faults
+
+abbrev pub assigned : List Kind → List Judged → List Fault
+assigned targets xs = if length targets == length xs then pairs targets xs else unpaired targets xs

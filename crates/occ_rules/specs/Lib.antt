@@ -1,0 +1,5 @@
+pub mod Assigning
+pub mod Choosing
+pub mod Resulting
+pub mod Abbreviating
+pub mod Listing

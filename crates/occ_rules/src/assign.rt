@@ -1,0 +1,138 @@
+#![tactic(auto, using(crate::proofs::Counting::judged_length))]
+
+ghost use Rattle.std.specs.Prelude.{◌≡◌, ◌++◌, IfOk, OnOk};
+ghost use Rattle.std.specs.List.{list_any};
+ghost use Rattle.occ_operators.specs.Operators.{is_faulty as faulty};
+ghost use Rattle.occ_rules.specs.Assigning.{assigned as told_assigned, pair as told_pair, pairs as told_pairs, target as told_target, unpaired as told_unpaired, value_for as told_value_for};
+ghost use Rattle.occ_terms.specs.Terms.{judged, judged_all};
+
+use super::count::{each_alone, of_another_number};
+use occ_base::{Code, Items, Shared};
+use occ_names::{Access, Whole};
+use occ_operators::{Fault, Kind, tell};
+use occ_terms::{Term, has_fault, under};
+use occ_types::{OccType, is_data};
+use std::alloc::{AllocError, Global};
+
+/// A target, of which the element is known and all that it is a part of: T3 is told of a VAL name, and the target is
+/// then faulty.
+pub fn target(
+    alloc: Global,
+    kind: Kind,
+    whole: &Whole,
+    faults: &mut Items<Fault>,
+) -> Result<Kind, AllocError>
+    ensures kind { IfOk result (λ target. target ≡ (told_target whole.now kind).kind) }
+    ensures faults { OnOk result (faults.new ≡ faults.old ++ (told_target whole.now kind).faults) }
+{
+    let Kind::Known(known) = kind else {
+        return Ok(Kind::Faulty);
+    };
+    match whole.access {
+        Access::Variable => Ok(Kind::Known(known)),
+        Access::Value => {
+            let name = Some(whole.root.copied(alloc)?);
+            faults.push(Fault {
+                code: Code::T3,
+                name,
+            })?;
+            Ok(Kind::Faulty)
+        }
+    }
+}
+
+/// Whether one of the targets is faulty.
+fn any_faulty(targets: &[Kind]) -> bool
+    ensures { result ≡ list_any faulty targets.now }
+{
+    for target in targets {
+        if let Kind::Faulty = target {
+            return true;
+        }
+    }
+    false
+}
+
+/// The value for a target of this type.
+fn value_for(
+    alloc: Global,
+    of: &Shared<OccType>,
+    value: &Term,
+    faults: &mut Items<Fault>,
+) -> Result<(), AllocError>
+    ensures { OnOk result (faults.new ≡ faults.old ++ told_value_for of.now (judged value.now)) }
+{
+    if is_data(of.get()) {
+        under(alloc, value, of, faults)?;
+        return Ok(());
+    }
+    if has_fault(value) {
+        return Ok(());
+    }
+    tell(faults, Code::T2)
+}
+
+/// A target and the value for it.
+fn pair(
+    alloc: Global,
+    target: &Kind,
+    value: &Term,
+    faults: &mut Items<Fault>,
+) -> Result<(), AllocError>
+    ensures { OnOk result (faults.new ≡ faults.old ++ told_pair target.now (judged value.now)) }
+{
+    match target {
+        Kind::Known(known) => value_for(alloc, &known.of, value, faults),
+        _ => Ok(()),
+    }
+}
+
+/// As many values as targets.
+fn pairs(
+    alloc: Global,
+    targets: &[Kind],
+    values: &[Term],
+    faults: &mut Items<Fault>,
+) -> Result<(), AllocError>
+    ensures { OnOk result (faults.new ≡ faults.old ++ told_pairs targets.now (judged_all values.now)) }
+{
+    let mut values = values;
+    for target in targets {
+        let Some((value, rest)) = values.split_first() else {
+            return Ok(());
+        };
+        pair(alloc, target, value, faults)?;
+        values = rest;
+    }
+    Ok(())
+}
+
+/// More or fewer values than targets.
+fn unpaired(
+    alloc: Global,
+    targets: &[Kind],
+    values: &[Term],
+    faults: &mut Items<Fault>,
+) -> Result<(), AllocError>
+    ensures { OnOk result (faults.new ≡ faults.old ++ told_unpaired targets.now (judged_all values.now)) }
+{
+    if any_faulty(targets) {
+        return each_alone(alloc, values, faults);
+    }
+    of_another_number(alloc, values, faults)
+}
+
+/// The values of an assignment to these targets.
+pub fn assigned(
+    alloc: Global,
+    targets: &[Kind],
+    values: &[Term],
+    faults: &mut Items<Fault>,
+) -> Result<(), AllocError>
+    ensures { OnOk result (faults.new ≡ faults.old ++ told_assigned targets.now (judged_all values.now)) }
+{
+    if targets.len() == values.len() {
+        return pairs(alloc, targets, values, faults);
+    }
+    unpaired(alloc, targets, values, faults)
+}

@@ -1,0 +1,16 @@
+//! What lines ask of their operands.
+#![tactic(auto)]
+
+mod abbreviate;
+mod assign;
+mod choose;
+mod count;
+mod repeat;
+mod result;
+pub mod rows;
+
+pub use abbreviate::{abbreviated, abbreviated_as};
+pub use assign::{assigned, target};
+pub use choose::{condition, options, selector};
+pub use repeat::repeated;
+pub use result::{of_data, results};
