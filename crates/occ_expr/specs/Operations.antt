@@ -122,10 +122,11 @@ applied mo.BitNotWord digits x = in_front m.BitNot x
 applied mo.Not digits x = in_front m.Not x
 applied mo.Size digits x = and_then x.alone sized
 
--- ---- conversions, and the ends of a type: nothing is asked where the type is not known
+-- ---- conversions, and the ends of a type
 
+-- a conversion wants nothing of its operand, so that one is judged also where the type is not known
 unfoldable pub converted : Option OccType → Judged → Told
-converted None x = silent
+converted None x = record { faults = x.alone.faults; kind = k.Faulty }
 converted (Some to) x = and_then (plain x) (conversion to)
 
 unfoldable pub extreme_of : Extreme → Option OccType → Told

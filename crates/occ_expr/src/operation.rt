@@ -233,7 +233,7 @@ pub fn applied(
     }
 }
 
-/// A conversion of an operand to a type, if that has no fault.
+/// A conversion of an operand to a type. Where that has a fault the operand is judged all the same.
 #[tactic(auto, unfolding(crate::specs::Operations::converted))]
 pub fn converted(
     alloc: Global,
@@ -245,6 +245,7 @@ pub fn converted(
     ensures faults { OnOk result (faults.new ≡ faults.old ++ (told_converted to (judged term.now)).faults) }
 {
     let Some(to) = to else {
+        alone(alloc, term, faults)?;
         return Ok(Kind::Faulty);
     };
     let kind = plain(alloc, term, faults)?;

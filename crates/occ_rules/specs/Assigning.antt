@@ -1,10 +1,9 @@
 -- Assignments: what is told of the targets, and then of the values for them.
 use Rattle.std.specs.Prelude.{ℕ, ◌==◌, List, [], ◌∷◌, ◌++◌, Some, length, map, if◌then◌else◌}
-use Rattle.std.specs.List.{list_any}
 use Rattle.occ_base.specs.declared.code.Code.TheVariants as code
 use Rattle.occ_types.specs.Fits.{is_data}
 use Rattle.occ_types.specs.declared.types.OccType.{OccType}
-use Rattle.occ_operators.specs.Operators.{all_faults, is_faulty}
+use Rattle.occ_operators.specs.Operators.{all_faults}
 use Rattle.occ_operators.specs.Settling.{Told, nameless, silent}
 use Rattle.occ_operators.specs.declared.kind.Fault.{Fault}
 use Rattle.occ_operators.specs.declared.kind.Kind.{Kind}
@@ -13,8 +12,9 @@ use Rattle.occ_operators.specs.declared.kind.Known.{Known}
 use Rattle.occ_names.specs.declared.meaning.Access.{Access}
 use Rattle.occ_names.specs.declared.meaning.Access.TheVariants as access
 use Rattle.occ_names.specs.declared.meaning.Whole.{Whole}
-use Rattle.occ_terms.specs.Decorating.{of_another_number}
-use Rattle.occ_terms.specs.Terms.{Judged, alone}
+use Rattle.occ_terms.specs.Terms.{Judged}
+use Rattle.occ_rules.specs.Abbreviating.{abbreviated, holding}
+use Rattle.occ_rules.specs.Numbering.{any_faulty, of_another_number}
 
 -- ---- targets
 
@@ -45,9 +45,11 @@ pairs [] xs = []
 pairs (target ∷ targets) [] = []
 pairs (target ∷ targets) (x ∷ xs) = pair target x ++ pairs targets xs
 
--- another number of values than of targets is told where none of them is faulty; no type is wanted of the values
+-- another number of values than of targets: each has to be data, and no type is wanted of the values
 abbrev pub unpaired : List Kind → List Judged → List Fault
-unpaired targets xs = if list_any is_faulty targets then all_faults (map alone xs) else (of_another_number xs).faults
+unpaired targets xs =
+    let ts = map holding targets in
+    all_faults ts ++ of_another_number (any_faulty ts) (map abbreviated xs)
 
 abbrev pub assigned : List Kind → List Judged → List Fault
 assigned targets xs = if length targets == length xs then pairs targets xs else unpaired targets xs

@@ -1,3 +1,4 @@
+pub mod Numbering
 pub mod Assigning
 pub mod Choosing
 pub mod Resulting

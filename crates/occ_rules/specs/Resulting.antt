@@ -1,13 +1,14 @@
 -- The results of a FUNCTION, and the types that results and fields may have.
-use Rattle.std.specs.Prelude.{◌==◌, List, [], ◌∷◌, ◌++◌, None, length, if◌then◌else◌}
+use Rattle.std.specs.Prelude.{◌==◌, false, List, [], ◌∷◌, ◌++◌, None, length, map, if◌then◌else◌}
 use Rattle.occ_base.specs.declared.code.Code.TheVariants as code
 use Rattle.occ_types.specs.Fits.{is_data}
 use Rattle.occ_types.specs.declared.types.OccType.{OccType}
 use Rattle.occ_operators.specs.Settling.{nameless}
 use Rattle.occ_operators.specs.declared.kind.Fault.{Fault}
 use Rattle.occ_names.specs.Lookup.{Found, good}
-use Rattle.occ_terms.specs.Decorating.{of_another_number}
 use Rattle.occ_terms.specs.Terms.{Judged}
+use Rattle.occ_rules.specs.Abbreviating.{abbreviated}
+use Rattle.occ_rules.specs.Numbering.{of_another_number}
 
 -- a type of data: of no channel, no timer and no array of them
 abbrev pub of_data : OccType → Found OccType
@@ -19,6 +20,6 @@ each_under [] xs = []
 each_under (of ∷ types) [] = []
 each_under (of ∷ types) (x ∷ xs) = (x.under of).faults ++ each_under types xs
 
--- more or fewer results than types: that is told first, unless one is faulty, and then no type is wanted of them
+-- more or fewer results than types: each has to be data, and no type is wanted of it
 abbrev pub results : List OccType → List Judged → List Fault
-results types xs = if length types == length xs then each_under types xs else (of_another_number xs).faults
+results types xs = if length types == length xs then each_under types xs else of_another_number false (map abbreviated xs)

@@ -1,12 +1,10 @@
 #![tactic(auto, using(crate::proofs::Counting::judged_length))]
 
 ghost use Rattle.std.specs.Prelude.{◌≡◌, ◌++◌, IfOk, OnOk};
-ghost use Rattle.std.specs.List.{list_any};
-ghost use Rattle.occ_operators.specs.Operators.{is_faulty as faulty};
 ghost use Rattle.occ_rules.specs.Assigning.{assigned as told_assigned, pair as told_pair, pairs as told_pairs, target as told_target, unpaired as told_unpaired, value_for as told_value_for};
 ghost use Rattle.occ_terms.specs.Terms.{judged, judged_all};
 
-use super::count::{each_alone, of_another_number};
+use super::count::{of_another_number, targets_held};
 use occ_base::{Code, Items, Shared};
 use occ_names::{Access, Whole};
 use occ_operators::{Fault, Kind, tell};
@@ -39,18 +37,6 @@ pub fn target(
             Ok(Kind::Faulty)
         }
     }
-}
-
-/// Whether one of the targets is faulty.
-fn any_faulty(targets: &[Kind]) -> bool
-    ensures { result ≡ list_any faulty targets.now }
-{
-    for target in targets {
-        if let Kind::Faulty = target {
-            return true;
-        }
-    }
-    false
 }
 
 /// The value for a target of this type.
@@ -116,10 +102,8 @@ fn unpaired(
 ) -> Result<(), AllocError>
     ensures { OnOk result (faults.new ≡ faults.old ++ told_unpaired targets.now (judged_all values.now)) }
 {
-    if any_faulty(targets) {
-        return each_alone(alloc, values, faults);
-    }
-    of_another_number(alloc, values, faults)
+    let target_is_faulty = targets_held(targets, faults)?;
+    of_another_number(alloc, values, target_is_faulty, faults)
 }
 
 /// The values of an assignment to these targets.

@@ -58,5 +58,5 @@ pub fn results(
     if types.len() == terms.len() {
         return each_under(alloc, types, terms, faults);
     }
-    of_another_number(alloc, terms, faults)
+    of_another_number(alloc, terms, false, faults)
 }

@@ -1,10 +1,11 @@
-ghost use Rattle.std.specs.Prelude.{[], ◌∷◌, ◌≡◌, None, Some, pos};
+ghost use Rattle.std.specs.Prelude.{[], ◌∷◌, ◌≡◌, None, Some, false, pos};
 ghost use Rattle.occ_base.specs.declared.code.Code.TheVariants as code;
 ghost use Rattle.occ_names.specs.declared.meaning.Access.TheVariants as access;
 ghost use Rattle.occ_operators.specs.declared.kind.Kind.TheVariants as k;
 ghost use Rattle.occ_operators.specs.Settling.{int, known, nameless, silent};
 ghost use Rattle.occ_rules.specs.Assigning.{assigned, pair, target};
 ghost use Rattle.occ_rules.specs.Choosing.{option_of};
+ghost use Rattle.occ_rules.specs.Numbering.{of_another_number};
 ghost use Rattle.occ_rules.specs.Listing.{repetitions};
 ghost use Rattle.occ_rules.specs.Resulting.{results};
 ghost use Rattle.occ_terms.specs.Terms.{Judged};
@@ -19,7 +20,7 @@ pub fn assignment_rows()
     ensures variable { target (record { of = int; access = access.Variable; value = None; root = 110 ∷ [] }) (known int None) ≡ record { faults = []; kind = known int None } }
     ensures faulty { target (record { of = int; access = access.Value; value = None; root = 118 ∷ [] }) k.Faulty ≡ silent }
     ensures pair { (x : Judged) → pair k.Faulty x ≡ [] }
-    ensures fewer { assigned (known int None ∷ []) [] ≡ nameless code.T4 ∷ [] }
+    ensures fewer { of_another_number false (record { faults = []; kind = known int None } ∷ []) ≡ nameless code.T4 ∷ [] }
     ensures fewer_faulty { assigned (k.Faulty ∷ []) [] ≡ [] }
 {}
 
