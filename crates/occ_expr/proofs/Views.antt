@@ -29,7 +29,7 @@ use Rattle.occ_expressions.specs.declared.tree.Bounds.TheOpen.{Bounds-F, Builtin
 use Rattle.occ_names.specs.declared.scope.Scope.{Scope}
 use Rattle.occ_expr.specs.declared.written.Opening.{Opening}
 use Rattle.occ_expr.specs.Parts.{ExprView}
-use Rattle.occ_expr.specs.Views.{BoundsView, DimensionView, ElementView, FormView, NamedView, OperandView, TypeView, bounds_step, builtin_step, dimension_step, element_step, expr_step, named_operand_step, operand_step, type_form_step, bounds_view, builtin_view, dimension_view, element_view, expr_view, named_operand_view, operand_view, type_form_view, expr_views, operand_views, dimension_views}
+use Rattle.occ_expr.specs.Views.{BoundsView, DimensionView, ElementView, TypeFormView, NamedOperandView, OperandView, BuiltinView, bounds_step, builtin_step, dimension_step, element_step, expr_step, named_operand_step, operand_step, type_form_step, bounds_view, builtin_view, dimension_view, element_view, expr_view, named_operand_view, operand_view, type_form_view, expr_views, operand_views, dimension_views}
 
 all_expr_views : (xs : List Expr) → map expr_view xs ≡ expr_views xs
 all_expr_views [] = refl
@@ -45,166 +45,166 @@ all_dimension_views (x ∷ xs) = ap (λ (ys : List DimensionView). dimension_vie
 
 pub bounds_from : (e : Expr) → bounds_view (bv.From e) ≡ bounds_step (Bounds-F.From (expr_view e))
 bounds_from e =
-    ap bounds_view (sym (bv.rolls-From e)) ∙ fold-roll-Bounds BoundsView TypeView DimensionView ElementView ExprView NamedView OperandView FormView bounds_step builtin_step dimension_step element_step expr_step named_operand_step operand_step type_form_step (Bounds-F.From e)
+    ap bounds_view (sym (bv.rolls-From e)) ∙ fold-roll-Bounds BoundsView BuiltinView DimensionView ElementView ExprView NamedOperandView OperandView TypeFormView bounds_step builtin_step dimension_step element_step expr_step named_operand_step operand_step type_form_step (Bounds-F.From e)
 
 pub bounds_for : (e : Expr) → bounds_view (bv.For e) ≡ bounds_step (Bounds-F.For (expr_view e))
 bounds_for e =
-    ap bounds_view (sym (bv.rolls-For e)) ∙ fold-roll-Bounds BoundsView TypeView DimensionView ElementView ExprView NamedView OperandView FormView bounds_step builtin_step dimension_step element_step expr_step named_operand_step operand_step type_form_step (Bounds-F.For e)
+    ap bounds_view (sym (bv.rolls-For e)) ∙ fold-roll-Bounds BoundsView BuiltinView DimensionView ElementView ExprView NamedOperandView OperandView TypeFormView bounds_step builtin_step dimension_step element_step expr_step named_operand_step operand_step type_form_step (Bounds-F.For e)
 
 pub bounds_from_for : (e : Expr) (f : Expr) → bounds_view (bv.FromFor e f) ≡ bounds_step (Bounds-F.FromFor (expr_view e) (expr_view f))
 bounds_from_for e f =
-    ap bounds_view (sym (bv.rolls-FromFor e f)) ∙ fold-roll-Bounds BoundsView TypeView DimensionView ElementView ExprView NamedView OperandView FormView bounds_step builtin_step dimension_step element_step expr_step named_operand_step operand_step type_form_step (Bounds-F.FromFor e f)
+    ap bounds_view (sym (bv.rolls-FromFor e f)) ∙ fold-roll-Bounds BoundsView BuiltinView DimensionView ElementView ExprView NamedOperandView OperandView TypeFormView bounds_step builtin_step dimension_step element_step expr_step named_operand_step operand_step type_form_step (Bounds-F.FromFor e f)
 
 pub builtin_primitive : (w : Primitive) → builtin_view (uv.Primitive w) ≡ builtin_step (Builtin-F.Primitive w)
 builtin_primitive w =
-    ap builtin_view (sym (uv.rolls-Primitive w)) ∙ fold-roll-Builtin BoundsView TypeView DimensionView ElementView ExprView NamedView OperandView FormView bounds_step builtin_step dimension_step element_step expr_step named_operand_step operand_step type_form_step (Builtin-F.Primitive w)
+    ap builtin_view (sym (uv.rolls-Primitive w)) ∙ fold-roll-Builtin BoundsView BuiltinView DimensionView ElementView ExprView NamedOperandView OperandView TypeFormView bounds_step builtin_step dimension_step element_step expr_step named_operand_step operand_step type_form_step (Builtin-F.Primitive w)
 
 pub builtin_timer : builtin_view uv.Timer ≡ builtin_step Builtin-F.Timer
 builtin_timer =
-    ap builtin_view (sym uv.rolls-Timer) ∙ fold-roll-Builtin BoundsView TypeView DimensionView ElementView ExprView NamedView OperandView FormView bounds_step builtin_step dimension_step element_step expr_step named_operand_step operand_step type_form_step Builtin-F.Timer
+    ap builtin_view (sym uv.rolls-Timer) ∙ fold-roll-Builtin BoundsView BuiltinView DimensionView ElementView ExprView NamedOperandView OperandView TypeFormView bounds_step builtin_step dimension_step element_step expr_step named_operand_step operand_step type_form_step Builtin-F.Timer
 
 pub builtin_any_channel : (words : ChannelWords) → builtin_view (uv.AnyChannel words) ≡ builtin_step (Builtin-F.AnyChannel words)
 builtin_any_channel words =
-    ap builtin_view (sym (uv.rolls-AnyChannel words)) ∙ fold-roll-Builtin BoundsView TypeView DimensionView ElementView ExprView NamedView OperandView FormView bounds_step builtin_step dimension_step element_step expr_step named_operand_step operand_step type_form_step (Builtin-F.AnyChannel words)
+    ap builtin_view (sym (uv.rolls-AnyChannel words)) ∙ fold-roll-Builtin BoundsView BuiltinView DimensionView ElementView ExprView NamedOperandView OperandView TypeFormView bounds_step builtin_step dimension_step element_step expr_step named_operand_step operand_step type_form_step (Builtin-F.AnyChannel words)
 
 pub builtin_channel : (words : ChannelWords) (ds : List Dimension) (base : DataBase) → builtin_view (uv.Channel words ds base) ≡ builtin_step (Builtin-F.Channel words (dimension_views ds) base)
 builtin_channel words ds base =
-    ap builtin_view (sym (uv.rolls-Channel words ds base)) ∙ fold-roll-Builtin BoundsView TypeView DimensionView ElementView ExprView NamedView OperandView FormView bounds_step builtin_step dimension_step element_step expr_step named_operand_step operand_step type_form_step (Builtin-F.Channel words ds base)
+    ap builtin_view (sym (uv.rolls-Channel words ds base)) ∙ fold-roll-Builtin BoundsView BuiltinView DimensionView ElementView ExprView NamedOperandView OperandView TypeFormView bounds_step builtin_step dimension_step element_step expr_step named_operand_step operand_step type_form_step (Builtin-F.Channel words ds base)
     ∙ ap (λ (ys : List DimensionView). builtin_step (Builtin-F.Channel words ys base)) (all_dimension_views ds)
 
 pub builtin_counted : (words : ChannelWords) (ds : List Dimension) (base : DataBase) (es : List Dimension) (other : DataBase) → builtin_view (uv.Counted words ds base es other) ≡ builtin_step (Builtin-F.Counted words (dimension_views ds) base (dimension_views es) other)
 builtin_counted words ds base es other =
-    ap builtin_view (sym (uv.rolls-Counted words ds base es other)) ∙ fold-roll-Builtin BoundsView TypeView DimensionView ElementView ExprView NamedView OperandView FormView bounds_step builtin_step dimension_step element_step expr_step named_operand_step operand_step type_form_step (Builtin-F.Counted words ds base es other)
+    ap builtin_view (sym (uv.rolls-Counted words ds base es other)) ∙ fold-roll-Builtin BoundsView BuiltinView DimensionView ElementView ExprView NamedOperandView OperandView TypeFormView bounds_step builtin_step dimension_step element_step expr_step named_operand_step operand_step type_form_step (Builtin-F.Counted words ds base es other)
     ∙ ap (λ (ys : List DimensionView). builtin_step (Builtin-F.Counted words ys base (map dimension_view es) other)) (all_dimension_views ds)
     ∙ ap (λ (ys : List DimensionView). builtin_step (Builtin-F.Counted words (dimension_views ds) base ys other)) (all_dimension_views es)
 
 pub dimension_open : dimension_view dv.Open ≡ dimension_step Dimension-F.Open
 dimension_open =
-    ap dimension_view (sym dv.rolls-Open) ∙ fold-roll-Dimension BoundsView TypeView DimensionView ElementView ExprView NamedView OperandView FormView bounds_step builtin_step dimension_step element_step expr_step named_operand_step operand_step type_form_step Dimension-F.Open
+    ap dimension_view (sym dv.rolls-Open) ∙ fold-roll-Dimension BoundsView BuiltinView DimensionView ElementView ExprView NamedOperandView OperandView TypeFormView bounds_step builtin_step dimension_step element_step expr_step named_operand_step operand_step type_form_step Dimension-F.Open
 
 pub dimension_sized : (e : Expr) → dimension_view (dv.Sized e) ≡ dimension_step (Dimension-F.Sized (expr_view e))
 dimension_sized e =
-    ap dimension_view (sym (dv.rolls-Sized e)) ∙ fold-roll-Dimension BoundsView TypeView DimensionView ElementView ExprView NamedView OperandView FormView bounds_step builtin_step dimension_step element_step expr_step named_operand_step operand_step type_form_step (Dimension-F.Sized e)
+    ap dimension_view (sym (dv.rolls-Sized e)) ∙ fold-roll-Dimension BoundsView BuiltinView DimensionView ElementView ExprView NamedOperandView OperandView TypeFormView bounds_step builtin_step dimension_step element_step expr_step named_operand_step operand_step type_form_step (Dimension-F.Sized e)
 
 pub element_named : (name : List ℕ) (es : List Expr) → element_view (ev.Named name es) ≡ element_step (Element-F.Element::Named name (expr_views es))
 element_named name es =
-    ap element_view (sym (ev.rolls-Named name es)) ∙ fold-roll-Element BoundsView TypeView DimensionView ElementView ExprView NamedView OperandView FormView bounds_step builtin_step dimension_step element_step expr_step named_operand_step operand_step type_form_step (Element-F.Element::Named name es)
+    ap element_view (sym (ev.rolls-Named name es)) ∙ fold-roll-Element BoundsView BuiltinView DimensionView ElementView ExprView NamedOperandView OperandView TypeFormView bounds_step builtin_step dimension_step element_step expr_step named_operand_step operand_step type_form_step (Element-F.Element::Named name es)
     ∙ ap (λ (ys : List ExprView). element_step (Element-F.Element::Named name ys)) (all_expr_views es)
 
 pub element_segment : (el : Element) (b : Bounds) (es : List Expr) → element_view (ev.Segment el b es) ≡ element_step (Element-F.Segment (element_view el) (bounds_view b) (expr_views es))
 element_segment el b es =
-    ap element_view (sym (ev.rolls-Segment el b es)) ∙ fold-roll-Element BoundsView TypeView DimensionView ElementView ExprView NamedView OperandView FormView bounds_step builtin_step dimension_step element_step expr_step named_operand_step operand_step type_form_step (Element-F.Segment el b es)
+    ap element_view (sym (ev.rolls-Segment el b es)) ∙ fold-roll-Element BoundsView BuiltinView DimensionView ElementView ExprView NamedOperandView OperandView TypeFormView bounds_step builtin_step dimension_step element_step expr_step named_operand_step operand_step type_form_step (Element-F.Segment el b es)
     ∙ ap (λ (ys : List ExprView). element_step (Element-F.Segment (element_view el) (bounds_view b) ys)) (all_expr_views es)
 
 pub expr_alone : (o : Operand) → expr_view (xv.Alone o) ≡ expr_step (Expr-F.Alone (operand_view o))
 expr_alone o =
-    ap expr_view (sym (xv.rolls-Alone o)) ∙ fold-roll-Expr BoundsView TypeView DimensionView ElementView ExprView NamedView OperandView FormView bounds_step builtin_step dimension_step element_step expr_step named_operand_step operand_step type_form_step (Expr-F.Alone o)
+    ap expr_view (sym (xv.rolls-Alone o)) ∙ fold-roll-Expr BoundsView BuiltinView DimensionView ElementView ExprView NamedOperandView OperandView TypeFormView bounds_step builtin_step dimension_step element_step expr_step named_operand_step operand_step type_form_step (Expr-F.Alone o)
 
 pub expr_run : (operator : RunOperator) (a : Operand) (b : Operand) (os : List Operand) → expr_view (xv.Run operator a b os) ≡ expr_step (Expr-F.Run operator (operand_view a) (operand_view b) (operand_views os))
 expr_run operator a b os =
-    ap expr_view (sym (xv.rolls-Run operator a b os)) ∙ fold-roll-Expr BoundsView TypeView DimensionView ElementView ExprView NamedView OperandView FormView bounds_step builtin_step dimension_step element_step expr_step named_operand_step operand_step type_form_step (Expr-F.Run operator a b os)
+    ap expr_view (sym (xv.rolls-Run operator a b os)) ∙ fold-roll-Expr BoundsView BuiltinView DimensionView ElementView ExprView NamedOperandView OperandView TypeFormView bounds_step builtin_step dimension_step element_step expr_step named_operand_step operand_step type_form_step (Expr-F.Run operator a b os)
     ∙ ap (λ (ys : List OperandView). expr_step (Expr-F.Run operator (operand_view a) (operand_view b) ys)) (all_operand_views os)
 
 pub expr_pair : (a : Operand) (operator : PairOperator) (b : Operand) → expr_view (xv.Pair a operator b) ≡ expr_step (Expr-F.Pair (operand_view a) operator (operand_view b))
 expr_pair a operator b =
-    ap expr_view (sym (xv.rolls-Pair a operator b)) ∙ fold-roll-Expr BoundsView TypeView DimensionView ElementView ExprView NamedView OperandView FormView bounds_step builtin_step dimension_step element_step expr_step named_operand_step operand_step type_form_step (Expr-F.Pair a operator b)
+    ap expr_view (sym (xv.rolls-Pair a operator b)) ∙ fold-roll-Expr BoundsView BuiltinView DimensionView ElementView ExprView NamedOperandView OperandView TypeFormView bounds_step builtin_step dimension_step element_step expr_step named_operand_step operand_step type_form_step (Expr-F.Pair a operator b)
 
 pub expr_applied : (operator : MonadicOperator) (o : Operand) → expr_view (xv.Applied operator o) ≡ expr_step (Expr-F.Applied operator (operand_view o))
 expr_applied operator o =
-    ap expr_view (sym (xv.rolls-Applied operator o)) ∙ fold-roll-Expr BoundsView TypeView DimensionView ElementView ExprView NamedView OperandView FormView bounds_step builtin_step dimension_step element_step expr_step named_operand_step operand_step type_form_step (Expr-F.Applied operator o)
+    ap expr_view (sym (xv.rolls-Applied operator o)) ∙ fold-roll-Expr BoundsView BuiltinView DimensionView ElementView ExprView NamedOperandView OperandView TypeFormView bounds_step builtin_step dimension_step element_step expr_step named_operand_step operand_step type_form_step (Expr-F.Applied operator o)
 
 pub expr_converted : (ds : List Dimension) (u : Builtin) (o : Operand) → expr_view (xv.Converted ds u o) ≡ expr_step (Expr-F.Converted (dimension_views ds) (builtin_view u) (operand_view o))
 expr_converted ds u o =
-    ap expr_view (sym (xv.rolls-Converted ds u o)) ∙ fold-roll-Expr BoundsView TypeView DimensionView ElementView ExprView NamedView OperandView FormView bounds_step builtin_step dimension_step element_step expr_step named_operand_step operand_step type_form_step (Expr-F.Converted ds u o)
+    ap expr_view (sym (xv.rolls-Converted ds u o)) ∙ fold-roll-Expr BoundsView BuiltinView DimensionView ElementView ExprView NamedOperandView OperandView TypeFormView bounds_step builtin_step dimension_step element_step expr_step named_operand_step operand_step type_form_step (Expr-F.Converted ds u o)
     ∙ ap (λ (ys : List DimensionView). expr_step (Expr-F.Converted ys (builtin_view u) (operand_view o))) (all_dimension_views ds)
 
 pub expr_array_converted : (d : Dimension) (ds : List Dimension) (name : List ℕ) (o : Operand) → expr_view (xv.ArrayConverted d ds name o) ≡ expr_step (Expr-F.ArrayConverted (dimension_view d) (dimension_views ds) name (operand_view o))
 expr_array_converted d ds name o =
-    ap expr_view (sym (xv.rolls-ArrayConverted d ds name o)) ∙ fold-roll-Expr BoundsView TypeView DimensionView ElementView ExprView NamedView OperandView FormView bounds_step builtin_step dimension_step element_step expr_step named_operand_step operand_step type_form_step (Expr-F.ArrayConverted d ds name o)
+    ap expr_view (sym (xv.rolls-ArrayConverted d ds name o)) ∙ fold-roll-Expr BoundsView BuiltinView DimensionView ElementView ExprView NamedOperandView OperandView TypeFormView bounds_step builtin_step dimension_step element_step expr_step named_operand_step operand_step type_form_step (Expr-F.ArrayConverted d ds name o)
     ∙ ap (λ (ys : List DimensionView). expr_step (Expr-F.ArrayConverted (dimension_view d) ys name (operand_view o))) (all_dimension_views ds)
 
 pub expr_named : (name : List ℕ) (o : NamedOperand) → expr_view (xv.Named name o) ≡ expr_step (Expr-F.Expr::Named name (named_operand_view o))
 expr_named name o =
-    ap expr_view (sym (xv.rolls-Named name o)) ∙ fold-roll-Expr BoundsView TypeView DimensionView ElementView ExprView NamedView OperandView FormView bounds_step builtin_step dimension_step element_step expr_step named_operand_step operand_step type_form_step (Expr-F.Expr::Named name o)
+    ap expr_view (sym (xv.rolls-Named name o)) ∙ fold-roll-Expr BoundsView BuiltinView DimensionView ElementView ExprView NamedOperandView OperandView TypeFormView bounds_step builtin_step dimension_step element_step expr_step named_operand_step operand_step type_form_step (Expr-F.Expr::Named name o)
 
 pub expr_most : (extreme : Extreme) (ty : TypeForm) → expr_view (xv.Most extreme ty) ≡ expr_step (Expr-F.Most extreme (type_form_view ty))
 expr_most extreme ty =
-    ap expr_view (sym (xv.rolls-Most extreme ty)) ∙ fold-roll-Expr BoundsView TypeView DimensionView ElementView ExprView NamedView OperandView FormView bounds_step builtin_step dimension_step element_step expr_step named_operand_step operand_step type_form_step (Expr-F.Most extreme ty)
+    ap expr_view (sym (xv.rolls-Most extreme ty)) ∙ fold-roll-Expr BoundsView BuiltinView DimensionView ElementView ExprView NamedOperandView OperandView TypeFormView bounds_step builtin_step dimension_step element_step expr_step named_operand_step operand_step type_form_step (Expr-F.Most extreme ty)
 
 pub named_operand_element : (el : Element) → named_operand_view (nv.Element el) ≡ named_operand_step (NamedOperand-F.NamedOperand::Element (element_view el))
 named_operand_element el =
-    ap named_operand_view (sym (nv.rolls-Element el)) ∙ fold-roll-NamedOperand BoundsView TypeView DimensionView ElementView ExprView NamedView OperandView FormView bounds_step builtin_step dimension_step element_step expr_step named_operand_step operand_step type_form_step (NamedOperand-F.NamedOperand::Element el)
+    ap named_operand_view (sym (nv.rolls-Element el)) ∙ fold-roll-NamedOperand BoundsView BuiltinView DimensionView ElementView ExprView NamedOperandView OperandView TypeFormView bounds_step builtin_step dimension_step element_step expr_step named_operand_step operand_step type_form_step (NamedOperand-F.NamedOperand::Element el)
 
 pub named_operand_literal : (lit : Literal) → named_operand_view (nv.Literal lit) ≡ named_operand_step (NamedOperand-F.NamedOperand::Literal lit)
 named_operand_literal lit =
-    ap named_operand_view (sym (nv.rolls-Literal lit)) ∙ fold-roll-NamedOperand BoundsView TypeView DimensionView ElementView ExprView NamedView OperandView FormView bounds_step builtin_step dimension_step element_step expr_step named_operand_step operand_step type_form_step (NamedOperand-F.NamedOperand::Literal lit)
+    ap named_operand_view (sym (nv.rolls-Literal lit)) ∙ fold-roll-NamedOperand BoundsView BuiltinView DimensionView ElementView ExprView NamedOperandView OperandView TypeFormView bounds_step builtin_step dimension_step element_step expr_step named_operand_step operand_step type_form_step (NamedOperand-F.NamedOperand::Literal lit)
 
 pub named_operand_decorated : (lit : Literal) (ty : TypeForm) → named_operand_view (nv.Decorated lit ty) ≡ named_operand_step (NamedOperand-F.NamedOperand::Decorated lit (type_form_view ty))
 named_operand_decorated lit ty =
-    ap named_operand_view (sym (nv.rolls-Decorated lit ty)) ∙ fold-roll-NamedOperand BoundsView TypeView DimensionView ElementView ExprView NamedView OperandView FormView bounds_step builtin_step dimension_step element_step expr_step named_operand_step operand_step type_form_step (NamedOperand-F.NamedOperand::Decorated lit ty)
+    ap named_operand_view (sym (nv.rolls-Decorated lit ty)) ∙ fold-roll-NamedOperand BoundsView BuiltinView DimensionView ElementView ExprView NamedOperandView OperandView TypeFormView bounds_step builtin_step dimension_step element_step expr_step named_operand_step operand_step type_form_step (NamedOperand-F.NamedOperand::Decorated lit ty)
 
 pub named_operand_truth : (b : Bool) → named_operand_view (nv.Truth b) ≡ named_operand_step (NamedOperand-F.NamedOperand::Truth b)
 named_operand_truth b =
-    ap named_operand_view (sym (nv.rolls-Truth b)) ∙ fold-roll-NamedOperand BoundsView TypeView DimensionView ElementView ExprView NamedView OperandView FormView bounds_step builtin_step dimension_step element_step expr_step named_operand_step operand_step type_form_step (NamedOperand-F.NamedOperand::Truth b)
+    ap named_operand_view (sym (nv.rolls-Truth b)) ∙ fold-roll-NamedOperand BoundsView BuiltinView DimensionView ElementView ExprView NamedOperandView OperandView TypeFormView bounds_step builtin_step dimension_step element_step expr_step named_operand_step operand_step type_form_step (NamedOperand-F.NamedOperand::Truth b)
 
 pub named_operand_table : (e : Expr) (f : Expr) (es : List Expr) → named_operand_view (nv.Table e f es) ≡ named_operand_step (NamedOperand-F.NamedOperand::Table (expr_view e) (expr_view f) (expr_views es))
 named_operand_table e f es =
-    ap named_operand_view (sym (nv.rolls-Table e f es)) ∙ fold-roll-NamedOperand BoundsView TypeView DimensionView ElementView ExprView NamedView OperandView FormView bounds_step builtin_step dimension_step element_step expr_step named_operand_step operand_step type_form_step (NamedOperand-F.NamedOperand::Table e f es)
+    ap named_operand_view (sym (nv.rolls-Table e f es)) ∙ fold-roll-NamedOperand BoundsView BuiltinView DimensionView ElementView ExprView NamedOperandView OperandView TypeFormView bounds_step builtin_step dimension_step element_step expr_step named_operand_step operand_step type_form_step (NamedOperand-F.NamedOperand::Table e f es)
     ∙ ap (λ (ys : List ExprView). named_operand_step (NamedOperand-F.NamedOperand::Table (expr_view e) (expr_view f) ys)) (all_expr_views es)
 
 pub named_operand_decorated_table : (e : Expr) (es : List Expr) (ty : TypeForm) → named_operand_view (nv.DecoratedTable e es ty) ≡ named_operand_step (NamedOperand-F.NamedOperand::DecoratedTable (expr_view e) (expr_views es) (type_form_view ty))
 named_operand_decorated_table e es ty =
-    ap named_operand_view (sym (nv.rolls-DecoratedTable e es ty)) ∙ fold-roll-NamedOperand BoundsView TypeView DimensionView ElementView ExprView NamedView OperandView FormView bounds_step builtin_step dimension_step element_step expr_step named_operand_step operand_step type_form_step (NamedOperand-F.NamedOperand::DecoratedTable e es ty)
+    ap named_operand_view (sym (nv.rolls-DecoratedTable e es ty)) ∙ fold-roll-NamedOperand BoundsView BuiltinView DimensionView ElementView ExprView NamedOperandView OperandView TypeFormView bounds_step builtin_step dimension_step element_step expr_step named_operand_step operand_step type_form_step (NamedOperand-F.NamedOperand::DecoratedTable e es ty)
     ∙ ap (λ (ys : List ExprView). named_operand_step (NamedOperand-F.NamedOperand::DecoratedTable (expr_view e) ys (type_form_view ty))) (all_expr_views es)
 
 pub named_operand_call : (name : List ℕ) (es : List Expr) → named_operand_view (nv.Call name es) ≡ named_operand_step (NamedOperand-F.NamedOperand::Call name (expr_views es))
 named_operand_call name es =
-    ap named_operand_view (sym (nv.rolls-Call name es)) ∙ fold-roll-NamedOperand BoundsView TypeView DimensionView ElementView ExprView NamedView OperandView FormView bounds_step builtin_step dimension_step element_step expr_step named_operand_step operand_step type_form_step (NamedOperand-F.NamedOperand::Call name es)
+    ap named_operand_view (sym (nv.rolls-Call name es)) ∙ fold-roll-NamedOperand BoundsView BuiltinView DimensionView ElementView ExprView NamedOperandView OperandView TypeFormView bounds_step builtin_step dimension_step element_step expr_step named_operand_step operand_step type_form_step (NamedOperand-F.NamedOperand::Call name es)
     ∙ ap (λ (ys : List ExprView). named_operand_step (NamedOperand-F.NamedOperand::Call name ys)) (all_expr_views es)
 
 pub operand_element : (el : Element) → operand_view (ov.Element el) ≡ operand_step (Operand-F.Operand::Element (element_view el))
 operand_element el =
-    ap operand_view (sym (ov.rolls-Element el)) ∙ fold-roll-Operand BoundsView TypeView DimensionView ElementView ExprView NamedView OperandView FormView bounds_step builtin_step dimension_step element_step expr_step named_operand_step operand_step type_form_step (Operand-F.Operand::Element el)
+    ap operand_view (sym (ov.rolls-Element el)) ∙ fold-roll-Operand BoundsView BuiltinView DimensionView ElementView ExprView NamedOperandView OperandView TypeFormView bounds_step builtin_step dimension_step element_step expr_step named_operand_step operand_step type_form_step (Operand-F.Operand::Element el)
 
 pub operand_literal : (lit : Literal) → operand_view (ov.Literal lit) ≡ operand_step (Operand-F.Operand::Literal lit)
 operand_literal lit =
-    ap operand_view (sym (ov.rolls-Literal lit)) ∙ fold-roll-Operand BoundsView TypeView DimensionView ElementView ExprView NamedView OperandView FormView bounds_step builtin_step dimension_step element_step expr_step named_operand_step operand_step type_form_step (Operand-F.Operand::Literal lit)
+    ap operand_view (sym (ov.rolls-Literal lit)) ∙ fold-roll-Operand BoundsView BuiltinView DimensionView ElementView ExprView NamedOperandView OperandView TypeFormView bounds_step builtin_step dimension_step element_step expr_step named_operand_step operand_step type_form_step (Operand-F.Operand::Literal lit)
 
 pub operand_decorated : (lit : Literal) (ty : TypeForm) → operand_view (ov.Decorated lit ty) ≡ operand_step (Operand-F.Operand::Decorated lit (type_form_view ty))
 operand_decorated lit ty =
-    ap operand_view (sym (ov.rolls-Decorated lit ty)) ∙ fold-roll-Operand BoundsView TypeView DimensionView ElementView ExprView NamedView OperandView FormView bounds_step builtin_step dimension_step element_step expr_step named_operand_step operand_step type_form_step (Operand-F.Operand::Decorated lit ty)
+    ap operand_view (sym (ov.rolls-Decorated lit ty)) ∙ fold-roll-Operand BoundsView BuiltinView DimensionView ElementView ExprView NamedOperandView OperandView TypeFormView bounds_step builtin_step dimension_step element_step expr_step named_operand_step operand_step type_form_step (Operand-F.Operand::Decorated lit ty)
 
 pub operand_truth : (b : Bool) → operand_view (ov.Truth b) ≡ operand_step (Operand-F.Operand::Truth b)
 operand_truth b =
-    ap operand_view (sym (ov.rolls-Truth b)) ∙ fold-roll-Operand BoundsView TypeView DimensionView ElementView ExprView NamedView OperandView FormView bounds_step builtin_step dimension_step element_step expr_step named_operand_step operand_step type_form_step (Operand-F.Operand::Truth b)
+    ap operand_view (sym (ov.rolls-Truth b)) ∙ fold-roll-Operand BoundsView BuiltinView DimensionView ElementView ExprView NamedOperandView OperandView TypeFormView bounds_step builtin_step dimension_step element_step expr_step named_operand_step operand_step type_form_step (Operand-F.Operand::Truth b)
 
 pub operand_parens : (e : Expr) → operand_view (ov.Parens e) ≡ operand_step (Operand-F.Parens (expr_view e))
 operand_parens e =
-    ap operand_view (sym (ov.rolls-Parens e)) ∙ fold-roll-Operand BoundsView TypeView DimensionView ElementView ExprView NamedView OperandView FormView bounds_step builtin_step dimension_step element_step expr_step named_operand_step operand_step type_form_step (Operand-F.Parens e)
+    ap operand_view (sym (ov.rolls-Parens e)) ∙ fold-roll-Operand BoundsView BuiltinView DimensionView ElementView ExprView NamedOperandView OperandView TypeFormView bounds_step builtin_step dimension_step element_step expr_step named_operand_step operand_step type_form_step (Operand-F.Parens e)
 
 pub operand_table : (e : Expr) (es : List Expr) → operand_view (ov.Table e es) ≡ operand_step (Operand-F.Operand::Table (expr_view e) (expr_views es))
 operand_table e es =
-    ap operand_view (sym (ov.rolls-Table e es)) ∙ fold-roll-Operand BoundsView TypeView DimensionView ElementView ExprView NamedView OperandView FormView bounds_step builtin_step dimension_step element_step expr_step named_operand_step operand_step type_form_step (Operand-F.Operand::Table e es)
+    ap operand_view (sym (ov.rolls-Table e es)) ∙ fold-roll-Operand BoundsView BuiltinView DimensionView ElementView ExprView NamedOperandView OperandView TypeFormView bounds_step builtin_step dimension_step element_step expr_step named_operand_step operand_step type_form_step (Operand-F.Operand::Table e es)
     ∙ ap (λ (ys : List ExprView). operand_step (Operand-F.Operand::Table (expr_view e) ys)) (all_expr_views es)
 
 pub operand_decorated_table : (e : Expr) (es : List Expr) (ty : TypeForm) → operand_view (ov.DecoratedTable e es ty) ≡ operand_step (Operand-F.Operand::DecoratedTable (expr_view e) (expr_views es) (type_form_view ty))
 operand_decorated_table e es ty =
-    ap operand_view (sym (ov.rolls-DecoratedTable e es ty)) ∙ fold-roll-Operand BoundsView TypeView DimensionView ElementView ExprView NamedView OperandView FormView bounds_step builtin_step dimension_step element_step expr_step named_operand_step operand_step type_form_step (Operand-F.Operand::DecoratedTable e es ty)
+    ap operand_view (sym (ov.rolls-DecoratedTable e es ty)) ∙ fold-roll-Operand BoundsView BuiltinView DimensionView ElementView ExprView NamedOperandView OperandView TypeFormView bounds_step builtin_step dimension_step element_step expr_step named_operand_step operand_step type_form_step (Operand-F.Operand::DecoratedTable e es ty)
     ∙ ap (λ (ys : List ExprView). operand_step (Operand-F.Operand::DecoratedTable (expr_view e) ys (type_form_view ty))) (all_expr_views es)
 
 pub operand_call : (name : List ℕ) (es : List Expr) → operand_view (ov.Call name es) ≡ operand_step (Operand-F.Operand::Call name (expr_views es))
 operand_call name es =
-    ap operand_view (sym (ov.rolls-Call name es)) ∙ fold-roll-Operand BoundsView TypeView DimensionView ElementView ExprView NamedView OperandView FormView bounds_step builtin_step dimension_step element_step expr_step named_operand_step operand_step type_form_step (Operand-F.Operand::Call name es)
+    ap operand_view (sym (ov.rolls-Call name es)) ∙ fold-roll-Operand BoundsView BuiltinView DimensionView ElementView ExprView NamedOperandView OperandView TypeFormView bounds_step builtin_step dimension_step element_step expr_step named_operand_step operand_step type_form_step (Operand-F.Operand::Call name es)
     ∙ ap (λ (ys : List ExprView). operand_step (Operand-F.Operand::Call name ys)) (all_expr_views es)
 
 pub type_form_named : (ds : List Dimension) (name : List ℕ) → type_form_view (tv.Named ds name) ≡ type_form_step (TypeForm-F.TypeForm::Named (dimension_views ds) name)
 type_form_named ds name =
-    ap type_form_view (sym (tv.rolls-Named ds name)) ∙ fold-roll-TypeForm BoundsView TypeView DimensionView ElementView ExprView NamedView OperandView FormView bounds_step builtin_step dimension_step element_step expr_step named_operand_step operand_step type_form_step (TypeForm-F.TypeForm::Named ds name)
+    ap type_form_view (sym (tv.rolls-Named ds name)) ∙ fold-roll-TypeForm BoundsView BuiltinView DimensionView ElementView ExprView NamedOperandView OperandView TypeFormView bounds_step builtin_step dimension_step element_step expr_step named_operand_step operand_step type_form_step (TypeForm-F.TypeForm::Named ds name)
     ∙ ap (λ (ys : List DimensionView). type_form_step (TypeForm-F.TypeForm::Named ys name)) (all_dimension_views ds)
 
 pub type_form_builtin : (ds : List Dimension) (u : Builtin) → type_form_view (tv.Builtin ds u) ≡ type_form_step (TypeForm-F.Builtin (dimension_views ds) (builtin_view u))
 type_form_builtin ds u =
-    ap type_form_view (sym (tv.rolls-Builtin ds u)) ∙ fold-roll-TypeForm BoundsView TypeView DimensionView ElementView ExprView NamedView OperandView FormView bounds_step builtin_step dimension_step element_step expr_step named_operand_step operand_step type_form_step (TypeForm-F.Builtin ds u)
+    ap type_form_view (sym (tv.rolls-Builtin ds u)) ∙ fold-roll-TypeForm BoundsView BuiltinView DimensionView ElementView ExprView NamedOperandView OperandView TypeFormView bounds_step builtin_step dimension_step element_step expr_step named_operand_step operand_step type_form_step (TypeForm-F.Builtin ds u)
     ∙ ap (λ (ys : List DimensionView). type_form_step (TypeForm-F.Builtin ys (builtin_view u))) (all_dimension_views ds)
 
 pub bounds_from_view : (e : Expr) (s : Scope) → bounds_view (bv.From e) s ≡ bounds_step (Bounds-F.From (expr_view e)) s
@@ -217,19 +217,19 @@ pub bounds_from_for_view : (e : Expr) (f : Expr) (s : Scope) → bounds_view (bv
 bounds_from_for_view e f s = ap (λ (v : BoundsView). v s) (bounds_from_for e f)
 
 pub builtin_primitive_view : (w : Primitive) (s : Scope) → builtin_view (uv.Primitive w) s ≡ builtin_step (Builtin-F.Primitive w) s
-builtin_primitive_view w s = ap (λ (v : TypeView). v s) (builtin_primitive w)
+builtin_primitive_view w s = ap (λ (v : BuiltinView). v s) (builtin_primitive w)
 
 pub builtin_timer_view : (s : Scope) → builtin_view uv.Timer s ≡ builtin_step Builtin-F.Timer s
-builtin_timer_view s = ap (λ (v : TypeView). v s) builtin_timer
+builtin_timer_view s = ap (λ (v : BuiltinView). v s) builtin_timer
 
 pub builtin_any_channel_view : (words : ChannelWords) (s : Scope) → builtin_view (uv.AnyChannel words) s ≡ builtin_step (Builtin-F.AnyChannel words) s
-builtin_any_channel_view words s = ap (λ (v : TypeView). v s) (builtin_any_channel words)
+builtin_any_channel_view words s = ap (λ (v : BuiltinView). v s) (builtin_any_channel words)
 
 pub builtin_channel_view : (words : ChannelWords) (ds : List Dimension) (base : DataBase) (s : Scope) → builtin_view (uv.Channel words ds base) s ≡ builtin_step (Builtin-F.Channel words (dimension_views ds) base) s
-builtin_channel_view words ds base s = ap (λ (v : TypeView). v s) (builtin_channel words ds base)
+builtin_channel_view words ds base s = ap (λ (v : BuiltinView). v s) (builtin_channel words ds base)
 
 pub builtin_counted_view : (words : ChannelWords) (ds : List Dimension) (base : DataBase) (es : List Dimension) (other : DataBase) (s : Scope) → builtin_view (uv.Counted words ds base es other) s ≡ builtin_step (Builtin-F.Counted words (dimension_views ds) base (dimension_views es) other) s
-builtin_counted_view words ds base es other s = ap (λ (v : TypeView). v s) (builtin_counted words ds base es other)
+builtin_counted_view words ds base es other s = ap (λ (v : BuiltinView). v s) (builtin_counted words ds base es other)
 
 pub dimension_open_view : (o : Opening) (s : Scope) → dimension_view dv.Open o s ≡ dimension_step Dimension-F.Open o s
 dimension_open_view o s = ap (λ (v : DimensionView). v o s) dimension_open
@@ -304,25 +304,25 @@ pub expr_most_said : (extreme : Extreme) (ty : TypeForm) (s : Scope) → (expr_v
 expr_most_said extreme ty s = ap (λ (v : ExprView). v.said s) (expr_most extreme ty)
 
 pub named_operand_element_view : (el : Element) (s : Scope) → named_operand_view (nv.Element el) s ≡ named_operand_step (NamedOperand-F.NamedOperand::Element (element_view el)) s
-named_operand_element_view el s = ap (λ (v : NamedView). v s) (named_operand_element el)
+named_operand_element_view el s = ap (λ (v : NamedOperandView). v s) (named_operand_element el)
 
 pub named_operand_literal_view : (lit : Literal) (s : Scope) → named_operand_view (nv.Literal lit) s ≡ named_operand_step (NamedOperand-F.NamedOperand::Literal lit) s
-named_operand_literal_view lit s = ap (λ (v : NamedView). v s) (named_operand_literal lit)
+named_operand_literal_view lit s = ap (λ (v : NamedOperandView). v s) (named_operand_literal lit)
 
 pub named_operand_decorated_view : (lit : Literal) (ty : TypeForm) (s : Scope) → named_operand_view (nv.Decorated lit ty) s ≡ named_operand_step (NamedOperand-F.NamedOperand::Decorated lit (type_form_view ty)) s
-named_operand_decorated_view lit ty s = ap (λ (v : NamedView). v s) (named_operand_decorated lit ty)
+named_operand_decorated_view lit ty s = ap (λ (v : NamedOperandView). v s) (named_operand_decorated lit ty)
 
 pub named_operand_truth_view : (b : Bool) (s : Scope) → named_operand_view (nv.Truth b) s ≡ named_operand_step (NamedOperand-F.NamedOperand::Truth b) s
-named_operand_truth_view b s = ap (λ (v : NamedView). v s) (named_operand_truth b)
+named_operand_truth_view b s = ap (λ (v : NamedOperandView). v s) (named_operand_truth b)
 
 pub named_operand_table_view : (e : Expr) (f : Expr) (es : List Expr) (s : Scope) → named_operand_view (nv.Table e f es) s ≡ named_operand_step (NamedOperand-F.NamedOperand::Table (expr_view e) (expr_view f) (expr_views es)) s
-named_operand_table_view e f es s = ap (λ (v : NamedView). v s) (named_operand_table e f es)
+named_operand_table_view e f es s = ap (λ (v : NamedOperandView). v s) (named_operand_table e f es)
 
 pub named_operand_decorated_table_view : (e : Expr) (es : List Expr) (ty : TypeForm) (s : Scope) → named_operand_view (nv.DecoratedTable e es ty) s ≡ named_operand_step (NamedOperand-F.NamedOperand::DecoratedTable (expr_view e) (expr_views es) (type_form_view ty)) s
-named_operand_decorated_table_view e es ty s = ap (λ (v : NamedView). v s) (named_operand_decorated_table e es ty)
+named_operand_decorated_table_view e es ty s = ap (λ (v : NamedOperandView). v s) (named_operand_decorated_table e es ty)
 
 pub named_operand_call_view : (name : List ℕ) (es : List Expr) (s : Scope) → named_operand_view (nv.Call name es) s ≡ named_operand_step (NamedOperand-F.NamedOperand::Call name (expr_views es)) s
-named_operand_call_view name es s = ap (λ (v : NamedView). v s) (named_operand_call name es)
+named_operand_call_view name es s = ap (λ (v : NamedOperandView). v s) (named_operand_call name es)
 
 pub operand_element_name : (el : Element) → (operand_view (ov.Element el)).name ≡ (operand_step (Operand-F.Operand::Element (element_view el))).name
 operand_element_name el = ap (λ (v : OperandView). v.name) (operand_element el)
@@ -421,10 +421,10 @@ pub operand_call_whole : (name : List ℕ) (es : List Expr) (s : Scope) → (ope
 operand_call_whole name es s = ap (λ (v : OperandView). v.whole s) (operand_call name es)
 
 pub type_form_named_view : (ds : List Dimension) (name : List ℕ) (o : Opening) (s : Scope) → type_form_view (tv.Named ds name) o s ≡ type_form_step (TypeForm-F.TypeForm::Named (dimension_views ds) name) o s
-type_form_named_view ds name o s = ap (λ (v : FormView). v o s) (type_form_named ds name)
+type_form_named_view ds name o s = ap (λ (v : TypeFormView). v o s) (type_form_named ds name)
 
 pub type_form_builtin_view : (ds : List Dimension) (u : Builtin) (o : Opening) (s : Scope) → type_form_view (tv.Builtin ds u) o s ≡ type_form_step (TypeForm-F.Builtin (dimension_views ds) (builtin_view u)) o s
-type_form_builtin_view ds u o s = ap (λ (v : FormView). v o s) (type_form_builtin ds u)
+type_form_builtin_view ds u o s = ap (λ (v : TypeFormView). v o s) (type_form_builtin ds u)
 
 pub ruleset bounds_rules = (bounds_from_view, bounds_for_view, bounds_from_for_view)
 

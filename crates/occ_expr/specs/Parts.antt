@@ -87,12 +87,12 @@ abbrev pub named : Found Whole → Told
 named x = record { faults = x.faults; kind = kind_of_whole x.found }
 
 -- behind what is faulty a name may be a field's, and is not looked up
-abbrev pub hidden_from : Scope → ExprView → Option (List ℕ) → Told
-hidden_from s e None = record { faults = (e.said s).faults; kind = k.Faulty }
-hidden_from s e (Some name) = silent
+abbrev pub behind_a_fault_by_name : Scope → ExprView → Option (List ℕ) → Told
+behind_a_fault_by_name s e None = record { faults = (e.said s).faults; kind = k.Faulty }
+behind_a_fault_by_name s e (Some name) = silent
 
-unfoldable pub hidden : Scope → ExprView → Told
-hidden s e = hidden_from s e e.name
+unfoldable pub behind_a_fault : Scope → ExprView → Told
+behind_a_fault s e = behind_a_fault_by_name s e e.name
 
 unfoldable pub component : Scope → OccType → ExprView → Told
 component s of e = let x = e.said s in after x.faults (and_then (plain (judged x.term)) (subscripted of))
@@ -107,8 +107,8 @@ part s of None e = component s of e
 part s of (Some fields) e = field_or_component s of fields e e.name
 
 unfoldable pub subscript : Scope → ExprView → Kind → Told
-subscript s e k.Faulty = hidden s e
-subscript s e (k.Free f) = hidden s e
+subscript s e k.Faulty = behind_a_fault s e
+subscript s e (k.Free f) = behind_a_fault s e
 subscript s e (k.Known x) = part s x.of (fields_in (unnamed x.of)) e
 
 abbrev pub subscripts : Scope → List ExprView → Kind → Told
@@ -135,7 +135,7 @@ segment_element s x b es = and_then (and_then x (segment_within b)) (subscripts 
 
 -- ---- calls, and what has the form of a call or of an element and is a conversion
 
--- a call of a function is not of the first sublanguage
+-- calls of functions are not typed yet
 abbrev pub call_faults : List ℕ → Option Meaning → List Fault
 call_faults name None = (record { code = code.N1; name = Some name }) ∷ []
 call_faults name (Some m.Faulty) = []

@@ -46,18 +46,18 @@ pub record OperandView : Type 0 where
 abbrev pub BoundsView : Type 0
 BoundsView = Scope → SaidBounds
 
-abbrev pub TypeView : Type 0
-TypeView = Scope → Written
+abbrev pub BuiltinView : Type 0
+BuiltinView = Scope → Written
 
 -- `[]` may stand in it or not
 abbrev pub DimensionView : Type 0
 DimensionView = Opening → Scope → Spanning
 
-abbrev pub FormView : Type 0
-FormView = Opening → Scope → Written
+abbrev pub TypeFormView : Type 0
+TypeFormView = Opening → Scope → Written
 
-abbrev pub NamedView : Type 0
-NamedView = Scope → Said
+abbrev pub NamedOperandView : Type 0
+NamedOperandView = Scope → Said
 
 -- ---- dimensions and types
 
@@ -68,11 +68,11 @@ each opening s (d ∷ ds) = d opening s ∷ each opening s ds
 abbrev pub sized_dimension : Said → Spanning
 sized_dimension x = let y = size (judged x.term) in record { faults = x.faults ++ y.faults; extent = extent_of y.count }
 
-abbrev pub dimension_step : Dimension-F BoundsView TypeView DimensionView ElementView ExprView NamedView OperandView FormView → DimensionView
+abbrev pub dimension_step : Dimension-F BoundsView BuiltinView DimensionView ElementView ExprView NamedOperandView OperandView TypeFormView → DimensionView
 dimension_step Dimension-F.Open opening s = open_dimension opening
 dimension_step (Dimension-F.Sized e) opening s = sized_dimension (e.said s)
 
-abbrev pub builtin_step : Builtin-F BoundsView TypeView DimensionView ElementView ExprView NamedView OperandView FormView → TypeView
+abbrev pub builtin_step : Builtin-F BoundsView BuiltinView DimensionView ElementView ExprView NamedOperandView OperandView TypeFormView → BuiltinView
 builtin_step (Builtin-F.Primitive w) s = good (t.Primitive (primitive_of w))
 builtin_step Builtin-F.Timer s = good t.Timer
 builtin_step (Builtin-F.AnyChannel words) s = good (t.Channel protocol.Any)
@@ -80,7 +80,7 @@ builtin_step (Builtin-F.Channel words ds base) s = channel s (each opening.Refus
 builtin_step (Builtin-F.Counted words ds base es other) s =
     counted_channel (data_form s (each opening.Refused s ds) base) (data_form s (each opening.Refused s es) other)
 
-abbrev pub type_form_step : TypeForm-F BoundsView TypeView DimensionView ElementView ExprView NamedView OperandView FormView → FormView
+abbrev pub type_form_step : TypeForm-F BoundsView BuiltinView DimensionView ElementView ExprView NamedOperandView OperandView TypeFormView → TypeFormView
 type_form_step (TypeForm-F.TypeForm::Named ds name) opening s = array_over (each opening s ds) (data_type name (visible s name))
 type_form_step (TypeForm-F.Builtin ds builtin) opening s = array_over (each opening s ds) (builtin s)
 
@@ -90,13 +90,13 @@ abbrev pub name_alone : List ℕ → List ExprView → Option (List ℕ)
 name_alone name [] = Some name
 name_alone name (e ∷ es) = None
 
-abbrev pub bounds_step : Bounds-F BoundsView TypeView DimensionView ElementView ExprView NamedView OperandView FormView → BoundsView
+abbrev pub bounds_step : Bounds-F BoundsView BuiltinView DimensionView ElementView ExprView NamedOperandView OperandView TypeFormView → BoundsView
 bounds_step (Bounds-F.From e) s = let x = e.said s in record { faults = x.faults; bounds = bounds.From x.term }
 bounds_step (Bounds-F.For e) s = let x = e.said s in record { faults = x.faults; bounds = bounds.For x.term }
 bounds_step (Bounds-F.FromFor e f) s =
     let x = e.said s in let y = f.said s in record { faults = x.faults ++ y.faults; bounds = bounds.FromFor x.term y.term }
 
-abbrev pub element_step : Element-F BoundsView TypeView DimensionView ElementView ExprView NamedView OperandView FormView → ElementView
+abbrev pub element_step : Element-F BoundsView BuiltinView DimensionView ElementView ExprView NamedOperandView OperandView TypeFormView → ElementView
 element_step (Element-F.Element::Named name es) =
     record { name = name_alone name es; told = λ s. named_element s name es; whole = λ s. whole_element s name es }
 element_step (Element-F.Segment element bounds es) =
@@ -114,24 +114,24 @@ abbrev pub decorated : Written → Literal → Told
 decorated of lit = after of.faults (decorated_literal of.found lit)
 
 -- an operand that is the same as a whole expression
-abbrev pub as_ever : (Scope → Said) → OperandView
-as_ever said = record { name = None; digits = None; said = said; whole = said }
+abbrev pub either_way : (Scope → Said) → OperandView
+either_way said = record { name = None; digits = None; said = said; whole = said }
 
-abbrev pub operand_step : Operand-F BoundsView TypeView DimensionView ElementView ExprView NamedView OperandView FormView → OperandView
+abbrev pub operand_step : Operand-F BoundsView BuiltinView DimensionView ElementView ExprView NamedOperandView OperandView TypeFormView → OperandView
 operand_step (Operand-F.Operand::Element element) =
     record { name = element.name; digits = None; said = λ s. single (element.told s); whole = λ s. single (element.whole s) }
 operand_step (Operand-F.Operand::Literal lit) =
     record { name = None; digits = digits_of lit; said = λ s. single (literal lit); whole = λ s. single (literal lit) }
-operand_step (Operand-F.Operand::Decorated lit of) = as_ever (λ s. single (decorated (of opening.Refused s) lit))
-operand_step (Operand-F.Operand::Truth b) = as_ever (λ s. single (truth b))
-operand_step (Operand-F.Parens e) = as_ever e.said
-operand_step (Operand-F.Operand::Table e es) = as_ever (λ s. table (e.said s ∷ in_scope s es))
+operand_step (Operand-F.Operand::Decorated lit of) = either_way (λ s. single (decorated (of opening.Refused s) lit))
+operand_step (Operand-F.Operand::Truth b) = either_way (λ s. single (truth b))
+operand_step (Operand-F.Parens e) = either_way e.said
+operand_step (Operand-F.Operand::Table e es) = either_way (λ s. table (e.said s ∷ in_scope s es))
 operand_step (Operand-F.Operand::DecoratedTable e es of) =
-    as_ever (λ s. single (table_with_type (e.said s ∷ in_scope s es) (of opening.Refused s)))
+    either_way (λ s. single (table_with_type (e.said s ∷ in_scope s es) (of opening.Refused s)))
 operand_step (Operand-F.Operand::Call name es) =
     record { name = None; digits = None; said = λ s. single (call s name es); whole = λ s. single (whole_call s name es) }
 
-abbrev pub named_operand_step : NamedOperand-F BoundsView TypeView DimensionView ElementView ExprView NamedView OperandView FormView → NamedView
+abbrev pub named_operand_step : NamedOperand-F BoundsView BuiltinView DimensionView ElementView ExprView NamedOperandView OperandView TypeFormView → NamedOperandView
 named_operand_step (NamedOperand-F.NamedOperand::Element element) s = single (element.told s)
 named_operand_step (NamedOperand-F.NamedOperand::Literal lit) s = single (literal lit)
 named_operand_step (NamedOperand-F.NamedOperand::Decorated lit of) s = single (decorated (of opening.Refused s) lit)
@@ -154,7 +154,7 @@ conversion to x = after (to.faults ++ x.faults) (converted to.found (judged x.te
 abbrev pub composed : (Scope → Told) → ExprView
 composed told = record { name = None; said = λ s. single (told s) }
 
-abbrev pub expr_step : Expr-F BoundsView TypeView DimensionView ElementView ExprView NamedView OperandView FormView → ExprView
+abbrev pub expr_step : Expr-F BoundsView BuiltinView DimensionView ElementView ExprView NamedOperandView OperandView TypeFormView → ExprView
 expr_step (Expr-F.Alone o) = record { name = o.name; said = o.whole }
 expr_step (Expr-F.Run operator a b os) =
     composed (λ s. let xs = a.said s ∷ b.said s ∷ operands s os in after (own_faults xs) (operation (run_operator operator) (judged_all (terms xs))))
@@ -172,28 +172,28 @@ expr_step (Expr-F.Most extreme of) =
 -- ---- of trees
 
 abbrev pub bounds_view : Bounds → BoundsView
-bounds_view = fold-Bounds BoundsView TypeView DimensionView ElementView ExprView NamedView OperandView FormView bounds_step builtin_step dimension_step element_step expr_step named_operand_step operand_step type_form_step
+bounds_view = fold-Bounds BoundsView BuiltinView DimensionView ElementView ExprView NamedOperandView OperandView TypeFormView bounds_step builtin_step dimension_step element_step expr_step named_operand_step operand_step type_form_step
 
-abbrev pub builtin_view : Builtin → TypeView
-builtin_view = fold-Builtin BoundsView TypeView DimensionView ElementView ExprView NamedView OperandView FormView bounds_step builtin_step dimension_step element_step expr_step named_operand_step operand_step type_form_step
+abbrev pub builtin_view : Builtin → BuiltinView
+builtin_view = fold-Builtin BoundsView BuiltinView DimensionView ElementView ExprView NamedOperandView OperandView TypeFormView bounds_step builtin_step dimension_step element_step expr_step named_operand_step operand_step type_form_step
 
 abbrev pub dimension_view : Dimension → DimensionView
-dimension_view = fold-Dimension BoundsView TypeView DimensionView ElementView ExprView NamedView OperandView FormView bounds_step builtin_step dimension_step element_step expr_step named_operand_step operand_step type_form_step
+dimension_view = fold-Dimension BoundsView BuiltinView DimensionView ElementView ExprView NamedOperandView OperandView TypeFormView bounds_step builtin_step dimension_step element_step expr_step named_operand_step operand_step type_form_step
 
 abbrev pub element_view : Element → ElementView
-element_view = fold-Element BoundsView TypeView DimensionView ElementView ExprView NamedView OperandView FormView bounds_step builtin_step dimension_step element_step expr_step named_operand_step operand_step type_form_step
+element_view = fold-Element BoundsView BuiltinView DimensionView ElementView ExprView NamedOperandView OperandView TypeFormView bounds_step builtin_step dimension_step element_step expr_step named_operand_step operand_step type_form_step
 
 abbrev pub expr_view : Expr → ExprView
-expr_view = fold-Expr BoundsView TypeView DimensionView ElementView ExprView NamedView OperandView FormView bounds_step builtin_step dimension_step element_step expr_step named_operand_step operand_step type_form_step
+expr_view = fold-Expr BoundsView BuiltinView DimensionView ElementView ExprView NamedOperandView OperandView TypeFormView bounds_step builtin_step dimension_step element_step expr_step named_operand_step operand_step type_form_step
 
-abbrev pub named_operand_view : NamedOperand → NamedView
-named_operand_view = fold-NamedOperand BoundsView TypeView DimensionView ElementView ExprView NamedView OperandView FormView bounds_step builtin_step dimension_step element_step expr_step named_operand_step operand_step type_form_step
+abbrev pub named_operand_view : NamedOperand → NamedOperandView
+named_operand_view = fold-NamedOperand BoundsView BuiltinView DimensionView ElementView ExprView NamedOperandView OperandView TypeFormView bounds_step builtin_step dimension_step element_step expr_step named_operand_step operand_step type_form_step
 
 abbrev pub operand_view : Operand → OperandView
-operand_view = fold-Operand BoundsView TypeView DimensionView ElementView ExprView NamedView OperandView FormView bounds_step builtin_step dimension_step element_step expr_step named_operand_step operand_step type_form_step
+operand_view = fold-Operand BoundsView BuiltinView DimensionView ElementView ExprView NamedOperandView OperandView TypeFormView bounds_step builtin_step dimension_step element_step expr_step named_operand_step operand_step type_form_step
 
-abbrev pub type_form_view : TypeForm → FormView
-type_form_view = fold-TypeForm BoundsView TypeView DimensionView ElementView ExprView NamedView OperandView FormView bounds_step builtin_step dimension_step element_step expr_step named_operand_step operand_step type_form_step
+abbrev pub type_form_view : TypeForm → TypeFormView
+type_form_view = fold-TypeForm BoundsView BuiltinView DimensionView ElementView ExprView NamedOperandView OperandView TypeFormView bounds_step builtin_step dimension_step element_step expr_step named_operand_step operand_step type_form_step
 
 abbrev pub expr_views : List Expr → List ExprView
 expr_views [] = []

@@ -4,7 +4,7 @@ ghost use Rattle.occ_names.specs.Lookup.{data_type as data_type_named};
 ghost use Rattle.occ_names.specs.Visible.{visible};
 ghost use Rattle.occ_types.specs.Fits.{unnamed as no_names};
 ghost use Rattle.occ_types.specs.View.{fields_in};
-ghost use Rattle.occ_expr.specs.Parts.{call as told_call, component as told_component, hidden as told_hidden, in_scope, named_element as told_named_element, own_faults, part as told_part, subscript as told_subscript, subscripts as told_subscripts, table_item as said_item, table_items as said_items, terms as terms_of, whole_call as told_whole_call, whole_element as told_whole_element};
+ghost use Rattle.occ_expr.specs.Parts.{call as told_call, component as told_component, behind_a_fault as told_behind_a_fault, in_scope, named_element as told_named_element, own_faults, part as told_part, subscript as told_subscript, subscripts as told_subscripts, table_item as said_item, table_items as said_items, terms as terms_of, whole_call as told_whole_call, whole_element as told_whole_element};
 ghost use Rattle.occ_expr.specs.Views.{bounds_view, builtin_view, dimension_view, dimension_views, each, element_view, expr_view, expr_views, named_operand_view, operand_view, operand_views, operands as said_operands, type_form_view};
 ghost use Rattle.occ_expr.specs.Written.{all_spanning_faults, array_behind as written_behind, array_over as written_over, channel as written_channel, data_form as written_data, extents as the_extents};
 
@@ -452,22 +452,22 @@ fn subscript(
 {
     match whole {
         Kind::Known(found) => part(alloc, expr, found.of.get(), scope, faults),
-        Kind::Faulty => hidden(alloc, expr, scope, faults),
-        Kind::Free(_) => hidden(alloc, expr, scope, faults),
+        Kind::Faulty => behind_a_fault(alloc, expr, scope, faults),
+        Kind::Free(_) => behind_a_fault(alloc, expr, scope, faults),
     }
 }
 
 /// A subscript of what has a fault: a name alone may be a field's, and is not looked up.
-#[tactic(auto, unfolding(crate::specs::Parts::hidden))]
+#[tactic(auto, unfolding(crate::specs::Parts::behind_a_fault))]
 #[cycle(walk)]
-fn hidden(
+fn behind_a_fault(
     alloc: Global,
     expr: &Expr,
     scope: &Scope,
     faults: &mut Items<Fault>,
 ) -> Result<Kind, AllocError>
-    ensures kind { IfOk result (λ kind. kind ≡ (told_hidden scope.now (expr_view expr.now)).kind) }
-    ensures faults { OnOk result (faults.new ≡ faults.old ++ (told_hidden scope.now (expr_view expr.now)).faults) }
+    ensures kind { IfOk result (λ kind. kind ≡ (told_behind_a_fault scope.now (expr_view expr.now)).kind) }
+    ensures faults { OnOk result (faults.new ≡ faults.old ++ (told_behind_a_fault scope.now (expr_view expr.now)).faults) }
 {
     if name_alone(expr).is_none() {
         expression(alloc, expr, scope, faults)?;

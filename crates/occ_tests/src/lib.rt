@@ -4,6 +4,8 @@
 #[cfg(test)]
 mod base;
 #[cfg(test)]
+mod expr;
+#[cfg(test)]
 mod first;
 #[cfg(test)]
 mod forms;
@@ -17,6 +19,8 @@ mod operators;
 mod process;
 #[cfg(test)]
 mod project;
+#[cfg(test)]
+mod rules;
 #[cfg(test)]
 mod scope;
 #[cfg(test)]
