@@ -1,0 +1,7 @@
+pub mod Entering
+pub mod Forms
+pub mod Declaring
+pub mod Valuing
+pub mod Defining
+pub mod Lines
+pub mod Fields

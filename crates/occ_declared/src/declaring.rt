@@ -1,0 +1,130 @@
+ghost use Rattle.std.specs.Prelude.{◌≡◌, ◌∷◌, ◌++◌, [], IfOk, OnOk};
+ghost use Rattle.occ_declared.specs.Declaring.{declaration as told_declaration, declared_type as told_type, variable as told_variable, variables as told_variables};
+ghost use Rattle.occ_declared.specs.Entering.{unless_told as known_unless_told, with_all};
+ghost use Rattle.occ_names.specs.Visible.{entered};
+ghost use Rattle.occ_rules.specs.Listing.{repetitions};
+
+use super::form::tell_no_data;
+use super::told::unless_told;
+use occ_base::{Items, Name, Shared};
+use occ_expr::{Opening, type_form};
+use occ_expressions::TypeForm;
+use occ_names::{Access, Meaning, Scope, Whole};
+use occ_operators::Fault;
+use occ_rules::repeated;
+use occ_scope::Scopes;
+use occ_types::OccType;
+use std::alloc::{AllocError, Global};
+
+/// A variable of this type, if it is known.
+fn variable(alloc: Global, of: &Option<Shared<OccType>>, name: &Name) -> Result<Meaning, AllocError>
+    ensures { IfOk result (λ meaning. meaning ≡ told_variable of.now name.now) }
+{
+    match of {
+        None => Ok(Meaning::Faulty),
+        Some(of) => Ok(Meaning::Element(Whole {
+            of: of.share()?,
+            access: Access::Variable,
+            value: None,
+            root: name.copied(alloc)?,
+        })),
+    }
+}
+
+/// A variable of this type comes into scope.
+fn enter_variable(
+    alloc: Global,
+    of: &Option<Shared<OccType>>,
+    name: &Name,
+    scope: &mut Scope,
+) -> Result<(), AllocError>
+    ensures { OnOk result (scope.new ≡ entered scope.old name.now (told_variable of.now name.now)) }
+{
+    let meaning = variable(alloc, of, name)?;
+    scope.enter(alloc, name, meaning)
+}
+
+/// Further variables of this type come into scope.
+fn enter_variables(
+    alloc: Global,
+    of: &Option<Shared<OccType>>,
+    names: &[Name],
+    scope: &mut Scope,
+) -> Result<(), AllocError>
+    ensures { OnOk result (scope.new ≡ with_all scope.old (told_variables of.now names.now)) }
+{
+    for name in names {
+        enter_variable(alloc, of, name, scope)?;
+    }
+    Ok(())
+}
+
+/// T8 is told of each name of a line that stood before in it.
+fn repeated_behind(
+    alloc: Global,
+    first: &Name,
+    more: &[Name],
+    faults: &mut Items<Fault>,
+) -> Result<(), AllocError>
+    ensures { OnOk result (faults.new ≡ faults.old ++ repetitions (first.now ∷ []) more.now) }
+{
+    let mut before = Scopes::new(alloc);
+    before.enter(alloc, first)?;
+    repeated(alloc, more, &mut before, faults)
+}
+
+/// The type of a declaration, with all that the line tells.
+#[tactic(auto, unfolding(crate::specs::Declaring::declared_type))]
+fn declared_type(
+    alloc: Global,
+    of: &TypeForm,
+    first: &Name,
+    more: &[Name],
+    scope: &Scope,
+    faults: &mut Items<Fault>,
+) -> Result<Option<Shared<OccType>>, AllocError>
+    ensures found { IfOk result (λ found. found ≡ (told_type scope.now of.now first.now more.now).found) }
+    ensures faults { OnOk result (faults.new ≡ faults.old ++ (told_type scope.now of.now first.now more.now).faults) }
+{
+    let found = type_form(alloc, of, Opening::Refused, scope, faults)?;
+    tell_no_data(of, faults)?;
+    repeated_behind(alloc, first, more, faults)?;
+    Ok(found)
+}
+
+/// The type of the names of a declaration, if the line tells nothing.
+fn names_type(
+    alloc: Global,
+    of: &TypeForm,
+    first: &Name,
+    more: &[Name],
+    scope: &Scope,
+    faults: &mut Items<Fault>,
+) -> Result<Option<Shared<OccType>>, AllocError>
+    ensures found { IfOk result (λ found. found ≡ known_unless_told (told_type scope.now of.now first.now more.now).faults (told_type scope.now of.now first.now more.now).found) }
+    ensures faults { OnOk result (faults.new ≡ faults.old ++ (told_type scope.now of.now first.now more.now).faults) }
+{
+    let mut told = Items::new(alloc);
+    let found = declared_type(alloc, of, first, more, scope, &mut told)?;
+    let found = unless_told(&told, found);
+    faults.append(told)?;
+    Ok(found)
+}
+
+/// `t n, ..:`
+#[tactic(auto, unfolding(crate::specs::Declaring::declaration))]
+pub fn declaration(
+    alloc: Global,
+    of: &TypeForm,
+    first: &Name,
+    more: &[Name],
+    scope: &mut Scope,
+    faults: &mut Items<Fault>,
+) -> Result<(), AllocError>
+    ensures faults { OnOk result (faults.new ≡ faults.old ++ (told_declaration scope.old of.now first.now more.now).faults) }
+    ensures scope { OnOk result (scope.new ≡ with_all scope.old (told_declaration scope.old of.now first.now more.now).adds) }
+{
+    let found = names_type(alloc, of, first, more, scope, faults)?;
+    enter_variable(alloc, &found, first, scope)?;
+    enter_variables(alloc, &found, more, scope)
+}
