@@ -11,7 +11,7 @@ use std::alloc::{AllocError, Global};
 use std::test::Fail;
 
 /// The form of the first line, where it has one.
-fn form_of(source: &Source) -> Option<&Form> {
+pub(crate) fn form_of(source: &Source) -> Option<&Form> {
     match &source.lines().first()?.body {
         LineBody::Form(form) => Some(form.get()),
         _ => None,
@@ -19,7 +19,7 @@ fn form_of(source: &Source) -> Option<&Form> {
 }
 
 /// A scope with the variable `a` in it, an array of four INTs.
-fn scope_of_array(alloc: Global) -> Result<Scope, AllocError> {
+pub(crate) fn scope_of_array(alloc: Global) -> Result<Scope, AllocError> {
     let mut scope = Scope::new(alloc);
     let name = Name::from_slice(alloc, b"a")?;
     let whole = Whole {

@@ -24,6 +24,8 @@ mod rules;
 #[cfg(test)]
 mod scope;
 #[cfg(test)]
+mod statements;
+#[cfg(test)]
 mod terms;
 #[cfg(test)]
 mod tree;

@@ -14,7 +14,7 @@ use std::collections::BTreeSet;
 use std::test::Fail;
 
 /// A list of one.
-fn one<T>(alloc: Global, item: T) -> Result<Items<T>, AllocError> {
+fn one<T: Drop>(alloc: Global, item: T) -> Result<Items<T>, AllocError> {
     let mut items = Items::new(alloc);
     items.push(item)?;
     Ok(items)
