@@ -4,8 +4,6 @@
 #[cfg(test)]
 mod base;
 #[cfg(test)]
-mod expr;
-#[cfg(test)]
 mod first;
 #[cfg(test)]
 mod forms;
@@ -20,11 +18,7 @@ mod process;
 #[cfg(test)]
 mod project;
 #[cfg(test)]
-mod rules;
-#[cfg(test)]
 mod scope;
-#[cfg(test)]
-mod statements;
 #[cfg(test)]
 mod terms;
 #[cfg(test)]
