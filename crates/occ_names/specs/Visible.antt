@@ -1,7 +1,8 @@
 -- Which specification a name has at a place: the nearest of those in scope there.
-use Rattle.std.specs.Prelude.{ℕ, ◌-◌, List, [], ◌∷◌, ◌++◌, Option, Some, None, length, take}
+use Rattle.std.specs.Prelude.{ℕ, zero, suc, ◌-◌, List, [], ◌∷◌, ◌++◌, Option, Some, None, length, take}
 use Rattle.std.specs.List.{slice_get}
 use Rattle.occ_scope.specs.Nearest.{nearest}
+use Rattle.occ_names.specs.declared.meaning.Entry.{Entry}
 use Rattle.occ_names.specs.declared.meaning.Meaning.{Meaning}
 use Rattle.occ_names.specs.declared.scope.Scope.{Scope}
 
@@ -19,6 +20,20 @@ but_last xs = take (length xs - 1) xs
 -- without the one that was entered last
 abbrev pub left : Scope → Scope
 left s = record { names = but_last s.names; meanings = but_last s.meanings }
+
+-- one after the other, so that the last is the nearest
+abbrev pub with_all : Scope → List Entry → Scope
+with_all s [] = s
+with_all s (x ∷ xs) = with_all (entered s x.name x.meaning) xs
+
+-- without so many of those that were entered last
+abbrev pub left_times : ℕ → Scope → Scope
+left_times zero s = s
+left_times (suc n) s = left (left_times n s)
+
+-- without the last ones, so that this many are left
+abbrev pub back_to : ℕ → Scope → Scope
+back_to count s = left_times (length s.meanings - count) s
 
 abbrev pub meaning_at : List Meaning → Option ℕ → Option Meaning
 meaning_at meanings None = None

@@ -1,12 +1,17 @@
+ghost use Rattle.std.specs.Prelude.{◌≡◌, [], ◌∷◌, IfOk};
+
 use occ_base::{Items, Name, Shared};
 use occ_types::{OccType, Passing, Protocol, Value};
+use std::alloc::{AllocError, Global};
 
 /// Whether something may be written through a name.
 #[derive(Clone, Copy, Debug, PartialEq, Eq)]
 pub enum Access {
     /// A variable, a channel, a timer, or a formal that is not `VAL`.
     Variable,
-    /// A `VAL` name, a `VAL` formal, or the index of a replicator.
+    /// A `VAL` formal.
+    Formal,
+    /// A `VAL` name, or the index of a replicator.
     Value,
 }
 
@@ -41,4 +46,22 @@ pub enum Meaning {
     /// A function with these formals, and the types of its results.
     Function(Items<Parameter>, Items<Shared<OccType>>),
     Element(Whole),
+}
+
+/// A name, and what it stands for.
+#[derive(Debug, Drop)]
+pub struct Entry {
+    pub name: Name,
+    pub meaning: Shared<Meaning>,
+}
+
+/// A name that comes into scope alone.
+pub fn one_entry(alloc: Global, name: &Name, meaning: Meaning) -> Result<Items<Entry>, AllocError>
+    ensures { IfOk result (λ entries. entries ≡ (record { name = name.now; meaning = meaning }) ∷ []) }
+{
+    let name = name.copied(alloc)?;
+    let meaning = Shared::new(alloc, meaning)?;
+    let mut entries = Items::new(alloc);
+    entries.push(Entry { name, meaning })?;
+    Ok(entries)
 }

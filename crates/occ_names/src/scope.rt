@@ -1,8 +1,8 @@
-ghost use Rattle.std.specs.Prelude.{◌≡◌, MatchOption, None, OnErr, OnOk, Some};
-ghost use Rattle.occ_names.specs.Visible.{entered, left, nothing, visible};
+ghost use Rattle.std.specs.Prelude.{◌≡◌, MatchOption, None, OnErr, OnOk, Some, length};
+ghost use Rattle.occ_names.specs.Visible.{back_to, entered, left, nothing, visible, with_all};
 
-use super::meaning::Meaning;
-use occ_base::{Items, Name};
+use super::meaning::{Entry, Meaning};
+use occ_base::{Items, Name, Shared};
 use occ_scope::Scopes;
 use std::alloc::{AllocError, Global};
 
@@ -10,7 +10,7 @@ use std::alloc::{AllocError, Global};
 #[derive(Drop)]
 pub struct Scope {
     names: Scopes,
-    meanings: Items<Meaning>,
+    meanings: Items<Shared<Meaning>>,
 }
 
 impl Scope {
@@ -29,11 +29,18 @@ impl Scope {
         ensures { MatchOption result (visible self.now name.now ≡ None) (λ meaning. visible self.now name.now ≡ Some meaning.now) }
     {
         let place = self.names.find(name)?;
-        self.meanings.get(place)
+        let meaning = self.meanings.get(place)?;
+        Some(meaning.get())
     }
 
-    /// A specification of this name comes into scope. Where memory is refused nothing changes.
-    pub fn enter(&mut self, alloc: Global, name: &Name, meaning: Meaning) -> Result<(), AllocError>
+    /// A specification of this name comes into scope, with what it stands for, which others may share. Where memory is
+    /// refused nothing changes.
+    fn enter_shared(
+        &mut self,
+        alloc: Global,
+        name: &Name,
+        meaning: Shared<Meaning>,
+    ) -> Result<(), AllocError>
         ensures ok { OnOk result (self.new ≡ entered self.old name.now meaning) }
         ensures err { OnErr result (self.new ≡ self.old) }
     {
@@ -45,11 +52,48 @@ impl Scope {
         Ok(())
     }
 
+    /// A specification of this name comes into scope. Where memory is refused nothing changes.
+    pub fn enter(&mut self, alloc: Global, name: &Name, meaning: Meaning) -> Result<(), AllocError>
+        ensures ok { OnOk result (self.new ≡ entered self.old name.now meaning) }
+        ensures err { OnErr result (self.new ≡ self.old) }
+    {
+        let meaning = Shared::new(alloc, meaning)?;
+        self.enter_shared(alloc, name, meaning)
+    }
+
     /// The specification that was entered last goes out of scope, if there is one.
     pub fn leave(&mut self)
         ensures { self.new ≡ left self.old }
     {
         self.names.leave();
         self.meanings.pop();
+    }
+
+    /// How many specifications are in scope.
+    pub fn len(&self) -> usize
+        ensures { result ≡ length self.now.meanings }
+    {
+        self.meanings.len()
+    }
+
+    /// Specifications come into scope, one after the other.
+    pub fn enter_all(&mut self, alloc: Global, entries: &[Entry]) -> Result<(), AllocError>
+        ensures { OnOk result (self.new ≡ with_all self.old entries.now) }
+    {
+        for entry in entries {
+            let meaning = entry.meaning.share()?;
+            self.enter_shared(alloc, &entry.name, meaning)?;
+        }
+        Ok(())
+    }
+
+    /// Those that were entered last go out of scope, until so many are left.
+    #[tactic(auto, using(crate::proofs::Leaving::leaving_rules))]
+    pub fn leave_to(&mut self, count: usize)
+        ensures { self.new ≡ back_to count self.old }
+    {
+        while self.meanings.len() > count {
+            self.leave();
+        }
     }
 }
