@@ -27,11 +27,19 @@ as_type of k.Faulty = silent
 as_type of (k.Free f) = silent
 as_type of (k.Known x) = record { faults = []; kind = known (filled of x.of) x.value }
 
--- a type of no data is told, unless the value has a fault, and then nothing is asked of the value
+-- no value is for what is no data: a value that has a fault by itself was told
+abbrev pub misplaced : Kind → Told
+misplaced k.Faulty = silent
+misplaced (k.Free f) = silent
+misplaced (k.Known x) = fault_of code.T2
+
+-- a value for what is no data is judged by itself
+abbrev pub for_no_data : Judged → Told
+for_no_data x = and_then x.alone misplaced
+
+-- the value is of the type, and the type is one of data
 abbrev pub abbreviated_as : OccType → Judged → Told
-abbreviated_as of x =
-    if is_data of then and_then (x.under of) (as_type of)
-    else (if x.is_faulty then silent else fault_of code.T2)
+abbreviated_as of x = if is_data of then and_then (x.under of) (as_type of) else for_no_data x
 
 -- what is known of a value of which the type was wanted
 abbrev pub Agrees : OccType → Kind → Type 0

@@ -4,7 +4,7 @@ use Rattle.occ_base.specs.declared.code.Code.TheVariants as code
 use Rattle.occ_types.specs.Fits.{is_data}
 use Rattle.occ_types.specs.declared.types.OccType.{OccType}
 use Rattle.occ_operators.specs.Operators.{all_faults}
-use Rattle.occ_operators.specs.Settling.{Told, nameless, silent}
+use Rattle.occ_operators.specs.Settling.{Told, silent}
 use Rattle.occ_operators.specs.declared.kind.Fault.{Fault}
 use Rattle.occ_operators.specs.declared.kind.Kind.{Kind}
 use Rattle.occ_operators.specs.declared.kind.Kind.TheVariants as k
@@ -13,14 +13,19 @@ use Rattle.occ_names.specs.declared.meaning.Access.{Access}
 use Rattle.occ_names.specs.declared.meaning.Access.TheVariants as access
 use Rattle.occ_names.specs.declared.meaning.Whole.{Whole}
 use Rattle.occ_terms.specs.Terms.{Judged}
-use Rattle.occ_rules.specs.Abbreviating.{abbreviated, holding}
+use Rattle.occ_rules.specs.Abbreviating.{abbreviated, for_no_data, holding}
 use Rattle.occ_rules.specs.Numbering.{any_faulty, of_another_number}
 
 -- ---- targets
 
+-- T3 is told with the name of what the target is a part of
+abbrev pub unwritten : List ℕ → Told
+unwritten root = record { faults = (record { code = code.T3; name = Some root }) ∷ []; kind = k.Faulty }
+
 abbrev pub reached : Access → List ℕ → Known → Told
 reached access.Variable root x = record { faults = []; kind = k.Known x }
-reached access.Value root x = record { faults = (record { code = code.T3; name = Some root }) ∷ []; kind = k.Faulty }
+reached access.Formal root x = unwritten root
+reached access.Value root x = unwritten root
 
 -- nothing is written through a VAL name; a faulty target was told
 abbrev pub target : Whole → Kind → Told
@@ -30,9 +35,9 @@ target whole (k.Known x) = reached whole.access whole.root x
 
 -- ---- values, each for its target
 
--- a target that holds no data is told, unless the value has a fault, and then no type is wanted
+-- no value is for a target that holds no data
 abbrev pub value_for : OccType → Judged → List Fault
-value_for of x = if is_data of then (x.under of).faults else (if x.is_faulty then [] else nameless code.T2 ∷ [])
+value_for of x = if is_data of then (x.under of).faults else (for_no_data x).faults
 
 -- nothing is asked of the value for a faulty target
 abbrev pub pair : Kind → Judged → List Fault

@@ -1,12 +1,12 @@
 ghost use Rattle.std.specs.Prelude.{◌≡◌, ◌++◌, IfOk, OnOk, true};
-ghost use Rattle.occ_rules.specs.Abbreviating.{Agrees, abbreviated as told_abbreviated, abbreviated_as as told_abbreviated_as, as_type as told_as_type, holding as told_holding};
+ghost use Rattle.occ_rules.specs.Abbreviating.{Agrees, abbreviated as told_abbreviated, abbreviated_as as told_abbreviated_as, as_type as told_as_type, for_no_data as told_for_no_data, holding as told_holding, misplaced as told_misplaced};
 ghost use Rattle.occ_terms.specs.Merging.{filled as filled_from};
 ghost use Rattle.occ_terms.specs.Terms.{judged};
 ghost use Rattle.occ_types.specs.Fits.{fits};
 
 use occ_base::{Code, Items, Shared};
 use occ_operators::{Fault, Kind, known, tell};
-use occ_terms::{Term, alone, has_fault, merged, under};
+use occ_terms::{Term, alone, merged, under};
 use occ_types::{OccType, is_data};
 use std::alloc::{AllocError, Global};
 
@@ -66,6 +66,30 @@ fn as_type(alloc: Global, of: &Shared<OccType>, kind: &Kind) -> Result<Kind, All
     }
 }
 
+/// T2 is told of a settled value for what is no data.
+fn misplaced(kind: &Kind, faults: &mut Items<Fault>) -> Result<Kind, AllocError>
+    ensures kind { IfOk result (λ misplaced. misplaced ≡ (told_misplaced kind.now).kind) }
+    ensures faults { OnOk result (faults.new ≡ faults.old ++ (told_misplaced kind.now).faults) }
+{
+    if let Kind::Known(_) = kind {
+        tell(faults, Code::T2)?;
+    }
+    Ok(Kind::Faulty)
+}
+
+/// A value for what is no data: its own fault is told, and else T2.
+pub(super) fn for_no_data(
+    alloc: Global,
+    term: &Term,
+    faults: &mut Items<Fault>,
+) -> Result<Kind, AllocError>
+    ensures kind { IfOk result (λ kind. kind ≡ (told_for_no_data (judged term.now)).kind) }
+    ensures faults { OnOk result (faults.new ≡ faults.old ++ (told_for_no_data (judged term.now)).faults) }
+{
+    let kind = alone(alloc, term, faults)?;
+    misplaced(&kind, faults)
+}
+
 /// What is known of the name of `VAL t n IS e`.
 pub fn abbreviated_as(
     alloc: Global,
@@ -80,8 +104,5 @@ pub fn abbreviated_as(
         let kind = under(alloc, term, of, faults)?;
         return as_type(alloc, of, &kind);
     }
-    if !has_fault(term) {
-        tell(faults, Code::T2)?;
-    }
-    Ok(Kind::Faulty)
+    for_no_data(alloc, term, faults)
 }

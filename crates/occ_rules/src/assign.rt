@@ -1,16 +1,30 @@
 #![tactic(auto, using(crate::proofs::Counting::judged_length))]
 
 ghost use Rattle.std.specs.Prelude.{◌≡◌, ◌++◌, IfOk, OnOk};
-ghost use Rattle.occ_rules.specs.Assigning.{assigned as told_assigned, pair as told_pair, pairs as told_pairs, target as told_target, unpaired as told_unpaired, value_for as told_value_for};
+ghost use Rattle.occ_rules.specs.Assigning.{assigned as told_assigned, pair as told_pair, pairs as told_pairs, target as told_target, unpaired as told_unpaired, unwritten as told_unwritten, value_for as told_value_for};
 ghost use Rattle.occ_terms.specs.Terms.{judged, judged_all};
 
+use super::abbreviate::for_no_data;
 use super::count::{of_another_number, targets_held};
-use occ_base::{Code, Items, Shared};
+use occ_base::{Code, Items, Name, Shared};
 use occ_names::{Access, Whole};
-use occ_operators::{Fault, Kind, tell};
-use occ_terms::{Term, has_fault, under};
+use occ_operators::{Fault, Kind};
+use occ_terms::{Term, under};
 use occ_types::{OccType, is_data};
 use std::alloc::{AllocError, Global};
+
+/// T3 is told with the name of what the target is a part of, and the target is faulty.
+fn unwritten(alloc: Global, root: &Name, faults: &mut Items<Fault>) -> Result<Kind, AllocError>
+    ensures kind { IfOk result (λ target. target ≡ (told_unwritten root.now).kind) }
+    ensures faults { OnOk result (faults.new ≡ faults.old ++ (told_unwritten root.now).faults) }
+{
+    let name = Some(root.copied(alloc)?);
+    faults.push(Fault {
+        code: Code::T3,
+        name,
+    })?;
+    Ok(Kind::Faulty)
+}
 
 /// A target, of which the element is known and all that it is a part of: T3 is told of a VAL name, and the target is
 /// then faulty.
@@ -28,14 +42,8 @@ pub fn target(
     };
     match whole.access {
         Access::Variable => Ok(Kind::Known(known)),
-        Access::Value => {
-            let name = Some(whole.root.copied(alloc)?);
-            faults.push(Fault {
-                code: Code::T3,
-                name,
-            })?;
-            Ok(Kind::Faulty)
-        }
+        Access::Formal => unwritten(alloc, &whole.root, faults),
+        Access::Value => unwritten(alloc, &whole.root, faults),
     }
 }
 
@@ -52,10 +60,8 @@ fn value_for(
         under(alloc, value, of, faults)?;
         return Ok(());
     }
-    if has_fault(value) {
-        return Ok(());
-    }
-    tell(faults, Code::T2)
+    for_no_data(alloc, value, faults)?;
+    Ok(())
 }
 
 /// A target and the value for it.

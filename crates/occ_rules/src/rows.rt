@@ -2,7 +2,8 @@ ghost use Rattle.std.specs.Prelude.{[], ◌∷◌, ◌≡◌, None, Some, false,
 ghost use Rattle.occ_base.specs.declared.code.Code.TheVariants as code;
 ghost use Rattle.occ_names.specs.declared.meaning.Access.TheVariants as access;
 ghost use Rattle.occ_operators.specs.declared.kind.Kind.TheVariants as k;
-ghost use Rattle.occ_operators.specs.Settling.{int, known, nameless, silent};
+ghost use Rattle.occ_operators.specs.Settling.{fault_of, int, known, nameless, silent};
+ghost use Rattle.occ_rules.specs.Abbreviating.{misplaced};
 ghost use Rattle.occ_rules.specs.Assigning.{assigned, pair, target};
 ghost use Rattle.occ_rules.specs.Choosing.{option_of};
 ghost use Rattle.occ_rules.specs.Numbering.{of_another_number};
@@ -22,6 +23,12 @@ pub fn assignment_rows()
     ensures pair { (x : Judged) → pair k.Faulty x ≡ [] }
     ensures fewer { of_another_number false (record { faults = []; kind = known int None } ∷ []) ≡ nameless code.T4 ∷ [] }
     ensures fewer_faulty { assigned (k.Faulty ∷ []) [] ≡ [] }
+{}
+
+/// A value for what is no data: one with a fault, and one without.
+pub fn misplaced_rows()
+    ensures faulty { misplaced k.Faulty ≡ silent }
+    ensures good { misplaced (known int None) ≡ fault_of code.T2 }
 {}
 
 /// Options behind one of 65: another one, the same one, and one that is not constant.
