@@ -9,5 +9,5 @@ mod walk;
 mod written;
 
 pub use parts::name_alone;
-pub use walk::{element, expression, type_form};
+pub use walk::{data_form, element, expression, type_form};
 pub use written::{Extent, Opening};

@@ -683,37 +683,44 @@ fn builtin(
         }
         Builtin::Channel(_, dims, base) => channel(alloc, dims.as_slice(), base, scope, faults),
         Builtin::Counted(_, dims, base, others, other) => {
-            let count = data_form(alloc, dims.as_slice(), base, scope, faults)?;
+            let count = data_form(
+                alloc,
+                dims.as_slice(),
+                base,
+                Opening::Refused,
+                scope,
+                faults,
+            )?;
             let count = count_type(count, faults)?;
-            let of = data_form(alloc, others.as_slice(), other, scope, faults)?;
+            let of = data_form(
+                alloc,
+                others.as_slice(),
+                other,
+                Opening::Refused,
+                scope,
+                faults,
+            )?;
             counted_type(alloc, count, of)
         }
     }
 }
 
-/// A data type inside the type of a channel.
+/// A data type of these dimensions over this base, if nothing is wrong with it.
 #[tactic(auto, unfolding(crate::specs::Written::data_form))]
 #[cycle(walk)]
-fn data_form(
+pub fn data_form(
     alloc: Global,
     dims: &[Dimension],
     base: &DataBase,
+    opening: Opening,
     scope: &Scope,
     faults: &mut Items<Fault>,
 ) -> Result<Option<Shared<OccType>>, AllocError>
-    ensures found { IfOk result (λ found. found ≡ (written_data scope.now (each opened.Refused scope.now (dimension_views dims.now)) base.now).found) }
-    ensures faults { OnOk result (faults.new ≡ faults.old ++ (written_data scope.now (each opened.Refused scope.now (dimension_views dims.now)) base.now).faults) }
+    ensures found { IfOk result (λ found. found ≡ (written_data scope.now (each opening scope.now (dimension_views dims.now)) base.now).found) }
+    ensures faults { OnOk result (faults.new ≡ faults.old ++ (written_data scope.now (each opening scope.now (dimension_views dims.now)) base.now).faults) }
 {
     let of = base_type(alloc, scope, base, faults)?;
-    array_over(
-        alloc,
-        dims,
-        Items::new(alloc),
-        of,
-        Opening::Refused,
-        scope,
-        faults,
-    )
+    array_over(alloc, dims, Items::new(alloc), of, opening, scope, faults)
 }
 
 /// The type of a channel that carries what is named here: values of a data type, or those of a protocol.
@@ -735,11 +742,11 @@ fn channel(
             named_channel(alloc, carried)
         }
         (None, DataBase::Primitive(_)) => {
-            let of = data_form(alloc, dims, base, scope, faults)?;
+            let of = data_form(alloc, dims, base, Opening::Refused, scope, faults)?;
             values_channel(alloc, of)
         }
         (Some(_), _) => {
-            let of = data_form(alloc, dims, base, scope, faults)?;
+            let of = data_form(alloc, dims, base, Opening::Refused, scope, faults)?;
             values_channel(alloc, of)
         }
     }
