@@ -2,6 +2,7 @@
 use Rattle.std.specs.Prelude.{ℕ, Option, Some, None, List, [], ◌∷◌, ◌++◌}
 use Rattle.occ_types.specs.declared.types.OccType.{OccType}
 use Rattle.occ_names.specs.declared.meaning.Access.TheVariants as access
+use Rattle.occ_names.specs.declared.meaning.Entry.{Entry}
 use Rattle.occ_names.specs.declared.meaning.Meaning.{Meaning}
 use Rattle.occ_names.specs.declared.meaning.Meaning.TheVariants as m
 use Rattle.occ_names.specs.declared.scope.Scope.{Scope}
@@ -10,7 +11,7 @@ use Rattle.occ_expr.specs.Views.{type_form_view}
 use Rattle.occ_expr.specs.Written.{Written}
 use Rattle.occ_expr.specs.declared.written.Opening.TheVariants as opening
 use Rattle.occ_rules.specs.Listing.{repetitions}
-use Rattle.occ_declared.specs.Entering.{Declared, Entry, unless_told}
+use Rattle.occ_declared.specs.Entering.{Declared, unless_told}
 use Rattle.occ_declared.specs.Forms.{no_data_faults}
 
 -- a variable of this type, if it is known
@@ -22,7 +23,7 @@ abbrev pub variables : Option OccType → List (List ℕ) → List Entry
 variables of [] = []
 variables of (name ∷ names) = (record { name = name; meaning = variable of name }) ∷ variables of names
 
--- the type, whether it is of the first sublanguage, and each name that stood before in the line
+-- the type, whether typing knows it yet, and each name that stood before in the line
 unfoldable pub declared_type : Scope → TypeForm → List ℕ → List (List ℕ) → Written
 declared_type s of first more =
     let x = type_form_view of opening.Refused s in

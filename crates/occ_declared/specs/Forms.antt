@@ -30,6 +30,6 @@ form_step (TypeForm-F.Builtin ds b) = no_data_word b
 unfoldable pub is_no_data : TypeForm → Bool
 is_no_data of = form_step (out-TypeForm of)
 
--- such a type is not of the first sublanguage
+-- such a type typing does not know yet
 abbrev pub no_data_faults : TypeForm → List Fault
 no_data_faults of = if is_no_data of then nameless code.S1 ∷ [] else []

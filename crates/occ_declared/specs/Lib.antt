@@ -5,3 +5,5 @@ pub mod Valuing
 pub mod Defining
 pub mod Lines
 pub mod Fields
+pub mod Recording
+pub mod Mentions

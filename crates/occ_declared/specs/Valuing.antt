@@ -1,7 +1,8 @@
 -- `VAL n IS e:` and `VAL t n IS e:`.
-use Rattle.std.specs.Prelude.{ℕ, Option, Some, None, List, [], ◌∷◌, ◌++◌}
+use Rattle.std.specs.Prelude.{ℕ, Option, Some, None, List, [], ◌∷◌, ◌++◌, if◌then◌else◌}
+use Rattle.occ_base.specs.declared.code.Code.TheVariants as code
 use Rattle.occ_types.specs.declared.types.OccType.{OccType}
-use Rattle.occ_operators.specs.Settling.{Told, silent}
+use Rattle.occ_operators.specs.Settling.{Told, nameless, silent}
 use Rattle.occ_operators.specs.declared.kind.Fault.{Fault}
 use Rattle.occ_operators.specs.declared.kind.Kind.{Kind}
 use Rattle.occ_operators.specs.declared.kind.Kind.TheVariants as k
@@ -17,6 +18,7 @@ use Rattle.occ_expr.specs.Views.{expr_view, type_form_view}
 use Rattle.occ_expr.specs.declared.written.Opening.TheVariants as opening
 use Rattle.occ_rules.specs.Abbreviating.{abbreviated, abbreviated_as}
 use Rattle.occ_declared.specs.Entering.{Declared}
+use Rattle.occ_declared.specs.Mentions.{in_expr}
 
 -- nothing is asked of the value where the type is not known
 unfoldable pub value_as : Option OccType → Judged → Told
@@ -37,6 +39,13 @@ abbrev pub value_told : Scope → Option TypeForm → Expr → Told
 value_told s None e = value_alone s e
 value_told s (Some of) e = value_with_type s of e
 
+-- typing does not know yet a value in which a variable or a formal is named
+abbrev pub naming_faults : Scope → Expr → List Fault
+naming_faults s e = if in_expr s e then nameless code.S1 ∷ [] else []
+
+unfoldable pub line_told : Scope → Option TypeForm → Expr → Told
+line_told s of e = let x = value_told s of e in record { faults = x.faults ++ naming_faults s e; kind = x.kind }
+
 -- the name of a value of which this is known
 abbrev pub value_name : Kind → List ℕ → Meaning
 value_name k.Faulty name = m.Faulty
@@ -49,5 +58,5 @@ kind_unless_told (fault ∷ faults) kind = k.Faulty
 
 unfoldable pub value : Scope → Option TypeForm → List ℕ → Expr → Declared
 value s of name e =
-    let x = value_told s of e in
+    let x = line_told s of e in
     record { faults = x.faults; adds = (record { name = name; meaning = value_name (kind_unless_told x.faults x.kind) name }) ∷ [] }

@@ -1,7 +1,6 @@
 ghost use Rattle.std.specs.Prelude.{◌≡◌, ◌∷◌, ◌++◌, [], IfOk, OnOk};
 ghost use Rattle.occ_declared.specs.Declaring.{declaration as told_declaration, declared_type as told_type, variable as told_variable, variables as told_variables};
-ghost use Rattle.occ_declared.specs.Entering.{unless_told as known_unless_told, with_all};
-ghost use Rattle.occ_names.specs.Visible.{entered};
+ghost use Rattle.occ_declared.specs.Entering.{unless_told as known_unless_told};
 ghost use Rattle.occ_rules.specs.Listing.{repetitions};
 
 use super::form::tell_no_data;
@@ -9,7 +8,7 @@ use super::told::unless_told;
 use occ_base::{Items, Name, Shared};
 use occ_expr::{Opening, type_form};
 use occ_expressions::TypeForm;
-use occ_names::{Access, Meaning, Scope, Whole};
+use occ_names::{Access, Entry, Meaning, Scope, Whole};
 use occ_operators::Fault;
 use occ_rules::repeated;
 use occ_scope::Scopes;
@@ -31,32 +30,48 @@ fn variable(alloc: Global, of: &Option<Shared<OccType>>, name: &Name) -> Result<
     }
 }
 
-/// A variable of this type comes into scope.
-fn enter_variable(
+/// A further variable of this type.
+fn push_variable(
     alloc: Global,
     of: &Option<Shared<OccType>>,
     name: &Name,
-    scope: &mut Scope,
+    entries: &mut Items<Entry>,
 ) -> Result<(), AllocError>
-    ensures { OnOk result (scope.new ≡ entered scope.old name.now (told_variable of.now name.now)) }
+    ensures { OnOk result (entries.new ≡ entries.old ++ told_variables of.now (name.now ∷ [])) }
 {
-    let meaning = variable(alloc, of, name)?;
-    scope.enter(alloc, name, meaning)
+    let meaning = Shared::new(alloc, variable(alloc, of, name)?)?;
+    let name = name.copied(alloc)?;
+    entries.push(Entry { name, meaning })
 }
 
-/// Further variables of this type come into scope.
-fn enter_variables(
+/// Further variables of this type.
+fn push_variables(
     alloc: Global,
     of: &Option<Shared<OccType>>,
     names: &[Name],
-    scope: &mut Scope,
+    entries: &mut Items<Entry>,
 ) -> Result<(), AllocError>
-    ensures { OnOk result (scope.new ≡ with_all scope.old (told_variables of.now names.now)) }
+    ensures { OnOk result (entries.new ≡ entries.old ++ told_variables of.now names.now) }
 {
     for name in names {
-        enter_variable(alloc, of, name, scope)?;
+        push_variable(alloc, of, name, entries)?;
     }
     Ok(())
+}
+
+/// Variables of this type.
+fn variables(
+    alloc: Global,
+    of: &Option<Shared<OccType>>,
+    first: &Name,
+    more: &[Name],
+) -> Result<Items<Entry>, AllocError>
+    ensures { IfOk result (λ entries. entries ≡ told_variables of.now (first.now ∷ more.now)) }
+{
+    let mut entries = Items::new(alloc);
+    push_variable(alloc, of, first, &mut entries)?;
+    push_variables(alloc, of, more, &mut entries)?;
+    Ok(entries)
 }
 
 /// T8 is told of each name of a line that stood before in it.
@@ -118,13 +133,12 @@ pub fn declaration(
     of: &TypeForm,
     first: &Name,
     more: &[Name],
-    scope: &mut Scope,
+    scope: &Scope,
     faults: &mut Items<Fault>,
-) -> Result<(), AllocError>
-    ensures faults { OnOk result (faults.new ≡ faults.old ++ (told_declaration scope.old of.now first.now more.now).faults) }
-    ensures scope { OnOk result (scope.new ≡ with_all scope.old (told_declaration scope.old of.now first.now more.now).adds) }
+) -> Result<Items<Entry>, AllocError>
+    ensures adds { IfOk result (λ adds. adds ≡ (told_declaration scope.now of.now first.now more.now).adds) }
+    ensures faults { OnOk result (faults.new ≡ faults.old ++ (told_declaration scope.now of.now first.now more.now).faults) }
 {
     let found = names_type(alloc, of, first, more, scope, faults)?;
-    enter_variable(alloc, &found, first, scope)?;
-    enter_variables(alloc, &found, more, scope)
+    variables(alloc, &found, first, more)
 }

@@ -1,6 +1,6 @@
 ghost use Rattle.std.specs.Prelude.{◌≡◌, ◌++◌, IfOk, OnOk};
 ghost use Rattle.occ_declared.specs.Defining.{data_form_type as told_form, data_of as told_data, data_type as told_data_type, defined as told_defined, type_name as told_name, with_name as told_with_name};
-ghost use Rattle.occ_declared.specs.Entering.{unless_told as known_unless_told, with_all};
+ghost use Rattle.occ_declared.specs.Entering.{unless_told as known_unless_told};
 ghost use Rattle.occ_expr.specs.Written.{limited as told_limited};
 ghost use Rattle.std.specs.Prelude.{Some};
 
@@ -8,7 +8,7 @@ use super::told::unless_told;
 use occ_base::{Code, Items, Name, Shared};
 use occ_expr::{Opening, type_form};
 use occ_expressions::TypeForm;
-use occ_names::{Meaning, Scope};
+use occ_names::{Entry, Meaning, Scope, one_entry};
 use occ_operators::{Fault, tell};
 use occ_rules::of_data;
 use occ_terms::is_too_large;
@@ -62,7 +62,7 @@ fn limited(
 
 /// A type with this name, if it is then not too large.
 #[tactic(auto, unfolding(crate::specs::Defining::with_name))]
-fn with_name(
+pub fn with_name(
     alloc: Global,
     name: &Name,
     of: Option<Shared<OccType>>,
@@ -113,7 +113,7 @@ fn type_of_name(
 }
 
 /// The name of a type, if that is known.
-fn type_name(of: Option<Shared<OccType>>) -> Meaning
+pub fn type_name(of: Option<Shared<OccType>>) -> Meaning
     ensures { result ≡ told_name of }
 {
     match of {
@@ -128,12 +128,12 @@ pub fn data_type(
     alloc: Global,
     name: &Name,
     form: &TypeForm,
-    scope: &mut Scope,
+    scope: &Scope,
     faults: &mut Items<Fault>,
-) -> Result<(), AllocError>
-    ensures faults { OnOk result (faults.new ≡ faults.old ++ (told_data_type scope.old name.now form.now).faults) }
-    ensures scope { OnOk result (scope.new ≡ with_all scope.old (told_data_type scope.old name.now form.now).adds) }
+) -> Result<Items<Entry>, AllocError>
+    ensures adds { IfOk result (λ adds. adds ≡ (told_data_type scope.now name.now form.now).adds) }
+    ensures faults { OnOk result (faults.new ≡ faults.old ++ (told_data_type scope.now name.now form.now).faults) }
 {
     let of = type_of_name(alloc, name, form, scope, faults)?;
-    scope.enter(alloc, name, type_name(of))
+    one_entry(alloc, name, type_name(of))
 }

@@ -15,8 +15,9 @@ use occ_types::{Field, OccType};
 use std::alloc::{AllocError, Global};
 use std::slice;
 
-/// T8 is told of each name of a line that stood before in the record, and the line's names are added to those.
-fn repeated_all(
+/// T8 is told of each name of a line, or of a group of formals, that stood before in the list, and the line's names are
+/// added to those.
+pub fn repeated_all(
     alloc: Global,
     first: &Name,
     more: &[Name],

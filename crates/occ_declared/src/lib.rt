@@ -6,8 +6,15 @@ mod defining;
 mod field;
 mod form;
 mod line;
+mod mention;
+mod recording;
 mod told;
 mod valuing;
 
-pub use field::fields;
-pub use line::specified;
+pub use declaring::declaration;
+pub use defining::{data_form_type, data_type};
+pub use field::{fields, repeated_all};
+pub use form::tell_no_data;
+pub use line::unknown;
+pub use recording::record;
+pub use valuing::value;

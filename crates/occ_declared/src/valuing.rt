@@ -1,14 +1,13 @@
 ghost use Rattle.std.specs.Prelude.{◌≡◌, ◌∷◌, ◌++◌, [], IfOk, OnOk};
-ghost use Rattle.occ_declared.specs.Entering.{with_all};
-ghost use Rattle.occ_declared.specs.Valuing.{kind_unless_told as known_unless_told, value as told_value, value_alone as told_alone, value_as as told_as, value_name as told_name, value_told, value_with_type as told_with_type};
-ghost use Rattle.occ_names.specs.Visible.{entered};
+ghost use Rattle.occ_declared.specs.Valuing.{kind_unless_told as known_unless_told, line_told, naming_faults, value as told_value, value_alone as told_alone, value_as as told_as, value_name as told_name, value_told, value_with_type as told_with_type};
 ghost use Rattle.occ_terms.specs.Terms.{judged};
 
-use occ_base::{Items, Name, Shared};
+use super::mention::expr_mentions;
+use occ_base::{Code, Items, Name, Shared};
 use occ_expr::{Opening, expression, type_form};
 use occ_expressions::{Expr, TypeForm};
-use occ_names::{Access, Meaning, Scope, Whole};
-use occ_operators::{Fault, Kind};
+use occ_names::{Access, Entry, Meaning, Scope, Whole, one_entry};
+use occ_operators::{Fault, Kind, tell};
 use occ_rules::{abbreviated, abbreviated_as};
 use occ_terms::Term;
 use occ_types::OccType;
@@ -80,6 +79,33 @@ fn valued(
     }
 }
 
+/// S1 is told of a value in which a variable or a formal is named.
+fn tell_naming(expr: &Expr, scope: &Scope, faults: &mut Items<Fault>) -> Result<(), AllocError>
+    ensures { OnOk result (faults.new ≡ faults.old ++ naming_faults scope.now expr.now) }
+{
+    if expr_mentions(expr, scope) {
+        tell(faults, Code::S1)?;
+    }
+    Ok(())
+}
+
+/// What is known of the value, with all that the line tells.
+#[tactic(auto, unfolding(crate::specs::Valuing::line_told))]
+fn of_line(
+    alloc: Global,
+    of: &Option<TypeForm>,
+    expr: &Expr,
+    scope: &Scope,
+    faults: &mut Items<Fault>,
+) -> Result<Kind, AllocError>
+    ensures kind { IfOk result (λ kind. kind ≡ (line_told scope.now of.now expr.now).kind) }
+    ensures faults { OnOk result (faults.new ≡ faults.old ++ (line_told scope.now of.now expr.now).faults) }
+{
+    let kind = valued(alloc, of, expr, scope, faults)?;
+    tell_naming(expr, scope, faults)?;
+    Ok(kind)
+}
+
 /// What is known of the value, if the line told nothing.
 fn unless_told(told: &Items<Fault>, kind: Kind) -> Kind
     ensures { result ≡ known_unless_told told.now kind }
@@ -95,11 +121,11 @@ fn name_kind(
     scope: &Scope,
     faults: &mut Items<Fault>,
 ) -> Result<Kind, AllocError>
-    ensures kind { IfOk result (λ kind. kind ≡ known_unless_told (value_told scope.now of.now expr.now).faults (value_told scope.now of.now expr.now).kind) }
-    ensures faults { OnOk result (faults.new ≡ faults.old ++ (value_told scope.now of.now expr.now).faults) }
+    ensures kind { IfOk result (λ kind. kind ≡ known_unless_told (line_told scope.now of.now expr.now).faults (line_told scope.now of.now expr.now).kind) }
+    ensures faults { OnOk result (faults.new ≡ faults.old ++ (line_told scope.now of.now expr.now).faults) }
 {
     let mut told = Items::new(alloc);
-    let kind = valued(alloc, of, expr, scope, &mut told)?;
+    let kind = of_line(alloc, of, expr, scope, &mut told)?;
     let kind = unless_told(&told, kind);
     faults.append(told)?;
     Ok(kind)
@@ -128,13 +154,13 @@ pub fn value(
     of: &Option<TypeForm>,
     name: &Name,
     expr: &Expr,
-    scope: &mut Scope,
+    scope: &Scope,
     faults: &mut Items<Fault>,
-) -> Result<(), AllocError>
-    ensures faults { OnOk result (faults.new ≡ faults.old ++ (told_value scope.old of.now name.now expr.now).faults) }
-    ensures scope { OnOk result (scope.new ≡ with_all scope.old (told_value scope.old of.now name.now expr.now).adds) }
+) -> Result<Items<Entry>, AllocError>
+    ensures adds { IfOk result (λ adds. adds ≡ (told_value scope.now of.now name.now expr.now).adds) }
+    ensures faults { OnOk result (faults.new ≡ faults.old ++ (told_value scope.now of.now name.now expr.now).faults) }
 {
     let kind = name_kind(alloc, of, expr, scope, faults)?;
     let meaning = value_name(alloc, kind, name)?;
-    scope.enter(alloc, name, meaning)
+    one_entry(alloc, name, meaning)
 }
