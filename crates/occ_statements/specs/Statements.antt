@@ -1,5 +1,6 @@
 -- What a line of a process tells by its elements and expressions, from what stands in scope.
-use Rattle.std.specs.Prelude.{ℤ, List, [], ◌++◌}
+use Rattle.std.specs.List.{list_any}
+use Rattle.std.specs.Prelude.{ℤ, Bool, List, [], ◌++◌}
 use Rattle.std.specs.BTreeSet.{BTreeSet}
 use Rattle.occ_types.specs.declared.types.OccType.{OccType}
 use Rattle.occ_operators.specs.Operators.{all_faults, kinds}
@@ -8,7 +9,7 @@ use Rattle.occ_operators.specs.declared.kind.Fault.{Fault}
 use Rattle.occ_operators.specs.declared.kind.Kind.{Kind}
 use Rattle.occ_operators.specs.declared.kind.Kind.TheVariants as k
 use Rattle.occ_names.specs.declared.scope.Scope.{Scope}
-use Rattle.occ_terms.specs.Terms.{judged, judged_all}
+use Rattle.occ_terms.specs.Terms.{has_fault, judged, judged_all}
 use Rattle.occ_expressions.specs.declared.tree.Element.{Element}
 use Rattle.occ_expressions.specs.declared.tree.Expr.{Expr}
 use Rattle.occ_expr.specs.Parts.{Said, after, in_scope, own_faults, terms}
@@ -20,6 +21,10 @@ use Rattle.occ_statements.specs.Targets.{targets}
 
 abbrev pub said : Scope → List Expr → List Said
 said s es = in_scope s (expr_views es)
+
+-- one of them is faulty by itself, whether that was told or is told elsewhere
+abbrev pub is_any_faulty : Scope → List Expr → Bool
+is_any_faulty s es = list_any has_fault (judged_all (terms (said s es)))
 
 -- the targets, the values by themselves, and then one for the other
 abbrev pub assigned_to : List Told → List Said → List Fault

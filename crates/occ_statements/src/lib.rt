@@ -4,4 +4,4 @@
 mod statement;
 mod target;
 
-pub use statement::{assignment, condition, options, results, selector};
+pub use statement::{assignment, condition, options, results, selector, values};

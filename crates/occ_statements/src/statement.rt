@@ -1,6 +1,6 @@
 ghost use Rattle.std.specs.Prelude.{◌≡◌, ◌∷◌, ◌++◌, IfOk, OnOk};
 ghost use Rattle.occ_expr.specs.Parts.{own_faults, terms as terms_of};
-ghost use Rattle.occ_statements.specs.Statements.{assignment as told_assignment, condition as told_condition, options as told_options, results as told_results, said, selector as told_selector};
+ghost use Rattle.occ_statements.specs.Statements.{assignment as told_assignment, condition as told_condition, is_any_faulty, options as told_options, results as told_results, said, selector as told_selector};
 
 use super::target::targets;
 use occ_base::{Items, Shared};
@@ -12,7 +12,7 @@ use occ_rules::{
     assigned, condition as judge_condition, options as choose, results as compare,
     selector as select,
 };
-use occ_terms::Term;
+use occ_terms::{Term, any_has_fault};
 use occ_types::OccType;
 use std::alloc::{AllocError, Global};
 use std::collections::BTreeSet;
@@ -51,6 +51,21 @@ fn expressions(
     terms.push(term)?;
     more_expressions(alloc, more, scope, &mut terms, faults)?;
     Ok(terms)
+}
+
+/// What expressions tell by themselves, where nothing is compared with them, and whether one of them has a fault.
+pub fn values(
+    alloc: Global,
+    first: &Expr,
+    more: &[Expr],
+    scope: &Scope,
+    faults: &mut Items<Fault>,
+) -> Result<bool, AllocError>
+    ensures faulty { IfOk result (λ faulty. faulty ≡ is_any_faulty scope.now (first.now ∷ more.now)) }
+    ensures faults { OnOk result (faults.new ≡ faults.old ++ own_faults (said scope.now (first.now ∷ more.now))) }
+{
+    let terms = expressions(alloc, first, more, scope, faults)?;
+    Ok(any_has_fault(terms.as_slice()))
 }
 
 /// `el, .. := e, ..`: the targets, the values, and each value for its target.
@@ -118,7 +133,7 @@ pub fn options(
     }
 }
 
-/// The results of a FUNCTION with results of these types, whose head has no fault.
+/// The results of a FUNCTION with results of these types, whose head has no fault, and whether one of them has a fault.
 pub fn results(
     alloc: Global,
     first: &Expr,
@@ -126,9 +141,11 @@ pub fn results(
     types: &[Shared<OccType>],
     scope: &Scope,
     faults: &mut Items<Fault>,
-) -> Result<(), AllocError>
-    ensures { OnOk result (faults.new ≡ faults.old ++ told_results scope.now types.now (first.now ∷ more.now)) }
+) -> Result<bool, AllocError>
+    ensures faulty { IfOk result (λ faulty. faulty ≡ is_any_faulty scope.now (first.now ∷ more.now)) }
+    ensures faults { OnOk result (faults.new ≡ faults.old ++ told_results scope.now types.now (first.now ∷ more.now)) }
 {
     let terms = expressions(alloc, first, more, scope, faults)?;
-    compare(alloc, types, terms.as_slice(), faults)
+    compare(alloc, types, terms.as_slice(), faults)?;
+    Ok(any_has_fault(terms.as_slice()))
 }
