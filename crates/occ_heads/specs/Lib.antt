@@ -1,0 +1,5 @@
+pub mod Knowing
+pub mod Formals
+pub mod Groups
+pub mod Results
+pub mod Heads

@@ -1,0 +1,13 @@
+//! What the head of a PROC or of a FUNCTION tells, and what it makes known.
+#![tactic(auto)]
+
+mod formal;
+mod function;
+mod group;
+mod heading;
+mod procedure;
+mod result_type;
+
+pub use function::function_head;
+pub use heading::Heading;
+pub use procedure::procedure_head;
