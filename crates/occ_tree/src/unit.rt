@@ -1,4 +1,6 @@
-ghost use Rattle.std.specs.Prelude.{◌≡◌, IfErr, IfOk};
+ghost use Rattle.std.specs.Prelude.{◌≡◌, [], IfErr, IfOk};
+ghost use Rattle.occ_tree.specs.Faults.{shape_faults as shape_faults_of};
+ghost use Rattle.occ_tree.specs.Forest.{forest_of, nested};
 ghost use Rattle.occ_tree.specs.Shapes.{IsShapeOf, Refuses};
 ghost use Rattle.occ_tree.specs.declared.unit.ShapeFault.TheVariants.{Memory};
 
@@ -40,6 +42,8 @@ impl From<AllocError> for ShapeFault {
 /// levels.
 pub fn shape(alloc: Global, lines: Items<ExpandedLine>) -> Result<Unit, ShapeFault>
     ensures unit { IfOk result (λ unit. IsShapeOf lines unit.roots) }
+    ensures nested { IfOk result (λ unit. forest_of unit.roots ≡ nested lines) }
+    ensures clean { IfOk result (λ unit. shape_faults_of lines ≡ []) }
     ensures faults { IfErr result (λ fault. Refuses lines fault) }
 {
     let faults = shape_faults(alloc, lines.as_slice())?;
