@@ -1,0 +1,103 @@
+-- The two ways to say the diagnostics of a unit are one.
+use Rattle.std.proofs.Common.{◌↔◌, List, [], ◌∷◌, ◌++◌, inl, inr}
+use Rattle.std.specs.Prelude.{◌⊎◌}
+use Rattle.occ_base.specs.declared.diag.Diag.{Diag}
+use Rattle.occ_names.specs.declared.scope.Scope.{Scope}
+use Rattle.occ_project.specs.declared.expanded.ExpandedLine.{ExpandedLine}
+use Rattle.occ_tree.specs.Forest.{Forest, Empty, Tree}
+use Rattle.occ_typing.specs.Placed.{placed}
+use Rattle.occ_typing.specs.Places.{At, IsAmong, IsTold, IsToldIn, Stands, first, inner, inside, judged_at, later, told_at}
+use Rattle.occ_typing.specs.Units.{behind_line, lines, type_faults}
+use Rattle.occ_typing.specs.declared.parent.Parent.{Parent}
+
+among_front : (d : Diag) (xs ys : List Diag) → IsAmong d xs → IsAmong d (xs ++ ys)
+among_front d [] ys h = absurd h
+among_front d (x ∷ xs) ys (inl e) = inl e
+among_front d (x ∷ xs) ys (inr h) = inr (among_front d xs ys h)
+
+among_back : (d : Diag) (xs ys : List Diag) → IsAmong d ys → IsAmong d (xs ++ ys)
+among_back d [] ys h = h
+among_back d (x ∷ xs) ys h = inr (among_back d xs ys h)
+
+more_among : (d x : Diag) (xs ys : List Diag) → IsAmong d xs ⊎ IsAmong d ys → IsAmong d (x ∷ xs) ⊎ IsAmong d ys
+more_among d x xs ys (inl h) = inl (inr h)
+more_among d x xs ys (inr h) = inr h
+
+among_both : (d : Diag) (xs ys : List Diag) → IsAmong d (xs ++ ys) → IsAmong d xs ⊎ IsAmong d ys
+among_both d [] ys h = inr h
+among_both d (x ∷ xs) ys (inl e) = inl (inl e)
+among_both d (x ∷ xs) ys (inr h) = more_among d x xs ys (among_both d xs ys h)
+
+-- of what is told of a line, of those under it and of those behind it
+split_behind : (d : Diag) (beneath under own : List Diag) → IsAmong d under ⊎ IsAmong d own → IsAmong d (beneath ++ own) ⊎ IsAmong d under
+split_behind d beneath under own (inl h) = inr h
+split_behind d beneath under own (inr h) = inl (among_back d beneath own h)
+
+split_front : (d : Diag) (beneath under own : List Diag) → IsAmong d beneath ⊎ IsAmong d (under ++ own) → IsAmong d (beneath ++ own) ⊎ IsAmong d under
+split_front d beneath under own (inl h) = inl (among_front d beneath own h)
+split_front d beneath under own (inr h) = split_behind d beneath under own (among_both d under own h)
+
+split_rest : (d : Diag) (beneath under own rest : List Diag) → IsAmong d (beneath ++ (under ++ own)) ⊎ IsAmong d rest
+    → (IsAmong d (beneath ++ own) ⊎ IsAmong d under) ⊎ IsAmong d rest
+split_rest d beneath under own rest (inl h) = inl (split_front d beneath under own (among_both d beneath (under ++ own) h))
+split_rest d beneath under own rest (inr h) = inr h
+
+split : (d : Diag) (beneath under own rest : List Diag) → IsAmong d ((beneath ++ (under ++ own)) ++ rest)
+    → (IsAmong d (beneath ++ own) ⊎ IsAmong d under) ⊎ IsAmong d rest
+split d beneath under own rest h = split_rest d beneath under own rest (among_both d (beneath ++ (under ++ own)) rest h)
+
+own_front : (d : Diag) (beneath under own : List Diag) → IsAmong d beneath ⊎ IsAmong d own → IsAmong d (beneath ++ (under ++ own))
+own_front d beneath under own (inl h) = among_front d beneath (under ++ own) h
+own_front d beneath under own (inr h) = among_back d beneath (under ++ own) (among_back d under own h)
+
+-- what is told under a line, and behind it
+abbrev IsToldUnder : Parent → Scope → ExpandedLine → Forest → Diag → Type 0
+IsToldUnder p s l under d = IsToldIn (judged_at p s l under).line.parent (inner (judged_at p s l under) s) (inner (judged_at p s l under) s) under d
+
+abbrev IsToldBehind : Parent → Scope → Scope → ExpandedLine → Forest → Forest → Diag → Type 0
+IsToldBehind p outer s l under behind d = IsToldIn (judged_at p s l under).line.next outer (behind_line outer s (judged_at p s l under).line.adds) behind d
+
+at_line : (p : Parent) (outer s : Scope) (l : ExpandedLine) (under behind : Forest) (d : Diag)
+    → IsAmong d (told_at (record { line = l; under = under; parent = p; scope = s })) → IsToldIn p outer s (Tree l under behind) d
+at_line p outer s l under behind d h = (record { line = l; under = under; parent = p; scope = s }, first p outer s l under behind, h)
+
+under_line : (p : Parent) (outer s : Scope) (l : ExpandedLine) (under behind : Forest) (d : Diag) → IsToldUnder p s l under d → IsToldIn p outer s (Tree l under behind) d
+under_line p outer s l under behind d r = (r.0, inside p outer s l under behind r.0 r.1, r.2)
+
+behind_it : (p : Parent) (outer s : Scope) (l : ExpandedLine) (under behind : Forest) (d : Diag) → IsToldBehind p outer s l under behind d → IsToldIn p outer s (Tree l under behind) d
+behind_it p outer s l under behind d r = (r.0, later p outer s l under behind r.0 r.1, r.2)
+
+sound_cases : (p : Parent) (outer s : Scope) (l : ExpandedLine) (under behind : Forest) (d : Diag) (below rest : List Diag)
+    → (IsAmong d below → IsToldUnder p s l under d) → (IsAmong d rest → IsToldBehind p outer s l under behind d)
+    → (IsAmong d (told_at (record { line = l; under = under; parent = p; scope = s })) ⊎ IsAmong d below) ⊎ IsAmong d rest
+    → IsToldIn p outer s (Tree l under behind) d
+sound_cases p outer s l under behind d below rest f g (inl (inl h)) = at_line p outer s l under behind d h
+sound_cases p outer s l under behind d below rest f g (inl (inr h)) = under_line p outer s l under behind d (f h)
+sound_cases p outer s l under behind d below rest f g (inr h) = behind_it p outer s l under behind d (g h)
+
+sound : (p : Parent) (outer s : Scope) (f : Forest) (d : Diag) → IsAmong d (lines p outer s f) → IsToldIn p outer s f d
+sound p outer s Empty d h = absurd h
+sound p outer s (Tree l under behind) d h =
+    let x = judged_at p s l under in
+    let below = lines x.line.parent (inner x s) (inner x s) under in
+    let rest = lines x.line.next outer (behind_line outer s x.line.adds) behind in
+    sound_cases p outer s l under behind d below rest
+    (sound x.line.parent (inner x s) (inner x s) under d)
+    (sound x.line.next outer (behind_line outer s x.line.adds) behind d)
+    (split d x.beneath below (placed l x.faults) rest h)
+
+complete : (p : Parent) (outer s : Scope) (f : Forest) (a : At) (d : Diag) → Stands p outer s f a → IsAmong d (told_at a) → IsAmong d (lines p outer s f)
+complete p outer s f a d (first _ _ _ l under behind) h =
+    among_front d ((judged_at p s l under).beneath ++ (lines (judged_at p s l under).line.parent (inner (judged_at p s l under) s) (inner (judged_at p s l under) s) under ++ placed l (judged_at p s l under).faults)) (lines (judged_at p s l under).line.next outer (behind_line outer s (judged_at p s l under).line.adds) behind)
+    (own_front d (judged_at p s l under).beneath (lines (judged_at p s l under).line.parent (inner (judged_at p s l under) s) (inner (judged_at p s l under) s) under) (placed l (judged_at p s l under).faults) (among_both d (judged_at p s l under).beneath (placed l (judged_at p s l under).faults) h))
+complete p outer s f a d (inside _ _ _ l under behind _ is) h =
+    among_front d ((judged_at p s l under).beneath ++ (lines (judged_at p s l under).line.parent (inner (judged_at p s l under) s) (inner (judged_at p s l under) s) under ++ placed l (judged_at p s l under).faults)) (lines (judged_at p s l under).line.next outer (behind_line outer s (judged_at p s l under).line.adds) behind)
+    (among_back d (judged_at p s l under).beneath (lines (judged_at p s l under).line.parent (inner (judged_at p s l under) s) (inner (judged_at p s l under) s) under ++ placed l (judged_at p s l under).faults)
+    (among_front d (lines (judged_at p s l under).line.parent (inner (judged_at p s l under) s) (inner (judged_at p s l under) s) under) (placed l (judged_at p s l under).faults)
+    (complete (judged_at p s l under).line.parent (inner (judged_at p s l under) s) (inner (judged_at p s l under) s) under a d is h)))
+complete p outer s f a d (later _ _ _ l under behind _ is) h =
+    among_back d ((judged_at p s l under).beneath ++ (lines (judged_at p s l under).line.parent (inner (judged_at p s l under) s) (inner (judged_at p s l under) s) under ++ placed l (judged_at p s l under).faults)) (lines (judged_at p s l under).line.next outer (behind_line outer s (judged_at p s l under).line.adds) behind)
+    (complete (judged_at p s l under).line.next outer (behind_line outer s (judged_at p s l under).line.adds) behind a d is h)
+
+pub told_places : (f : Forest) (d : Diag) → IsAmong d (type_faults f) ↔ IsTold f d
+told_places f d = (sound _ _ _ f d, λ h. complete _ _ _ f h.0 d h.1 h.2)

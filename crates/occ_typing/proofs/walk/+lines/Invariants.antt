@@ -1,0 +1,11 @@
+use Rattle.std.proofs.Common.{◌≡◌, ◌++◌, ◌≤◌, drop, length}
+use Rattle.occ_names.specs.Visible.{back_to}
+use Rattle.occ_tree.specs.Forest.{forest_of}
+use Rattle.occ_typing.specs.Units.{lines}
+use Rattle.occ_typing.proofs.walk.+lines.Given as goal
+
+abbrev pub invariant-lines-loop-node : goal.invariant-lines-loop-node
+invariant-lines-loop-node l =
+    (l.outer ≤ length l.scope.meanings)
+    × (back_to l.outer l.scope ≡ l.initial.scope)
+    × (l.found ++ lines l.parent l.initial.scope l.scope (forest_of (drop l.node-index l.nodes)) ≡ l.initial.found ++ lines l.initial.parent l.initial.scope l.initial.scope (forest_of l.nodes))

@@ -1,0 +1,56 @@
+-- Constructs: what their own lines tell, and what they say of the lines under them.
+use Rattle.std.specs.Prelude.{ℕ, false, Option, Some, None, List, [], ◌∷◌}
+use Rattle.occ_forms.specs.declared.tree.Construct.{Construct}
+use Rattle.occ_forms.specs.declared.tree.Construct.TheVariants as construct
+use Rattle.occ_forms.specs.declared.tree.Kind.{Kind as Word}
+use Rattle.occ_forms.specs.declared.tree.Kind.TheVariants as word
+use Rattle.occ_forms.specs.declared.tree.Replicator.{Replicator}
+use Rattle.occ_names.specs.declared.meaning.Entry.{Entry}
+use Rattle.occ_names.specs.declared.meaning.Meaning.TheVariants as m
+use Rattle.occ_names.specs.declared.scope.Scope.{Scope}
+use Rattle.occ_operators.specs.Settling.{Told}
+use Rattle.occ_operators.specs.declared.kind.Fault.{Fault}
+use Rattle.occ_operators.specs.declared.kind.Kind.{Kind}
+use Rattle.occ_statements.specs.Statements.{condition, selector}
+use Rattle.occ_typing.specs.Lines.{Judged, beyond, over}
+use Rattle.occ_typing.specs.declared.parent.Parent.{Parent}
+use Rattle.occ_typing.specs.declared.parent.Parent.TheVariants as parent
+
+abbrev pub under_word : Word → Parent
+under_word word.Sequence = parent.Process
+under_word word.Parallel = parent.Process
+under_word word.PriParallel = parent.Process
+under_word word.Conditional = parent.Conditional
+under_word word.Alternation = parent.Process
+under_word word.PriAlternation = parent.Process
+
+-- typing does not know alternations yet
+abbrev pub word_faults : Word → List Fault
+word_faults word.Sequence = []
+word_faults word.Parallel = []
+word_faults word.PriParallel = []
+word_faults word.Conditional = []
+word_faults word.Alternation = beyond
+word_faults word.PriAlternation = beyond
+
+-- a name of which nothing is known
+abbrev pub faulty_name : List ℕ → Entry
+faulty_name name = record { name = name; meaning = m.Faulty }
+
+-- nor replicators: nothing is known of the index
+abbrev pub replicable : Word → Option Replicator → Parent → Judged
+replicable w None next = over (word_faults w) (under_word w) [] next
+replicable w (Some r) next = over beyond (under_word w) (faulty_name r.name ∷ []) next
+
+-- no option stands before the first
+abbrev pub choosing : Kind → Parent
+choosing kind = parent.Selection (record { selector = kind; numbers = record { keys = [] }; otherwise = false })
+
+abbrev pub selecting : Told → Parent → Judged
+selecting x next = over x.faults (choosing x.kind) [] next
+
+abbrev pub constructing : Scope → Construct → Parent → Judged
+constructing s (construct.Replicable w r) next = replicable w r next
+constructing s (construct.While e) next = over (condition s e) parent.Process [] next
+constructing s (construct.Case e) next = selecting (selector s e) next
+constructing s (construct.CaseInput el) next = over beyond parent.Process [] next

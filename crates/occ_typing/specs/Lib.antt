@@ -1,0 +1,9 @@
+pub mod Placed
+pub mod Places
+pub mod Lines
+pub mod Actions
+pub mod Constructs
+pub mod Parts
+pub mod Records
+pub mod Specifying
+pub mod Units

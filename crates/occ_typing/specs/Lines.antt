@@ -1,0 +1,41 @@
+-- What a line is for the lines round it.
+use Rattle.std.specs.Prelude.{Some, None, List, [], ◌∷◌}
+use Rattle.occ_base.specs.declared.code.Code.TheVariants as code
+use Rattle.occ_base.specs.declared.diag.Diag.{Diag}
+use Rattle.occ_names.specs.declared.meaning.Entry.{Entry}
+use Rattle.occ_operators.specs.Settling.{nameless}
+use Rattle.occ_operators.specs.declared.kind.Fault.{Fault}
+use Rattle.occ_typing.specs.declared.parent.Line.{Line}
+use Rattle.occ_typing.specs.declared.parent.Parent.{Parent}
+use Rattle.occ_typing.specs.declared.parent.Parent.TheVariants as parent
+
+-- the faults of a line, the diagnostics of lines under it that are told with it, and what it is for those round it
+pub record Judged : Type 0 where
+  pub faults : List Fault
+  pub beneath : List Diag
+  pub line : Line
+
+-- a main line, which says this of the lines under it
+abbrev pub over : List Fault → Parent → List Entry → Parent → Judged
+over faults under enters next =
+    record {
+      faults = faults;
+      beneath = [];
+      line = record { parent = under; enters = enters; next = next; adds = None };
+    }
+
+abbrev pub main : List Fault → Parent → Judged
+main faults next = over faults parent.Process [] next
+
+-- a specification over no lines that it has anything to say of: of one line, a close, a head that typing does not know yet
+abbrev pub specifying : List Fault → List Entry → Parent → Judged
+specifying faults adds next =
+    record {
+      faults = faults;
+      beneath = [];
+      line = record { parent = parent.Process; enters = []; next = next; adds = Some adds };
+    }
+
+-- a line that typing does not know yet
+abbrev pub beyond : List Fault
+beyond = nameless code.S1 ∷ []

@@ -1,0 +1,78 @@
+-- What lines under IF, CASE and FUNCTION tell: conditions, options, ELSE, VALOF and RESULT.
+use Rattle.std.specs.Prelude.{Bool, true, Option, Some, None, List, [], ◌∷◌, if◌then◌else◌}
+use Rattle.occ_base.specs.declared.code.Code.TheVariants as code
+use Rattle.occ_expr.specs.Parts.{own_faults}
+use Rattle.occ_expressions.specs.declared.tree.Expr.{Expr}
+use Rattle.occ_forms.specs.declared.tree.Part.{Part}
+use Rattle.occ_forms.specs.declared.tree.Part.TheVariants as part
+use Rattle.occ_names.specs.declared.scope.Scope.{Scope}
+use Rattle.occ_operators.specs.Settling.{nameless}
+use Rattle.occ_operators.specs.declared.kind.Fault.{Fault}
+use Rattle.occ_rules.specs.Choosing.{Chosen}
+use Rattle.occ_statements.specs.Statements.{condition, options, results, said}
+use Rattle.occ_types.specs.declared.types.OccType.{OccType}
+use Rattle.occ_typing.specs.Lines.{Judged, beyond, main, over}
+use Rattle.occ_typing.specs.declared.parent.Choosing.{Choosing}
+use Rattle.occ_typing.specs.declared.parent.Parent.{Parent}
+use Rattle.occ_typing.specs.declared.parent.Parent.TheVariants as parent
+
+-- ---- options of a CASE
+
+abbrev pub chosen : Choosing → Chosen → Judged
+chosen c x = main x.faults (parent.Selection (record { selector = c.selector; numbers = x.numbers; otherwise = c.otherwise }))
+
+abbrev pub option : Scope → Choosing → List Expr → Judged
+option s c es = chosen c (options s c.selector c.numbers es)
+
+-- a second ELSE is an option that is there already
+abbrev pub second : Bool → List Fault
+second otherwise = if otherwise then nameless code.T8 ∷ [] else []
+
+abbrev pub else_option : Choosing → Judged
+else_option c = main (second c.otherwise) (parent.Selection (record { selector = c.selector; numbers = c.numbers; otherwise = true }))
+
+-- ---- results of a FUNCTION: nothing is compared with them where its head has a fault
+
+abbrev pub results_of : Scope → Option (List OccType) → List Expr → List Fault
+results_of s None es = own_faults (said s es)
+results_of s (Some types) es = results s types es
+
+-- ---- by the parent; what is not told here typing does not know yet, or it stands where no line of its kind may
+
+abbrev pub expressing : Scope → Expr → List Expr → Parent → Judged
+expressing s e es parent.Process = main beyond parent.Process
+expressing s e es parent.Conditional = main (condition s e) parent.Conditional
+expressing s e es (parent.Selection c) = option s c (e ∷ es)
+expressing s e es (parent.Function types) = main beyond (parent.Function types)
+expressing s e es parent.Record = main beyond parent.Record
+
+abbrev pub otherwise : Parent → Judged
+otherwise parent.Process = main [] parent.Process
+otherwise parent.Conditional = main [] parent.Conditional
+otherwise (parent.Selection c) = else_option c
+otherwise (parent.Function types) = main [] (parent.Function types)
+otherwise parent.Record = main [] parent.Record
+
+-- the body of a FUNCTION goes on under VALOF
+abbrev pub valued : Parent → Judged
+valued parent.Process = main [] parent.Process
+valued parent.Conditional = main [] parent.Conditional
+valued (parent.Selection c) = main [] (parent.Selection c)
+valued (parent.Function types) = over [] (parent.Function types) [] parent.Process
+valued parent.Record = main [] parent.Record
+
+abbrev pub resulting : Scope → List Expr → Parent → Judged
+resulting s es parent.Process = main [] parent.Process
+resulting s es parent.Conditional = main [] parent.Conditional
+resulting s es (parent.Selection c) = main [] (parent.Selection c)
+resulting s es (parent.Function types) = main (results_of s types es) (parent.Function types)
+resulting s es parent.Record = main [] parent.Record
+
+abbrev pub parting : Scope → Part → Parent → Judged
+parting s part.Case next = main beyond next
+parting s part.Else next = otherwise next
+parting s part.ValueOf next = valued next
+parting s (part.Result e es) next = resulting s (e ∷ es) next
+parting s part.Record next = main [] next
+parting s part.PackedRecord next = main [] next
+parting s (part.Guard e g) next = main beyond next

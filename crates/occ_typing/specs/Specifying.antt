@@ -1,0 +1,91 @@
+-- Specifications: of one line, and heads.
+use Rattle.std.specs.Prelude.{ℕ, Bool, true, false, Some, List, [], ◌∷◌, ◌++◌}
+use Rattle.occ_declared.specs.Declaring.{declaration}
+use Rattle.occ_declared.specs.Defining.{data_type}
+use Rattle.occ_declared.specs.Entering.{Declared}
+use Rattle.occ_declared.specs.Lines.{unknown}
+use Rattle.occ_declared.specs.Recording.{recorded}
+use Rattle.occ_declared.specs.Valuing.{value}
+use Rattle.occ_expressions.specs.declared.tree.Expr.{Expr}
+use Rattle.occ_heads.specs.Heads.{Headed, function, procedure}
+use Rattle.occ_names.specs.Visible.{with_all}
+use Rattle.occ_names.specs.declared.meaning.Entry.{Entry}
+use Rattle.occ_names.specs.declared.meaning.Meaning.{Meaning}
+use Rattle.occ_names.specs.declared.meaning.Meaning.TheVariants as m
+use Rattle.occ_names.specs.declared.scope.Scope.{Scope}
+use Rattle.occ_operators.specs.declared.kind.Fault.{Fault}
+use Rattle.occ_statements.specs.Statements.{is_any_faulty}
+use Rattle.occ_specifications.specs.declared.tree.FunctionHead.{FunctionHead}
+use Rattle.occ_specifications.specs.declared.tree.Head.{Head}
+use Rattle.occ_specifications.specs.declared.tree.Head.TheVariants as head
+use Rattle.occ_specifications.specs.declared.tree.Specification.{Specification}
+use Rattle.occ_specifications.specs.declared.tree.Specification.TheVariants as specification
+use Rattle.occ_tree.specs.Forest.{Forest}
+use Rattle.occ_typing.specs.Constructs.{faulty_name}
+use Rattle.occ_typing.specs.Lines.{Judged, beyond, specifying}
+use Rattle.occ_typing.specs.Parts.{results_of}
+use Rattle.occ_typing.specs.Records.{Recorded, record_of}
+use Rattle.occ_typing.specs.declared.parent.Parent.{Parent}
+use Rattle.occ_typing.specs.declared.parent.Parent.TheVariants as parent
+
+-- nothing is known of the name of a line that tells something, or has an expression that is faulty
+abbrev pub known_unless : List Fault → Bool → Meaning → Meaning
+known_unless [] false meaning = meaning
+known_unless [] true meaning = m.Faulty
+known_unless (fault ∷ faults) faulty meaning = m.Faulty
+
+abbrev pub named : List ℕ → Meaning → List Entry
+named name meaning = (record { name = name; meaning = meaning }) ∷ []
+
+-- `t, .. FUNCTION n (formals) IS e, ..:`: its formals are judged by its head alone, and it by its whole line
+unfoldable pub function_faults : Scope → Headed → List Expr → List Fault
+function_faults s h es = h.faults ++ results_of (with_all s h.heading.formals) h.heading.results es
+
+unfoldable pub function_meaning : Scope → Headed → List Expr → Meaning
+function_meaning s h es = known_unless (function_faults s h es) (is_any_faulty (with_all s h.heading.formals) es) h.heading.meaning
+
+abbrev pub function_line : Scope → FunctionHead → List Expr → Parent → Judged
+function_line s head es next =
+    let h = function s head in
+    specifying (function_faults s h es) (named head.name (function_meaning s h es)) next
+
+abbrev pub declared_line : Declared → Parent → Judged
+declared_line x next = specifying x.faults x.adds next
+
+abbrev pub one_line : Scope → Specification → Parent → Judged
+one_line s (specification.Declaration of first more) next = declared_line (declaration s of first more) next
+one_line s (specification.Value of name e) next = declared_line (value s of name e) next
+one_line s (specification.DataType name of) next = declared_line (data_type s name of) next
+one_line s (specification.Function head e es) next = function_line s head (e ∷ es) next
+one_line s (specification.Abbreviation of name el) next = declared_line (unknown name) next
+one_line s (specification.Retyped recast of name el) next = declared_line (unknown name) next
+one_line s (specification.RetypedValue recast of name e) next = declared_line (unknown name) next
+one_line s (specification.Protocol name item items) next = declared_line (unknown name) next
+
+-- a PROC or a FUNCTION, which says this of the lines of its body
+abbrev pub headed : List ℕ → Headed → Parent → Parent → Judged
+headed name x under next =
+    record {
+      faults = x.faults;
+      beneath = [];
+      line = record { parent = under; enters = x.heading.formals; next = next; adds = Some (named name x.heading.meaning) };
+    }
+
+abbrev pub function_head : FunctionHead → Headed → Parent → Judged
+function_head head x next = headed head.name x (parent.Function x.heading.results) next
+
+-- the type of a record is judged whole at its head, and its lines with it
+abbrev pub record_head : List ℕ → Recorded → Parent → Judged
+record_head name r next =
+    let x = recorded name r.packing r.fields.fields in
+    record {
+      faults = x.faults;
+      beneath = r.fields.diags;
+      line = record { parent = parent.Record; enters = []; next = next; adds = Some (named name x.meaning) };
+    }
+
+abbrev pub heading : Scope → Head → Forest → Parent → Judged
+heading s (head.Procedure inlined name formals) under next = headed name (procedure s formals) parent.Process next
+heading s (head.Function h) under next = function_head h (function s h) next
+heading s (head.Protocol name) under next = specifying beyond (faulty_name name ∷ []) next
+heading s (head.DataType name) under next = record_head name (record_of s under) next

@@ -1,0 +1,106 @@
+ghost use Rattle.occ_typing.specs.Constructs.{choosing as told_choosing, constructing as told_constructing, replicable as told_replicable, under_word as told_under_word, word_faults as told_word_faults};
+ghost use Rattle.std.specs.Prelude.{◌≡◌, ◌++◌, IfOk, OnOk};
+
+use super::line::{over, plain};
+use super::parent::{Choosing, Line, Parent};
+use occ_base::{Code, Items};
+use occ_expressions::Expr;
+use occ_forms::{Construct, Kind as Word, Replicator};
+use occ_names::{Meaning, Scope, one_entry};
+use occ_operators::{Fault, Kind, tell};
+use occ_statements::{condition, selector};
+use std::alloc::{AllocError, Global};
+use std::collections::BTreeSet;
+
+/// What a construct says of the lines under it.
+fn under_word(word: Word) -> Parent
+    ensures { result ≡ told_under_word word }
+{
+    match word {
+        Word::Sequence => Parent::Process,
+        Word::Parallel => Parent::Process,
+        Word::PriParallel => Parent::Process,
+        Word::Conditional => Parent::Conditional,
+        Word::Alternation => Parent::Process,
+        Word::PriAlternation => Parent::Process,
+    }
+}
+
+/// S1 is told of an alternation.
+fn tell_word(word: Word, faults: &mut Items<Fault>) -> Result<(), AllocError>
+    ensures { OnOk result (faults.new ≡ faults.old ++ told_word_faults word) }
+{
+    match word {
+        Word::Sequence => Ok(()),
+        Word::Parallel => Ok(()),
+        Word::PriParallel => Ok(()),
+        Word::Conditional => Ok(()),
+        Word::Alternation => tell(faults, Code::S1),
+        Word::PriAlternation => tell(faults, Code::S1),
+    }
+}
+
+/// A construct of a word or two, and perhaps a replicator.
+fn replicable(
+    alloc: Global,
+    word: Word,
+    replicator: &Option<Replicator>,
+    next: Parent,
+    faults: &mut Items<Fault>,
+) -> Result<Line, AllocError>
+    ensures line { IfOk result (λ line. line ≡ (told_replicable word replicator.now next).line) }
+    ensures faults { OnOk result (faults.new ≡ faults.old ++ (told_replicable word replicator.now next).faults) }
+{
+    match replicator {
+        None => {
+            tell_word(word, faults)?;
+            Ok(plain(alloc, under_word(word), next))
+        }
+        Some(replicator) => {
+            tell(faults, Code::S1)?;
+            let index = one_entry(alloc, &replicator.name, Meaning::Faulty)?;
+            Ok(over(under_word(word), index, next))
+        }
+    }
+}
+
+/// A `CASE` with this selector, before its first option.
+fn choosing(alloc: Global, selector: Kind) -> Parent
+    ensures { result ≡ told_choosing selector }
+{
+    Parent::Selection(Choosing {
+        selector,
+        numbers: BTreeSet::new(alloc),
+        otherwise: false,
+    })
+}
+
+/// The line of a construct.
+pub fn construct(
+    alloc: Global,
+    construct: &Construct,
+    scope: &Scope,
+    next: Parent,
+    faults: &mut Items<Fault>,
+) -> Result<Line, AllocError>
+    ensures line { IfOk result (λ line. line ≡ (told_constructing scope.now construct.now next).line) }
+    ensures faults { OnOk result (faults.new ≡ faults.old ++ (told_constructing scope.now construct.now next).faults) }
+{
+    match construct {
+        Construct::Replicable(word, replicator) => {
+            replicable(alloc, *word, replicator, next, faults)
+        }
+        Construct::While(expr) => {
+            condition(alloc, expr, scope, faults)?;
+            Ok(plain(alloc, Parent::Process, next))
+        }
+        Construct::Case(expr) => {
+            let kind = selector(alloc, expr, scope, faults)?;
+            Ok(plain(alloc, choosing(alloc, kind), next))
+        }
+        Construct::CaseInput(_) => {
+            tell(faults, Code::S1)?;
+            Ok(plain(alloc, Parent::Process, next))
+        }
+    }
+}

@@ -1,0 +1,108 @@
+#![tactic(auto, using(crate::proofs::Trees::tree_rules))]
+
+ghost use Rattle.occ_declared.specs.Recording.{recorded};
+ghost use Rattle.occ_tree.specs.Forest.{forest_of};
+ghost use Rattle.occ_typing.specs.Constructs.{faulty_name};
+ghost use Rattle.occ_typing.specs.Lines.{Judged as AJudged, beyond as told_beyond};
+ghost use Rattle.occ_typing.specs.Records.{record_of as told_record};
+ghost use Rattle.occ_typing.specs.Specifying.{headed as told_headed, heading as told_heading, named as told_named, record_head as told_record_head};
+ghost use Rattle.std.specs.Prelude.{◌≡◌, ◌++◌, [], Some, IfOk, OnOk};
+
+use super::line::specifying;
+use super::parent::{Line, Parent};
+use super::record::record_of;
+use occ_base::{Code, Diag, Items, Name};
+use occ_declared::record;
+use occ_heads::{function_head, procedure_head};
+use occ_names::{Entry, Meaning, Scope, one_entry};
+use occ_operators::{Fault, tell};
+use occ_specifications::Head;
+use occ_tree::Node;
+use std::alloc::{AllocError, Global};
+
+/// The head of a specification with this name, behind whose lines it stands for this.
+fn headed(
+    alloc: Global,
+    name: &Name,
+    meaning: Meaning,
+    under: Parent,
+    enters: Items<Entry>,
+    next: Parent,
+) -> Result<Line, AllocError>
+    ensures { IfOk result (λ line. line ≡ record { parent = under; enters = enters; next = next; adds = Some (told_named name.now meaning) }) }
+{
+    let adds = one_entry(alloc, name, meaning)?;
+    Ok(specifying(under, enters, adds, next))
+}
+
+/// The head of a record, with what the lines of its fields tell.
+fn record_head(
+    alloc: Global,
+    name: &Name,
+    nodes: &[Node],
+    scope: &Scope,
+    next: Parent,
+    found: &mut Items<Diag>,
+    faults: &mut Items<Fault>,
+) -> Result<Line, AllocError>
+    ensures line { IfOk result (λ line. line ≡ (told_record_head name.now (told_record scope.now (forest_of nodes.now)) next).line) }
+    ensures found { OnOk result (found.new ≡ found.old ++ (told_record_head name.now (told_record scope.now (forest_of nodes.now)) next).beneath) }
+    ensures faults { OnOk result (faults.new ≡ faults.old ++ (told_record_head name.now (told_record scope.now (forest_of nodes.now)) next).faults) }
+{
+    let (packing, fields) = record_of(alloc, nodes, scope, found)?;
+    let meaning = record(alloc, name, packing, fields, faults)?;
+    headed(
+        alloc,
+        name,
+        meaning,
+        Parent::Record,
+        Items::new(alloc),
+        next,
+    )
+}
+
+/// The line of a head, under which these nodes stand, with what lines of fields among them tell.
+pub fn heading(
+    alloc: Global,
+    head: &Head,
+    nodes: &[Node],
+    scope: &Scope,
+    next: Parent,
+    found: &mut Items<Diag>,
+    faults: &mut Items<Fault>,
+) -> Result<Line, AllocError>
+    ensures line { IfOk result (λ line. line ≡ (told_heading scope.now head.now (forest_of nodes.now) next).line) }
+    ensures found { OnOk result (found.new ≡ found.old ++ (told_heading scope.now head.now (forest_of nodes.now) next).beneath) }
+    ensures faults { OnOk result (faults.new ≡ faults.old ++ (told_heading scope.now head.now (forest_of nodes.now) next).faults) }
+{
+    match head {
+        Head::Procedure(_, name, formals) => {
+            let known = procedure_head(alloc, formals.as_slice(), scope, faults)?;
+            headed(
+                alloc,
+                name,
+                known.meaning,
+                Parent::Process,
+                known.formals,
+                next,
+            )
+        }
+        Head::Function(head) => {
+            let known = function_head(alloc, head, scope, faults)?;
+            let under = Parent::Function(known.results);
+            headed(alloc, &head.name, known.meaning, under, known.formals, next)
+        }
+        Head::Protocol(name) => {
+            tell(faults, Code::S1)?;
+            headed(
+                alloc,
+                name,
+                Meaning::Faulty,
+                Parent::Process,
+                Items::new(alloc),
+                next,
+            )
+        }
+        Head::DataType(name) => record_head(alloc, name, nodes, scope, next, found, faults),
+    }
+}

@@ -1,0 +1,159 @@
+#![tactic(auto, using(crate::proofs::Trees::tree_rules))]
+
+ghost use Rattle.occ_tree.specs.Forest.{forest_of};
+ghost use Rattle.occ_typing.specs.Units.{form_line as told_form, judged as told_judged, line as told_line, specifying_line as told_specifying};
+ghost use Rattle.std.specs.Prelude.{◌≡◌, ◌++◌, [], IfOk, OnOk};
+
+use super::action::action;
+use super::construct::construct;
+use super::heading::heading;
+use super::line::{line_of_one, main, plain};
+use super::parent::{Line, Parent};
+use super::part::{expressions, part};
+use super::specifying::one_line;
+use occ_base::{Code, Diag, Items};
+use occ_forms::Form;
+use occ_names::Scope;
+use occ_operators::{Fault, tell};
+use occ_project::ExpandedBody;
+use occ_specifications::Specified;
+use occ_tree::Node;
+use std::alloc::{AllocError, Global};
+
+/// The line of a specification or of a head, with these nodes under it.
+fn specifying_line(
+    alloc: Global,
+    specified: &Specified,
+    nodes: &[Node],
+    scope: &mut Scope,
+    parent: Parent,
+    found: &mut Items<Diag>,
+    faults: &mut Items<Fault>,
+) -> Result<Line, AllocError>
+    ensures line { IfOk result (λ one. one ≡ (told_specifying scope.old specified.now (forest_of nodes.now) parent).line) }
+    ensures scope { OnOk result (scope.new ≡ scope.old) }
+    ensures found { OnOk result (found.new ≡ found.old ++ (told_specifying scope.old specified.now (forest_of nodes.now) parent).beneath) }
+    ensures faults { OnOk result (faults.new ≡ faults.old ++ (told_specifying scope.old specified.now (forest_of nodes.now) parent).faults) }
+{
+    match specified {
+        Specified::Line(line) => one_line(alloc, line, scope, parent, faults),
+        Specified::Head(head) => heading(alloc, head, nodes, scope, parent, found, faults),
+    }
+}
+
+/// The line of a form, with these nodes under it.
+fn form_line(
+    alloc: Global,
+    form: &Form,
+    nodes: &[Node],
+    scope: &mut Scope,
+    parent: Parent,
+    found: &mut Items<Diag>,
+    faults: &mut Items<Fault>,
+) -> Result<Line, AllocError>
+    ensures line { IfOk result (λ one. one ≡ (told_form scope.old form.now (forest_of nodes.now) parent).line) }
+    ensures scope { OnOk result (scope.new ≡ scope.old) }
+    ensures found { OnOk result (found.new ≡ found.old ++ (told_form scope.old form.now (forest_of nodes.now) parent).beneath) }
+    ensures faults { OnOk result (faults.new ≡ faults.old ++ (told_form scope.old form.now (forest_of nodes.now) parent).faults) }
+{
+    match form {
+        Form::Specified(specified) => {
+            specifying_line(alloc, specified, nodes, scope, parent, found, faults)
+        }
+        Form::Close => Ok(line_of_one(alloc, Items::new(alloc), parent)),
+        Form::Action(behind) => {
+            action(alloc, behind, scope, faults)?;
+            Ok(main(alloc, parent))
+        }
+        Form::Construct(behind) => construct(alloc, behind, scope, parent, faults),
+        Form::Part(behind) => part(alloc, behind, scope, parent, faults),
+        Form::Expressions(first, more) => {
+            expressions(alloc, first, more.as_slice(), scope, parent, faults)
+        }
+        Form::Tagged(_, _, _) => {
+            tell(faults, Code::S1)?;
+            Ok(main(alloc, parent))
+        }
+    }
+}
+
+/// A line with these nodes under it, which its parent does not tell.
+fn line(
+    alloc: Global,
+    body: &ExpandedBody,
+    nodes: &[Node],
+    scope: &mut Scope,
+    parent: Parent,
+    found: &mut Items<Diag>,
+    faults: &mut Items<Fault>,
+) -> Result<Line, AllocError>
+    ensures line { IfOk result (λ one. one ≡ (told_line scope.old body.now (forest_of nodes.now) parent).line) }
+    ensures scope { OnOk result (scope.new ≡ scope.old) }
+    ensures found { OnOk result (found.new ≡ found.old ++ (told_line scope.old body.now (forest_of nodes.now) parent).beneath) }
+    ensures faults { OnOk result (faults.new ≡ faults.old ++ (told_line scope.old body.now (forest_of nodes.now) parent).faults) }
+{
+    match body {
+        ExpandedBody::Form(form) => {
+            form_line(alloc, form.get(), nodes, scope, parent, found, faults)
+        }
+        ExpandedBody::Uses(_) => {
+            tell(faults, Code::S1)?;
+            Ok(line_of_one(alloc, Items::new(alloc), parent))
+        }
+        ExpandedBody::Fault(_) => Ok(main(alloc, parent)),
+    }
+}
+
+/// What a line with these nodes under it is for the lines round it, with what it tells, and what lines of fields under
+/// it tell.
+#[tactic(auto, unfolding(crate::specs::Units::judged))]
+pub fn judged(
+    alloc: Global,
+    body: &ExpandedBody,
+    nodes: &[Node],
+    scope: &mut Scope,
+    parent: Parent,
+    found: &mut Items<Diag>,
+    faults: &mut Items<Fault>,
+) -> Result<Line, AllocError>
+    ensures line { IfOk result (λ one. one ≡ (told_judged scope.old body.now (forest_of nodes.now) parent).line) }
+    ensures scope { OnOk result (scope.new ≡ scope.old) }
+    ensures found { OnOk result (found.new ≡ found.old ++ (told_judged scope.old body.now (forest_of nodes.now) parent).beneath) }
+    ensures faults { OnOk result (faults.new ≡ faults.old ++ (told_judged scope.old body.now (forest_of nodes.now) parent).faults) }
+{
+    match parent {
+        Parent::Record => Ok(plain(alloc, Parent::Record, Parent::Record)),
+        Parent::Process => line(alloc, body, nodes, scope, Parent::Process, found, faults),
+        Parent::Conditional => line(
+            alloc,
+            body,
+            nodes,
+            scope,
+            Parent::Conditional,
+            found,
+            faults,
+        ),
+        Parent::Selection(choosing) => {
+            line(
+                alloc,
+                body,
+                nodes,
+                scope,
+                Parent::Selection(choosing),
+                found,
+                faults,
+            )
+        }
+        Parent::Function(types) => {
+            line(
+                alloc,
+                body,
+                nodes,
+                scope,
+                Parent::Function(types),
+                found,
+                faults,
+            )
+        }
+    }
+}

@@ -1,0 +1,20 @@
+//! What names and types tell of a unit: its lines, each by what stands in scope there.
+#![tactic(auto)]
+
+mod action;
+mod construct;
+mod function;
+mod heading;
+mod judge;
+mod laws;
+mod line;
+mod parent;
+mod part;
+mod place;
+mod record;
+mod specifying;
+mod unit;
+mod walk;
+
+pub use laws::place_law;
+pub use unit::type_faults;

@@ -1,0 +1,44 @@
+use occ_base::{Items, Shared};
+use occ_names::Entry;
+use occ_operators::Kind;
+use occ_types::OccType;
+use std::collections::BTreeSet;
+
+/// What is known of a `CASE` behind some of its options.
+#[derive(Drop)]
+pub struct Choosing {
+    /// What is known of its selector.
+    pub selector: Kind,
+    /// The numbers of the options.
+    pub numbers: BTreeSet<i64>,
+    /// Whether an `ELSE` is among them.
+    pub otherwise: bool,
+}
+
+/// What a line says of those under it, which do not all say by their own words what they are.
+#[derive(Drop)]
+pub enum Parent {
+    /// Nothing: processes, specifications, and lines that typing does not know yet.
+    Process,
+    /// The choices of an `IF`.
+    Conditional,
+    /// The options of a `CASE`.
+    Selection(Choosing),
+    /// The body of a FUNCTION with results of these types; they are not known where its head has a fault or needs what has one.
+    Function(Option<Items<Shared<OccType>>>),
+    /// The lines of a record, which are told with its head.
+    Record,
+}
+
+/// What a line makes known for the lines under it and behind it.
+#[derive(Drop)]
+pub struct Line {
+    /// What it says of the lines under it.
+    pub parent: Parent,
+    /// What comes into scope under it.
+    pub enters: Items<Entry>,
+    /// What its own parent says of the lines behind it.
+    pub next: Parent,
+    /// What comes into scope behind it, if it is a specification; else it ends the scope of those of its item.
+    pub adds: Option<Items<Entry>>,
+}

@@ -1,0 +1,199 @@
+ghost use Rattle.occ_typing.specs.Parts.{else_option as told_else_option, expressing as told_expressing, option as told_option, otherwise as told_otherwise, parting as told_parting, resulting as told_resulting, results_of as told_results, second as told_second, valued as told_valued};
+ghost use Rattle.occ_statements.specs.Statements.{is_any_faulty};
+ghost use Rattle.std.specs.Prelude.{◌≡◌, ◌∷◌, ◌++◌, IfOk, OnOk};
+
+use super::line::{main, plain};
+use super::parent::{Choosing, Line, Parent};
+use occ_base::{Code, Items, Shared};
+use occ_expressions::Expr;
+use occ_forms::Part;
+use occ_names::Scope;
+use occ_operators::{Fault, tell};
+use occ_statements::{condition, options, results, values};
+use occ_types::OccType;
+use std::alloc::{AllocError, Global};
+
+/// A line of options.
+fn option(
+    alloc: Global,
+    first: &Expr,
+    more: &[Expr],
+    mut choosing: Choosing,
+    scope: &Scope,
+    faults: &mut Items<Fault>,
+) -> Result<Line, AllocError>
+    ensures line { IfOk result (λ line. line ≡ (told_option scope.now choosing (first.now ∷ more.now)).line) }
+    ensures faults { OnOk result (faults.new ≡ faults.old ++ (told_option scope.now choosing (first.now ∷ more.now)).faults) }
+{
+    options(
+        alloc,
+        first,
+        more,
+        &choosing.selector,
+        &mut choosing.numbers,
+        scope,
+        faults,
+    )?;
+    Ok(main(alloc, Parent::Selection(choosing)))
+}
+
+/// T8 is told of a second `ELSE`.
+fn tell_second(otherwise: bool, faults: &mut Items<Fault>) -> Result<(), AllocError>
+    ensures { OnOk result (faults.new ≡ faults.old ++ told_second otherwise) }
+{
+    if otherwise {
+        tell(faults, Code::T8)?;
+    }
+    Ok(())
+}
+
+/// The `ELSE` of a `CASE`.
+fn else_option(
+    alloc: Global,
+    choosing: Choosing,
+    faults: &mut Items<Fault>,
+) -> Result<Line, AllocError>
+    ensures line { IfOk result (λ line. line ≡ (told_else_option choosing).line) }
+    ensures faults { OnOk result (faults.new ≡ faults.old ++ (told_else_option choosing).faults) }
+{
+    tell_second(choosing.otherwise, faults)?;
+    let choosing = Choosing {
+        selector: choosing.selector,
+        numbers: choosing.numbers,
+        otherwise: true,
+    };
+    Ok(main(alloc, Parent::Selection(choosing)))
+}
+
+/// The results of a FUNCTION, with which nothing is compared where its head has a fault, and whether one of them has a
+/// fault.
+pub fn results_of(
+    alloc: Global,
+    first: &Expr,
+    more: &[Expr],
+    types: &Option<Items<Shared<OccType>>>,
+    scope: &Scope,
+    faults: &mut Items<Fault>,
+) -> Result<bool, AllocError>
+    ensures faulty { IfOk result (λ faulty. faulty ≡ is_any_faulty scope.now (first.now ∷ more.now)) }
+    ensures faults { OnOk result (faults.new ≡ faults.old ++ told_results scope.now types.now (first.now ∷ more.now)) }
+{
+    match types {
+        None => values(alloc, first, more, scope, faults),
+        Some(types) => results(alloc, first, more, types.as_slice(), scope, faults),
+    }
+}
+
+/// A line of expressions: a condition, options, or an instance of a procedure.
+pub fn expressions(
+    alloc: Global,
+    first: &Expr,
+    more: &[Expr],
+    scope: &Scope,
+    parent: Parent,
+    faults: &mut Items<Fault>,
+) -> Result<Line, AllocError>
+    ensures line { IfOk result (λ line. line ≡ (told_expressing scope.now first.now more.now parent).line) }
+    ensures faults { OnOk result (faults.new ≡ faults.old ++ (told_expressing scope.now first.now more.now parent).faults) }
+{
+    match parent {
+        Parent::Conditional => {
+            condition(alloc, first, scope, faults)?;
+            Ok(main(alloc, Parent::Conditional))
+        }
+        Parent::Selection(choosing) => option(alloc, first, more, choosing, scope, faults),
+        Parent::Process => {
+            tell(faults, Code::S1)?;
+            Ok(main(alloc, Parent::Process))
+        }
+        Parent::Function(types) => {
+            tell(faults, Code::S1)?;
+            Ok(main(alloc, Parent::Function(types)))
+        }
+        Parent::Record => {
+            tell(faults, Code::S1)?;
+            Ok(main(alloc, Parent::Record))
+        }
+    }
+}
+
+/// An `ELSE`.
+fn otherwise(alloc: Global, parent: Parent, faults: &mut Items<Fault>) -> Result<Line, AllocError>
+    ensures line { IfOk result (λ line. line ≡ (told_otherwise parent).line) }
+    ensures faults { OnOk result (faults.new ≡ faults.old ++ (told_otherwise parent).faults) }
+{
+    match parent {
+        Parent::Selection(choosing) => else_option(alloc, choosing, faults),
+        Parent::Process => Ok(main(alloc, Parent::Process)),
+        Parent::Conditional => Ok(main(alloc, Parent::Conditional)),
+        Parent::Function(types) => Ok(main(alloc, Parent::Function(types))),
+        Parent::Record => Ok(main(alloc, Parent::Record)),
+    }
+}
+
+/// A `VALOF`.
+fn valued(alloc: Global, parent: Parent) -> Line
+    ensures { result ≡ (told_valued parent).line }
+{
+    match parent {
+        Parent::Function(types) => plain(alloc, Parent::Function(types), Parent::Process),
+        Parent::Process => main(alloc, Parent::Process),
+        Parent::Conditional => main(alloc, Parent::Conditional),
+        Parent::Selection(choosing) => main(alloc, Parent::Selection(choosing)),
+        Parent::Record => main(alloc, Parent::Record),
+    }
+}
+
+/// A `RESULT`.
+fn resulting(
+    alloc: Global,
+    first: &Expr,
+    more: &[Expr],
+    scope: &Scope,
+    parent: Parent,
+    faults: &mut Items<Fault>,
+) -> Result<Line, AllocError>
+    ensures line { IfOk result (λ line. line ≡ (told_resulting scope.now (first.now ∷ more.now) parent).line) }
+    ensures faults { OnOk result (faults.new ≡ faults.old ++ (told_resulting scope.now (first.now ∷ more.now) parent).faults) }
+{
+    match parent {
+        Parent::Function(types) => {
+            results_of(alloc, first, more, &types, scope, faults)?;
+            Ok(main(alloc, Parent::Function(types)))
+        }
+        Parent::Process => Ok(main(alloc, Parent::Process)),
+        Parent::Conditional => Ok(main(alloc, Parent::Conditional)),
+        Parent::Selection(choosing) => Ok(main(alloc, Parent::Selection(choosing))),
+        Parent::Record => Ok(main(alloc, Parent::Record)),
+    }
+}
+
+/// A line that is a part of what stands round it.
+pub fn part(
+    alloc: Global,
+    part: &Part,
+    scope: &Scope,
+    parent: Parent,
+    faults: &mut Items<Fault>,
+) -> Result<Line, AllocError>
+    ensures line { IfOk result (λ line. line ≡ (told_parting scope.now part.now parent).line) }
+    ensures faults { OnOk result (faults.new ≡ faults.old ++ (told_parting scope.now part.now parent).faults) }
+{
+    match part {
+        Part::Case => {
+            tell(faults, Code::S1)?;
+            Ok(main(alloc, parent))
+        }
+        Part::Else => otherwise(alloc, parent, faults),
+        Part::ValueOf => Ok(valued(alloc, parent)),
+        Part::Result(first, more) => {
+            resulting(alloc, first, more.as_slice(), scope, parent, faults)
+        }
+        Part::Record => Ok(main(alloc, parent)),
+        Part::PackedRecord => Ok(main(alloc, parent)),
+        Part::Guard(_, _) => {
+            tell(faults, Code::S1)?;
+            Ok(main(alloc, parent))
+        }
+    }
+}
