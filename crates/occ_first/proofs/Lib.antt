@@ -1,3 +1,4 @@
+pub mod Firsts
 pub mod Placed
 pub mod Nested
 pub mod Scopes

@@ -1,5 +1,5 @@
 -- Diagnostics put at their places stand in rising order, each below those after it.
-use Rattle.std.proofs.Common.{◌≡◌, List, [], ◌∷◌, refl, ap, sym, ◌∙◌}
+use Rattle.std.proofs.Common.{◌≡◌, List, [], ◌∷◌, refl, ap, ◌∙◌}
 use Rattle.std.specs.BTreeSet.{insert_key}
 use Rattle.std.specs.Cmp.{IsTotalOrder}
 use Rattle.std.specs.List.{AllByRecursion}
@@ -10,7 +10,7 @@ use Rattle.std.specs.declared.cmp.Ordering.TheVariants.{Less, Equal, Greater}
 use Rattle.occ_base.specs.Order.{diag_order}
 use Rattle.occ_base.specs.contracts.diag.DiagOrd.TheImpl.Laws.{total-law}
 use Rattle.occ_base.specs.declared.diag.Diag.{Diag}
-use Rattle.occ_first.specs.Order.{in_order, placed}
+use Rattle.occ_first.specs.Order.{in_order}
 
 total : IsTotalOrder diag_order
 total = total-law

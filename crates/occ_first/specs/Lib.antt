@@ -2,7 +2,7 @@ pub mod Order
 pub mod Faults
 pub mod Nesting
 pub mod Scope
-pub mod Names
+pub mod Mentions
 pub mod Parallel
 pub mod Marks
 pub mod Diagnostics

@@ -17,7 +17,7 @@ use Rattle.occ_first.specs.declared.parallel.Use.{Use}
 use Rattle.occ_first.specs.declared.scope.Sort.{Sort}
 use Rattle.occ_first.specs.declared.scope.Sort.TheVariants as sort
 use Rattle.occ_first.specs.declared.scope.Specification.{Specification}
-use Rattle.occ_first.specs.Names.{mentions}
+use Rattle.occ_first.specs.Mentions.{mentions}
 use Rattle.occ_first.specs.Nesting.{is_head, role_of, under}
 use Rattle.occ_first.specs.Scope.{visible}
 

@@ -5,7 +5,6 @@
 mod faults;
 mod line;
 mod mention;
-mod names;
 mod nesting;
 mod order;
 mod parallel;

@@ -1,5 +1,5 @@
 ghost use Rattle.std.specs.Prelude.{◌≡◌, ◌++◌, ◌∷◌, [], OnOk, IfOk};
-ghost use Rattle.occ_first.specs.Names.{element_mention, mentions, operand_mentions};
+ghost use Rattle.occ_first.specs.Mentions.{element_mention, mentions, operand_mentions};
 
 use super::line::{Body, Element, Expr, Form, Line, Operand};
 use occ_base::{Items, Name};

@@ -1,19 +1,20 @@
 ghost use Rattle.std.specs.Prelude.{◌≡◌, IfOk};
-ghost use Rattle.occ_first.specs.Diagnostics.{diagnostics_of, first_faults, known_faults, meaning_faults, one_file};
+ghost use Rattle.occ_first.specs.Diagnostics.{diagnostics_of, first_faults, first_of, known_faults, one_file, shaped_faults};
 ghost use Rattle.occ_project.specs.Expansion.{expansion};
-ghost use Rattle.occ_first.specs.Scope.{specifications};
+ghost use Rattle.occ_tree.specs.Forest.{forest_of};
+ghost use Rattle.occ_typing.specs.Units.{type_faults as typed};
 
 use super::faults::{find_line_faults, find_other_faults};
 use super::line::Line;
-use super::names::find_name_faults;
 use super::order::in_order;
 use super::parallel::find_parallel_faults;
 use super::scope::find_specifications;
 use super::view::view;
 use occ_base::{Diag, FileName, Items, Shared};
 use occ_forms::Source;
-use occ_project::{Expanded, Read, expand_over};
-use occ_tree::shape_faults;
+use occ_project::{Expanded, ExpandedLine, Read, expand_over};
+use occ_tree::{ShapeFault, Unit, shape};
+use occ_typing::type_faults;
 use std::alloc::{AllocError, Global};
 
 /// The diagnostics of the one open file, in their order.
@@ -46,23 +47,7 @@ fn expand_alone(
     expand_over(alloc, &reads, file)
 }
 
-/// The diagnostics of names, if there are any; else those of the parallel rule.
-fn find_meaning_faults(
-    alloc: Global,
-    file: FileName,
-    lines: &[Line],
-) -> Result<Items<Diag>, AllocError>
-    ensures { IfOk result (λ found. found ≡ meaning_faults file (specifications 0 lines.now) lines.now) }
-{
-    let specifications = find_specifications(alloc, lines)?;
-    let found = find_name_faults(alloc, file, specifications.as_slice(), lines)?;
-    if !found.is_empty() {
-        return Ok(found);
-    }
-    find_parallel_faults(alloc, file, specifications.as_slice(), lines)
-}
-
-/// Lines that the first sublanguage does not have, if there are any; else faults of names and uses.
+/// Lines that the first sublanguage does not have, if there are any; else faults of the parallel rule.
 fn find_known_faults(
     alloc: Global,
     file: FileName,
@@ -74,11 +59,44 @@ fn find_known_faults(
     if !found.is_empty() {
         return Ok(found);
     }
-    find_meaning_faults(alloc, file, lines)
+    let specifications = find_specifications(alloc, lines)?;
+    find_parallel_faults(alloc, file, specifications.as_slice(), lines)
 }
 
-/// Faults of the expansion and of its lines, if there are any; else those of shape; else those of the lines as the
-/// first sublanguage has them.
+/// Faults of names and types, if there are any; else those of the lines as the first sublanguage has them.
+fn find_meaning_faults(
+    alloc: Global,
+    file: FileName,
+    unit: &Unit,
+    lines: &[Line],
+) -> Result<Items<Diag>, AllocError>
+    ensures { IfOk result (λ found. found ≡ first_of (typed (forest_of unit.now.roots)) (known_faults file lines.now)) }
+{
+    let found = type_faults(alloc, unit.roots.as_slice())?;
+    if !found.is_empty() {
+        return Ok(found);
+    }
+    find_known_faults(alloc, file, lines)
+}
+
+/// Faults of shape, if there are any; else those of what the lines mean.
+#[tactic(auto, using(crate::proofs::Firsts::first_is_all))]
+fn find_shaped_faults(
+    alloc: Global,
+    file: FileName,
+    lines: Items<ExpandedLine>,
+) -> Result<Items<Diag>, AllocError>
+    ensures { IfOk result (λ found. found ≡ shaped_faults file lines) }
+{
+    let known = view(alloc, lines.as_slice())?;
+    match shape(alloc, lines) {
+        Ok(unit) => find_meaning_faults(alloc, file, &unit, known.as_slice()),
+        Err(ShapeFault::Faults(found)) => Ok(found),
+        Err(ShapeFault::Memory) => Err(AllocError),
+    }
+}
+
+/// Faults of the expansion and of its lines, if there are any; else those of shape and of what the lines mean.
 fn find_first_faults(
     alloc: Global,
     file: FileName,
@@ -91,10 +109,5 @@ fn find_first_faults(
     if !found.is_empty() {
         return Ok(found);
     }
-    let found = shape_faults(alloc, lines.as_slice())?;
-    if !found.is_empty() {
-        return Ok(found);
-    }
-    let lines = view(alloc, lines.as_slice())?;
-    find_known_faults(alloc, file, lines.as_slice())
+    find_shaped_faults(alloc, file, lines)
 }

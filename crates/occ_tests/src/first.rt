@@ -88,8 +88,12 @@ fn faults_of_lines_alone(rt: HostRuntime) -> Result<(), Fail> {
 fn lines_of_the_whole_language(rt: HostRuntime) -> Result<(), Fail> {
     let a = rt.alloc();
     assert_eq!(rt;
-        shown(a, "PROC p ()\n  WHILE x\n    SKIP\n:\n")?.as_slice(),
+        shown(a, "PROC p ()\n  WHILE TRUE\n    SKIP\n:\n")?.as_slice(),
         b"a.occ:2 S1 error -\n".as_slice()
+    );
+    assert_eq!(rt;
+        shown(a, "PROC p ()\n  WHILE x\n    SKIP\n:\n")?.as_slice(),
+        b"a.occ:2 N1 error x\n".as_slice()
     );
     Ok(())
 }

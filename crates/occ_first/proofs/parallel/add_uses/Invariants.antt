@@ -1,6 +1,6 @@
 use Rattle.std.proofs.Common.{◌≡◌, ◌++◌, drop}
 use Rattle.std.specs.List.{flat_map}
-use Rattle.occ_first.specs.Names.{mentions}
+use Rattle.occ_first.specs.Mentions.{mentions}
 use Rattle.occ_first.specs.Parallel.{mention_uses}
 use Rattle.occ_first.proofs.parallel.add_uses.Given as goal
 

@@ -1,10 +1,5 @@
--- The elements that assignments name, and the diagnostics of names that stand for no variable.
-use Rattle.std.specs.Prelude.{ℕ, List, [], ◌∷◌, ◌++◌, ◌+◌, Option, Some, None}
-use Rattle.std.specs.List.{flat_map}
-use Rattle.occ_base.specs.declared.code.Code.{Code}
-use Rattle.occ_base.specs.declared.code.Code.TheVariants as code
-use Rattle.occ_base.specs.declared.diag.Diag.{Diag}
-use Rattle.occ_base.specs.Errors.{error_at}
+-- The elements that assignments name.
+use Rattle.std.specs.Prelude.{List, [], ◌∷◌, ◌++◌, Some, None}
 use Rattle.occ_first.specs.declared.line.Element.{Element}
 use Rattle.occ_first.specs.declared.line.Element.TheVariants as element
 use Rattle.occ_first.specs.declared.line.Operand.{Operand}
@@ -19,10 +14,6 @@ use Rattle.occ_first.specs.declared.line.Body.TheVariants as body
 use Rattle.occ_first.specs.declared.mention.Access.{Access}
 use Rattle.occ_first.specs.declared.mention.Access.TheVariants as access
 use Rattle.occ_first.specs.declared.mention.Mention.{Mention}
-use Rattle.occ_first.specs.declared.scope.Sort.{Sort}
-use Rattle.occ_first.specs.declared.scope.Sort.TheVariants as sort
-use Rattle.occ_first.specs.declared.scope.Specification.{Specification}
-use Rattle.occ_first.specs.Scope.{visible}
 
 abbrev pub element_mention : Access → Element → Mention
 element_mention a (element.Whole name) = record { name = name; subscript = None; access = a }
@@ -52,25 +43,3 @@ body_mentions _ = []
 -- the elements that an assignment names: its target, which is written, and those of its operands, which are read
 abbrev pub mentions : Line → List Mention
 mentions l = body_mentions l.body
-
--- why what a name stands for is no variable
-abbrev pub sort_fault : Sort → Option Code
-sort_fault sort.Variable = None
-sort_fault sort.Procedure = Some code.N2
-
-abbrev pub meaning_fault : Option Specification → Option Code
-meaning_fault None = Some code.N1
-meaning_fault (Some s) = sort_fault s.sort
-
-abbrev pub named_error : List ℕ → ℕ → List ℕ → Option Code → List Diag
-named_error file line name None = []
-named_error file line name (Some c) = error_at file line c (Some name) ∷ []
-
--- at an element of the line, which is at the place
-abbrev pub mention_faults : List ℕ → List Specification → ℕ → ℕ → Mention → List Diag
-mention_faults file ss place line m = named_error file line m.name (meaning_fault (visible m.name place ss))
-
--- at each element of each of the lines, the first of which is at the place
-abbrev pub name_faults : List ℕ → List Specification → ℕ → List Line → List Diag
-name_faults file ss place [] = []
-name_faults file ss place (l ∷ ls) = flat_map (mention_faults file ss place l.line) (mentions l) ++ name_faults file ss (place + 1) ls
