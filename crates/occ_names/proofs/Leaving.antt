@@ -1,5 +1,5 @@
 -- Leaving what was entered gives the scope back.
-use Rattle.std.proofs.Common.{◌≡◌, ◌+◌, ℕ, zero, suc, List, [], ◌∷◌, ◌++◌, length, refl, ap, ◌∙◌, arith, length-append}
+use Rattle.std.proofs.Common.{◌≡◌, ◌+◌, ℕ, zero, suc, List, [], ◌∷◌, ◌++◌, length, refl, ap, sym, subst, ◌∙◌, arith, length-append}
 use Rattle.std.proofs.Math.Seq.{take-append_seam}
 use Rattle.std.proofs.lemmas.List.{length-take-le}
 use Rattle.std.specs.Prelude.{take, ◌-◌, ◌≤◌, ◌<◌}
@@ -77,5 +77,12 @@ back_over count xs s h =
     same_count (with_all s xs) e
     ∙ left_more (length s.meanings - count) (length xs) (with_all s xs)
     ∙ ap (left_times (length s.meanings - count)) (left_with_all xs s)
+
+-- with one entered more
+pub one_more : (count : ℕ) (s t outer : Scope) (x : Entry) → count ≤ length s.meanings → back_to count s ≡ outer → t ≡ entered s x.name x.meaning
+    → (count ≤ length t.meanings) × (back_to count t ≡ outer)
+one_more count s t outer x h here is =
+    let e : length (s.meanings ++ x.meaning ∷ []) ≡ length s.meanings + 1 = length-append s.meanings (x.meaning ∷ []) in
+    subst (λ (u : Scope). (count ≤ length u.meanings) × (back_to count u ≡ outer)) (sym is) ((omega (arith, e, h)), back_over count (x ∷ []) s h ∙ here)
 
 pub ruleset leaving_rules = (back_done, back_left)

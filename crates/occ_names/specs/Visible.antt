@@ -4,6 +4,7 @@ use Rattle.std.specs.List.{slice_get}
 use Rattle.occ_scope.specs.Nearest.{nearest}
 use Rattle.occ_names.specs.declared.meaning.Entry.{Entry}
 use Rattle.occ_names.specs.declared.meaning.Meaning.{Meaning}
+use Rattle.occ_names.specs.declared.meaning.Referent.{Referent}
 use Rattle.occ_names.specs.declared.scope.Scope.{Scope}
 
 -- no specification at all
@@ -42,3 +43,16 @@ meaning_at meanings (Some place) = slice_get meanings place
 -- what a name stands for
 abbrev pub visible : Scope → List ℕ → Option Meaning
 visible s name = meaning_at s.meanings (nearest s.names name)
+
+-- what is meant, as the specification of this number
+abbrev pub numbered : ℕ → Option Meaning → Option Referent
+numbered n None = None
+numbered n (Some meaning) = Some (record { spec = n; meaning = meaning })
+
+abbrev pub referent_at : List Meaning → Option ℕ → Option Referent
+referent_at meanings None = None
+referent_at meanings (Some n) = numbered n (slice_get meanings n)
+
+-- which specification a name has
+abbrev pub referent : Scope → List ℕ → Option Referent
+referent s name = referent_at s.meanings (nearest s.names name)

@@ -6,5 +6,5 @@ mod meaning;
 mod scope;
 
 pub use lookup::{Carried, carries, data_type, element};
-pub use meaning::{Access, Entry, Meaning, Parameter, Whole, one_entry};
+pub use meaning::{Access, Entry, Meaning, Parameter, Referent, Whole, one_entry};
 pub use scope::Scope;

@@ -1,6 +1,7 @@
 ghost use Rattle.std.specs.Prelude.{◌≡◌, [], ◌∷◌, IfOk};
 
 use occ_base::{Items, Name, Shared};
+use occ_scope::SpecId;
 use occ_types::{OccType, Passing, Protocol, Value};
 use std::alloc::{AllocError, Global};
 
@@ -52,6 +53,16 @@ pub enum Meaning {
 #[derive(Debug, Drop)]
 pub struct Entry {
     pub name: Name,
+    pub meaning: Shared<Meaning>,
+}
+
+/// The specification that a name stands for at a place in a unit.
+#[derive(Debug, Drop)]
+pub struct Referent {
+    /// Which of the specifications in scope at that place it is: how many stand round it. Of those that are in scope
+    /// together no two have one number.
+    pub spec: SpecId,
+    /// What it gives its name to mean.
     pub meaning: Shared<Meaning>,
 }
 

@@ -1,7 +1,7 @@
-ghost use Rattle.std.specs.Prelude.{◌≡◌, MatchOption, None, OnErr, OnOk, Some, length};
-ghost use Rattle.occ_names.specs.Visible.{back_to, entered, left, nothing, visible, with_all};
+ghost use Rattle.std.specs.Prelude.{◌≡◌, IfOk, MatchOption, None, OnErr, OnOk, Some, length};
+ghost use Rattle.occ_names.specs.Visible.{back_to, entered, left, nothing, referent as refers_to, visible, with_all};
 
-use super::meaning::{Entry, Meaning};
+use super::meaning::{Entry, Meaning, Referent};
 use occ_base::{Items, Name, Shared};
 use occ_scope::Scopes;
 use std::alloc::{AllocError, Global};
@@ -31,6 +31,20 @@ impl Scope {
         let place = self.names.find(name)?;
         let meaning = self.meanings.get(place)?;
         Some(meaning.get())
+    }
+
+    /// The nearest specification of a name, if there is one.
+    pub fn referent(&self, name: &Name) -> Result<Option<Referent>, AllocError>
+        ensures { IfOk result (λ found. found ≡ refers_to self.now name.now) }
+    {
+        let Some(spec) = self.names.find(name) else {
+            return Ok(None);
+        };
+        let Some(meaning) = self.meanings.get(spec) else {
+            return Ok(None);
+        };
+        let meaning = meaning.share()?;
+        Ok(Some(Referent { spec, meaning }))
     }
 
     /// A specification of this name comes into scope, with what it stands for, which others may share. Where memory is
@@ -76,13 +90,27 @@ impl Scope {
         self.meanings.len()
     }
 
-    /// Specifications come into scope, one after the other.
-    pub fn enter_all(&mut self, alloc: Global, entries: &[Entry]) -> Result<(), AllocError>
-        ensures { OnOk result (self.new ≡ with_all self.old entries.now) }
+    /// The same of an entry.
+    fn enter_entry(&mut self, alloc: Global, entry: &Entry) -> Result<(), AllocError>
+        ensures ok { OnOk result (self.new ≡ entered self.old entry.now.name entry.now.meaning) }
+        ensures err { OnErr result (self.new ≡ self.old) }
     {
+        let meaning = entry.meaning.share()?;
+        self.enter_shared(alloc, &entry.name, meaning)
+    }
+
+    /// Specifications come into scope, one after the other. Where memory is refused nothing changes.
+    #[tactic(auto, using(crate::proofs::Leaving::leaving_rules))]
+    pub fn enter_all(&mut self, alloc: Global, entries: &[Entry]) -> Result<(), AllocError>
+        ensures ok { OnOk result (self.new ≡ with_all self.old entries.now) }
+        ensures err { OnErr result (self.new ≡ self.old) }
+    {
+        let count = self.len();
         for entry in entries {
-            let meaning = entry.meaning.share()?;
-            self.enter_shared(alloc, &entry.name, meaning)?;
+            if let Err(refused) = self.enter_entry(alloc, entry) {
+                self.leave_to(count);
+                return Err(refused);
+            }
         }
         Ok(())
     }

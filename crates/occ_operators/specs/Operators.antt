@@ -155,6 +155,21 @@ operated_from (Some (k.Free f)) op ks = silent
 abbrev pub operated : Operator → List Kind → Told
 operated op ks = operated_from (first_bound ks) op ks
 
+-- the type of what is known of an operand
+abbrev pub type_in : Kind → Option OccType
+type_in k.Faulty = None
+type_in (k.Free f) = None
+type_in (k.Known x) = Some x.of
+
+abbrev pub operand_type_from : Option Kind → Operator → Kind → Option OccType
+operand_type_from None op whole = if is_arithmetic (class_of op) then type_in whole else Some int
+operand_type_from (Some first) op whole = type_in first
+
+-- the type that is wanted of each operand, where this is known of the whole: that of the first which is not free; if all
+-- are free, that of the whole under an arithmetic operator, else INT. Not for shifts
+abbrev pub operand_type : Operator → Kind → List Kind → Option OccType
+operand_type op whole ks = operand_type_from (first_bound ks) op whole
+
 -- ---- shifts
 
 abbrev pub shifted_by : Operator → Kind → Kind → Told

@@ -1,6 +1,6 @@
 ghost use Rattle.std.specs.Prelude.{◌≡◌, ◌++◌, IfOk, MatchOption, None, OnOk, Some};
 ghost use Rattle.std.specs.List.{list_all, list_any};
-ghost use Rattle.occ_operators.specs.Operators.{allows as allowing, class_of as the_class, decided as deciding, first_bound as first_one_bound, front_operated as in_front, given as giving, is_arithmetic as arithmetic, is_faulty as faulty, is_int as int_itself, is_of as of_type, not_free as no_free, operated as operating, operated_from as operating_from, outcome_in as kind_outcome, run_in as running, shift_operated as shifting, shifted_by as shifting_by, takes as taking, value_outcome as outcome_of_value, verdict as judged};
+ghost use Rattle.occ_operators.specs.Operators.{allows as allowing, class_of as the_class, decided as deciding, first_bound as first_one_bound, front_operated as in_front, given as giving, is_arithmetic as arithmetic, is_faulty as faulty, is_int as int_itself, is_of as of_type, not_free as no_free, operated as operating, operand_type as type_of_operands, operated_from as operating_from, outcome_in as kind_outcome, run_in as running, shift_operated as shifting, shifted_by as shifting_by, takes as taking, type_in as type_known, value_outcome as outcome_of_value, verdict as judged};
 ghost use Rattle.occ_operators.specs.Outcomes.{applied as applied_outcome, in_each, in_type, shifted as shifted_outcome};
 ghost use Rattle.occ_operators.specs.declared.kind.Kind.TheVariants as k;
 ghost use Rattle.occ_types.specs.View.{as_primitive as primitive_of};
@@ -247,6 +247,38 @@ pub fn operated(
         Some(Kind::Known(known)) => decided(alloc, op, &known.of, kinds, faults),
         Some(_) => Ok(Kind::Faulty),
         None => unbound(alloc, op, kinds, faults),
+    }
+}
+
+/// The type of what is known of an operand, if it is known.
+pub fn type_in(kind: &Kind) -> Result<Option<Shared<OccType>>, AllocError>
+    ensures { IfOk result (λ of. of ≡ type_known kind.now) }
+{
+    match kind {
+        Kind::Known(found) => Ok(Some(found.of.share()?)),
+        Kind::Faulty => Ok(None),
+        Kind::Free(_) => Ok(None),
+    }
+}
+
+/// The type that is wanted of each operand of an operator, where this is known of the whole: that of the first which is
+/// not free; if all are free, that of the whole under an arithmetic operator, else INT. Not for shifts.
+pub fn operand_type(
+    alloc: Global,
+    op: Operator,
+    whole: &Kind,
+    kinds: &[Kind],
+) -> Result<Option<Shared<OccType>>, AllocError>
+    ensures { IfOk result (λ of. of ≡ type_of_operands op whole.now kinds.now) }
+{
+    match first_bound(kinds) {
+        Some(first) => type_in(first),
+        None => {
+            if !is_arithmetic(class_of(op)) {
+                return Ok(Some(int(alloc)?));
+            }
+            type_in(whole)
+        }
     }
 }
 
