@@ -207,14 +207,14 @@ type_form_builtin ds u =
     ap type_form_view (sym (tv.rolls-Builtin ds u)) ∙ fold-roll-TypeForm BoundsView BuiltinView DimensionView ElementView ExprView NamedOperandView OperandView TypeFormView bounds_step builtin_step dimension_step element_step expr_step named_operand_step operand_step type_form_step (TypeForm-F.Builtin ds u)
     ∙ ap (λ (ys : List DimensionView). type_form_step (TypeForm-F.Builtin ys (builtin_view u))) (all_dimension_views ds)
 
-pub bounds_from_view : (e : Expr) (s : Scope) → bounds_view (bv.From e) s ≡ bounds_step (Bounds-F.From (expr_view e)) s
-bounds_from_view e s = ap (λ (v : BoundsView). v s) (bounds_from e)
+pub bounds_from_said : (e : Expr) (s : Scope) → (bounds_view (bv.From e)).said s ≡ (bounds_step (Bounds-F.From (expr_view e))).said s
+bounds_from_said e s = ap (λ (v : BoundsView). v.said s) (bounds_from e)
 
-pub bounds_for_view : (e : Expr) (s : Scope) → bounds_view (bv.For e) s ≡ bounds_step (Bounds-F.For (expr_view e)) s
-bounds_for_view e s = ap (λ (v : BoundsView). v s) (bounds_for e)
+pub bounds_for_said : (e : Expr) (s : Scope) → (bounds_view (bv.For e)).said s ≡ (bounds_step (Bounds-F.For (expr_view e))).said s
+bounds_for_said e s = ap (λ (v : BoundsView). v.said s) (bounds_for e)
 
-pub bounds_from_for_view : (e : Expr) (f : Expr) (s : Scope) → bounds_view (bv.FromFor e f) s ≡ bounds_step (Bounds-F.FromFor (expr_view e) (expr_view f)) s
-bounds_from_for_view e f s = ap (λ (v : BoundsView). v s) (bounds_from_for e f)
+pub bounds_from_for_said : (e : Expr) (f : Expr) (s : Scope) → (bounds_view (bv.FromFor e f)).said s ≡ (bounds_step (Bounds-F.FromFor (expr_view e) (expr_view f))).said s
+bounds_from_for_said e f s = ap (λ (v : BoundsView). v.said s) (bounds_from_for e f)
 
 pub builtin_primitive_view : (w : Primitive) (s : Scope) → builtin_view (uv.Primitive w) s ≡ builtin_step (Builtin-F.Primitive w) s
 builtin_primitive_view w s = ap (λ (v : BuiltinView). v s) (builtin_primitive w)
@@ -303,26 +303,26 @@ expr_most_name extreme ty = ap (λ (v : ExprView). v.name) (expr_most extreme ty
 pub expr_most_said : (extreme : Extreme) (ty : TypeForm) (s : Scope) → (expr_view (xv.Most extreme ty)).said s ≡ (expr_step (Expr-F.Most extreme (type_form_view ty))).said s
 expr_most_said extreme ty s = ap (λ (v : ExprView). v.said s) (expr_most extreme ty)
 
-pub named_operand_element_view : (el : Element) (s : Scope) → named_operand_view (nv.Element el) s ≡ named_operand_step (NamedOperand-F.NamedOperand::Element (element_view el)) s
-named_operand_element_view el s = ap (λ (v : NamedOperandView). v s) (named_operand_element el)
+pub named_operand_element_said : (el : Element) (s : Scope) → (named_operand_view (nv.Element el)).said s ≡ (named_operand_step (NamedOperand-F.NamedOperand::Element (element_view el))).said s
+named_operand_element_said el s = ap (λ (v : NamedOperandView). v.said s) (named_operand_element el)
 
-pub named_operand_literal_view : (lit : Literal) (s : Scope) → named_operand_view (nv.Literal lit) s ≡ named_operand_step (NamedOperand-F.NamedOperand::Literal lit) s
-named_operand_literal_view lit s = ap (λ (v : NamedOperandView). v s) (named_operand_literal lit)
+pub named_operand_literal_said : (lit : Literal) (s : Scope) → (named_operand_view (nv.Literal lit)).said s ≡ (named_operand_step (NamedOperand-F.NamedOperand::Literal lit)).said s
+named_operand_literal_said lit s = ap (λ (v : NamedOperandView). v.said s) (named_operand_literal lit)
 
-pub named_operand_decorated_view : (lit : Literal) (ty : TypeForm) (s : Scope) → named_operand_view (nv.Decorated lit ty) s ≡ named_operand_step (NamedOperand-F.NamedOperand::Decorated lit (type_form_view ty)) s
-named_operand_decorated_view lit ty s = ap (λ (v : NamedOperandView). v s) (named_operand_decorated lit ty)
+pub named_operand_decorated_said : (lit : Literal) (ty : TypeForm) (s : Scope) → (named_operand_view (nv.Decorated lit ty)).said s ≡ (named_operand_step (NamedOperand-F.NamedOperand::Decorated lit (type_form_view ty))).said s
+named_operand_decorated_said lit ty s = ap (λ (v : NamedOperandView). v.said s) (named_operand_decorated lit ty)
 
-pub named_operand_truth_view : (b : Bool) (s : Scope) → named_operand_view (nv.Truth b) s ≡ named_operand_step (NamedOperand-F.NamedOperand::Truth b) s
-named_operand_truth_view b s = ap (λ (v : NamedOperandView). v s) (named_operand_truth b)
+pub named_operand_truth_said : (b : Bool) (s : Scope) → (named_operand_view (nv.Truth b)).said s ≡ (named_operand_step (NamedOperand-F.NamedOperand::Truth b)).said s
+named_operand_truth_said b s = ap (λ (v : NamedOperandView). v.said s) (named_operand_truth b)
 
-pub named_operand_table_view : (e : Expr) (f : Expr) (es : List Expr) (s : Scope) → named_operand_view (nv.Table e f es) s ≡ named_operand_step (NamedOperand-F.NamedOperand::Table (expr_view e) (expr_view f) (expr_views es)) s
-named_operand_table_view e f es s = ap (λ (v : NamedOperandView). v s) (named_operand_table e f es)
+pub named_operand_table_said : (e : Expr) (f : Expr) (es : List Expr) (s : Scope) → (named_operand_view (nv.Table e f es)).said s ≡ (named_operand_step (NamedOperand-F.NamedOperand::Table (expr_view e) (expr_view f) (expr_views es))).said s
+named_operand_table_said e f es s = ap (λ (v : NamedOperandView). v.said s) (named_operand_table e f es)
 
-pub named_operand_decorated_table_view : (e : Expr) (es : List Expr) (ty : TypeForm) (s : Scope) → named_operand_view (nv.DecoratedTable e es ty) s ≡ named_operand_step (NamedOperand-F.NamedOperand::DecoratedTable (expr_view e) (expr_views es) (type_form_view ty)) s
-named_operand_decorated_table_view e es ty s = ap (λ (v : NamedOperandView). v s) (named_operand_decorated_table e es ty)
+pub named_operand_decorated_table_said : (e : Expr) (es : List Expr) (ty : TypeForm) (s : Scope) → (named_operand_view (nv.DecoratedTable e es ty)).said s ≡ (named_operand_step (NamedOperand-F.NamedOperand::DecoratedTable (expr_view e) (expr_views es) (type_form_view ty))).said s
+named_operand_decorated_table_said e es ty s = ap (λ (v : NamedOperandView). v.said s) (named_operand_decorated_table e es ty)
 
-pub named_operand_call_view : (name : List ℕ) (es : List Expr) (s : Scope) → named_operand_view (nv.Call name es) s ≡ named_operand_step (NamedOperand-F.NamedOperand::Call name (expr_views es)) s
-named_operand_call_view name es s = ap (λ (v : NamedOperandView). v s) (named_operand_call name es)
+pub named_operand_call_said : (name : List ℕ) (es : List Expr) (s : Scope) → (named_operand_view (nv.Call name es)).said s ≡ (named_operand_step (NamedOperand-F.NamedOperand::Call name (expr_views es))).said s
+named_operand_call_said name es s = ap (λ (v : NamedOperandView). v.said s) (named_operand_call name es)
 
 pub operand_element_name : (el : Element) → (operand_view (ov.Element el)).name ≡ (operand_step (Operand-F.Operand::Element (element_view el))).name
 operand_element_name el = ap (λ (v : OperandView). v.name) (operand_element el)
@@ -426,7 +426,7 @@ type_form_named_view ds name o s = ap (λ (v : TypeFormView). v o s) (type_form_
 pub type_form_builtin_view : (ds : List Dimension) (u : Builtin) (o : Opening) (s : Scope) → type_form_view (tv.Builtin ds u) o s ≡ type_form_step (TypeForm-F.Builtin (dimension_views ds) (builtin_view u)) o s
 type_form_builtin_view ds u o s = ap (λ (v : TypeFormView). v o s) (type_form_builtin ds u)
 
-pub ruleset bounds_rules = (bounds_from_view, bounds_for_view, bounds_from_for_view)
+pub ruleset bounds_rules = (bounds_from_said, bounds_for_said, bounds_from_for_said)
 
 pub ruleset builtin_rules = (builtin_primitive_view, builtin_timer_view, builtin_any_channel_view, builtin_channel_view, builtin_counted_view)
 
@@ -436,7 +436,7 @@ pub ruleset element_rules = (element_named_told, element_named_whole, element_se
 
 pub ruleset expr_rules = (expr_alone_said, expr_run_said, expr_pair_said, expr_applied_said, expr_converted_said, expr_array_converted_said, expr_named_said, expr_most_said)
 
-pub ruleset named_operand_rules = (named_operand_element_view, named_operand_literal_view, named_operand_decorated_view, named_operand_truth_view, named_operand_table_view, named_operand_decorated_table_view, named_operand_call_view)
+pub ruleset named_operand_rules = (named_operand_element_said, named_operand_literal_said, named_operand_decorated_said, named_operand_truth_said, named_operand_table_said, named_operand_decorated_table_said, named_operand_call_said)
 
 pub ruleset operand_rules = (operand_element_said, operand_element_whole, operand_literal_said, operand_literal_whole, operand_decorated_said, operand_decorated_whole, operand_truth_said, operand_truth_whole, operand_parens_said, operand_parens_whole, operand_table_said, operand_table_whole, operand_decorated_table_said, operand_decorated_table_whole, operand_call_said, operand_call_whole)
 

@@ -87,8 +87,8 @@ pub named_conversion_faults : (x : Expr) (name : List ℕ) (o : NamedOperand) (s
     → x ≡ xv.Named name o
     → m ≡ old ++ (array_over [] (data_type name (visible s name))).faults
     → to ≡ (array_over [] (data_type name (visible s name))).found
-    → n ≡ m ++ (named_operand_view o s).faults
-    → term ≡ (named_operand_view o s).term
+    → n ≡ m ++ ((named_operand_view o).said s).faults
+    → term ≡ ((named_operand_view o).said s).term
     → e ≡ n ++ (converted to (judged term)).faults
     → e ≡ old ++ ((expr_view x).said s).faults
 named_conversion_faults x name o s to term old m n e is h f i g k =
@@ -110,10 +110,10 @@ pub named_decorated_faults : (x : NamedOperand) (lit : Literal) (ty : TypeForm) 
     → m ≡ old ++ (type_form_view ty opening.Refused s).faults
     → to ≡ (type_form_view ty opening.Refused s).found
     → e ≡ m ++ (decorated_literal to lit).faults
-    → e ≡ old ++ (named_operand_view x s).faults
+    → e ≡ old ++ ((named_operand_view x).said s).faults
 named_decorated_faults x lit ty s to old m e is h f k =
-    subst (λ (y : NamedOperand). e ≡ old ++ (named_operand_view y s).faults) (sym is)
-    (two _ _ _ _ _ h (k ∙ ap (λ (z : Option OccType). m ++ (decorated_literal z lit).faults) f) ∙ ap (λ z. old ++ z.faults) (sym (views.named_operand_decorated_view lit ty s)))
+    subst (λ (y : NamedOperand). e ≡ old ++ ((named_operand_view y).said s).faults) (sym is)
+    (two _ _ _ _ _ h (k ∙ ap (λ (z : Option OccType). m ++ (decorated_literal z lit).faults) f) ∙ ap (λ z. old ++ z.faults) (sym (views.named_operand_decorated_said lit ty s)))
 
 pub table_faults : (x : Operand) (a : Expr) (es : List Expr) (s : Scope) (old m e : List Fault)
     → x ≡ ov.Table a es
@@ -129,10 +129,10 @@ pub named_table_faults : (x : NamedOperand) (a b : Expr) (es : List Expr) (s : S
     → m ≡ old ++ (table_item ((expr_view a).said s)).faults
     → n ≡ m ++ (table_item ((expr_view b).said s)).faults
     → e ≡ n ++ own_faults (table_items (in_scope s (expr_views es)))
-    → e ≡ old ++ (named_operand_view x s).faults
+    → e ≡ old ++ ((named_operand_view x).said s).faults
 named_table_faults x a b es s old m n e is h i k =
-    subst (λ (y : NamedOperand). e ≡ old ++ (named_operand_view y s).faults) (sym is)
-    (three_right _ _ _ _ _ _ _ h i k ∙ ap (λ z. old ++ z.faults) (sym (views.named_operand_table_view a b es s)))
+    subst (λ (y : NamedOperand). e ≡ old ++ ((named_operand_view y).said s).faults) (sym is)
+    (three_right _ _ _ _ _ _ _ h i k ∙ ap (λ z. old ++ z.faults) (sym (views.named_operand_table_said a b es s)))
 
 pub decorated_table_faults : (x : Operand) (a : Expr) (es : List Expr) (ty : TypeForm) (s : Scope) (to : Option OccType) (term : Term) (its : List Term) (old m n p e : List Fault)
     → x ≡ ov.DecoratedTable a es ty
@@ -157,10 +157,10 @@ pub named_decorated_table_faults : (x : NamedOperand) (a : Expr) (es : List Expr
     → p ≡ n ++ (type_form_view ty opening.Refused s).faults
     → to ≡ (type_form_view ty opening.Refused s).found
     → e ≡ p ++ (table_as to its).faults
-    → e ≡ old ++ (named_operand_view x s).faults
+    → e ≡ old ++ ((named_operand_view x).said s).faults
 named_decorated_table_faults x a es ty s to term its old m n p e is h t i g j f k =
-    subst (λ (y : NamedOperand). e ≡ old ++ (named_operand_view y s).faults) (sym is)
-    (three _ _ _ _ _ _ _ (two _ _ _ _ _ h i) j (k ∙ ap (λ (z : Option OccType). p ++ (table_as z its).faults) f ∙ ap (λ (z : List Term). p ++ (table_as (type_form_view ty opening.Refused s).found z).faults) (g ∙ ap (λ (z : Term). z ∷ terms (table_items (in_scope s (expr_views es)))) t)) ∙ ap (λ z. old ++ z.faults) (sym (views.named_operand_decorated_table_view a es ty s)))
+    subst (λ (y : NamedOperand). e ≡ old ++ ((named_operand_view y).said s).faults) (sym is)
+    (three _ _ _ _ _ _ _ (two _ _ _ _ _ h i) j (k ∙ ap (λ (z : Option OccType). p ++ (table_as z its).faults) f ∙ ap (λ (z : List Term). p ++ (table_as (type_form_view ty opening.Refused s).found z).faults) (g ∙ ap (λ (z : Term). z ∷ terms (table_items (in_scope s (expr_views es)))) t)) ∙ ap (λ z. old ++ z.faults) (sym (views.named_operand_decorated_table_said a es ty s)))
 
 pub conversion_faults : (x : Expr) (ds : List Dimension) (w : Builtin) (o : Operand) (s : Scope) (of to : Option OccType) (front : List Extent) (term : Term) (old m n p e : List Fault)
     → x ≡ xv.Converted ds w o
@@ -213,8 +213,8 @@ pub segment_faults : (x : Element) (el : Element) (part : Bounds) (es : List Exp
     → x ≡ ev.Segment el part es
     → m ≡ old ++ ((element_view el).told s).faults
     → k1 ≡ ((element_view el).told s).kind
-    → n ≡ m ++ (bounds_view part s).faults
-    → bs ≡ (bounds_view part s).bounds
+    → n ≡ m ++ ((bounds_view part).said s).faults
+    → bs ≡ ((bounds_view part).said s).bounds
     → p ≡ n ++ (segment_of k1 bs).faults
     → k2 ≡ (segment_of k1 bs).kind
     → e ≡ p ++ (subscripts s (expr_views es) k2).faults

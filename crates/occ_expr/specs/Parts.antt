@@ -22,6 +22,7 @@ use Rattle.occ_terms.specs.Terms.{and_then, item, judged, judged_all}
 use Rattle.occ_terms.specs.declared.selection.Bounds.{Bounds}
 use Rattle.occ_terms.specs.declared.term.Term.{Term}
 use Rattle.occ_terms.specs.declared.term.Term.TheVariants as v
+use Rattle.occ_typed.specs.declared.expr.TypedExpr.{TypedExpr}
 use Rattle.occ_expr.specs.Operations.{converted, plain}
 
 -- what is said of an expression: its faults, and what it is before a type is wanted of it
@@ -29,10 +30,16 @@ pub record Said : Type 0 where
   pub faults : List Fault
   pub term : Term
 
--- an expression in any scope, and the name that it is, if it is a name alone
+-- the type that is wanted of an operand, if one is
+abbrev pub Wish : Type 0
+Wish = Option OccType
+
+-- an expression in any scope: the name that it is, if it is a name alone, what is said of it, and the typed tree that it
+-- becomes where a type is wanted of it or none is
 pub record ExprView : Type 0 where
   pub name : Option (List ℕ)
   pub said : Scope → Said
+  pub tree : Scope → Wish → TypedExpr
 
 abbrev pub single : Told → Said
 single x = record { faults = x.faults; term = v.Single x.kind }

@@ -8,6 +8,10 @@ mod parts;
 mod walk;
 mod written;
 
-pub use parts::name_alone;
-pub use walk::{data_form, element, expression, type_form};
+pub use operation::{pair_operator, plain, run_operator};
+pub use parts::{digits_of, name_alone, named, only, segment_of};
+pub use walk::{
+    bounds, data_form, element, expression, named_operand, operand, subscript, table_item,
+    type_form, whole_call, whole_element, whole_operand,
+};
 pub use written::{Extent, Opening};

@@ -30,7 +30,7 @@ pub fn run_operator(operator: RunOperator) -> Operator
 }
 
 /// What an operator means that stands between two operands.
-fn pair_operator(operator: PairOperator) -> Operator
+pub fn pair_operator(operator: PairOperator) -> Operator
     ensures { result ≡ meaning_of_pair operator }
 {
     match operator {

@@ -111,7 +111,7 @@ pub fn expression(
 /// What is known of an operand beside an operator, or behind a type.
 #[tactic(auto, using(crate::proofs::Views::operand_rules))]
 #[cycle(walk)]
-fn operand(
+pub fn operand(
     alloc: Global,
     operand: &Operand,
     scope: &Scope,
@@ -173,7 +173,7 @@ fn operands(
 /// What is known of an operand that is a whole expression.
 #[tactic(auto, using(crate::proofs::Views::operand_rules))]
 #[cycle(walk)]
-fn whole_operand(
+pub fn whole_operand(
     alloc: Global,
     whole: &Operand,
     scope: &Scope,
@@ -208,14 +208,14 @@ fn whole_operand(
 /// What is known of an operand that stands directly behind the name of a type.
 #[tactic(auto, using(crate::proofs::Views::named_operand_rules))]
 #[cycle(walk)]
-fn named_operand(
+pub fn named_operand(
     alloc: Global,
     operand: &NamedOperand,
     scope: &Scope,
     faults: &mut Items<Fault>,
 ) -> Result<Term, AllocError>
-    ensures term { IfOk result (λ term. term ≡ (named_operand_view operand.now scope.now).term) }
-    ensures faults { OnOk result (faults.new ≡ faults.old ++ (named_operand_view operand.now scope.now).faults) }
+    ensures term { IfOk result (λ term. term ≡ ((named_operand_view operand.now).said scope.now).term) }
+    ensures faults { OnOk result (faults.new ≡ faults.old ++ ((named_operand_view operand.now).said scope.now).faults) }
 {
     match operand {
         NamedOperand::Element(part) => Ok(Term::Single(element(alloc, part.get(), scope, faults)?)),
@@ -252,7 +252,7 @@ fn named_operand(
 /// An expression as an item of a table.
 #[tactic(auto, unfolding(crate::specs::Parts::table_item))]
 #[cycle(walk)]
-fn table_item(
+pub fn table_item(
     alloc: Global,
     expr: &Expr,
     scope: &Scope,
@@ -321,7 +321,7 @@ fn call(
 /// A call that is a whole expression: a conversion, if it names a data type and has one argument.
 #[tactic(auto, unfolding(crate::specs::Parts::whole_call))]
 #[cycle(walk)]
-fn whole_call(
+pub fn whole_call(
     alloc: Global,
     name: &Name,
     exprs: &[Expr],
@@ -365,7 +365,7 @@ pub fn element(
 /// type and has one subscript.
 #[tactic(auto, using(crate::proofs::Views::element_rules))]
 #[cycle(walk)]
-fn whole_element(
+pub fn whole_element(
     alloc: Global,
     whole: &Element,
     scope: &Scope,
@@ -440,7 +440,7 @@ fn subscripts(
 /// What a subscript selects of what is known.
 #[tactic(auto, unfolding(crate::specs::Parts::subscript))]
 #[cycle(walk)]
-fn subscript(
+pub fn subscript(
     alloc: Global,
     expr: &Expr,
     whole: &Kind,
@@ -515,14 +515,14 @@ fn component(
 /// The bounds of a segment.
 #[tactic(auto, using(crate::proofs::Views::bounds_rules))]
 #[cycle(walk)]
-fn bounds(
+pub fn bounds(
     alloc: Global,
     bounds: &BoundsForm,
     scope: &Scope,
     faults: &mut Items<Fault>,
 ) -> Result<Bounds, AllocError>
-    ensures bounds { IfOk result (λ found. found ≡ (bounds_view bounds.now scope.now).bounds) }
-    ensures faults { OnOk result (faults.new ≡ faults.old ++ (bounds_view bounds.now scope.now).faults) }
+    ensures bounds { IfOk result (λ found. found ≡ ((bounds_view bounds.now).said scope.now).bounds) }
+    ensures faults { OnOk result (faults.new ≡ faults.old ++ ((bounds_view bounds.now).said scope.now).faults) }
 {
     match bounds {
         BoundsForm::From(base) => {

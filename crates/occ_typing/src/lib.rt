@@ -16,5 +16,7 @@ mod specifying;
 mod unit;
 mod walk;
 
+pub use judge::judged;
 pub use laws::place_law;
+pub use parent::{Choosing, Line, Parent};
 pub use unit::type_faults;

@@ -1,0 +1,5 @@
+//! The tests of the typed tree of a unit.
+#![tactic(auto)]
+
+#[cfg(test)]
+mod typed;

@@ -1,0 +1,12 @@
+use Rattle.std.proofs.Common.{◌≡◌, ◌++◌, ◌≤◌, drop, length}
+use Rattle.occ_names.specs.Visible.{back_to}
+use Rattle.occ_tree.specs.Forest.{forest_of}
+use Rattle.occ_typed_unit.specs.Lines.{processes, typed_lines}
+use Rattle.occ_typed_unit.proofs.walk.+lines.Given as goal
+
+abbrev pub invariant-lines-loop-node : goal.invariant-lines-loop-node
+invariant-lines-loop-node l =
+    (l.outer ≤ length l.scope.meanings)
+    × (back_to l.outer l.scope ≡ l.initial.scope)
+    × (l.places ++ processes (forest_of (drop l.node-index l.nodes)) ≡ l.initial.places ++ processes (forest_of l.nodes))
+    × (l.found ++ typed_lines l.parent l.initial.scope l.scope (length l.places) (forest_of (drop l.node-index l.nodes)) ≡ typed_lines l.initial.parent l.initial.scope l.initial.scope (length l.initial.places) (forest_of l.nodes))

@@ -1,0 +1,70 @@
+use occ_base::{Boxed, FileName, Items};
+use occ_names::Entry;
+use occ_typed::{TypedElement, TypedExpr};
+
+/// The number of a process of a unit, from 0, in the order of its listing.
+pub type ProcessId = usize;
+
+/// Where a line stands.
+#[derive(Clone, Copy, Debug)]
+pub struct Place {
+    pub file: FileName,
+    /// The line of that file on which it begins, from 1.
+    pub line: u32,
+}
+
+/// What a line is, once its names and expressions are typed.
+#[derive(Debug, Drop)]
+pub enum TypedForm {
+    /// A declaration, the definition of a type, the head of a specification or its close, or a line of a record: it only
+    /// brings names into scope, if it does.
+    Names,
+    /// `VAL n IS e:`
+    Value(TypedExpr),
+    /// `t, .. FUNCTION n (formals) IS e, ..:`: its formals, and its results with these in scope.
+    Function(Items<Entry>, Items<TypedExpr>),
+    /// `SKIP`
+    Skip,
+    /// `STOP`
+    Stop,
+    /// `el, .. := e, ..`: the targets, and the values for them.
+    Assignment(Items<TypedElement>, Items<TypedExpr>),
+    /// `SEQ`
+    Sequence,
+    /// `PAR`, or `PRI PAR`, which is checked as `PAR`.
+    Parallel,
+    /// `IF`
+    Conditional,
+    /// `WHILE e`
+    While(TypedExpr),
+    /// `CASE e`
+    Selection(TypedExpr),
+    /// `e`, the condition of a choice.
+    Condition(TypedExpr),
+    /// `e, ..`: options of a selection.
+    Options(Items<TypedExpr>),
+    /// `ELSE`
+    Otherwise,
+    /// `VALOF`
+    ValueOf,
+    /// `RESULT e, ..`
+    Results(Items<TypedExpr>),
+    /// What typing does not know yet. No unit that has a typed tree has such a line.
+    Unknown,
+}
+
+/// A line of a unit, with those under it.
+#[cycle(lines)]
+#[derive(Debug, Drop)]
+pub struct TypedLine {
+    pub place: Place,
+    /// Its number, if it is a process.
+    pub process: Option<ProcessId>,
+    pub form: Boxed<TypedForm>,
+    /// What comes into scope under it.
+    pub enters: Items<Entry>,
+    /// What comes into scope behind it, if it is a line of a specification; else it is the last line of its item, and
+    /// what the lines of specifications before it brought into scope goes out of scope behind it.
+    pub adds: Option<Items<Entry>>,
+    pub under: Items<TypedLine>,
+}
