@@ -60,7 +60,7 @@ pub struct Entry {
 #[derive(Debug, Drop)]
 pub struct Referent {
     /// Which of the specifications in scope at that place it is: how many stand round it. Of those that are in scope
-    /// together no two have one number.
+    /// together no two have one number; of those of items beside each other two may.
     pub spec: SpecId,
     /// What it gives its name to mean.
     pub meaning: Shared<Meaning>,

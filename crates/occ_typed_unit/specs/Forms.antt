@@ -42,7 +42,7 @@ use Rattle.occ_typed_unit.specs.declared.tree.TypedForm.TheVariants as t
 abbrev pub alone_tree : Scope → Expr → TypedExpr
 alone_tree s e = (expr_view e).tree s None
 
--- one type is wanted of each
+-- the same type is wanted of each
 abbrev pub trees_under : Scope → Wish → List Expr → List TypedExpr
 trees_under s wish [] = []
 trees_under s wish (e ∷ es) = (expr_view e).tree s wish ∷ trees_under s wish es
@@ -53,12 +53,12 @@ wish_in None = None
 wish_in (Some wish) = wish
 
 -- each is wanted to be of the type at its place
-abbrev pub trees_from : Scope → List Wish → ℕ → List Expr → List TypedExpr
-trees_from s wishes n [] = []
-trees_from s wishes n (e ∷ es) = (expr_view e).tree s (wish_in (slice_get wishes n)) ∷ trees_from s wishes (n + 1) es
+abbrev pub trees_from_place : Scope → List Wish → ℕ → List Expr → List TypedExpr
+trees_from_place s wishes n [] = []
+trees_from_place s wishes n (e ∷ es) = (expr_view e).tree s (wish_in (slice_get wishes n)) ∷ trees_from_place s wishes (n + 1) es
 
-abbrev pub trees_as : Scope → List Wish → List Expr → List TypedExpr
-trees_as s wishes es = trees_from s wishes 0 es
+abbrev pub trees_by_place : Scope → List Wish → List Expr → List TypedExpr
+trees_by_place s wishes es = trees_from_place s wishes 0 es
 
 -- ---- assignments: each value is of the type of its target
 
@@ -71,7 +71,7 @@ target_types [] = []
 target_types (el ∷ els) = type_in el.kind ∷ target_types els
 
 abbrev pub assignment_of : Scope → List TypedElement → List Expr → TypedForm
-assignment_of s els es = t.Assignment els (trees_as s (target_types els) es)
+assignment_of s els es = t.Assignment els (trees_by_place s (target_types els) es)
 
 abbrev pub action_form : Scope → Action → TypedForm
 action_form s action.Skip = t.Skip
@@ -111,22 +111,22 @@ result_wishes None = []
 result_wishes (Some types) = wishes_for types
 
 abbrev pub result_trees : Scope → Option (List OccType) → List Expr → List TypedExpr
-result_trees s types es = trees_as s (result_wishes types) es
+result_trees s types es = trees_by_place s (result_wishes types) es
 
 -- ---- specifications
 
-abbrev pub value_wish : Scope → Option TypeForm → Wish
-value_wish s None = None
-value_wish s (Some of) = (type_form_view of opening.Allowed s).found
+abbrev pub declared_wish : Scope → Option TypeForm → Wish
+declared_wish s None = None
+declared_wish s (Some of) = (type_form_view of opening.Allowed s).found
 
-abbrev pub function_of : Scope → Headed → List Expr → TypedForm
-function_of s h es = t.Function h.heading.formals (result_trees (with_all s h.heading.formals) h.heading.results es)
+abbrev pub one_line_function : Scope → Headed → List Expr → TypedForm
+one_line_function s h es = t.OneLineFunction h.heading.formals (result_trees (with_all s h.heading.formals) h.heading.results es)
 
 abbrev pub specification_form : Scope → Specification → TypedForm
 specification_form s (specification.Declaration of first more) = t.Names
-specification_form s (specification.Value of name e) = t.Value ((expr_view e).tree s (value_wish s of))
+specification_form s (specification.Value of name e) = t.Value ((expr_view e).tree s (declared_wish s of))
 specification_form s (specification.DataType name of) = t.Names
-specification_form s (specification.Function head e es) = function_of s (function s head) (e ∷ es)
+specification_form s (specification.Function head e es) = one_line_function s (function s head) (e ∷ es)
 specification_form s (specification.Abbreviation of name el) = t.Unknown
 specification_form s (specification.Retyped recast of name el) = t.Unknown
 specification_form s (specification.RetypedValue recast of name e) = t.Unknown
@@ -136,7 +136,7 @@ abbrev pub specified_form : Scope → Specified → TypedForm
 specified_form s (specified.Line x) = specification_form s x
 specified_form s (specified.Head h) = t.Names
 
--- ---- lines that are by their parent what they are
+-- ---- lines whose meaning depends on their parent
 
 -- of a selection the options are of the type of its selector
 abbrev pub expressions_form : Scope → Parent → Expr → List Expr → TypedForm
@@ -164,21 +164,21 @@ part_form s p (part.Guard e g) = t.Unknown
 
 -- ---- lines
 
-abbrev pub form_form : Scope → Parent → Form → TypedForm
-form_form s p (form.Specified x) = specified_form s x
-form_form s p form.Close = t.Names
-form_form s p (form.Action a) = action_form s a
-form_form s p (form.Construct c) = construct_form s c
-form_form s p (form.Part q) = part_form s p q
-form_form s p (form.Expressions e es) = expressions_form s p e es
-form_form s p (form.Tagged name d ds) = t.Unknown
+abbrev pub typed_of_form : Scope → Parent → Form → TypedForm
+typed_of_form s p (form.Specified x) = specified_form s x
+typed_of_form s p form.Close = t.Names
+typed_of_form s p (form.Action a) = action_form s a
+typed_of_form s p (form.Construct c) = construct_form s c
+typed_of_form s p (form.Part q) = part_form s p q
+typed_of_form s p (form.Expressions e es) = expressions_form s p e es
+typed_of_form s p (form.Tagged name d ds) = t.Unknown
 
 abbrev pub body_form : Scope → Parent → ExpandedBody → TypedForm
-body_form s p (body.Form f) = form_form s p f
+body_form s p (body.Form f) = typed_of_form s p f
 body_form s p (body.Uses units) = t.Unknown
 body_form s p (body.Fault code) = t.Unknown
 
--- a line whose parent says this of it; the lines of a record bring in no names of their own
+-- a line whose parent says this of it; each line of a record brings in no names, since its fields come with the head
 unfoldable pub line_form : Scope → Parent → ExpandedBody → TypedForm
 line_form s parent.Process b = body_form s parent.Process b
 line_form s parent.Conditional b = body_form s parent.Conditional b

@@ -16,7 +16,8 @@ use Rattle.occ_typed_unit.specs.Forms.{line_form}
 use Rattle.occ_typed_unit.specs.declared.tree.Place.{Place}
 use Rattle.occ_typed_unit.specs.declared.tree.TypedLine.{TypedLine, roll-TypedLine}
 
--- ---- processes, in the order of the listing
+-- ---- processes, in the order of the listing: actions and constructs. An instance of a procedure is one too, and a guard
+-- is none; typing knows neither yet
 
 abbrev pub is_process_form : Form → Bool
 is_process_form (form.Specified x) = false
@@ -43,13 +44,13 @@ abbrev pub processes : Forest → List Place
 processes Empty = []
 processes (Tree l under behind) = own_process l ++ (processes under ++ processes behind)
 
--- its number, behind so many others
+-- its number, with n processes before it
 abbrev pub process_number : ℕ → ExpandedLine → Option ℕ
 process_number n l = if is_process l.body then Some n else None
 
 -- ---- lines
 
--- a line that is judged so, behind so many processes, with those under it
+-- line l, which is judged so, with n processes before it and these lines under it
 abbrev pub typed_line : Scope → Parent → ℕ → ExpandedLine → Judged → List TypedLine → TypedLine
 typed_line s p n l x under =
     roll-TypedLine record {
@@ -61,7 +62,7 @@ typed_line s p n l x under =
       under = under;
     }
 
--- of lines of which their parent says this, behind so many processes; s stands in scope at the first of them, and outer
+-- of lines of which their parent says this, with n processes before them; s stands in scope at the first of them, and outer
 -- at the next item
 abbrev pub typed_lines : Parent → Scope → Scope → ℕ → Forest → List TypedLine
 typed_lines p outer s n Empty = []
@@ -72,7 +73,7 @@ typed_lines p outer s n (Tree l under behind) =
     typed_line s p n l x (typed_lines x.line.parent inner inner m under)
     ∷ typed_lines x.line.next outer (behind_line outer s x.line.adds) (m + length (processes under)) behind
 
--- one of them, with those under it
+-- the first of them
 abbrev pub line_with : Parent → Scope → ℕ → ExpandedLine → Forest → TypedLine
 line_with p s n l under =
     let x = judged s l.body under p in

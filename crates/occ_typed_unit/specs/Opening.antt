@@ -1,4 +1,4 @@
--- A line as the walk has it before the lines under it.
+-- A line whose children are not typed yet.
 use Rattle.std.specs.Prelude.{ℕ, List}
 use Rattle.occ_names.specs.declared.scope.Scope.{Scope}
 use Rattle.occ_project.specs.declared.expanded.ExpandedLine.{ExpandedLine}
@@ -20,8 +20,8 @@ opened_at p s n l x =
       adds = x.line.adds;
     }
 
-abbrev pub closed : Opened → List TypedLine → TypedLine
-closed x under =
+abbrev pub with_children : Opened → List TypedLine → TypedLine
+with_children x under =
     roll-TypedLine record {
       place = x.place;
       process = x.process;

@@ -4,7 +4,7 @@ ghost use Rattle.occ_expr.specs.Views.{element_view, expr_view, type_form_view};
 ghost use Rattle.occ_expr.specs.declared.written.Opening.TheVariants as opened;
 ghost use Rattle.occ_heads.specs.Heads.{function as told_head};
 ghost use Rattle.occ_names.specs.Visible.{with_all};
-ghost use Rattle.occ_typed_unit.specs.Forms.{action_form as told_action, alone_tree as told_alone, assignment_of, body_form as told_body, construct_form as told_construct, expressions_form as told_expressions, form_form as told_form, function_of, line_form as told_line, part_form as told_part, replicable_form as told_replicable, result_form as told_result, result_trees as told_results, result_wishes as told_result_wishes, specification_form as told_specification, specified_form as told_specified, target_types as types_of_targets, targets as told_targets, trees_as as told_trees_as, trees_from, trees_under as told_trees_under, value_wish as told_value_wish, wish_in, wishes_for as told_wishes, word_form as told_word};
+ghost use Rattle.occ_typed_unit.specs.Forms.{action_form as told_action, alone_tree as told_alone, assignment_of, body_form as told_body, construct_form as told_construct, expressions_form as told_expressions, typed_of_form as told_form, one_line_function, line_form as told_line, part_form as told_part, replicable_form as told_replicable, result_form as told_result, result_trees as told_results, result_wishes as told_result_wishes, specification_form as told_specification, specified_form as told_specified, target_types as types_of_targets, targets as told_targets, trees_by_place as told_trees_as, trees_from_place, trees_under as told_trees_under, declared_wish as told_value_wish, wish_in, wishes_for as told_wishes, word_form as told_word};
 ghost use Rattle.std.specs.List.{slice_get};
 ghost use Rattle.std.specs.Prelude.{◌≡◌, ◌∷◌, ◌++◌, [], IfOk, OnOk, length};
 
@@ -73,7 +73,7 @@ fn next_trees(
     scope: &Scope,
     trees: &mut Items<TypedExpr>,
 ) -> Result<(), AllocError>
-    ensures { OnOk result (trees.new ≡ trees.old ++ trees_from scope.now wishes.now (length trees.old) exprs.now) }
+    ensures { OnOk result (trees.new ≡ trees.old ++ trees_from_place scope.now wishes.now (length trees.old) exprs.now) }
 {
     for expr in exprs {
         next_tree(alloc, expr, wishes, scope, trees)?;
@@ -82,7 +82,7 @@ fn next_trees(
 }
 
 /// The trees of expressions, the first and perhaps more, each wanted to be of the type at its place.
-fn trees_as(
+fn trees_by_place(
     alloc: Global,
     first: &Expr,
     more: &[Expr],
@@ -136,7 +136,7 @@ fn assignment(
     ensures { IfOk result (λ form. form ≡ assignment_of scope.now targets (first.now ∷ more.now)) }
 {
     let wishes = target_types(alloc, targets.as_slice())?;
-    let values = trees_as(alloc, first, more, wishes.as_slice(), scope)?;
+    let values = trees_by_place(alloc, first, more, wishes.as_slice(), scope)?;
     Ok(TypedForm::Assignment(targets, values))
 }
 
@@ -232,11 +232,11 @@ fn results(
     ensures { IfOk result (λ trees. trees ≡ told_results scope.now types.now (first.now ∷ more.now)) }
 {
     let wishes = result_wishes(alloc, types)?;
-    trees_as(alloc, first, more, wishes.as_slice(), scope)
+    trees_by_place(alloc, first, more, wishes.as_slice(), scope)
 }
 
 /// What is wanted of the value of a `VAL` form.
-fn value_wish(alloc: Global, of: &Option<TypeForm>, scope: &Scope) -> Result<Wish, AllocError>
+fn declared_wish(alloc: Global, of: &Option<TypeForm>, scope: &Scope) -> Result<Wish, AllocError>
     ensures { IfOk result (λ wish. wish ≡ told_value_wish scope.now of.now) }
 {
     let mut unheard = Items::new(alloc);
@@ -254,7 +254,7 @@ fn function(
     more: &[Expr],
     scope: &mut Scope,
 ) -> Result<TypedForm, AllocError>
-    ensures form { IfOk result (λ form. form ≡ function_of scope.old (told_head scope.old head.now) (first.now ∷ more.now)) }
+    ensures form { IfOk result (λ form. form ≡ one_line_function scope.old (told_head scope.old head.now) (first.now ∷ more.now)) }
     ensures scope { OnOk result (scope.new ≡ scope.old) }
 {
     let mut unheard = Items::new(alloc);
@@ -267,7 +267,7 @@ fn function(
     scope.enter_all(alloc, formals.as_slice())?;
     let trees = results(alloc, first, more, &types, scope)?;
     scope.leave_to(count);
-    Ok(TypedForm::Function(formals, trees))
+    Ok(TypedForm::OneLineFunction(formals, trees))
 }
 
 /// A specification of one line.
@@ -282,7 +282,7 @@ fn specification(
     match line {
         Specification::Declaration(_, _, _) => Ok(TypedForm::Names),
         Specification::Value(of, _, expr) => {
-            let wish = value_wish(alloc, of, scope)?;
+            let wish = declared_wish(alloc, of, scope)?;
             Ok(TypedForm::Value(typed_expr(alloc, expr, &wish, scope)?))
         }
         Specification::DataType(_, _) => Ok(TypedForm::Names),

@@ -17,12 +17,14 @@ pub struct Place {
 #[derive(Debug, Drop)]
 pub enum TypedForm {
     /// A declaration, the definition of a type, the head of a specification or its close, or a line of a record: it only
-    /// brings names into scope, if it does.
+    /// brings names into scope, if it does. What the names of `adds` stand for tells PROCs, FUNCTIONs, types and variables
+    /// apart.
     Names,
     /// `VAL n IS e:`
     Value(TypedExpr),
-    /// `t, .. FUNCTION n (formals) IS e, ..:`: its formals, and its results with these in scope.
-    Function(Items<Entry>, Items<TypedExpr>),
+    /// `t, .. FUNCTION n (formals) IS e, ..:`: its formals, which are not among what the line enters, and its results with
+    /// these in scope.
+    OneLineFunction(Items<Entry>, Items<TypedExpr>),
     /// `SKIP`
     Skip,
     /// `STOP`
@@ -49,7 +51,8 @@ pub enum TypedForm {
     ValueOf,
     /// `RESULT e, ..`
     Results(Items<TypedExpr>),
-    /// What typing does not know yet. No unit that has a typed tree has such a line.
+    /// What typing does not know yet. No unit of shape whose lines have forms and which has no diagnostics of names and types
+    /// has such a line.
     Unknown,
 }
 
@@ -64,7 +67,8 @@ pub struct TypedLine {
     /// What comes into scope under it.
     pub enters: Items<Entry>,
     /// What comes into scope behind it, if it is a line of a specification; else it is the last line of its item, and
-    /// what the lines of specifications before it brought into scope goes out of scope behind it.
+    /// what the lines of specifications before it brought into scope goes out of scope behind it. A line of a record has
+    /// none either.
     pub adds: Option<Items<Entry>>,
     pub under: Items<TypedLine>,
 }

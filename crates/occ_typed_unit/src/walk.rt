@@ -5,7 +5,7 @@ ghost use Rattle.occ_tree.specs.Forest.{forest_of};
 ghost use Rattle.occ_tree.specs.declared.tree.Node.{out-Node};
 ghost use Rattle.occ_typed_unit.specs.Lines.{is_process as counts, is_process_form as counts_form, line_with, own_process, place_of as where_it_stands, process_number, processes, typed_line, typed_lines as told_lines};
 ghost use Rattle.occ_typed_unit.specs.Forms.{line_form as told_form};
-ghost use Rattle.occ_typed_unit.specs.Opening.{closed, opened_at};
+ghost use Rattle.occ_typed_unit.specs.Opening.{with_children, opened_at};
 ghost use Rattle.occ_typing.specs.Units.{behind_line as told_behind, judged as told_judged};
 ghost use Rattle.std.specs.Prelude.{◌≡◌, ◌+◌, ◌∷◌, ◌++◌, [], IfOk, OnOk, length};
 
@@ -168,7 +168,7 @@ fn close(
 ) -> Result<Parent, AllocError>
     ensures next { IfOk result (λ next. next ≡ opened.next) }
     ensures scope { OnOk result (scope.new ≡ told_behind (back_to outer scope.old) scope.old opened.adds) }
-    ensures found { OnOk result (found.new ≡ found.old ++ closed opened under ∷ []) }
+    ensures found { OnOk result (found.new ≡ found.old ++ with_children opened under ∷ []) }
 {
     go_behind(alloc, &opened.adds, outer, scope)?;
     let Opened {
@@ -257,7 +257,7 @@ fn go_under(
     ensures next { IfOk result (λ next. next ≡ opened.next) }
     ensures scope { OnOk result (scope.new ≡ told_behind (back_to outer scope.old) scope.old opened.adds) }
     ensures places { OnOk result (places.new ≡ places.old ++ processes (forest_of nodes.now)) }
-    ensures found { OnOk result (found.new ≡ found.old ++ closed opened (told_lines parent (with_all scope.old opened.enters) (with_all scope.old opened.enters) (length places.old) (forest_of nodes.now)) ∷ []) }
+    ensures found { OnOk result (found.new ≡ found.old ++ with_children opened (told_lines parent (with_all scope.old opened.enters) (with_all scope.old opened.enters) (length places.old) (forest_of nodes.now)) ∷ []) }
 {
     let under = inner(
         alloc,
