@@ -14,7 +14,7 @@ use occ_base::{Diag, FileName, Items, Shared};
 use occ_forms::Source;
 use occ_project::{Expanded, ExpandedLine, Read, expand_over};
 use occ_tree::{ShapeFault, Unit, shape};
-use occ_typing::type_faults;
+use occ_typed_unit::{TypeFault, type_unit};
 use std::alloc::{AllocError, Global};
 
 /// The diagnostics of the one open file, in their order.
@@ -72,11 +72,11 @@ fn find_meaning_faults(
 ) -> Result<Items<Diag>, AllocError>
     ensures { IfOk result (λ found. found ≡ first_of (typed (forest_of unit.now.roots)) (known_faults file lines.now)) }
 {
-    let found = type_faults(alloc, unit.roots.as_slice())?;
-    if !found.is_empty() {
-        return Ok(found);
+    match type_unit(alloc, unit, &[]) {
+        Ok(_) => find_known_faults(alloc, file, lines),
+        Err(TypeFault::Faults(found)) => Ok(found),
+        Err(TypeFault::Memory) => Err(AllocError),
     }
-    find_known_faults(alloc, file, lines)
 }
 
 /// Faults of shape, if there are any; else those of what the lines mean.
