@@ -1,5 +1,5 @@
 -- The typed tree that each form becomes, from those of its parts.
-use Rattle.std.proofs.Common.{◌≡◌, ◌∙◌, ap, sym, ℕ, Bool, Some, None, Option, List, [], ◌∷◌}
+use Rattle.std.proofs.Common.{◌≡◌, ◌∙◌, ap, sym, ℕ, Bool, None, List, ◌∷◌}
 use Rattle.occ_expressions.specs.declared.tree.Bounds.TheVariants as bv
 use Rattle.occ_expressions.specs.declared.tree.Builtin.{Builtin}
 use Rattle.occ_expressions.specs.declared.tree.Bounds.{Bounds}

@@ -1,8 +1,8 @@
 -- What a line is, once its names and expressions are typed.
 use Rattle.std.specs.Prelude.{ℕ, ◌+◌, Option, Some, None, List, [], ◌∷◌}
 use Rattle.std.specs.List.{slice_get}
-use Rattle.occ_expr.specs.Parts.{ExprView, Wish}
-use Rattle.occ_expr.specs.Views.{element_view, expr_view, expr_views, type_form_view}
+use Rattle.occ_expr.specs.Parts.{Wish}
+use Rattle.occ_expr.specs.Views.{element_view, expr_view, type_form_view}
 use Rattle.occ_expr.specs.declared.written.Opening.TheVariants as opening
 use Rattle.occ_expressions.specs.declared.tree.Element.{Element}
 use Rattle.occ_expressions.specs.declared.tree.Expr.{Expr}

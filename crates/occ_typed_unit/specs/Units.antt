@@ -1,5 +1,5 @@
 -- The typed tree of a unit, and when there is none.
-use Rattle.std.specs.Prelude.{◌≡◌, List, []}
+use Rattle.std.specs.Prelude.{◌≡◌, []}
 use Rattle.occ_tree.specs.Forest.{Forest}
 use Rattle.occ_typing.specs.Units.{type_faults}
 use Rattle.occ_typed_unit.specs.Lines.{processes, typed_unit}
