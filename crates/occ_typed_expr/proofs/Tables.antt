@@ -4,5 +4,3 @@ use Rattle.occ_typed.specs.declared.expr.TypedExpr.{TypedExpr}
 
 pub next_item : (xs : List TypedExpr) (x : TypedExpr) → length (xs ++ x ∷ []) ≡ length xs + 1
 next_item xs x = length-append xs (x ∷ [])
-
-pub ruleset table_rules = (next_item)
