@@ -64,8 +64,8 @@ pub fn values(
     ensures faulty { IfOk result (λ faulty. faulty ≡ is_any_faulty scope.now (first.now ∷ more.now)) }
     ensures faults { OnOk result (faults.new ≡ faults.old ++ own_faults (said scope.now (first.now ∷ more.now))) }
 {
-    let terms = expressions(alloc, first, more, scope, faults)?;
-    Ok(any_has_fault(terms.as_slice()))
+    let values = expressions(alloc, first, more, scope, faults)?;
+    Ok(any_has_fault(values.as_slice()))
 }
 
 /// `el, .. := e, ..`: the targets, the values, and each value for its target.
