@@ -5,6 +5,7 @@
 mod code;
 mod diag;
 mod file_name;
+mod items;
 mod name;
 mod rows;
 mod shared;
@@ -12,6 +13,7 @@ mod shared;
 pub use code::{Code, Grade};
 pub use diag::{Diag, add_error_if, write_diag};
 pub use file_name::{FileName, NameFault};
+pub use items::one_item;
 pub use name::Name;
 pub use rows::{diag_rows, file_name_rows, order_rows};
 pub use shared::Shared;

@@ -91,18 +91,7 @@ shift operator a count = and_then (plain a) (λ x. and_then (plain count) (λ y.
 unfoldable pub pair : PairOperator → Judged → Judged → Told
 pair po.ShiftLeft a b = shift op.ShiftLeft a b
 pair po.ShiftRight a b = shift op.ShiftRight a b
-pair po.Subtract a b = operation op.Subtract (a ∷ b ∷ [])
-pair po.Minus a b = operation op.Minus (a ∷ b ∷ [])
-pair po.Divide a b = operation op.Divide (a ∷ b ∷ [])
-pair po.Remainder a b = operation op.Remainder (a ∷ b ∷ [])
-pair po.RemainderWord a b = operation op.Remainder (a ∷ b ∷ [])
-pair po.Equal a b = operation op.Equal (a ∷ b ∷ [])
-pair po.Unequal a b = operation op.NotEqual (a ∷ b ∷ [])
-pair po.Less a b = operation op.Less (a ∷ b ∷ [])
-pair po.Greater a b = operation op.Greater (a ∷ b ∷ [])
-pair po.AtMost a b = operation op.AtMost (a ∷ b ∷ [])
-pair po.AtLeast a b = operation op.AtLeast (a ∷ b ∷ [])
-pair po.After a b = operation op.After (a ∷ b ∷ [])
+pair operator a b = operation (pair_operator operator) (a ∷ b ∷ [])
 
 -- ---- operators in front
 

@@ -3,7 +3,7 @@ ghost use Rattle.occ_expr.specs.Operations.{another_has_fault as another, applie
 ghost use Rattle.occ_operators.specs.Operators.{all_faults, kinds as kinds_of};
 ghost use Rattle.occ_terms.specs.Terms.{judged, judged_all};
 
-use occ_base::{Items, Shared};
+use occ_base::{Items, Shared, one_item};
 use occ_expressions::{Extreme, MonadicOperator, PairOperator, RunOperator};
 use occ_operators::{
     Fault, Free, Kind, applied as applied_to, converted as converted_to, operated, shifted,
@@ -152,8 +152,7 @@ fn operation_of_two(
     ensures kind { IfOk result (λ kind. kind ≡ (told_operation operator (judged_all (first ∷ second ∷ []))).kind) }
     ensures faults { OnOk result (faults.new ≡ faults.old ++ (told_operation operator (judged_all (first ∷ second ∷ []))).faults) }
 {
-    let mut operands = Items::new(alloc);
-    operands.push(first)?;
+    let mut operands = one_item(alloc, first)?;
     operands.push(second)?;
     operation(alloc, operands.as_slice(), operator, faults)
 }

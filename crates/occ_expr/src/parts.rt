@@ -10,7 +10,7 @@ ghost use Rattle.occ_terms.specs.Terms.{judged};
 ghost use Rattle.occ_terms.specs.declared.term.Term.TheVariants as v;
 
 use super::operation::converted;
-use occ_base::{Code, Items, Name, Shared};
+use occ_base::{Code, Items, Name, Shared, one_item};
 use occ_expressions::{Element, Expr, Literal, Operand};
 use occ_names::{Meaning, Scope, element};
 use occ_operators::{Fault, Kind, known, tell};
@@ -173,15 +173,6 @@ pub fn table_as(
     }
 }
 
-/// A list of one item.
-pub fn listed(alloc: Global, item: Term) -> Result<Items<Term>, AllocError>
-    ensures { IfOk result (λ items. items ≡ item ∷ []) }
-{
-    let mut items = Items::new(alloc);
-    items.push(item)?;
-    Ok(items)
-}
-
 /// The conversion of a table of one item.
 pub fn converted_table(
     alloc: Global,
@@ -192,6 +183,6 @@ pub fn converted_table(
     ensures kind { IfOk result (λ kind. kind ≡ (told_converted (Some to) (judged (v.Table (item ∷ [])))).kind) }
     ensures faults { OnOk result (faults.new ≡ faults.old ++ (told_converted (Some to) (judged (v.Table (item ∷ [])))).faults) }
 {
-    let items = listed(alloc, item)?;
+    let items = one_item(alloc, item)?;
     converted(alloc, &Term::Table(items), Some(to), faults)
 }

@@ -11,13 +11,13 @@ ghost use Rattle.occ_expr.specs.Written.{all_spanning_faults, array_behind as wr
 use super::literals::{decorated_literal, literal, truth};
 use super::operation::{applied, converted, extreme_of, operation, pair, plain, run_operator};
 use super::parts::{
-    converted_table, digits_of, listed, name_alone, named, only, segment_of, table_as, tell_call,
+    converted_table, digits_of, name_alone, named, only, segment_of, table_as, tell_call,
 };
 use super::written::{
-    Extent, Opening, array_type, base_type, count_type, counted_type, extent_of, listed_extent,
-    named_channel, open_dimension, primitive_of, values_channel,
+    Extent, Opening, array_type, base_type, count_type, counted_type, extent_of, named_channel,
+    open_dimension, primitive_of, values_channel,
 };
-use occ_base::{Items, Name, Shared};
+use occ_base::{Items, Name, Shared, one_item};
 use occ_expressions::{
     Bounds as BoundsForm, Builtin, DataBase, Dimension, Element, Expr, NamedOperand, Operand,
     TypeForm,
@@ -44,7 +44,7 @@ pub fn expression(
         Expr::Alone(behind) => whole_operand(alloc, behind.get(), scope, faults),
         Expr::Run(operator, first, second, more) => {
             let first = operand(alloc, first.get(), scope, faults)?;
-            let mut terms = listed(alloc, first)?;
+            let mut terms = one_item(alloc, first)?;
             let second = operand(alloc, second.get(), scope, faults)?;
             terms.push(second)?;
             operands(alloc, more.as_slice(), scope, &mut terms, faults)?;
@@ -80,7 +80,7 @@ pub fn expression(
         Expr::ArrayConverted(first, more, name, behind) => {
             let of = data_type(alloc, scope, name, faults)?;
             let first = dimension(alloc, first.get(), Opening::Refused, scope, faults)?;
-            let extents = listed_extent(alloc, first)?;
+            let extents = one_item(alloc, first)?;
             let to = array_over(
                 alloc,
                 more.as_slice(),
@@ -132,13 +132,13 @@ pub fn operand(
         Operand::Parens(expr) => expression(alloc, expr.get(), scope, faults),
         Operand::Table(first, more) => {
             let first = table_item(alloc, first.get(), scope, faults)?;
-            let mut items = listed(alloc, first)?;
+            let mut items = one_item(alloc, first)?;
             more_items(alloc, more.as_slice(), scope, &mut items, faults)?;
             Ok(Term::Table(items))
         }
         Operand::DecoratedTable(first, more, of) => {
             let first = table_item(alloc, first.get(), scope, faults)?;
-            let mut items = listed(alloc, first)?;
+            let mut items = one_item(alloc, first)?;
             more_items(alloc, more.as_slice(), scope, &mut items, faults)?;
             let to = type_form(alloc, of.get(), Opening::Refused, scope, faults)?;
             let kind = table_as(alloc, items.as_slice(), to, faults)?;
@@ -228,7 +228,7 @@ pub fn named_operand(
         NamedOperand::Truth(value) => Ok(Term::Single(truth(alloc, *value)?)),
         NamedOperand::Table(first, second, more) => {
             let first = table_item(alloc, first.get(), scope, faults)?;
-            let mut items = listed(alloc, first)?;
+            let mut items = one_item(alloc, first)?;
             let second = table_item(alloc, second.get(), scope, faults)?;
             items.push(second)?;
             more_items(alloc, more.as_slice(), scope, &mut items, faults)?;
@@ -236,7 +236,7 @@ pub fn named_operand(
         }
         NamedOperand::DecoratedTable(first, more, of) => {
             let first = table_item(alloc, first.get(), scope, faults)?;
-            let mut items = listed(alloc, first)?;
+            let mut items = one_item(alloc, first)?;
             more_items(alloc, more.as_slice(), scope, &mut items, faults)?;
             let to = type_form(alloc, of.get(), Opening::Refused, scope, faults)?;
             let kind = table_as(alloc, items.as_slice(), to, faults)?;

@@ -3,7 +3,7 @@ ghost use Rattle.occ_types.specs.declared.types.OccType.TheVariants as t;
 ghost use Rattle.occ_types.specs.declared.types.Protocol.TheVariants as c;
 ghost use Rattle.occ_expr.specs.Written.{array_of as told_array, base_type as told_base, channel_if, channel_of_values, count_type as told_count, counted_type as told_counted, extent_of as the_extent, limited as told_limited, open_dimension as told_open, primitive_of as the_primitive, spanned as spanned_type, spanned_by as spanned_by_all};
 
-use occ_base::{Code, Items, Shared};
+use occ_base::{Code, Items, Shared, one_item};
 use occ_expressions::{DataBase, Primitive as PrimitiveWord};
 use occ_names::{Carried, Scope, data_type};
 use occ_operators::{Fault, number, tell};
@@ -84,15 +84,6 @@ pub fn extent_of(size: Option<u32>) -> Extent
         Some(size) => Extent::Sized(size),
         None => Extent::Faulty,
     }
-}
-
-/// A list of one dimension.
-pub fn listed_extent(alloc: Global, extent: Extent) -> Result<Items<Extent>, AllocError>
-    ensures { IfOk result (λ extents. extents ≡ extent ∷ []) }
-{
-    let mut extents = Items::new(alloc);
-    extents.push(extent)?;
-    Ok(extents)
 }
 
 /// An array of components of a type, if its dimension has no fault.
@@ -185,8 +176,7 @@ fn channel(alloc: Global, protocol: Shared<Protocol>) -> Result<Shared<OccType>,
 fn protocol_of(alloc: Global, item: Item) -> Result<Shared<Protocol>, AllocError>
     ensures { IfOk result (λ protocol. protocol ≡ c.Sequence (item ∷ [])) }
 {
-    let mut items = Items::new(alloc);
-    items.push(item)?;
+    let items = one_item(alloc, item)?;
     Shared::new(alloc, Protocol::Sequence(items))
 }
 

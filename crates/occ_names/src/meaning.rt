@@ -1,6 +1,6 @@
 ghost use Rattle.std.specs.Prelude.{◌≡◌, [], ◌∷◌, IfOk};
 
-use occ_base::{Items, Name, Shared};
+use occ_base::{Items, Name, Shared, one_item};
 use occ_scope::SpecId;
 use occ_types::{OccType, Passing, Protocol, Value};
 use std::alloc::{AllocError, Global};
@@ -72,7 +72,5 @@ pub fn one_entry(alloc: Global, name: &Name, meaning: Meaning) -> Result<Items<E
 {
     let name = name.copied(alloc)?;
     let meaning = Shared::new(alloc, meaning)?;
-    let mut entries = Items::new(alloc);
-    entries.push(Entry { name, meaning })?;
-    Ok(entries)
+    one_item(alloc, Entry { name, meaning })
 }

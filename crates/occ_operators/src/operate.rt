@@ -145,7 +145,8 @@ fn free_run(op: Operator, kinds: &[Kind]) -> Free
     }
 }
 
-fn is_faulty(kind: &Kind) -> bool
+/// Whether an operand is faulty.
+pub fn is_faulty(kind: &Kind) -> bool
     ensures { result ≡ faulty kind.now }
 {
     matches!(kind, Kind::Faulty)

@@ -2,7 +2,7 @@
 use Rattle.std.proofs.Common.{◌≡◌, ◌∙◌, ◌<◌, ◌+◌, ℕ, List, [], ◌∷◌, ◌++◌, drop, length, map, slice_index_or, refl, sym, ap}
 use Rattle.std.proofs.lemmas.List.{drop_more}
 use Rattle.occ_forms.specs.declared.tree.Form.{Form}
-use Rattle.occ_process.specs.declared.tree.Place.{Place}
+use Rattle.occ_project.specs.declared.expanded.Place.{Place}
 use Rattle.occ_process.specs.Layout.{Empty, Laid, Layout, node, nodes, one_behind_other, parent}
 use Rattle.occ_process.specs.Reading.{Lays, Opens}
 use Rattle.occ_tree.specs.declared.tree.Node.{Node}

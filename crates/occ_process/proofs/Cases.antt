@@ -18,7 +18,7 @@ use Rattle.occ_process.specs.declared.tree.Ends.{Ends}
 use Rattle.occ_process.specs.declared.tree.FunctionResult.{FunctionResult}
 use Rattle.occ_process.specs.declared.tree.Guard.{Guard}
 use Rattle.occ_process.specs.declared.tree.Order.{Order}
-use Rattle.occ_process.specs.declared.tree.Place.{Place}
+use Rattle.occ_project.specs.declared.expanded.Place.{Place}
 use Rattle.occ_process.specs.declared.tree.Priority.{Priority}
 use Rattle.occ_process.specs.declared.tree.ProcedureHead.{ProcedureHead}
 use Rattle.occ_process.specs.declared.tree.Process.{Process as AProcess}

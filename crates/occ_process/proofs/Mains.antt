@@ -31,7 +31,7 @@ use Rattle.occ_process.specs.declared.tree.Alternative.TheOpen.{Spec-F}
 use Rattle.occ_process.specs.declared.tree.Body.{Body, out-Body}
 use Rattle.occ_process.specs.declared.tree.Guard.{Guard}
 use Rattle.occ_process.specs.declared.tree.Guard.TheVariants as guard
-use Rattle.occ_process.specs.declared.tree.Place.{Place}
+use Rattle.occ_project.specs.declared.expanded.Place.{Place}
 use Rattle.occ_process.specs.declared.tree.Spec.{Spec}
 use Rattle.occ_project.specs.declared.expanded.ExpandedBody.{ExpandedBody}
 use Rattle.occ_process.specs.Layout.{Empty, Laid, Layout, Line, alternative_step, body_of, body_step, call_form, choice_step, guard_form, nodes, one_behind_other, option_step, order_kind, priority_kind, process, process_step, spec, spec_step, variant_step}

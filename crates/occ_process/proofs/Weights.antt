@@ -1,6 +1,7 @@
 -- How many lines nodes have.
 use Rattle.std.proofs.Common.{◌≡◌, ◌∙◌, ◌+◌, List, [], ◌∷◌, ◌++◌, ap, arith}
-use Rattle.occ_process.specs.Layout.{Empty, Laid, Layout, Line, node, node_step, nodes, place_of}
+use Rattle.occ_process.specs.Layout.{Empty, Laid, Layout, Line, node, node_step, nodes}
+use Rattle.occ_project.specs.Places.{place_of}
 use Rattle.occ_process.specs.Reading.{count, weight}
 use Rattle.occ_process.proofs.Behind.{nodes_append}
 use Rattle.occ_tree.specs.declared.tree.Node.{Node, out-Node}

@@ -31,7 +31,6 @@ use Rattle.occ_process.specs.declared.tree.Order.{Order}
 use Rattle.occ_process.specs.declared.tree.Order.TheVariants as order
 use Rattle.occ_process.specs.declared.tree.Packing.{Packing}
 use Rattle.occ_process.specs.declared.tree.Packing.TheVariants as packing
-use Rattle.occ_process.specs.declared.tree.Place.{Place}
 use Rattle.occ_process.specs.declared.tree.Priority.{Priority}
 use Rattle.occ_process.specs.declared.tree.Priority.TheVariants as priority
 use Rattle.occ_process.specs.declared.tree.ProcedureHead.{ProcedureHead}
@@ -48,6 +47,8 @@ use Rattle.occ_process.specs.declared.tree.VariantItem.TheVariants as variant_it
 use Rattle.occ_project.specs.declared.expanded.ExpandedBody.{ExpandedBody}
 use Rattle.occ_project.specs.declared.expanded.ExpandedBody.TheVariants as body
 use Rattle.occ_project.specs.declared.expanded.ExpandedLine.{ExpandedLine}
+use Rattle.occ_project.specs.declared.expanded.Place.{Place}
+use Rattle.occ_project.specs.Places.{place_of}
 use Rattle.occ_specifications.specs.declared.tree.Head.TheVariants as head
 use Rattle.occ_specifications.specs.declared.tree.Specification.TheVariants as specification
 use Rattle.occ_specifications.specs.declared.tree.Specified.TheVariants as specified
@@ -234,9 +235,6 @@ abbrev pub listing : List Spec → List ExpandedLine
 listing ss = lines 0 (specs ss Empty)
 
 -- those of a line of a unit and of the lines right under it
-abbrev pub place_of : ExpandedLine → Place
-place_of l = record { file = l.file; line = l.line }
-
 abbrev pub node_step : Node-F Laid → Laid
 node_step n k = Line (place_of n.line) n.line.body (one_behind_other n.children Empty) k
 

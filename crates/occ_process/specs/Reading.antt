@@ -9,7 +9,7 @@ use Rattle.occ_forms.specs.declared.tree.Part.TheVariants as part
 use Rattle.occ_process.specs.declared.scoped.Scoped.{Scoped}
 use Rattle.occ_process.specs.declared.scoped.Scoped.TheVariants as scoped_as
 use Rattle.occ_process.specs.declared.scoped.Value.{Value}
-use Rattle.occ_process.specs.declared.tree.Place.{Place}
+use Rattle.occ_project.specs.declared.expanded.Place.{Place}
 use Rattle.occ_process.specs.Layout.{Empty, Laid, Layout, Line, body_of, nodes, one_behind_other, parent, result_line, spec}
 use Rattle.occ_process.specs.Standing.{IsItem}
 use Rattle.occ_tree.specs.declared.row.Row.TheVariants as row

@@ -15,9 +15,10 @@ use super::line::{first_item, main_line};
 use super::scoped::{Scoped, read_body};
 use super::selection::variants;
 use super::spec::specs;
-use super::tree::{Alternative, Body, Guard, Place, Process};
+use super::tree::{Alternative, Body, Guard, Process};
 use occ_base::{Boxed, Items};
 use occ_expressions::{Element, Expr};
+use occ_project::Place;
 use occ_tree::Node;
 use std::alloc::{AllocError, Global};
 

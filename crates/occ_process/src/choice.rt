@@ -12,9 +12,10 @@ use super::form::condition;
 use super::line::{first_item, main_line};
 use super::scoped::{Scoped, read_body};
 use super::spec::specs;
-use super::tree::{Body, Choice, Place, Process};
+use super::tree::{Body, Choice, Process};
 use occ_base::{Boxed, Items};
 use occ_expressions::Expr;
+use occ_project::Place;
 use occ_tree::Node;
 use std::alloc::{AllocError, Global};
 

@@ -16,8 +16,9 @@ use super::line::{last_line, open_line};
 use super::process::process;
 use super::scoped::{Scoped, Value, read_body};
 use super::spec::specs;
-use super::tree::{Body, FunctionResult, Place, Spec};
+use super::tree::{Body, FunctionResult, Spec};
 use occ_base::{Boxed, Items};
+use occ_project::Place;
 use occ_tree::Node;
 use std::alloc::{AllocError, Global};
 

@@ -18,7 +18,6 @@ mod unit;
 
 pub use tree::{
     Alternative, Body, CaseOption, Choice, Ends, FieldGroup, FunctionResult, Guard, Order, Packing,
-    Place, Priority, ProcedureHead, Process, Record, Spec, Tag, TagItem, Tags, Variant,
-    VariantItem,
+    Priority, ProcedureHead, Process, Record, Spec, Tag, TagItem, Tags, Variant, VariantItem,
 };
 pub use unit::unit_specs;

@@ -6,9 +6,8 @@ ghost use Rattle.occ_tree.specs.declared.row.Row.{Row};
 ghost use Rattle.occ_tree.specs.declared.tree.Node.{Node as ANode};
 ghost use Rattle.std.specs.Prelude.{IfSome, MatchOption, [], drop, false, length, take, ◌+◌, ◌++◌, ◌<◌, ◌∷◌, ◌≡◌, ◌≤◌};
 
-use super::tree::Place;
 use occ_forms::Form;
-use occ_project::{ExpandedBody, ExpandedLine};
+use occ_project::{ExpandedBody, ExpandedLine, Place};
 use occ_tree::Node;
 
 /// A line with its form, and the nodes right under it.
@@ -17,17 +16,6 @@ pub struct Opened<'a> {
     pub place: Place,
     pub form: &'a Form,
     pub under: &'a [Node],
-}
-
-/// Where the line stands.
-pub fn place_of(line: &ExpandedLine) -> Place
-    ensures file { result.file ≡ line.now.file }
-    ensures line { result.line ≡ line.now.line }
-{
-    Place {
-        file: line.file,
-        line: line.line,
-    }
 }
 
 /// The first node and those behind it.
@@ -133,7 +121,7 @@ pub fn open_line(node: &Node) -> Option<Opened<'_>>
 {
     match &node.line.body {
         ExpandedBody::Form(form) => Some(Opened {
-            place: place_of(&node.line),
+            place: node.line.place(),
             form: form.get(),
             under: node.children.as_slice(),
         }),

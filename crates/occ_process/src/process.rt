@@ -16,10 +16,11 @@ use super::detail::call;
 use super::line::open_line;
 use super::scoped::{Scoped, read_body};
 use super::selection::{options, variants};
-use super::tree::{Order, Place, Priority, Process};
+use super::tree::{Order, Priority, Process};
 use occ_base::Boxed;
 use occ_expressions::Expr;
 use occ_forms::{Action, Construct, Form, Kind, Replicator};
+use occ_project::Place;
 use occ_tree::Node;
 use std::alloc::{AllocError, Global};
 

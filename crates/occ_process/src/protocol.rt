@@ -12,8 +12,9 @@ ghost use Rattle.std.specs.Prelude.{IfNone, IfOk, IfSome, MatchOption, [], false
 use super::detail::name_and_items;
 use super::form::{declaration, is_case, packing};
 use super::line::{first_line, only_line, open_line};
-use super::tree::{FieldGroup, Packing, Place, Record, Tag, Tags};
+use super::tree::{FieldGroup, Packing, Record, Tag, Tags};
 use occ_base::Items;
+use occ_project::Place;
 use occ_tree::Node;
 use std::alloc::{AllocError, Global};
 

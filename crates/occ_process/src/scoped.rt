@@ -4,8 +4,9 @@ ghost use Rattle.occ_process.specs.Standing.{IsItem};
 ghost use Rattle.occ_tree.specs.declared.row.Row.TheVariants as row;
 ghost use Rattle.std.specs.Prelude.{IfNone, IfOk, IfSome, ◌+◌};
 
-use super::tree::{Body, FunctionResult, Place, Spec};
+use super::tree::{Body, FunctionResult, Spec};
 use occ_base::{Boxed, Items};
+use occ_project::Place;
 use occ_tree::Node;
 use std::alloc::{AllocError, Global};
 

@@ -13,9 +13,10 @@ use super::form::{expressions, is_else};
 use super::line::{first_item, main_line};
 use super::scoped::{Scoped, read_body};
 use super::spec::specs;
-use super::tree::{CaseOption, Place, Variant};
+use super::tree::{CaseOption, Variant};
 use occ_base::{Boxed, Items};
 use occ_expressions::Expr;
+use occ_project::Place;
 use occ_tree::Node;
 use std::alloc::{AllocError, Global};
 

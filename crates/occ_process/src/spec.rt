@@ -11,12 +11,12 @@ ghost use Rattle.occ_tree.specs.declared.row.Row.TheVariants as row;
 ghost use Rattle.std.specs.Prelude.{IfNone, IfOk, IfSome, MatchOption, [], false, true, ◌+◌, ◌∷◌, ◌≡◌, ◌≤◌};
 
 use super::form::{head, is_close, specification};
-use super::line::{first_line, open_line, place_of};
+use super::line::{first_line, open_line};
 use super::protocol::{record, tags};
 use super::scoped::{Scoped, read_body, read_value};
-use super::tree::{Ends, Place, ProcedureHead, Spec};
+use super::tree::{Ends, ProcedureHead, Spec};
 use occ_base::{Boxed, Items};
-use occ_project::ExpandedBody;
+use occ_project::{ExpandedBody, Place};
 use occ_specifications::Head;
 use occ_tree::Node;
 use std::alloc::{AllocError, Global};
@@ -58,7 +58,7 @@ fn one_line(node: &Node) -> Option<Spec<'_>>
     if !node.children.as_slice().is_empty() {
         return None;
     }
-    let place = place_of(&node.line);
+    let place = node.line.place();
     match &node.line.body {
         ExpandedBody::Uses(units) => Some(Spec::Uses(place, units)),
         ExpandedBody::Form(form) => match specification(form.get()) {

@@ -1,15 +1,8 @@
 use occ_base::{Boxed, FileName, Items, Name};
 use occ_expressions::{Builtin, DataForm, Dimension, Element, Expr, TypeForm};
 use occ_forms::{Action, Input, Replicator};
+use occ_project::Place;
 use occ_specifications::{FormalGroup, FunctionHead, Inlined, Specification};
-
-/// Where a line stands.
-#[derive(Clone, Copy, Debug)]
-pub struct Place {
-    pub file: FileName,
-    /// The line of that file on which it begins, from 1.
-    pub line: u32,
-}
 
 /// The order in which the processes of a block run.
 #[derive(Clone, Copy, Debug, PartialEq, Eq)]

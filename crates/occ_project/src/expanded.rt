@@ -1,3 +1,4 @@
+ghost use Rattle.occ_project.specs.Places.{place_of};
 ghost use Rattle.occ_project.specs.Uses.{units_of};
 ghost use Rattle.std.specs.Prelude.{◌≡◌};
 
@@ -15,6 +16,14 @@ pub enum ExpandedBody {
     Fault(Code),
 }
 
+/// Where a line stands.
+#[derive(Clone, Copy, Debug)]
+pub struct Place {
+    pub file: FileName,
+    /// The line of that file on which it begins, from 1.
+    pub line: u32,
+}
+
 /// A line of an expansion.
 #[derive(Debug, Drop)]
 pub struct ExpandedLine {
@@ -28,6 +37,16 @@ pub struct ExpandedLine {
 }
 
 impl ExpandedLine {
+    /// Where it stands.
+    pub fn place(&self) -> Place
+        ensures { result ≡ place_of self.now }
+    {
+        Place {
+            file: self.file,
+            line: self.line,
+        }
+    }
+
     /// The units that a `#USE` names, in order; any other line names none.
     pub fn units(&self) -> &[FileName]
         ensures { result.now ≡ units_of self.now }

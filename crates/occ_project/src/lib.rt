@@ -11,7 +11,7 @@ mod names;
 mod reads;
 mod rows;
 
-pub use expanded::{Expanded, ExpandedBody, ExpandedLine};
+pub use expanded::{Expanded, ExpandedBody, ExpandedLine, Place};
 pub use expansion::{ExpandFault, expand, expand_over};
 pub use reads::{Read, Reads};
 pub use rows::{fault_rows, include_rows, limit_rows, read_rows, use_rows};

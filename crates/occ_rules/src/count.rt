@@ -6,16 +6,10 @@ ghost use Rattle.occ_terms.specs.Terms.{judged_all};
 
 use super::abbreviate::abbreviated;
 use occ_base::{Code, Items};
-use occ_operators::{Fault, Kind, tell};
+use occ_operators::{Fault, Kind, is_faulty, tell};
 use occ_terms::Term;
 use occ_types::is_data;
 use std::alloc::{AllocError, Global};
-
-fn is_faulty(kind: &Kind) -> bool
-    ensures { result ≡ faulty kind.now }
-{
-    matches!(kind, Kind::Faulty)
-}
 
 /// A target for which there is perhaps no value: T2 is told of one that is no data. Whether it is faulty then.
 fn held(kind: &Kind, faults: &mut Items<Fault>) -> Result<bool, AllocError>

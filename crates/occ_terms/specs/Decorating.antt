@@ -1,5 +1,5 @@
 -- Tables, characters and strings with their type behind them.
-use Rattle.std.specs.Prelude.{ℕ, ◌==◌, Option, Some, None, List, [], ◌∷◌, ◌++◌, length, map, if◌then◌else◌}
+use Rattle.std.specs.Prelude.{ℕ, ◌==◌, Bool, Option, Some, None, List, [], ◌∷◌, ◌++◌, length, map, if◌then◌else◌}
 use Rattle.std.specs.List.{list_any}
 use Rattle.occ_base.specs.declared.code.Code.TheVariants as code
 use Rattle.occ_types.specs.Fits.{alike, counts_fit, unnamed}
@@ -46,11 +46,11 @@ abbrev pub of_values : OccType → List Field → List Judged → Told
 of_values to fs xs = with_items (field_values fs xs) (whole to)
 
 -- more or fewer values than fields: that is told first, and then no type is wanted of them
-abbrev pub number_faults : List Judged → List Fault
-number_faults xs = if list_any has_fault xs then [] else nameless code.T4 ∷ []
+abbrev pub number_faults : Bool → List Fault
+number_faults is_silent = if is_silent then [] else nameless code.T4 ∷ []
 
 abbrev pub of_another_number : List Judged → Told
-of_another_number xs = record { faults = number_faults xs ++ all_faults (map alone xs); kind = k.Faulty }
+of_another_number xs = record { faults = number_faults (list_any has_fault xs) ++ all_faults (map alone xs); kind = k.Faulty }
 
 abbrev pub of_record : OccType → List Field → List Judged → Told
 of_record to fs xs =

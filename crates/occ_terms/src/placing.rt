@@ -6,7 +6,7 @@ ghost use Rattle.occ_terms.specs.Terms.{has_fault as fault_in, is_no_data as no_
 
 use super::term::Term;
 use occ_base::{Code, Items};
-use occ_operators::{Fault, Kind, tell};
+use occ_operators::{Fault, Kind, is_faulty, tell};
 use occ_types::is_data;
 use std::alloc::AllocError;
 
@@ -48,7 +48,7 @@ pub fn has_fault(term: &Term) -> bool
     ensures { result ≡ fault_in (judged term.now) }
 {
     match term {
-        Term::Single(kind) => matches!(kind, Kind::Faulty),
+        Term::Single(kind) => is_faulty(kind),
         Term::Table(items) => any_has_fault(items.as_slice()),
     }
 }

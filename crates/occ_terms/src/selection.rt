@@ -1,5 +1,4 @@
 ghost use Rattle.std.specs.Prelude.{◌≡◌, ◌++◌, IfOk, OnOk};
-ghost use Rattle.occ_operators.specs.Operators.{is_faulty as faulty};
 ghost use Rattle.occ_terms.specs.Segments.{bound as told_bound, constant_of as the_constant, count_of as the_count, ends_behind as end_is_behind, for_count as told_for, from_base as told_from, from_for as told_from_for, is_beyond as beyond, is_negative as negative, no_part as told_no_part, no_parts as told_no_parts, no_segment as told_no_segment, segment as told_segment, segment_within as told_within, taken as told_taken, to_the_end as the_rest};
 ghost use Rattle.occ_terms.specs.Terms.{judged};
 
@@ -7,7 +6,7 @@ use super::dimension::number_in;
 use super::table::under;
 use super::term::Term;
 use occ_base::{Code, Items, Shared};
-use occ_operators::{Fault, Kind, int, known, tell};
+use occ_operators::{Fault, Kind, int, is_faulty, known, tell};
 use occ_types::{OccType, array_of, unnamed};
 use std::alloc::{AllocError, Global};
 
@@ -40,12 +39,6 @@ fn wide(n: Option<i64>) -> Option<i128>
         Some(n) => Some(i128::from(n)),
         None => None,
     }
-}
-
-fn is_faulty(kind: &Kind) -> bool
-    ensures { result ≡ faulty kind.now }
-{
-    matches!(kind, Kind::Faulty)
 }
 
 /// How many components there are from a base to the end.

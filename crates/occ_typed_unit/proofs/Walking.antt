@@ -5,7 +5,7 @@ use Rattle.occ_names.specs.declared.scope.Scope.{Scope}
 use Rattle.occ_tree.specs.Forest.{forest_of}
 use Rattle.occ_tree.specs.declared.tree.Node.{Node, out-Node}
 use Rattle.occ_typed_unit.specs.Lines.{line_with, own_process, processes, typed_lines}
-use Rattle.occ_typed_unit.specs.declared.tree.Place.{Place}
+use Rattle.occ_project.specs.declared.expanded.Place.{Place}
 use Rattle.occ_typed_unit.specs.declared.tree.TypedLine.{TypedLine}
 use Rattle.occ_typing.specs.Units.{behind_line, judged}
 use Rattle.occ_typing.specs.declared.parent.Parent.{Parent}

@@ -7,13 +7,14 @@ use Rattle.occ_names.specs.declared.scope.Scope.{Scope}
 use Rattle.occ_project.specs.declared.expanded.ExpandedBody.{ExpandedBody}
 use Rattle.occ_project.specs.declared.expanded.ExpandedBody.TheVariants as body
 use Rattle.occ_project.specs.declared.expanded.ExpandedLine.{ExpandedLine}
+use Rattle.occ_project.specs.declared.expanded.Place.{Place}
+use Rattle.occ_project.specs.Places.{place_of}
 use Rattle.occ_tree.specs.Forest.{Forest, Empty, Tree}
 use Rattle.occ_typing.specs.Lines.{Judged}
 use Rattle.occ_typing.specs.Units.{behind_line, judged}
 use Rattle.occ_typing.specs.declared.parent.Parent.{Parent}
 use Rattle.occ_typing.specs.declared.parent.Parent.TheVariants as parent
 use Rattle.occ_typed_unit.specs.Forms.{line_form}
-use Rattle.occ_typed_unit.specs.declared.tree.Place.{Place}
 use Rattle.occ_typed_unit.specs.declared.tree.TypedLine.{TypedLine, roll-TypedLine}
 
 -- ---- processes, in the order of the listing: actions and constructs. An instance of a procedure is one too, and a guard
@@ -32,9 +33,6 @@ abbrev pub is_process : ExpandedBody → Bool
 is_process (body.Form f) = is_process_form f
 is_process (body.Uses units) = false
 is_process (body.Fault code) = false
-
-abbrev pub place_of : ExpandedLine → Place
-place_of l = record { file = l.file; line = l.line }
 
 abbrev pub own_process : ExpandedLine → List Place
 own_process l = if is_process l.body then place_of l ∷ [] else []

@@ -5,7 +5,8 @@ use Rattle.occ_project.specs.declared.expanded.ExpandedLine.{ExpandedLine}
 use Rattle.occ_typing.specs.Lines.{Judged}
 use Rattle.occ_typing.specs.declared.parent.Parent.{Parent}
 use Rattle.occ_typed_unit.specs.Forms.{line_form}
-use Rattle.occ_typed_unit.specs.Lines.{place_of, process_number}
+use Rattle.occ_project.specs.Places.{place_of}
+use Rattle.occ_typed_unit.specs.Lines.{process_number}
 use Rattle.occ_typed_unit.specs.declared.tree.TypedLine.{TypedLine, roll-TypedLine}
 use Rattle.occ_typed_unit.specs.declared.walk.Opened.{Opened}
 

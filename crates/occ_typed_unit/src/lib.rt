@@ -7,5 +7,5 @@ mod tree;
 mod unit;
 mod walk;
 
-pub use tree::{Place, ProcessId, TypedForm, TypedLine};
+pub use tree::{ProcessId, TypedForm, TypedLine};
 pub use unit::{Import, TypeFault, Typed, type_unit};

@@ -1,17 +1,10 @@
-use occ_base::{Boxed, FileName, Items};
+use occ_base::{Boxed, Items};
 use occ_names::Entry;
+use occ_project::Place;
 use occ_typed::{TypedElement, TypedExpr};
 
 /// The number of a process of a unit, from 0, in the order of its listing.
 pub type ProcessId = usize;
-
-/// Where a line stands.
-#[derive(Clone, Copy, Debug)]
-pub struct Place {
-    pub file: FileName,
-    /// The line of that file on which it begins, from 1.
-    pub line: u32,
-}
 
 /// What a line is, once its names and expressions are typed.
 #[derive(Debug, Drop)]

@@ -3,10 +3,11 @@ ghost use Rattle.occ_typed_unit.specs.Units.{IsTypedTree, Refuses};
 ghost use Rattle.occ_typed_unit.specs.declared.unit.TypeFault.TheVariants.{Memory};
 ghost use Rattle.std.specs.Prelude.{◌≡◌, IfErr, IfOk};
 
-use super::tree::{Place, TypedLine};
+use super::tree::TypedLine;
 use super::walk::lines;
 use occ_base::{Diag, FileName, Items, Shared};
 use occ_names::Scope;
+use occ_project::Place;
 use occ_tree::Unit;
 use occ_types::Interface;
 use occ_typing::{Parent, type_faults};

@@ -3,20 +3,20 @@
 ghost use Rattle.occ_names.specs.Visible.{back_to, with_all};
 ghost use Rattle.occ_tree.specs.Forest.{forest_of};
 ghost use Rattle.occ_tree.specs.declared.tree.Node.{out-Node};
-ghost use Rattle.occ_typed_unit.specs.Lines.{is_process as counts, is_process_form as counts_form, line_with, own_process, place_of as where_it_stands, process_number, processes, typed_line, typed_lines as told_lines};
+ghost use Rattle.occ_typed_unit.specs.Lines.{is_process as counts, is_process_form as counts_form, line_with, own_process, process_number, processes, typed_line, typed_lines as told_lines};
 ghost use Rattle.occ_typed_unit.specs.Forms.{line_form as told_form};
 ghost use Rattle.occ_typed_unit.specs.Opening.{with_children, opened_at};
 ghost use Rattle.occ_typing.specs.Units.{behind_line as told_behind, judged as told_judged};
 ghost use Rattle.std.specs.Prelude.{◌≡◌, ◌+◌, ◌∷◌, ◌++◌, [], IfOk, OnOk, length};
 
 use super::form::line_form;
-use super::tree::{Place, ProcessId, TypedForm, TypedLine};
+use super::tree::{ProcessId, TypedForm, TypedLine};
 use occ_base::{Boxed, Items};
 use occ_forms::Form;
 use occ_names::{Entry, Scope};
-use occ_project::{ExpandedBody, ExpandedLine};
+use occ_project::{ExpandedBody, ExpandedLine, Place};
 use occ_tree::Node;
-use occ_typing::{Line, Parent, judged};
+use occ_typing::{Line, Parent, go_behind, judged};
 use std::alloc::{AllocError, Global};
 
 /// Whether a line of this form is a process.
@@ -43,16 +43,6 @@ fn is_process(body: &ExpandedBody) -> bool
     }
 }
 
-/// Where a line stands.
-fn place_of(line: &ExpandedLine) -> Place
-    ensures { result ≡ where_it_stands line.now }
-{
-    Place {
-        file: line.file,
-        line: line.line,
-    }
-}
-
 /// The number of a line, if it is a process, which is then listed behind the others.
 fn number(line: &ExpandedLine, places: &mut Items<Place>) -> Result<Option<ProcessId>, AllocError>
     ensures number { IfOk result (λ number. number ≡ process_number (length places.old) line.now) }
@@ -62,7 +52,7 @@ fn number(line: &ExpandedLine, places: &mut Items<Place>) -> Result<Option<Proce
         return Ok(None);
     }
     let number = places.len();
-    places.push(place_of(line))?;
+    places.push(line.place())?;
     Ok(Some(number))
 }
 
@@ -118,7 +108,7 @@ fn open(
 {
     let (form, line) = judged_form(alloc, node, parent, scope)?;
     let process = number(&node.line, places)?;
-    let place = place_of(&node.line);
+    let place = node.line.place();
     let Line {
         parent,
         enters,
@@ -136,24 +126,6 @@ fn open(
             adds,
         },
     ))
-}
-
-/// What stands in scope behind a line, where so many specifications stood in scope round its item.
-fn go_behind(
-    alloc: Global,
-    adds: &Option<Items<Entry>>,
-    outer: usize,
-    scope: &mut Scope,
-) -> Result<(), AllocError>
-    ensures { OnOk result (scope.new ≡ told_behind (back_to outer scope.old) scope.old adds.now) }
-{
-    match adds {
-        None => {
-            scope.leave_to(outer);
-            Ok(())
-        }
-        Some(adds) => scope.enter_all(alloc, adds.as_slice()),
-    }
 }
 
 /// The line with those under it, behind others, and what its parent says of the lines behind it; so many specifications

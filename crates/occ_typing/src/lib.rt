@@ -20,3 +20,4 @@ pub use judge::judged;
 pub use laws::place_law;
 pub use parent::{Choosing, Line, Parent};
 pub use unit::type_faults;
+pub use walk::go_behind;

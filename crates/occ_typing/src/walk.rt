@@ -15,13 +15,13 @@ use occ_tree::Node;
 use std::alloc::{AllocError, Global};
 
 /// What stands in scope behind a line, where so many specifications stood in scope round its item.
-fn go_behind(
+pub fn go_behind(
     alloc: Global,
-    adds: Option<Items<Entry>>,
+    adds: &Option<Items<Entry>>,
     outer: usize,
     scope: &mut Scope,
 ) -> Result<(), AllocError>
-    ensures { OnOk result (scope.new ≡ told_behind (back_to outer scope.old) scope.old adds) }
+    ensures { OnOk result (scope.new ≡ told_behind (back_to outer scope.old) scope.old adds.now) }
 {
     match adds {
         None => {
@@ -87,7 +87,7 @@ fn line(
         found,
     )?;
     place(alloc, &node.line, faults.as_slice(), found)?;
-    go_behind(alloc, line.adds, outer, scope)?;
+    go_behind(alloc, &line.adds, outer, scope)?;
     Ok(line.next)
 }
 
