@@ -153,23 +153,23 @@ call_faults name (Some (m.Function formals results)) = nameless code.S1 ∷ []
 call_faults name (Some (m.Element whole)) = (record { code = code.N2; name = Some name }) ∷ []
 
 -- no types are wanted of the arguments
-unfoldable pub call : Scope → List ℕ → List ExprView → Told
-call s name es = record { faults = call_faults name (visible s name) ++ own_faults (in_scope s es); kind = k.Faulty }
+unfoldable pub function_call : Scope → List ℕ → List ExprView → Told
+function_call s name es = record { faults = call_faults name (visible s name) ++ own_faults (in_scope s es); kind = k.Faulty }
 
 abbrev pub argument_as : OccType → Said → Told
 argument_as to x = after x.faults (converted (Some to) (judged x.term))
 
 abbrev pub call_of_type : Scope → List ℕ → List ExprView → OccType → Option ExprView → Told
-call_of_type s name es to None = call s name es
+call_of_type s name es to None = function_call s name es
 call_of_type s name es to (Some e) = argument_as to (e.said s)
 
-abbrev pub whole_call_of : Scope → List ℕ → List ExprView → Option Meaning → Told
-whole_call_of s name es (Some (m.Type to)) = call_of_type s name es to (only es)
-whole_call_of s name es meaning = call s name es
+abbrev pub call_of : Scope → List ℕ → List ExprView → Option Meaning → Told
+call_of s name es (Some (m.Type to)) = call_of_type s name es to (only es)
+call_of s name es meaning = function_call s name es
 
--- `n (e)` as a whole expression: a conversion, if n is a data type
-unfoldable pub whole_call : Scope → List ℕ → List ExprView → Told
-whole_call s name es = whole_call_of s name es (visible s name)
+-- `n (e, ..)`: a conversion, if n is a data type and has one argument
+unfoldable pub call : Scope → List ℕ → List ExprView → Told
+call s name es = call_of s name es (visible s name)
 
 abbrev pub table_of_one_as : OccType → Said → Told
 table_of_one_as to x = let y = table (x ∷ []) in after y.faults (converted (Some to) (judged y.term))

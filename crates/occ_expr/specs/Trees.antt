@@ -30,7 +30,7 @@ use Rattle.occ_expressions.specs.declared.tree.MonadicOperator.TheVariants as mo
 use Rattle.occ_expressions.specs.declared.tree.PairOperator.{PairOperator}
 use Rattle.occ_expressions.specs.declared.tree.PairOperator.TheVariants as po
 use Rattle.occ_expr.specs.Operations.{pair_operator, plain}
-use Rattle.occ_expr.specs.Parts.{ExprView, Wish, named, only, subscript, table, whole_call, whole_element}
+use Rattle.occ_expr.specs.Parts.{ExprView, Wish, call, named, only, subscript, table, whole_element}
 
 -- ---- what is known of an expression of which a type is wanted, or none is
 
@@ -162,6 +162,6 @@ abbrev pub converted_call_tree : Scope → Kind → Option Meaning → List Expr
 converted_call_tree s whole (Some (meaning.Type to)) es = converted_argument_tree s whole (only es)
 converted_call_tree s whole found es = typed.Unknown
 
--- `n (e, ..)` as a whole expression
-unfoldable pub whole_call_tree : Scope → List ℕ → List ExprView → TypedExpr
-whole_call_tree s name es = converted_call_tree s (whole_call s name es).kind (visible s name) es
+-- `n (e, ..)`
+unfoldable pub call_tree : Scope → List ℕ → List ExprView → TypedExpr
+call_tree s name es = converted_call_tree s (call s name es).kind (visible s name) es

@@ -31,8 +31,8 @@ use Rattle.occ_expressions.specs.declared.tree.RunOperator.{RunOperator}
 use Rattle.occ_expressions.specs.declared.tree.TypeForm.{TypeForm}
 use Rattle.occ_expr.specs.Literals.{decorated_literal, literal, truth}
 use Rattle.occ_expr.specs.Operations.{applied, converted, extreme_of, operation, pair, pair_operator, run_operator}
-use Rattle.occ_expr.specs.Parts.{ExprView, Said, SaidBounds, Wish, after, call, in_scope, named_element, own_faults, segment_element, segment_within, single, table, table_with_type, terms, whole_call, whole_element}
-use Rattle.occ_expr.specs.Trees.{applied_tree, element_tree, kind_under, left_wish, named_selectors, operand_wish, place_tree, right_wish, selectors, table_tree, whole_call_tree, whole_element_tree}
+use Rattle.occ_expr.specs.Parts.{ExprView, Said, SaidBounds, Wish, after, call, in_scope, named_element, own_faults, segment_element, segment_within, single, table, table_with_type, terms, whole_element}
+use Rattle.occ_expr.specs.Trees.{applied_tree, call_tree, element_tree, kind_under, left_wish, named_selectors, operand_wish, place_tree, right_wish, selectors, table_tree, whole_element_tree}
 use Rattle.occ_expr.specs.Written.{Spanning, Written, array_over, array_over_more, channel, data_form, counted_channel, extent_of, open_dimension, primitive_of}
 use Rattle.occ_expr.specs.declared.written.Opening.{Opening}
 use Rattle.occ_expr.specs.declared.written.Opening.TheVariants as opening
@@ -203,15 +203,7 @@ operand_step (Operand-F.Operand::DecoratedTable e es of) =
     either_way
     (λ s. single (table_with_type (e.said s ∷ in_scope s es) (of opening.Refused s)))
     (tabled (λ s. single (table_with_type (e.said s ∷ in_scope s es) (of opening.Refused s))) (e ∷ es))
-operand_step (Operand-F.Operand::Call name es) =
-    record {
-      name = None;
-      digits = None;
-      said = λ s. single (call s name es);
-      whole = λ s. single (whole_call s name es);
-      tree = λ s wish. typed.Unknown;
-      whole_tree = λ s wish. whole_call_tree s name es;
-    }
+operand_step (Operand-F.Operand::Call name es) = either_way (λ s. single (call s name es)) (λ s wish. call_tree s name es)
 
 -- a literal behind the name of a type, with its type or without
 abbrev pub named_literal : (Scope → Said) → NamedOperandView
@@ -232,7 +224,7 @@ named_operand_step (NamedOperand-F.NamedOperand::DecoratedTable e es of) =
       said = λ s. single (table_with_type (e.said s ∷ in_scope s es) (of opening.Refused s));
       tree = tabled (λ s. single (table_with_type (e.said s ∷ in_scope s es) (of opening.Refused s))) (e ∷ es);
     }
-named_operand_step (NamedOperand-F.NamedOperand::Call name es) = record { said = λ s. single (call s name es); tree = λ s wish. typed.Unknown }
+named_operand_step (NamedOperand-F.NamedOperand::Call name es) = record { said = λ s. single (call s name es); tree = λ s wish. call_tree s name es }
 
 -- ---- expressions
 

@@ -5,13 +5,14 @@
 mod literals;
 mod operation;
 mod parts;
+pub mod rows;
 mod walk;
 mod written;
 
 pub use operation::{pair_operator, plain, run_operator};
 pub use parts::{digits_of, name_alone, named, only, segment_of};
 pub use walk::{
-    bounds, data_form, element, expression, named_operand, operand, subscript, table_item,
-    type_form, whole_call, whole_element, whole_operand,
+    bounds, call, data_form, element, expression, named_operand, operand, subscript, table_item,
+    type_form, whole_element, whole_operand,
 };
 pub use written::{Extent, Opening};

@@ -4,7 +4,7 @@ ghost use Rattle.occ_names.specs.Lookup.{data_type as data_type_named};
 ghost use Rattle.occ_names.specs.Visible.{visible};
 ghost use Rattle.occ_types.specs.Fits.{unnamed as no_names};
 ghost use Rattle.occ_types.specs.View.{fields_in};
-ghost use Rattle.occ_expr.specs.Parts.{call as told_call, component as told_component, behind_a_fault as told_behind_a_fault, in_scope, named_element as told_named_element, own_faults, part as told_part, subscript as told_subscript, subscripts as told_subscripts, table_item as said_item, table_items as said_items, terms as terms_of, whole_call as told_whole_call, whole_element as told_whole_element};
+ghost use Rattle.occ_expr.specs.Parts.{call as told_call, component as told_component, behind_a_fault as told_behind_a_fault, function_call as told_function_call, in_scope, named_element as told_named_element, own_faults, part as told_part, subscript as told_subscript, subscripts as told_subscripts, table_item as said_item, table_items as said_items, terms as terms_of, whole_element as told_whole_element};
 ghost use Rattle.occ_expr.specs.Views.{bounds_view, builtin_view, dimension_view, dimension_views, each, element_view, expr_view, expr_views, named_operand_view, operand_view, operand_views, operands as said_operands, type_form_view};
 ghost use Rattle.occ_expr.specs.Written.{all_spanning_faults, array_behind as written_behind, array_over as written_over, channel as written_channel, data_form as written_data, extents as the_extents};
 
@@ -189,19 +189,13 @@ pub fn whole_operand(
             scope,
             faults,
         )?)),
-        Operand::Call(name, arguments) => Ok(Term::Single(whole_call(
-            alloc,
-            name,
-            arguments.as_slice(),
-            scope,
-            faults,
-        )?)),
         Operand::Literal(_) => operand(alloc, whole, scope, faults),
         Operand::Decorated(_, _) => operand(alloc, whole, scope, faults),
         Operand::Truth(_) => operand(alloc, whole, scope, faults),
         Operand::Parens(_) => operand(alloc, whole, scope, faults),
         Operand::Table(_, _) => operand(alloc, whole, scope, faults),
         Operand::DecoratedTable(_, _, _) => operand(alloc, whole, scope, faults),
+        Operand::Call(_, _) => operand(alloc, whole, scope, faults),
     }
 }
 
@@ -242,8 +236,8 @@ pub fn named_operand(
             let kind = table_as(alloc, items.as_slice(), to, faults)?;
             Ok(Term::Single(kind))
         }
-        NamedOperand::Call(name, exprs) => {
-            let kind = call(alloc, name, exprs.as_slice(), scope, faults)?;
+        NamedOperand::Call(name, arguments) => {
+            let kind = call(alloc, name, arguments.as_slice(), scope, faults)?;
             Ok(Term::Single(kind))
         }
     }
@@ -300,10 +294,28 @@ fn arguments(
     Ok(())
 }
 
-/// A call.
+/// A call that converts nothing.
+#[tactic(auto, unfolding(crate::specs::Parts::function_call))]
+#[cycle(walk)]
+fn function_call(
+    alloc: Global,
+    name: &Name,
+    exprs: &[Expr],
+    scope: &Scope,
+    faults: &mut Items<Fault>,
+) -> Result<Kind, AllocError>
+    ensures kind { IfOk result (λ kind. kind ≡ (told_function_call scope.now name.now (expr_views exprs.now)).kind) }
+    ensures faults { OnOk result (faults.new ≡ faults.old ++ (told_function_call scope.now name.now (expr_views exprs.now)).faults) }
+{
+    tell_call(alloc, scope, name, faults)?;
+    arguments(alloc, exprs, scope, faults)?;
+    Ok(Kind::Faulty)
+}
+
+/// What is known of a call: it is a conversion, if it names a data type and has one argument.
 #[tactic(auto, unfolding(crate::specs::Parts::call))]
 #[cycle(walk)]
-fn call(
+pub fn call(
     alloc: Global,
     name: &Name,
     exprs: &[Expr],
@@ -313,26 +325,8 @@ fn call(
     ensures kind { IfOk result (λ kind. kind ≡ (told_call scope.now name.now (expr_views exprs.now)).kind) }
     ensures faults { OnOk result (faults.new ≡ faults.old ++ (told_call scope.now name.now (expr_views exprs.now)).faults) }
 {
-    tell_call(alloc, scope, name, faults)?;
-    arguments(alloc, exprs, scope, faults)?;
-    Ok(Kind::Faulty)
-}
-
-/// A call that is a whole expression: a conversion, if it names a data type and has one argument.
-#[tactic(auto, unfolding(crate::specs::Parts::whole_call))]
-#[cycle(walk)]
-pub fn whole_call(
-    alloc: Global,
-    name: &Name,
-    exprs: &[Expr],
-    scope: &Scope,
-    faults: &mut Items<Fault>,
-) -> Result<Kind, AllocError>
-    ensures kind { IfOk result (λ kind. kind ≡ (told_whole_call scope.now name.now (expr_views exprs.now)).kind) }
-    ensures faults { OnOk result (faults.new ≡ faults.old ++ (told_whole_call scope.now name.now (expr_views exprs.now)).faults) }
-{
     let (Some(Meaning::Type(to)), Some(expr)) = (scope.find(name), only(exprs)) else {
-        return call(alloc, name, exprs, scope, faults);
+        return function_call(alloc, name, exprs, scope, faults);
     };
     let term = expression(alloc, expr, scope, faults)?;
     converted(alloc, &term, Some(to.share()?), faults)

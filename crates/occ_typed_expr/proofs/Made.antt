@@ -4,6 +4,8 @@ use Rattle.occ_expressions.specs.declared.tree.Bounds.{Bounds}
 use Rattle.occ_expressions.specs.declared.tree.Element.{Element}
 use Rattle.occ_expressions.specs.declared.tree.Element.TheVariants as ev
 use Rattle.occ_expressions.specs.declared.tree.Expr.{Expr}
+use Rattle.occ_expressions.specs.declared.tree.NamedOperand.{NamedOperand}
+use Rattle.occ_expressions.specs.declared.tree.NamedOperand.TheVariants as nv
 use Rattle.occ_expressions.specs.declared.tree.Operand.{Operand}
 use Rattle.occ_expressions.specs.declared.tree.Operand.TheVariants as ov
 use Rattle.occ_names.specs.Visible.{referent}
@@ -14,15 +16,21 @@ use Rattle.occ_typed.specs.declared.expr.Selector.{Selector}
 use Rattle.occ_typed.specs.declared.expr.TypedElement.{TypedElement}
 use Rattle.occ_typed.specs.declared.expr.TypedExpr.{TypedExpr}
 use Rattle.occ_expr.specs.Parts.{Wish, segment_of}
-use Rattle.occ_expr.specs.Trees.{element_tree, selectors, whole_call_tree}
-use Rattle.occ_expr.specs.Views.{bounds_view, element_view, expr_views, operand_view, segment_selectors}
-use Rattle.occ_typed_expr.proofs.Trees.{element_segment_tree, operand_call_whole_tree}
+use Rattle.occ_expr.specs.Trees.{call_tree, element_tree, selectors}
+use Rattle.occ_expr.specs.Views.{bounds_view, element_view, expr_views, named_operand_view, operand_view, segment_selectors}
+use Rattle.occ_typed_expr.proofs.Trees.{element_segment_tree, named_operand_call_tree, operand_call_tree}
 
 pub called : (x : Operand) (name : List ℕ) (es : List Expr) (s : Scope) (w : Wish) (v : TypedExpr)
     → x ≡ ov.Call name es
-    → v ≡ whole_call_tree s name (expr_views es)
-    → v ≡ (operand_view x).whole_tree s w
-called x name es s w v is h = h ∙ sym (operand_call_whole_tree name es s w) ∙ ap (λ (y : Operand). (operand_view y).whole_tree s w) (sym is)
+    → v ≡ call_tree s name (expr_views es)
+    → v ≡ (operand_view x).tree s w
+called x name es s w v is h = h ∙ sym (operand_call_tree name es s w) ∙ ap (λ (y : Operand). (operand_view y).tree s w) (sym is)
+
+pub named_called : (x : NamedOperand) (name : List ℕ) (es : List Expr) (s : Scope) (w : Wish) (v : TypedExpr)
+    → x ≡ nv.Call name es
+    → v ≡ call_tree s name (expr_views es)
+    → v ≡ (named_operand_view x).tree s w
+named_called x name es s w v is h = h ∙ sym (named_operand_call_tree name es s w) ∙ ap (λ (y : NamedOperand). (named_operand_view y).tree s w) (sym is)
 
 abbrev pub element_tree_with : Kind → List ℕ → Option Referent → List Selector → TypedElement
 element_tree_with k name r found = record { kind = k; name = name; referent = r; selectors = found }

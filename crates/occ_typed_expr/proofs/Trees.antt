@@ -25,7 +25,7 @@ use Rattle.occ_typed.specs.declared.expr.Selector.TheVariants as by
 use Rattle.occ_typed.specs.declared.expr.TypedElement.{TypedElement}
 use Rattle.occ_typed.specs.declared.expr.TypedExpr.TheVariants as typed
 use Rattle.occ_expr.specs.Parts.{ExprView, Said, Wish}
-use Rattle.occ_expr.specs.Trees.{applied_tree, converted_element_tree, element_tree, kind_under, named_selectors, place_tree, table_tree, whole_call_tree, whole_element_tree}
+use Rattle.occ_expr.specs.Trees.{applied_tree, call_tree, converted_element_tree, element_tree, kind_under, named_selectors, place_tree, table_tree, whole_element_tree}
 use Rattle.occ_expr.specs.Views.{BoundsView, ElementView, NamedOperandView, OperandView, bounds_view, element_view, expr_view, expr_views, named_operand_view, named_tree, operand_view, operand_views, pair_tree, run_tree, segment_selectors}
 use Rattle.occ_expr.proofs.Views as views
 
@@ -168,11 +168,11 @@ operand_decorated_table_whole_tree e es ty s w =
     ap (λ (v : OperandView). v.whole_tree s w) (views.operand_decorated_table e es ty)
     ∙ ap (λ (x : Said). table_tree s (expr_view e ∷ expr_views es) (kind_under w x.term)) (sym (views.operand_decorated_table_said e es ty s))
 
-pub operand_call_tree : (name : List ℕ) (es : List Expr) (s : Scope) (w : Wish) → (operand_view (ov.Call name es)).tree s w ≡ typed.Unknown
+pub operand_call_tree : (name : List ℕ) (es : List Expr) (s : Scope) (w : Wish) → (operand_view (ov.Call name es)).tree s w ≡ call_tree s name (expr_views es)
 operand_call_tree name es s w =
     ap (λ (v : OperandView). v.tree s w) (views.operand_call name es)
 
-pub operand_call_whole_tree : (name : List ℕ) (es : List Expr) (s : Scope) (w : Wish) → (operand_view (ov.Call name es)).whole_tree s w ≡ whole_call_tree s name (expr_views es)
+pub operand_call_whole_tree : (name : List ℕ) (es : List Expr) (s : Scope) (w : Wish) → (operand_view (ov.Call name es)).whole_tree s w ≡ call_tree s name (expr_views es)
 operand_call_whole_tree name es s w =
     ap (λ (v : OperandView). v.whole_tree s w) (views.operand_call name es)
 
@@ -205,7 +205,7 @@ named_operand_decorated_table_tree e es ty s w =
     ap (λ (v : NamedOperandView). v.tree s w) (views.named_operand_decorated_table e es ty)
     ∙ ap (λ (x : Said). table_tree s (expr_view e ∷ expr_views es) (kind_under w x.term)) (sym (views.named_operand_decorated_table_said e es ty s))
 
-pub named_operand_call_tree : (name : List ℕ) (es : List Expr) (s : Scope) (w : Wish) → (named_operand_view (nv.Call name es)).tree s w ≡ typed.Unknown
+pub named_operand_call_tree : (name : List ℕ) (es : List Expr) (s : Scope) (w : Wish) → (named_operand_view (nv.Call name es)).tree s w ≡ call_tree s name (expr_views es)
 named_operand_call_tree name es s w =
     ap (λ (v : NamedOperandView). v.tree s w) (views.named_operand_call name es)
 

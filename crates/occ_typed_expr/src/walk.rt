@@ -1,5 +1,5 @@
 ghost use Rattle.std.specs.Prelude.{◌≡◌, ◌∷◌, ◌++◌, [], IfOk, OnOk, length};
-ghost use Rattle.occ_expr.specs.Trees.{applied_tree, converted_argument_tree, item_trees, item_wish as wish_of_item, kind_under as known_under, named_selectors as told_named_selectors, place_tree, selector as told_selector, selector_in, selectors as told_selectors, table_of_one_tree, table_tree, whole_call_tree};
+ghost use Rattle.occ_expr.specs.Trees.{applied_tree, call_tree as tree_of_call, converted_argument_tree, item_trees, item_wish as wish_of_item, kind_under as known_under, named_selectors as told_named_selectors, place_tree, selector as told_selector, selector_in, selectors as told_selectors, table_of_one_tree, table_tree};
 ghost use Rattle.occ_expr.specs.Views.{bounds_view, element_view, expr_view, expr_views, named_operand_view, operand_trees, operand_view, operand_views, operands as said_operands, pair_tree, run_tree};
 ghost use Rattle.occ_expr.specs.Parts.{segment_of as told_segment, terms as terms_of};
 ghost use Rattle.occ_typed.specs.declared.expr.Selector.TheVariants as by;
@@ -10,9 +10,9 @@ ghost use Rattle.occ_types.specs.View.{fields_in};
 use super::wish::{Wish, item_wish, kind_under, left_wish, operand_wish, right_wish};
 use occ_base::{Boxed, Items, Name};
 use occ_expr::{
-    bounds as bounds_said, digits_of, element as element_told, expression, name_alone,
-    named as name_told, named_operand as named_operand_said, only, operand as operand_said,
-    pair_operator, run_operator, segment_of, subscript, table_item, whole_call as call_told,
+    bounds as bounds_said, call as call_told, digits_of, element as element_told, expression,
+    name_alone, named as name_told, named_operand as named_operand_said, only,
+    operand as operand_said, pair_operator, run_operator, segment_of, subscript, table_item,
     whole_element as whole_element_told,
 };
 use occ_expressions::{
@@ -255,7 +255,7 @@ fn operand(
             items(alloc, more.as_slice(), &whole, scope, &mut trees)?;
             Ok(TypedExpr::Table(whole, trees))
         }
-        Operand::Call(_, _) => Ok(TypedExpr::Unknown),
+        Operand::Call(name, arguments) => call(alloc, name, arguments.as_slice(), scope),
     }
 }
 
@@ -290,13 +290,13 @@ fn whole_operand(
 {
     match whole {
         Operand::Element(part) => whole_element(alloc, part.get(), scope),
-        Operand::Call(name, arguments) => whole_call(alloc, name, arguments.as_slice(), scope),
         Operand::Literal(_) => operand(alloc, whole, wish, scope),
         Operand::Decorated(_, _) => operand(alloc, whole, wish, scope),
         Operand::Truth(_) => operand(alloc, whole, wish, scope),
         Operand::Parens(_) => operand(alloc, whole, wish, scope),
         Operand::Table(_, _) => operand(alloc, whole, wish, scope),
         Operand::DecoratedTable(_, _, _) => operand(alloc, whole, wish, scope),
+        Operand::Call(_, _) => operand(alloc, whole, wish, scope),
     }
 }
 
@@ -337,7 +337,7 @@ fn named_operand(
             items(alloc, more.as_slice(), &whole, scope, &mut trees)?;
             Ok(TypedExpr::Table(whole, trees))
         }
-        NamedOperand::Call(_, _) => Ok(TypedExpr::Unknown),
+        NamedOperand::Call(name, arguments) => call(alloc, name, arguments.as_slice(), scope),
     }
 }
 
@@ -375,16 +375,11 @@ fn items(
     Ok(())
 }
 
-/// The tree of a call that is a whole expression: a conversion, if it names a data type and has one argument.
-#[tactic(auto, unfolding(occ_expr::specs::Trees::whole_call_tree))]
+/// The tree of a call: a conversion, if it names a data type and has one argument.
+#[tactic(auto, unfolding(occ_expr::specs::Trees::call_tree))]
 #[cycle(walk)]
-fn whole_call(
-    alloc: Global,
-    name: &Name,
-    exprs: &[Expr],
-    scope: &Scope,
-) -> Result<TypedExpr, AllocError>
-    ensures { IfOk result (λ tree. tree ≡ whole_call_tree scope.now name.now (expr_views exprs.now)) }
+fn call(alloc: Global, name: &Name, exprs: &[Expr], scope: &Scope) -> Result<TypedExpr, AllocError>
+    ensures { IfOk result (λ tree. tree ≡ tree_of_call scope.now name.now (expr_views exprs.now)) }
 {
     let (Some(Meaning::Type(_)), Some(expr)) = (scope.find(name), only(exprs)) else {
         return Ok(TypedExpr::Unknown);

@@ -1,13 +1,18 @@
 use Rattle.std.proofs.Common.{◌∙◌, ap, refl, sym}
 use Rattle.std.proofs.lemmas.Result.{IfOk-weaker}
 use Rattle.occ_expressions.specs.declared.tree.Element.TheVariants as ev
+use Rattle.occ_expressions.specs.declared.tree.NamedOperand.TheVariants as nv
 use Rattle.occ_expressions.specs.declared.tree.Operand.TheVariants as ov
 use Rattle.occ_typed_expr.proofs.Made as made
 use Rattle.occ_typed_expr.proofs.walk.+walk.Goals as goal
 
-pub whole_operand-returns-in-Call : goal.whole_operand-returns-in-Call
-whole_operand-returns-in-Call t c =
-    IfOk-weaker c.whole_call.result _ _ (λ v h. made.called _ _ _ _ _ v (c.in-Call.is ∙ ap (λ z. ov.Call c.in-Call.name z) (sym c.as_slice.ensures)) h) c.whole_call.ensures
+pub operand-returns-in-Call : goal.operand-returns-in-Call
+operand-returns-in-Call t c =
+    IfOk-weaker c.call.result _ _ (λ v h. made.called _ _ _ _ _ v (c.in-Call.is ∙ ap (λ z. ov.Call c.in-Call.name z) (sym c.as_slice-in-Call.ensures)) h) c.call.ensures
+
+pub named_operand-returns-in-Call : goal.named_operand-returns-in-Call
+named_operand-returns-in-Call t c =
+    IfOk-weaker c.call.result _ _ (λ v h. made.named_called _ _ _ _ _ v (c.in-Call.is ∙ ap (λ z. nv.Call c.in-Call.name z) (sym c.as_slice-in-Call.ensures)) h) c.call.ensures
 
 pub typed_element-returns-in_ok-referent-in-Segment : goal.typed_element-returns-in_ok-referent-in-Segment
 typed_element-returns-in_ok-referent-in-Segment t c =
