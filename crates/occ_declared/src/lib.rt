@@ -8,6 +8,7 @@ mod form;
 mod line;
 mod mention;
 mod recording;
+pub mod rows;
 mod told;
 mod valuing;
 

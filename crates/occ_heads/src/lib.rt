@@ -7,6 +7,7 @@ mod group;
 mod heading;
 mod procedure;
 mod result_type;
+pub mod rows;
 
 pub use function::function_head;
 pub use heading::Heading;

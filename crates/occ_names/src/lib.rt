@@ -3,6 +3,7 @@
 
 mod lookup;
 mod meaning;
+pub mod rows;
 mod scope;
 
 pub use lookup::{Carried, carries, data_type, element};

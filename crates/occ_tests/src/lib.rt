@@ -12,15 +12,11 @@ mod lines;
 #[cfg(test)]
 mod names;
 #[cfg(test)]
-mod operators;
-#[cfg(test)]
 mod process;
 #[cfg(test)]
 mod project;
 #[cfg(test)]
 mod scope;
-#[cfg(test)]
-mod terms;
 #[cfg(test)]
 mod tree;
 #[cfg(test)]

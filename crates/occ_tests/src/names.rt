@@ -1,9 +1,21 @@
-use super::operators::{is_told, of};
-use occ_base::{Code, Items, Name};
+use occ_base::{Code, Items, Name, Shared};
 use occ_names::{Access, Carried, Meaning, Scope, Whole, carries, data_type, element};
-use occ_types::{Primitive, as_primitive};
+use occ_operators::Fault;
+use occ_types::{OccType, Primitive, as_primitive};
 use std::alloc::{AllocError, Global};
 use std::test::Fail;
+
+fn of(alloc: Global, primitive: Primitive) -> Result<Shared<OccType>, AllocError> {
+    Shared::new(alloc, OccType::Primitive(primitive))
+}
+
+/// Whether the one fault has this code.
+fn is_told(faults: &Items<Fault>, code: Code) -> bool {
+    match faults.as_slice().first() {
+        Some(fault) => fault.code == code && faults.len() == 1,
+        None => false,
+    }
+}
 
 /// A variable of a primitive type.
 fn variable(alloc: Global, name: &Name, primitive: Primitive) -> Result<Meaning, AllocError> {

@@ -1,5 +1,6 @@
 pub mod Placed
 pub mod Places
+pub mod Samples
 pub mod Lines
 pub mod Actions
 pub mod Constructs

@@ -12,6 +12,7 @@ mod parent;
 mod part;
 mod place;
 mod record;
+pub mod rows;
 mod specifying;
 mod unit;
 mod walk;

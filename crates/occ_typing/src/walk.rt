@@ -4,7 +4,7 @@ ghost use Rattle.occ_names.specs.Visible.{back_to, with_all};
 ghost use Rattle.occ_tree.specs.Forest.{forest_of};
 ghost use Rattle.occ_tree.specs.declared.tree.Node.{out-Node};
 ghost use Rattle.occ_typing.specs.Units.{behind_line as told_behind, judged as told_judged, line_faults, lines as told_lines};
-ghost use Rattle.std.specs.Prelude.{◌≡◌, ◌++◌, IfOk, OnOk};
+ghost use Rattle.std.specs.Prelude.{◌≡◌, ◌++◌, IfOk, OnErr, OnOk};
 
 use super::judge::judged;
 use super::parent::Parent;
@@ -21,7 +21,8 @@ pub fn go_behind(
     outer: usize,
     scope: &mut Scope,
 ) -> Result<(), AllocError>
-    ensures { OnOk result (scope.new ≡ told_behind (back_to outer scope.old) scope.old adds.now) }
+    ensures ok { OnOk result (scope.new ≡ told_behind (back_to outer scope.old) scope.old adds.now) }
+    ensures err { OnErr result (scope.new ≡ scope.old) }
 {
     match adds {
         None => {

@@ -1,0 +1,27 @@
+ghost use Rattle.std.specs.Prelude.{[], ◌∷◌, ◌≡◌, None, false};
+ghost use Rattle.occ_base.specs.Errors.{error_at};
+ghost use Rattle.occ_base.specs.declared.code.Code.TheVariants as code;
+ghost use Rattle.occ_forms.specs.declared.tree.Action.TheVariants as action;
+ghost use Rattle.occ_forms.specs.declared.tree.Construct.TheVariants as construct;
+ghost use Rattle.occ_forms.specs.declared.tree.Form.TheVariants as form;
+ghost use Rattle.occ_forms.specs.declared.tree.Kind.TheVariants as word;
+ghost use Rattle.occ_forms.specs.declared.tree.Part.TheVariants as part;
+ghost use Rattle.occ_names.specs.declared.scope.Scope.{Scope};
+ghost use Rattle.occ_operators.specs.Settling.{int, known};
+ghost use Rattle.occ_tree.specs.Forest.{Empty, Tree};
+ghost use Rattle.occ_typing.specs.Samples.{at, unit};
+ghost use Rattle.occ_typing.specs.Units.{lines};
+ghost use Rattle.occ_typing.specs.declared.parent.Parent.TheVariants as parent;
+
+/// Under a CASE with an INT for its selector, an `ELSE` at line 3 and one at line 5, each over a `SKIP`: T8 at the second.
+#[tactic(auto, unfolding(crate::specs::Units::judged))]
+pub fn else_rows()
+    ensures { (s : Scope) → lines (parent.Selection (record { selector = known int None; numbers = record { keys = [] }; otherwise = false })) s s (Tree (at 3 (form.Part part.Else)) (Tree (at 4 (form.Action action.Skip)) Empty Empty) (Tree (at 5 (form.Part part.Else)) (Tree (at 6 (form.Action action.Skip)) Empty Empty) Empty)) ≡ error_at unit 5 code.T8 None ∷ [] }
+{}
+
+/// `SEQ` over `SKIP` tells nothing; `ALT`, which typing does not know yet, is S1.
+#[tactic(auto, unfolding(crate::specs::Units::judged))]
+pub fn construct_rows()
+    ensures known { (s : Scope) → lines parent.Process s s (Tree (at 2 (form.Construct (construct.Replicable word.Sequence None))) (Tree (at 3 (form.Action action.Skip)) Empty Empty) Empty) ≡ [] }
+    ensures unknown { (s : Scope) → lines parent.Process s s (Tree (at 2 (form.Construct (construct.Replicable word.Alternation None))) Empty Empty) ≡ error_at unit 2 code.S1 None ∷ [] }
+{}
