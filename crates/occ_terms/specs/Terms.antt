@@ -116,9 +116,9 @@ has_fault x = x.is_faulty
 abbrev pub as_it_is : Kind → Told
 as_it_is k = record { faults = []; kind = k }
 
--- no type is wanted of a table beside other operands; beside one with a fault nothing is asked of it
+-- no type is wanted of a table beside other operands; beside one with a fault nothing is told of it
 abbrev pub table_beside : List Judged → Bool → Told
-table_beside xs other_has_fault = if other_has_fault then silent else table_alone xs
+table_beside xs other_has_fault = if other_has_fault then as_it_is (table_alone xs).kind else table_alone xs
 
 abbrev pub term_step : Term-F Judged → Judged
 term_step (Term-F.Single k) = record { is_free = is_free_kind k; is_faulty = is_faulty k; alone = settled int k; under = λ of. wanted of k; beside = λ other_has_fault. as_it_is k }

@@ -1,7 +1,7 @@
 #![tactic(auto, using(crate::proofs::Judging::judging_rules))]
 
 ghost use Rattle.std.specs.Prelude.{◌≡◌, ◌++◌, IfOk, OnOk};
-ghost use Rattle.occ_terms.specs.Terms.{judged};
+ghost use Rattle.occ_terms.specs.Terms.{judged, judged_all, table_alone as told_table_alone};
 
 use super::table::table_alone;
 use super::term::Term;
@@ -20,8 +20,16 @@ fn shared(kind: &Kind) -> Result<Kind, AllocError>
     }
 }
 
+/// What is known of a table of which no type is wanted, without a word of its faults.
+fn silent_table(alloc: Global, items: &[Term]) -> Result<Kind, AllocError>
+    ensures { IfOk result (λ kind. kind ≡ (told_table_alone (judged_all items.now)).kind) }
+{
+    let mut unheard = Items::new(alloc);
+    table_alone(alloc, items, &mut unheard)
+}
+
 /// An operand beside others, of which perhaps one has a fault. No type is wanted of a table there, and beside a fault
-/// nothing is asked of it.
+/// nothing is told of it.
 pub fn operand(
     alloc: Global,
     term: &Term,
@@ -33,7 +41,7 @@ pub fn operand(
 {
     match term {
         Term::Single(kind) => shared(kind),
-        Term::Table(_) if other_has_fault => Ok(Kind::Faulty),
+        Term::Table(items) if other_has_fault => silent_table(alloc, items.as_slice()),
         Term::Table(items) => table_alone(alloc, items.as_slice(), faults),
     }
 }
