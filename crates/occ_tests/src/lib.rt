@@ -4,8 +4,6 @@
 #[cfg(test)]
 mod base;
 #[cfg(test)]
-mod first;
-#[cfg(test)]
 mod forms;
 #[cfg(test)]
 mod lines;
