@@ -44,12 +44,6 @@ fn shown(alloc: Global, lines: &[ExpandedLine]) -> Result<Vec<u8>, Fail> {
     Ok(shown)
 }
 
-/// The diagnostics of shape of the text, each with a line end.
-fn faults_in(alloc: Global, text: &str) -> Result<Vec<u8>, Fail> {
-    let lines = lines_of(alloc, text)?;
-    shown(alloc, lines.as_slice())
-}
-
 /// The lines of the text so many times, each at the depth of its turn or at 0.
 fn repeated(
     alloc: Global,
@@ -71,74 +65,6 @@ fn repeated(
         }
     }
     Ok(lines)
-}
-
-#[test]
-fn tells_lines_of_wrong_depth_and_place(rt: HostRuntime) -> Result<(), Fail> {
-    let a = rt.alloc();
-    let text = "PROC p ()\n  SKIP\n:\n";
-    assert_eq!(rt; faults_in(a, text)?.as_slice(), b"".as_slice());
-    let text = "PROC p ()\n      SKIP\n:\n";
-    assert_eq!(rt;
-        faults_in(a, text)?.as_slice(),
-        b"a.occ:2 S2 error -\n".as_slice()
-    );
-    let text = "PROC p ()\n  SEQ\n    x > 0\n      SKIP\n:\n";
-    assert_eq!(rt;
-        faults_in(a, text)?.as_slice(),
-        b"a.occ:3 S2 error -\na.occ:4 S2 error -\n".as_slice()
-    );
-    Ok(())
-}
-
-#[test]
-fn tells_what_lacks_something(rt: HostRuntime) -> Result<(), Fail> {
-    let a = rt.alloc();
-    let text = "PROC p ()\n  SEQ\n    SKIP\n    INT x:\n:\n";
-    assert_eq!(rt;
-        faults_in(a, text)?.as_slice(),
-        b"a.occ:2 S2 error -\n".as_slice()
-    );
-    let text = "PROC p ()\n  SKIP\n  PROC q ()\n    SKIP\n:\n";
-    assert_eq!(rt;
-        faults_in(a, text)?.as_slice(),
-        b"a.occ:3 S2 error -\n".as_slice()
-    );
-    let text = "DATA TYPE D\n  RECORD\n    VAL x IS 1:\n:\n";
-    assert_eq!(rt;
-        faults_in(a, text)?.as_slice(),
-        b"a.occ:2 S2 error -\na.occ:3 S2 error -\n".as_slice()
-    );
-    Ok(())
-}
-
-#[test]
-fn tells_the_order_under_valof(rt: HostRuntime) -> Result<(), Fail> {
-    let a = rt.alloc();
-    let text = "INT FUNCTION f ()\n  VALOF\n    RESULT 1\n    SKIP\n:\n";
-    assert_eq!(rt;
-        faults_in(a, text)?.as_slice(),
-        b"a.occ:3 S2 error -\n".as_slice()
-    );
-    let text = "INT FUNCTION f ()\n  VALOF\n    SKIP\n    INT x:\n    RESULT 1\n:\n";
-    assert_eq!(rt;
-        faults_in(a, text)?.as_slice(),
-        b"a.occ:5 S2 error -\n".as_slice()
-    );
-    Ok(())
-}
-
-#[test]
-fn tells_parts_of_tags_and_uses(rt: HostRuntime) -> Result<(), Fail> {
-    let a = rt.alloc();
-    let text = "PROTOCOL P\n  CASE\n    m\n    n; a[0]\n:\n";
-    assert_eq!(rt;
-        faults_in(a, text)?.as_slice(),
-        b"a.occ:4 S2 error -\n".as_slice()
-    );
-    let text = "#USE \"b\"\nPROC p ()\n  #USE \"b\"\n  WHILE TRUE\n    SKIP\n:\n";
-    assert_eq!(rt; faults_in(a, text)?.as_slice(), b"".as_slice());
-    Ok(())
 }
 
 #[test]
