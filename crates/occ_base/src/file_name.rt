@@ -15,7 +15,7 @@ use std::marker::Model;
 use thiserror::Error;
 
 /// Why bytes are no file name. Where several hold, the first of this order is told.
-#[derive(Clone, Copy, Debug, PartialEq, Eq, Error)]
+#[derive(Clone, Copy, Debug, Error)]
 pub enum NameFault {
     /// There is no byte, or there are more than 64.
     #[error("a file name has 1 to 64 bytes")]

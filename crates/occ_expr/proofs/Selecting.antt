@@ -1,15 +1,15 @@
 -- What a name selects of a record.
 use Rattle.std.proofs.Common.{◌≡◌, ◌∙◌, ◌++◌, ◌∷◌, ℕ, Bool, if◌then◌else◌, Option, Some, None, List, [], ap}
-use Rattle.occ_expressions.specs.declared.tree.Element.TheVariants as ev
-use Rattle.occ_expressions.specs.declared.tree.Expr.{Expr}
-use Rattle.occ_expressions.specs.declared.tree.Expr.TheVariants as xv
-use Rattle.occ_expressions.specs.declared.tree.Operand.TheVariants as ov
+use Rattle.occ_expression_forms.specs.declared.tree.Element.TheVariants as ev
+use Rattle.occ_expression_forms.specs.declared.tree.Expr.{Expr}
+use Rattle.occ_expression_forms.specs.declared.tree.Expr.TheVariants as xv
+use Rattle.occ_expression_forms.specs.declared.tree.Operand.TheVariants as ov
 use Rattle.occ_names.specs.Lookup.{element}
 use Rattle.occ_names.specs.Visible.{visible}
 use Rattle.occ_names.specs.declared.scope.Scope.{Scope}
-use Rattle.occ_operators.specs.Parts.{field, field_named, field_told}
-use Rattle.occ_operators.specs.Settling.{Told, int, known, silent}
-use Rattle.occ_terms.specs.Terms.{and_then}
+use Rattle.occ_operands.specs.Parts.{field, field_named, field_told}
+use Rattle.occ_operands.specs.Settling.{Told, int, known, silent}
+use Rattle.occ_tables.specs.Terms.{and_then}
 use Rattle.occ_types.specs.Fits.{unnamed}
 use Rattle.occ_types.specs.View.{fields_in, second}
 use Rattle.occ_types.specs.declared.types.Field.{Field}

@@ -1,31 +1,31 @@
 -- What each form is in any scope, from what its parts are.
 use Rattle.std.proofs.Common.{◌≡◌, ◌∙◌, ℕ, Bool, List, [], ◌∷◌, map, refl, ap, sym}
-use Rattle.occ_expressions.specs.declared.tree.ChannelWords.{ChannelWords}
-use Rattle.occ_expressions.specs.declared.tree.DataBase.{DataBase}
-use Rattle.occ_expressions.specs.declared.tree.Extreme.{Extreme}
-use Rattle.occ_expressions.specs.declared.tree.Literal.{Literal}
-use Rattle.occ_expressions.specs.declared.tree.MonadicOperator.{MonadicOperator}
-use Rattle.occ_expressions.specs.declared.tree.PairOperator.{PairOperator}
-use Rattle.occ_expressions.specs.declared.tree.Primitive.{Primitive}
-use Rattle.occ_expressions.specs.declared.tree.RunOperator.{RunOperator}
-use Rattle.occ_expressions.specs.declared.tree.Bounds.{Bounds}
-use Rattle.occ_expressions.specs.declared.tree.Bounds.TheVariants as bv
-use Rattle.occ_expressions.specs.declared.tree.Builtin.{Builtin}
-use Rattle.occ_expressions.specs.declared.tree.Builtin.TheVariants as uv
-use Rattle.occ_expressions.specs.declared.tree.Dimension.{Dimension}
-use Rattle.occ_expressions.specs.declared.tree.Dimension.TheVariants as dv
-use Rattle.occ_expressions.specs.declared.tree.Element.{Element}
-use Rattle.occ_expressions.specs.declared.tree.Element.TheVariants as ev
-use Rattle.occ_expressions.specs.declared.tree.Expr.{Expr}
-use Rattle.occ_expressions.specs.declared.tree.Expr.TheVariants as xv
-use Rattle.occ_expressions.specs.declared.tree.NamedOperand.{NamedOperand}
-use Rattle.occ_expressions.specs.declared.tree.NamedOperand.TheVariants as nv
-use Rattle.occ_expressions.specs.declared.tree.Operand.{Operand}
-use Rattle.occ_expressions.specs.declared.tree.Operand.TheVariants as ov
-use Rattle.occ_expressions.specs.declared.tree.TypeForm.{TypeForm}
-use Rattle.occ_expressions.specs.declared.tree.TypeForm.TheVariants as tv
-use Rattle.occ_expressions.specs.declared.tree.Bounds.TheFolds.{fold-roll-Bounds, fold-roll-Builtin, fold-roll-Dimension, fold-roll-Element, fold-roll-Expr, fold-roll-NamedOperand, fold-roll-Operand, fold-roll-TypeForm}
-use Rattle.occ_expressions.specs.declared.tree.Bounds.TheOpen.{Bounds-F, Builtin-F, Dimension-F, Element-F, Expr-F, NamedOperand-F, Operand-F, TypeForm-F}
+use Rattle.occ_expression_forms.specs.declared.tree.ChannelWords.{ChannelWords}
+use Rattle.occ_expression_forms.specs.declared.tree.DataBase.{DataBase}
+use Rattle.occ_expression_forms.specs.declared.tree.Extreme.{Extreme}
+use Rattle.occ_expression_forms.specs.declared.tree.Literal.{Literal}
+use Rattle.occ_expression_forms.specs.declared.tree.MonadicOperator.{MonadicOperator}
+use Rattle.occ_expression_forms.specs.declared.tree.PairOperator.{PairOperator}
+use Rattle.occ_expression_forms.specs.declared.tree.PrimitiveWord.{PrimitiveWord}
+use Rattle.occ_expression_forms.specs.declared.tree.RunOperator.{RunOperator}
+use Rattle.occ_expression_forms.specs.declared.tree.Bounds.{Bounds}
+use Rattle.occ_expression_forms.specs.declared.tree.Bounds.TheVariants as bv
+use Rattle.occ_expression_forms.specs.declared.tree.Builtin.{Builtin}
+use Rattle.occ_expression_forms.specs.declared.tree.Builtin.TheVariants as uv
+use Rattle.occ_expression_forms.specs.declared.tree.Dimension.{Dimension}
+use Rattle.occ_expression_forms.specs.declared.tree.Dimension.TheVariants as dv
+use Rattle.occ_expression_forms.specs.declared.tree.Element.{Element}
+use Rattle.occ_expression_forms.specs.declared.tree.Element.TheVariants as ev
+use Rattle.occ_expression_forms.specs.declared.tree.Expr.{Expr}
+use Rattle.occ_expression_forms.specs.declared.tree.Expr.TheVariants as xv
+use Rattle.occ_expression_forms.specs.declared.tree.NamedOperand.{NamedOperand}
+use Rattle.occ_expression_forms.specs.declared.tree.NamedOperand.TheVariants as nv
+use Rattle.occ_expression_forms.specs.declared.tree.Operand.{Operand}
+use Rattle.occ_expression_forms.specs.declared.tree.Operand.TheVariants as ov
+use Rattle.occ_expression_forms.specs.declared.tree.TypeForm.{TypeForm}
+use Rattle.occ_expression_forms.specs.declared.tree.TypeForm.TheVariants as tv
+use Rattle.occ_expression_forms.specs.declared.tree.Bounds.TheFolds.{fold-roll-Bounds, fold-roll-Builtin, fold-roll-Dimension, fold-roll-Element, fold-roll-Expr, fold-roll-NamedOperand, fold-roll-Operand, fold-roll-TypeForm}
+use Rattle.occ_expression_forms.specs.declared.tree.Bounds.TheOpen.{Bounds-F, Builtin-F, Dimension-F, Element-F, Expr-F, NamedOperand-F, Operand-F, TypeForm-F}
 use Rattle.occ_names.specs.declared.scope.Scope.{Scope}
 use Rattle.occ_expr.specs.declared.written.Opening.{Opening}
 use Rattle.occ_expr.specs.Parts.{ExprView}
@@ -55,7 +55,7 @@ pub bounds_from_for : (e : Expr) (f : Expr) → bounds_view (bv.FromFor e f) ≡
 bounds_from_for e f =
     ap bounds_view (sym (bv.rolls-FromFor e f)) ∙ fold-roll-Bounds BoundsView BuiltinView DimensionView ElementView ExprView NamedOperandView OperandView TypeFormView bounds_step builtin_step dimension_step element_step expr_step named_operand_step operand_step type_form_step (Bounds-F.FromFor e f)
 
-pub builtin_primitive : (w : Primitive) → builtin_view (uv.Primitive w) ≡ builtin_step (Builtin-F.Primitive w)
+pub builtin_primitive : (w : PrimitiveWord) → builtin_view (uv.Primitive w) ≡ builtin_step (Builtin-F.Primitive w)
 builtin_primitive w =
     ap builtin_view (sym (uv.rolls-Primitive w)) ∙ fold-roll-Builtin BoundsView BuiltinView DimensionView ElementView ExprView NamedOperandView OperandView TypeFormView bounds_step builtin_step dimension_step element_step expr_step named_operand_step operand_step type_form_step (Builtin-F.Primitive w)
 
@@ -216,7 +216,7 @@ bounds_for_said e s = ap (λ (v : BoundsView). v.said s) (bounds_for e)
 pub bounds_from_for_said : (e : Expr) (f : Expr) (s : Scope) → (bounds_view (bv.FromFor e f)).said s ≡ (bounds_step (Bounds-F.FromFor (expr_view e) (expr_view f))).said s
 bounds_from_for_said e f s = ap (λ (v : BoundsView). v.said s) (bounds_from_for e f)
 
-pub builtin_primitive_view : (w : Primitive) (s : Scope) → builtin_view (uv.Primitive w) s ≡ builtin_step (Builtin-F.Primitive w) s
+pub builtin_primitive_view : (w : PrimitiveWord) (s : Scope) → builtin_view (uv.Primitive w) s ≡ builtin_step (Builtin-F.Primitive w) s
 builtin_primitive_view w s = ap (λ (v : BuiltinView). v s) (builtin_primitive w)
 
 pub builtin_timer_view : (s : Scope) → builtin_view uv.Timer s ≡ builtin_step Builtin-F.Timer s

@@ -1,34 +1,34 @@
 -- What is told step by step is what is told of the whole form.
 use Rattle.std.proofs.Common.{◌≡◌, ◌∙◌, ◌++◌, ◌∷◌, [], ℕ, List, Option, ap, sym, subst, append_assoc}
-use Rattle.occ_expressions.specs.declared.tree.Bounds.{Bounds}
-use Rattle.occ_expressions.specs.declared.tree.Builtin.{Builtin}
-use Rattle.occ_expressions.specs.declared.tree.Builtin.TheVariants as uv
-use Rattle.occ_expressions.specs.declared.tree.ChannelWords.{ChannelWords}
-use Rattle.occ_expressions.specs.declared.tree.DataBase.{DataBase}
-use Rattle.occ_expressions.specs.declared.tree.Dimension.{Dimension}
-use Rattle.occ_expressions.specs.declared.tree.Element.{Element}
-use Rattle.occ_expressions.specs.declared.tree.Element.TheVariants as ev
-use Rattle.occ_expressions.specs.declared.tree.Expr.{Expr}
-use Rattle.occ_expressions.specs.declared.tree.Expr.TheVariants as xv
-use Rattle.occ_expressions.specs.declared.tree.Extreme.{Extreme}
-use Rattle.occ_expressions.specs.declared.tree.Literal.{Literal}
-use Rattle.occ_expressions.specs.declared.tree.MonadicOperator.{MonadicOperator}
-use Rattle.occ_expressions.specs.declared.tree.NamedOperand.{NamedOperand}
-use Rattle.occ_expressions.specs.declared.tree.NamedOperand.TheVariants as nv
-use Rattle.occ_expressions.specs.declared.tree.Operand.{Operand}
-use Rattle.occ_expressions.specs.declared.tree.Operand.TheVariants as ov
-use Rattle.occ_expressions.specs.declared.tree.PairOperator.{PairOperator}
-use Rattle.occ_expressions.specs.declared.tree.RunOperator.{RunOperator}
-use Rattle.occ_expressions.specs.declared.tree.TypeForm.{TypeForm}
-use Rattle.occ_expressions.specs.declared.tree.TypeForm.TheVariants as tv
+use Rattle.occ_expression_forms.specs.declared.tree.Bounds.{Bounds}
+use Rattle.occ_expression_forms.specs.declared.tree.Builtin.{Builtin}
+use Rattle.occ_expression_forms.specs.declared.tree.Builtin.TheVariants as uv
+use Rattle.occ_expression_forms.specs.declared.tree.ChannelWords.{ChannelWords}
+use Rattle.occ_expression_forms.specs.declared.tree.DataBase.{DataBase}
+use Rattle.occ_expression_forms.specs.declared.tree.Dimension.{Dimension}
+use Rattle.occ_expression_forms.specs.declared.tree.Element.{Element}
+use Rattle.occ_expression_forms.specs.declared.tree.Element.TheVariants as ev
+use Rattle.occ_expression_forms.specs.declared.tree.Expr.{Expr}
+use Rattle.occ_expression_forms.specs.declared.tree.Expr.TheVariants as xv
+use Rattle.occ_expression_forms.specs.declared.tree.Extreme.{Extreme}
+use Rattle.occ_expression_forms.specs.declared.tree.Literal.{Literal}
+use Rattle.occ_expression_forms.specs.declared.tree.MonadicOperator.{MonadicOperator}
+use Rattle.occ_expression_forms.specs.declared.tree.NamedOperand.{NamedOperand}
+use Rattle.occ_expression_forms.specs.declared.tree.NamedOperand.TheVariants as nv
+use Rattle.occ_expression_forms.specs.declared.tree.Operand.{Operand}
+use Rattle.occ_expression_forms.specs.declared.tree.Operand.TheVariants as ov
+use Rattle.occ_expression_forms.specs.declared.tree.PairOperator.{PairOperator}
+use Rattle.occ_expression_forms.specs.declared.tree.RunOperator.{RunOperator}
+use Rattle.occ_expression_forms.specs.declared.tree.TypeForm.{TypeForm}
+use Rattle.occ_expression_forms.specs.declared.tree.TypeForm.TheVariants as tv
 use Rattle.occ_names.specs.Lookup.{data_type}
 use Rattle.occ_names.specs.Visible.{visible}
 use Rattle.occ_names.specs.declared.scope.Scope.{Scope}
-use Rattle.occ_operators.specs.declared.kind.Fault.{Fault}
-use Rattle.occ_operators.specs.declared.kind.Kind.{Kind}
-use Rattle.occ_terms.specs.Terms.{judged, judged_all}
-use Rattle.occ_terms.specs.declared.selection.Bounds.{Bounds as Part}
-use Rattle.occ_terms.specs.declared.term.Term.{Term}
+use Rattle.occ_operands.specs.declared.kind.Fault.{Fault}
+use Rattle.occ_operands.specs.declared.kind.Kind.{Kind}
+use Rattle.occ_tables.specs.Terms.{judged, judged_all}
+use Rattle.occ_tables.specs.declared.selection.BoundTerms.{BoundTerms}
+use Rattle.occ_tables.specs.declared.term.Term.{Term}
 use Rattle.occ_types.specs.declared.types.OccType.{OccType}
 use Rattle.occ_types.specs.declared.value.Primitive.{Primitive}
 use Rattle.occ_expr.specs.Literals.{decorated_literal}
@@ -209,7 +209,7 @@ run_faults x op a b os s ta tb its all old m n p e is h t i u j g v k =
     subst (λ (y : Expr). e ≡ old ++ ((expr_view y).said s).faults) (sym is)
     (two _ _ _ _ _ (three_right _ _ _ _ _ _ _ h i j) (k ∙ ap (λ (z : List Term). p ++ (operation (run_operator op) (judged_all z)).faults) (v ∙ g ∙ ap (λ (z : Term). z ∷ tb ∷ terms (operands s (operand_views os))) t ∙ ap (λ (z : Term). ((operand_view a).said s).term ∷ z ∷ terms (operands s (operand_views os))) u)) ∙ ap (λ z. old ++ z.faults) (sym (views.expr_run_said op a b os s)))
 
-pub segment_faults : (x : Element) (el : Element) (part : Bounds) (es : List Expr) (s : Scope) (k1 k2 : Kind) (bs : Part) (old m n p e : List Fault)
+pub segment_faults : (x : Element) (el : Element) (part : Bounds) (es : List Expr) (s : Scope) (k1 k2 : Kind) (bs : BoundTerms) (old m n p e : List Fault)
     → x ≡ ev.Segment el part es
     → m ≡ old ++ ((element_view el).told s).faults
     → k1 ≡ ((element_view el).told s).kind
@@ -221,7 +221,7 @@ pub segment_faults : (x : Element) (el : Element) (part : Bounds) (es : List Exp
     → e ≡ old ++ ((element_view x).told s).faults
 segment_faults x el part es s k1 k2 bs old m n p e is h f i g j u k =
     subst (λ (y : Element). e ≡ old ++ ((element_view y).told s).faults) (sym is)
-    (two _ _ _ _ _ (three_right _ _ _ _ _ _ _ h i (j ∙ ap (λ (z : Kind). n ++ (segment_of z bs).faults) f ∙ ap (λ (z : Part). n ++ (segment_of ((element_view el).told s).kind z).faults) g)) (k ∙ ap (λ (z : Kind). p ++ (subscripts s (expr_views es) z).faults) (u ∙ ap (λ (z : Kind). (segment_of z bs).kind) f ∙ ap (λ (z : Part). (segment_of ((element_view el).told s).kind z).kind) g)) ∙ ap (λ z. old ++ z.faults) (sym (views.element_segment_told el part es s)))
+    (two _ _ _ _ _ (three_right _ _ _ _ _ _ _ h i (j ∙ ap (λ (z : Kind). n ++ (segment_of z bs).faults) f ∙ ap (λ (z : BoundTerms). n ++ (segment_of ((element_view el).told s).kind z).faults) g)) (k ∙ ap (λ (z : Kind). p ++ (subscripts s (expr_views es) z).faults) (u ∙ ap (λ (z : Kind). (segment_of z bs).kind) f ∙ ap (λ (z : BoundTerms). (segment_of ((element_view el).told s).kind z).kind) g)) ∙ ap (λ z. old ++ z.faults) (sym (views.element_segment_told el part es s)))
 
 pub named_type_faults : (x : TypeForm) (ds : List Dimension) (name : List ℕ) (o : Opening) (s : Scope) (of : Option OccType) (front : List Extent) (old m e : List Fault)
     → x ≡ tv.Named ds name

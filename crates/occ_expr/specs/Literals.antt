@@ -4,15 +4,15 @@ use Rattle.occ_types.specs.declared.types.OccType.{OccType}
 use Rattle.occ_types.specs.declared.types.OccType.TheVariants as t
 use Rattle.occ_types.specs.declared.value.Primitive.TheVariants as p
 use Rattle.occ_types.specs.declared.value.Value.TheVariants as v
-use Rattle.occ_operators.specs.Outcomes.{decimal, hexadecimal}
-use Rattle.occ_operators.specs.Settling.{Told, known, silent}
-use Rattle.occ_operators.specs.Wanting.{wanted}
-use Rattle.occ_operators.specs.declared.kind.Kind.{Kind}
-use Rattle.occ_operators.specs.declared.kind.Kind.TheVariants as k
-use Rattle.occ_terms.specs.Decorating.{decorated}
-use Rattle.occ_terms.specs.Terms.{and_then, as_it_is, table_type}
-use Rattle.occ_expressions.specs.declared.tree.Literal.{Literal}
-use Rattle.occ_expressions.specs.declared.tree.Literal.TheVariants as l
+use Rattle.occ_operands.specs.Outcomes.{decimal, hexadecimal}
+use Rattle.occ_operands.specs.Settling.{Told, known, silent}
+use Rattle.occ_operands.specs.Wanting.{wanted}
+use Rattle.occ_operands.specs.declared.kind.Kind.{Kind}
+use Rattle.occ_operands.specs.declared.kind.Kind.TheVariants as k
+use Rattle.occ_tables.specs.Decorating.{decorated}
+use Rattle.occ_tables.specs.Terms.{and_then, as_it_is, table_type}
+use Rattle.occ_expression_forms.specs.declared.tree.Literal.{Literal}
+use Rattle.occ_expression_forms.specs.declared.tree.Literal.TheVariants as l
 
 abbrev pub byte : OccType
 byte = t.Primitive p.Byte

@@ -5,23 +5,23 @@ use Rattle.occ_types.specs.declared.constant.Monadic.TheVariants as m
 use Rattle.occ_types.specs.declared.constant.Operator.{Operator}
 use Rattle.occ_types.specs.declared.constant.Operator.TheVariants as op
 use Rattle.occ_types.specs.declared.types.OccType.{OccType}
-use Rattle.occ_operators.specs.Operators.{all_faults, front_operated, kinds, operated, shift_operated}
-use Rattle.occ_operators.specs.Outcomes.{decimal}
-use Rattle.occ_operators.specs.Settling.{Told, silent}
-use Rattle.occ_operators.specs.Wanting.{conversion}
-use Rattle.occ_operators.specs.declared.kind.Kind.TheVariants as k
-use Rattle.occ_terms.specs.Measuring.{most, sized}
-use Rattle.occ_terms.specs.Terms.{Judged, and_then, as_it_is}
-use Rattle.occ_terms.specs.declared.measure.Limit.{Limit}
-use Rattle.occ_terms.specs.declared.measure.Limit.TheVariants as limit
-use Rattle.occ_expressions.specs.declared.tree.Extreme.{Extreme}
-use Rattle.occ_expressions.specs.declared.tree.Extreme.TheVariants as extreme
-use Rattle.occ_expressions.specs.declared.tree.MonadicOperator.{MonadicOperator}
-use Rattle.occ_expressions.specs.declared.tree.MonadicOperator.TheVariants as mo
-use Rattle.occ_expressions.specs.declared.tree.PairOperator.{PairOperator}
-use Rattle.occ_expressions.specs.declared.tree.PairOperator.TheVariants as po
-use Rattle.occ_expressions.specs.declared.tree.RunOperator.{RunOperator}
-use Rattle.occ_expressions.specs.declared.tree.RunOperator.TheVariants as ro
+use Rattle.occ_operands.specs.Operators.{all_faults, front_operated, kinds, operated, shift_operated}
+use Rattle.occ_operands.specs.Outcomes.{decimal}
+use Rattle.occ_operands.specs.Settling.{Told, silent}
+use Rattle.occ_operands.specs.Wanting.{conversion}
+use Rattle.occ_operands.specs.declared.kind.Kind.TheVariants as k
+use Rattle.occ_tables.specs.Measuring.{most, sized}
+use Rattle.occ_tables.specs.Terms.{Judged, and_then, as_it_is}
+use Rattle.occ_tables.specs.declared.measure.Limit.{Limit}
+use Rattle.occ_tables.specs.declared.measure.Limit.TheVariants as limit
+use Rattle.occ_expression_forms.specs.declared.tree.Extreme.{Extreme}
+use Rattle.occ_expression_forms.specs.declared.tree.Extreme.TheVariants as extreme
+use Rattle.occ_expression_forms.specs.declared.tree.MonadicOperator.{MonadicOperator}
+use Rattle.occ_expression_forms.specs.declared.tree.MonadicOperator.TheVariants as mo
+use Rattle.occ_expression_forms.specs.declared.tree.PairOperator.{PairOperator}
+use Rattle.occ_expression_forms.specs.declared.tree.PairOperator.TheVariants as po
+use Rattle.occ_expression_forms.specs.declared.tree.RunOperator.{RunOperator}
+use Rattle.occ_expression_forms.specs.declared.tree.RunOperator.TheVariants as ro
 
 -- ---- what each spelling means
 

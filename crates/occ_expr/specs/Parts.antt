@@ -5,23 +5,23 @@ use Rattle.occ_types.specs.Fits.{unnamed}
 use Rattle.occ_types.specs.View.{fields_in}
 use Rattle.occ_types.specs.declared.types.Field.{Field}
 use Rattle.occ_types.specs.declared.types.OccType.{OccType}
-use Rattle.occ_operators.specs.Parts.{field, subscripted}
-use Rattle.occ_operators.specs.Settling.{Told, known, nameless, silent}
-use Rattle.occ_operators.specs.declared.kind.Fault.{Fault}
-use Rattle.occ_operators.specs.declared.kind.Kind.{Kind}
-use Rattle.occ_operators.specs.declared.kind.Kind.TheVariants as k
+use Rattle.occ_operands.specs.Parts.{field, subscripted}
+use Rattle.occ_operands.specs.Settling.{Told, known, nameless, silent}
+use Rattle.occ_operands.specs.declared.kind.Fault.{Fault}
+use Rattle.occ_operands.specs.declared.kind.Kind.{Kind}
+use Rattle.occ_operands.specs.declared.kind.Kind.TheVariants as k
 use Rattle.occ_names.specs.Lookup.{Found, element}
 use Rattle.occ_names.specs.Visible.{visible}
 use Rattle.occ_names.specs.declared.meaning.Meaning.{Meaning}
 use Rattle.occ_names.specs.declared.meaning.Meaning.TheVariants as m
 use Rattle.occ_names.specs.declared.meaning.Whole.{Whole}
 use Rattle.occ_names.specs.declared.scope.Scope.{Scope}
-use Rattle.occ_terms.specs.Decorating.{decorated_table}
-use Rattle.occ_terms.specs.Segments.{segment}
-use Rattle.occ_terms.specs.Terms.{and_then, item, judged, judged_all}
-use Rattle.occ_terms.specs.declared.selection.Bounds.{Bounds}
-use Rattle.occ_terms.specs.declared.term.Term.{Term}
-use Rattle.occ_terms.specs.declared.term.Term.TheVariants as v
+use Rattle.occ_tables.specs.Decorating.{decorated_table}
+use Rattle.occ_tables.specs.Segments.{segment}
+use Rattle.occ_tables.specs.Terms.{and_then, item, judged, judged_all}
+use Rattle.occ_tables.specs.declared.selection.BoundTerms.{BoundTerms}
+use Rattle.occ_tables.specs.declared.term.Term.{Term}
+use Rattle.occ_tables.specs.declared.term.Term.TheVariants as v
 use Rattle.occ_typed.specs.declared.expr.TypedExpr.{TypedExpr}
 use Rattle.occ_expr.specs.Operations.{converted, plain}
 
@@ -127,9 +127,9 @@ named_element s name es = and_then (named (element name (visible s name))) (subs
 
 pub record SaidBounds : Type 0 where
   pub faults : List Fault
-  pub bounds : Bounds
+  pub bounds : BoundTerms
 
-unfoldable pub segment_of : Kind → Bounds → Told
+unfoldable pub segment_of : Kind → BoundTerms → Told
 segment_of k.Faulty b = silent
 segment_of (k.Free f) b = silent
 segment_of (k.Known x) b = segment x.of b

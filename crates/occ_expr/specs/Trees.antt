@@ -9,26 +9,26 @@ use Rattle.occ_types.specs.declared.constant.Monadic.TheVariants as m
 use Rattle.occ_types.specs.declared.constant.Operator.{Operator}
 use Rattle.occ_types.specs.declared.types.Field.{Field}
 use Rattle.occ_types.specs.declared.types.OccType.{OccType}
-use Rattle.occ_operators.specs.Operators.{operand_type, type_in}
-use Rattle.occ_operators.specs.Settling.{int}
-use Rattle.occ_operators.specs.declared.kind.Kind.{Kind}
-use Rattle.occ_operators.specs.declared.kind.Kind.TheVariants as k
+use Rattle.occ_operands.specs.Operators.{operand_type, type_in}
+use Rattle.occ_operands.specs.Settling.{int}
+use Rattle.occ_operands.specs.declared.kind.Kind.{Kind}
+use Rattle.occ_operands.specs.declared.kind.Kind.TheVariants as k
 use Rattle.occ_names.specs.Lookup.{element}
 use Rattle.occ_names.specs.Visible.{referent, visible}
 use Rattle.occ_names.specs.declared.meaning.Meaning.{Meaning}
 use Rattle.occ_names.specs.declared.meaning.Meaning.TheVariants as meaning
 use Rattle.occ_names.specs.declared.scope.Scope.{Scope}
-use Rattle.occ_terms.specs.Terms.{Judged, judged}
-use Rattle.occ_terms.specs.declared.term.Term.{Term}
+use Rattle.occ_tables.specs.Terms.{Judged, judged}
+use Rattle.occ_tables.specs.declared.term.Term.{Term}
 use Rattle.occ_typed.specs.declared.expr.Selector.{Selector}
 use Rattle.occ_typed.specs.declared.expr.Selector.TheVariants as by
 use Rattle.occ_typed.specs.declared.expr.TypedElement.{TypedElement}
 use Rattle.occ_typed.specs.declared.expr.TypedExpr.{TypedExpr}
 use Rattle.occ_typed.specs.declared.expr.TypedExpr.TheVariants as typed
-use Rattle.occ_expressions.specs.declared.tree.MonadicOperator.{MonadicOperator}
-use Rattle.occ_expressions.specs.declared.tree.MonadicOperator.TheVariants as mo
-use Rattle.occ_expressions.specs.declared.tree.PairOperator.{PairOperator}
-use Rattle.occ_expressions.specs.declared.tree.PairOperator.TheVariants as po
+use Rattle.occ_expression_forms.specs.declared.tree.MonadicOperator.{MonadicOperator}
+use Rattle.occ_expression_forms.specs.declared.tree.MonadicOperator.TheVariants as mo
+use Rattle.occ_expression_forms.specs.declared.tree.PairOperator.{PairOperator}
+use Rattle.occ_expression_forms.specs.declared.tree.PairOperator.TheVariants as po
 use Rattle.occ_expr.specs.Operations.{pair_operator, plain}
 use Rattle.occ_expr.specs.Parts.{ExprView, Wish, call, named, only, subscript, table, whole_element}
 

@@ -2,33 +2,33 @@
 use Rattle.std.specs.Prelude.{ℕ, Option, Some, None, List, [], ◌∷◌, ◌++◌}
 use Rattle.occ_types.specs.declared.types.OccType.TheVariants as t
 use Rattle.occ_types.specs.declared.types.Protocol.TheVariants as protocol
-use Rattle.occ_operators.specs.Settling.{Told}
-use Rattle.occ_operators.specs.declared.kind.Kind.{Kind}
+use Rattle.occ_operands.specs.Settling.{Told}
+use Rattle.occ_operands.specs.declared.kind.Kind.{Kind}
 use Rattle.occ_names.specs.Lookup.{data_type, good}
 use Rattle.occ_names.specs.Visible.{visible}
 use Rattle.occ_names.specs.declared.scope.Scope.{Scope}
-use Rattle.occ_terms.specs.Dimensions.{size}
-use Rattle.occ_terms.specs.Terms.{and_then, judged, judged_all}
-use Rattle.occ_terms.specs.declared.selection.Bounds.TheVariants as bounds
+use Rattle.occ_tables.specs.Dimensions.{size}
+use Rattle.occ_tables.specs.Terms.{and_then, judged, judged_all}
+use Rattle.occ_tables.specs.declared.selection.BoundTerms.TheVariants as bounds
 use Rattle.occ_typed.specs.declared.expr.Selector.{Selector}
 use Rattle.occ_typed.specs.declared.expr.Selector.TheVariants as by
 use Rattle.occ_typed.specs.declared.expr.TypedElement.{TypedElement}
 use Rattle.occ_typed.specs.declared.expr.TypedExpr.{TypedExpr}
 use Rattle.occ_typed.specs.declared.expr.TypedExpr.TheVariants as typed
-use Rattle.occ_expressions.specs.declared.tree.Bounds.{Bounds}
-use Rattle.occ_expressions.specs.declared.tree.Bounds.TheFolds.{fold-Bounds, fold-Builtin, fold-Dimension, fold-Element, fold-Expr, fold-NamedOperand, fold-Operand, fold-TypeForm}
-use Rattle.occ_expressions.specs.declared.tree.Bounds.TheOpen.{Bounds-F, Builtin-F, Dimension-F, Element-F, Expr-F, NamedOperand-F, Operand-F, TypeForm-F}
-use Rattle.occ_expressions.specs.declared.tree.Builtin.{Builtin}
-use Rattle.occ_expressions.specs.declared.tree.Dimension.{Dimension}
-use Rattle.occ_expressions.specs.declared.tree.Element.{Element}
-use Rattle.occ_expressions.specs.declared.tree.Expr.{Expr}
-use Rattle.occ_expressions.specs.declared.tree.Literal.{Literal}
-use Rattle.occ_expressions.specs.declared.tree.Literal.TheVariants as l
-use Rattle.occ_expressions.specs.declared.tree.NamedOperand.{NamedOperand}
-use Rattle.occ_expressions.specs.declared.tree.Operand.{Operand}
-use Rattle.occ_expressions.specs.declared.tree.PairOperator.{PairOperator}
-use Rattle.occ_expressions.specs.declared.tree.RunOperator.{RunOperator}
-use Rattle.occ_expressions.specs.declared.tree.TypeForm.{TypeForm}
+use Rattle.occ_expression_forms.specs.declared.tree.Bounds.{Bounds}
+use Rattle.occ_expression_forms.specs.declared.tree.Bounds.TheFolds.{fold-Bounds, fold-Builtin, fold-Dimension, fold-Element, fold-Expr, fold-NamedOperand, fold-Operand, fold-TypeForm}
+use Rattle.occ_expression_forms.specs.declared.tree.Bounds.TheOpen.{Bounds-F, Builtin-F, Dimension-F, Element-F, Expr-F, NamedOperand-F, Operand-F, TypeForm-F}
+use Rattle.occ_expression_forms.specs.declared.tree.Builtin.{Builtin}
+use Rattle.occ_expression_forms.specs.declared.tree.Dimension.{Dimension}
+use Rattle.occ_expression_forms.specs.declared.tree.Element.{Element}
+use Rattle.occ_expression_forms.specs.declared.tree.Expr.{Expr}
+use Rattle.occ_expression_forms.specs.declared.tree.Literal.{Literal}
+use Rattle.occ_expression_forms.specs.declared.tree.Literal.TheVariants as l
+use Rattle.occ_expression_forms.specs.declared.tree.NamedOperand.{NamedOperand}
+use Rattle.occ_expression_forms.specs.declared.tree.Operand.{Operand}
+use Rattle.occ_expression_forms.specs.declared.tree.PairOperator.{PairOperator}
+use Rattle.occ_expression_forms.specs.declared.tree.RunOperator.{RunOperator}
+use Rattle.occ_expression_forms.specs.declared.tree.TypeForm.{TypeForm}
 use Rattle.occ_expr.specs.Literals.{decorated_literal, literal, truth}
 use Rattle.occ_expr.specs.Operations.{applied, converted, extreme_of, operation, pair, pair_operator, run_operator}
 use Rattle.occ_expr.specs.Parts.{ExprView, Said, SaidBounds, Wish, after, call, in_scope, named_element, own_faults, segment_element, segment_within, single, table, table_with_type, terms, whole_element}

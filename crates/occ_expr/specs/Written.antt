@@ -8,18 +8,18 @@ use Rattle.occ_types.specs.declared.types.OccType.TheVariants as t
 use Rattle.occ_types.specs.declared.types.Protocol.TheVariants as protocol
 use Rattle.occ_types.specs.declared.value.Primitive.{Primitive}
 use Rattle.occ_types.specs.declared.value.Primitive.TheVariants as p
-use Rattle.occ_operators.specs.Settling.{nameless, number}
-use Rattle.occ_operators.specs.declared.kind.Fault.{Fault}
+use Rattle.occ_operands.specs.Settling.{nameless, number}
+use Rattle.occ_operands.specs.declared.kind.Fault.{Fault}
 use Rattle.occ_names.specs.Lookup.{Found, carries, data_type, good}
 use Rattle.occ_names.specs.Visible.{visible}
 use Rattle.occ_names.specs.declared.lookup.Carried.{Carried}
 use Rattle.occ_names.specs.declared.lookup.Carried.TheVariants as carried
 use Rattle.occ_names.specs.declared.scope.Scope.{Scope}
-use Rattle.occ_terms.specs.Extents.{is_too_large}
-use Rattle.occ_expressions.specs.declared.tree.DataBase.{DataBase}
-use Rattle.occ_expressions.specs.declared.tree.DataBase.TheVariants as base
-use Rattle.occ_expressions.specs.declared.tree.Primitive.{Primitive as PrimitiveWord}
-use Rattle.occ_expressions.specs.declared.tree.Primitive.TheVariants as word
+use Rattle.occ_tables.specs.Extents.{is_too_large}
+use Rattle.occ_expression_forms.specs.declared.tree.DataBase.{DataBase}
+use Rattle.occ_expression_forms.specs.declared.tree.DataBase.TheVariants as base
+use Rattle.occ_expression_forms.specs.declared.tree.PrimitiveWord.{PrimitiveWord}
+use Rattle.occ_expression_forms.specs.declared.tree.PrimitiveWord.TheVariants as word
 use Rattle.occ_expr.specs.declared.written.Extent.{Extent}
 use Rattle.occ_expr.specs.declared.written.Extent.TheVariants as extent
 use Rattle.occ_expr.specs.declared.written.Opening.{Opening}

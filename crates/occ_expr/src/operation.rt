@@ -1,14 +1,14 @@
 ghost use Rattle.std.specs.Prelude.{◌≡◌, ◌∷◌, ◌++◌, [], IfOk, OnOk};
 ghost use Rattle.occ_expr.specs.Operations.{another_has_fault as another, applied as told_applied, converted as told_converted, each_among as told_each, extreme_of as told_extreme, in_front as told_in_front, limit_of as the_limit, negated as told_negated, number_of_faulty as the_number_of_faulty, operation as told_operation, pair as told_pair, pair_operator as meaning_of_pair, plain as told_plain, run_operator as meaning_of_run, shift as told_shift};
-ghost use Rattle.occ_operators.specs.Operators.{all_faults, kinds as kinds_of};
-ghost use Rattle.occ_terms.specs.Terms.{judged, judged_all};
+ghost use Rattle.occ_operands.specs.Operators.{all_faults, kinds as kinds_of};
+ghost use Rattle.occ_tables.specs.Terms.{judged, judged_all};
 
 use occ_base::{Items, Shared, one_item};
-use occ_expressions::{Extreme, MonadicOperator, PairOperator, RunOperator};
-use occ_operators::{
+use occ_expression_forms::{Extreme, MonadicOperator, PairOperator, RunOperator};
+use occ_operands::{
     Fault, Free, Kind, applied as applied_to, converted as converted_to, operated, shifted,
 };
-use occ_terms::{Limit, Term, alone, has_fault, most, operand, sized};
+use occ_tables::{Limit, Term, alone, has_fault, most, operand, sized};
 use occ_types::{Monadic, OccType, Operator};
 use std::alloc::{AllocError, Global};
 

@@ -6,15 +6,15 @@ ghost use Rattle.occ_expr.specs.Parts.{call_faults as told_call_faults, named as
 ghost use Rattle.occ_expr.specs.Views.{digits_of as digits, element_view, expr_view, expr_views, operand_view};
 ghost use Rattle.occ_names.specs.Lookup.{element as told_element};
 ghost use Rattle.occ_names.specs.Visible.{visible};
-ghost use Rattle.occ_terms.specs.Terms.{judged};
-ghost use Rattle.occ_terms.specs.declared.term.Term.TheVariants as v;
+ghost use Rattle.occ_tables.specs.Terms.{judged};
+ghost use Rattle.occ_tables.specs.declared.term.Term.TheVariants as v;
 
 use super::operation::converted;
 use occ_base::{Code, Items, Name, Shared, one_item};
-use occ_expressions::{Element, Expr, Literal, Operand};
+use occ_expression_forms::{Element, Expr, Literal, Operand};
 use occ_names::{Meaning, Scope, element};
-use occ_operators::{Fault, Kind, known, tell};
-use occ_terms::{Bounds, Term, decorated_table, segment};
+use occ_operands::{Fault, Kind, known, tell};
+use occ_tables::{BoundTerms, Term, decorated_table, segment};
 use occ_types::OccType;
 use std::alloc::{AllocError, Global};
 
@@ -143,7 +143,7 @@ pub fn named(
 pub fn segment_of(
     alloc: Global,
     kind: &Kind,
-    bounds: &Bounds,
+    bounds: &BoundTerms,
     faults: &mut Items<Fault>,
 ) -> Result<Kind, AllocError>
     ensures kind { IfOk result (λ segment. segment ≡ (told_segment kind.now bounds.now).kind) }

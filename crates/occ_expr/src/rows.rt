@@ -1,18 +1,18 @@
 ghost use Rattle.std.specs.Prelude.{[], ◌∷◌, ◌≡◌, None, Some, pos};
 ghost use Rattle.occ_base.specs.declared.code.Code.TheVariants as code;
 ghost use Rattle.occ_expr.specs.Views.{element_view, expr_view};
-ghost use Rattle.occ_expressions.specs.declared.tree.Element.TheVariants as el;
-ghost use Rattle.occ_expressions.specs.declared.tree.Expr.TheVariants as x;
-ghost use Rattle.occ_expressions.specs.declared.tree.Literal.TheVariants as l;
-ghost use Rattle.occ_expressions.specs.declared.tree.Operand.TheVariants as o;
+ghost use Rattle.occ_expression_forms.specs.declared.tree.Element.TheVariants as el;
+ghost use Rattle.occ_expression_forms.specs.declared.tree.Expr.TheVariants as x;
+ghost use Rattle.occ_expression_forms.specs.declared.tree.Literal.TheVariants as l;
+ghost use Rattle.occ_expression_forms.specs.declared.tree.Operand.TheVariants as o;
 ghost use Rattle.occ_names.specs.Visible.{entered, nothing};
 ghost use Rattle.occ_names.specs.declared.meaning.Access.TheVariants as access;
 ghost use Rattle.occ_names.specs.declared.meaning.Meaning.TheVariants as m;
 ghost use Rattle.occ_names.specs.declared.scope.Scope.{Scope};
-ghost use Rattle.occ_operators.specs.Outcomes.{decimal};
-ghost use Rattle.occ_operators.specs.Settling.{int, known};
-ghost use Rattle.occ_operators.specs.declared.kind.Kind.TheVariants as k;
-ghost use Rattle.occ_terms.specs.declared.term.Term.TheVariants as v;
+ghost use Rattle.occ_operands.specs.Outcomes.{decimal};
+ghost use Rattle.occ_operands.specs.Settling.{int, known};
+ghost use Rattle.occ_operands.specs.declared.kind.Kind.TheVariants as k;
+ghost use Rattle.occ_tables.specs.declared.term.Term.TheVariants as v;
 ghost use Rattle.occ_types.specs.declared.types.OccType.TheVariants as t;
 ghost use Rattle.occ_types.specs.declared.types.Packing.TheVariants as packing;
 

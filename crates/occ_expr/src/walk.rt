@@ -18,13 +18,13 @@ use super::written::{
     open_dimension, primitive_of, values_channel,
 };
 use occ_base::{Items, Name, Shared, one_item};
-use occ_expressions::{
-    Bounds as BoundsForm, Builtin, DataBase, Dimension, Element, Expr, NamedOperand, Operand,
+use occ_expression_forms::{
+    Bounds, Builtin, DataBase, Dimension, Element, Expr, NamedOperand, Operand,
     TypeForm,
 };
 use occ_names::{Meaning, Scope, carries, data_type};
-use occ_operators::{Fault, Kind, field, subscripted};
-use occ_terms::{Bounds, Term, item, size};
+use occ_operands::{Fault, Kind, field, subscripted};
+use occ_tables::{BoundTerms, Term, item, size};
 use occ_types::{OccType, Protocol, fields_of, unnamed};
 use std::alloc::{AllocError, Global};
 
@@ -511,26 +511,26 @@ fn component(
 #[cycle(walk)]
 pub fn bounds(
     alloc: Global,
-    bounds: &BoundsForm,
+    bounds: &Bounds,
     scope: &Scope,
     faults: &mut Items<Fault>,
-) -> Result<Bounds, AllocError>
+) -> Result<BoundTerms, AllocError>
     ensures bounds { IfOk result (λ found. found ≡ ((bounds_view bounds.now).said scope.now).bounds) }
     ensures faults { OnOk result (faults.new ≡ faults.old ++ ((bounds_view bounds.now).said scope.now).faults) }
 {
     match bounds {
-        BoundsForm::From(base) => {
+        Bounds::From(base) => {
             let base = expression(alloc, base.get(), scope, faults)?;
-            Ok(Bounds::From(base))
+            Ok(BoundTerms::From(base))
         }
-        BoundsForm::For(count) => {
+        Bounds::For(count) => {
             let count = expression(alloc, count.get(), scope, faults)?;
-            Ok(Bounds::For(count))
+            Ok(BoundTerms::For(count))
         }
-        BoundsForm::FromFor(base, count) => {
+        Bounds::FromFor(base, count) => {
             let base = expression(alloc, base.get(), scope, faults)?;
             let count = expression(alloc, count.get(), scope, faults)?;
-            Ok(Bounds::FromFor(base, count))
+            Ok(BoundTerms::FromFor(base, count))
         }
     }
 }

@@ -1,29 +1,29 @@
 -- What the views of the first sublanguage are at each variant of a tree.
 use Rattle.std.proofs.Common.{◌≡◌, ◌∙◌, sym, ap, ℕ, Bool, List}
-use Rattle.occ_expressions.specs.declared.tree.Bounds.{Bounds}
-use Rattle.occ_expressions.specs.declared.tree.Builtin.{Builtin}
-use Rattle.occ_expressions.specs.declared.tree.ChannelWords.{ChannelWords}
-use Rattle.occ_expressions.specs.declared.tree.DataBase.{DataBase}
-use Rattle.occ_expressions.specs.declared.tree.Dimension.{Dimension}
-use Rattle.occ_expressions.specs.declared.tree.Extreme.{Extreme}
-use Rattle.occ_expressions.specs.declared.tree.Literal.{Literal}
-use Rattle.occ_expressions.specs.declared.tree.MonadicOperator.{MonadicOperator}
-use Rattle.occ_expressions.specs.declared.tree.NamedOperand.{NamedOperand}
-use Rattle.occ_expressions.specs.declared.tree.PairOperator.{PairOperator}
-use Rattle.occ_expressions.specs.declared.tree.Primitive.{Primitive}
-use Rattle.occ_expressions.specs.declared.tree.RunOperator.{RunOperator}
-use Rattle.occ_expressions.specs.declared.tree.TypeForm.{TypeForm}
-use Rattle.occ_expressions.specs.declared.tree.Element.{Element as AnyElement}
-use Rattle.occ_expressions.specs.declared.tree.Expr.{Expr as AnyExpr}
-use Rattle.occ_expressions.specs.declared.tree.Operand.{Operand as AnyOperand}
-use Rattle.occ_expressions.specs.declared.tree.Builtin.TheVariants as uv
-use Rattle.occ_expressions.specs.declared.tree.Dimension.TheVariants as dv
-use Rattle.occ_expressions.specs.declared.tree.Element.TheVariants as ev
-use Rattle.occ_expressions.specs.declared.tree.Expr.TheVariants as xv
-use Rattle.occ_expressions.specs.declared.tree.Operand.TheVariants as ov
-use Rattle.occ_expressions.specs.declared.tree.TypeForm.TheVariants as tv
-use Rattle.occ_expressions.specs.declared.tree.Bounds.TheOpen.{Builtin-F, Dimension-F, Element-F, Expr-F, Operand-F, TypeForm-F}
-use Rattle.occ_expressions.specs.declared.tree.Bounds.TheViews.{out-roll-Builtin, out-roll-Dimension, out-roll-Element, out-roll-Expr, out-roll-Operand, out-roll-TypeForm}
+use Rattle.occ_expression_forms.specs.declared.tree.Bounds.{Bounds}
+use Rattle.occ_expression_forms.specs.declared.tree.Builtin.{Builtin}
+use Rattle.occ_expression_forms.specs.declared.tree.ChannelWords.{ChannelWords}
+use Rattle.occ_expression_forms.specs.declared.tree.DataBase.{DataBase}
+use Rattle.occ_expression_forms.specs.declared.tree.Dimension.{Dimension}
+use Rattle.occ_expression_forms.specs.declared.tree.Extreme.{Extreme}
+use Rattle.occ_expression_forms.specs.declared.tree.Literal.{Literal}
+use Rattle.occ_expression_forms.specs.declared.tree.MonadicOperator.{MonadicOperator}
+use Rattle.occ_expression_forms.specs.declared.tree.NamedOperand.{NamedOperand}
+use Rattle.occ_expression_forms.specs.declared.tree.PairOperator.{PairOperator}
+use Rattle.occ_expression_forms.specs.declared.tree.PrimitiveWord.{PrimitiveWord}
+use Rattle.occ_expression_forms.specs.declared.tree.RunOperator.{RunOperator}
+use Rattle.occ_expression_forms.specs.declared.tree.TypeForm.{TypeForm}
+use Rattle.occ_expression_forms.specs.declared.tree.Element.{Element as AnyElement}
+use Rattle.occ_expression_forms.specs.declared.tree.Expr.{Expr as AnyExpr}
+use Rattle.occ_expression_forms.specs.declared.tree.Operand.{Operand as AnyOperand}
+use Rattle.occ_expression_forms.specs.declared.tree.Builtin.TheVariants as uv
+use Rattle.occ_expression_forms.specs.declared.tree.Dimension.TheVariants as dv
+use Rattle.occ_expression_forms.specs.declared.tree.Element.TheVariants as ev
+use Rattle.occ_expression_forms.specs.declared.tree.Expr.TheVariants as xv
+use Rattle.occ_expression_forms.specs.declared.tree.Operand.TheVariants as ov
+use Rattle.occ_expression_forms.specs.declared.tree.TypeForm.TheVariants as tv
+use Rattle.occ_expression_forms.specs.declared.tree.Bounds.TheOpen.{Builtin-F, Dimension-F, Element-F, Expr-F, Operand-F, TypeForm-F}
+use Rattle.occ_expression_forms.specs.declared.tree.Bounds.TheViews.{out-roll-Builtin, out-roll-Dimension, out-roll-Element, out-roll-Expr, out-roll-Operand, out-roll-TypeForm}
 use Rattle.occ_first.specs.View.{dimension_of, dimension_step, element_of, element_step, expr_number, expr_number_step, expr_of, expr_step, is_int, is_int_step, operand_number, operand_number_step, operand_of, operand_step, type_of, type_step}
 
 pub operand_number_element : (el : AnyElement) → operand_number (ov.Element el) ≡ operand_number_step (Operand-F.Operand::Element el)
@@ -162,7 +162,7 @@ pub expr_of_most : (x : Extreme) (type : TypeForm) → expr_of (xv.Most x type) 
 unfolding expr_of
 expr_of_most x type = ap expr_of (sym (xv.rolls-Most x type)) ∙ ap expr_step (out-roll-Expr (Expr-F.Most x type))
 
-pub is_int_primitive : (p : Primitive) → is_int (uv.Primitive p) ≡ is_int_step (Builtin-F.Primitive p)
+pub is_int_primitive : (p : PrimitiveWord) → is_int (uv.Primitive p) ≡ is_int_step (Builtin-F.Primitive p)
 unfolding is_int
 is_int_primitive p = ap is_int (sym (uv.rolls-Primitive p)) ∙ ap is_int_step (out-roll-Builtin (Builtin-F.Primitive p))
 

@@ -1,23 +1,23 @@
 -- What a line is in the first sublanguage, if it belongs to it.
 use Rattle.std.specs.Prelude.{ℕ, Bool, true, false, List, [], ◌∷◌, Option, Some, None, map}
-use Rattle.occ_expressions.specs.declared.tree.Bounds.{Bounds}
-use Rattle.occ_expressions.specs.declared.tree.Bounds.TheOpen.{Builtin-F, Dimension-F, Element-F, Expr-F, Operand-F, TypeForm-F}
-use Rattle.occ_expressions.specs.declared.tree.Builtin.{Builtin, out-Builtin}
-use Rattle.occ_expressions.specs.declared.tree.Dimension.{Dimension, out-Dimension}
-use Rattle.occ_expressions.specs.declared.tree.Element.{out-Element}
-use Rattle.occ_expressions.specs.declared.tree.Element.{Element as AnyElement}
-use Rattle.occ_expressions.specs.declared.tree.Expr.{out-Expr}
-use Rattle.occ_expressions.specs.declared.tree.Expr.{Expr as AnyExpr}
-use Rattle.occ_expressions.specs.declared.tree.Literal.{Literal}
-use Rattle.occ_expressions.specs.declared.tree.Literal.TheVariants as literal
-use Rattle.occ_expressions.specs.declared.tree.NamedOperand.{NamedOperand}
-use Rattle.occ_expressions.specs.declared.tree.Operand.{out-Operand}
-use Rattle.occ_expressions.specs.declared.tree.Operand.{Operand as AnyOperand}
-use Rattle.occ_expressions.specs.declared.tree.Primitive.{Primitive}
-use Rattle.occ_expressions.specs.declared.tree.Primitive.TheVariants as primitive
-use Rattle.occ_expressions.specs.declared.tree.RunOperator.{RunOperator}
-use Rattle.occ_expressions.specs.declared.tree.RunOperator.TheVariants as run
-use Rattle.occ_expressions.specs.declared.tree.TypeForm.{TypeForm, out-TypeForm}
+use Rattle.occ_expression_forms.specs.declared.tree.Bounds.{Bounds}
+use Rattle.occ_expression_forms.specs.declared.tree.Bounds.TheOpen.{Builtin-F, Dimension-F, Element-F, Expr-F, Operand-F, TypeForm-F}
+use Rattle.occ_expression_forms.specs.declared.tree.Builtin.{Builtin, out-Builtin}
+use Rattle.occ_expression_forms.specs.declared.tree.Dimension.{Dimension, out-Dimension}
+use Rattle.occ_expression_forms.specs.declared.tree.Element.{out-Element}
+use Rattle.occ_expression_forms.specs.declared.tree.Element.{Element as AnyElement}
+use Rattle.occ_expression_forms.specs.declared.tree.Expr.{out-Expr}
+use Rattle.occ_expression_forms.specs.declared.tree.Expr.{Expr as AnyExpr}
+use Rattle.occ_expression_forms.specs.declared.tree.Literal.{Literal}
+use Rattle.occ_expression_forms.specs.declared.tree.Literal.TheVariants as literal
+use Rattle.occ_expression_forms.specs.declared.tree.NamedOperand.{NamedOperand}
+use Rattle.occ_expression_forms.specs.declared.tree.Operand.{out-Operand}
+use Rattle.occ_expression_forms.specs.declared.tree.Operand.{Operand as AnyOperand}
+use Rattle.occ_expression_forms.specs.declared.tree.PrimitiveWord.{PrimitiveWord}
+use Rattle.occ_expression_forms.specs.declared.tree.PrimitiveWord.TheVariants as primitive
+use Rattle.occ_expression_forms.specs.declared.tree.RunOperator.{RunOperator}
+use Rattle.occ_expression_forms.specs.declared.tree.RunOperator.TheVariants as run
+use Rattle.occ_expression_forms.specs.declared.tree.TypeForm.{TypeForm, out-TypeForm}
 use Rattle.occ_first.specs.declared.line.Body.{Body}
 use Rattle.occ_first.specs.declared.line.Body.TheVariants as body
 use Rattle.occ_first.specs.declared.line.Element.{Element}
@@ -38,14 +38,14 @@ use Rattle.occ_forms.specs.declared.tree.Construct.{Construct}
 use Rattle.occ_forms.specs.declared.tree.Construct.TheVariants as construct
 use Rattle.occ_forms.specs.declared.tree.Form.{Form as AnyForm}
 use Rattle.occ_forms.specs.declared.tree.Form.TheVariants as any
-use Rattle.occ_forms.specs.declared.tree.Kind.TheVariants as kind
-use Rattle.occ_specifications.specs.declared.tree.Head.{Head}
-use Rattle.occ_specifications.specs.declared.tree.Head.TheVariants as head
-use Rattle.occ_specifications.specs.declared.tree.Inlined.TheVariants as inlined
-use Rattle.occ_specifications.specs.declared.tree.Specification.{Specification}
-use Rattle.occ_specifications.specs.declared.tree.Specification.TheVariants as specification
-use Rattle.occ_specifications.specs.declared.tree.Specified.{Specified}
-use Rattle.occ_specifications.specs.declared.tree.Specified.TheVariants as specified
+use Rattle.occ_forms.specs.declared.tree.ConstructKind.TheVariants as kind
+use Rattle.occ_specification_forms.specs.declared.tree.Head.{Head}
+use Rattle.occ_specification_forms.specs.declared.tree.Head.TheVariants as head
+use Rattle.occ_specification_forms.specs.declared.tree.Inlined.TheVariants as inlined
+use Rattle.occ_specification_forms.specs.declared.tree.Specification.{Specification}
+use Rattle.occ_specification_forms.specs.declared.tree.Specification.TheVariants as specification
+use Rattle.occ_specification_forms.specs.declared.tree.Specified.{Specified}
+use Rattle.occ_specification_forms.specs.declared.tree.Specified.TheVariants as specified
 
 -- a number in decimal digits alone
 abbrev pub literal_number : Literal → Option ℕ
@@ -144,7 +144,7 @@ unfoldable pub expr_of : AnyExpr → Option Expr
 expr_of e = expr_step (out-Expr e)
 
 -- the type is INT
-abbrev pub is_int_primitive : Primitive → Bool
+abbrev pub is_int_primitive : PrimitiveWord → Bool
 is_int_primitive primitive.Int = true
 is_int_primitive other = false
 

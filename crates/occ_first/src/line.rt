@@ -1,7 +1,7 @@
 use occ_base::{Items, Name};
 
 /// A variable, whole or at a subscript.
-#[derive(Debug, Drop)]
+#[derive(Drop)]
 pub enum Element {
     /// `n`
     Whole(Name),
@@ -10,7 +10,7 @@ pub enum Element {
 }
 
 /// What an expression is made of.
-#[derive(Debug, Drop)]
+#[derive(Drop)]
 pub enum Operand {
     Element(Element),
     /// A number in decimal digits.
@@ -18,7 +18,7 @@ pub enum Operand {
 }
 
 /// The right side of an assignment.
-#[derive(Debug, Drop)]
+#[derive(Drop)]
 pub enum Expr {
     Alone(Operand),
     /// `a + b`
@@ -26,7 +26,7 @@ pub enum Expr {
 }
 
 /// The form of a line of the first sublanguage.
-#[derive(Debug, Drop)]
+#[derive(Drop)]
 pub enum Form {
     /// The head of a procedure, `PROC n ()`.
     Procedure(Name),
@@ -46,7 +46,7 @@ pub enum Form {
 }
 
 /// What a line holds.
-#[derive(Debug, Drop)]
+#[derive(Drop)]
 pub enum Body {
     Form(Form),
     /// What the first sublanguage does not have.
@@ -54,7 +54,7 @@ pub enum Body {
 }
 
 /// A line as the first sublanguage has it.
-#[derive(Debug, Drop)]
+#[derive(Drop)]
 pub struct Line {
     /// The line of the text on which it begins, from 1.
     pub line: u32,

@@ -6,14 +6,14 @@ use occ_base::{Items, Name};
 use std::alloc::{AllocError, Global};
 
 /// What is done to an element.
-#[derive(Clone, Copy, Debug, PartialEq, Eq)]
+#[derive(Clone, Copy, PartialEq, Eq)]
 pub enum Access {
     Read,
     Written,
 }
 
 /// An element that an assignment names.
-#[derive(Debug, Drop)]
+#[derive(Drop)]
 pub struct Mention {
     pub name: Name,
     pub subscript: Option<u64>,

@@ -4,7 +4,7 @@ ghost use Rattle.occ_first.specs.Nesting.{role_of, under as lines_under};
 use super::line::{Body, Form, Line};
 
 /// The part that a line plays among its siblings.
-#[derive(Clone, Copy, Debug, PartialEq, Eq)]
+#[derive(Clone, Copy, PartialEq, Eq)]
 pub enum Role {
     /// A main process.
     Process,

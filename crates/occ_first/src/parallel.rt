@@ -13,7 +13,7 @@ use occ_base::{Code, Diag, FileName, Items, Name};
 use std::alloc::{AllocError, Global};
 
 /// A use of a variable in a component of a PAR.
-#[derive(Debug, Drop)]
+#[derive(Drop)]
 pub struct Use {
     /// The place of the component.
     pub component: usize,

@@ -9,7 +9,7 @@ use occ_base::{Items, Name};
 use std::alloc::{AllocError, Global};
 
 /// What a specification makes its name stand for.
-#[derive(Clone, Copy, Debug, PartialEq, Eq)]
+#[derive(Clone, Copy, PartialEq, Eq)]
 pub enum Sort {
     Variable,
     Procedure,
@@ -17,7 +17,7 @@ pub enum Sort {
 
 /// A specification, and the places that its name reaches: from `from` on, and before `to`. A place is the
 /// number of a line among the lines, from 0.
-#[derive(Debug, Drop)]
+#[derive(Drop)]
 pub struct Specification {
     pub name: Name,
     pub place: usize,

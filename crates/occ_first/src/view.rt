@@ -3,10 +3,10 @@ ghost use Rattle.std.specs.Prelude.{◌≡◌, IfOk};
 
 use super::line::{Body, Element, Expr, Form, Line, Operand};
 use occ_base::{Items, Name};
-use occ_expressions::{Builtin, Dimension, Literal, Primitive, RunOperator, TypeForm};
-use occ_forms::{Action, Construct, Kind};
+use occ_expression_forms::{Builtin, Dimension, Literal, PrimitiveWord, RunOperator, TypeForm};
+use occ_forms::{Action, Construct, ConstructKind};
 use occ_project::{ExpandedBody, ExpandedLine};
-use occ_specifications::{Head, Inlined, Specification, Specified};
+use occ_specification_forms::{Head, Inlined, Specification, Specified};
 use std::alloc::{AllocError, Global};
 
 /// The number that the literal is, if it is one in decimal digits.
@@ -21,35 +21,35 @@ fn number_in_literal(literal: &Literal) -> Option<u64>
 
 /// The number that the operand is, if it is one in decimal digits.
 #[tactic(auto, using(crate::proofs::Viewed::view_rules))]
-fn number_in_operand(operand: &occ_expressions::Operand) -> Option<u64>
+fn number_in_operand(operand: &occ_expression_forms::Operand) -> Option<u64>
     ensures { result ≡ operand_number operand.now }
 {
     match operand {
-        occ_expressions::Operand::Literal(literal) => number_in_literal(literal),
-        occ_expressions::Operand::Element(_)
-        | occ_expressions::Operand::Decorated(_, _)
-        | occ_expressions::Operand::Truth(_)
-        | occ_expressions::Operand::Parens(_)
-        | occ_expressions::Operand::Table(_, _)
-        | occ_expressions::Operand::DecoratedTable(_, _, _)
-        | occ_expressions::Operand::Call(_, _) => None,
+        occ_expression_forms::Operand::Literal(literal) => number_in_literal(literal),
+        occ_expression_forms::Operand::Element(_)
+        | occ_expression_forms::Operand::Decorated(_, _)
+        | occ_expression_forms::Operand::Truth(_)
+        | occ_expression_forms::Operand::Parens(_)
+        | occ_expression_forms::Operand::Table(_, _)
+        | occ_expression_forms::Operand::DecoratedTable(_, _, _)
+        | occ_expression_forms::Operand::Call(_, _) => None,
     }
 }
 
 /// The number that the expression is, if it is one in decimal digits.
 #[tactic(auto, using(crate::proofs::Viewed::view_rules))]
-fn number_in_expr(expr: &occ_expressions::Expr) -> Option<u64>
+fn number_in_expr(expr: &occ_expression_forms::Expr) -> Option<u64>
     ensures { result ≡ expr_number expr.now }
 {
     match expr {
-        occ_expressions::Expr::Alone(operand) => number_in_operand(operand.get()),
-        occ_expressions::Expr::Run(_, _, _, _)
-        | occ_expressions::Expr::Pair(_, _, _)
-        | occ_expressions::Expr::Applied(_, _)
-        | occ_expressions::Expr::Converted(_, _, _)
-        | occ_expressions::Expr::ArrayConverted(_, _, _, _)
-        | occ_expressions::Expr::Named(_, _)
-        | occ_expressions::Expr::Most(_, _) => None,
+        occ_expression_forms::Expr::Alone(operand) => number_in_operand(operand.get()),
+        occ_expression_forms::Expr::Run(_, _, _, _)
+        | occ_expression_forms::Expr::Pair(_, _, _)
+        | occ_expression_forms::Expr::Applied(_, _)
+        | occ_expression_forms::Expr::Converted(_, _, _)
+        | occ_expression_forms::Expr::ArrayConverted(_, _, _, _)
+        | occ_expression_forms::Expr::Named(_, _)
+        | occ_expression_forms::Expr::Most(_, _) => None,
     }
 }
 
@@ -57,7 +57,7 @@ fn number_in_expr(expr: &occ_expressions::Expr) -> Option<u64>
 fn named_variable(
     alloc: Global,
     name: &Name,
-    subscripts: &[occ_expressions::Expr],
+    subscripts: &[occ_expression_forms::Expr],
 ) -> Result<Option<Element>, AllocError>
     ensures { IfOk result (λ r. r ≡ named_element name.now subscripts.now) }
 {
@@ -75,15 +75,15 @@ fn named_variable(
 #[tactic(auto, using(crate::proofs::Viewed::view_rules))]
 fn variable(
     alloc: Global,
-    element: &occ_expressions::Element,
+    element: &occ_expression_forms::Element,
 ) -> Result<Option<Element>, AllocError>
     ensures { IfOk result (λ r. r ≡ element_of element.now) }
 {
     match element {
-        occ_expressions::Element::Named(name, subscripts) => {
+        occ_expression_forms::Element::Named(name, subscripts) => {
             named_variable(alloc, name, subscripts.as_slice())
         }
-        occ_expressions::Element::Segment(_, _, _) => Ok(None),
+        occ_expression_forms::Element::Segment(_, _, _) => Ok(None),
     }
 }
 
@@ -91,33 +91,33 @@ fn variable(
 #[tactic(auto, using(crate::proofs::Viewed::view_rules))]
 fn operand_view(
     alloc: Global,
-    operand: &occ_expressions::Operand,
+    operand: &occ_expression_forms::Operand,
 ) -> Result<Option<Operand>, AllocError>
     ensures { IfOk result (λ r. r ≡ operand_of operand.now) }
 {
     match operand {
-        occ_expressions::Operand::Element(element) => match variable(alloc, element.get())? {
+        occ_expression_forms::Operand::Element(element) => match variable(alloc, element.get())? {
             Some(variable) => Ok(Some(Operand::Element(variable))),
             None => Ok(None),
         },
-        occ_expressions::Operand::Literal(literal) => match number_in_literal(literal) {
+        occ_expression_forms::Operand::Literal(literal) => match number_in_literal(literal) {
             Some(number) => Ok(Some(Operand::Decimal(number))),
             None => Ok(None),
         },
-        occ_expressions::Operand::Decorated(_, _)
-        | occ_expressions::Operand::Truth(_)
-        | occ_expressions::Operand::Parens(_)
-        | occ_expressions::Operand::Table(_, _)
-        | occ_expressions::Operand::DecoratedTable(_, _, _)
-        | occ_expressions::Operand::Call(_, _) => Ok(None),
+        occ_expression_forms::Operand::Decorated(_, _)
+        | occ_expression_forms::Operand::Truth(_)
+        | occ_expression_forms::Operand::Parens(_)
+        | occ_expression_forms::Operand::Table(_, _)
+        | occ_expression_forms::Operand::DecoratedTable(_, _, _)
+        | occ_expression_forms::Operand::Call(_, _) => Ok(None),
     }
 }
 
 /// The sum of the two operands.
 fn sum_view(
     alloc: Global,
-    first: &occ_expressions::Operand,
-    second: &occ_expressions::Operand,
+    first: &occ_expression_forms::Operand,
+    second: &occ_expression_forms::Operand,
 ) -> Result<Option<Expr>, AllocError>
     ensures { IfOk result (λ r. r ≡ sum (operand_of first.now) (operand_of second.now)) }
 {
@@ -134,9 +134,9 @@ fn sum_view(
 fn run_view(
     alloc: Global,
     operator: RunOperator,
-    first: &occ_expressions::Operand,
-    second: &occ_expressions::Operand,
-    more: &[occ_expressions::Operand],
+    first: &occ_expression_forms::Operand,
+    second: &occ_expression_forms::Operand,
+    more: &[occ_expression_forms::Operand],
 ) -> Result<Option<Expr>, AllocError>
     ensures { IfOk result (λ r. r ≡ run_of operator first.now second.now more.now) }
 {
@@ -148,23 +148,23 @@ fn run_view(
 
 /// The expression, as the first sublanguage has it.
 #[tactic(auto, using(crate::proofs::Viewed::view_rules))]
-fn expr_view(alloc: Global, expr: &occ_expressions::Expr) -> Result<Option<Expr>, AllocError>
+fn expr_view(alloc: Global, expr: &occ_expression_forms::Expr) -> Result<Option<Expr>, AllocError>
     ensures { IfOk result (λ r. r ≡ expr_of expr.now) }
 {
     match expr {
-        occ_expressions::Expr::Alone(operand) => match operand_view(alloc, operand.get())? {
+        occ_expression_forms::Expr::Alone(operand) => match operand_view(alloc, operand.get())? {
             Some(operand) => Ok(Some(Expr::Alone(operand))),
             None => Ok(None),
         },
-        occ_expressions::Expr::Run(operator, first, second, more) => {
+        occ_expression_forms::Expr::Run(operator, first, second, more) => {
             run_view(alloc, *operator, first.get(), second.get(), more.as_slice())
         }
-        occ_expressions::Expr::Pair(_, _, _)
-        | occ_expressions::Expr::Applied(_, _)
-        | occ_expressions::Expr::Converted(_, _, _)
-        | occ_expressions::Expr::ArrayConverted(_, _, _, _)
-        | occ_expressions::Expr::Named(_, _)
-        | occ_expressions::Expr::Most(_, _) => Ok(None),
+        occ_expression_forms::Expr::Pair(_, _, _)
+        | occ_expression_forms::Expr::Applied(_, _)
+        | occ_expression_forms::Expr::Converted(_, _, _)
+        | occ_expression_forms::Expr::ArrayConverted(_, _, _, _)
+        | occ_expression_forms::Expr::Named(_, _)
+        | occ_expression_forms::Expr::Most(_, _) => Ok(None),
     }
 }
 
@@ -174,7 +174,7 @@ fn is_int_type(form: &Builtin) -> bool
     ensures { result ≡ is_int form.now }
 {
     match form {
-        Builtin::Primitive(primitive) => matches!(primitive, Primitive::Int),
+        Builtin::Primitive(primitive) => matches!(primitive, PrimitiveWord::Int),
         Builtin::Timer
         | Builtin::AnyChannel(_)
         | Builtin::Channel(_, _, _)
@@ -282,8 +282,8 @@ fn specified_view(alloc: Global, specified: &Specified) -> Result<Option<Form>, 
 /// The assignment of one expression to one variable.
 fn assignment_view(
     alloc: Global,
-    target: &occ_expressions::Element,
-    value: &occ_expressions::Expr,
+    target: &occ_expression_forms::Element,
+    value: &occ_expression_forms::Expr,
 ) -> Result<Option<Form>, AllocError>
     ensures { IfOk result (λ r. r ≡ assignment (element_of target.now) (expr_of value.now)) }
 {
@@ -317,8 +317,8 @@ fn construct_view(construct: &Construct) -> Option<Form>
     ensures { result ≡ construct_of construct.now }
 {
     match construct {
-        Construct::Replicable(Kind::Sequence, None) => Some(Form::Sequence),
-        Construct::Replicable(Kind::Parallel, None) => Some(Form::Parallel),
+        Construct::Replicable(ConstructKind::Sequence, None) => Some(Form::Sequence),
+        Construct::Replicable(ConstructKind::Parallel, None) => Some(Form::Parallel),
         _ => None,
     }
 }

@@ -4,13 +4,13 @@ use Rattle.std.specs.declared.alloc.AllocError.{AllocError}
 use Rattle.occ_lines.specs.declared.token.Symbol.TheVariants as s
 use Rattle.occ_lines.specs.declared.token.Token.{Token}
 use Rattle.occ_lines.specs.declared.token.Token.TheVariants as t
-use Rattle.occ_expressions.specs.declared.tree.Element.{Element}
-use Rattle.occ_expressions.specs.declared.tree.Expr.{Expr}
-use Rattle.occ_expressions.specs.Marks.{first_mark}
-use Rattle.occ_expressions.specs.declared.tree.TypeForm.{TypeForm}
-use Rattle.occ_expressions.specs.Spelling.{Spelling, element_then, expr_then, many, type_form_then}
-use Rattle.occ_expressions.proofs.Inner.{inner_type_form}
-use Rattle.occ_expressions.proofs.Marks.{PassesMarks, element_mark, expr_mark, type_form_mark}
+use Rattle.occ_expression_forms.specs.declared.tree.Element.{Element}
+use Rattle.occ_expression_forms.specs.declared.tree.Expr.{Expr}
+use Rattle.occ_expression_forms.specs.Marks.{first_mark}
+use Rattle.occ_expression_forms.specs.declared.tree.TypeForm.{TypeForm}
+use Rattle.occ_expression_forms.specs.Spelling.{Spelling, element_then, expr_then, many, type_form_then}
+use Rattle.occ_expression_forms.proofs.Inner.{inner_type_form}
+use Rattle.occ_expression_forms.proofs.Marks.{PassesMarks, element_mark, expr_mark, type_form_mark}
 use Rattle.occ_forms.specs.declared.class.Class.{Class}
 use Rattle.occ_forms.specs.declared.class.Class.TheVariants as cl
 use Rattle.occ_forms.specs.declared.tree.Action.TheVariants as ac
@@ -21,21 +21,21 @@ use Rattle.occ_forms.specs.declared.tree.Form.TheVariants as fo
 use Rattle.occ_forms.specs.declared.tree.Guarded.{Guarded}
 use Rattle.occ_forms.specs.declared.tree.Input.{Input}
 use Rattle.occ_forms.specs.declared.tree.Input.TheVariants as ip
-use Rattle.occ_forms.specs.declared.tree.Kind.{Kind}
-use Rattle.occ_forms.specs.declared.tree.Kind.TheVariants as ki
+use Rattle.occ_forms.specs.declared.tree.ConstructKind.{ConstructKind}
+use Rattle.occ_forms.specs.declared.tree.ConstructKind.TheVariants as ki
 use Rattle.occ_forms.specs.declared.tree.OutputItem.{OutputItem}
 use Rattle.occ_forms.specs.declared.tree.Part.TheVariants as pa
 use Rattle.occ_forms.specs.declared.tree.Replicator.{Replicator}
-use Rattle.occ_specifications.specs.Spelling.{colon, function_head_then, function_then, inlined_then, listed, name_then, next, recast_word, specified_tokens}
-use Rattle.occ_specifications.specs.declared.tree.FunctionHead.{FunctionHead}
-use Rattle.occ_specifications.specs.declared.tree.Head.TheVariants as he
-use Rattle.occ_specifications.specs.declared.tree.Inlined.{Inlined}
-use Rattle.occ_specifications.specs.declared.tree.Inlined.TheVariants as nl
-use Rattle.occ_specifications.specs.declared.tree.Recast.{Recast}
-use Rattle.occ_specifications.specs.declared.tree.Recast.TheVariants as rc
-use Rattle.occ_specifications.specs.declared.tree.Specification.TheVariants as sp
-use Rattle.occ_specifications.specs.declared.tree.Specified.{Specified}
-use Rattle.occ_specifications.specs.declared.tree.Specified.TheVariants as sd
+use Rattle.occ_specification_forms.specs.Spelling.{colon, function_head_then, function_then, inlined_then, listed, name_then, next, recast_word, specified_tokens}
+use Rattle.occ_specification_forms.specs.declared.tree.FunctionHead.{FunctionHead}
+use Rattle.occ_specification_forms.specs.declared.tree.Head.TheVariants as he
+use Rattle.occ_specification_forms.specs.declared.tree.Inlined.{Inlined}
+use Rattle.occ_specification_forms.specs.declared.tree.Inlined.TheVariants as nl
+use Rattle.occ_specification_forms.specs.declared.tree.Recast.{Recast}
+use Rattle.occ_specification_forms.specs.declared.tree.Recast.TheVariants as rc
+use Rattle.occ_specification_forms.specs.declared.tree.Specification.TheVariants as sp
+use Rattle.occ_specification_forms.specs.declared.tree.Specified.{Specified}
+use Rattle.occ_specification_forms.specs.declared.tree.Specified.TheVariants as sd
 use Rattle.occ_lines.specs.declared.token.Word.TheVariants as w
 use Rattle.occ_forms.specs.Classes.{class_at, class_of}
 use Rattle.occ_forms.specs.Reading.{IsFormOf}
@@ -51,7 +51,7 @@ pub data FormAt (form : Form) : Class → Type 0 where
   at_assignment : (el : Element) (els : List Element) (e : Expr) (es : List Expr) → form ≡ fo.Action (ac.Assignment el els e es) → FormAt form cl.Assignment
   at_output : (el : Element) (x : OutputItem) (xs : List OutputItem) → form ≡ fo.Action (ac.Output el x xs) → FormAt form cl.Output
   at_input : (input : Input) → form ≡ fo.Action (ac.Input input) → FormAt form cl.Input
-  at_replicable : (kind : Kind) (r : Option Replicator) → form ≡ fo.Construct (co.Replicable kind r) → FormAt form cl.Replicable
+  at_replicable : (kind : ConstructKind) (r : Option Replicator) → form ≡ fo.Construct (co.Replicable kind r) → FormAt form cl.Replicable
   at_while : (e : Expr) → form ≡ fo.Construct (co.While e) → FormAt form cl.While
   at_case : (e : Expr) → form ≡ fo.Construct (co.Case e) → FormAt form cl.Case
   at_case_input : (el : Element) → form ≡ fo.Construct (co.CaseInput el) → FormAt form cl.Input
@@ -206,7 +206,7 @@ input_line tokens (Ok answer) is found only1 only2 = record { found = found; onl
   by x e (at_case_input el q) = only2 el (e ∙ ap form_tokens q) ∙ ap (λ (y : Form). Some y) (sym q)
 
 pub replicable_line : (tokens : List Token) (result : Result (Option Form) AllocError) → class_of tokens ≡ cl.Replicable → IfOk result (Finds tokens)
-    → IfOk result (λ answer. (kind : Kind) (r : Option Replicator) → Answers tokens answer (fo.Construct (co.Replicable kind r)))
+    → IfOk result (λ answer. (kind : ConstructKind) (r : Option Replicator) → Answers tokens answer (fo.Construct (co.Replicable kind r)))
     → IfOk result (IsFormOf tokens)
 replicable_line tokens (Err _) is found only = tt
 replicable_line tokens (Ok answer) is found only = record { found = found; only = λ x e. by x e (form_at x tokens cl.Replicable e is) } where

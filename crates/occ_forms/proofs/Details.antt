@@ -5,36 +5,36 @@ use Rattle.occ_lines.specs.declared.token.Symbol.TheVariants as s
 use Rattle.occ_lines.specs.declared.token.Token.{Token}
 use Rattle.occ_lines.specs.declared.token.Token.TheVariants as t
 use Rattle.occ_lines.specs.declared.token.Word.TheVariants as w
-use Rattle.occ_expressions.specs.declared.bracket.Closing.TheVariants as cl
-use Rattle.occ_expressions.specs.declared.tree.Bounds.{Bounds}
-use Rattle.occ_expressions.specs.declared.tree.Bounds.TheOpen.{TypeForm-F}
-use Rattle.occ_expressions.specs.declared.tree.Bounds.TheViews.{out-roll-TypeForm}
-use Rattle.occ_expressions.specs.declared.tree.Builtin.{Builtin}
-use Rattle.occ_expressions.specs.declared.tree.Builtin.TheVariants as uv
-use Rattle.occ_expressions.specs.declared.tree.ChannelWords.{ChannelWords}
-use Rattle.occ_expressions.specs.declared.tree.ChannelWords.TheVariants as ch
-use Rattle.occ_expressions.specs.declared.tree.DataBase.{DataBase}
-use Rattle.occ_expressions.specs.declared.tree.DataBase.TheVariants as da
-use Rattle.occ_expressions.specs.declared.tree.DataForm.{DataForm}
-use Rattle.occ_expressions.specs.declared.tree.Dimension.{Dimension}
-use Rattle.occ_expressions.specs.declared.tree.Element.{Element}
-use Rattle.occ_expressions.specs.declared.tree.Element.TheVariants as ev
-use Rattle.occ_expressions.specs.declared.tree.Expr.{Expr}
-use Rattle.occ_expressions.specs.declared.tree.Expr.TheVariants as xv
-use Rattle.occ_expressions.specs.declared.tree.NamedOperand.{NamedOperand}
-use Rattle.occ_expressions.specs.declared.tree.Operand.{Operand}
-use Rattle.occ_expressions.specs.declared.tree.Operand.TheVariants as ov
-use Rattle.occ_expressions.specs.declared.tree.Primitive.{Primitive}
-use Rattle.occ_expressions.specs.declared.tree.TypeForm.{TypeForm, out-TypeForm}
-use Rattle.occ_expressions.specs.declared.tree.TypeForm.TheVariants as tv
-use Rattle.occ_expressions.specs.Brackets.{bounds_begin, closing_then}
-use Rattle.occ_expressions.specs.Reading.{IsNotCounted, Reads, ends_expr, is_counted}
-use Rattle.occ_expressions.specs.Spelling.{bounds_then, builtin_then, channel_words, counted_array, data_base_token, data_form_then, dimension_then, element_then, expr_then, many, subscript_of, type_form_then}
-use Rattle.occ_expressions.proofs.Begins.{no_expr}
-use Rattle.occ_expressions.proofs.Cases.{BoundsIs, bounds_is, bounds_is_for, bounds_is_from, bounds_is_from_for, bounds_for_spells, bounds_from_for_spells, bounds_from_spells, BuiltinIs, builtin_is, builtin_is_any_channel, builtin_is_channel, builtin_is_counted, builtin_is_primitive, builtin_is_timer, builtin_any_channel_spells, builtin_channel_spells, builtin_counted_spells, builtin_primitive_spells, builtin_timer_spells, DimensionIs, dimension_is, dimension_is_open, dimension_is_sized, dimension_open_spells, dimension_sized_spells, ElementIs, element_is, element_is_named, element_is_segment, element_named_spells, element_segment_spells, expr_alone_spells, operand_element_spells, type_form_builtin_spells}
-use Rattle.occ_expressions.proofs.Closings.{closing_ends}
-use Rattle.occ_expressions.proofs.Dimensions.{base_ends, builtin_ends, data_word, dimension_begins}
-use Rattle.occ_expressions.proofs.UniqueExprs.{one_dimension_of, one_expr}
+use Rattle.occ_expression_forms.specs.declared.bracket.Closing.TheVariants as cl
+use Rattle.occ_expression_forms.specs.declared.tree.Bounds.{Bounds}
+use Rattle.occ_expression_forms.specs.declared.tree.Bounds.TheOpen.{TypeForm-F}
+use Rattle.occ_expression_forms.specs.declared.tree.Bounds.TheViews.{out-roll-TypeForm}
+use Rattle.occ_expression_forms.specs.declared.tree.Builtin.{Builtin}
+use Rattle.occ_expression_forms.specs.declared.tree.Builtin.TheVariants as uv
+use Rattle.occ_expression_forms.specs.declared.tree.ChannelWords.{ChannelWords}
+use Rattle.occ_expression_forms.specs.declared.tree.ChannelWords.TheVariants as ch
+use Rattle.occ_expression_forms.specs.declared.tree.DataBase.{DataBase}
+use Rattle.occ_expression_forms.specs.declared.tree.DataBase.TheVariants as da
+use Rattle.occ_expression_forms.specs.declared.tree.DataForm.{DataForm}
+use Rattle.occ_expression_forms.specs.declared.tree.Dimension.{Dimension}
+use Rattle.occ_expression_forms.specs.declared.tree.Element.{Element}
+use Rattle.occ_expression_forms.specs.declared.tree.Element.TheVariants as ev
+use Rattle.occ_expression_forms.specs.declared.tree.Expr.{Expr}
+use Rattle.occ_expression_forms.specs.declared.tree.Expr.TheVariants as xv
+use Rattle.occ_expression_forms.specs.declared.tree.NamedOperand.{NamedOperand}
+use Rattle.occ_expression_forms.specs.declared.tree.Operand.{Operand}
+use Rattle.occ_expression_forms.specs.declared.tree.Operand.TheVariants as ov
+use Rattle.occ_expression_forms.specs.declared.tree.PrimitiveWord.{PrimitiveWord}
+use Rattle.occ_expression_forms.specs.declared.tree.TypeForm.{TypeForm, out-TypeForm}
+use Rattle.occ_expression_forms.specs.declared.tree.TypeForm.TheVariants as tv
+use Rattle.occ_expression_forms.specs.Brackets.{bounds_begin, closing_then}
+use Rattle.occ_expression_forms.specs.Reading.{IsNotCounted, Reads, ends_expr, is_counted}
+use Rattle.occ_expression_forms.specs.Spelling.{bounds_then, builtin_then, channel_words, counted_array, data_base_token, data_form_then, dimension_then, element_then, expr_then, many, subscript_of, type_form_then}
+use Rattle.occ_expression_forms.proofs.Begins.{no_expr}
+use Rattle.occ_expression_forms.proofs.Cases.{BoundsIs, bounds_is, bounds_is_for, bounds_is_from, bounds_is_from_for, bounds_for_spells, bounds_from_for_spells, bounds_from_spells, BuiltinIs, builtin_is, builtin_is_any_channel, builtin_is_channel, builtin_is_counted, builtin_is_primitive, builtin_is_timer, builtin_any_channel_spells, builtin_channel_spells, builtin_counted_spells, builtin_primitive_spells, builtin_timer_spells, DimensionIs, dimension_is, dimension_is_open, dimension_is_sized, dimension_open_spells, dimension_sized_spells, ElementIs, element_is, element_is_named, element_is_segment, element_named_spells, element_segment_spells, expr_alone_spells, operand_element_spells, type_form_builtin_spells}
+use Rattle.occ_expression_forms.proofs.Closings.{closing_ends}
+use Rattle.occ_expression_forms.proofs.Dimensions.{base_ends, builtin_ends, data_word, dimension_begins}
+use Rattle.occ_expression_forms.proofs.UniqueExprs.{one_dimension_of, one_expr}
 use Rattle.occ_forms.specs.declared.tree.Detail.{Detail}
 use Rattle.occ_forms.specs.declared.tree.Detail.TheVariants as de
 use Rattle.occ_forms.specs.Details.{typed_of}
@@ -101,20 +101,20 @@ element_name tokens form rest el k found read e = by (element_is el) where
   by (element_is_segment of b es q) = absurd (no_form of b es form.dimensions form.base (sym (ap (λ (x : Element). element_then x k) q) ∙ sym e ∙ found))
 
 -- a type of a reserved word that is spelled as a data type is a primitive one
-base_primitive : (base : DataBase) (b : Builtin) (j k : List Token) → data_base_token base ∷ j ≡ builtin_then b k → (p : Primitive) × (b ≡ uv.Primitive p)
+base_primitive : (base : DataBase) (b : Builtin) (j k : List Token) → data_base_token base ∷ j ≡ builtin_then b k → (p : PrimitiveWord) × (b ≡ uv.Primitive p)
 base_primitive base b j k e = by (builtin_is b) where
   channel : (c : ChannelWords) (z : List Token) → data_base_token base ∷ j ≡ channel_words c z → ⊥
   channel ch.Chan z q = data_word [] base j w.Chan z refl q
   channel ch.ChanOf z q = data_word [] base j w.Chan (t.Word w.Of ∷ z) refl q
 
-  by : BuiltinIs b → (p : Primitive) × (b ≡ uv.Primitive p)
+  by : BuiltinIs b → (p : PrimitiveWord) × (b ≡ uv.Primitive p)
   by (builtin_is_primitive p q) = (p, q)
   by (builtin_is_timer q) = absurd (data_word [] base j w.Timer k refl (e ∙ ap (λ (x : Builtin). builtin_then x k) q ∙ builtin_timer_spells k))
   by (builtin_is_any_channel c q) = absurd (channel c _ (e ∙ ap (λ (x : Builtin). builtin_then x k) q ∙ builtin_any_channel_spells c k))
   by (builtin_is_channel c ds a q) = absurd (channel c _ (e ∙ ap (λ (x : Builtin). builtin_then x k) q ∙ builtin_channel_spells c ds a k))
   by (builtin_is_counted c ds a es o q) = absurd (channel c _ (e ∙ ap (λ (x : Builtin). builtin_then x k) q ∙ builtin_counted_spells c ds a es o k))
 
-data_primitive : (ds es : List Dimension) (base : DataBase) (b : Builtin) (j k : List Token) → many dimension_then ds (data_base_token base ∷ j) ≡ many dimension_then es (builtin_then b k) → (p : Primitive) × (b ≡ uv.Primitive p)
+data_primitive : (ds es : List Dimension) (base : DataBase) (b : Builtin) (j k : List Token) → many dimension_then ds (data_base_token base ∷ j) ≡ many dimension_then es (builtin_then b k) → (p : PrimitiveWord) × (b ≡ uv.Primitive p)
 data_primitive [] [] base b j k e = base_primitive base b j k e
 data_primitive [] (d ∷ es) base b j k e = let h = dimension_begins d (many dimension_then es (builtin_then b k)) in absurd (base_ends base j h.0 (e ∙ h.1))
 data_primitive (d ∷ ds) [] base b j k e = let h = dimension_begins d (many dimension_then ds (data_base_token base ∷ j)) in absurd (builtin_ends b k h.0 (sym e ∙ h.1))
@@ -122,7 +122,7 @@ data_primitive (d ∷ ds) (f ∷ es) base b j k e = data_primitive ds es base b 
 
 -- and then it is read as one
 pub builtin_form : (tokens : List Token) (form : DataForm) (rest : List Token) (ds : List Dimension) (b : Builtin) (k : List Token) → tokens ≡ data_form_then form rest → IsFormRead tokens form rest
-    → tokens ≡ many dimension_then ds (builtin_then b k) → (p : Primitive) × (b ≡ uv.Primitive p) × (form ≡ record { dimensions = ds; base = da.Primitive p }) × (rest ≡ k)
+    → tokens ≡ many dimension_then ds (builtin_then b k) → (p : PrimitiveWord) × (b ≡ uv.Primitive p) × (form ≡ record { dimensions = ds; base = da.Primitive p }) × (rest ≡ k)
 builtin_form tokens form rest ds b k found read e = let h = data_primitive form.dimensions ds form.base b rest k (sym found ∙ e) in
     let m = read (record { dimensions = ds; base = da.Primitive h.0 }) k (e ∙ ap (λ (x : Builtin). many dimension_then ds (builtin_then x k)) h.1 ∙ ap (many dimension_then ds) (builtin_primitive_spells h.0 k)) in
     (h.0, h.1, m.0, m.1)

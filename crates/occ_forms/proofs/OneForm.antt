@@ -5,15 +5,15 @@ use Rattle.occ_lines.specs.declared.token.Token.{Token}
 use Rattle.occ_lines.specs.declared.token.Token.TheVariants as t
 use Rattle.occ_lines.specs.declared.token.Word.{Word}
 use Rattle.occ_lines.specs.declared.token.Word.TheVariants as w
-use Rattle.occ_expressions.specs.declared.tree.Element.{Element}
-use Rattle.occ_expressions.specs.declared.tree.Expr.{Expr}
-use Rattle.occ_expressions.specs.Reading.{IsEnd}
-use Rattle.occ_expressions.specs.Spelling.{element_then, expr_then}
-use Rattle.occ_expressions.proofs.UniqueExprs.{one_expr}
-use Rattle.occ_specifications.specs.declared.tree.Specified.{Specified}
-use Rattle.occ_specifications.proofs.Lists.{ListEnds}
-use Rattle.occ_specifications.proofs.Once.{element_once, listed_once, more_once, named_once, same_behind}
-use Rattle.occ_specifications.proofs.OneTree.{one_tree}
+use Rattle.occ_expression_forms.specs.declared.tree.Element.{Element}
+use Rattle.occ_expression_forms.specs.declared.tree.Expr.{Expr}
+use Rattle.occ_expression_forms.specs.Reading.{IsEnd}
+use Rattle.occ_expression_forms.specs.Spelling.{element_then, expr_then}
+use Rattle.occ_expression_forms.proofs.UniqueExprs.{one_expr}
+use Rattle.occ_specification_forms.specs.declared.tree.Specified.{Specified}
+use Rattle.occ_specification_forms.proofs.Lists.{ListEnds}
+use Rattle.occ_specification_forms.proofs.Once.{element_once, listed_once, more_once, named_once, same_behind}
+use Rattle.occ_specification_forms.proofs.OneTree.{one_tree}
 use Rattle.occ_forms.specs.declared.class.Class.{Class}
 use Rattle.occ_forms.specs.declared.class.Class.TheVariants as cl
 use Rattle.occ_forms.specs.declared.input.Received.{Received}
@@ -28,8 +28,8 @@ use Rattle.occ_forms.specs.declared.tree.Guarded.TheVariants as gu
 use Rattle.occ_forms.specs.declared.tree.Input.{Input}
 use Rattle.occ_forms.specs.declared.tree.Input.TheVariants as ip
 use Rattle.occ_forms.specs.declared.tree.InputItem.{InputItem}
-use Rattle.occ_forms.specs.declared.tree.Kind.{Kind}
-use Rattle.occ_forms.specs.declared.tree.Kind.TheVariants as ki
+use Rattle.occ_forms.specs.declared.tree.ConstructKind.{ConstructKind}
+use Rattle.occ_forms.specs.declared.tree.ConstructKind.TheVariants as ki
 use Rattle.occ_forms.specs.declared.tree.OutputItem.{OutputItem}
 use Rattle.occ_forms.specs.declared.tree.Part.TheVariants as pa
 use Rattle.occ_forms.specs.declared.tree.Replicator.{Replicator}
@@ -119,16 +119,16 @@ one_guarded (gu.CaseInput a) (gu.Input b) e = no_input_case b a (sym e)
 one_guarded (gu.CaseInput a) (gu.CaseInput b) e = ap (λ (z : Element). gu.CaseInput z) (one_case a b e)
 
 -- the words of a construct, and what stands behind them
-abbrev behind_pri : Word → List Token → Option (Kind × List Token)
+abbrev behind_pri : Word → List Token → Option (ConstructKind × List Token)
 behind_pri w.Par k = Some (ki.PriParallel, k)
 behind_pri w.Alt k = Some (ki.PriAlternation, k)
 behind_pri other k = None
 
-abbrev after_pri : List Token → Option (Kind × List Token)
+abbrev after_pri : List Token → Option (ConstructKind × List Token)
 after_pri (t.Word word ∷ k) = behind_pri word k
 after_pri other = None
 
-abbrev at_word : Word → List Token → Option (Kind × List Token)
+abbrev at_word : Word → List Token → Option (ConstructKind × List Token)
 at_word w.Seq k = Some (ki.Sequence, k)
 at_word w.Par k = Some (ki.Parallel, k)
 at_word w.Pri k = after_pri k
@@ -136,11 +136,11 @@ at_word w.If k = Some (ki.Conditional, k)
 at_word w.Alt k = Some (ki.Alternation, k)
 at_word other k = None
 
-abbrev kind_at : List Token → Option (Kind × List Token)
+abbrev kind_at : List Token → Option (ConstructKind × List Token)
 kind_at (t.Word word ∷ k) = at_word word k
 kind_at other = None
 
-kind_back : (kind : Kind) (k : List Token) → kind_at (kind_then kind k) ≡ Some (kind, k)
+kind_back : (kind : ConstructKind) (k : List Token) → kind_at (kind_then kind k) ≡ Some (kind, k)
 kind_back ki.Sequence k = refl
 kind_back ki.Parallel k = refl
 kind_back ki.PriParallel k = refl
@@ -148,11 +148,11 @@ kind_back ki.Conditional k = refl
 kind_back ki.Alternation k = refl
 kind_back ki.PriAlternation k = refl
 
-kind_once : (a b : Kind) (j k : List Token) → kind_then a j ≡ kind_then b k → (a ≡ b) × (j ≡ k)
+kind_once : (a b : ConstructKind) (j k : List Token) → kind_then a j ≡ kind_then b k → (a ≡ b) × (j ≡ k)
 kind_once a b j k e =
     let h : Some (a, j) ≡ Some (b, k) = sym (kind_back a j) ∙ ap kind_at e ∙ kind_back b k in
     let i : (a, j) ≡ (b, k) = (cc) in
-    (ap (λ (z : Kind × List Token). z.0) i, ap (λ (z : Kind × List Token). z.1) i)
+    (ap (λ (z : ConstructKind × List Token). z.0) i, ap (λ (z : ConstructKind × List Token). z.1) i)
 
 replicator_same : (r q : Replicator) → r.name ≡ q.name → r.base ≡ q.base → r.count ≡ q.count → r ≡ q
 replicator_same r q a b c = ap (λ (z : List ℕ). record { name = z; base = r.base; count = r.count }) a
@@ -183,10 +183,10 @@ outputs a b x y xs ys e =
     let i = listed_once s.Semicolon output_item_then IsItemEnd (λ z k. refl) output_item_once x y xs ys [] [] semicolon_ends semicolon_ends (same_behind _ _ _ h.1) in
     ap (λ (z : Element). fo.Action (ac.Output z x xs)) h.0 ∙ ap (λ (z : OutputItem). fo.Action (ac.Output b z xs)) i.0 ∙ ap (λ (z : List OutputItem). fo.Action (ac.Output b y z)) i.1
 
-replicables : (k l : Kind) (r q : Option Replicator) → form_tokens (fo.Construct (co.Replicable k r)) ≡ form_tokens (fo.Construct (co.Replicable l q)) → fo.Construct (co.Replicable k r) ≡ fo.Construct (co.Replicable l q)
+replicables : (k l : ConstructKind) (r q : Option Replicator) → form_tokens (fo.Construct (co.Replicable k r)) ≡ form_tokens (fo.Construct (co.Replicable l q)) → fo.Construct (co.Replicable k r) ≡ fo.Construct (co.Replicable l q)
 replicables k l r q e =
     let h = kind_once k l _ _ e in
-    ap (λ (z : Kind). fo.Construct (co.Replicable z r)) h.0 ∙ ap (λ (z : Option Replicator). fo.Construct (co.Replicable l z)) (one_replicator r q h.1)
+    ap (λ (z : ConstructKind). fo.Construct (co.Replicable z r)) h.0 ∙ ap (λ (z : Option Replicator). fo.Construct (co.Replicable l z)) (one_replicator r q h.1)
 
 guards : (x y : Expr) (a b : Guarded) → form_tokens (fo.Part (pa.Guard x a)) ≡ form_tokens (fo.Part (pa.Guard y b)) → fo.Part (pa.Guard x a) ≡ fo.Part (pa.Guard y b)
 guards x y a b e =

@@ -4,19 +4,19 @@ use Rattle.occ_lines.specs.declared.token.Symbol.TheVariants as s
 use Rattle.occ_lines.specs.declared.token.Token.{Token}
 use Rattle.occ_lines.specs.declared.token.Token.TheVariants as t
 use Rattle.occ_lines.specs.declared.token.Word.{Word}
-use Rattle.occ_expressions.specs.declared.tree.Builtin.{Builtin}
-use Rattle.occ_expressions.specs.declared.tree.DataBase.TheVariants as da
-use Rattle.occ_expressions.specs.declared.tree.DataForm.{DataForm}
-use Rattle.occ_expressions.specs.declared.tree.Dimension.{Dimension}
-use Rattle.occ_expressions.specs.declared.tree.Element.{Element}
-use Rattle.occ_expressions.specs.declared.tree.Expr.{Expr}
-use Rattle.occ_expressions.specs.declared.tree.TypeForm.TheVariants as tv
-use Rattle.occ_expressions.specs.Spelling.{counted_array, data_form_then, element_then, expr_then, many, subscript_of}
-use Rattle.occ_expressions.proofs.Cases.{ElementIs, element_is, element_is_named, element_is_segment, element_named_spells, element_segment_spells, type_form_builtin_spells}
-use Rattle.occ_expressions.proofs.Classes.{plain_ends}
-use Rattle.occ_expressions.proofs.TypeEnds.{array_ends, one_counting}
-use Rattle.occ_expressions.proofs.UniqueExprs.{end_no_count, end_of_run, one_data_form, one_expr, one_type}
-use Rattle.occ_specifications.proofs.Once.{Once, element_once, same_behind}
+use Rattle.occ_expression_forms.specs.declared.tree.Builtin.{Builtin}
+use Rattle.occ_expression_forms.specs.declared.tree.DataBase.TheVariants as da
+use Rattle.occ_expression_forms.specs.declared.tree.DataForm.{DataForm}
+use Rattle.occ_expression_forms.specs.declared.tree.Dimension.{Dimension}
+use Rattle.occ_expression_forms.specs.declared.tree.Element.{Element}
+use Rattle.occ_expression_forms.specs.declared.tree.Expr.{Expr}
+use Rattle.occ_expression_forms.specs.declared.tree.TypeForm.TheVariants as tv
+use Rattle.occ_expression_forms.specs.Spelling.{counted_array, data_form_then, element_then, expr_then, many, subscript_of}
+use Rattle.occ_expression_forms.proofs.Cases.{ElementIs, element_is, element_is_named, element_is_segment, element_named_spells, element_segment_spells, type_form_builtin_spells}
+use Rattle.occ_expression_forms.proofs.Classes.{plain_ends}
+use Rattle.occ_expression_forms.proofs.TypeEnds.{array_ends, one_counting}
+use Rattle.occ_expression_forms.proofs.UniqueExprs.{end_no_count, end_of_run, one_data_form, one_expr, one_type}
+use Rattle.occ_specification_forms.proofs.Once.{Once, element_once, same_behind}
 use Rattle.occ_forms.specs.declared.tree.Detail.{Detail}
 use Rattle.occ_forms.specs.declared.tree.Detail.TheVariants as de
 use Rattle.occ_forms.specs.declared.tree.InputItem.{InputItem}

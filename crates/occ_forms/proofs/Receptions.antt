@@ -5,10 +5,10 @@ use Rattle.occ_lines.specs.declared.token.Symbol.TheVariants as s
 use Rattle.occ_lines.specs.declared.token.Token.{Token}
 use Rattle.occ_lines.specs.declared.token.Token.TheVariants as t
 use Rattle.occ_lines.specs.declared.token.Word.TheVariants as w
-use Rattle.occ_expressions.specs.declared.tree.Element.{Element}
-use Rattle.occ_expressions.specs.declared.tree.Expr.{Expr}
-use Rattle.occ_expressions.specs.Reading.{IsEnd}
-use Rattle.occ_expressions.specs.Spelling.{element_then, expr_then}
+use Rattle.occ_expression_forms.specs.declared.tree.Element.{Element}
+use Rattle.occ_expression_forms.specs.declared.tree.Expr.{Expr}
+use Rattle.occ_expression_forms.specs.Reading.{IsEnd}
+use Rattle.occ_expression_forms.specs.Spelling.{element_then, expr_then}
 use Rattle.occ_forms.specs.declared.input.Received.{Received}
 use Rattle.occ_forms.specs.declared.input.Received.TheVariants as re
 use Rattle.occ_forms.specs.declared.tree.Guarded.{Guarded}
@@ -18,7 +18,7 @@ use Rattle.occ_forms.specs.declared.tree.Input.TheVariants as ip
 use Rattle.occ_forms.specs.declared.tree.InputItem.{InputItem}
 use Rattle.occ_forms.specs.Received.{received_tokens}
 use Rattle.occ_forms.specs.Spelling.{guarded_then, input_item_then, tagged}
-use Rattle.occ_specifications.specs.Spelling.{listed}
+use Rattle.occ_specification_forms.specs.Spelling.{listed}
 
 inside : (token : Token) (rest behind read : List Token) → rest ≡ token ∷ behind → rest ≡ token ∷ read → behind ≡ read
 inside token rest behind read a b = let h : token ∷ behind ≡ token ∷ read = sym a ∙ b in (cc)

@@ -1,10 +1,10 @@
 -- Data types as parts of a tag or variant.
 use Rattle.std.specs.Prelude.{ℕ, List, [], ◌∷◌, Option, Some, None}
-use Rattle.occ_expressions.specs.declared.tree.Builtin.TheVariants as uv
-use Rattle.occ_expressions.specs.declared.tree.DataBase.{DataBase}
-use Rattle.occ_expressions.specs.declared.tree.DataBase.TheVariants as da
-use Rattle.occ_expressions.specs.declared.tree.DataForm.{DataForm}
-use Rattle.occ_expressions.specs.declared.tree.Dimension.{Dimension}
+use Rattle.occ_expression_forms.specs.declared.tree.Builtin.TheVariants as uv
+use Rattle.occ_expression_forms.specs.declared.tree.DataBase.{DataBase}
+use Rattle.occ_expression_forms.specs.declared.tree.DataBase.TheVariants as da
+use Rattle.occ_expression_forms.specs.declared.tree.DataForm.{DataForm}
+use Rattle.occ_expression_forms.specs.declared.tree.Dimension.{Dimension}
 use Rattle.occ_forms.specs.declared.tree.Detail.{Detail}
 use Rattle.occ_forms.specs.declared.tree.Detail.TheVariants as de
 

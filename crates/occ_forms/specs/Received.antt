@@ -3,8 +3,8 @@ use Rattle.std.specs.Prelude.{List, [], ◌∷◌}
 use Rattle.occ_lines.specs.declared.token.Token.{Token}
 use Rattle.occ_lines.specs.declared.token.Token.TheVariants as t
 use Rattle.occ_lines.specs.declared.token.Symbol.TheVariants as s
-use Rattle.occ_expressions.specs.declared.tree.Element.{Element}
-use Rattle.occ_expressions.specs.Spelling.{element_then}
+use Rattle.occ_expression_forms.specs.declared.tree.Element.{Element}
+use Rattle.occ_expression_forms.specs.Spelling.{element_then}
 use Rattle.occ_forms.specs.declared.input.Received.{Received}
 use Rattle.occ_forms.specs.declared.input.Received.TheVariants as re
 use Rattle.occ_forms.specs.Spelling.{case_input_then, input_then}

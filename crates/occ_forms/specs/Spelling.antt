@@ -4,8 +4,8 @@ use Rattle.occ_lines.specs.declared.token.Token.{Token}
 use Rattle.occ_lines.specs.declared.token.Token.TheVariants as t
 use Rattle.occ_lines.specs.declared.token.Symbol.TheVariants as s
 use Rattle.occ_lines.specs.declared.token.Word.TheVariants as w
-use Rattle.occ_expressions.specs.Spelling.{Spelling, builtin_then, counted_array, data_form_then, dimension_then, element_then, expr_then, many}
-use Rattle.occ_specifications.specs.Spelling.{listed, next, specified_tokens}
+use Rattle.occ_expression_forms.specs.Spelling.{Spelling, builtin_then, counted_array, data_form_then, dimension_then, element_then, expr_then, many}
+use Rattle.occ_specification_forms.specs.Spelling.{listed, next, specified_tokens}
 use Rattle.occ_forms.specs.declared.tree.Action.{Action}
 use Rattle.occ_forms.specs.declared.tree.Action.TheVariants as ac
 use Rattle.occ_forms.specs.declared.tree.Construct.{Construct}
@@ -20,8 +20,8 @@ use Rattle.occ_forms.specs.declared.tree.Input.{Input}
 use Rattle.occ_forms.specs.declared.tree.Input.TheVariants as ip
 use Rattle.occ_forms.specs.declared.tree.InputItem.{InputItem}
 use Rattle.occ_forms.specs.declared.tree.InputItem.TheVariants as ii
-use Rattle.occ_forms.specs.declared.tree.Kind.{Kind}
-use Rattle.occ_forms.specs.declared.tree.Kind.TheVariants as ki
+use Rattle.occ_forms.specs.declared.tree.ConstructKind.{ConstructKind}
+use Rattle.occ_forms.specs.declared.tree.ConstructKind.TheVariants as ki
 use Rattle.occ_forms.specs.declared.tree.OutputItem.{OutputItem}
 use Rattle.occ_forms.specs.declared.tree.OutputItem.TheVariants as oi
 use Rattle.occ_forms.specs.declared.tree.Part.{Part}
@@ -71,7 +71,7 @@ action_then (ac.Assignment el els e es) k = listed s.Comma element_then el els (
 action_then (ac.Output el first more) k = element_then el (t.Symbol s.Output ∷ listed s.Semicolon output_item_then first more k)
 action_then (ac.Input input) k = input_then input k
 
-abbrev pub kind_then : Kind → Spelling
+abbrev pub kind_then : ConstructKind → Spelling
 kind_then ki.Sequence k = t.Word w.Seq ∷ k
 kind_then ki.Parallel k = t.Word w.Par ∷ k
 kind_then ki.PriParallel k = t.Word w.Pri ∷ t.Word w.Par ∷ k

@@ -1,5 +1,5 @@
-ghost use Rattle.occ_expressions.specs.declared.tree.Element.{Element as AnElement};
-ghost use Rattle.occ_expressions.specs.declared.tree.Expr.{Expr as AnExpr};
+ghost use Rattle.occ_expression_forms.specs.declared.tree.Element.{Element as AnElement};
+ghost use Rattle.occ_expression_forms.specs.declared.tree.Expr.{Expr as AnExpr};
 ghost use Rattle.occ_forms.specs.Spelling.{form_tokens};
 ghost use Rattle.occ_forms.specs.declared.tree.Action.TheVariants as ac;
 ghost use Rattle.occ_forms.specs.declared.tree.Construct.TheVariants as co;
@@ -10,9 +10,9 @@ ghost use Rattle.std.specs.Prelude.{IfOk, IfSome, List, Some, ◌≡◌};
 
 use super::input::{Received, reception};
 use super::{Action, Construct, Form};
-use occ_expressions::{after, element};
+use occ_expression_forms::{after, element};
 use occ_lines::{Symbol, Token};
-use occ_specifications::{alone, list};
+use occ_specification_forms::{alone, list};
 use std::alloc::{AllocError, Global};
 
 /// An assignment.

@@ -1,11 +1,11 @@
 ghost use Rattle.occ_forms.specs.Classes.{class_of, mark_class, symbol_class, word_class};
 ghost use Rattle.std.specs.Prelude.{◌≡◌};
 
-use occ_expressions::mark;
+use occ_expression_forms::mark;
 use occ_lines::{Symbol, Token, Word};
 
 /// Which forms a line can have.
-#[derive(Clone, Copy, Debug)]
+#[derive(Clone, Copy)]
 pub enum Class {
     /// The end of a specification, or a declaration.
     Close,

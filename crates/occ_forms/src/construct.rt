@@ -1,20 +1,20 @@
-ghost use Rattle.occ_expressions.specs.Spelling.{expr_then};
+ghost use Rattle.occ_expression_forms.specs.Spelling.{expr_then};
 ghost use Rattle.occ_forms.specs.Spelling.{form_tokens, kind_then, replicator_then};
 ghost use Rattle.occ_forms.specs.declared.tree.Construct.TheVariants as co;
 ghost use Rattle.occ_forms.specs.declared.tree.Form.TheVariants as fo;
-ghost use Rattle.occ_forms.specs.declared.tree.Kind.{Kind as AKind};
+ghost use Rattle.occ_forms.specs.declared.tree.ConstructKind.{ConstructKind as AConstructKind};
 ghost use Rattle.occ_forms.specs.declared.tree.Part.TheVariants as pa;
 ghost use Rattle.occ_forms.specs.declared.tree.Replicator.{Replicator as AReplicator};
-ghost use Rattle.occ_expressions.specs.declared.tree.Expr.{Expr as AnExpr};
+ghost use Rattle.occ_expression_forms.specs.declared.tree.Expr.{Expr as AnExpr};
 ghost use Rattle.occ_lines.specs.declared.token.Token.TheVariants as t;
 ghost use Rattle.occ_lines.specs.declared.token.Token.{Token as AToken};
 ghost use Rattle.occ_lines.specs.declared.token.Word.TheVariants as w;
 ghost use Rattle.std.specs.Prelude.{IfOk, IfSome, List, MatchOption, None, Option, Some, [], ◌∷◌, ◌≡◌, ◌≢◌};
 
-use super::{Construct, Form, Kind, Part, Replicator};
-use occ_expressions::{Expr, after, after_word, expression, name};
+use super::{Construct, Form, ConstructKind, Part, Replicator};
+use occ_expression_forms::{Expr, after, after_word, expression, name};
 use occ_lines::{Symbol, Token, Word};
-use occ_specifications::alone;
+use occ_specification_forms::alone;
 use std::alloc::{AllocError, Global};
 
 /// An expression that is all the tokens.
@@ -29,19 +29,19 @@ pub fn one_expression(alloc: Global, tokens: &[Token]) -> Result<Option<Expr>, A
 }
 
 /// The words of a construct that may be replicated.
-pub fn kind_words(tokens: &[Token]) -> Option<(Kind, &[Token])>
-    ensures { MatchOption result ((kind : AKind) (k : List AToken) → tokens.now ≢ kind_then kind k) (λ x. tokens.now ≡ kind_then x.0 x.1.now) }
+pub fn kind_words(tokens: &[Token]) -> Option<(ConstructKind, &[Token])>
+    ensures { MatchOption result ((kind : AConstructKind) (k : List AToken) → tokens.now ≢ kind_then kind k) (λ x. tokens.now ≡ kind_then x.0 x.1.now) }
 {
     match tokens {
-        [Token::Word(Word::Seq), rest @ ..] => Some((Kind::Sequence, rest)),
-        [Token::Word(Word::Par), rest @ ..] => Some((Kind::Parallel, rest)),
+        [Token::Word(Word::Seq), rest @ ..] => Some((ConstructKind::Sequence, rest)),
+        [Token::Word(Word::Par), rest @ ..] => Some((ConstructKind::Parallel, rest)),
         [Token::Word(Word::Pri), Token::Word(Word::Par), rest @ ..] => {
-            Some((Kind::PriParallel, rest))
+            Some((ConstructKind::PriParallel, rest))
         }
-        [Token::Word(Word::If), rest @ ..] => Some((Kind::Conditional, rest)),
-        [Token::Word(Word::Alt), rest @ ..] => Some((Kind::Alternation, rest)),
+        [Token::Word(Word::If), rest @ ..] => Some((ConstructKind::Conditional, rest)),
+        [Token::Word(Word::Alt), rest @ ..] => Some((ConstructKind::Alternation, rest)),
         [Token::Word(Word::Pri), Token::Word(Word::Alt), rest @ ..] => {
-            Some((Kind::PriAlternation, rest))
+            Some((ConstructKind::PriAlternation, rest))
         }
         _ => None,
     }
@@ -73,7 +73,7 @@ pub fn replicator_of(alloc: Global, tokens: &[Token]) -> Result<Option<Replicato
 /// A construct that may be replicated.
 pub fn replicable(alloc: Global, tokens: &[Token]) -> Result<Option<Form>, AllocError>
     ensures found { IfOk result (λ answer. IfSome answer (λ form. tokens.now ≡ form_tokens form)) }
-    ensures only { IfOk result (λ answer. (kind : AKind) (r : Option AReplicator) → tokens.now ≡ form_tokens (fo.Construct (co.Replicable kind r)) → answer ≡ Some (fo.Construct (co.Replicable kind r))) }
+    ensures only { IfOk result (λ answer. (kind : AConstructKind) (r : Option AReplicator) → tokens.now ≡ form_tokens (fo.Construct (co.Replicable kind r)) → answer ≡ Some (fo.Construct (co.Replicable kind r))) }
 {
     let Some((kind, rest)) = kind_words(tokens) else {
         return Ok(None);

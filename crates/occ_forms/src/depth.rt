@@ -4,7 +4,7 @@ ghost use Rattle.std.specs.Prelude.{IsTrue, ◌<◌, ◌↔◌};
 use super::{
     Action, Construct, Detail, Form, Guarded, Input, InputItem, OutputItem, Part, Replicator,
 };
-use occ_expressions::{
+use occ_expression_forms::{
     Measured, any_has_many_dimensions, array_has_many_dimensions, counted_has_many_dimensions,
     prefixed_has_many_dimensions,
 };

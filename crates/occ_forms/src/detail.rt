@@ -1,9 +1,9 @@
-ghost use Rattle.occ_expressions.specs.Reading.{Reads};
-ghost use Rattle.occ_expressions.specs.Spelling.{builtin_then, counted_array, data_form_then, dimension_then, element_then, many};
-ghost use Rattle.occ_expressions.specs.declared.tree.Builtin.{Builtin as ABuiltin};
-ghost use Rattle.occ_expressions.specs.declared.tree.DataForm.{DataForm as ADataForm};
-ghost use Rattle.occ_expressions.specs.declared.tree.Dimension.{Dimension as ADimension};
-ghost use Rattle.occ_expressions.specs.declared.tree.Element.{Element as AnElement};
+ghost use Rattle.occ_expression_forms.specs.Reading.{Reads};
+ghost use Rattle.occ_expression_forms.specs.Spelling.{builtin_then, counted_array, data_form_then, dimension_then, element_then, many};
+ghost use Rattle.occ_expression_forms.specs.declared.tree.Builtin.{Builtin as ABuiltin};
+ghost use Rattle.occ_expression_forms.specs.declared.tree.DataForm.{DataForm as ADataForm};
+ghost use Rattle.occ_expression_forms.specs.declared.tree.Dimension.{Dimension as ADimension};
+ghost use Rattle.occ_expression_forms.specs.declared.tree.Element.{Element as AnElement};
 ghost use Rattle.occ_forms.specs.Details.{typed_of};
 ghost use Rattle.occ_forms.specs.Reading.{IsItemEnd};
 ghost use Rattle.occ_forms.specs.Spelling.{counted, detail_then};
@@ -15,11 +15,11 @@ ghost use Rattle.occ_lines.specs.declared.token.Token.{Token as AToken};
 ghost use Rattle.std.specs.Prelude.{IfOk, IfSome, List, length, ℕ, ◌≡◌, ◌<◌};
 
 use super::Detail;
-use occ_expressions::{
+use occ_expression_forms::{
     Builtin, DataBase, DataForm, TypeForm, after, after_counted, data_form, element, type_form,
 };
 use occ_lines::{Symbol, Token};
-use occ_specifications::FromTokens;
+use occ_specification_forms::FromTokens;
 use std::alloc::{AllocError, Global};
 
 /// The data type, if it is more than a name alone.

@@ -1,9 +1,9 @@
 ghost use Rattle.occ_lines.specs.declared.token.Token.TheVariants as t;
 ghost use Rattle.std.specs.Prelude.{MatchOption, [], ◌∷◌, ◌≡◌, ◌≢◌};
 
-use occ_expressions::{after, after_word};
+use occ_expression_forms::{after, after_word};
 use occ_lines::{Symbol, Token, Word};
-use occ_specifications::alone;
+use occ_specification_forms::alone;
 
 /// What the word alone stands for.
 pub fn word_alone<T: Drop>(tokens: &[Token], word: Word, meant: T) -> Option<T>

@@ -1,6 +1,6 @@
-ghost use Rattle.occ_expressions.specs.Spelling.{element_then, expr_then, many};
-ghost use Rattle.occ_expressions.specs.declared.tree.Element.{Element as AnElement};
-ghost use Rattle.occ_expressions.specs.declared.tree.Expr.{Expr as AnExpr};
+ghost use Rattle.occ_expression_forms.specs.Spelling.{element_then, expr_then, many};
+ghost use Rattle.occ_expression_forms.specs.declared.tree.Element.{Element as AnElement};
+ghost use Rattle.occ_expression_forms.specs.declared.tree.Expr.{Expr as AnExpr};
 ghost use Rattle.occ_forms.specs.Received.{received_behind, received_tokens};
 ghost use Rattle.occ_forms.specs.Spelling.{input_item_then, tagged};
 ghost use Rattle.occ_forms.specs.declared.input.Received.TheVariants as re;
@@ -11,18 +11,18 @@ ghost use Rattle.occ_lines.specs.declared.token.Symbol.TheVariants as s;
 ghost use Rattle.occ_lines.specs.declared.token.Token.TheVariants as t;
 ghost use Rattle.occ_lines.specs.declared.token.Token.{Token as AToken};
 ghost use Rattle.occ_lines.specs.declared.token.Word.TheVariants as w;
-ghost use Rattle.occ_specifications.specs.Spelling.{listed};
+ghost use Rattle.occ_specification_forms.specs.Spelling.{listed};
 ghost use Rattle.std.specs.Prelude.{IfOk, IfSome, List, Some, [], ℕ, ◌∷◌, ◌≡◌};
 
 use super::Input;
 use super::construct::one_expression;
-use occ_expressions::{Element, after, after_word, element, name};
+use occ_expression_forms::{Element, after, after_word, element, name};
 use occ_lines::{Symbol, Token, Word};
-use occ_specifications::{alone, list, more};
+use occ_specification_forms::{alone, list, more};
 use std::alloc::{AllocError, Global};
 
 /// What a line says that begins with `el ?`.
-#[derive(Debug, Drop)]
+#[derive(Drop)]
 pub enum Received {
     Input(Input),
     /// `el ? CASE`

@@ -1,4 +1,4 @@
-ghost use Rattle.occ_expressions.specs.Depth.{most_open};
+ghost use Rattle.occ_expression_forms.specs.Depth.{most_open};
 ghost use Rattle.occ_forms.specs.Depth.{HasForm, HasNoForm, IsTooDeep};
 ghost use Rattle.occ_forms.specs.Spelling.{form_tokens};
 ghost use Rattle.occ_forms.specs.declared.tree.Form.{Form as AForm};
@@ -7,13 +7,13 @@ ghost use Rattle.std.specs.Prelude.{IfOk, IsErrOf, ◌≡◌, ◌<◌};
 
 use super::Form;
 use super::line::line;
-use occ_expressions::{Measured, opens_too_many};
+use occ_expression_forms::{Measured, opens_too_many};
 use occ_lines::Token;
 use std::alloc::{AllocError, Global};
 use thiserror::Error;
 
 /// Why the tokens of a line have no form.
-#[derive(Clone, Copy, Debug, PartialEq, Eq, Error)]
+#[derive(Clone, Copy, Debug, Error)]
 pub enum LineFault {
     /// No form spells the tokens, and no more than 64 brackets are open at once.
     #[error("no form")]

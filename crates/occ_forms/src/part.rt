@@ -1,4 +1,4 @@
-ghost use Rattle.occ_expressions.specs.declared.tree.Expr.{Expr as AnExpr};
+ghost use Rattle.occ_expression_forms.specs.declared.tree.Expr.{Expr as AnExpr};
 ghost use Rattle.occ_forms.specs.Spelling.{form_tokens, guarded_then};
 ghost use Rattle.occ_forms.specs.declared.tree.Detail.{Detail as ADetail};
 ghost use Rattle.occ_forms.specs.declared.tree.Form.TheVariants as fo;
@@ -9,9 +9,9 @@ ghost use Rattle.std.specs.Prelude.{IfOk, IfSome, List, MatchOption, Some, [], â
 use super::end::word_alone;
 use super::input::{Received, reception};
 use super::{Form, Guarded, Part};
-use occ_expressions::{after, after_word, expression, name};
+use occ_expression_forms::{after, after_word, expression, name};
 use occ_lines::{Symbol, Token, Word};
-use occ_specifications::{alone, list};
+use occ_specification_forms::{alone, list};
 use std::alloc::{AllocError, Global};
 
 /// Expressions that are the whole line.

@@ -6,7 +6,7 @@ use occ_base::{Code, FileName, Items, Shared};
 use std::marker::Model;
 
 /// What a line of a prepared text holds.
-#[derive(Debug, Drop)]
+#[derive(Drop)]
 pub enum LineBody {
     /// Shared, since every expansion that holds the line has it.
     Form(Shared<Form>),
@@ -19,7 +19,7 @@ pub enum LineBody {
 }
 
 /// A logical line with its form.
-#[derive(Debug, Drop)]
+#[derive(Drop)]
 pub struct SourceLine {
     /// The line of the text on which it begins, from 1.
     pub line: u32,
@@ -29,18 +29,18 @@ pub struct SourceLine {
 }
 
 /// A text with its lines: they are those that the text spells, each with its form.
-#[derive(Debug, Drop)]
+#[derive(Drop)]
 pub struct Source {
     text: Items<u8>,
     lines: Items<SourceLine>,
 }
 
 impl Model for Source {
-    ghost use Rattle.occ_expressions.specs.contracts.tree.Builtin as builtins;
-    ghost use Rattle.occ_expressions.specs.contracts.tree.Dimension as dimensions;
-    ghost use Rattle.occ_expressions.specs.contracts.tree.Element as elements;
-    ghost use Rattle.occ_expressions.specs.contracts.tree.Expr as expressions;
-    ghost use Rattle.occ_expressions.specs.contracts.tree.TypeForm as types;
+    ghost use Rattle.occ_expression_forms.specs.contracts.tree.Builtin as builtins;
+    ghost use Rattle.occ_expression_forms.specs.contracts.tree.Dimension as dimensions;
+    ghost use Rattle.occ_expression_forms.specs.contracts.tree.Element as elements;
+    ghost use Rattle.occ_expression_forms.specs.contracts.tree.Expr as expressions;
+    ghost use Rattle.occ_expression_forms.specs.contracts.tree.TypeForm as types;
     ghost use Rattle.occ_forms.specs.Prepared.{IsPrepared, Prepared};
     ghost use Rattle.std.specs.Coded.{codes};
 

@@ -1,9 +1,9 @@
 use occ_base::{Items, Name};
-use occ_expressions::{Builtin, DataForm, Dimension, Element, Expr};
-use occ_specifications::Specified;
+use occ_expression_forms::{Builtin, DataForm, Dimension, Element, Expr};
+use occ_specification_forms::Specified;
 
 /// The form of a line.
-#[derive(Debug, Drop)]
+#[derive(Drop)]
 pub enum Form {
     /// A specification of one line, or the head of one.
     Specified(Specified),
@@ -21,7 +21,7 @@ pub enum Form {
 }
 
 /// A process that stands on one line.
-#[derive(Debug, Drop)]
+#[derive(Drop)]
 pub enum Action {
     /// `SKIP`
     Skip,
@@ -35,7 +35,7 @@ pub enum Action {
 }
 
 /// What an output sends as one.
-#[derive(Debug, Drop)]
+#[derive(Drop)]
 pub enum OutputItem {
     /// `e`
     Plain(Expr),
@@ -44,7 +44,7 @@ pub enum OutputItem {
 }
 
 /// An input that is a process by itself.
-#[derive(Debug, Drop)]
+#[derive(Drop)]
 pub enum Input {
     /// `el ? i; ..`
     Plain(Element, InputItem, Items<InputItem>),
@@ -55,7 +55,7 @@ pub enum Input {
 }
 
 /// What an input receives as one.
-#[derive(Debug, Drop)]
+#[derive(Drop)]
 pub enum InputItem {
     /// `el`
     Plain(Element),
@@ -64,10 +64,10 @@ pub enum InputItem {
 }
 
 /// The head of a construct.
-#[derive(Debug, Drop)]
+#[derive(Drop)]
 pub enum Construct {
     /// A word or two, and perhaps a replicator.
-    Replicable(Kind, Option<Replicator>),
+    Replicable(ConstructKind, Option<Replicator>),
     /// `WHILE e`
     While(Expr),
     /// `CASE e`
@@ -77,8 +77,8 @@ pub enum Construct {
 }
 
 /// A construct that may be replicated.
-#[derive(Clone, Copy, Debug, PartialEq, Eq)]
-pub enum Kind {
+#[derive(Clone, Copy)]
+pub enum ConstructKind {
     /// `SEQ`
     Sequence,
     /// `PAR`
@@ -94,7 +94,7 @@ pub enum Kind {
 }
 
 /// `n = e FOR e`
-#[derive(Debug, Drop)]
+#[derive(Drop)]
 pub struct Replicator {
     pub name: Name,
     pub base: Expr,
@@ -102,7 +102,7 @@ pub struct Replicator {
 }
 
 /// A line that is a part of what stands around it.
-#[derive(Debug, Drop)]
+#[derive(Drop)]
 pub enum Part {
     /// `CASE`
     Case,
@@ -121,7 +121,7 @@ pub enum Part {
 }
 
 /// What stands behind the `&` of a guard.
-#[derive(Debug, Drop)]
+#[derive(Drop)]
 pub enum Guarded {
     /// `SKIP`
     Skip,
@@ -131,7 +131,7 @@ pub enum Guarded {
 }
 
 /// A part of a tag or of a variant. What a name stands for decides whether it is a type or an element.
-#[derive(Debug, Drop)]
+#[derive(Drop)]
 pub enum Detail {
     /// An element; a name alone may also be a type.
     Element(Element),

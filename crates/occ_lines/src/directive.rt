@@ -12,7 +12,7 @@ use occ_base::{Code, FileName};
 use std::alloc::{AllocError, Global};
 
 /// What a directive asks for.
-#[derive(Clone, Copy, Debug)]
+#[derive(Clone, Copy)]
 pub enum Directive {
     /// The lines of a file.
     Include,

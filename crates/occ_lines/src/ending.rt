@@ -1,7 +1,7 @@
 use occ_base::{Code, Items};
 
 /// How a line of the text ends, behind its last token.
-#[derive(Debug, Drop)]
+#[derive(Drop)]
 pub enum Ending {
     /// With blanks and perhaps a comment.
     Whole,

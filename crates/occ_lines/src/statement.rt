@@ -14,7 +14,7 @@ use occ_base::{Code, Items};
 use std::alloc::{AllocError, Global};
 
 /// What a statement wants of the lines that follow.
-#[derive(Debug, Drop)]
+#[derive(Drop)]
 pub enum Wants {
     /// A further token.
     More,
@@ -23,7 +23,7 @@ pub enum Wants {
 }
 
 /// A statement that is not at its end.
-#[derive(Debug, Drop)]
+#[derive(Drop)]
 pub struct Statement {
     /// The line on which it begins.
     pub line: u32,
@@ -35,7 +35,7 @@ pub struct Statement {
 }
 
 /// How far a statement is read.
-#[derive(Debug, Drop)]
+#[derive(Drop)]
 pub enum Reached {
     /// It goes on.
     Open(Statement),

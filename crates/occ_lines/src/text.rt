@@ -7,7 +7,7 @@ use std::alloc::AllocError;
 use thiserror::Error;
 
 /// What a logical line holds.
-#[derive(Debug, Drop)]
+#[derive(Drop)]
 pub enum Body {
     /// The tokens of a statement, at least one.
     Tokens(Items<Token>),
@@ -20,7 +20,7 @@ pub enum Body {
 }
 
 /// A logical line: a statement of the text.
-#[derive(Debug, Drop)]
+#[derive(Drop)]
 pub struct Logical {
     /// The line of the text on which it begins, from 1.
     pub line: u32,
@@ -30,7 +30,7 @@ pub struct Logical {
 }
 
 /// Why a text has no logical lines. The first of this order is told.
-#[derive(Clone, Copy, Debug, PartialEq, Eq, Error)]
+#[derive(Clone, Copy, Debug, Error)]
 pub enum TextFault {
     /// Over 262,144 bytes.
     #[error("a text has 262,144 bytes at most")]

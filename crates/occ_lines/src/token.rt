@@ -1,7 +1,7 @@
 use occ_base::{Items, Name};
 
 /// A reserved word.
-#[derive(Clone, Copy, Debug, PartialEq, Eq)]
+#[derive(Clone, Copy, PartialEq, Eq)]
 pub enum Word {
     After,
     Alt,
@@ -73,7 +73,7 @@ pub enum Word {
 }
 
 /// A token that is neither name, literal nor word.
-#[derive(Clone, Copy, Debug, PartialEq, Eq)]
+#[derive(Clone, Copy, PartialEq, Eq)]
 pub enum Symbol {
     /// `:=`
     Assign,
@@ -136,7 +136,7 @@ pub enum Symbol {
 }
 
 /// A token of a statement.
-#[derive(Debug, Drop)]
+#[derive(Drop)]
 pub enum Token {
     /// A name that is no reserved word.
     Name(Name),

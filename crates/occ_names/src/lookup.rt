@@ -5,12 +5,12 @@ ghost use Rattle.occ_names.specs.Visible.{visible};
 use super::meaning::{Meaning, Whole};
 use super::scope::Scope;
 use occ_base::{Code, Items, Name, Shared};
-use occ_operators::Fault;
+use occ_operands::Fault;
 use occ_types::{OccType, Protocol};
 use std::alloc::{AllocError, Global};
 
 /// What a channel carries whose type names it.
-#[derive(Debug, Drop)]
+#[derive(Drop)]
 pub enum Carried {
     /// Values of one data type.
     Values(Shared<OccType>),

@@ -6,7 +6,7 @@ use occ_types::{OccType, Passing, Protocol, Value};
 use std::alloc::{AllocError, Global};
 
 /// Whether something may be written through a name.
-#[derive(Clone, Copy, Debug, PartialEq, Eq)]
+#[derive(Clone, Copy)]
 pub enum Access {
     /// A variable, a channel, a timer, or a formal that is not `VAL`.
     Variable,
@@ -17,7 +17,7 @@ pub enum Access {
 }
 
 /// All of what an element may name.
-#[derive(Debug, Drop)]
+#[derive(Drop)]
 pub struct Whole {
     pub of: Shared<OccType>,
     pub access: Access,
@@ -29,14 +29,14 @@ pub struct Whole {
 }
 
 /// A formal, as a call sees it.
-#[derive(Debug, Drop)]
+#[derive(Drop)]
 pub struct Parameter {
     pub of: Shared<OccType>,
     pub passing: Passing,
 }
 
 /// What a name stands for.
-#[derive(Debug, Drop)]
+#[derive(Drop)]
 pub enum Meaning {
     /// The line that specifies it has a fault: where it is used, nothing is told of it.
     Faulty,
@@ -50,14 +50,14 @@ pub enum Meaning {
 }
 
 /// A name, and what it stands for.
-#[derive(Debug, Drop)]
+#[derive(Drop)]
 pub struct Entry {
     pub name: Name,
     pub meaning: Shared<Meaning>,
 }
 
 /// The specification that a name stands for at a place in a unit.
-#[derive(Debug, Drop)]
+#[derive(Drop)]
 pub struct Referent {
     /// Which of the specifications in scope at that place it is: how many stand round it. Of those that are in scope
     /// together no two have one number; of those of items beside each other two may.

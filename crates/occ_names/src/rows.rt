@@ -4,7 +4,7 @@ ghost use Rattle.occ_names.specs.Lookup.{carries, data_type, element, good};
 ghost use Rattle.occ_names.specs.Visible.{back_to, entered, nothing, referent, visible};
 ghost use Rattle.occ_names.specs.declared.lookup.Carried.TheVariants as carried;
 ghost use Rattle.occ_names.specs.declared.meaning.Meaning.TheVariants as m;
-ghost use Rattle.occ_operators.specs.Settling.{int};
+ghost use Rattle.occ_operands.specs.Settling.{int};
 
 /// A data type `a`, which is 97, a procedure `b`, which is 98, and in an inner item an `a` whose line has a fault.
 pub fn visible_rows()

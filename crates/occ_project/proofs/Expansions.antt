@@ -3,7 +3,7 @@ use Rattle.std.proofs.Common.{◌≡◌, ℕ, false, List, [], ◌∷◌, ◌++�
 use Rattle.std.specs.List.{flat_map}
 use Rattle.occ_base.specs.declared.diag.Diag.{Diag}
 use Rattle.occ_forms.specs.declared.source.SourceLine.{SourceLine}
-use Rattle.occ_project.specs.declared.entry.Entry.{Entry}
+use Rattle.occ_project.specs.declared.entry.ExpansionEntry.{ExpansionEntry}
 use Rattle.occ_project.specs.declared.expanded.ExpandedLine.{ExpandedLine}
 use Rattle.occ_project.specs.declared.making.Made.{Made}
 use Rattle.occ_project.specs.declared.reads.Read.{Read}
@@ -27,7 +27,7 @@ whole lines names faults made l n f =
     ∙ ap (λ (x : List (List ℕ)). record { lines = lines; reads = first_places x; faults = made.faults }) n
     ∙ ap (λ (x : List Diag). record { lines = lines; reads = first_places names; faults = x }) f
 
-pub made_is : (limit : ℕ) (unit : List ℕ) (all : List Entry) → shown (after (started limit unit) all) ≡ expansion_of limit unit all
+pub made_is : (limit : ℕ) (unit : List ℕ) (all : List ExpansionEntry) → shown (after (started limit unit) all) ≡ expansion_of limit unit all
 made_is limit unit all =
     let h = made_of all (started limit unit) refl in
     whole (flat_map entry_lines (take limit all)) (unit ∷ flat_map entry_names (take limit all)) (flat_map entry_faults (take limit all) ++ limit_faults (drop limit all))

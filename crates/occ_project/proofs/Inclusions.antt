@@ -6,7 +6,7 @@ use Rattle.occ_base.specs.declared.code.Code.TheVariants.{G5, G6}
 use Rattle.occ_forms.specs.declared.source.LineBody.{LineBody}
 use Rattle.occ_forms.specs.declared.source.LineBody.TheVariants as body
 use Rattle.occ_forms.specs.declared.source.SourceLine.{SourceLine}
-use Rattle.occ_project.specs.declared.entry.Entry.{Entry}
+use Rattle.occ_project.specs.declared.entry.ExpansionEntry.{ExpansionEntry}
 use Rattle.occ_project.specs.declared.entry.Held.{Held}
 use Rattle.occ_project.specs.declared.making.Made.{Made}
 use Rattle.occ_project.specs.declared.reads.Read.{Read}
@@ -51,8 +51,8 @@ pub line_done : (reads : List Read) (left : ℕ) (way : List (List ℕ)) (file :
     → after old (file_entries reads left (inner_of reads left) way file raise lines) ≡ total
     → after new (file_entries reads left (inner_of reads left) way file raise rest) ≡ total
 line_done reads left way file raise line rest lines seen depth holds found old new total l w d h f n e =
-    let entry_at : Held → Entry = λ x. record { file = file; line = line.line; held = x } in
-    let inner : ℕ → Option (List ℕ × List SourceLine) → List Entry = inner_entries (inner_of reads left) way in
+    let entry_at : Held → ExpansionEntry = λ x. record { file = file; line = line.line; held = x } in
+    let inner : ℕ → Option (List ℕ × List SourceLine) → List ExpansionEntry = inner_entries (inner_of reads left) way in
     let full = raise + line.depth in
     let body = line.body in
     let whole = held (included reads way left) full body in

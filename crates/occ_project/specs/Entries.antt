@@ -9,7 +9,7 @@ use Rattle.occ_base.specs.declared.code.Code.TheVariants.{G4, G5, G6}
 use Rattle.occ_forms.specs.declared.source.LineBody.{LineBody}
 use Rattle.occ_forms.specs.declared.source.LineBody.TheVariants as body
 use Rattle.occ_forms.specs.declared.source.SourceLine.{SourceLine}
-use Rattle.occ_project.specs.declared.entry.Entry.{Entry}
+use Rattle.occ_project.specs.declared.entry.ExpansionEntry.{ExpansionEntry}
 use Rattle.occ_project.specs.declared.entry.Held.{Held}
 use Rattle.occ_project.specs.declared.entry.Held.TheVariants.{Line, Include}
 use Rattle.occ_project.specs.declared.expanded.ExpandedBody.TheVariants as to
@@ -33,7 +33,7 @@ held found depth (body.Fault fault) = Line depth (to.Fault fault)
 held found depth (body.Include name) = Include name (result_err (found name))
 
 -- the entry of a line of the file, whose depths are raised by so much
-abbrev pub entry_of : (List ℕ → Result (List SourceLine) Code) → List ℕ → ℕ → SourceLine → Entry
+abbrev pub entry_of : (List ℕ → Result (List SourceLine) Code) → List ℕ → ℕ → SourceLine → ExpansionEntry
 entry_of found file raise line = record { file = file; line = line.line; held = held found (raise + line.depth) line.body }
 
 -- the file that a line puts in, and its lines
@@ -43,15 +43,15 @@ put_in found other = None
 
 -- what the entries of a file are: by the way to it, its name, what its depths are raised by, and its lines
 abbrev pub FileEntries : Type 0
-FileEntries = List (List ℕ) → List ℕ → ℕ → List SourceLine → List Entry
+FileEntries = List (List ℕ) → List ℕ → ℕ → List SourceLine → List ExpansionEntry
 
 -- those of a file that is put in
-abbrev pub inner_entries : FileEntries → List (List ℕ) → ℕ → Option (List ℕ × List SourceLine) → List Entry
+abbrev pub inner_entries : FileEntries → List (List ℕ) → ℕ → Option (List ℕ × List SourceLine) → List ExpansionEntry
 inner_entries inner way raise None = []
 inner_entries inner way raise (Some file) = inner (way ++ file.0 ∷ []) file.0 raise file.1
 
 -- the entry of a line, and behind it those of the file that it puts in
-abbrev pub line_entries : List Read → ℕ → FileEntries → List (List ℕ) → List ℕ → ℕ → SourceLine → List Entry
+abbrev pub line_entries : List Read → ℕ → FileEntries → List (List ℕ) → List ℕ → ℕ → SourceLine → List ExpansionEntry
 line_entries reads left inner way file raise line =
     entry_of (included reads way left) file raise line ∷ inner_entries inner way (raise + line.depth) (put_in (included reads way left) line.body)
 

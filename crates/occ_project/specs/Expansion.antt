@@ -8,7 +8,7 @@ use Rattle.occ_base.specs.declared.code.Code.TheVariants as code
 use Rattle.occ_base.specs.declared.diag.Diag.{Diag}
 use Rattle.occ_base.specs.Errors.{error_at}
 use Rattle.occ_forms.specs.declared.source.SourceLine.{SourceLine}
-use Rattle.occ_project.specs.declared.entry.Entry.{Entry}
+use Rattle.occ_project.specs.declared.entry.ExpansionEntry.{ExpansionEntry}
 use Rattle.occ_project.specs.declared.entry.Held.{Held}
 use Rattle.occ_project.specs.declared.entry.Held.TheVariants.{Line, Include}
 use Rattle.occ_project.specs.declared.expanded.ExpandedLine.{ExpandedLine}
@@ -27,7 +27,7 @@ abbrev pub held_lines : List ℕ → ℕ → Held → List ExpandedLine
 held_lines file line (Line depth body) = record { file = file; line = line; depth = depth; body = body } ∷ []
 held_lines file line (Include name fault) = []
 
-abbrev pub entry_lines : Entry → List ExpandedLine
+abbrev pub entry_lines : ExpansionEntry → List ExpandedLine
 entry_lines entry = held_lines entry.file entry.line entry.held
 
 -- an `#INCLUDE` looks its file up unless it is refused for the files under way or for their number
@@ -40,7 +40,7 @@ abbrev pub held_names : Held → List (List ℕ)
 held_names (Line depth body) = []
 held_names (Include name fault) = fault_names name fault
 
-abbrev pub entry_names : Entry → List (List ℕ)
+abbrev pub entry_names : ExpansionEntry → List (List ℕ)
 entry_names entry = held_names entry.held
 
 -- the fault of an `#INCLUDE`, with the name of its file
@@ -48,14 +48,14 @@ abbrev pub held_faults : List ℕ → ℕ → Held → List Diag
 held_faults file line (Include name (Some fault)) = error_at file line fault (Some name) ∷ []
 held_faults file line other = []
 
-abbrev pub entry_faults : Entry → List Diag
+abbrev pub entry_faults : ExpansionEntry → List Diag
 entry_faults entry = held_faults entry.file entry.line entry.held
 
 -- where there are more entries than may be, the first of them has the fault for that
-abbrev pub limit_fault : Entry → Diag
+abbrev pub limit_fault : ExpansionEntry → Diag
 limit_fault entry = error_at entry.file entry.line code.G6 None
 
-abbrev pub limit_faults : List Entry → List Diag
+abbrev pub limit_faults : List ExpansionEntry → List Diag
 limit_faults [] = []
 limit_faults (entry ∷ more) = limit_fault entry ∷ []
 
@@ -65,12 +65,12 @@ first_places [] = []
 first_places (name ∷ names) = name ∷ filter (λ other. not (bytes_eq name other)) (first_places names)
 
 -- all entries of a unit with these lines, or without any if it is not open; 16 inclusions may be nested
-abbrev pub unit_entries : List Read → List ℕ → Option (List SourceLine) → List Entry
+abbrev pub unit_entries : List Read → List ℕ → Option (List SourceLine) → List ExpansionEntry
 unit_entries reads unit None = []
 unit_entries reads unit (Some lines) = entries reads 16 (unit ∷ []) unit 0 lines
 
 -- what so many of the entries give
-abbrev pub expansion_of : ℕ → List ℕ → List Entry → Expansion
+abbrev pub expansion_of : ℕ → List ℕ → List ExpansionEntry → Expansion
 expansion_of limit unit all = record {
   lines = flat_map entry_lines (take limit all);
   reads = first_places (unit ∷ flat_map entry_names (take limit all));

@@ -1,11 +1,11 @@
 -- What is kept while an expansion is made, entry by entry. No definition of the expansion needs it.
 use Rattle.std.specs.Prelude.{◌-◌, nat_eq, true, false, cond, List, [], ◌∷◌, ◌++◌}
-use Rattle.occ_project.specs.declared.entry.Entry.{Entry}
+use Rattle.occ_project.specs.declared.entry.ExpansionEntry.{ExpansionEntry}
 use Rattle.occ_project.specs.declared.making.Made.{Made}
 use Rattle.occ_project.specs.Expansion.{entry_faults, entry_lines, entry_names, limit_fault}
 
 -- with one entry more
-abbrev pub with_entry : Made → Entry → Made
+abbrev pub with_entry : Made → ExpansionEntry → Made
 with_entry made entry = record {
   lines = made.lines ++ entry_lines entry;
   faults = made.faults ++ entry_faults entry;
@@ -15,7 +15,7 @@ with_entry made entry = record {
 }
 
 -- ended before an entry for which there is no room
-abbrev pub ended : Made → Entry → Made
+abbrev pub ended : Made → ExpansionEntry → Made
 ended made entry = record {
   lines = made.lines;
   faults = made.faults ++ limit_fault entry ∷ [];
@@ -25,10 +25,10 @@ ended made entry = record {
 }
 
 -- after an entry comes
-abbrev pub step : Made → Entry → Made
+abbrev pub step : Made → ExpansionEntry → Made
 step made entry = cond made.is_over made (cond (nat_eq made.room 0) (ended made entry) (with_entry made entry))
 
 -- after these come
-abbrev pub after : Made → List Entry → Made
+abbrev pub after : Made → List ExpansionEntry → Made
 after made [] = made
 after made (entry ∷ more) = after (step made entry) more

@@ -2,7 +2,7 @@ use super::ExpandedBody;
 use occ_base::{Code, FileName};
 
 /// What a line of a file gives to an expansion.
-#[derive(Debug, Drop)]
+#[derive(Drop)]
 pub enum Held {
     /// A line of the expansion, which stands at this depth.
     Line(u64, ExpandedBody),
@@ -11,8 +11,8 @@ pub enum Held {
 }
 
 /// A line of a file, as it counts in an expansion.
-#[derive(Debug, Drop)]
-pub struct Entry {
+#[derive(Drop)]
+pub struct ExpansionEntry {
     pub file: FileName,
     pub line: u32,
     pub held: Held,

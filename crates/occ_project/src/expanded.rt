@@ -7,7 +7,7 @@ use occ_forms::Form;
 use std::marker::Model;
 
 /// What a line of an expansion holds.
-#[derive(Debug, Drop)]
+#[derive(Drop)]
 pub enum ExpandedBody {
     Form(Shared<Form>),
     /// A `#USE`: the units whose exports are visible from here on.
@@ -17,7 +17,7 @@ pub enum ExpandedBody {
 }
 
 /// Where a line stands.
-#[derive(Clone, Copy, Debug)]
+#[derive(Clone, Copy)]
 pub struct Place {
     pub file: FileName,
     /// The line of that file on which it begins, from 1.
@@ -25,7 +25,7 @@ pub struct Place {
 }
 
 /// A line of an expansion.
-#[derive(Debug, Drop)]
+#[derive(Drop)]
 pub struct ExpandedLine {
     /// The file in which it stands.
     pub file: FileName,
@@ -59,7 +59,7 @@ impl ExpandedLine {
 }
 
 /// The expansion of a unit.
-#[derive(Debug, Drop)]
+#[derive(Drop)]
 pub struct Expanded {
     lines: Items<ExpandedLine>,
     reads: Items<FileName>,
@@ -67,11 +67,11 @@ pub struct Expanded {
 }
 
 impl Model for Expanded {
-    ghost use Rattle.occ_expressions.specs.contracts.tree.Builtin as builtins;
-    ghost use Rattle.occ_expressions.specs.contracts.tree.Dimension as dimensions;
-    ghost use Rattle.occ_expressions.specs.contracts.tree.Element as elements;
-    ghost use Rattle.occ_expressions.specs.contracts.tree.Expr as expressions;
-    ghost use Rattle.occ_expressions.specs.contracts.tree.TypeForm as types;
+    ghost use Rattle.occ_expression_forms.specs.contracts.tree.Builtin as builtins;
+    ghost use Rattle.occ_expression_forms.specs.contracts.tree.Dimension as dimensions;
+    ghost use Rattle.occ_expression_forms.specs.contracts.tree.Element as elements;
+    ghost use Rattle.occ_expression_forms.specs.contracts.tree.Expr as expressions;
+    ghost use Rattle.occ_expression_forms.specs.contracts.tree.TypeForm as types;
     ghost use Rattle.occ_project.specs.Expansion.{Expansion};
     ghost use Rattle.std.specs.Coded.{codes};
 

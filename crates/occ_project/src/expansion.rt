@@ -5,7 +5,7 @@ ghost use Rattle.occ_project.specs.declared.expansion.ExpandFault.TheVariants.{M
 ghost use Rattle.std.specs.Option.{option_map};
 ghost use Rattle.std.specs.Prelude.{Err, IfOk, List, None, OnOk, Some, ℕ, ◌*◌, ◌+◌, ◌^◌, ◌≡◌, ◌≤◌};
 
-use super::entry::{Entry, Held};
+use super::entry::{ExpansionEntry, Held};
 use super::files::Files;
 use super::making::Made;
 use super::names::first_places;
@@ -22,7 +22,7 @@ const LINE_LIMIT: usize = 65_535;
 const INCLUSION_LIMIT: u32 = 16;
 
 /// Why a unit has no expansion.
-#[derive(Clone, Copy, Debug, PartialEq, Eq, Error)]
+#[derive(Clone, Copy, Debug, Error)]
 pub enum ExpandFault {
     /// The expansion looks up this file, and it is not among the reads.
     #[error("a file that is looked up is not given")]
@@ -107,7 +107,7 @@ fn add_file(
         let (held, found) = held(alloc, files, way.as_slice(), opened.left, depth, &line.body)?;
         made.add(
             alloc,
-            Entry {
+            ExpansionEntry {
                 file: opened.file,
                 line: line.line,
                 held,

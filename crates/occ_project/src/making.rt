@@ -4,7 +4,7 @@ ghost use Rattle.occ_project.specs.declared.entry.Held.TheVariants as held;
 ghost use Rattle.std.specs.Prelude.{OnOk, [], false, ◌≡◌, ◌++◌};
 
 use super::ExpandedLine;
-use super::entry::{Entry, Held};
+use super::entry::{ExpansionEntry, Held};
 use occ_base::{Code, Diag, FileName, Items, Name};
 use std::alloc::{AllocError, Global};
 
@@ -56,7 +56,7 @@ fn add_fault(
 }
 
 /// The fault of the entry that is one too many.
-fn too_many(entry: &Entry) -> Diag
+fn too_many(entry: &ExpansionEntry) -> Diag
     ensures { result ≡ limit_fault entry.now }
 {
     Diag::error(entry.file, entry.line, Code::G6, None)
@@ -77,7 +77,7 @@ impl Made {
     }
 
     /// Adds an entry, or ends the expansion before it if there is no room.
-    pub fn add(&mut self, alloc: Global, entry: Entry) -> Result<(), AllocError>
+    pub fn add(&mut self, alloc: Global, entry: ExpansionEntry) -> Result<(), AllocError>
         ensures { OnOk result (self.new ≡ step self.old entry) }
     {
         if self.is_over {
@@ -88,7 +88,7 @@ impl Made {
             return self.faults.push(too_many(&entry));
         }
         self.room -= 1;
-        let Entry { file, line, held } = entry;
+        let ExpansionEntry { file, line, held } = entry;
         match held {
             Held::Line(depth, body) => self.lines.push(ExpandedLine {
                 file,

@@ -2,7 +2,7 @@ use occ_base::{FileName, Items, Shared};
 use occ_forms::Source;
 
 /// A file that an expansion may look up.
-#[derive(Debug, Drop)]
+#[derive(Drop)]
 pub struct Read {
     pub name: FileName,
     /// The number of the edit that gave the file its present text or took it away, 0 if there was none.

@@ -5,7 +5,7 @@ ghost use Rattle.occ_script.specs.Devices.{counted};
 use std::fmt;
 
 /// How many checks held, and how many did not, each counted up to the greatest number of 64 bits.
-#[derive(Clone, Copy, Debug)]
+#[derive(Clone, Copy)]
 pub struct Tally {
     pub passed: u64,
     pub failed: u64,

@@ -11,7 +11,7 @@ use std::marker::Model;
 pub type SpecId = usize;
 
 /// A specification that was entered and not left.
-#[derive(Debug, Drop)]
+#[derive(Drop)]
 struct Entry {
     name: Name,
     /// The nearest of its name before it.

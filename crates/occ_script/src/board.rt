@@ -25,11 +25,11 @@ pub struct Board {
 }
 
 impl Model for Board {
-    ghost use Rattle.occ_expressions.specs.contracts.tree.Builtin as builtins;
-    ghost use Rattle.occ_expressions.specs.contracts.tree.Dimension as dimensions;
-    ghost use Rattle.occ_expressions.specs.contracts.tree.Element as elements;
-    ghost use Rattle.occ_expressions.specs.contracts.tree.Expr as expressions;
-    ghost use Rattle.occ_expressions.specs.contracts.tree.TypeForm as types;
+    ghost use Rattle.occ_expression_forms.specs.contracts.tree.Builtin as builtins;
+    ghost use Rattle.occ_expression_forms.specs.contracts.tree.Dimension as dimensions;
+    ghost use Rattle.occ_expression_forms.specs.contracts.tree.Element as elements;
+    ghost use Rattle.occ_expression_forms.specs.contracts.tree.Expr as expressions;
+    ghost use Rattle.occ_expression_forms.specs.contracts.tree.TypeForm as types;
     ghost use Rattle.occ_script.specs.Machine.{State};
     ghost use Rattle.std.specs.Coded.{codes};
 
@@ -45,7 +45,7 @@ impl Model for Board {
 }
 
 /// Why a file is not opened.
-#[derive(Clone, Copy, Debug, PartialEq, Eq)]
+#[derive(Clone, Copy)]
 pub enum Refusal {
     Name(NameFault),
     Text(TextFault),

@@ -9,7 +9,7 @@ ghost use Rattle.occ_script.specs.Header.{header_seen, words_after};
 use super::lines::length_before;
 
 /// The first line of a command, with what it names lent from the script.
-#[derive(Clone, Copy, Debug)]
+#[derive(Clone, Copy)]
 pub enum Header<'a> {
     /// `open NAME N`: the name, and the number of lines of the text behind it.
     Open(&'a [u8], u32),

@@ -4,7 +4,7 @@ ghost use Rattle.occ_script.specs.Devices.{Appends, Gives, counted};
 use std::io::{Read, Write};
 
 /// A read or a write that was refused.
-#[derive(Clone, Copy, Debug, PartialEq, Eq)]
+#[derive(Clone, Copy)]
 pub struct Failed;
 
 /// Where a script comes from.

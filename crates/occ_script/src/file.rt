@@ -11,7 +11,7 @@ use occ_forms::Source;
 use std::alloc::{AllocError, Global};
 
 /// How far the check of the open file has come.
-#[derive(Debug, Drop)]
+#[derive(Drop)]
 pub enum Progress {
     /// No worker has its job.
     Waiting,
@@ -22,7 +22,7 @@ pub enum Progress {
 }
 
 /// The open file.
-#[derive(Debug, Drop)]
+#[derive(Drop)]
 pub struct OpenFile {
     pub name: FileName,
     pub source: Shared<Source>,

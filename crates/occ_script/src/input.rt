@@ -14,7 +14,7 @@ const LIMIT: usize = 67_108_864;
 const PIECE: usize = 8192;
 
 /// Why a script could not be read.
-#[derive(Clone, Copy, Debug, PartialEq, Eq)]
+#[derive(Clone, Copy)]
 pub enum ReadFault {
     /// A read was refused.
     Device,

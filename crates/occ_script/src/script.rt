@@ -10,7 +10,7 @@ use super::command::{Header, read_header};
 use super::lines::length_before;
 
 /// A command of a script, with what it names lent from the script.
-#[derive(Clone, Copy, Debug)]
+#[derive(Clone, Copy)]
 pub enum Command<'a> {
     /// `open NAME N`: the name, and the text behind it.
     Open(&'a [u8], &'a [u8]),
@@ -24,7 +24,7 @@ pub enum Command<'a> {
 
 /// What is left of a script: lines that are all ended by LF, with the number of the first of them, and
 /// whether bytes over the limit stood behind them.
-#[derive(Clone, Copy, Debug)]
+#[derive(Clone, Copy)]
 pub struct Rest<'a> {
     pub bytes: &'a [u8],
     pub line: usize,
@@ -32,7 +32,7 @@ pub struct Rest<'a> {
 }
 
 /// What a script says next.
-#[derive(Clone, Copy, Debug)]
+#[derive(Clone, Copy)]
 pub enum Next<'a> {
     /// A command, and what is left behind it.
     Command(Command<'a>, Rest<'a>),

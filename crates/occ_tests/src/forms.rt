@@ -4,7 +4,7 @@ use occ_forms::{
     SourceLine, prepare,
 };
 use occ_lines::TextFault;
-use occ_specifications::Specified;
+use occ_specification_forms::Specified;
 use std::test::Fail;
 
 /// The form of the line, where it has one.

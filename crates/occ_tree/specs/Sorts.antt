@@ -1,15 +1,15 @@
 -- What the form of a line says of where it may stand.
 use Rattle.std.specs.Prelude.{Bool, true, false, not, ◌||◌, List, [], ◌∷◌, map, Some, None, if◌then◌else◌}
 use Rattle.std.specs.List.{list_any}
-use Rattle.occ_expressions.specs.declared.tree.Bounds.{Bounds}
-use Rattle.occ_expressions.specs.declared.tree.Bounds.TheOpen.{Element-F, Expr-F, Operand-F}
-use Rattle.occ_expressions.specs.declared.tree.Builtin.{Builtin}
-use Rattle.occ_expressions.specs.declared.tree.Dimension.{Dimension}
-use Rattle.occ_expressions.specs.declared.tree.Element.{Element, out-Element}
-use Rattle.occ_expressions.specs.declared.tree.Expr.{Expr, out-Expr}
-use Rattle.occ_expressions.specs.declared.tree.NamedOperand.{NamedOperand}
-use Rattle.occ_expressions.specs.declared.tree.Operand.{Operand, out-Operand}
-use Rattle.occ_expressions.specs.declared.tree.TypeForm.{TypeForm}
+use Rattle.occ_expression_forms.specs.declared.tree.Bounds.{Bounds}
+use Rattle.occ_expression_forms.specs.declared.tree.Bounds.TheOpen.{Element-F, Expr-F, Operand-F}
+use Rattle.occ_expression_forms.specs.declared.tree.Builtin.{Builtin}
+use Rattle.occ_expression_forms.specs.declared.tree.Dimension.{Dimension}
+use Rattle.occ_expression_forms.specs.declared.tree.Element.{Element, out-Element}
+use Rattle.occ_expression_forms.specs.declared.tree.Expr.{Expr, out-Expr}
+use Rattle.occ_expression_forms.specs.declared.tree.NamedOperand.{NamedOperand}
+use Rattle.occ_expression_forms.specs.declared.tree.Operand.{Operand, out-Operand}
+use Rattle.occ_expression_forms.specs.declared.tree.TypeForm.{TypeForm}
 use Rattle.occ_forms.specs.declared.tree.Action.{Action}
 use Rattle.occ_forms.specs.declared.tree.Action.TheVariants as action
 use Rattle.occ_forms.specs.declared.tree.Construct.{Construct}
@@ -20,19 +20,19 @@ use Rattle.occ_forms.specs.declared.tree.Form.{Form}
 use Rattle.occ_forms.specs.declared.tree.Form.TheVariants as form
 use Rattle.occ_forms.specs.declared.tree.Guarded.{Guarded}
 use Rattle.occ_forms.specs.declared.tree.Guarded.TheVariants as guarded
-use Rattle.occ_forms.specs.declared.tree.Kind.{Kind}
-use Rattle.occ_forms.specs.declared.tree.Kind.TheVariants as kind
+use Rattle.occ_forms.specs.declared.tree.ConstructKind.{ConstructKind}
+use Rattle.occ_forms.specs.declared.tree.ConstructKind.TheVariants as kind
 use Rattle.occ_forms.specs.declared.tree.Part.{Part}
 use Rattle.occ_forms.specs.declared.tree.Part.TheVariants as part
 use Rattle.occ_project.specs.declared.expanded.ExpandedBody.{ExpandedBody}
 use Rattle.occ_project.specs.declared.expanded.ExpandedBody.TheVariants as body
 use Rattle.occ_project.specs.declared.expanded.ExpandedLine.{ExpandedLine}
-use Rattle.occ_specifications.specs.declared.tree.Head.{Head}
-use Rattle.occ_specifications.specs.declared.tree.Head.TheVariants as head
-use Rattle.occ_specifications.specs.declared.tree.Specification.{Specification}
-use Rattle.occ_specifications.specs.declared.tree.Specification.TheVariants as specification
-use Rattle.occ_specifications.specs.declared.tree.Specified.{Specified}
-use Rattle.occ_specifications.specs.declared.tree.Specified.TheVariants as specified
+use Rattle.occ_specification_forms.specs.declared.tree.Head.{Head}
+use Rattle.occ_specification_forms.specs.declared.tree.Head.TheVariants as head
+use Rattle.occ_specification_forms.specs.declared.tree.Specification.{Specification}
+use Rattle.occ_specification_forms.specs.declared.tree.Specification.TheVariants as specification
+use Rattle.occ_specification_forms.specs.declared.tree.Specified.{Specified}
+use Rattle.occ_specification_forms.specs.declared.tree.Specified.TheVariants as specified
 use Rattle.occ_tree.specs.declared.outline.Outline.{Outline}
 use Rattle.occ_tree.specs.declared.sort.Sort.{Sort}
 use Rattle.occ_tree.specs.declared.sort.Sort.TheVariants as sort
@@ -126,7 +126,7 @@ abbrev pub action_sort : Action → Sort
 action_sort (action.Input i) = sort.Input
 action_sort _ = sort.Action
 
-abbrev pub plain_sort : Kind → Sort
+abbrev pub plain_sort : ConstructKind → Sort
 plain_sort kind.Sequence = sort.Block
 plain_sort kind.Parallel = sort.Block
 plain_sort kind.PriParallel = sort.Block
@@ -134,7 +134,7 @@ plain_sort kind.Conditional = sort.Conditional
 plain_sort kind.Alternation = sort.Alternation
 plain_sort kind.PriAlternation = sort.Alternation
 
-abbrev pub replicated_sort : Kind → Sort
+abbrev pub replicated_sort : ConstructKind → Sort
 replicated_sort kind.Sequence = sort.ReplicatedBlock
 replicated_sort kind.Parallel = sort.ReplicatedBlock
 replicated_sort kind.PriParallel = sort.ReplicatedBlock

@@ -4,14 +4,14 @@ ghost use Rattle.occ_tree.specs.Sorts.{action_sort, body_sort, construct_sort, e
 
 use super::sort::Sort;
 use occ_base::Items;
-use occ_expressions::{Element, Expr, Operand};
-use occ_forms::{Action, Construct, Detail, Form, Guarded, Kind, Part};
+use occ_expression_forms::{Element, Expr, Operand};
+use occ_forms::{Action, Construct, Detail, Form, Guarded, ConstructKind, Part};
 use occ_project::{ExpandedBody, ExpandedLine};
-use occ_specifications::{Head, Specification, Specified};
+use occ_specification_forms::{Head, Specification, Specified};
 use std::alloc::{AllocError, Global};
 
 /// What the shape of a unit knows of a line.
-#[derive(Clone, Copy, Debug)]
+#[derive(Clone, Copy)]
 pub struct Outline {
     pub depth: u64,
     pub sort: Sort,
@@ -174,23 +174,23 @@ fn sort_of_action(action: &Action) -> Sort
     }
 }
 
-fn plain_sort_of(kind: Kind) -> Sort
+fn plain_sort_of(kind: ConstructKind) -> Sort
     ensures { result ≡ plain_sort kind }
 {
     match kind {
-        Kind::Sequence | Kind::Parallel | Kind::PriParallel => Sort::Block,
-        Kind::Conditional => Sort::Conditional,
-        Kind::Alternation | Kind::PriAlternation => Sort::Alternation,
+        ConstructKind::Sequence | ConstructKind::Parallel | ConstructKind::PriParallel => Sort::Block,
+        ConstructKind::Conditional => Sort::Conditional,
+        ConstructKind::Alternation | ConstructKind::PriAlternation => Sort::Alternation,
     }
 }
 
-fn replicated_sort_of(kind: Kind) -> Sort
+fn replicated_sort_of(kind: ConstructKind) -> Sort
     ensures { result ≡ replicated_sort kind }
 {
     match kind {
-        Kind::Sequence | Kind::Parallel | Kind::PriParallel => Sort::ReplicatedBlock,
-        Kind::Conditional => Sort::ReplicatedConditional,
-        Kind::Alternation | Kind::PriAlternation => Sort::ReplicatedAlternation,
+        ConstructKind::Sequence | ConstructKind::Parallel | ConstructKind::PriParallel => Sort::ReplicatedBlock,
+        ConstructKind::Conditional => Sort::ReplicatedConditional,
+        ConstructKind::Alternation | ConstructKind::PriAlternation => Sort::ReplicatedAlternation,
     }
 }
 

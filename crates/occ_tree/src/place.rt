@@ -14,7 +14,7 @@ use super::stack::Stack;
 use std::alloc::{AllocError, Global};
 
 /// A parent, which the next line may stand under.
-#[derive(Clone, Copy, Debug)]
+#[derive(Clone, Copy)]
 pub struct Frame {
     /// Its depth. The file has none.
     pub depth: Option<u64>,
@@ -25,7 +25,7 @@ pub struct Frame {
 }
 
 /// Where a line stands.
-#[derive(Clone, Copy, Debug)]
+#[derive(Clone, Copy)]
 pub struct Place {
     pub line: Outline,
     /// Its parent, before the line itself stood under it.
@@ -66,7 +66,7 @@ impl Frame {
 }
 
 /// The parents that are open behind a line.
-#[derive(Debug, Drop)]
+#[derive(Drop)]
 pub struct Open {
     pub innermost: Frame,
     pub outer: Stack<Frame>,

@@ -4,7 +4,7 @@ ghost use Rattle.occ_tree.specs.Table.{is_main as main, is_process as process, i
 use super::sort::Sort;
 
 /// What may stand right under a line, or in a file.
-#[derive(Clone, Copy, Debug, PartialEq, Eq)]
+#[derive(Clone, Copy)]
 pub enum Row {
     /// In a file: specifications alone.
     File,

@@ -1,14 +1,14 @@
 //! Worked rows of the definitions. For each line of a unit `true` says that it stands wrong or lacks something.
-ghost use Rattle.occ_expressions.specs.declared.tree.Dimension.TheVariants as d;
-ghost use Rattle.occ_expressions.specs.declared.tree.Element.TheVariants as el;
-ghost use Rattle.occ_expressions.specs.declared.tree.Expr.TheVariants as e;
-ghost use Rattle.occ_expressions.specs.declared.tree.Literal.TheVariants as l;
-ghost use Rattle.occ_expressions.specs.declared.tree.Operand.TheVariants as o;
+ghost use Rattle.occ_expression_forms.specs.declared.tree.Dimension.TheVariants as d;
+ghost use Rattle.occ_expression_forms.specs.declared.tree.Element.TheVariants as el;
+ghost use Rattle.occ_expression_forms.specs.declared.tree.Expr.TheVariants as e;
+ghost use Rattle.occ_expression_forms.specs.declared.tree.Literal.TheVariants as l;
+ghost use Rattle.occ_expression_forms.specs.declared.tree.Operand.TheVariants as o;
 ghost use Rattle.occ_forms.specs.declared.tree.Construct.TheVariants as k;
 ghost use Rattle.occ_forms.specs.declared.tree.Detail.TheVariants as de;
 ghost use Rattle.occ_forms.specs.declared.tree.Form.TheVariants as f;
 ghost use Rattle.occ_forms.specs.declared.tree.Guarded.TheVariants as g;
-ghost use Rattle.occ_forms.specs.declared.tree.Kind.TheVariants as ki;
+ghost use Rattle.occ_forms.specs.declared.tree.ConstructKind.TheVariants as ki;
 ghost use Rattle.occ_forms.specs.declared.tree.Part.TheVariants as p;
 ghost use Rattle.std.specs.Prelude.{◌≡◌, [], ◌∷◌, None, Some, codes, false, true};
 ghost use Rattle.occ_tree.specs.declared.sort.Sort.TheVariants as so;

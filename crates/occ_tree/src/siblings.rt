@@ -13,7 +13,7 @@ use super::row::{
 use super::sort::Sort;
 
 /// What the walk knows of the lines before one under the same parent.
-#[derive(Clone, Copy, Debug)]
+#[derive(Clone, Copy)]
 pub struct Elders {
     /// The nearest is a head.
     pub head: bool,

@@ -1,5 +1,5 @@
 /// What the form of a line says of where it may stand and what may stand under it.
-#[derive(Clone, Copy, Debug, PartialEq, Eq)]
+#[derive(Clone, Copy)]
 pub enum Sort {
     /// A specification of one line that may stand in a file too: of a protocol, a data type, a function or a value,
     /// or a `#USE`.

@@ -2,7 +2,7 @@ use occ_base::Items;
 use occ_project::ExpandedLine;
 
 /// A line of a unit, with those that stand right under it.
-#[derive(Debug, Drop)]
+#[derive(Drop)]
 pub struct Node {
     pub line: ExpandedLine,
     pub children: Items<Node>,

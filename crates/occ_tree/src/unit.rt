@@ -13,7 +13,7 @@ use std::alloc::{AllocError, Global};
 use thiserror::Error;
 
 /// The trees of a unit.
-#[derive(Debug, Drop)]
+#[derive(Drop)]
 pub struct Unit {
     /// The lines that stand under no other, in their order.
     pub roots: Items<Node>,

@@ -1,13 +1,13 @@
 use occ_base::{Boxed, Items, Name};
 use occ_names::Referent;
-use occ_operators::Kind;
+use occ_operands::Kind;
 use occ_types::{Monadic, Operator};
 
 /// An expression with all its parts. Each but `Unknown` has its kind: its type, and its value where it is constant. An
 /// expression without a fault has parts without a fault, so each of these is known. Of a type that an expression writes
 /// its tree has the type alone, and of a string no bytes.
 #[cycle(typed)]
-#[derive(Debug, Drop)]
+#[derive(Drop)]
 pub enum TypedExpr {
     /// A literal, with its type or without, and with the `-` that makes one literal with it; `TRUE` or `FALSE`; the greatest
     /// or the least value of a type.
@@ -29,7 +29,7 @@ pub enum TypedExpr {
 
 /// A part of what a name stands for: the whole, if it has no selectors.
 #[cycle(typed)]
-#[derive(Debug, Drop)]
+#[derive(Drop)]
 pub struct TypedElement {
     pub kind: Kind,
     pub name: Name,
@@ -41,7 +41,7 @@ pub struct TypedElement {
 
 /// What selects a part of a value.
 #[cycle(typed)]
-#[derive(Debug, Drop)]
+#[derive(Drop)]
 pub enum Selector {
     /// The field of this name.
     Field(Name),

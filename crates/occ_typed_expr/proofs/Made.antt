@@ -1,17 +1,17 @@
 -- What the walk puts together is the tree of the definition.
 use Rattle.std.proofs.Common.{◌≡◌, ◌∙◌, ap, sym, append_assoc, ℕ, Option, List, [], ◌∷◌, ◌++◌}
-use Rattle.occ_expressions.specs.declared.tree.Bounds.{Bounds}
-use Rattle.occ_expressions.specs.declared.tree.Element.{Element}
-use Rattle.occ_expressions.specs.declared.tree.Element.TheVariants as ev
-use Rattle.occ_expressions.specs.declared.tree.Expr.{Expr}
-use Rattle.occ_expressions.specs.declared.tree.NamedOperand.{NamedOperand}
-use Rattle.occ_expressions.specs.declared.tree.NamedOperand.TheVariants as nv
-use Rattle.occ_expressions.specs.declared.tree.Operand.{Operand}
-use Rattle.occ_expressions.specs.declared.tree.Operand.TheVariants as ov
+use Rattle.occ_expression_forms.specs.declared.tree.Bounds.{Bounds}
+use Rattle.occ_expression_forms.specs.declared.tree.Element.{Element}
+use Rattle.occ_expression_forms.specs.declared.tree.Element.TheVariants as ev
+use Rattle.occ_expression_forms.specs.declared.tree.Expr.{Expr}
+use Rattle.occ_expression_forms.specs.declared.tree.NamedOperand.{NamedOperand}
+use Rattle.occ_expression_forms.specs.declared.tree.NamedOperand.TheVariants as nv
+use Rattle.occ_expression_forms.specs.declared.tree.Operand.{Operand}
+use Rattle.occ_expression_forms.specs.declared.tree.Operand.TheVariants as ov
 use Rattle.occ_names.specs.Visible.{referent}
 use Rattle.occ_names.specs.declared.meaning.Referent.{Referent}
 use Rattle.occ_names.specs.declared.scope.Scope.{Scope}
-use Rattle.occ_operators.specs.declared.kind.Kind.{Kind}
+use Rattle.occ_operands.specs.declared.kind.Kind.{Kind}
 use Rattle.occ_typed.specs.declared.expr.Selector.{Selector}
 use Rattle.occ_typed.specs.declared.expr.TypedElement.{TypedElement}
 use Rattle.occ_typed.specs.declared.expr.TypedExpr.{TypedExpr}

@@ -1,26 +1,26 @@
 -- The typed tree that each form becomes, from those of its parts.
 use Rattle.std.proofs.Common.{◌≡◌, ◌∙◌, ap, sym, ℕ, Bool, None, List, ◌∷◌}
-use Rattle.occ_expressions.specs.declared.tree.Bounds.TheVariants as bv
-use Rattle.occ_expressions.specs.declared.tree.Builtin.{Builtin}
-use Rattle.occ_expressions.specs.declared.tree.Bounds.{Bounds}
-use Rattle.occ_expressions.specs.declared.tree.Dimension.{Dimension}
-use Rattle.occ_expressions.specs.declared.tree.Element.{Element}
-use Rattle.occ_expressions.specs.declared.tree.Element.TheVariants as ev
-use Rattle.occ_expressions.specs.declared.tree.Expr.{Expr}
-use Rattle.occ_expressions.specs.declared.tree.Expr.TheVariants as xv
-use Rattle.occ_expressions.specs.declared.tree.Extreme.{Extreme}
-use Rattle.occ_expressions.specs.declared.tree.Literal.{Literal}
-use Rattle.occ_expressions.specs.declared.tree.MonadicOperator.{MonadicOperator}
-use Rattle.occ_expressions.specs.declared.tree.NamedOperand.{NamedOperand}
-use Rattle.occ_expressions.specs.declared.tree.NamedOperand.TheVariants as nv
-use Rattle.occ_expressions.specs.declared.tree.Operand.{Operand}
-use Rattle.occ_expressions.specs.declared.tree.Operand.TheVariants as ov
-use Rattle.occ_expressions.specs.declared.tree.PairOperator.{PairOperator}
-use Rattle.occ_expressions.specs.declared.tree.RunOperator.{RunOperator}
-use Rattle.occ_expressions.specs.declared.tree.TypeForm.{TypeForm}
+use Rattle.occ_expression_forms.specs.declared.tree.Bounds.TheVariants as bv
+use Rattle.occ_expression_forms.specs.declared.tree.Builtin.{Builtin}
+use Rattle.occ_expression_forms.specs.declared.tree.Bounds.{Bounds}
+use Rattle.occ_expression_forms.specs.declared.tree.Dimension.{Dimension}
+use Rattle.occ_expression_forms.specs.declared.tree.Element.{Element}
+use Rattle.occ_expression_forms.specs.declared.tree.Element.TheVariants as ev
+use Rattle.occ_expression_forms.specs.declared.tree.Expr.{Expr}
+use Rattle.occ_expression_forms.specs.declared.tree.Expr.TheVariants as xv
+use Rattle.occ_expression_forms.specs.declared.tree.Extreme.{Extreme}
+use Rattle.occ_expression_forms.specs.declared.tree.Literal.{Literal}
+use Rattle.occ_expression_forms.specs.declared.tree.MonadicOperator.{MonadicOperator}
+use Rattle.occ_expression_forms.specs.declared.tree.NamedOperand.{NamedOperand}
+use Rattle.occ_expression_forms.specs.declared.tree.NamedOperand.TheVariants as nv
+use Rattle.occ_expression_forms.specs.declared.tree.Operand.{Operand}
+use Rattle.occ_expression_forms.specs.declared.tree.Operand.TheVariants as ov
+use Rattle.occ_expression_forms.specs.declared.tree.PairOperator.{PairOperator}
+use Rattle.occ_expression_forms.specs.declared.tree.RunOperator.{RunOperator}
+use Rattle.occ_expression_forms.specs.declared.tree.TypeForm.{TypeForm}
 use Rattle.occ_names.specs.Visible.{visible}
 use Rattle.occ_names.specs.declared.scope.Scope.{Scope}
-use Rattle.occ_operators.specs.Settling.{Told}
+use Rattle.occ_operands.specs.Settling.{Told}
 use Rattle.occ_typed.specs.declared.expr.Selector.TheVariants as by
 use Rattle.occ_typed.specs.declared.expr.TypedElement.{TypedElement}
 use Rattle.occ_typed.specs.declared.expr.TypedExpr.TheVariants as typed

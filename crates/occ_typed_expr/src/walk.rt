@@ -15,12 +15,12 @@ use occ_expr::{
     operand as operand_said, pair_operator, run_operator, segment_of, subscript, table_item,
     whole_element as whole_element_told,
 };
-use occ_expressions::{
+use occ_expression_forms::{
     Bounds, Element, Expr, MonadicOperator, NamedOperand, Operand, PairOperator, RunOperator,
 };
 use occ_names::{Meaning, Scope};
-use occ_operators::{Kind, int, type_in};
-use occ_terms::Term;
+use occ_operands::{Kind, int, type_in};
+use occ_tables::Term;
 use occ_typed::{Selector, TypedElement, TypedExpr};
 use occ_types::{Monadic, OccType, fields_of, unnamed};
 use std::alloc::{AllocError, Global};

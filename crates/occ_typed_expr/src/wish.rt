@@ -3,9 +3,9 @@ ghost use Rattle.occ_expr.specs.Trees.{is_shift as shifts, item_wish as wish_of_
 
 use occ_base::{Items, Shared};
 use occ_expr::{pair_operator, plain};
-use occ_expressions::PairOperator;
-use occ_operators::{Kind, int, operand_type, type_in};
-use occ_terms::{Term, alone, under};
+use occ_expression_forms::PairOperator;
+use occ_operands::{Kind, int, operand_type, type_in};
+use occ_tables::{Term, alone, under};
 use occ_types::{OccType, Operator, array_of, fields_of, unnamed};
 use std::alloc::{AllocError, Global};
 

@@ -1,6 +1,6 @@
 use occ_base::{FileName, Items, Shared};
 use occ_forms::prepare;
-use occ_operators::Kind;
+use occ_operands::Kind;
 use occ_project::{Read, expand};
 use occ_tree::{Unit, shape};
 use occ_typed::{Selector, TypedElement, TypedExpr};

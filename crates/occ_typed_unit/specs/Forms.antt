@@ -4,30 +4,30 @@ use Rattle.std.specs.List.{slice_get}
 use Rattle.occ_expr.specs.Parts.{Wish}
 use Rattle.occ_expr.specs.Views.{element_view, expr_view, type_form_view}
 use Rattle.occ_expr.specs.declared.written.Opening.TheVariants as opening
-use Rattle.occ_expressions.specs.declared.tree.Element.{Element}
-use Rattle.occ_expressions.specs.declared.tree.Expr.{Expr}
-use Rattle.occ_expressions.specs.declared.tree.TypeForm.{TypeForm}
+use Rattle.occ_expression_forms.specs.declared.tree.Element.{Element}
+use Rattle.occ_expression_forms.specs.declared.tree.Expr.{Expr}
+use Rattle.occ_expression_forms.specs.declared.tree.TypeForm.{TypeForm}
 use Rattle.occ_forms.specs.declared.tree.Action.{Action}
 use Rattle.occ_forms.specs.declared.tree.Action.TheVariants as action
 use Rattle.occ_forms.specs.declared.tree.Construct.{Construct}
 use Rattle.occ_forms.specs.declared.tree.Construct.TheVariants as construct
 use Rattle.occ_forms.specs.declared.tree.Form.{Form}
 use Rattle.occ_forms.specs.declared.tree.Form.TheVariants as form
-use Rattle.occ_forms.specs.declared.tree.Kind.{Kind as Word}
-use Rattle.occ_forms.specs.declared.tree.Kind.TheVariants as word
+use Rattle.occ_forms.specs.declared.tree.ConstructKind.{ConstructKind}
+use Rattle.occ_forms.specs.declared.tree.ConstructKind.TheVariants as word
 use Rattle.occ_forms.specs.declared.tree.Part.{Part}
 use Rattle.occ_forms.specs.declared.tree.Part.TheVariants as part
 use Rattle.occ_forms.specs.declared.tree.Replicator.{Replicator}
-use Rattle.occ_heads.specs.Heads.{Headed, function}
+use Rattle.occ_typed_heads.specs.Heads.{Headed, function}
 use Rattle.occ_names.specs.Visible.{with_all}
 use Rattle.occ_names.specs.declared.scope.Scope.{Scope}
-use Rattle.occ_operators.specs.Operators.{type_in}
+use Rattle.occ_operands.specs.Operators.{type_in}
 use Rattle.occ_project.specs.declared.expanded.ExpandedBody.{ExpandedBody}
 use Rattle.occ_project.specs.declared.expanded.ExpandedBody.TheVariants as body
-use Rattle.occ_specifications.specs.declared.tree.Specification.{Specification}
-use Rattle.occ_specifications.specs.declared.tree.Specification.TheVariants as specification
-use Rattle.occ_specifications.specs.declared.tree.Specified.{Specified}
-use Rattle.occ_specifications.specs.declared.tree.Specified.TheVariants as specified
+use Rattle.occ_specification_forms.specs.declared.tree.Specification.{Specification}
+use Rattle.occ_specification_forms.specs.declared.tree.Specification.TheVariants as specification
+use Rattle.occ_specification_forms.specs.declared.tree.Specified.{Specified}
+use Rattle.occ_specification_forms.specs.declared.tree.Specified.TheVariants as specified
 use Rattle.occ_typed.specs.declared.expr.TypedElement.{TypedElement}
 use Rattle.occ_typed.specs.declared.expr.TypedExpr.{TypedExpr}
 use Rattle.occ_types.specs.declared.types.OccType.{OccType}
@@ -82,7 +82,7 @@ action_form s (action.Input input) = t.Unknown
 
 -- ---- constructs
 
-abbrev pub word_form : Word → TypedForm
+abbrev pub word_form : ConstructKind → TypedForm
 word_form word.Sequence = t.Sequence
 word_form word.Parallel = t.Parallel
 word_form word.PriParallel = t.Parallel
@@ -90,7 +90,7 @@ word_form word.Conditional = t.Conditional
 word_form word.Alternation = t.Unknown
 word_form word.PriAlternation = t.Unknown
 
-abbrev pub replicable_form : Word → Option Replicator → TypedForm
+abbrev pub replicable_form : ConstructKind → Option Replicator → TypedForm
 replicable_form w None = word_form w
 replicable_form w (Some r) = t.Unknown
 

@@ -2,7 +2,7 @@
 
 ghost use Rattle.occ_expr.specs.Views.{element_view, expr_view, type_form_view};
 ghost use Rattle.occ_expr.specs.declared.written.Opening.TheVariants as opened;
-ghost use Rattle.occ_heads.specs.Heads.{function as told_head};
+ghost use Rattle.occ_typed_heads.specs.Heads.{function as told_head};
 ghost use Rattle.occ_names.specs.Visible.{with_all};
 ghost use Rattle.occ_typed_unit.specs.Forms.{action_form as told_action, alone_tree as told_alone, assignment_of, body_form as told_body, construct_form as told_construct, expressions_form as told_expressions, typed_of_form as told_form, one_line_function, line_form as told_line, part_form as told_part, replicable_form as told_replicable, result_form as told_result, result_trees as told_results, result_wishes as told_result_wishes, specification_form as told_specification, specified_form as told_specified, target_types as types_of_targets, targets as told_targets, trees_by_place as told_trees_as, trees_from_place, trees_under as told_trees_under, declared_wish as told_value_wish, wish_in, wishes_for as told_wishes, word_form as told_word};
 ghost use Rattle.std.specs.List.{slice_get};
@@ -11,13 +11,13 @@ ghost use Rattle.std.specs.Prelude.{◌≡◌, ◌∷◌, ◌++◌, [], IfOk, On
 use super::tree::TypedForm;
 use occ_base::{Items, Shared};
 use occ_expr::{Opening, type_form};
-use occ_expressions::{Element, Expr, TypeForm};
-use occ_forms::{Action, Construct, Form, Kind, Part, Replicator};
-use occ_heads::{Heading, function_head};
+use occ_expression_forms::{Element, Expr, TypeForm};
+use occ_forms::{Action, Construct, Form, ConstructKind, Part, Replicator};
+use occ_typed_heads::{Heading, function_head};
 use occ_names::Scope;
-use occ_operators::type_in;
+use occ_operands::type_in;
 use occ_project::ExpandedBody;
-use occ_specifications::{FunctionHead, Specification, Specified};
+use occ_specification_forms::{FunctionHead, Specification, Specified};
 use occ_typed::{TypedElement, TypedExpr};
 use occ_typed_expr::{Wish, typed_element, typed_expr};
 use occ_types::OccType;
@@ -160,19 +160,19 @@ fn action(alloc: Global, action: &Action, scope: &Scope) -> Result<TypedForm, Al
 }
 
 /// A construct of this word without a replicator.
-fn word(word: Kind) -> TypedForm
+fn word(word: ConstructKind) -> TypedForm
     ensures { result ≡ told_word word }
 {
     match word {
-        Kind::Sequence => TypedForm::Sequence,
-        Kind::Parallel | Kind::PriParallel => TypedForm::Parallel,
-        Kind::Conditional => TypedForm::Conditional,
-        Kind::Alternation | Kind::PriAlternation => TypedForm::Unknown,
+        ConstructKind::Sequence => TypedForm::Sequence,
+        ConstructKind::Parallel | ConstructKind::PriParallel => TypedForm::Parallel,
+        ConstructKind::Conditional => TypedForm::Conditional,
+        ConstructKind::Alternation | ConstructKind::PriAlternation => TypedForm::Unknown,
     }
 }
 
 /// A construct of this word, perhaps with a replicator.
-fn replicable(kind: Kind, replicator: &Option<Replicator>) -> TypedForm
+fn replicable(kind: ConstructKind, replicator: &Option<Replicator>) -> TypedForm
     ensures { result ≡ told_replicable kind replicator.now }
 {
     match replicator {

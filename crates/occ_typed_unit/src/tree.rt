@@ -7,7 +7,7 @@ use occ_typed::{TypedElement, TypedExpr};
 pub type ProcessId = usize;
 
 /// What a line is, once its names and expressions are typed.
-#[derive(Debug, Drop)]
+#[derive(Drop)]
 pub enum TypedForm {
     /// A declaration, the definition of a type, the head of a specification or its close, or a line of a record: it only
     /// brings names into scope, if it does. What the names of `adds` stand for tells PROCs, FUNCTIONs, types and variables
@@ -51,7 +51,7 @@ pub enum TypedForm {
 
 /// A line of a unit, with those under it.
 #[cycle(lines)]
-#[derive(Debug, Drop)]
+#[derive(Drop)]
 pub struct TypedLine {
     pub place: Place,
     /// Its number, if it is a process.

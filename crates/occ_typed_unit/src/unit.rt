@@ -15,14 +15,14 @@ use std::alloc::{AllocError, Global};
 use thiserror::Error;
 
 /// A unit that another uses: its file, and what it exports.
-#[derive(Debug, Drop)]
+#[derive(Drop)]
 pub struct Import {
     pub unit: FileName,
     pub interface: Shared<Interface>,
 }
 
 /// The typed tree of a unit.
-#[derive(Debug, Drop)]
+#[derive(Drop)]
 pub struct Typed {
     /// The lines that stand under no other, in their order.
     pub lines: Items<TypedLine>,

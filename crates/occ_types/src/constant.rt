@@ -6,7 +6,7 @@ use super::{Primitive, Value};
 use thiserror::Error;
 
 /// Why a constant expression has no value.
-#[derive(Clone, Copy, Debug, PartialEq, Eq, Error)]
+#[derive(Clone, Copy, Debug, Error)]
 pub enum ConstFault {
     /// The result is out of the range of its type.
     #[error("Overflow")]
@@ -20,7 +20,7 @@ pub enum ConstFault {
 }
 
 /// The operators between two operands. `Remainder` is `\` and REM, `AtMost` is `<=` and `AtLeast` is `>=`.
-#[derive(Clone, Copy, Debug, PartialEq, Eq)]
+#[derive(Clone, Copy)]
 pub enum Operator {
     Add,
     Subtract,
@@ -47,7 +47,7 @@ pub enum Operator {
 }
 
 /// The operators before one operand: `-`, MINUS, `~` or BITNOT, and NOT.
-#[derive(Clone, Copy, Debug, PartialEq, Eq)]
+#[derive(Clone, Copy, PartialEq, Eq)]
 pub enum Monadic {
     Negate,
     Minus,

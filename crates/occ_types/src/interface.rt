@@ -3,13 +3,13 @@ use occ_base::{Items, Name};
 
 /// What a unit shows to those that use it: its exports in order of declaration. It has no line numbers, no
 /// comments and no names of formals.
-#[derive(Debug, Drop)]
+#[derive(Drop)]
 pub struct Interface {
     pub exports: Items<Export>,
 }
 
 /// A PROC or a FUNCTION that a unit exports.
-#[derive(Debug, Drop)]
+#[derive(Drop)]
 pub struct Export {
     pub name: Name,
     pub kind: ExportKind,
@@ -20,21 +20,21 @@ pub struct Export {
 }
 
 /// Whether an export is a PROC or a FUNCTION.
-#[derive(Clone, Copy, Debug, PartialEq, Eq)]
+#[derive(Clone, Copy, PartialEq, Eq)]
 pub enum ExportKind {
     Process,
     Function,
 }
 
 /// Whether a body, calls included, has an input, an output, a PAR or an ALT.
-#[derive(Clone, Copy, Debug, PartialEq, Eq)]
+#[derive(Clone, Copy, PartialEq, Eq)]
 pub enum Effect {
     Some,
     None,
 }
 
 /// A formal, with what the body does with it.
-#[derive(Debug, Drop)]
+#[derive(Drop)]
 pub struct Formal {
     pub of: OccType,
     pub passing: Passing,
@@ -43,21 +43,21 @@ pub struct Formal {
 }
 
 /// Whether a formal is VAL.
-#[derive(Clone, Copy, Debug, PartialEq, Eq)]
+#[derive(Clone, Copy, PartialEq, Eq)]
 pub enum Passing {
     Value,
     Reference,
 }
 
 /// A use of a part of a formal.
-#[derive(Debug, Drop)]
+#[derive(Drop)]
 pub struct Use {
     pub selectors: Items<Selector>,
     pub kind: UseKind,
 }
 
 /// What a use does with its part.
-#[derive(Clone, Copy, Debug, PartialEq, Eq)]
+#[derive(Clone, Copy, PartialEq, Eq)]
 pub enum UseKind {
     Read,
     Write,
@@ -66,28 +66,28 @@ pub enum UseKind {
 }
 
 /// What leads from an element to a part of it.
-#[derive(Debug, Drop)]
+#[derive(Drop)]
 pub enum Selector {
     Field(Name),
     Interval(Interval),
 }
 
 /// Places of an array, with a mark.
-#[derive(Clone, Copy, Debug, PartialEq, Eq)]
+#[derive(Clone, Copy, PartialEq, Eq)]
 pub struct Interval {
     pub mark: Mark,
     pub places: Places,
 }
 
 /// Whether all places of an interval are known to be used.
-#[derive(Clone, Copy, Debug, PartialEq, Eq)]
+#[derive(Clone, Copy, PartialEq, Eq)]
 pub enum Mark {
     Sure,
     Unsure,
 }
 
 /// Places that follow one another. Each set of them is written in one way.
-#[derive(Clone, Copy, Debug, PartialEq, Eq)]
+#[derive(Clone, Copy, PartialEq, Eq)]
 pub enum Places {
     None,
     All,

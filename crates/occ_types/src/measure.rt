@@ -7,7 +7,7 @@ use super::{Field, Item, OccType, Protocol, Tag};
 
 /// How deep a type is when each name in it is written out, and how many types it then has. 4,294,967,295 stands
 /// for all that is more.
-#[derive(Clone, Copy, Debug, PartialEq, Eq)]
+#[derive(Clone, Copy)]
 pub struct Measure {
     pub levels: u32,
     pub types: u32,

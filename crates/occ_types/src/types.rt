@@ -3,7 +3,7 @@ use occ_base::{Items, Name, Shared};
 
 /// A type, with each name in it resolved to its definition. Types that hold a type share it.
 #[cycle(types)]
-#[derive(Debug, Drop)]
+#[derive(Drop)]
 pub enum OccType {
     Primitive(Primitive),
     /// `[n]T`, or `[]T` where there is no n.
@@ -18,7 +18,7 @@ pub enum OccType {
 }
 
 /// Whether a record is PACKED.
-#[derive(Clone, Copy, Debug, PartialEq, Eq)]
+#[derive(Clone, Copy, PartialEq, Eq)]
 pub enum Packing {
     Packed,
     Plain,
@@ -26,7 +26,7 @@ pub enum Packing {
 
 /// A field of a record.
 #[cycle(types)]
-#[derive(Debug, Drop)]
+#[derive(Drop)]
 pub struct Field {
     pub name: Name,
     pub of: Shared<OccType>,
@@ -34,7 +34,7 @@ pub struct Field {
 
 /// What a channel carries.
 #[cycle(types)]
-#[derive(Debug, Drop)]
+#[derive(Drop)]
 pub enum Protocol {
     /// ANY
     Any,
@@ -47,7 +47,7 @@ pub enum Protocol {
 
 /// An item of a protocol.
 #[cycle(types)]
-#[derive(Debug, Drop)]
+#[derive(Drop)]
 pub enum Item {
     Value(Shared<OccType>),
     /// `T::[]U`: a count of type T, and so many values of type U.
@@ -56,7 +56,7 @@ pub enum Item {
 
 /// A variant of a protocol: its tag, and the items that follow the tag.
 #[cycle(types)]
-#[derive(Debug, Drop)]
+#[derive(Drop)]
 pub struct Tag {
     pub name: Name,
     pub items: Items<Item>,

@@ -2,7 +2,7 @@ ghost use Rattle.std.specs.Prelude.{◌≡◌};
 ghost use Rattle.occ_types.specs.Constant.{number_of, primitive_of};
 
 /// The primitive types. `Int` has the range of `Int32` and is a type apart from it.
-#[derive(Clone, Copy, Debug, PartialEq, Eq)]
+#[derive(Clone, Copy, PartialEq, Eq)]
 pub enum Primitive {
     Bool,
     Byte,
@@ -13,7 +13,7 @@ pub enum Primitive {
 }
 
 /// The value of a constant expression.
-#[derive(Clone, Copy, Debug, PartialEq, Eq)]
+#[derive(Clone, Copy, PartialEq, Eq)]
 pub enum Value {
     Bool(bool),
     Byte(u8),

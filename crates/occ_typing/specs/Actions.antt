@@ -3,8 +3,8 @@ use Rattle.std.specs.Prelude.{List, [], ◌∷◌}
 use Rattle.occ_forms.specs.declared.tree.Action.{Action}
 use Rattle.occ_forms.specs.declared.tree.Action.TheVariants as action
 use Rattle.occ_names.specs.declared.scope.Scope.{Scope}
-use Rattle.occ_operators.specs.declared.kind.Fault.{Fault}
-use Rattle.occ_statements.specs.Statements.{assignment}
+use Rattle.occ_operands.specs.declared.kind.Fault.{Fault}
+use Rattle.occ_typed_statements.specs.Statements.{assignment}
 use Rattle.occ_typing.specs.Lines.{beyond}
 
 abbrev pub action_faults : Scope → Action → List Fault

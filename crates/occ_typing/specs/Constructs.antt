@@ -2,21 +2,21 @@
 use Rattle.std.specs.Prelude.{ℕ, false, Option, Some, None, List, [], ◌∷◌}
 use Rattle.occ_forms.specs.declared.tree.Construct.{Construct}
 use Rattle.occ_forms.specs.declared.tree.Construct.TheVariants as construct
-use Rattle.occ_forms.specs.declared.tree.Kind.{Kind as Word}
-use Rattle.occ_forms.specs.declared.tree.Kind.TheVariants as word
+use Rattle.occ_forms.specs.declared.tree.ConstructKind.{ConstructKind}
+use Rattle.occ_forms.specs.declared.tree.ConstructKind.TheVariants as word
 use Rattle.occ_forms.specs.declared.tree.Replicator.{Replicator}
 use Rattle.occ_names.specs.declared.meaning.Entry.{Entry}
 use Rattle.occ_names.specs.declared.meaning.Meaning.TheVariants as m
 use Rattle.occ_names.specs.declared.scope.Scope.{Scope}
-use Rattle.occ_operators.specs.Settling.{Told}
-use Rattle.occ_operators.specs.declared.kind.Fault.{Fault}
-use Rattle.occ_operators.specs.declared.kind.Kind.{Kind}
-use Rattle.occ_statements.specs.Statements.{condition, selector}
+use Rattle.occ_operands.specs.Settling.{Told}
+use Rattle.occ_operands.specs.declared.kind.Fault.{Fault}
+use Rattle.occ_operands.specs.declared.kind.Kind.{Kind}
+use Rattle.occ_typed_statements.specs.Statements.{condition, selector}
 use Rattle.occ_typing.specs.Lines.{Judged, beyond, over}
 use Rattle.occ_typing.specs.declared.parent.Parent.{Parent}
 use Rattle.occ_typing.specs.declared.parent.Parent.TheVariants as parent
 
-abbrev pub under_word : Word → Parent
+abbrev pub under_word : ConstructKind → Parent
 under_word word.Sequence = parent.Process
 under_word word.Parallel = parent.Process
 under_word word.PriParallel = parent.Process
@@ -25,7 +25,7 @@ under_word word.Alternation = parent.Process
 under_word word.PriAlternation = parent.Process
 
 -- typing does not know alternations yet
-abbrev pub word_faults : Word → List Fault
+abbrev pub word_faults : ConstructKind → List Fault
 word_faults word.Sequence = []
 word_faults word.Parallel = []
 word_faults word.PriParallel = []
@@ -38,7 +38,7 @@ abbrev pub faulty_name : List ℕ → Entry
 faulty_name name = record { name = name; meaning = m.Faulty }
 
 -- nor replicators: nothing is known of the index
-abbrev pub replicable : Word → Option Replicator → Parent → Judged
+abbrev pub replicable : ConstructKind → Option Replicator → Parent → Judged
 replicable w None next = over (word_faults w) (under_word w) [] next
 replicable w (Some r) next = over beyond (under_word w) (faulty_name r.name ∷ []) next
 

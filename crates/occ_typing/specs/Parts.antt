@@ -2,14 +2,14 @@
 use Rattle.std.specs.Prelude.{Bool, true, Option, Some, None, List, [], ◌∷◌, if◌then◌else◌}
 use Rattle.occ_base.specs.declared.code.Code.TheVariants as code
 use Rattle.occ_expr.specs.Parts.{own_faults}
-use Rattle.occ_expressions.specs.declared.tree.Expr.{Expr}
+use Rattle.occ_expression_forms.specs.declared.tree.Expr.{Expr}
 use Rattle.occ_forms.specs.declared.tree.Part.{Part}
 use Rattle.occ_forms.specs.declared.tree.Part.TheVariants as part
 use Rattle.occ_names.specs.declared.scope.Scope.{Scope}
-use Rattle.occ_operators.specs.Settling.{nameless}
-use Rattle.occ_operators.specs.declared.kind.Fault.{Fault}
-use Rattle.occ_rules.specs.Choosing.{Chosen}
-use Rattle.occ_statements.specs.Statements.{condition, options, results, said}
+use Rattle.occ_operands.specs.Settling.{nameless}
+use Rattle.occ_operands.specs.declared.kind.Fault.{Fault}
+use Rattle.occ_type_rules.specs.Choosing.{Chosen}
+use Rattle.occ_typed_statements.specs.Statements.{condition, options, results, said}
 use Rattle.occ_types.specs.declared.types.OccType.{OccType}
 use Rattle.occ_typing.specs.Lines.{Judged, beyond, main, over}
 use Rattle.occ_typing.specs.declared.parent.Choosing.{Choosing}

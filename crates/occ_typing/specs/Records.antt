@@ -1,20 +1,20 @@
 -- The fields of a record, line by line.
 use Rattle.std.specs.Prelude.{ℕ, List, [], ◌∷◌, ◌++◌}
 use Rattle.occ_base.specs.declared.diag.Diag.{Diag}
-use Rattle.occ_declared.specs.Fields.{fields}
-use Rattle.occ_expressions.specs.declared.tree.TypeForm.{TypeForm}
+use Rattle.occ_typed_specifications.specs.Fields.{fields}
+use Rattle.occ_expression_forms.specs.declared.tree.TypeForm.{TypeForm}
 use Rattle.occ_forms.specs.declared.tree.Form.{Form}
 use Rattle.occ_forms.specs.declared.tree.Form.TheVariants as form
 use Rattle.occ_forms.specs.declared.tree.Part.{Part}
 use Rattle.occ_forms.specs.declared.tree.Part.TheVariants as part
 use Rattle.occ_names.specs.declared.scope.Scope.{Scope}
-use Rattle.occ_operators.specs.declared.kind.Fault.{Fault}
+use Rattle.occ_operands.specs.declared.kind.Fault.{Fault}
 use Rattle.occ_project.specs.declared.expanded.ExpandedBody.{ExpandedBody}
 use Rattle.occ_project.specs.declared.expanded.ExpandedBody.TheVariants as body
-use Rattle.occ_specifications.specs.declared.tree.Specification.{Specification}
-use Rattle.occ_specifications.specs.declared.tree.Specification.TheVariants as specification
-use Rattle.occ_specifications.specs.declared.tree.Specified.{Specified}
-use Rattle.occ_specifications.specs.declared.tree.Specified.TheVariants as specified
+use Rattle.occ_specification_forms.specs.declared.tree.Specification.{Specification}
+use Rattle.occ_specification_forms.specs.declared.tree.Specification.TheVariants as specification
+use Rattle.occ_specification_forms.specs.declared.tree.Specified.{Specified}
+use Rattle.occ_specification_forms.specs.declared.tree.Specified.TheVariants as specified
 use Rattle.occ_tree.specs.Forest.{Forest, Empty, Tree}
 use Rattle.occ_types.specs.declared.types.Field.{Field}
 use Rattle.occ_types.specs.declared.types.Packing.{Packing}

@@ -1,25 +1,25 @@
 -- Specifications: of one line, and heads.
 use Rattle.std.specs.Prelude.{ℕ, Bool, true, false, Some, List, [], ◌∷◌, ◌++◌}
-use Rattle.occ_declared.specs.Declaring.{declaration}
-use Rattle.occ_declared.specs.Defining.{data_type}
-use Rattle.occ_declared.specs.Entering.{Declared}
-use Rattle.occ_declared.specs.Lines.{unknown}
-use Rattle.occ_declared.specs.Recording.{recorded}
-use Rattle.occ_declared.specs.Valuing.{value}
-use Rattle.occ_expressions.specs.declared.tree.Expr.{Expr}
-use Rattle.occ_heads.specs.Heads.{Headed, function, procedure}
+use Rattle.occ_typed_specifications.specs.Declaring.{declaration}
+use Rattle.occ_typed_specifications.specs.Defining.{data_type}
+use Rattle.occ_typed_specifications.specs.Entering.{Declared}
+use Rattle.occ_typed_specifications.specs.Lines.{unknown}
+use Rattle.occ_typed_specifications.specs.Recording.{recorded}
+use Rattle.occ_typed_specifications.specs.Valuing.{value}
+use Rattle.occ_expression_forms.specs.declared.tree.Expr.{Expr}
+use Rattle.occ_typed_heads.specs.Heads.{Headed, function, procedure}
 use Rattle.occ_names.specs.Visible.{with_all}
 use Rattle.occ_names.specs.declared.meaning.Entry.{Entry}
 use Rattle.occ_names.specs.declared.meaning.Meaning.{Meaning}
 use Rattle.occ_names.specs.declared.meaning.Meaning.TheVariants as m
 use Rattle.occ_names.specs.declared.scope.Scope.{Scope}
-use Rattle.occ_operators.specs.declared.kind.Fault.{Fault}
-use Rattle.occ_statements.specs.Statements.{is_any_faulty}
-use Rattle.occ_specifications.specs.declared.tree.FunctionHead.{FunctionHead}
-use Rattle.occ_specifications.specs.declared.tree.Head.{Head}
-use Rattle.occ_specifications.specs.declared.tree.Head.TheVariants as head
-use Rattle.occ_specifications.specs.declared.tree.Specification.{Specification}
-use Rattle.occ_specifications.specs.declared.tree.Specification.TheVariants as specification
+use Rattle.occ_operands.specs.declared.kind.Fault.{Fault}
+use Rattle.occ_typed_statements.specs.Statements.{is_any_faulty}
+use Rattle.occ_specification_forms.specs.declared.tree.FunctionHead.{FunctionHead}
+use Rattle.occ_specification_forms.specs.declared.tree.Head.{Head}
+use Rattle.occ_specification_forms.specs.declared.tree.Head.TheVariants as head
+use Rattle.occ_specification_forms.specs.declared.tree.Specification.{Specification}
+use Rattle.occ_specification_forms.specs.declared.tree.Specification.TheVariants as specification
 use Rattle.occ_tree.specs.Forest.{Forest}
 use Rattle.occ_typing.specs.Constructs.{faulty_name}
 use Rattle.occ_typing.specs.Lines.{Judged, beyond, specifying}

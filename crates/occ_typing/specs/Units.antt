@@ -9,8 +9,8 @@ use Rattle.occ_names.specs.declared.scope.Scope.{Scope}
 use Rattle.occ_project.specs.declared.expanded.ExpandedBody.{ExpandedBody}
 use Rattle.occ_project.specs.declared.expanded.ExpandedBody.TheVariants as body
 use Rattle.occ_project.specs.declared.expanded.ExpandedLine.{ExpandedLine}
-use Rattle.occ_specifications.specs.declared.tree.Specified.{Specified}
-use Rattle.occ_specifications.specs.declared.tree.Specified.TheVariants as specified
+use Rattle.occ_specification_forms.specs.declared.tree.Specified.{Specified}
+use Rattle.occ_specification_forms.specs.declared.tree.Specified.TheVariants as specified
 use Rattle.occ_tree.specs.Forest.{Forest, Empty, Tree}
 use Rattle.occ_typing.specs.Actions.{action_faults}
 use Rattle.occ_typing.specs.Constructs.{constructing}

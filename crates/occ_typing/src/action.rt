@@ -4,8 +4,8 @@ ghost use Rattle.std.specs.Prelude.{◌≡◌, ◌++◌, OnOk};
 use occ_base::{Code, Items};
 use occ_forms::Action;
 use occ_names::Scope;
-use occ_operators::{Fault, tell};
-use occ_statements::assignment;
+use occ_operands::{Fault, tell};
+use occ_typed_statements::assignment;
 use std::alloc::{AllocError, Global};
 
 /// What a process of one line tells.

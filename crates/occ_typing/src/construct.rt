@@ -4,46 +4,46 @@ ghost use Rattle.std.specs.Prelude.{◌≡◌, ◌++◌, IfOk, OnOk};
 use super::line::{over, plain};
 use super::parent::{Choosing, Line, Parent};
 use occ_base::{Code, Items};
-use occ_expressions::Expr;
-use occ_forms::{Construct, Kind as Word, Replicator};
+use occ_expression_forms::Expr;
+use occ_forms::{Construct, ConstructKind, Replicator};
 use occ_names::{Meaning, Scope, one_entry};
-use occ_operators::{Fault, Kind, tell};
-use occ_statements::{condition, selector};
+use occ_operands::{Fault, Kind, tell};
+use occ_typed_statements::{condition, selector};
 use std::alloc::{AllocError, Global};
 use std::collections::BTreeSet;
 
 /// What a construct says of the lines under it.
-fn under_word(word: Word) -> Parent
+fn under_word(word: ConstructKind) -> Parent
     ensures { result ≡ told_under_word word }
 {
     match word {
-        Word::Sequence => Parent::Process,
-        Word::Parallel => Parent::Process,
-        Word::PriParallel => Parent::Process,
-        Word::Conditional => Parent::Conditional,
-        Word::Alternation => Parent::Process,
-        Word::PriAlternation => Parent::Process,
+        ConstructKind::Sequence => Parent::Process,
+        ConstructKind::Parallel => Parent::Process,
+        ConstructKind::PriParallel => Parent::Process,
+        ConstructKind::Conditional => Parent::Conditional,
+        ConstructKind::Alternation => Parent::Process,
+        ConstructKind::PriAlternation => Parent::Process,
     }
 }
 
 /// S1 is told of an alternation.
-fn tell_word(word: Word, faults: &mut Items<Fault>) -> Result<(), AllocError>
+fn tell_word(word: ConstructKind, faults: &mut Items<Fault>) -> Result<(), AllocError>
     ensures { OnOk result (faults.new ≡ faults.old ++ told_word_faults word) }
 {
     match word {
-        Word::Sequence => Ok(()),
-        Word::Parallel => Ok(()),
-        Word::PriParallel => Ok(()),
-        Word::Conditional => Ok(()),
-        Word::Alternation => tell(faults, Code::S1),
-        Word::PriAlternation => tell(faults, Code::S1),
+        ConstructKind::Sequence => Ok(()),
+        ConstructKind::Parallel => Ok(()),
+        ConstructKind::PriParallel => Ok(()),
+        ConstructKind::Conditional => Ok(()),
+        ConstructKind::Alternation => tell(faults, Code::S1),
+        ConstructKind::PriAlternation => tell(faults, Code::S1),
     }
 }
 
 /// A construct of a word or two, and perhaps a replicator.
 fn replicable(
     alloc: Global,
-    word: Word,
+    word: ConstructKind,
     replicator: &Option<Replicator>,
     next: Parent,
     faults: &mut Items<Fault>,

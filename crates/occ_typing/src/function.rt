@@ -1,17 +1,17 @@
-ghost use Rattle.occ_heads.specs.Heads.{function as told_head};
+ghost use Rattle.occ_typed_heads.specs.Heads.{function as told_head};
 ghost use Rattle.occ_names.specs.Visible.{with_all};
-ghost use Rattle.occ_statements.specs.Statements.{is_any_faulty};
+ghost use Rattle.occ_typed_statements.specs.Statements.{is_any_faulty};
 ghost use Rattle.occ_typing.specs.Parts.{results_of as told_results};
 ghost use Rattle.occ_typing.specs.Specifying.{function_faults as told_faults, function_meaning as told_meaning, known_unless as told_unless};
 ghost use Rattle.std.specs.Prelude.{◌≡◌, ◌∷◌, ◌++◌, IfOk, OnOk};
 
 use super::part::results_of;
 use occ_base::{Items, Shared};
-use occ_expressions::Expr;
-use occ_heads::{Heading, function_head};
+use occ_expression_forms::Expr;
+use occ_typed_heads::{Heading, function_head};
 use occ_names::{Entry, Meaning, Scope};
-use occ_operators::Fault;
-use occ_specifications::FunctionHead;
+use occ_operands::Fault;
+use occ_specification_forms::FunctionHead;
 use occ_types::OccType;
 use std::alloc::{AllocError, Global};
 

@@ -1,6 +1,6 @@
 #![tactic(auto, using(crate::proofs::Trees::tree_rules))]
 
-ghost use Rattle.occ_declared.specs.Recording.{recorded};
+ghost use Rattle.occ_typed_specifications.specs.Recording.{recorded};
 ghost use Rattle.occ_tree.specs.Forest.{forest_of};
 ghost use Rattle.occ_typing.specs.Constructs.{faulty_name};
 ghost use Rattle.occ_typing.specs.Lines.{Judged as AJudged, beyond as told_beyond};
@@ -12,11 +12,11 @@ use super::line::specifying;
 use super::parent::{Line, Parent};
 use super::record::record_of;
 use occ_base::{Code, Diag, Items, Name};
-use occ_declared::record;
-use occ_heads::{function_head, procedure_head};
+use occ_typed_specifications::record;
+use occ_typed_heads::{function_head, procedure_head};
 use occ_names::{Entry, Meaning, Scope, one_entry};
-use occ_operators::{Fault, tell};
-use occ_specifications::Head;
+use occ_operands::{Fault, tell};
+use occ_specification_forms::Head;
 use occ_tree::Node;
 use std::alloc::{AllocError, Global};
 

@@ -14,9 +14,9 @@ use super::specifying::one_line;
 use occ_base::{Code, Diag, Items};
 use occ_forms::Form;
 use occ_names::Scope;
-use occ_operators::{Fault, tell};
+use occ_operands::{Fault, tell};
 use occ_project::ExpandedBody;
-use occ_specifications::Specified;
+use occ_specification_forms::Specified;
 use occ_tree::Node;
 use std::alloc::{AllocError, Global};
 

@@ -1,6 +1,6 @@
 use occ_base::{Items, Shared};
 use occ_names::Entry;
-use occ_operators::Kind;
+use occ_operands::Kind;
 use occ_types::OccType;
 use std::collections::BTreeSet;
 

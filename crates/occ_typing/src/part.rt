@@ -1,15 +1,15 @@
 ghost use Rattle.occ_typing.specs.Parts.{else_option as told_else_option, expressing as told_expressing, option as told_option, otherwise as told_otherwise, parting as told_parting, resulting as told_resulting, results_of as told_results, second as told_second, valued as told_valued};
-ghost use Rattle.occ_statements.specs.Statements.{is_any_faulty};
+ghost use Rattle.occ_typed_statements.specs.Statements.{is_any_faulty};
 ghost use Rattle.std.specs.Prelude.{◌≡◌, ◌∷◌, ◌++◌, IfOk, OnOk};
 
 use super::line::{main, plain};
 use super::parent::{Choosing, Line, Parent};
 use occ_base::{Code, Items, Shared};
-use occ_expressions::Expr;
+use occ_expression_forms::Expr;
 use occ_forms::Part;
 use occ_names::Scope;
-use occ_operators::{Fault, tell};
-use occ_statements::{condition, options, results, values};
+use occ_operands::{Fault, tell};
+use occ_typed_statements::{condition, options, results, values};
 use occ_types::OccType;
 use std::alloc::{AllocError, Global};
 

@@ -1,6 +1,6 @@
 use Rattle.std.proofs.Common.{◌≡◌, ◌++◌, drop}
-use Rattle.occ_operators.specs.Operators.{all_faults, kinds}
-use Rattle.occ_terms.specs.Terms.{judged_all}
+use Rattle.occ_operands.specs.Operators.{all_faults, kinds}
+use Rattle.occ_tables.specs.Terms.{judged_all}
 use Rattle.occ_expr.specs.Operations.{each_among as told_each}
 use Rattle.occ_expr.proofs.operation.each_among.Given as goal
 

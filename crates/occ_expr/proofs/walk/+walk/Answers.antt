@@ -1,12 +1,12 @@
 use Rattle.std.proofs.Common.{◌∙◌, ◌++◌, ◌∷◌, [], ap, sym}
 use Rattle.std.proofs.lemmas.Result.{IfOk-weaker, on_ok_weaker}
-use Rattle.occ_expressions.specs.declared.tree.Builtin.TheVariants as uv
-use Rattle.occ_expressions.specs.declared.tree.Element.TheVariants as ev
-use Rattle.occ_expressions.specs.declared.tree.Expr.TheVariants as xv
-use Rattle.occ_expressions.specs.declared.tree.NamedOperand.TheVariants as nv
-use Rattle.occ_expressions.specs.declared.tree.Operand.TheVariants as ov
-use Rattle.occ_expressions.specs.declared.tree.TypeForm.TheVariants as tv
-use Rattle.occ_terms.specs.Terms.{judged_all}
+use Rattle.occ_expression_forms.specs.declared.tree.Builtin.TheVariants as uv
+use Rattle.occ_expression_forms.specs.declared.tree.Element.TheVariants as ev
+use Rattle.occ_expression_forms.specs.declared.tree.Expr.TheVariants as xv
+use Rattle.occ_expression_forms.specs.declared.tree.NamedOperand.TheVariants as nv
+use Rattle.occ_expression_forms.specs.declared.tree.Operand.TheVariants as ov
+use Rattle.occ_expression_forms.specs.declared.tree.TypeForm.TheVariants as tv
+use Rattle.occ_tables.specs.Terms.{judged_all}
 use Rattle.occ_expr.specs.Operations.{operation}
 use Rattle.occ_expr.specs.Parts.{in_scope, table_items, terms}
 use Rattle.occ_expr.specs.Views.{expr_views, operand_view, operand_views, operands}

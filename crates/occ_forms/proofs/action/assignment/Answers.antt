@@ -1,9 +1,9 @@
 use Rattle.std.proofs.Common.{List, [], refl}
 use Rattle.occ_lines.specs.declared.token.Symbol.TheVariants as s
 use Rattle.occ_lines.specs.declared.token.Token.{Token}
-use Rattle.occ_expressions.specs.Spelling.{expr_then}
-use Rattle.occ_expressions.proofs.Lists.{behind_same}
-use Rattle.occ_specifications.specs.Spelling.{listed}
+use Rattle.occ_expression_forms.specs.Spelling.{expr_then}
+use Rattle.occ_expression_forms.proofs.Lists.{behind_same}
+use Rattle.occ_specification_forms.specs.Spelling.{listed}
 use Rattle.occ_forms.proofs.Lists.{assign_ends, no_comma, no_more}
 use Rattle.occ_forms.proofs.action.assignment.Goals as goal
 

@@ -1,6 +1,6 @@
 use Rattle.std.proofs.Common.{[], refl}
 use Rattle.occ_lines.specs.declared.token.Symbol.TheVariants as s
-use Rattle.occ_expressions.proofs.Lists.{behind_same}
+use Rattle.occ_expression_forms.proofs.Lists.{behind_same}
 use Rattle.occ_forms.proofs.Lists.{no_more}
 use Rattle.occ_forms.proofs.part.results.Goals as goal
 

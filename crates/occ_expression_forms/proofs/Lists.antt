@@ -1,0 +1,28 @@
+-- What follows the items of each kind of list, and readings behind a first token.
+use Rattle.std.proofs.Common.{◌≡◌, ◌≤◌, ◌<◌, List, [], ◌∷◌, length, refl, sym, ◌∙◌, arith}
+use Rattle.occ_lines.specs.declared.token.Token.{Token}
+use Rattle.occ_expression_forms.specs.Reading.{IsEnd, IsEndOfItems}
+use Rattle.occ_expression_forms.specs.Spelling.{Spelling, next_item_of}
+use Rattle.occ_expression_forms.proofs.Many.{Within}
+
+-- anything may follow
+abbrev pub Anything : List Token → Type 0
+Anything k = Unit {0}
+
+pub anything_within : {X : Type 0} (spells : X → Spelling) (Ends : List Token → Type 0) → Within spells Anything Ends
+anything_within spells Ends xs k ends = tt
+
+-- an item ends at the next comma or where the list ends
+pub item_within : Within next_item_of IsEnd IsEndOfItems
+item_within [] k ends = ends.ends
+item_within (e ∷ es) k ends = refl
+
+-- what is read behind a token
+pub behind : (token : Token) (rest begun read : List Token) → rest ≡ token ∷ begun → begun ≡ read → rest ≡ token ∷ read
+behind token rest begun read a b = cc
+
+pub behind_same : (token : Token) (rest begun read : List Token) → rest ≡ token ∷ begun → rest ≡ token ∷ read → begun ≡ read
+behind_same token rest begun read a b = let h : token ∷ begun ≡ token ∷ read = sym a ∙ b in (cc)
+
+pub shorter_behind : (token : Token) (rest begun next : List Token) → rest ≡ token ∷ begun → length next < length begun → length next ≤ length rest
+shorter_behind token rest begun next is less = rw is (omega (arith, less))

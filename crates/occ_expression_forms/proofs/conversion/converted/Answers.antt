@@ -1,0 +1,12 @@
+use Rattle.occ_expression_forms.proofs.Conversions.{converted_found, converted_same}
+use Rattle.occ_expression_forms.proofs.Words.{operand_no_counted}
+use Rattle.occ_expression_forms.proofs.conversion.converted.Goals as goal
+
+pub returns-clause-found : goal.returns-clause-found
+returns-clause-found g c = converted_found _ _ _ _ _ _ _ _ (rw c.in-Some.is at c.in_ok-form.ensures.found) (rw c.in-Some-2.is at c.in_ok-operand.ensures.found) c.in_ok-form-2.ensures c.in_ok-operand-2.ensures
+
+pub returns-clause-only : goal.returns-clause-only
+returns-clause-only g c b o k after e =
+    let h = rw c.in-Some.is at c.in_ok-form.ensures.only b _ (operand_no_counted o k) e in
+    let m = rw c.in-Some-2.is at c.in_ok-operand.ensures.only o k after h.1 in
+    (converted_same _ _ _ _ _ _ _ c.in_ok-form-2.ensures c.in_ok-operand-2.ensures h.0 m.0, m.1)

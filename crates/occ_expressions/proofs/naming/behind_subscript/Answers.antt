@@ -1,6 +1,0 @@
-use Rattle.occ_expressions.proofs.Behind.{subscript_found}
-use Rattle.std.proofs.Common.{refl}
-use Rattle.occ_expressions.proofs.naming.behind_subscript.Goals as goal
-
-pub returns-clause-found : goal.returns-clause-found
-returns-clause-found g c = subscript_found _ _ _ _ _ _ _ _ _ c.in_ok-element.ensures refl c.in_ok-all.ensures (rw c.in-Some.is at c.in_ok-more.ensures.found) c.behind_first.ensures.found

@@ -1,5 +1,0 @@
-use Rattle.occ_expressions.proofs.Tailed.{joined_found}
-use Rattle.occ_expressions.proofs.tail.behind_first.Goals as goal
-
-pub returns-clause-found : goal.returns-clause-found
-returns-clause-found g c = joined_found _ _ _ _ _ (rw c.in-Some.is at c.in_ok-tail.ensures.found) c.in_ok-together.ensures

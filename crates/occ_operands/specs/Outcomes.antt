@@ -1,0 +1,97 @@
+-- What a free expression comes to: an expression of undecorated integer literals, and of shifts of them by any count,
+-- which takes the type that is wanted of it. It comes to something in each type that it may take.
+use Rattle.std.specs.Prelude.{ℕ, ℤ, Option, Some, None, List, [], ◌∷◌, Result, Ok, Err}
+use Rattle.occ_types.specs.Constant.{folded, folded_one, number_value, pattern_value}
+use Rattle.occ_types.specs.declared.constant.ConstFault.{ConstFault}
+use Rattle.occ_types.specs.declared.constant.Monadic.{Monadic}
+use Rattle.occ_types.specs.declared.constant.Operator.{Operator}
+use Rattle.occ_types.specs.declared.value.Primitive.{Primitive}
+use Rattle.occ_types.specs.declared.value.Primitive.TheVariants as p
+use Rattle.occ_types.specs.declared.value.Value.{Value}
+use Rattle.occ_operands.specs.declared.kind.Free.{Free}
+use Rattle.occ_operands.specs.declared.kind.Outcome.{Outcome}
+use Rattle.occ_operands.specs.declared.kind.Outcome.TheVariants as o
+
+-- what it comes to in one of them; it never takes BOOL
+abbrev pub in_type : Free → Primitive → Outcome
+in_type f p.Bool = o.Unfit
+in_type f p.Byte = f.byte
+in_type f p.Int16 = f.int16
+in_type f p.Int = f.int
+in_type f p.Int32 = f.int32
+in_type f p.Int64 = f.int64
+
+-- so in each of them
+abbrev pub in_each : (Primitive → Outcome) → Free
+in_each tell = record { byte = tell p.Byte; int16 = tell p.Int16; int = tell p.Int; int32 = tell p.Int32; int64 = tell p.Int64 }
+
+abbrev pub fitting : Option Value → Outcome
+fitting None = o.Unfit
+fitting (Some v) = o.Constant v
+
+-- a decimal literal, with the - in front if there is one
+abbrev pub decimal : ℤ → Free
+decimal n = in_each (λ t. fitting (number_value t n))
+
+-- a hexadecimal literal
+abbrev pub hexadecimal : ℕ → Free
+hexadecimal n = in_each (λ t. fitting (pattern_value t n))
+
+abbrev pub outcome_of : Result Value ConstFault → Outcome
+outcome_of (Ok v) = o.Constant v
+outcome_of (Err fault) = o.Faulty
+
+-- of operands that are not all constant: a literal that does not fit comes first, then a fault
+abbrev pub worse : Outcome → Outcome → Outcome
+worse o.Unfit b = o.Unfit
+worse o.Faulty o.Unfit = o.Unfit
+worse o.Faulty o.Faulty = o.Faulty
+worse o.Faulty o.Varying = o.Faulty
+worse o.Faulty (o.Constant v) = o.Faulty
+worse o.Varying o.Unfit = o.Unfit
+worse o.Varying o.Faulty = o.Faulty
+worse o.Varying o.Varying = o.Varying
+worse o.Varying (o.Constant v) = o.Varying
+worse (o.Constant u) b = b
+
+abbrev pub worst : Outcome → List Outcome → Outcome
+worst a [] = a
+worst a (b ∷ bs) = worst (worse a b) bs
+
+-- the value of constants with one operator between each two, from the left
+abbrev pub with_next : Operator → Outcome → Outcome → Outcome
+with_next op (o.Constant a) (o.Constant b) = outcome_of (folded op a b)
+with_next op (o.Constant a) o.Unfit = o.Unfit
+with_next op (o.Constant a) o.Faulty = o.Faulty
+with_next op (o.Constant a) o.Varying = o.Varying
+with_next op o.Unfit b = o.Unfit
+with_next op o.Faulty b = o.Faulty
+with_next op o.Varying b = o.Varying
+
+abbrev pub with_all : Operator → Outcome → List Outcome → Outcome
+with_all op a [] = a
+with_all op a (b ∷ bs) = with_all op (with_next op a b) bs
+
+abbrev pub if_constant : Outcome → Outcome → Outcome
+if_constant o.Unfit value = o.Unfit
+if_constant o.Faulty value = o.Faulty
+if_constant o.Varying value = o.Varying
+if_constant (o.Constant v) value = value
+
+-- operands with one operator between each two: it has a value, or no value, where all are constant
+abbrev pub run : Operator → Outcome → List Outcome → Outcome
+run op a bs = if_constant (worst a bs) (with_all op a bs)
+
+abbrev pub applied : Monadic → Outcome → Outcome
+applied op (o.Constant a) = outcome_of (folded_one op a)
+applied op o.Unfit = o.Unfit
+applied op o.Faulty = o.Faulty
+applied op o.Varying = o.Varying
+
+-- a shift by this count, which is perhaps not constant
+abbrev pub shifted : Operator → Option Value → Outcome → Outcome
+shifted op (Some count) (o.Constant a) = outcome_of (folded op a count)
+shifted op None (o.Constant a) = o.Varying
+shifted op count o.Unfit = o.Unfit
+shifted op count o.Faulty = o.Faulty
+shifted op count o.Varying = o.Varying

@@ -1,0 +1,78 @@
+-- The type that an operand takes where one is wanted of it.
+use Rattle.std.specs.Prelude.{Option, Some, None, List, [], ◌∷◌}
+use Rattle.occ_base.specs.declared.code.Code.{Code}
+use Rattle.occ_base.specs.declared.code.Code.TheVariants as code
+use Rattle.occ_types.specs.Fits.{unnamed}
+use Rattle.occ_types.specs.View.{as_primitive}
+use Rattle.occ_types.specs.declared.types.OccType.{OccType}
+use Rattle.occ_types.specs.declared.types.OccType.TheVariants as t
+use Rattle.occ_types.specs.declared.value.Primitive.{Primitive}
+use Rattle.occ_types.specs.declared.value.Primitive.TheVariants as p
+use Rattle.occ_types.specs.declared.value.Value.{Value}
+use Rattle.occ_operands.specs.declared.kind.Fault.{Fault}
+use Rattle.occ_operands.specs.declared.kind.Free.{Free}
+use Rattle.occ_operands.specs.declared.kind.Kind.{Kind}
+use Rattle.occ_operands.specs.declared.kind.Kind.TheVariants as k
+use Rattle.occ_operands.specs.declared.kind.Outcome.{Outcome}
+use Rattle.occ_operands.specs.declared.kind.Outcome.TheVariants as o
+use Rattle.occ_operands.specs.Outcomes.{in_type}
+
+-- what is told of an operand: its faults, and what is known of it
+pub record Told : Type 0 where
+  pub faults : List Fault
+  pub kind : Kind
+
+-- the type of a free operand of which none is wanted
+abbrev pub int : OccType
+int = t.Primitive p.Int
+
+abbrev pub nameless : Code → Fault
+nameless c = record { code = c; name = None }
+
+abbrev pub fault_of : Code → Told
+fault_of c = record { faults = nameless c ∷ []; kind = k.Faulty }
+
+-- it has a fault that was told already
+abbrev pub silent : Told
+silent = record { faults = []; kind = k.Faulty }
+
+abbrev pub known : OccType → Option Value → Kind
+known of value = k.Known (record { of = of; value = value })
+
+-- of this type, it comes to that; a constant without a value, and a literal that does not fit, have a fault
+abbrev pub landed : OccType → Outcome → Told
+landed of o.Unfit = fault_of code.T6
+landed of o.Faulty = fault_of code.T6
+landed of o.Varying = record { faults = []; kind = known of None }
+landed of (o.Constant v) = record { faults = []; kind = known of (Some v) }
+
+-- an integer type or BYTE
+abbrev pub number : Option Primitive → Option Primitive
+number (Some p.Bool) = None
+number (Some p.Byte) = Some p.Byte
+number (Some p.Int16) = Some p.Int16
+number (Some p.Int) = Some p.Int
+number (Some p.Int32) = Some p.Int32
+number (Some p.Int64) = Some p.Int64
+number None = None
+
+-- the primitive type that a type is under its names
+abbrev pub base_of : OccType → Option Primitive
+base_of of = as_primitive (unnamed of)
+
+-- the wanted type, where its literals fit it; else INT
+abbrev pub landed_or_int : OccType → Free → Outcome → Told
+landed_or_int of f o.Unfit = landed int f.int
+landed_or_int of f o.Faulty = landed of o.Faulty
+landed_or_int of f o.Varying = landed of o.Varying
+landed_or_int of f (o.Constant v) = landed of (o.Constant v)
+
+abbrev pub settled_free : OccType → Free → Option Primitive → Told
+settled_free of f None = landed int f.int
+settled_free of f (Some base) = landed_or_int of f (in_type f base)
+
+-- a free operand takes the wanted type, if that is a number under its names which each of its literals fits; else INT
+abbrev pub settled : OccType → Kind → Told
+settled of k.Faulty = silent
+settled of (k.Free f) = settled_free of f (number (base_of of))
+settled of (k.Known x) = record { faults = []; kind = k.Known x }

@@ -1,0 +1,420 @@
+ghost use Rattle.std.specs.Prelude.{◌≡◌, ◌++◌, IfOk, MatchOption, None, OnOk, Some};
+ghost use Rattle.std.specs.List.{list_all, list_any};
+ghost use Rattle.occ_operands.specs.Operators.{allows as allowing, class_of as the_class, decided as deciding, first_bound as first_one_bound, front_operated as in_front, given as giving, is_arithmetic as arithmetic, is_faulty as faulty, is_int as int_itself, is_of as of_type, not_free as no_free, operated as operating, operand_type as type_of_operands, operated_from as operating_from, outcome_in as kind_outcome, run_in as running, shift_operated as shifting, shifted_by as shifting_by, takes as taking, type_in as type_known, value_outcome as outcome_of_value, verdict as judged};
+ghost use Rattle.occ_operands.specs.Outcomes.{applied as applied_outcome, in_each, in_type, shifted as shifted_outcome};
+ghost use Rattle.occ_operands.specs.declared.kind.Kind.TheVariants as k;
+ghost use Rattle.occ_types.specs.View.{as_primitive as primitive_of};
+
+use super::kind::{Fault, Free, Kind, Known, Outcome};
+use super::outcome::{Running, apply, shift};
+use super::settle::{int, landed, number, settled, tell};
+use occ_base::{Code, Items, Shared};
+use occ_types::{Monadic, OccType, Operator, Primitive, Value, as_primitive, base_of, fits};
+use std::alloc::{AllocError, Global};
+
+/// What an operator asks of its operands, and which type it gives.
+#[derive(Clone, Copy)]
+pub enum Class {
+    /// Numbers of one type, and a number of it: also shifts.
+    Arithmetic,
+    /// `=` and `<>`
+    Equality,
+    /// `<` and the like
+    Order,
+    /// `AFTER`
+    Cyclic,
+    /// `AND` and `OR`
+    Logic,
+}
+
+fn class_of(op: Operator) -> Class
+    ensures { result ≡ the_class op }
+{
+    match op {
+        Operator::Add
+        | Operator::Subtract
+        | Operator::Multiply
+        | Operator::Divide
+        | Operator::Remainder
+        | Operator::Plus
+        | Operator::Minus
+        | Operator::Times
+        | Operator::BitAnd
+        | Operator::BitOr
+        | Operator::BitXor
+        | Operator::ShiftLeft
+        | Operator::ShiftRight => Class::Arithmetic,
+        Operator::Equal | Operator::NotEqual => Class::Equality,
+        Operator::Less | Operator::Greater | Operator::AtMost | Operator::AtLeast => Class::Order,
+        Operator::After => Class::Cyclic,
+        Operator::And | Operator::Or => Class::Logic,
+    }
+}
+
+/// Whether free operands stay free under the operator.
+fn is_arithmetic(class: Class) -> bool
+    ensures { result ≡ arithmetic class }
+{
+    match class {
+        Class::Arithmetic => true,
+        Class::Equality | Class::Order | Class::Cyclic | Class::Logic => false,
+    }
+}
+
+/// Whether operands may be of a type that is this one under its names.
+fn allows(class: Class, base: Option<Primitive>) -> bool
+    ensures { result ≡ allowing class base }
+{
+    match class {
+        Class::Arithmetic | Class::Order => number(base).is_some(),
+        Class::Equality => base.is_some(),
+        Class::Cyclic => number(base).is_some() && !matches!(base, Some(Primitive::Byte)),
+        Class::Logic => matches!(base, Some(Primitive::Bool)),
+    }
+}
+
+/// The type of what an operator gives on operands of a type.
+fn given(alloc: Global, class: Class, of: &Shared<OccType>) -> Result<Shared<OccType>, AllocError>
+    ensures { IfOk result (λ given. given ≡ giving class of.now) }
+{
+    match class {
+        Class::Arithmetic | Class::Logic => of.share(),
+        Class::Equality | Class::Order | Class::Cyclic => {
+            Shared::new(alloc, OccType::Primitive(Primitive::Bool))
+        }
+    }
+}
+
+/// The first operand that is not free.
+fn first_bound(kinds: &[Kind]) -> Option<&Kind>
+    ensures { MatchOption result (first_one_bound kinds.now ≡ None) (λ kind. first_one_bound kinds.now ≡ Some kind.now) }
+{
+    for kind in kinds {
+        match kind {
+            Kind::Free(_) => {}
+            _ => return Some(kind),
+        }
+    }
+    None
+}
+
+fn value_outcome(value: Option<Value>) -> Outcome
+    ensures { result ≡ outcome_of_value value }
+{
+    match value {
+        Some(value) => Outcome::Constant(value),
+        None => Outcome::Varying,
+    }
+}
+
+/// What an operand comes to: in this type, if it is free.
+fn outcome_in(of: Primitive, kind: &Kind) -> Outcome
+    ensures { result ≡ kind_outcome of kind.now }
+{
+    match kind {
+        Kind::Faulty => Outcome::Varying,
+        Kind::Free(free) => free.in_type(of),
+        Kind::Known(known) => value_outcome(known.value),
+    }
+}
+
+/// What operands with one operator between each two come to.
+fn run_in(op: Operator, of: Primitive, kinds: &[Kind]) -> Outcome
+    ensures { result ≡ running op of kinds.now }
+{
+    let Some((first, rest)) = kinds.split_first() else {
+        return Outcome::Varying;
+    };
+    let mut run = Running::begin(outcome_in(of, first));
+    for kind in rest {
+        run = run.and(op, outcome_in(of, kind));
+    }
+    run.end()
+}
+
+/// What free operands with one operator between each two come to in each type.
+fn free_run(op: Operator, kinds: &[Kind]) -> Free
+    ensures { result ≡ in_each (λ of. running op of kinds.now) }
+{
+    Free {
+        byte: run_in(op, Primitive::Byte, kinds),
+        int16: run_in(op, Primitive::Int16, kinds),
+        int: run_in(op, Primitive::Int, kinds),
+        int32: run_in(op, Primitive::Int32, kinds),
+        int64: run_in(op, Primitive::Int64, kinds),
+    }
+}
+
+/// Whether an operand is faulty.
+pub fn is_faulty(kind: &Kind) -> bool
+    ensures { result ≡ faulty kind.now }
+{
+    matches!(kind, Kind::Faulty)
+}
+
+fn is_of(of: &OccType, kind: &Kind) -> bool
+    ensures { result ≡ of_type of.now kind.now }
+{
+    match kind {
+        Kind::Known(known) => fits(of, known.of.get()),
+        _ => false,
+    }
+}
+
+fn has_faulty(kinds: &[Kind]) -> bool
+    ensures { result ≡ list_any faulty kinds.now }
+{
+    kinds.iter().any(|kind| is_faulty(kind))
+}
+
+fn all_of(of: &OccType, kinds: &[Kind]) -> bool
+    ensures { result ≡ list_all (of_type of.now) kinds.now }
+{
+    kinds.iter().all(|kind| is_of(of, kind))
+}
+
+/// What an operator gives on settled operands, which must be of one type.
+fn verdict(
+    alloc: Global,
+    op: Operator,
+    of: &Shared<OccType>,
+    kinds: &[Kind],
+    faults: &mut Items<Fault>,
+) -> Result<Kind, AllocError>
+    ensures kind { IfOk result (λ kind. kind ≡ (judged op of.now kinds.now).kind) }
+    ensures faults { OnOk result (faults.new ≡ faults.old ++ (judged op of.now kinds.now).faults) }
+{
+    if has_faulty(kinds) {
+        return Ok(Kind::Faulty);
+    }
+    let class = class_of(op);
+    if allows(class, base_of(of.get())) && all_of(of.get(), kinds) {
+        return landed(
+            &given(alloc, class, of)?,
+            run_in(op, Primitive::Int, kinds),
+            faults,
+        );
+    }
+    tell(faults, Code::T1)?;
+    Ok(Kind::Faulty)
+}
+
+/// The operands take the type, and then they are judged.
+#[tactic(auto, unfolding(crate::specs::Operators::decided))]
+fn decided(
+    alloc: Global,
+    op: Operator,
+    of: &Shared<OccType>,
+    kinds: &[Kind],
+    faults: &mut Items<Fault>,
+) -> Result<Kind, AllocError>
+    ensures kind { IfOk result (λ kind. kind ≡ (deciding op of.now kinds.now).kind) }
+    ensures faults { OnOk result (faults.new ≡ faults.old ++ (deciding op of.now kinds.now).faults) }
+{
+    let mut taken = Items::new(alloc);
+    for kind in kinds {
+        taken.push(settled(alloc, of, kind, faults)?)?;
+    }
+    verdict(alloc, op, of, taken.as_slice(), faults)
+}
+
+/// What an operator gives on operands that are all free.
+fn unbound(
+    alloc: Global,
+    op: Operator,
+    kinds: &[Kind],
+    faults: &mut Items<Fault>,
+) -> Result<Kind, AllocError>
+    ensures kind { IfOk result (λ kind. kind ≡ (operating_from None op kinds.now).kind) }
+    ensures faults { OnOk result (faults.new ≡ faults.old ++ (operating_from None op kinds.now).faults) }
+{
+    if is_arithmetic(class_of(op)) {
+        return Ok(Kind::Free(free_run(op, kinds)));
+    }
+    decided(alloc, op, &int(alloc)?, kinds, faults)
+}
+
+/// What an operator gives that stands between each two of these operands; not for shifts.
+pub fn operated(
+    alloc: Global,
+    op: Operator,
+    kinds: &[Kind],
+    faults: &mut Items<Fault>,
+) -> Result<Kind, AllocError>
+    ensures kind { IfOk result (λ kind. kind ≡ (operating op kinds.now).kind) }
+    ensures faults { OnOk result (faults.new ≡ faults.old ++ (operating op kinds.now).faults) }
+{
+    match first_bound(kinds) {
+        Some(Kind::Known(known)) => decided(alloc, op, &known.of, kinds, faults),
+        Some(_) => Ok(Kind::Faulty),
+        None => unbound(alloc, op, kinds, faults),
+    }
+}
+
+/// The type of what is known of an operand, if it is known.
+pub fn type_in(kind: &Kind) -> Result<Option<Shared<OccType>>, AllocError>
+    ensures { IfOk result (λ of. of ≡ type_known kind.now) }
+{
+    match kind {
+        Kind::Known(found) => Ok(Some(found.of.share()?)),
+        Kind::Faulty => Ok(None),
+        Kind::Free(_) => Ok(None),
+    }
+}
+
+/// The type that is wanted of each operand of an operator, where this is known of the whole: that of the first which is
+/// not free; if all are free, that of the whole under an arithmetic operator, else INT. Not for shifts.
+pub fn operand_type(
+    alloc: Global,
+    op: Operator,
+    whole: &Kind,
+    kinds: &[Kind],
+) -> Result<Option<Shared<OccType>>, AllocError>
+    ensures { IfOk result (λ of. of ≡ type_of_operands op whole.now kinds.now) }
+{
+    match first_bound(kinds) {
+        Some(first) => type_in(first),
+        None => {
+            if !is_arithmetic(class_of(op)) {
+                return Ok(Some(int(alloc)?));
+            }
+            type_in(whole)
+        }
+    }
+}
+
+/// A free operand that is shifted by this count.
+fn free_shift(op: Operator, free: &Free, count: Option<Value>) -> Free
+    ensures { result ≡ in_each (λ of. shifted_outcome op count (in_type free.now of)) }
+{
+    Free {
+        byte: shift(op, count, free.byte),
+        int16: shift(op, count, free.int16),
+        int: shift(op, count, free.int),
+        int32: shift(op, count, free.int32),
+        int64: shift(op, count, free.int64),
+    }
+}
+
+fn is_int(of: &OccType) -> bool
+    ensures { result ≡ int_itself (primitive_of of.now) }
+{
+    matches!(as_primitive(of), Some(Primitive::Int))
+}
+
+/// A known operand that is shifted by a count.
+fn known_shift(
+    op: Operator,
+    known: &Known,
+    count: &Known,
+    faults: &mut Items<Fault>,
+) -> Result<Kind, AllocError>
+    ensures kind { IfOk result (λ kind. kind ≡ (shifting_by op (k.Known known.now) (k.Known count.now)).kind) }
+    ensures faults { OnOk result (faults.new ≡ faults.old ++ (shifting_by op (k.Known known.now) (k.Known count.now)).faults) }
+{
+    if number(base_of(known.of.get())).is_some() && is_int(count.of.get()) {
+        return landed(
+            &known.of,
+            shift(op, count.value, value_outcome(known.value)),
+            faults,
+        );
+    }
+    tell(faults, Code::T1)?;
+    Ok(Kind::Faulty)
+}
+
+/// An operand that is shifted by a settled count.
+fn shifted_by(
+    op: Operator,
+    kind: &Kind,
+    count: &Kind,
+    faults: &mut Items<Fault>,
+) -> Result<Kind, AllocError>
+    ensures kind { IfOk result (λ shifted. shifted ≡ (shifting_by op kind.now count.now).kind) }
+    ensures faults { OnOk result (faults.new ≡ faults.old ++ (shifting_by op kind.now count.now).faults) }
+{
+    match (kind, count) {
+        (Kind::Free(free), Kind::Known(count)) => {
+            if is_int(count.of.get()) {
+                return Ok(Kind::Free(free_shift(op, free, count.value)));
+            }
+            tell(faults, Code::T1)?;
+            Ok(Kind::Faulty)
+        }
+        (Kind::Known(known), Kind::Known(count)) => known_shift(op, known, count, faults),
+        _ => Ok(Kind::Faulty),
+    }
+}
+
+/// What a shift gives. The count is an INT; the shift of a free operand is free.
+pub fn shifted(
+    alloc: Global,
+    op: Operator,
+    kind: &Kind,
+    count: &Kind,
+    faults: &mut Items<Fault>,
+) -> Result<Kind, AllocError>
+    ensures kind { IfOk result (λ shifted. shifted ≡ (shifting op kind.now count.now).kind) }
+    ensures faults { OnOk result (faults.new ≡ faults.old ++ (shifting op kind.now count.now).faults) }
+{
+    let count = settled(alloc, &int(alloc)?, count, faults)?;
+    shifted_by(op, kind, &count, faults)
+}
+
+/// Whether an operator in front takes a type that is this one under its names.
+fn takes(op: Monadic, base: Option<Primitive>) -> bool
+    ensures { result ≡ taking op base }
+{
+    match op {
+        Monadic::Negate | Monadic::Minus | Monadic::BitNot => number(base).is_some(),
+        Monadic::Not => matches!(base, Some(Primitive::Bool)),
+    }
+}
+
+/// A free operand behind an operator.
+fn free_front(op: Monadic, free: &Free) -> Free
+    ensures { result ≡ in_each (λ of. applied_outcome op (in_type free.now of)) }
+{
+    Free {
+        byte: apply(op, free.byte),
+        int16: apply(op, free.int16),
+        int: apply(op, free.int),
+        int32: apply(op, free.int32),
+        int64: apply(op, free.int64),
+    }
+}
+
+/// NOT takes no number: a free operand is an INT, which may have a fault of its own.
+fn not_free(outcome: Outcome, faults: &mut Items<Fault>) -> Result<Kind, AllocError>
+    ensures kind { IfOk result (λ kind. kind ≡ (no_free outcome).kind) }
+    ensures faults { OnOk result (faults.new ≡ faults.old ++ (no_free outcome).faults) }
+{
+    match outcome {
+        Outcome::Unfit | Outcome::Faulty => tell(faults, Code::T6)?,
+        Outcome::Varying | Outcome::Constant(_) => tell(faults, Code::T1)?,
+    }
+    Ok(Kind::Faulty)
+}
+
+/// What an operator in front of its one operand gives; not SIZE.
+pub fn applied(op: Monadic, kind: &Kind, faults: &mut Items<Fault>) -> Result<Kind, AllocError>
+    ensures kind { IfOk result (λ applied. applied ≡ (in_front op kind.now).kind) }
+    ensures faults { OnOk result (faults.new ≡ faults.old ++ (in_front op kind.now).faults) }
+{
+    match kind {
+        Kind::Faulty => Ok(Kind::Faulty),
+        Kind::Free(free) => {
+            if op == Monadic::Not {
+                return not_free(free.int, faults);
+            }
+            Ok(Kind::Free(free_front(op, free)))
+        }
+        Kind::Known(known) => {
+            if takes(op, base_of(known.of.get())) {
+                return landed(&known.of, apply(op, value_outcome(known.value)), faults);
+            }
+            tell(faults, Code::T1)?;
+            Ok(Kind::Faulty)
+        }
+    }
+}

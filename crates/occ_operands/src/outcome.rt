@@ -1,0 +1,159 @@
+ghost use Rattle.std.specs.Prelude.{◌≡◌};
+ghost use Rattle.occ_operands.specs.Outcomes.{applied as applied_to, decimal as decimal_free, fitting as fitting_value, hexadecimal as hexadecimal_free, if_constant, in_type as outcome_in, outcome_of as outcome_of_result, shifted as shifted_by, with_next, worse as worse_of};
+ghost use Rattle.occ_types.specs.Constant.{number_value, pattern_value};
+
+use super::kind::{Free, Outcome};
+use occ_types::{
+    ConstFault, Monadic, Operator, Primitive, Value, fold, fold_one, value_of_number,
+    value_of_pattern,
+};
+
+impl Free {
+    /// A literal in decimal digits, perhaps with a `-` in front that makes one literal with it.
+    pub fn decimal(n: i128) -> Free
+        ensures { result ≡ decimal_free n }
+    {
+        Free {
+            byte: fitting(value_of_number(Primitive::Byte, n)),
+            int16: fitting(value_of_number(Primitive::Int16, n)),
+            int: fitting(value_of_number(Primitive::Int, n)),
+            int32: fitting(value_of_number(Primitive::Int32, n)),
+            int64: fitting(value_of_number(Primitive::Int64, n)),
+        }
+    }
+
+    /// A literal in hexadecimal digits.
+    pub fn hexadecimal(n: u64) -> Free
+        ensures { result ≡ hexadecimal_free n }
+    {
+        Free {
+            byte: fitting(value_of_pattern(Primitive::Byte, n)),
+            int16: fitting(value_of_pattern(Primitive::Int16, n)),
+            int: fitting(value_of_pattern(Primitive::Int, n)),
+            int32: fitting(value_of_pattern(Primitive::Int32, n)),
+            int64: fitting(value_of_pattern(Primitive::Int64, n)),
+        }
+    }
+
+    /// What it comes to in a type. It never takes BOOL.
+    pub fn in_type(&self, of: Primitive) -> Outcome
+        ensures { result ≡ outcome_in self.now of }
+    {
+        match of {
+            Primitive::Bool => Outcome::Unfit,
+            Primitive::Byte => self.byte,
+            Primitive::Int16 => self.int16,
+            Primitive::Int => self.int,
+            Primitive::Int32 => self.int32,
+            Primitive::Int64 => self.int64,
+        }
+    }
+}
+
+fn fitting(value: Option<Value>) -> Outcome
+    ensures { result ≡ fitting_value value }
+{
+    match value {
+        Some(value) => Outcome::Constant(value),
+        None => Outcome::Unfit,
+    }
+}
+
+/// What a constant comes to.
+pub fn outcome_of(folded: Result<Value, ConstFault>) -> Outcome
+    ensures { result ≡ outcome_of_result folded }
+{
+    match folded {
+        Ok(value) => Outcome::Constant(value),
+        Err(_) => Outcome::Faulty,
+    }
+}
+
+/// Of operands that are not all constant: a literal that does not fit comes first, then a fault.
+fn worse(a: Outcome, b: Outcome) -> Outcome
+    ensures { result ≡ worse_of a b }
+{
+    match (a, b) {
+        (Outcome::Constant(_), _) => b,
+        (Outcome::Unfit, _) | (_, Outcome::Unfit) => Outcome::Unfit,
+        (Outcome::Faulty, _) | (_, Outcome::Faulty) => Outcome::Faulty,
+        (Outcome::Varying, _) => Outcome::Varying,
+    }
+}
+
+/// What an operator in front gives.
+pub fn apply(op: Monadic, a: Outcome) -> Outcome
+    ensures { result ≡ applied_to op a }
+{
+    match a {
+        Outcome::Constant(value) => outcome_of(fold_one(op, value)),
+        _ => a,
+    }
+}
+
+/// What a shift by this count gives, which is perhaps not constant.
+pub fn shift(op: Operator, count: Option<Value>, a: Outcome) -> Outcome
+    ensures { result ≡ shifted_by op count a }
+{
+    match a {
+        Outcome::Constant(value) => match count {
+            Some(count) => outcome_of(fold(op, value, count)),
+            None => Outcome::Varying,
+        },
+        _ => a,
+    }
+}
+
+/// Operands with one operator between each two, as far as they were read.
+#[derive(Clone, Copy)]
+pub struct Running {
+    /// The worst of them.
+    worst: Outcome,
+    /// Their value, where all are constant.
+    value: Outcome,
+}
+
+impl Running {
+    /// The first of them.
+    pub fn begin(first: Outcome) -> Running
+        ensures worst { result.worst ≡ first }
+        ensures value { result.value ≡ first }
+    {
+        Running {
+            worst: first,
+            value: first,
+        }
+    }
+
+    /// And one more.
+    pub fn and(self, op: Operator, next: Outcome) -> Running
+        ensures worst { result.worst ≡ worse_of self.worst next }
+        ensures value { result.value ≡ with_next op self.value next }
+    {
+        Running {
+            worst: worse(self.worst, next),
+            value: join(op, self.value, next),
+        }
+    }
+
+    /// What they come to.
+    pub fn end(self) -> Outcome
+        ensures { result ≡ if_constant self.worst self.value }
+    {
+        match self.worst {
+            Outcome::Constant(_) => self.value,
+            _ => self.worst,
+        }
+    }
+}
+
+/// What the operator gives on what was read so far and one more.
+fn join(op: Operator, value: Outcome, next: Outcome) -> Outcome
+    ensures { result ≡ with_next op value next }
+{
+    match (value, next) {
+        (Outcome::Constant(a), Outcome::Constant(b)) => outcome_of(fold(op, a, b)),
+        (Outcome::Constant(_), _) => next,
+        _ => value,
+    }
+}

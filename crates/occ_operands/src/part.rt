@@ -1,0 +1,135 @@
+ghost use Rattle.std.specs.Prelude.{◌≡◌, ◌++◌, IfOk, MatchOption, None, OnOk, Some};
+ghost use Rattle.occ_operands.specs.Parts.{component as the_component, component_at as the_component_at, field as the_field, field_named as the_field_named, field_told, is_constant_outside, no_component as the_no_component, not_subscripted as no_subscript, subscripted as subscripting};
+
+use super::kind::{Fault, Kind};
+use super::settle::{int, known, settled, tell};
+use super::want::wanted;
+use occ_base::{Code, Items, Name, Shared};
+use occ_types::{Field, OccType, Value, array_of, is_unknown, unnamed};
+use std::alloc::{AllocError, Global};
+
+/// Whether a constant is no place of an array of so many components.
+fn is_outside(count: Option<u32>, place: Option<Value>) -> bool
+    ensures { result ≡ is_constant_outside count place }
+{
+    let Some(value) = place else {
+        return false;
+    };
+    let place = value.number();
+    match count {
+        Some(count) => place < 0 || i64::from(count) <= place,
+        None => place < 0,
+    }
+}
+
+/// The component at a settled place.
+fn component_at(
+    count: Option<u32>,
+    of: &Shared<OccType>,
+    place: &Kind,
+    faults: &mut Items<Fault>,
+) -> Result<Kind, AllocError>
+    ensures kind { IfOk result (λ kind. kind ≡ (the_component_at count of.now place.now).kind) }
+    ensures faults { OnOk result (faults.new ≡ faults.old ++ (the_component_at count of.now place.now).faults) }
+{
+    match place {
+        Kind::Known(found) => {
+            if is_outside(count, found.value) {
+                tell(faults, Code::T6)?;
+                return Ok(Kind::Faulty);
+            }
+            known(of, None)
+        }
+        _ => Ok(Kind::Faulty),
+    }
+}
+
+/// The component of an array at a place, which must be an INT, and lie in the array if it is constant.
+fn component(
+    alloc: Global,
+    count: Option<u32>,
+    of: &Shared<OccType>,
+    index: &Kind,
+    faults: &mut Items<Fault>,
+) -> Result<Kind, AllocError>
+    ensures kind { IfOk result (λ kind. kind ≡ (the_component count of.now index.now).kind) }
+    ensures faults { OnOk result (faults.new ≡ faults.old ++ (the_component count of.now index.now).faults) }
+{
+    let place = wanted(alloc, &int(alloc)?, index, faults)?;
+    component_at(count, of, &place, faults)
+}
+
+/// There is no component at a settled place.
+fn no_component(place: &Kind, faults: &mut Items<Fault>) -> Result<Kind, AllocError>
+    ensures kind { IfOk result (λ kind. kind ≡ (the_no_component place.now).kind) }
+    ensures faults { OnOk result (faults.new ≡ faults.old ++ (the_no_component place.now).faults) }
+{
+    if let Kind::Known(_) = place {
+        tell(faults, Code::T2)?;
+    }
+    Ok(Kind::Faulty)
+}
+
+/// A subscript of what is no array.
+fn not_subscripted(
+    alloc: Global,
+    index: &Kind,
+    faults: &mut Items<Fault>,
+) -> Result<Kind, AllocError>
+    ensures kind { IfOk result (λ kind. kind ≡ (no_subscript index.now).kind) }
+    ensures faults { OnOk result (faults.new ≡ faults.old ++ (no_subscript index.now).faults) }
+{
+    let place = settled(alloc, &int(alloc)?, index, faults)?;
+    no_component(&place, faults)
+}
+
+/// What a subscript that is no name of a field selects of a value of this type.
+pub fn subscripted(
+    alloc: Global,
+    of: &OccType,
+    index: &Kind,
+    faults: &mut Items<Fault>,
+) -> Result<Kind, AllocError>
+    ensures kind { IfOk result (λ kind. kind ≡ (subscripting of.now index.now).kind) }
+    ensures faults { OnOk result (faults.new ≡ faults.old ++ (subscripting of.now index.now).faults) }
+{
+    match array_of(unnamed(of)) {
+        Some((count, inner)) => component(alloc, count, inner, index, faults),
+        None => not_subscripted(alloc, index, faults),
+    }
+}
+
+/// The type of the first field of a name.
+fn field_named<'a>(fields: &'a [Field], name: &Name) -> Option<&'a Shared<OccType>>
+    ensures { MatchOption result (the_field_named name.now fields.now ≡ None) (λ of. the_field_named name.now fields.now ≡ Some of.now) }
+{
+    for field in fields {
+        if field.name == *name {
+            return Some(&field.of);
+        }
+    }
+    None
+}
+
+/// What a name selects of a record with these fields.
+pub fn field(
+    alloc: Global,
+    fields: &[Field],
+    name: &Name,
+    faults: &mut Items<Fault>,
+) -> Result<Kind, AllocError>
+    ensures kind { IfOk result (λ kind. kind ≡ (the_field fields.now name.now).kind) }
+    ensures faults { OnOk result (faults.new ≡ faults.old ++ (the_field fields.now name.now).faults) }
+{
+    match field_named(fields, name) {
+        Some(of) if is_unknown(of.get()) => Ok(Kind::Faulty),
+        Some(of) => known(of, None),
+        None => {
+            faults.push(Fault {
+                code: Code::N1,
+                name: Some(name.copied(alloc)?),
+            })?;
+            Ok(Kind::Faulty)
+        }
+    }
+}

@@ -1,7 +1,0 @@
-use Rattle.occ_process.proofs.Items.{item_process}
-use Rattle.occ_process.proofs.process.replicated_block.Goals as goal
-
-pub returns-in_default-clause-none : goal.returns-in_default-clause-none
-returns-in_default-clause-none g c = λ h.
-    let none = rw c.in_default.is at c.in_ok-body.ensures.none in
-    none (item_process _ h)

@@ -1,3 +1,0 @@
-pub mod Layout
-pub mod Standing
-pub mod Reading

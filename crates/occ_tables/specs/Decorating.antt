@@ -1,0 +1,69 @@
+-- Tables, characters and strings with their type behind them.
+use Rattle.std.specs.Prelude.{ℕ, ◌==◌, Bool, Option, Some, None, List, [], ◌∷◌, ◌++◌, length, map, if◌then◌else◌}
+use Rattle.std.specs.List.{list_any}
+use Rattle.occ_base.specs.declared.code.Code.TheVariants as code
+use Rattle.occ_types.specs.Fits.{alike, counts_fit, unnamed}
+use Rattle.occ_types.specs.View.{as_array, fields_in, is_unknown}
+use Rattle.occ_types.specs.declared.types.Field.{Field}
+use Rattle.occ_types.specs.declared.types.OccType.{OccType}
+use Rattle.occ_types.specs.declared.value.Value.{Value}
+use Rattle.occ_operands.specs.Operators.{all_faults, kinds}
+use Rattle.occ_operands.specs.Settling.{Told, fault_of, known, nameless, silent}
+use Rattle.occ_operands.specs.declared.kind.Fault.{Fault}
+use Rattle.occ_operands.specs.declared.kind.Kind.TheVariants as k
+use Rattle.occ_tables.specs.Terms.{Judged, alone, has_fault, under, with_items}
+
+-- ---- a character or a string, which is of a type of its own, as a value of a type that is this one but for names
+abbrev pub decorated : OccType → OccType → Option Value → Told
+decorated to own value = if alike to own then record { faults = []; kind = known to value } else fault_of code.T2
+
+-- ---- tables
+
+abbrev pub whole : OccType → Told
+whole to = record { faults = []; kind = known to None }
+
+abbrev pub of_count : OccType → Option ℕ → ℕ → Told
+of_count to n items = if counts_fit n (Some items) then whole to else fault_of code.T2
+
+abbrev pub of_array : OccType → Option ℕ → OccType → List Judged → Told
+of_array to n of xs = let ys = map (under of) xs in with_items ys (of_count to n (length (kinds ys)))
+
+-- of a field whose line has a fault it is not known what it holds: nothing is wanted of its value
+abbrev pub field_value : Field → Judged → Told
+field_value f x = if is_unknown f.of then (if x.is_faulty then silent else whole f.of) else x.under f.of
+
+abbrev pub field_values : List Field → List Judged → List Told
+field_values [] xs = []
+field_values (f ∷ fs) [] = []
+field_values (f ∷ fs) (x ∷ xs) = field_value f x ∷ field_values fs xs
+
+-- a table of a type that is neither: no type is wanted of its items
+abbrev pub misused : List Judged → Told
+misused xs = with_items (map alone xs) (fault_of code.T2)
+
+-- the values of the fields, in their order
+abbrev pub of_values : OccType → List Field → List Judged → Told
+of_values to fs xs = with_items (field_values fs xs) (whole to)
+
+-- more or fewer values than fields: that is told first, and then no type is wanted of them
+abbrev pub number_faults : Bool → List Fault
+number_faults is_silent = if is_silent then [] else nameless code.T4 ∷ []
+
+abbrev pub of_another_number : List Judged → Told
+of_another_number xs = record { faults = number_faults (list_any has_fault xs) ++ all_faults (map alone xs); kind = k.Faulty }
+
+abbrev pub of_record : OccType → List Field → List Judged → Told
+of_record to fs xs =
+    if length fs == length xs then of_values to fs xs else of_another_number xs
+
+abbrev pub of_fields : OccType → Option (List Field) → List Judged → Told
+of_fields to None xs = misused xs
+of_fields to (Some fs) xs = of_record to fs xs
+
+abbrev pub of_components : OccType → Option (Option ℕ × OccType) → List Judged → Told
+of_components to None xs = of_fields to (fields_in (unnamed to)) xs
+of_components to (Some parts) xs = of_array to parts.0 parts.1 xs
+
+-- a table of a type that is an array or a record under its names
+abbrev pub decorated_table : OccType → List Judged → Told
+decorated_table to xs = of_components to (as_array (unnamed to)) xs

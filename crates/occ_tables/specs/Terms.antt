@@ -1,0 +1,154 @@
+-- What is told of an operand where a type is wanted of it or none is, and what is known of it then. A table takes its
+-- type item by item.
+use Rattle.std.specs.Prelude.{ℕ, nat_le, Bool, true, false, not, Option, Some, None, List, [], ◌∷◌, ◌++◌, length, map, if◌then◌else◌}
+use Rattle.std.specs.List.{list_any}
+use Rattle.occ_base.specs.declared.code.Code.TheVariants as code
+use Rattle.occ_types.specs.Fits.{is_data}
+use Rattle.occ_types.specs.View.{as_array}
+use Rattle.occ_types.specs.declared.types.OccType.{OccType}
+use Rattle.occ_operands.specs.Operators.{all_faults, is_faulty, kinds}
+use Rattle.occ_operands.specs.Settling.{Told, fault_of, int, known, nameless, settled, silent}
+use Rattle.occ_operands.specs.Wanting.{wanted}
+use Rattle.occ_operands.specs.declared.kind.Fault.{Fault}
+use Rattle.occ_operands.specs.declared.kind.Kind.{Kind}
+use Rattle.occ_operands.specs.declared.kind.Kind.TheVariants as k
+use Rattle.occ_tables.specs.Extents.{arrayed}
+use Rattle.occ_tables.specs.Merging.{merged}
+use Rattle.occ_tables.specs.declared.term.Term.{Term, out-Term}
+use Rattle.occ_tables.specs.declared.term.Term.TheFolds.{fold-Term}
+use Rattle.occ_tables.specs.declared.term.Term.TheOpen.{Term-F}
+use Rattle.occ_tables.specs.declared.term.Term.TheVariants as v
+
+-- what is told first, and then of what is known
+abbrev pub and_then : Told → (Kind → Told) → Told
+and_then x next = let y = next x.kind in record { faults = x.faults ++ y.faults; kind = y.kind }
+
+abbrev pub is_free_kind : Kind → Bool
+is_free_kind k.Faulty = false
+is_free_kind (k.Free f) = true
+is_free_kind (k.Known x) = false
+
+-- ---- the type of a table from those of its items
+
+-- with one item more, if they agree so far
+abbrev pub merged_next : Option OccType → Kind → Option OccType
+merged_next None k = None
+merged_next (Some of) k.Faulty = Some of
+merged_next (Some of) (k.Free f) = Some of
+merged_next (Some of) (k.Known x) = merged of x.of
+
+abbrev pub merged_all : Option OccType → List Kind → Option OccType
+merged_all of [] = of
+merged_all of (k ∷ ks) = merged_all (merged_next of k) ks
+
+abbrev pub table_type : ℕ → Option OccType → Told
+table_type n None = fault_of code.T2
+table_type n (Some of) = if nat_le n 4294967295 then arrayed (Some n) of else fault_of code.T9
+
+-- nothing more is told of a whole with a faulty item
+abbrev pub unless_faulty : List Kind → Told → Told
+unless_faulty ks whole = if list_any is_faulty ks then silent else whole
+
+-- what is told of items, and then of the whole
+abbrev pub with_items : List Told → Told → Told
+with_items xs whole = let y = unless_faulty (kinds xs) whole in record { faults = all_faults xs ++ y.faults; kind = y.kind }
+
+-- the type of the first item; this one, if there is none
+abbrev pub first_type : OccType → List Kind → OccType
+first_type of [] = of
+first_type of (k.Faulty ∷ ks) = first_type of ks
+first_type of (k.Free f ∷ ks) = first_type of ks
+first_type of (k.Known x ∷ ks) = x.of
+
+-- settled items, of which this type was wanted, must agree with one another
+abbrev pub items_type : OccType → List Kind → Told
+items_type of ks = table_type (length ks) (merged_all (Some (first_type of ks)) ks)
+
+abbrev pub joined : OccType → List Told → Told
+joined of xs = with_items xs (items_type of (kinds xs))
+
+-- ---- operands, tables among them
+
+-- an operand: whether it is free, whether something in it is faulty, what is told of it where no type is wanted, where
+-- one is, and beside other operands, of which one has a fault or none has
+pub record Judged : Type 0 where
+  pub is_free : Bool
+  pub is_faulty : Bool
+  pub alone : Told
+  pub under : OccType → Told
+  pub beside : Bool → Told
+
+abbrev pub under : OccType → Judged → Told
+under of x = x.under of
+
+abbrev pub alone : Judged → Told
+alone x = x.alone
+
+abbrev pub all_under : OccType → List Judged → Told
+all_under of xs = joined of (map (under of) xs)
+
+-- the first item that is not free; if all are, an INT
+abbrev pub first_settled : List Judged → Told
+first_settled [] = record { faults = []; kind = known int None }
+first_settled (x ∷ xs) = if x.is_free then first_settled xs else x.alone
+
+-- the items take the type of this one, if it is not faulty
+abbrev pub after_first : List Judged → Kind → Told
+after_first xs k.Faulty = silent
+after_first xs (k.Free f) = silent
+after_first xs (k.Known x) = all_under x.of xs
+
+-- no type is wanted of a table: the first item that is not free decides
+abbrev pub table_alone : List Judged → Told
+table_alone xs = and_then (first_settled xs) (after_first xs)
+
+abbrev pub table_of : List Judged → Option (Option ℕ × OccType) → Told
+table_of xs None = table_alone xs
+table_of xs (Some parts) = all_under parts.1 xs
+
+-- a type is wanted: the items of an array without a name are wanted to be of its component's
+abbrev pub table_under : List Judged → OccType → Told
+table_under xs of = and_then (table_of xs (as_array of)) (wanted of)
+
+abbrev pub has_fault : Judged → Bool
+has_fault x = x.is_faulty
+
+abbrev pub as_it_is : Kind → Told
+as_it_is k = record { faults = []; kind = k }
+
+-- no type is wanted of a table beside other operands; beside one with a fault nothing is told of it
+abbrev pub table_beside : List Judged → Bool → Told
+table_beside xs other_has_fault = if other_has_fault then as_it_is (table_alone xs).kind else table_alone xs
+
+abbrev pub term_step : Term-F Judged → Judged
+term_step (Term-F.Single k) = record { is_free = is_free_kind k; is_faulty = is_faulty k; alone = settled int k; under = λ of. wanted of k; beside = λ other_has_fault. as_it_is k }
+term_step (Term-F.Table xs) = record { is_free = false; is_faulty = list_any has_fault xs; alone = table_alone xs; under = table_under xs; beside = table_beside xs }
+
+abbrev pub judged : Term → Judged
+judged = fold-Term Judged term_step
+
+abbrev pub judged_all : List Term → List Judged
+judged_all [] = []
+judged_all (x ∷ xs) = judged x ∷ judged_all xs
+
+-- ---- an operand as an item of a table: no channel, no timer and no array of them
+
+abbrev pub is_no_data : Kind → Bool
+is_no_data k.Faulty = false
+is_no_data (k.Free f) = false
+is_no_data (k.Known x) = not (is_data x.of)
+
+abbrev pub no_item_layer : Term-F Term → Bool
+no_item_layer (Term-F.Single k) = is_no_data k
+no_item_layer (Term-F.Table xs) = false
+
+unfoldable pub is_no_item : Term → Bool
+is_no_item x = no_item_layer (out-Term x)
+
+-- the faults of an item, and what it then is
+pub record Item : Type 0 where
+  pub faults : List Fault
+  pub term : Term
+
+abbrev pub item : Term → Item
+item x = if is_no_item x then record { faults = nameless code.T2 ∷ []; term = v.Single k.Faulty } else record { faults = []; term = x }

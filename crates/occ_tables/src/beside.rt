@@ -1,0 +1,47 @@
+#![tactic(auto, using(crate::proofs::Judging::judging_rules))]
+
+ghost use Rattle.std.specs.Prelude.{◌≡◌, ◌++◌, IfOk, OnOk};
+ghost use Rattle.occ_tables.specs.Terms.{judged, judged_all, table_alone as told_table_alone};
+
+use super::table::table_alone;
+use super::term::Term;
+use occ_base::Items;
+use occ_operands::{Fault, Kind, known};
+use std::alloc::{AllocError, Global};
+
+/// The same once more.
+fn shared(kind: &Kind) -> Result<Kind, AllocError>
+    ensures { IfOk result (λ shared. shared ≡ kind.now) }
+{
+    match kind {
+        Kind::Faulty => Ok(Kind::Faulty),
+        Kind::Free(free) => Ok(Kind::Free(*free)),
+        Kind::Known(found) => known(&found.of, found.value),
+    }
+}
+
+/// What is known of a table of which no type is wanted, without a word of its faults.
+fn silent_table(alloc: Global, items: &[Term]) -> Result<Kind, AllocError>
+    ensures { IfOk result (λ kind. kind ≡ (told_table_alone (judged_all items.now)).kind) }
+{
+    let mut unheard = Items::new(alloc);
+    table_alone(alloc, items, &mut unheard)
+}
+
+/// An operand beside others, of which perhaps one has a fault. No type is wanted of a table there, and beside a fault
+/// nothing is told of it.
+pub fn operand(
+    alloc: Global,
+    term: &Term,
+    other_has_fault: bool,
+    faults: &mut Items<Fault>,
+) -> Result<Kind, AllocError>
+    ensures kind { IfOk result (λ kind. kind ≡ ((judged term.now).beside other_has_fault).kind) }
+    ensures faults { OnOk result (faults.new ≡ faults.old ++ ((judged term.now).beside other_has_fault).faults) }
+{
+    match term {
+        Term::Single(kind) => shared(kind),
+        Term::Table(items) if other_has_fault => silent_table(alloc, items.as_slice()),
+        Term::Table(items) => table_alone(alloc, items.as_slice(), faults),
+    }
+}

@@ -1,0 +1,233 @@
+#![tactic(auto, using(crate::proofs::Judging::counting_rules))]
+
+ghost use Rattle.std.specs.Prelude.{◌≡◌, ◌++◌, IfOk, OnOk, Some, length, map};
+ghost use Rattle.occ_operands.specs.Operators.{all_faults, kinds as kinds_of};
+ghost use Rattle.occ_tables.specs.Decorating.{decorated as told_decorated, decorated_table as told_decorated_table, field_value as told_field_value, field_values as told_field_values, misused as told_misused, of_another_number as told_of_another_number, of_array as told_of_array, of_count as told_of_count, of_fields as told_of_fields, of_record as told_of_record, of_values as told_of_values};
+ghost use Rattle.occ_tables.specs.Terms.{alone as told_alone, judged, judged_all};
+ghost use Rattle.occ_types.specs.Fits.{counts_fit, unnamed as without_name};
+ghost use Rattle.occ_types.specs.View.{fields_in};
+
+use super::placing::{any_has_fault, has_fault};
+use super::table::{alone, any_faulty, each_under, under};
+use super::term::Term;
+use occ_base::{Code, Items, Shared};
+use occ_operands::{Fault, Kind, known, tell};
+use occ_types::{Field, OccType, Value, alike, array_of, fields_of, is_unknown, unnamed};
+use std::alloc::{AllocError, Global};
+
+/// A character or a string, which is of a type of its own, with this type behind it.
+pub fn decorated(
+    to: &Shared<OccType>,
+    own: &OccType,
+    value: Option<Value>,
+    faults: &mut Items<Fault>,
+) -> Result<Kind, AllocError>
+    ensures kind { IfOk result (λ kind. kind ≡ (told_decorated to.now own.now value).kind) }
+    ensures faults { OnOk result (faults.new ≡ faults.old ++ (told_decorated to.now own.now value).faults) }
+{
+    if alike(to.get(), own) {
+        return known(to, value);
+    }
+    tell(faults, Code::T2)?;
+    Ok(Kind::Faulty)
+}
+
+/// Whether there are so many items, if it is known how many there have to be.
+fn is_counted(count: Option<u32>, items: usize) -> bool
+    ensures { result ≡ counts_fit count (Some items) }
+{
+    match count {
+        Some(count) => count as usize == items,
+        None => true,
+    }
+}
+
+/// A value of a type that is an array of so many components under its names, of so many items.
+fn of_count(
+    to: &Shared<OccType>,
+    count: Option<u32>,
+    items: usize,
+    faults: &mut Items<Fault>,
+) -> Result<Kind, AllocError>
+    ensures kind { IfOk result (λ kind. kind ≡ (told_of_count to.now count items).kind) }
+    ensures faults { OnOk result (faults.new ≡ faults.old ++ (told_of_count to.now count items).faults) }
+{
+    if is_counted(count, items) {
+        return known(to, None);
+    }
+    tell(faults, Code::T2)?;
+    Ok(Kind::Faulty)
+}
+
+/// A table of a type that is an array under its names.
+fn of_array(
+    alloc: Global,
+    items: &[Term],
+    to: &Shared<OccType>,
+    count: Option<u32>,
+    of: &Shared<OccType>,
+    faults: &mut Items<Fault>,
+) -> Result<Kind, AllocError>
+    ensures kind { IfOk result (λ kind. kind ≡ (told_of_array to.now count of.now (judged_all items.now)).kind) }
+    ensures faults { OnOk result (faults.new ≡ faults.old ++ (told_of_array to.now count of.now (judged_all items.now)).faults) }
+{
+    let kinds = each_under(alloc, items, of, faults)?;
+    if any_faulty(kinds.as_slice()) {
+        return Ok(Kind::Faulty);
+    }
+    of_count(to, count, kinds.len(), faults)
+}
+
+/// The value of a field. Of a field whose line has a fault it is not known what it holds.
+fn field_value(
+    alloc: Global,
+    field: &Field,
+    item: &Term,
+    faults: &mut Items<Fault>,
+) -> Result<Kind, AllocError>
+    ensures kind { IfOk result (λ kind. kind ≡ (told_field_value field.now (judged item.now)).kind) }
+    ensures faults { OnOk result (faults.new ≡ faults.old ++ (told_field_value field.now (judged item.now)).faults) }
+{
+    if !is_unknown(field.of.get()) {
+        return under(alloc, item, &field.of, faults);
+    }
+    if has_fault(item) {
+        return Ok(Kind::Faulty);
+    }
+    known(&field.of, None)
+}
+
+/// The values of the fields, in their order.
+fn field_values(
+    alloc: Global,
+    fields: &[Field],
+    items: &[Term],
+    faults: &mut Items<Fault>,
+) -> Result<Items<Kind>, AllocError>
+    ensures kinds { IfOk result (λ kinds. kinds ≡ kinds_of (told_field_values fields.now (judged_all items.now))) }
+    ensures faults { OnOk result (faults.new ≡ faults.old ++ all_faults (told_field_values fields.now (judged_all items.now))) }
+{
+    let mut kinds = Items::new(alloc);
+    let mut items = items;
+    for field in fields {
+        let Some((item, rest)) = items.split_first() else {
+            return Ok(kinds);
+        };
+        let kind = field_value(alloc, field, item, faults)?;
+        kinds.push(kind)?;
+        items = rest;
+    }
+    Ok(kinds)
+}
+
+/// Each operand, of which no type is wanted.
+fn each_alone(
+    alloc: Global,
+    terms: &[Term],
+    faults: &mut Items<Fault>,
+) -> Result<Items<Kind>, AllocError>
+    ensures kinds { IfOk result (λ kinds. kinds ≡ kinds_of (map told_alone (judged_all terms.now))) }
+    ensures faults { OnOk result (faults.new ≡ faults.old ++ all_faults (map told_alone (judged_all terms.now))) }
+{
+    let mut kinds = Items::new(alloc);
+    for term in terms {
+        let kind = alone(alloc, term, faults)?;
+        kinds.push(kind)?;
+    }
+    Ok(kinds)
+}
+
+/// A table of a type that is neither an array nor a record under its names.
+fn misused(alloc: Global, items: &[Term], faults: &mut Items<Fault>) -> Result<Kind, AllocError>
+    ensures kind { IfOk result (λ kind. kind ≡ (told_misused (judged_all items.now)).kind) }
+    ensures faults { OnOk result (faults.new ≡ faults.old ++ (told_misused (judged_all items.now)).faults) }
+{
+    let kinds = each_alone(alloc, items, faults)?;
+    if !any_faulty(kinds.as_slice()) {
+        tell(faults, Code::T2)?;
+    }
+    Ok(Kind::Faulty)
+}
+
+/// More or fewer values than a record has fields.
+fn of_another_number(
+    alloc: Global,
+    items: &[Term],
+    faults: &mut Items<Fault>,
+) -> Result<Kind, AllocError>
+    ensures kind { IfOk result (λ kind. kind ≡ (told_of_another_number (judged_all items.now)).kind) }
+    ensures faults { OnOk result (faults.new ≡ faults.old ++ (told_of_another_number (judged_all items.now)).faults) }
+{
+    if !any_has_fault(items) {
+        tell(faults, Code::T4)?;
+    }
+    each_alone(alloc, items, faults)?;
+    Ok(Kind::Faulty)
+}
+
+/// A table of a record with these fields, of as many items.
+fn of_values(
+    alloc: Global,
+    items: &[Term],
+    to: &Shared<OccType>,
+    fields: &[Field],
+    faults: &mut Items<Fault>,
+) -> Result<Kind, AllocError>
+    ensures kind { IfOk result (λ kind. kind ≡ (told_of_values to.now fields.now (judged_all items.now)).kind) }
+    ensures faults { OnOk result (faults.new ≡ faults.old ++ (told_of_values to.now fields.now (judged_all items.now)).faults) }
+{
+    let kinds = field_values(alloc, fields, items, faults)?;
+    if any_faulty(kinds.as_slice()) {
+        return Ok(Kind::Faulty);
+    }
+    known(to, None)
+}
+
+/// A table of a record with these fields.
+fn of_record(
+    alloc: Global,
+    items: &[Term],
+    to: &Shared<OccType>,
+    fields: &[Field],
+    faults: &mut Items<Fault>,
+) -> Result<Kind, AllocError>
+    ensures kind { IfOk result (λ kind. kind ≡ (told_of_record to.now fields.now (judged_all items.now)).kind) }
+    ensures faults { OnOk result (faults.new ≡ faults.old ++ (told_of_record to.now fields.now (judged_all items.now)).faults) }
+{
+    if fields.len() != items.len() {
+        return of_another_number(alloc, items, faults);
+    }
+    of_values(alloc, items, to, fields, faults)
+}
+
+/// A table of a type that is no array under its names.
+fn of_fields(
+    alloc: Global,
+    items: &[Term],
+    to: &Shared<OccType>,
+    faults: &mut Items<Fault>,
+) -> Result<Kind, AllocError>
+    ensures kind { IfOk result (λ kind. kind ≡ (told_of_fields to.now (fields_in (without_name to.now)) (judged_all items.now)).kind) }
+    ensures faults { OnOk result (faults.new ≡ faults.old ++ (told_of_fields to.now (fields_in (without_name to.now)) (judged_all items.now)).faults) }
+{
+    match fields_of(unnamed(to.get())) {
+        Some(fields) => of_record(alloc, items, to, fields, faults),
+        None => misused(alloc, items, faults),
+    }
+}
+
+/// A table with its type behind it.
+pub fn decorated_table(
+    alloc: Global,
+    items: &[Term],
+    to: &Shared<OccType>,
+    faults: &mut Items<Fault>,
+) -> Result<Kind, AllocError>
+    ensures kind { IfOk result (λ kind. kind ≡ (told_decorated_table to.now (judged_all items.now)).kind) }
+    ensures faults { OnOk result (faults.new ≡ faults.old ++ (told_decorated_table to.now (judged_all items.now)).faults) }
+{
+    match array_of(unnamed(to.get())) {
+        Some((count, of)) => of_array(alloc, items, to, count, of, faults),
+        None => of_fields(alloc, items, to, faults),
+    }
+}

@@ -1,0 +1,65 @@
+ghost use Rattle.std.specs.Prelude.{◌≡◌, ◌++◌, IfOk, OnOk};
+ghost use Rattle.occ_tables.specs.Dimensions.{size as told_size, size_of_kind as told_size_of_kind, size_of_number as told_size_of_number};
+ghost use Rattle.occ_tables.specs.Segments.{number_in as the_number};
+ghost use Rattle.occ_tables.specs.Terms.{judged};
+
+use super::table::under;
+use super::term::Term;
+use occ_base::{Code, Items};
+use occ_operands::{Fault, Kind, int, tell};
+use occ_types::Value;
+use std::alloc::{AllocError, Global};
+
+/// The number of a constant.
+pub(super) fn number_in(value: Option<Value>) -> Option<i64>
+    ensures { result ≡ the_number value }
+{
+    match value {
+        Some(value) => Some(value.number()),
+        None => None,
+    }
+}
+
+/// The size that a number says, where it is constant.
+fn size_of_number(number: Option<i64>, faults: &mut Items<Fault>) -> Result<Option<u32>, AllocError>
+    ensures count { IfOk result (λ count. count ≡ (told_size_of_number number).count) }
+    ensures faults { OnOk result (faults.new ≡ faults.old ++ (told_size_of_number number).faults) }
+{
+    let Some(number) = number else {
+        tell(faults, Code::T5)?;
+        return Ok(None);
+    };
+    if number < 0 {
+        tell(faults, Code::T6)?;
+        return Ok(None);
+    }
+    if number > 4_294_967_295 {
+        tell(faults, Code::T9)?;
+        return Ok(None);
+    }
+    Ok(Some(number as u32))
+}
+
+/// The size that a settled operand says.
+fn size_of_kind(kind: &Kind, faults: &mut Items<Fault>) -> Result<Option<u32>, AllocError>
+    ensures count { IfOk result (λ count. count ≡ (told_size_of_kind kind.now).count) }
+    ensures faults { OnOk result (faults.new ≡ faults.old ++ (told_size_of_kind kind.now).faults) }
+{
+    match kind {
+        Kind::Known(found) => size_of_number(number_in(found.value), faults),
+        _ => Ok(None),
+    }
+}
+
+/// How many components a type has in a dimension of this size: none where the size has a fault, which is told.
+pub fn size(
+    alloc: Global,
+    term: &Term,
+    faults: &mut Items<Fault>,
+) -> Result<Option<u32>, AllocError>
+    ensures count { IfOk result (λ count. count ≡ (told_size (judged term.now)).count) }
+    ensures faults { OnOk result (faults.new ≡ faults.old ++ (told_size (judged term.now)).faults) }
+{
+    let kind = under(alloc, term, &int(alloc)?, faults)?;
+    size_of_kind(&kind, faults)
+}

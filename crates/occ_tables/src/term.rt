@@ -1,0 +1,11 @@
+use occ_base::Items;
+use occ_operands::Kind;
+
+/// An operand before a type is wanted of it.
+#[cycle(terms)]
+#[derive(Drop)]
+pub enum Term {
+    Single(Kind),
+    /// A table without its type: its items.
+    Table(Items<Term>),
+}

@@ -1,0 +1,60 @@
+-- Assignments: what is told of the targets, and then of the values for them.
+use Rattle.std.specs.Prelude.{ℕ, ◌==◌, List, [], ◌∷◌, ◌++◌, Some, length, map, if◌then◌else◌}
+use Rattle.occ_base.specs.declared.code.Code.TheVariants as code
+use Rattle.occ_types.specs.Fits.{is_data}
+use Rattle.occ_types.specs.declared.types.OccType.{OccType}
+use Rattle.occ_operands.specs.Operators.{all_faults}
+use Rattle.occ_operands.specs.Settling.{Told, silent}
+use Rattle.occ_operands.specs.declared.kind.Fault.{Fault}
+use Rattle.occ_operands.specs.declared.kind.Kind.{Kind}
+use Rattle.occ_operands.specs.declared.kind.Kind.TheVariants as k
+use Rattle.occ_operands.specs.declared.kind.Known.{Known}
+use Rattle.occ_names.specs.declared.meaning.Access.{Access}
+use Rattle.occ_names.specs.declared.meaning.Access.TheVariants as access
+use Rattle.occ_names.specs.declared.meaning.Whole.{Whole}
+use Rattle.occ_tables.specs.Terms.{Judged}
+use Rattle.occ_type_rules.specs.Abbreviating.{abbreviated, for_no_data, holding}
+use Rattle.occ_type_rules.specs.Numbering.{any_faulty, of_another_number}
+
+-- ---- targets
+
+-- T3 is told with the name of what the target is a part of
+abbrev pub unwritten : List ℕ → Told
+unwritten root = record { faults = (record { code = code.T3; name = Some root }) ∷ []; kind = k.Faulty }
+
+abbrev pub reached : Access → List ℕ → Known → Told
+reached access.Variable root x = record { faults = []; kind = k.Known x }
+reached access.Formal root x = unwritten root
+reached access.Value root x = unwritten root
+
+-- nothing is written through a VAL name; a faulty target was told
+abbrev pub target : Whole → Kind → Told
+target whole k.Faulty = silent
+target whole (k.Free f) = silent
+target whole (k.Known x) = reached whole.access whole.root x
+
+-- ---- values, each for its target
+
+-- no value is for a target that holds no data
+abbrev pub value_for : OccType → Judged → List Fault
+value_for of x = if is_data of then (x.under of).faults else (for_no_data x).faults
+
+-- nothing is asked of the value for a faulty target
+abbrev pub pair : Kind → Judged → List Fault
+pair k.Faulty x = []
+pair (k.Free f) x = []
+pair (k.Known target) x = value_for target.of x
+
+abbrev pub pairs : List Kind → List Judged → List Fault
+pairs [] xs = []
+pairs (target ∷ targets) [] = []
+pairs (target ∷ targets) (x ∷ xs) = pair target x ++ pairs targets xs
+
+-- another number of values than of targets: each has to be data, and no type is wanted of the values
+abbrev pub unpaired : List Kind → List Judged → List Fault
+unpaired targets xs =
+    let ts = map holding targets in
+    all_faults ts ++ of_another_number (any_faulty ts) (map abbreviated xs)
+
+abbrev pub assigned : List Kind → List Judged → List Fault
+assigned targets xs = if length targets == length xs then pairs targets xs else unpaired targets xs

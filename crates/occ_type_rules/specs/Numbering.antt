@@ -1,0 +1,14 @@
+-- Values of which there are more or fewer than places for them.
+use Rattle.std.specs.Prelude.{Bool, ◌||◌, List, ◌++◌}
+use Rattle.std.specs.List.{list_any}
+use Rattle.occ_operands.specs.Operators.{all_faults, is_faulty, kinds}
+use Rattle.occ_operands.specs.Settling.{Told}
+use Rattle.occ_operands.specs.declared.kind.Fault.{Fault}
+use Rattle.occ_tables.specs.Decorating.{number_faults}
+
+abbrev pub any_faulty : List Told → Bool
+any_faulty xs = list_any is_faulty (kinds xs)
+
+-- no type is wanted of these values; their number is told where neither one of them nor what they are for is faulty
+abbrev pub of_another_number : Bool → List Told → List Fault
+of_another_number place_is_faulty xs = all_faults xs ++ number_faults (place_is_faulty || any_faulty xs)

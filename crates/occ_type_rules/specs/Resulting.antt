@@ -1,0 +1,25 @@
+-- The results of a FUNCTION, and the types that results and fields may have.
+use Rattle.std.specs.Prelude.{◌==◌, false, List, [], ◌∷◌, ◌++◌, None, length, map, if◌then◌else◌}
+use Rattle.occ_base.specs.declared.code.Code.TheVariants as code
+use Rattle.occ_types.specs.Fits.{is_data}
+use Rattle.occ_types.specs.declared.types.OccType.{OccType}
+use Rattle.occ_operands.specs.Settling.{nameless}
+use Rattle.occ_operands.specs.declared.kind.Fault.{Fault}
+use Rattle.occ_names.specs.Lookup.{Found, good}
+use Rattle.occ_tables.specs.Terms.{Judged}
+use Rattle.occ_type_rules.specs.Abbreviating.{abbreviated}
+use Rattle.occ_type_rules.specs.Numbering.{of_another_number}
+
+-- a type of data: of no channel, no timer and no array of them
+abbrev pub of_data : OccType → Found OccType
+of_data of = if is_data of then good of else record { faults = nameless code.T2 ∷ []; found = None }
+
+-- each result is of the type at its place
+abbrev pub each_under : List OccType → List Judged → List Fault
+each_under [] xs = []
+each_under (of ∷ types) [] = []
+each_under (of ∷ types) (x ∷ xs) = (x.under of).faults ++ each_under types xs
+
+-- more or fewer results than types: each has to be data, and no type is wanted of it
+abbrev pub results : List OccType → List Judged → List Fault
+results types xs = if length types == length xs then each_under types xs else of_another_number false (map abbreviated xs)

@@ -1,0 +1,108 @@
+ghost use Rattle.std.specs.Prelude.{◌≡◌, ◌++◌, IfOk, OnOk, true};
+ghost use Rattle.occ_type_rules.specs.Abbreviating.{Agrees, abbreviated as told_abbreviated, abbreviated_as as told_abbreviated_as, as_type as told_as_type, for_no_data as told_for_no_data, holding as told_holding, misplaced as told_misplaced};
+ghost use Rattle.occ_tables.specs.Merging.{filled as filled_from};
+ghost use Rattle.occ_tables.specs.Terms.{judged};
+ghost use Rattle.occ_types.specs.Fits.{fits};
+
+use occ_base::{Code, Items, Shared};
+use occ_operands::{Fault, Kind, known, tell};
+use occ_tables::{Term, alone, merged, under};
+use occ_types::{OccType, is_data};
+use std::alloc::{AllocError, Global};
+
+/// A settled value, which has to be data.
+fn holding(kind: Kind, faults: &mut Items<Fault>) -> Result<Kind, AllocError>
+    ensures kind { IfOk result (λ holding. holding ≡ (told_holding kind).kind) }
+    ensures faults { OnOk result (faults.new ≡ faults.old ++ (told_holding kind).faults) }
+{
+    match kind {
+        Kind::Known(known) => {
+            if is_data(known.of.get()) {
+                return Ok(Kind::Known(known));
+            }
+            tell(faults, Code::T2)?;
+            Ok(Kind::Faulty)
+        }
+        _ => Ok(Kind::Faulty),
+    }
+}
+
+/// What is known of the name of `VAL n IS e`.
+pub fn abbreviated(
+    alloc: Global,
+    term: &Term,
+    faults: &mut Items<Fault>,
+) -> Result<Kind, AllocError>
+    ensures kind { IfOk result (λ kind. kind ≡ (told_abbreviated (judged term.now)).kind) }
+    ensures faults { OnOk result (faults.new ≡ faults.old ++ (told_abbreviated (judged term.now)).faults) }
+{
+    let kind = alone(alloc, term, faults)?;
+    holding(kind, faults)
+}
+
+/// A type, with the numbers of components that it leaves unknown as one has them that agrees with it.
+fn filled(
+    alloc: Global,
+    of: &Shared<OccType>,
+    other: &Shared<OccType>,
+) -> Result<Shared<OccType>, AllocError>
+    requires { fits of.now other.now ≡ true }
+    ensures { IfOk result (λ found. found ≡ filled_from of.now other.now) }
+{
+    match merged(alloc, of, other)? {
+        Some(found) => Ok(found),
+        None => of.share(),
+    }
+}
+
+/// What is known of a name of this type, for a value of which it was wanted.
+fn as_type(alloc: Global, of: &Shared<OccType>, kind: &Kind) -> Result<Kind, AllocError>
+    requires { Agrees of.now kind.now }
+    ensures { IfOk result (λ named. named ≡ (told_as_type of.now kind.now).kind) }
+{
+    match kind {
+        Kind::Known(found) => known(&filled(alloc, of, &found.of)?, found.value),
+        _ => Ok(Kind::Faulty),
+    }
+}
+
+/// T2 is told of a settled value for what is no data.
+fn misplaced(kind: &Kind, faults: &mut Items<Fault>) -> Result<Kind, AllocError>
+    ensures kind { IfOk result (λ misplaced. misplaced ≡ (told_misplaced kind.now).kind) }
+    ensures faults { OnOk result (faults.new ≡ faults.old ++ (told_misplaced kind.now).faults) }
+{
+    if let Kind::Known(_) = kind {
+        tell(faults, Code::T2)?;
+    }
+    Ok(Kind::Faulty)
+}
+
+/// A value for what is no data: its own fault is told, and else T2.
+pub(super) fn for_no_data(
+    alloc: Global,
+    term: &Term,
+    faults: &mut Items<Fault>,
+) -> Result<Kind, AllocError>
+    ensures kind { IfOk result (λ kind. kind ≡ (told_for_no_data (judged term.now)).kind) }
+    ensures faults { OnOk result (faults.new ≡ faults.old ++ (told_for_no_data (judged term.now)).faults) }
+{
+    let kind = alone(alloc, term, faults)?;
+    misplaced(&kind, faults)
+}
+
+/// What is known of the name of `VAL t n IS e`.
+pub fn abbreviated_as(
+    alloc: Global,
+    of: &Shared<OccType>,
+    term: &Term,
+    faults: &mut Items<Fault>,
+) -> Result<Kind, AllocError>
+    ensures kind { IfOk result (λ kind. kind ≡ (told_abbreviated_as of.now (judged term.now)).kind) }
+    ensures faults { OnOk result (faults.new ≡ faults.old ++ (told_abbreviated_as of.now (judged term.now)).faults) }
+{
+    if is_data(of.get()) {
+        let kind = under(alloc, term, of, faults)?;
+        return as_type(alloc, of, &kind);
+    }
+    for_no_data(alloc, term, faults)
+}

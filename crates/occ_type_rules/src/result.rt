@@ -1,0 +1,62 @@
+#![tactic(auto, using(crate::proofs::Counting::judged_length))]
+
+ghost use Rattle.std.specs.Prelude.{◌≡◌, ◌++◌, IfOk, OnOk};
+ghost use Rattle.occ_type_rules.specs.Resulting.{each_under as told_each_under, of_data as told_of_data, results as told_results};
+ghost use Rattle.occ_tables.specs.Terms.{judged_all};
+
+use super::count::of_another_number;
+use occ_base::{Code, Items, Shared};
+use occ_operands::{Fault, tell};
+use occ_tables::{Term, under};
+use occ_types::{OccType, is_data};
+use std::alloc::{AllocError, Global};
+
+/// The type of a field or a result, if it is one of data: else T2 is told.
+pub fn of_data(
+    of: Shared<OccType>,
+    faults: &mut Items<Fault>,
+) -> Result<Option<Shared<OccType>>, AllocError>
+    ensures found { IfOk result (λ found. found ≡ (told_of_data of).found) }
+    ensures faults { OnOk result (faults.new ≡ faults.old ++ (told_of_data of).faults) }
+{
+    if is_data(of.get()) {
+        return Ok(Some(of));
+    }
+    tell(faults, Code::T2)?;
+    Ok(None)
+}
+
+/// As many results as types.
+fn each_under(
+    alloc: Global,
+    types: &[Shared<OccType>],
+    terms: &[Term],
+    faults: &mut Items<Fault>,
+) -> Result<(), AllocError>
+    ensures { OnOk result (faults.new ≡ faults.old ++ told_each_under types.now (judged_all terms.now)) }
+{
+    let mut terms = terms;
+    for of in types {
+        let Some((term, rest)) = terms.split_first() else {
+            return Ok(());
+        };
+        under(alloc, term, of, faults)?;
+        terms = rest;
+    }
+    Ok(())
+}
+
+/// The results of a FUNCTION with results of these types.
+pub fn results(
+    alloc: Global,
+    types: &[Shared<OccType>],
+    terms: &[Term],
+    faults: &mut Items<Fault>,
+) -> Result<(), AllocError>
+    ensures { OnOk result (faults.new ≡ faults.old ++ told_results types.now (judged_all terms.now)) }
+{
+    if types.len() == terms.len() {
+        return each_under(alloc, types, terms, faults);
+    }
+    of_another_number(alloc, terms, false, faults)
+}

@@ -1,0 +1,61 @@
+-- What the head of a PROC or of a FUNCTION tells, and what it makes known: nothing, if it tells something or needs
+-- something faulty, and then all formals and the name are faulty.
+use Rattle.std.specs.Prelude.{Bool, true, false, ◌&&◌, Option, Some, None, List, [], ◌∷◌, ◌++◌}
+use Rattle.occ_types.specs.declared.types.OccType.{OccType}
+use Rattle.occ_operands.specs.declared.kind.Fault.{Fault}
+use Rattle.occ_names.specs.declared.meaning.Meaning.{Meaning}
+use Rattle.occ_names.specs.declared.meaning.Meaning.TheVariants as m
+use Rattle.occ_names.specs.declared.scope.Scope.{Scope}
+use Rattle.occ_specification_forms.specs.declared.tree.FormalGroup.{FormalGroup}
+use Rattle.occ_specification_forms.specs.declared.tree.FunctionHead.{FunctionHead}
+use Rattle.occ_typed_heads.specs.Formals.{all_known, entries, parameters}
+use Rattle.occ_typed_heads.specs.Groups.{groups, values}
+use Rattle.occ_typed_heads.specs.Knowing.{all_found, known_types, unless_told}
+use Rattle.occ_typed_heads.specs.Results.{results}
+use Rattle.occ_typed_heads.specs.declared.formal.HeadFormal.{HeadFormal}
+use Rattle.occ_typed_heads.specs.declared.heading.Heading.{Heading}
+
+-- the faults of a head, and what it makes known
+pub record Headed : Type 0 where
+  pub faults : List Fault
+  pub heading : Heading
+
+-- ---- of a procedure
+
+abbrev pub procedure_meaning : Bool → List HeadFormal → Meaning
+procedure_meaning true xs = m.Procedure (parameters xs)
+procedure_meaning false xs = m.Faulty
+
+abbrev pub procedure_heading : Bool → List HeadFormal → Heading
+procedure_heading known xs = record { formals = entries known xs; meaning = procedure_meaning known xs; results = None }
+
+unfoldable pub procedure : Scope → List FormalGroup → Headed
+procedure s formals =
+    let x = groups s [] formals in
+    record { faults = x.faults; heading = procedure_heading (unless_told x.faults (all_known x.formals)) x.formals }
+
+-- ---- of a function
+
+abbrev pub function_meaning : Bool → List HeadFormal → List (Option OccType) → Meaning
+function_meaning true xs types = m.Function (parameters xs) (known_types types)
+function_meaning false xs types = m.Faulty
+
+-- nothing is compared with the results of a head with a fault
+abbrev pub function_results : Bool → List (Option OccType) → Option (List OccType)
+function_results true types = Some (known_types types)
+function_results false types = None
+
+abbrev pub function_heading : Bool → List HeadFormal → List (Option OccType) → Heading
+function_heading known xs types =
+    record { formals = entries known xs; meaning = function_meaning known xs types; results = function_results known types }
+
+abbrev pub types_known : List HeadFormal → List (Option OccType) → Bool
+types_known xs types = all_known xs && all_found types
+
+-- the results, then the formals
+unfoldable pub function : Scope → FunctionHead → Headed
+function s head =
+    let x = results s (head.first ∷ head.more) in
+    let y = groups s [] (values head.formals) in
+    let faults = x.faults ++ y.faults in
+    record { faults = faults; heading = function_heading (unless_told faults (types_known y.formals x.types)) y.formals x.types }

@@ -1,0 +1,26 @@
+-- Which types of a head are known. A type is not known where something is wrong with it, or where it names something
+-- faulty, of which nothing is told.
+use Rattle.std.specs.Prelude.{Bool, true, false, ◌&&◌, Option, Some, None, List, [], ◌∷◌, ◌++◌}
+use Rattle.occ_types.specs.declared.types.OccType.{OccType}
+use Rattle.occ_operands.specs.declared.kind.Fault.{Fault}
+
+abbrev pub is_known : Option OccType → Bool
+is_known None = false
+is_known (Some of) = true
+
+abbrev pub all_found : List (Option OccType) → Bool
+all_found [] = true
+all_found (x ∷ xs) = is_known x && all_found xs
+
+abbrev pub known_type : Option OccType → List OccType
+known_type None = []
+known_type (Some of) = of ∷ []
+
+abbrev pub known_types : List (Option OccType) → List OccType
+known_types [] = []
+known_types (x ∷ xs) = known_type x ++ known_types xs
+
+-- nothing is known of a head that told something
+abbrev pub unless_told : List Fault → Bool → Bool
+unless_told [] known = known
+unless_told (fault ∷ faults) known = false

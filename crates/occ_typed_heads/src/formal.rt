@@ -1,0 +1,153 @@
+ghost use Rattle.std.specs.Prelude.{◌≡◌, ◌∷◌, ◌++◌, [], IfOk, OnOk};
+ghost use Rattle.occ_typed_heads.specs.Formals.{access_of as the_access, all_known as all_are_known, as_element as told_element, each_of as told_each, entries as told_entries, entry as told_entry, parameter as told_parameter, parameters as told_parameters};
+
+use super::result_type::is_known;
+use occ_base::{Items, Name, Shared};
+use occ_names::{Access, Entry, Meaning, Parameter, Whole};
+use occ_types::{OccType, Passing};
+use std::alloc::{AllocError, Global};
+
+/// A formal of a head, and the type of its group, if that is known.
+#[derive(Drop)]
+pub struct HeadFormal {
+    pub name: Name,
+    pub of: Option<Shared<OccType>>,
+    pub passing: Passing,
+}
+
+/// One more owner of a type, if it is known.
+fn shared(of: &Option<Shared<OccType>>) -> Result<Option<Shared<OccType>>, AllocError>
+    ensures { IfOk result (λ shared. shared ≡ of.now) }
+{
+    match of {
+        None => Ok(None),
+        Some(of) => Ok(Some(of.share()?)),
+    }
+}
+
+/// A formal of this type.
+pub fn push_formal(
+    alloc: Global,
+    of: &Option<Shared<OccType>>,
+    passing: Passing,
+    name: &Name,
+    formals: &mut Items<HeadFormal>,
+) -> Result<(), AllocError>
+    ensures { OnOk result (formals.new ≡ formals.old ++ told_each of.now passing (name.now ∷ [])) }
+{
+    let name = name.copied(alloc)?;
+    let of = shared(of)?;
+    formals.push(HeadFormal { name, of, passing })
+}
+
+/// Further formals of this type.
+pub fn push_formals(
+    alloc: Global,
+    of: &Option<Shared<OccType>>,
+    passing: Passing,
+    names: &[Name],
+    formals: &mut Items<HeadFormal>,
+) -> Result<(), AllocError>
+    ensures { OnOk result (formals.new ≡ formals.old ++ told_each of.now passing names.now) }
+{
+    for name in names {
+        push_formal(alloc, of, passing, name, formals)?;
+    }
+    Ok(())
+}
+
+/// Whether the type of each formal is known.
+pub fn all_known(formals: &[HeadFormal]) -> bool
+    ensures { result ≡ all_are_known formals.now }
+{
+    for one in formals {
+        if !is_known(&one.of) {
+            return false;
+        }
+    }
+    true
+}
+
+/// What may be written through a formal.
+fn access_of(passing: Passing) -> Access
+    ensures { result ≡ the_access passing }
+{
+    match passing {
+        Passing::Value => Access::Formal,
+        Passing::Reference => Access::Variable,
+    }
+}
+
+/// What a formal stands for in the body of a head that has no fault.
+fn as_element(
+    alloc: Global,
+    of: &Option<Shared<OccType>>,
+    passing: Passing,
+    name: &Name,
+) -> Result<Meaning, AllocError>
+    ensures { IfOk result (λ meaning. meaning ≡ told_element of.now passing name.now) }
+{
+    match of {
+        None => Ok(Meaning::Faulty),
+        Some(of) => Ok(Meaning::Element(Whole {
+            of: of.share()?,
+            access: access_of(passing),
+            value: None,
+            root: name.copied(alloc)?,
+        })),
+    }
+}
+
+/// A formal as it stands in scope in the body: faulty, if the head has a fault.
+fn entry(alloc: Global, known: bool, one: &HeadFormal) -> Result<Entry, AllocError>
+    ensures { IfOk result (λ entry. entry ≡ told_entry known one.now) }
+{
+    let name = one.name.copied(alloc)?;
+    let meaning = if known {
+        as_element(alloc, &one.of, one.passing, &one.name)?
+    } else {
+        Meaning::Faulty
+    };
+    let meaning = Shared::new(alloc, meaning)?;
+    Ok(Entry { name, meaning })
+}
+
+/// The formals as they stand in scope in the body.
+pub fn entries(alloc: Global, known: bool, formals: &[HeadFormal]) -> Result<Items<Entry>, AllocError>
+    ensures { IfOk result (λ entries. entries ≡ told_entries known formals.now) }
+{
+    let mut entries = Items::new(alloc);
+    for one in formals {
+        let entry = entry(alloc, known, one)?;
+        entries.push(entry)?;
+    }
+    Ok(entries)
+}
+
+/// A formal as a call sees it, if its type is known.
+fn push_parameter(
+    of: &Option<Shared<OccType>>,
+    passing: Passing,
+    parameters: &mut Items<Parameter>,
+) -> Result<(), AllocError>
+    ensures { OnOk result (parameters.new ≡ parameters.old ++ told_parameter of.now passing) }
+{
+    match of {
+        None => Ok(()),
+        Some(of) => {
+            let of = of.share()?;
+            parameters.push(Parameter { of, passing })
+        }
+    }
+}
+
+/// The formals as a call sees them, of those whose type is known.
+pub fn parameters(alloc: Global, formals: &[HeadFormal]) -> Result<Items<Parameter>, AllocError>
+    ensures { IfOk result (λ parameters. parameters ≡ told_parameters formals.now) }
+{
+    let mut parameters = Items::new(alloc);
+    for one in formals {
+        push_parameter(&one.of, one.passing, &mut parameters)?;
+    }
+    Ok(parameters)
+}

@@ -1,0 +1,90 @@
+ghost use Rattle.std.specs.Prelude.{◌≡◌, ◌++◌, IfOk, OnOk};
+ghost use Rattle.occ_typed_heads.specs.Heads.{function, function_heading as told_heading, function_meaning as told_meaning, function_results as told_results, types_known as types_are_known};
+
+use super::formal::{HeadFormal, all_known, entries, parameters};
+use super::group::value_groups;
+use super::heading::Heading;
+use super::result_type::{all_found, known_types, result_types, unless_told};
+use occ_base::{Items, Shared};
+use occ_names::{Meaning, Scope};
+use occ_operands::Fault;
+use occ_specification_forms::FunctionHead;
+use occ_types::OccType;
+use std::alloc::{AllocError, Global};
+
+/// What the name of a function stands for: nothing is known of it, if its head has a fault.
+fn function_meaning(
+    alloc: Global,
+    known: bool,
+    formals: &[HeadFormal],
+    types: &[Option<Shared<OccType>>],
+) -> Result<Meaning, AllocError>
+    ensures { IfOk result (λ meaning. meaning ≡ told_meaning known formals.now types.now) }
+{
+    if known {
+        let formals = parameters(alloc, formals)?;
+        let types = known_types(alloc, types)?;
+        return Ok(Meaning::Function(formals, types));
+    }
+    Ok(Meaning::Faulty)
+}
+
+/// The types that the results must have, if the head has no fault.
+fn function_results(
+    alloc: Global,
+    known: bool,
+    types: &[Option<Shared<OccType>>],
+) -> Result<Option<Items<Shared<OccType>>>, AllocError>
+    ensures { IfOk result (λ results. results ≡ told_results known types.now) }
+{
+    if known {
+        return Ok(Some(known_types(alloc, types)?));
+    }
+    Ok(None)
+}
+
+/// What the head of a function with these formals, and with results of these types, makes known.
+fn function_heading(
+    alloc: Global,
+    known: bool,
+    formals: &[HeadFormal],
+    types: &[Option<Shared<OccType>>],
+) -> Result<Heading, AllocError>
+    ensures { IfOk result (λ heading. heading ≡ told_heading known formals.now types.now) }
+{
+    let meaning = function_meaning(alloc, known, formals, types)?;
+    let formals = entries(alloc, known, formals)?;
+    let results = function_results(alloc, known, types)?;
+    Ok(Heading {
+        formals,
+        meaning,
+        results,
+    })
+}
+
+/// Whether the type of each formal and of each result is known.
+fn types_known(formals: &[HeadFormal], types: &[Option<Shared<OccType>>]) -> bool
+    ensures { result ≡ types_are_known formals.now types.now }
+{
+    all_known(formals) && all_found(types)
+}
+
+/// `t, .. FUNCTION n (formals)`: as for a procedure, with formals that are all values, and results of data.
+#[tactic(auto, unfolding(crate::specs::Heads::function))]
+pub fn function_head(
+    alloc: Global,
+    head: &FunctionHead,
+    scope: &Scope,
+    faults: &mut Items<Fault>,
+) -> Result<Heading, AllocError>
+    ensures heading { IfOk result (λ heading. heading ≡ (function scope.now head.now).heading) }
+    ensures faults { OnOk result (faults.new ≡ faults.old ++ (function scope.now head.now).faults) }
+{
+    let mut told = Items::new(alloc);
+    let types = result_types(alloc, &head.first, head.more.as_slice(), scope, &mut told)?;
+    let formals = value_groups(alloc, head.formals.as_slice(), scope, &mut told)?;
+    let known = types_known(formals.as_slice(), types.as_slice());
+    let known = unless_told(&told, known);
+    faults.append(told)?;
+    function_heading(alloc, known, formals.as_slice(), types.as_slice())
+}

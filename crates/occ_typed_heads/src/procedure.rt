@@ -1,0 +1,54 @@
+ghost use Rattle.std.specs.Prelude.{◌≡◌, ◌++◌, IfOk, OnOk};
+ghost use Rattle.occ_typed_heads.specs.Heads.{procedure, procedure_heading as told_heading, procedure_meaning as told_meaning};
+
+use super::formal::{HeadFormal, all_known, entries, parameters};
+use super::group::groups;
+use super::heading::Heading;
+use super::result_type::unless_told;
+use occ_base::Items;
+use occ_names::{Meaning, Scope};
+use occ_operands::Fault;
+use occ_specification_forms::FormalGroup;
+use std::alloc::{AllocError, Global};
+
+/// What the name of a procedure stands for: nothing is known of it, if its head has a fault.
+fn procedure_meaning(alloc: Global, known: bool, formals: &[HeadFormal]) -> Result<Meaning, AllocError>
+    ensures { IfOk result (λ meaning. meaning ≡ told_meaning known formals.now) }
+{
+    if known {
+        return Ok(Meaning::Procedure(parameters(alloc, formals)?));
+    }
+    Ok(Meaning::Faulty)
+}
+
+/// What the head of a procedure with these formals makes known.
+fn procedure_heading(alloc: Global, known: bool, formals: &[HeadFormal]) -> Result<Heading, AllocError>
+    ensures { IfOk result (λ heading. heading ≡ told_heading known formals.now) }
+{
+    let meaning = procedure_meaning(alloc, known, formals)?;
+    let formals = entries(alloc, known, formals)?;
+    Ok(Heading {
+        formals,
+        meaning,
+        results: None,
+    })
+}
+
+/// `PROC n (formals)`: all formals are one list of names, and each type is judged in the scope before the head. If the
+/// head tells something, or needs something faulty, all formals and the name are faulty.
+#[tactic(auto, unfolding(crate::specs::Heads::procedure))]
+pub fn procedure_head(
+    alloc: Global,
+    formals: &[FormalGroup],
+    scope: &Scope,
+    faults: &mut Items<Fault>,
+) -> Result<Heading, AllocError>
+    ensures heading { IfOk result (λ heading. heading ≡ (procedure scope.now formals.now).heading) }
+    ensures faults { OnOk result (faults.new ≡ faults.old ++ (procedure scope.now formals.now).faults) }
+{
+    let mut told = Items::new(alloc);
+    let formals = groups(alloc, formals, scope, &mut told)?;
+    let known = unless_told(&told, all_known(formals.as_slice()));
+    faults.append(told)?;
+    procedure_heading(alloc, known, formals.as_slice())
+}

@@ -1,0 +1,45 @@
+-- `DATA TYPE n IS t:`.
+use Rattle.std.specs.Prelude.{ℕ, Option, Some, None, List, [], ◌∷◌, ◌++◌}
+use Rattle.occ_types.specs.declared.types.OccType.{OccType}
+use Rattle.occ_types.specs.declared.types.OccType.TheVariants as t
+use Rattle.occ_names.specs.declared.meaning.Meaning.{Meaning}
+use Rattle.occ_names.specs.declared.meaning.Meaning.TheVariants as m
+use Rattle.occ_names.specs.declared.scope.Scope.{Scope}
+use Rattle.occ_expression_forms.specs.declared.tree.TypeForm.{TypeForm}
+use Rattle.occ_expr.specs.Views.{type_form_view}
+use Rattle.occ_expr.specs.Written.{Written, faulty, limited}
+use Rattle.occ_expr.specs.declared.written.Opening.TheVariants as opening
+use Rattle.occ_type_rules.specs.Resulting.{of_data}
+use Rattle.occ_typed_specifications.specs.Entering.{Declared, unless_told}
+
+-- a type of data, if it is known
+unfoldable pub data_of : Option OccType → Written
+data_of None = faulty
+data_of (Some of) = of_data of
+
+-- a type as a line writes it where it has to be one of data
+unfoldable pub data_form_type : Scope → TypeForm → Written
+data_form_type s form =
+    let x = type_form_view form opening.Refused s in
+    let y = data_of x.found in
+    record { faults = x.faults ++ y.faults; found = y.found }
+
+-- a type with this name, which counts for how large it is
+unfoldable pub with_name : List ℕ → Option OccType → Written
+with_name name None = faulty
+with_name name (Some of) = limited (Some (t.Named name of))
+
+unfoldable pub defined : Scope → List ℕ → TypeForm → Written
+defined s name form =
+    let x = data_form_type s form in
+    let y = with_name name x.found in
+    record { faults = x.faults ++ y.faults; found = y.found }
+
+abbrev pub type_name : Option OccType → Meaning
+type_name None = m.Faulty
+type_name (Some of) = m.Type of
+
+unfoldable pub data_type : Scope → List ℕ → TypeForm → Declared
+data_type s name form =
+    let x = defined s name form in
+    record { faults = x.faults; adds = (record { name = name; meaning = type_name (unless_told x.faults x.found) }) ∷ [] }

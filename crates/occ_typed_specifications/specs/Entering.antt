@@ -1,0 +1,14 @@
+-- What a line adds to the names in scope.
+use Rattle.std.specs.Prelude.{Option, None, List, [], ◌∷◌}
+use Rattle.occ_names.specs.declared.meaning.Entry.{Entry}
+use Rattle.occ_operands.specs.declared.kind.Fault.{Fault}
+
+-- the faults of a line, and what comes into scope by it
+pub record Declared : Type 0 where
+  pub faults : List Fault
+  pub adds : List Entry
+
+-- nothing is known of the names of a line that told something
+abbrev pub unless_told : {X : Type 0} → List Fault → Option X → Option X
+unless_told [] x = x
+unless_told (fault ∷ faults) x = None

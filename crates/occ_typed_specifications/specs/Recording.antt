@@ -1,0 +1,19 @@
+-- The head of a record, whose type is judged whole.
+use Rattle.std.specs.Prelude.{ℕ, Some, List}
+use Rattle.occ_types.specs.declared.types.Field.{Field}
+use Rattle.occ_types.specs.declared.types.OccType.TheVariants as t
+use Rattle.occ_types.specs.declared.types.Packing.{Packing}
+use Rattle.occ_operands.specs.declared.kind.Fault.{Fault}
+use Rattle.occ_names.specs.declared.meaning.Meaning.{Meaning}
+use Rattle.occ_typed_specifications.specs.Defining.{type_name, with_name}
+
+-- the faults of a head, and what its name stands for
+pub record Recorded : Type 0 where
+  pub faults : List Fault
+  pub meaning : Meaning
+
+-- the name counts for how large the type is; a type that holds a field with a fault is never too large
+unfoldable pub recorded : List ℕ → Packing → List Field → Recorded
+recorded name packing fields =
+    let x = with_name name (Some (t.Record packing fields)) in
+    record { faults = x.faults; meaning = type_name x.found }

@@ -1,0 +1,62 @@
+-- `VAL n IS e:` and `VAL t n IS e:`.
+use Rattle.std.specs.Prelude.{ℕ, Option, Some, None, List, [], ◌∷◌, ◌++◌, if◌then◌else◌}
+use Rattle.occ_base.specs.declared.code.Code.TheVariants as code
+use Rattle.occ_types.specs.declared.types.OccType.{OccType}
+use Rattle.occ_operands.specs.Settling.{Told, nameless, silent}
+use Rattle.occ_operands.specs.declared.kind.Fault.{Fault}
+use Rattle.occ_operands.specs.declared.kind.Kind.{Kind}
+use Rattle.occ_operands.specs.declared.kind.Kind.TheVariants as k
+use Rattle.occ_names.specs.declared.meaning.Access.TheVariants as access
+use Rattle.occ_names.specs.declared.meaning.Meaning.{Meaning}
+use Rattle.occ_names.specs.declared.meaning.Meaning.TheVariants as m
+use Rattle.occ_names.specs.declared.scope.Scope.{Scope}
+use Rattle.occ_tables.specs.Terms.{Judged, judged}
+use Rattle.occ_expression_forms.specs.declared.tree.Expr.{Expr}
+use Rattle.occ_expression_forms.specs.declared.tree.TypeForm.{TypeForm}
+use Rattle.occ_expr.specs.Parts.{after}
+use Rattle.occ_expr.specs.Views.{expr_view, type_form_view}
+use Rattle.occ_expr.specs.declared.written.Opening.TheVariants as opening
+use Rattle.occ_type_rules.specs.Abbreviating.{abbreviated, abbreviated_as}
+use Rattle.occ_typed_specifications.specs.Entering.{Declared}
+use Rattle.occ_typed_specifications.specs.Mentions.{in_expr}
+
+-- nothing is asked of the value where the type is not known
+unfoldable pub value_as : Option OccType → Judged → Told
+value_as None x = silent
+value_as (Some of) x = abbreviated_as of x
+
+unfoldable pub value_alone : Scope → Expr → Told
+value_alone s e = let x = (expr_view e).said s in after x.faults (abbreviated (judged x.term))
+
+-- the type, then the expression, then the one for the other
+unfoldable pub value_with_type : Scope → TypeForm → Expr → Told
+value_with_type s of e =
+    let to = type_form_view of opening.Allowed s in
+    let x = (expr_view e).said s in
+    after (to.faults ++ x.faults) (value_as to.found (judged x.term))
+
+abbrev pub value_told : Scope → Option TypeForm → Expr → Told
+value_told s None e = value_alone s e
+value_told s (Some of) e = value_with_type s of e
+
+-- typing does not know yet a value in which a variable or a formal is named
+abbrev pub naming_faults : Scope → Expr → List Fault
+naming_faults s e = if in_expr s e then nameless code.S1 ∷ [] else []
+
+unfoldable pub line_told : Scope → Option TypeForm → Expr → Told
+line_told s of e = let x = value_told s of e in record { faults = x.faults ++ naming_faults s e; kind = x.kind }
+
+-- the name of a value of which this is known
+abbrev pub value_name : Kind → List ℕ → Meaning
+value_name k.Faulty name = m.Faulty
+value_name (k.Free f) name = m.Faulty
+value_name (k.Known x) name = m.Element (record { of = x.of; access = access.Value; value = x.value; root = name })
+
+abbrev pub kind_unless_told : List Fault → Kind → Kind
+kind_unless_told [] kind = kind
+kind_unless_told (fault ∷ faults) kind = k.Faulty
+
+unfoldable pub value : Scope → Option TypeForm → List ℕ → Expr → Declared
+value s of name e =
+    let x = line_told s of e in
+    record { faults = x.faults; adds = (record { name = name; meaning = value_name (kind_unless_told x.faults x.kind) name }) ∷ [] }

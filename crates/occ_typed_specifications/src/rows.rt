@@ -1,0 +1,22 @@
+ghost use Rattle.std.specs.Prelude.{[], ◌∷◌, ◌≡◌, None, Some};
+ghost use Rattle.occ_typed_specifications.specs.Declaring.{variables};
+ghost use Rattle.occ_typed_specifications.specs.Entering.{unless_told};
+ghost use Rattle.occ_typed_specifications.specs.Fields.{each_of, field_type};
+ghost use Rattle.occ_base.specs.declared.code.Code.TheVariants as code;
+ghost use Rattle.occ_names.specs.declared.meaning.Access.TheVariants as access;
+ghost use Rattle.occ_names.specs.declared.meaning.Meaning.TheVariants as m;
+ghost use Rattle.occ_operands.specs.Settling.{int, nameless};
+ghost use Rattle.occ_types.specs.declared.types.OccType.TheVariants as t;
+
+/// `INT x, y:`, where `x` is 120 and `y` is 121, of a line without a fault, and of one that told T5: there both are
+/// faulty.
+pub fn declaration_rows()
+    ensures known { variables (unless_told [] (Some int)) ((120 ∷ []) ∷ []) ≡ (record { name = 120 ∷ []; meaning = m.Element (record { of = int; access = access.Variable; value = None; root = 120 ∷ [] }) }) ∷ [] }
+    ensures faulty { variables (unless_told (nameless code.T5 ∷ []) (Some int)) ((120 ∷ []) ∷ (121 ∷ []) ∷ []) ≡ (record { name = 120 ∷ []; meaning = m.Faulty }) ∷ (record { name = 121 ∷ []; meaning = m.Faulty }) ∷ [] }
+{}
+
+/// The field `x` of a line without a fault, and of one with a fault: it is there, and nothing is known of it.
+pub fn field_rows()
+    ensures known { each_of (field_type (unless_told [] (Some int))) ((120 ∷ []) ∷ []) ≡ (record { name = 120 ∷ []; of = int }) ∷ [] }
+    ensures faulty { each_of (field_type (unless_told (nameless code.T5 ∷ []) (Some int))) ((120 ∷ []) ∷ []) ≡ (record { name = 120 ∷ []; of = t.Unknown }) ∷ [] }
+{}

@@ -1,0 +1,65 @@
+-- What a line of a process tells by its elements and expressions, from what stands in scope.
+use Rattle.std.specs.List.{list_any}
+use Rattle.std.specs.Prelude.{ℤ, Bool, List, [], ◌++◌}
+use Rattle.std.specs.BTreeSet.{BTreeSet}
+use Rattle.occ_types.specs.declared.types.OccType.{OccType}
+use Rattle.occ_operands.specs.Operators.{all_faults, kinds}
+use Rattle.occ_operands.specs.Settling.{Told}
+use Rattle.occ_operands.specs.declared.kind.Fault.{Fault}
+use Rattle.occ_operands.specs.declared.kind.Kind.{Kind}
+use Rattle.occ_operands.specs.declared.kind.Kind.TheVariants as k
+use Rattle.occ_names.specs.declared.scope.Scope.{Scope}
+use Rattle.occ_tables.specs.Terms.{has_fault, judged, judged_all}
+use Rattle.occ_expression_forms.specs.declared.tree.Element.{Element}
+use Rattle.occ_expression_forms.specs.declared.tree.Expr.{Expr}
+use Rattle.occ_expr.specs.Parts.{Said, after, in_scope, own_faults, terms}
+use Rattle.occ_expr.specs.Views.{expr_view, expr_views}
+use Rattle.occ_type_rules.specs.Assigning.{assigned}
+use Rattle.occ_type_rules.specs.Choosing.{Chosen, condition as no_condition, options as chosen, selector as selecting}
+use Rattle.occ_type_rules.specs.Resulting.{results as resulting}
+use Rattle.occ_typed_statements.specs.Targets.{targets}
+
+abbrev pub said : Scope → List Expr → List Said
+said s es = in_scope s (expr_views es)
+
+-- one of them is faulty by itself, whether that was told or is told elsewhere
+abbrev pub is_any_faulty : Scope → List Expr → Bool
+is_any_faulty s es = list_any has_fault (judged_all (terms (said s es)))
+
+-- the targets, the values by themselves, and then one for the other
+abbrev pub assigned_to : List Told → List Said → List Fault
+assigned_to ts xs = all_faults ts ++ (own_faults xs ++ assigned (kinds ts) (judged_all (terms xs)))
+
+abbrev pub assignment : Scope → List Element → List Expr → List Fault
+assignment s els es = assigned_to (targets s els) (said s es)
+
+abbrev pub condition_by : Said → List Fault
+condition_by x = x.faults ++ no_condition (judged x.term)
+
+abbrev pub condition : Scope → Expr → List Fault
+condition s e = condition_by ((expr_view e).said s)
+
+abbrev pub selector_by : Said → Told
+selector_by x = after x.faults (selecting (judged x.term))
+
+abbrev pub selector : Scope → Expr → Told
+selector s e = selector_by ((expr_view e).said s)
+
+-- behind a faulty selector each option is judged by itself alone
+abbrev pub options_under : Kind → BTreeSet ℤ → List Said → Chosen
+options_under k.Faulty before xs = record { faults = []; numbers = before }
+options_under (k.Free f) before xs = record { faults = []; numbers = before }
+options_under (k.Known x) before xs = chosen x.of before (judged_all (terms xs))
+
+abbrev pub options_by : Kind → BTreeSet ℤ → List Said → Chosen
+options_by kind before xs = let y = options_under kind before xs in record { faults = own_faults xs ++ y.faults; numbers = y.numbers }
+
+abbrev pub options : Scope → Kind → BTreeSet ℤ → List Expr → Chosen
+options s kind before es = options_by kind before (said s es)
+
+abbrev pub results_by : List OccType → List Said → List Fault
+results_by types xs = own_faults xs ++ resulting types (judged_all (terms xs))
+
+-- the results of a FUNCTION whose head has no fault
+abbrev pub results : Scope → List OccType → List Expr → List Fault
+results s types es = results_by types (said s es)

@@ -1,0 +1,27 @@
+ghost use Rattle.std.specs.Prelude.{[], ◌∷◌, ◌≡◌, None, Some, true};
+ghost use Rattle.occ_base.specs.declared.code.Code.TheVariants as code;
+ghost use Rattle.occ_expression_forms.specs.declared.tree.Element.TheVariants as el;
+ghost use Rattle.occ_expression_forms.specs.declared.tree.Expr.TheVariants as x;
+ghost use Rattle.occ_expression_forms.specs.declared.tree.Literal.TheVariants as l;
+ghost use Rattle.occ_expression_forms.specs.declared.tree.Operand.TheVariants as o;
+ghost use Rattle.occ_names.specs.Visible.{entered, nothing};
+ghost use Rattle.occ_names.specs.declared.meaning.Access.TheVariants as access;
+ghost use Rattle.occ_names.specs.declared.meaning.Meaning.TheVariants as m;
+ghost use Rattle.occ_names.specs.declared.scope.Scope.{Scope};
+ghost use Rattle.occ_operands.specs.Settling.{nameless};
+ghost use Rattle.occ_typed_statements.specs.Statements.{assignment, condition};
+ghost use Rattle.occ_types.specs.declared.types.OccType.TheVariants as t;
+ghost use Rattle.occ_types.specs.declared.value.Primitive.TheVariants as p;
+
+/// `IF` or `WHILE` with TRUE, and with 1, which is no BOOL.
+#[tactic(auto, using(occ_expr::proofs::Views::expr_rules, occ_expr::proofs::Views::operand_rules, occ_tables::proofs::Judging::judging_rules, occ_types::proofs::Agreeing::fit_rules), unfolding(occ_expr::specs::Literals::literal))]
+pub fn condition_rows()
+    ensures truth { (s : Scope) → condition s (x.Alone (o.Truth true)) ≡ [] }
+    ensures number { (s : Scope) → condition s (x.Alone (o.Literal (l.Decimal 1))) ≡ nameless code.T7 ∷ [] }
+{}
+
+/// `v := 255` of a VAL name `v`, which is 118: T3 with its name.
+#[tactic(auto, using(occ_expr::proofs::Views::expr_rules, occ_expr::proofs::Views::operand_rules, occ_expr::proofs::Views::element_rules, occ_tables::proofs::Judging::judging_rules, crate::proofs::Roots::root_rules), unfolding(occ_expr::specs::Literals::literal, occ_expr::specs::Parts::named_element, crate::specs::Targets::target_of))]
+pub fn assignment_rows()
+    ensures { assignment (entered nothing (118 ∷ []) (m.Element (record { of = t.Primitive p.Byte; access = access.Value; value = None; root = 118 ∷ [] }))) (el.Named (118 ∷ []) [] ∷ []) (x.Alone (o.Literal (l.Decimal 255)) ∷ []) ≡ (record { code = code.T3; name = Some (118 ∷ []) }) ∷ [] }
+{}
