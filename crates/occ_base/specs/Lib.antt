@@ -5,3 +5,4 @@ pub mod Sample
 pub mod Order
 pub mod formers
 pub mod Errors
+pub mod Telling

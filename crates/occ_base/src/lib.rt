@@ -4,6 +4,7 @@
 
 mod code;
 mod diag;
+mod fault;
 mod file_name;
 mod items;
 mod name;
@@ -12,6 +13,7 @@ mod shared;
 
 pub use code::{Code, Grade};
 pub use diag::{Diag, add_error_if, write_diag};
+pub use fault::{Fault, tell};
 pub use file_name::{FileName, NameFault};
 pub use items::one_item;
 pub use name::Name;

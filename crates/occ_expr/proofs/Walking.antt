@@ -24,7 +24,7 @@ use Rattle.occ_expression_forms.specs.declared.tree.TypeForm.TheVariants as tv
 use Rattle.occ_names.specs.Lookup.{data_type}
 use Rattle.occ_names.specs.Visible.{visible}
 use Rattle.occ_names.specs.declared.scope.Scope.{Scope}
-use Rattle.occ_operands.specs.declared.kind.Fault.{Fault}
+use Rattle.occ_base.specs.declared.fault.Fault.{Fault}
 use Rattle.occ_operands.specs.declared.kind.Kind.{Kind}
 use Rattle.occ_tables.specs.Terms.{judged, judged_all}
 use Rattle.occ_tables.specs.declared.selection.BoundTerms.{BoundTerms}

@@ -6,8 +6,9 @@ use Rattle.occ_types.specs.View.{fields_in}
 use Rattle.occ_types.specs.declared.types.Field.{Field}
 use Rattle.occ_types.specs.declared.types.OccType.{OccType}
 use Rattle.occ_operands.specs.Parts.{field, subscripted}
-use Rattle.occ_operands.specs.Settling.{Told, known, nameless, silent}
-use Rattle.occ_operands.specs.declared.kind.Fault.{Fault}
+use Rattle.occ_operands.specs.Settling.{Told, known, silent}
+use Rattle.occ_base.specs.Telling.{nameless}
+use Rattle.occ_base.specs.declared.fault.Fault.{Fault}
 use Rattle.occ_operands.specs.declared.kind.Kind.{Kind}
 use Rattle.occ_operands.specs.declared.kind.Kind.TheVariants as k
 use Rattle.occ_names.specs.Lookup.{Found, element}

@@ -8,8 +8,9 @@ use Rattle.occ_types.specs.declared.types.OccType.TheVariants as t
 use Rattle.occ_types.specs.declared.types.Protocol.TheVariants as protocol
 use Rattle.occ_types.specs.declared.value.Primitive.{Primitive}
 use Rattle.occ_types.specs.declared.value.Primitive.TheVariants as p
-use Rattle.occ_operands.specs.Settling.{nameless, number}
-use Rattle.occ_operands.specs.declared.kind.Fault.{Fault}
+use Rattle.occ_operands.specs.Settling.{number}
+use Rattle.occ_base.specs.Telling.{nameless}
+use Rattle.occ_base.specs.declared.fault.Fault.{Fault}
 use Rattle.occ_names.specs.Lookup.{Found, carries, data_type, good}
 use Rattle.occ_names.specs.Visible.{visible}
 use Rattle.occ_names.specs.declared.lookup.Carried.{Carried}

@@ -1,9 +1,9 @@
 ghost use Rattle.std.specs.Prelude.{◌≡◌, ◌++◌, IfOk, OnOk};
 ghost use Rattle.occ_expr.specs.Literals.{byte as byte_type, decorated_kind as kind_with_type, decorated_literal as literal_with_type, literal as told_literal, truth as told_truth};
 
-use occ_base::{Items, Shared};
+use occ_base::{Fault, Items, Shared};
 use occ_expression_forms::Literal;
-use occ_operands::{Fault, Free, Kind, known, wanted};
+use occ_operands::{Free, Kind, known, wanted};
 use occ_tables::{decorated, table_type};
 use occ_types::{OccType, Primitive, Value};
 use std::alloc::{AllocError, Global};

@@ -10,10 +10,10 @@ ghost use Rattle.occ_tables.specs.Terms.{judged};
 ghost use Rattle.occ_tables.specs.declared.term.Term.TheVariants as v;
 
 use super::operation::converted;
-use occ_base::{Code, Items, Name, Shared, one_item};
+use occ_base::{Code, Fault, Items, Name, Shared, one_item, tell};
 use occ_expression_forms::{Element, Expr, Literal, Operand};
 use occ_names::{Meaning, Scope, element};
-use occ_operands::{Fault, Kind, known, tell};
+use occ_operands::{Kind, known};
 use occ_tables::{BoundTerms, Term, decorated_table, segment};
 use occ_types::OccType;
 use std::alloc::{AllocError, Global};

@@ -17,13 +17,13 @@ use super::written::{
     Extent, Opening, array_type, base_type, count_type, counted_type, extent_of, named_channel,
     open_dimension, primitive_of, values_channel,
 };
-use occ_base::{Items, Name, Shared, one_item};
+use occ_base::{Fault, Items, Name, Shared, one_item};
 use occ_expression_forms::{
     Bounds, Builtin, DataBase, Dimension, Element, Expr, NamedOperand, Operand,
     TypeForm,
 };
 use occ_names::{Meaning, Scope, carries, data_type};
-use occ_operands::{Fault, Kind, field, subscripted};
+use occ_operands::{Kind, field, subscripted};
 use occ_tables::{BoundTerms, Term, item, size};
 use occ_types::{OccType, Protocol, fields_of, unnamed};
 use std::alloc::{AllocError, Global};

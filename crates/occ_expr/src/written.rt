@@ -3,10 +3,10 @@ ghost use Rattle.occ_types.specs.declared.types.OccType.TheVariants as t;
 ghost use Rattle.occ_types.specs.declared.types.Protocol.TheVariants as c;
 ghost use Rattle.occ_expr.specs.Written.{array_of as told_array, base_type as told_base, channel_if, channel_of_values, count_type as told_count, counted_type as told_counted, extent_of as the_extent, limited as told_limited, open_dimension as told_open, primitive_of as the_primitive, spanned as spanned_type, spanned_by as spanned_by_all};
 
-use occ_base::{Code, Items, Shared, one_item};
+use occ_base::{Code, Fault, Items, Shared, one_item, tell};
 use occ_expression_forms::{DataBase, PrimitiveWord};
 use occ_names::{Carried, Scope, data_type};
-use occ_operands::{Fault, number, tell};
+use occ_operands::number;
 use occ_tables::is_too_large;
 use occ_types::{Item, OccType, Primitive, Protocol, as_primitive};
 use std::alloc::{AllocError, Global};

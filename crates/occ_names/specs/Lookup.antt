@@ -2,7 +2,7 @@
 -- own line has a fault nothing is told.
 use Rattle.std.specs.Prelude.{ℕ, List, [], ◌∷◌, Option, Some, None}
 use Rattle.occ_base.specs.declared.code.Code.TheVariants as code
-use Rattle.occ_operands.specs.declared.kind.Fault.{Fault}
+use Rattle.occ_base.specs.declared.fault.Fault.{Fault}
 use Rattle.occ_types.specs.declared.types.OccType.{OccType}
 use Rattle.occ_names.specs.declared.lookup.Carried.{Carried}
 use Rattle.occ_names.specs.declared.lookup.Carried.TheVariants as carried

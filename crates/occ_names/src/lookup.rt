@@ -4,8 +4,7 @@ ghost use Rattle.occ_names.specs.Visible.{visible};
 
 use super::meaning::{Meaning, Whole};
 use super::scope::Scope;
-use occ_base::{Code, Items, Name, Shared};
-use occ_operands::Fault;
+use occ_base::{Code, Fault, Items, Name, Shared};
 use occ_types::{OccType, Protocol};
 use std::alloc::{AllocError, Global};
 

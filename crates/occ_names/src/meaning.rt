@@ -2,7 +2,7 @@ ghost use Rattle.std.specs.Prelude.{◌≡◌, [], ◌∷◌, IfOk};
 
 use occ_base::{Items, Name, Shared, one_item};
 use occ_scope::SpecId;
-use occ_types::{OccType, Passing, Protocol, Value};
+use occ_types::{Formal, OccType, Protocol, Value};
 use std::alloc::{AllocError, Global};
 
 /// Whether something may be written through a name.
@@ -28,13 +28,6 @@ pub struct Whole {
     pub root: Name,
 }
 
-/// A formal, as a call sees it.
-#[derive(Drop)]
-pub struct Parameter {
-    pub of: Shared<OccType>,
-    pub passing: Passing,
-}
-
 /// What a name stands for.
 #[derive(Drop)]
 pub enum Meaning {
@@ -43,9 +36,9 @@ pub enum Meaning {
     Type(Shared<OccType>),
     Protocol(Shared<Protocol>),
     /// A procedure with these formals.
-    Procedure(Items<Parameter>),
+    Procedure(Items<Formal>),
     /// A function with these formals, and the types of its results.
-    Function(Items<Parameter>, Items<Shared<OccType>>),
+    Function(Items<Formal>, Items<Shared<OccType>>),
     Element(Whole),
 }
 

@@ -2,6 +2,7 @@
 use Rattle.std.specs.Prelude.{Option, Some, None, List, [], ◌∷◌}
 use Rattle.occ_base.specs.declared.code.Code.{Code}
 use Rattle.occ_base.specs.declared.code.Code.TheVariants as code
+use Rattle.occ_base.specs.Telling.{nameless}
 use Rattle.occ_types.specs.Fits.{unnamed}
 use Rattle.occ_types.specs.View.{as_primitive}
 use Rattle.occ_types.specs.declared.types.OccType.{OccType}
@@ -9,7 +10,7 @@ use Rattle.occ_types.specs.declared.types.OccType.TheVariants as t
 use Rattle.occ_types.specs.declared.value.Primitive.{Primitive}
 use Rattle.occ_types.specs.declared.value.Primitive.TheVariants as p
 use Rattle.occ_types.specs.declared.value.Value.{Value}
-use Rattle.occ_operands.specs.declared.kind.Fault.{Fault}
+use Rattle.occ_base.specs.declared.fault.Fault.{Fault}
 use Rattle.occ_operands.specs.declared.kind.Free.{Free}
 use Rattle.occ_operands.specs.declared.kind.Kind.{Kind}
 use Rattle.occ_operands.specs.declared.kind.Kind.TheVariants as k
@@ -25,9 +26,6 @@ pub record Told : Type 0 where
 -- the type of a free operand of which none is wanted
 abbrev pub int : OccType
 int = t.Primitive p.Int
-
-abbrev pub nameless : Code → Fault
-nameless c = record { code = c; name = None }
 
 abbrev pub fault_of : Code → Told
 fault_of c = record { faults = nameless c ∷ []; kind = k.Faulty }

@@ -1,12 +1,5 @@
-use occ_base::{Code, Name, Shared};
+use occ_base::Shared;
 use occ_types::{OccType, Value};
-
-/// A fault of a line: its code, and the name that is told with it.
-#[derive(Drop)]
-pub struct Fault {
-    pub code: Code,
-    pub name: Option<Name>,
-}
 
 /// The type of an operand, and its value where it is constant.
 #[derive(Drop)]

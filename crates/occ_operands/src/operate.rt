@@ -5,10 +5,10 @@ ghost use Rattle.occ_operands.specs.Outcomes.{applied as applied_outcome, in_eac
 ghost use Rattle.occ_operands.specs.declared.kind.Kind.TheVariants as k;
 ghost use Rattle.occ_types.specs.View.{as_primitive as primitive_of};
 
-use super::kind::{Fault, Free, Kind, Known, Outcome};
+use super::kind::{Free, Kind, Known, Outcome};
 use super::outcome::{Running, apply, shift};
-use super::settle::{int, landed, number, settled, tell};
-use occ_base::{Code, Items, Shared};
+use super::settle::{int, landed, number, settled};
+use occ_base::{Code, Fault, Items, Shared, tell};
 use occ_types::{Monadic, OccType, Operator, Primitive, Value, as_primitive, base_of, fits};
 use std::alloc::{AllocError, Global};
 

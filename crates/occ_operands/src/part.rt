@@ -1,10 +1,10 @@
 ghost use Rattle.std.specs.Prelude.{◌≡◌, ◌++◌, IfOk, MatchOption, None, OnOk, Some};
 ghost use Rattle.occ_operands.specs.Parts.{component as the_component, component_at as the_component_at, field as the_field, field_named as the_field_named, field_told, is_constant_outside, no_component as the_no_component, not_subscripted as no_subscript, subscripted as subscripting};
 
-use super::kind::{Fault, Kind};
-use super::settle::{int, known, settled, tell};
+use super::kind::Kind;
+use super::settle::{int, known, settled};
 use super::want::wanted;
-use occ_base::{Code, Items, Name, Shared};
+use occ_base::{Code, Fault, Items, Name, Shared, tell};
 use occ_types::{Field, OccType, Value, array_of, is_unknown, unnamed};
 use std::alloc::{AllocError, Global};
 

@@ -1,8 +1,9 @@
 ghost use Rattle.std.specs.Prelude.{◌≡◌, ◌++◌, IfOk, OnOk, [], ◌∷◌, None};
-ghost use Rattle.occ_operands.specs.Settling.{int as int_type, known as known_kind, landed as landing, landed_or_int as landing_or_int, nameless, number as number_base, settled as settling};
+ghost use Rattle.occ_operands.specs.Settling.{int as int_type, known as known_kind, landed as landing, landed_or_int as landing_or_int, number as number_base, settled as settling};
+ghost use Rattle.occ_base.specs.Telling.{nameless};
 
-use super::kind::{Fault, Free, Kind, Known, Outcome};
-use occ_base::{Code, Items, Shared};
+use super::kind::{Free, Kind, Known, Outcome};
+use occ_base::{Code, Fault, Items, Shared, tell};
 use occ_types::{OccType, Primitive, Value, base_of};
 use std::alloc::{AllocError, Global};
 
@@ -29,13 +30,6 @@ pub fn known(of: &Shared<OccType>, value: Option<Value>) -> Result<Kind, AllocEr
 {
     let of = of.share()?;
     Ok(Kind::Known(Known { of, value }))
-}
-
-/// A fault without a name is told.
-pub fn tell(faults: &mut Items<Fault>, code: Code) -> Result<(), AllocError>
-    ensures { OnOk result (faults.new ≡ faults.old ++ nameless code ∷ []) }
-{
-    faults.push(Fault { code, name: None })
 }
 
 /// Of this type, it comes to that.

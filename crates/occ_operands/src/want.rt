@@ -1,10 +1,10 @@
 ghost use Rattle.std.specs.Prelude.{◌≡◌, ◌++◌, IfOk, OnOk};
 ghost use Rattle.occ_operands.specs.Wanting.{are_there, cast as casting, conversion, converted_from as converting_from, converts as convertible, fitted as fitting, wanted as wanting};
 
-use super::kind::{Fault, Kind, Known, Outcome};
+use super::kind::{Kind, Known, Outcome};
 use super::outcome::outcome_of;
-use super::settle::{int, known, landed, settled, tell};
-use occ_base::{Code, Items, Shared};
+use super::settle::{int, known, landed, settled};
+use occ_base::{Code, Fault, Items, Shared, tell};
 use occ_types::{OccType, Primitive, Value, alike, as_primitive, base_of, convert, fits};
 use std::alloc::{AllocError, Global};
 

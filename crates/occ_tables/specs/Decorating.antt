@@ -8,8 +8,9 @@ use Rattle.occ_types.specs.declared.types.Field.{Field}
 use Rattle.occ_types.specs.declared.types.OccType.{OccType}
 use Rattle.occ_types.specs.declared.value.Value.{Value}
 use Rattle.occ_operands.specs.Operators.{all_faults, kinds}
-use Rattle.occ_operands.specs.Settling.{Told, fault_of, known, nameless, silent}
-use Rattle.occ_operands.specs.declared.kind.Fault.{Fault}
+use Rattle.occ_operands.specs.Settling.{Told, fault_of, known, silent}
+use Rattle.occ_base.specs.Telling.{nameless}
+use Rattle.occ_base.specs.declared.fault.Fault.{Fault}
 use Rattle.occ_operands.specs.declared.kind.Kind.TheVariants as k
 use Rattle.occ_tables.specs.Terms.{Judged, alone, has_fault, under, with_items}
 

@@ -7,9 +7,10 @@ use Rattle.occ_types.specs.Fits.{is_data}
 use Rattle.occ_types.specs.View.{as_array}
 use Rattle.occ_types.specs.declared.types.OccType.{OccType}
 use Rattle.occ_operands.specs.Operators.{all_faults, is_faulty, kinds}
-use Rattle.occ_operands.specs.Settling.{Told, fault_of, int, known, nameless, settled, silent}
+use Rattle.occ_operands.specs.Settling.{Told, fault_of, int, known, settled, silent}
+use Rattle.occ_base.specs.Telling.{nameless}
 use Rattle.occ_operands.specs.Wanting.{wanted}
-use Rattle.occ_operands.specs.declared.kind.Fault.{Fault}
+use Rattle.occ_base.specs.declared.fault.Fault.{Fault}
 use Rattle.occ_operands.specs.declared.kind.Kind.{Kind}
 use Rattle.occ_operands.specs.declared.kind.Kind.TheVariants as k
 use Rattle.occ_tables.specs.Extents.{arrayed}

@@ -5,8 +5,8 @@ ghost use Rattle.occ_tables.specs.Terms.{judged, judged_all, table_alone as told
 
 use super::table::table_alone;
 use super::term::Term;
-use occ_base::Items;
-use occ_operands::{Fault, Kind, known};
+use occ_base::{Fault, Items};
+use occ_operands::{Kind, known};
 use std::alloc::{AllocError, Global};
 
 /// The same once more.

@@ -10,8 +10,8 @@ ghost use Rattle.occ_types.specs.View.{fields_in};
 use super::placing::{any_has_fault, has_fault};
 use super::table::{alone, any_faulty, each_under, under};
 use super::term::Term;
-use occ_base::{Code, Items, Shared};
-use occ_operands::{Fault, Kind, known, tell};
+use occ_base::{Code, Fault, Items, Shared, tell};
+use occ_operands::{Kind, known};
 use occ_types::{Field, OccType, Value, alike, array_of, fields_of, is_unknown, unnamed};
 use std::alloc::{AllocError, Global};
 

@@ -5,8 +5,8 @@ ghost use Rattle.occ_tables.specs.Terms.{judged};
 
 use super::table::under;
 use super::term::Term;
-use occ_base::{Code, Items};
-use occ_operands::{Fault, Kind, int, tell};
+use occ_base::{Code, Fault, Items, tell};
+use occ_operands::{Kind, int};
 use occ_types::Value;
 use std::alloc::{AllocError, Global};
 

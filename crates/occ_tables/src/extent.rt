@@ -4,8 +4,8 @@ ghost use Rattle.std.specs.Prelude.{◌≡◌, ◌++◌, IfOk, OnOk};
 ghost use Rattle.occ_tables.specs.Extents.{arrayed as array_told, is_oversized as oversized, is_too_large as too_large, is_too_wide as too_wide};
 ghost use Rattle.occ_types.specs.Measure.{measure_of as measured};
 
-use occ_base::{Code, Items, Shared};
-use occ_operands::{Fault, Kind, known, tell};
+use occ_base::{Code, Fault, Items, Shared, tell};
+use occ_operands::{Kind, known};
 use occ_types::{OccType, holds_unknown, is_oversized as has_too_many_bytes, measure_of};
 use std::alloc::{AllocError, Global};
 

@@ -2,8 +2,8 @@ ghost use Rattle.std.specs.Prelude.{◌≡◌, ◌++◌, IfOk, OnOk};
 ghost use Rattle.occ_tables.specs.Measuring.{limit_of, most as told_most, size_outcome as outcome_of_size, sized as told_size};
 ghost use Rattle.occ_types.specs.Constant.{greatest_of, least_of, value_of};
 
-use occ_base::{Code, Items, Shared};
-use occ_operands::{Fault, Kind, Outcome, int, known, landed, number, tell};
+use occ_base::{Code, Fault, Items, Shared, tell};
+use occ_operands::{Kind, Outcome, int, known, landed, number};
 use occ_types::{OccType, Primitive, Value, array_of, base_of, unnamed, value_of_number};
 use std::alloc::{AllocError, Global};
 

@@ -5,8 +5,8 @@ ghost use Rattle.std.specs.List.{list_any};
 ghost use Rattle.occ_tables.specs.Terms.{has_fault as fault_in, is_no_data as no_data, is_no_item as no_item, item as told_item, judged, judged_all};
 
 use super::term::Term;
-use occ_base::{Code, Items};
-use occ_operands::{Fault, Kind, is_faulty, tell};
+use occ_base::{Code, Fault, Items, tell};
+use occ_operands::{Kind, is_faulty};
 use occ_types::is_data;
 use std::alloc::AllocError;
 

@@ -1,6 +1,7 @@
 ghost use Rattle.std.specs.Prelude.{[], ◌∷◌, ◌≡◌, None, Some, negsuc, pos};
 ghost use Rattle.occ_base.specs.declared.code.Code.TheVariants as code;
-ghost use Rattle.occ_operands.specs.Settling.{fault_of, int, known, nameless};
+ghost use Rattle.occ_operands.specs.Settling.{fault_of, int, known};
+ghost use Rattle.occ_base.specs.Telling.{nameless};
 ghost use Rattle.occ_tables.specs.Decorating.{decorated_table};
 ghost use Rattle.occ_tables.specs.Dimensions.{size_of_kind};
 ghost use Rattle.occ_tables.specs.Measuring.{most, sized};

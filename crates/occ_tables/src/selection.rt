@@ -5,8 +5,8 @@ ghost use Rattle.occ_tables.specs.Terms.{judged};
 use super::dimension::number_in;
 use super::table::under;
 use super::term::Term;
-use occ_base::{Code, Items, Shared};
-use occ_operands::{Fault, Kind, int, is_faulty, known, tell};
+use occ_base::{Code, Fault, Items, Shared, tell};
+use occ_operands::{Kind, int, is_faulty, known};
 use occ_types::{OccType, array_of, unnamed};
 use std::alloc::{AllocError, Global};
 

@@ -9,8 +9,8 @@ ghost use Rattle.occ_types.specs.View.{as_array};
 use super::extent::arrayed;
 use super::merge::merged;
 use super::term::Term;
-use occ_base::{Code, Items, Shared};
-use occ_operands::{Fault, Kind, int, known, settled, tell, wanted};
+use occ_base::{Code, Fault, Items, Shared, tell};
+use occ_operands::{Kind, int, known, settled, wanted};
 use occ_types::{OccType, array_of};
 use std::alloc::{AllocError, Global};
 

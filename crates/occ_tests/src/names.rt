@@ -1,6 +1,5 @@
-use occ_base::{Code, Items, Name, Shared};
+use occ_base::{Code, Fault, Items, Name, Shared};
 use occ_names::{Access, Carried, Meaning, Scope, Whole, carries, data_type, element};
-use occ_operands::Fault;
 use occ_types::{OccType, Primitive, as_primitive};
 use std::alloc::{AllocError, Global};
 use std::test::Fail;

@@ -8,8 +8,9 @@ use Rattle.occ_types.specs.View.{as_primitive}
 use Rattle.occ_types.specs.declared.types.OccType.{OccType}
 use Rattle.occ_types.specs.declared.value.Value.{Value}
 use Rattle.occ_operands.specs.Operators.{is_bool, is_there}
-use Rattle.occ_operands.specs.Settling.{Told, fault_of, nameless, number, silent}
-use Rattle.occ_operands.specs.declared.kind.Fault.{Fault}
+use Rattle.occ_operands.specs.Settling.{Told, fault_of, number, silent}
+use Rattle.occ_base.specs.Telling.{nameless}
+use Rattle.occ_base.specs.declared.fault.Fault.{Fault}
 use Rattle.occ_operands.specs.declared.kind.Kind.{Kind}
 use Rattle.occ_operands.specs.declared.kind.Kind.TheVariants as k
 use Rattle.occ_tables.specs.Terms.{Judged, and_then}

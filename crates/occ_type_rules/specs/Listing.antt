@@ -1,7 +1,7 @@
 -- Names that are declared in one list.
 use Rattle.std.specs.Prelude.{ℕ, Option, Some, None, List, [], ◌∷◌, ◌++◌}
 use Rattle.occ_base.specs.declared.code.Code.TheVariants as code
-use Rattle.occ_operands.specs.declared.kind.Fault.{Fault}
+use Rattle.occ_base.specs.declared.fault.Fault.{Fault}
 use Rattle.occ_scope.specs.Nearest.{nearest}
 
 -- a name, and where it stood last in the list before

@@ -3,7 +3,7 @@ use Rattle.std.specs.Prelude.{Bool, ◌||◌, List, ◌++◌}
 use Rattle.std.specs.List.{list_any}
 use Rattle.occ_operands.specs.Operators.{all_faults, is_faulty, kinds}
 use Rattle.occ_operands.specs.Settling.{Told}
-use Rattle.occ_operands.specs.declared.kind.Fault.{Fault}
+use Rattle.occ_base.specs.declared.fault.Fault.{Fault}
 use Rattle.occ_tables.specs.Decorating.{number_faults}
 
 abbrev pub any_faulty : List Told → Bool

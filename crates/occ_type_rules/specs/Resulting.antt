@@ -3,8 +3,8 @@ use Rattle.std.specs.Prelude.{◌==◌, false, List, [], ◌∷◌, ◌++◌, No
 use Rattle.occ_base.specs.declared.code.Code.TheVariants as code
 use Rattle.occ_types.specs.Fits.{is_data}
 use Rattle.occ_types.specs.declared.types.OccType.{OccType}
-use Rattle.occ_operands.specs.Settling.{nameless}
-use Rattle.occ_operands.specs.declared.kind.Fault.{Fault}
+use Rattle.occ_base.specs.Telling.{nameless}
+use Rattle.occ_base.specs.declared.fault.Fault.{Fault}
 use Rattle.occ_names.specs.Lookup.{Found, good}
 use Rattle.occ_tables.specs.Terms.{Judged}
 use Rattle.occ_type_rules.specs.Abbreviating.{abbreviated}

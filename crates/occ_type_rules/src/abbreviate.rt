@@ -4,8 +4,8 @@ ghost use Rattle.occ_tables.specs.Merging.{filled as filled_from};
 ghost use Rattle.occ_tables.specs.Terms.{judged};
 ghost use Rattle.occ_types.specs.Fits.{fits};
 
-use occ_base::{Code, Items, Shared};
-use occ_operands::{Fault, Kind, known, tell};
+use occ_base::{Code, Fault, Items, Shared, tell};
+use occ_operands::{Kind, known};
 use occ_tables::{Term, alone, merged, under};
 use occ_types::{OccType, is_data};
 use std::alloc::{AllocError, Global};

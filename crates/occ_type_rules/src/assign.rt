@@ -6,9 +6,9 @@ ghost use Rattle.occ_tables.specs.Terms.{judged, judged_all};
 
 use super::abbreviate::for_no_data;
 use super::count::{of_another_number, targets_held};
-use occ_base::{Code, Items, Name, Shared};
+use occ_base::{Code, Fault, Items, Name, Shared};
 use occ_names::{Access, Whole};
-use occ_operands::{Fault, Kind};
+use occ_operands::Kind;
 use occ_tables::{Term, under};
 use occ_types::{OccType, is_data};
 use std::alloc::{AllocError, Global};

@@ -4,8 +4,8 @@ ghost use Rattle.occ_operands.specs.Settling.{number as number_base};
 ghost use Rattle.occ_type_rules.specs.Choosing.{chosen as told_chosen, condition as told_condition, no_condition as told_no_condition, option as told_option, option_of as told_option_of, options as told_options, selecting as told_selecting, selector as told_selector};
 ghost use Rattle.occ_tables.specs.Terms.{judged, judged_all};
 
-use occ_base::{Code, Items, Shared};
-use occ_operands::{Fault, Kind, number, tell};
+use occ_base::{Code, Fault, Items, Shared, tell};
+use occ_operands::{Kind, number};
 use occ_tables::{Term, alone, under};
 use occ_types::{OccType, Primitive, Value, as_primitive};
 use std::alloc::{AllocError, Global};

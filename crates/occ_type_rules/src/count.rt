@@ -5,8 +5,8 @@ ghost use Rattle.occ_type_rules.specs.Numbering.{any_faulty, of_another_number a
 ghost use Rattle.occ_tables.specs.Terms.{judged_all};
 
 use super::abbreviate::abbreviated;
-use occ_base::{Code, Items};
-use occ_operands::{Fault, Kind, is_faulty, tell};
+use occ_base::{Code, Fault, Items, tell};
+use occ_operands::{Kind, is_faulty};
 use occ_tables::Term;
 use occ_types::is_data;
 use std::alloc::{AllocError, Global};

@@ -1,8 +1,7 @@
 ghost use Rattle.std.specs.Prelude.{◌≡◌, ◌++◌, OnOk};
 ghost use Rattle.occ_type_rules.specs.Listing.{repetition, repetitions};
 
-use occ_base::{Code, Items, Name};
-use occ_operands::Fault;
+use occ_base::{Code, Fault, Items, Name};
 use occ_scope::Scopes;
 use std::alloc::{AllocError, Global};
 

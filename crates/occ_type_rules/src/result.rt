@@ -5,8 +5,7 @@ ghost use Rattle.occ_type_rules.specs.Resulting.{each_under as told_each_under, 
 ghost use Rattle.occ_tables.specs.Terms.{judged_all};
 
 use super::count::of_another_number;
-use occ_base::{Code, Items, Shared};
-use occ_operands::{Fault, tell};
+use occ_base::{Code, Fault, Items, Shared, tell};
 use occ_tables::{Term, under};
 use occ_types::{OccType, is_data};
 use std::alloc::{AllocError, Global};

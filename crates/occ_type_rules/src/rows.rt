@@ -2,7 +2,8 @@ ghost use Rattle.std.specs.Prelude.{[], ◌∷◌, ◌≡◌, None, Some, false,
 ghost use Rattle.occ_base.specs.declared.code.Code.TheVariants as code;
 ghost use Rattle.occ_names.specs.declared.meaning.Access.TheVariants as access;
 ghost use Rattle.occ_operands.specs.declared.kind.Kind.TheVariants as k;
-ghost use Rattle.occ_operands.specs.Settling.{fault_of, int, known, nameless, silent};
+ghost use Rattle.occ_operands.specs.Settling.{fault_of, int, known, silent};
+ghost use Rattle.occ_base.specs.Telling.{nameless};
 ghost use Rattle.occ_type_rules.specs.Abbreviating.{misplaced};
 ghost use Rattle.occ_type_rules.specs.Assigning.{assigned, pair, target};
 ghost use Rattle.occ_type_rules.specs.Choosing.{option_of};

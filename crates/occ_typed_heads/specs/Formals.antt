@@ -8,7 +8,7 @@ use Rattle.occ_names.specs.declared.meaning.Access.TheVariants as access
 use Rattle.occ_names.specs.declared.meaning.Entry.{Entry}
 use Rattle.occ_names.specs.declared.meaning.Meaning.{Meaning}
 use Rattle.occ_names.specs.declared.meaning.Meaning.TheVariants as m
-use Rattle.occ_names.specs.declared.meaning.Parameter.{Parameter}
+use Rattle.occ_types.specs.declared.interface.Formal.{Formal}
 use Rattle.occ_typed_heads.specs.Knowing.{is_known}
 use Rattle.occ_typed_heads.specs.declared.formal.HeadFormal.{HeadFormal}
 
@@ -41,10 +41,10 @@ entries known [] = []
 entries known (x ∷ xs) = entry known x ∷ entries known xs
 
 -- to a call, if its type is known
-abbrev pub parameter : Option OccType → Passing → List Parameter
-parameter None by = []
-parameter (Some of) by = (record { of = of; passing = by }) ∷ []
+abbrev pub called_formal : Option OccType → Passing → List Formal
+called_formal None by = []
+called_formal (Some of) by = (record { of = of; passing = by }) ∷ []
 
-abbrev pub parameters : List HeadFormal → List Parameter
-parameters [] = []
-parameters (x ∷ xs) = parameter x.of x.passing ++ parameters xs
+abbrev pub called_formals : List HeadFormal → List Formal
+called_formals [] = []
+called_formals (x ∷ xs) = called_formal x.of x.passing ++ called_formals xs

@@ -3,7 +3,7 @@
 use Rattle.std.specs.Prelude.{ℕ, List, [], ◌∷◌, ◌++◌}
 use Rattle.occ_types.specs.declared.interface.Passing.{Passing}
 use Rattle.occ_types.specs.declared.interface.Passing.TheVariants as passing
-use Rattle.occ_operands.specs.declared.kind.Fault.{Fault}
+use Rattle.occ_base.specs.declared.fault.Fault.{Fault}
 use Rattle.occ_names.specs.declared.scope.Scope.{Scope}
 use Rattle.occ_expression_forms.specs.declared.tree.TypeForm.{TypeForm}
 use Rattle.occ_specification_forms.specs.declared.tree.FormalGroup.{FormalGroup}

@@ -2,13 +2,13 @@
 -- something faulty, and then all formals and the name are faulty.
 use Rattle.std.specs.Prelude.{Bool, true, false, ◌&&◌, Option, Some, None, List, [], ◌∷◌, ◌++◌}
 use Rattle.occ_types.specs.declared.types.OccType.{OccType}
-use Rattle.occ_operands.specs.declared.kind.Fault.{Fault}
+use Rattle.occ_base.specs.declared.fault.Fault.{Fault}
 use Rattle.occ_names.specs.declared.meaning.Meaning.{Meaning}
 use Rattle.occ_names.specs.declared.meaning.Meaning.TheVariants as m
 use Rattle.occ_names.specs.declared.scope.Scope.{Scope}
 use Rattle.occ_specification_forms.specs.declared.tree.FormalGroup.{FormalGroup}
 use Rattle.occ_specification_forms.specs.declared.tree.FunctionHead.{FunctionHead}
-use Rattle.occ_typed_heads.specs.Formals.{all_known, entries, parameters}
+use Rattle.occ_typed_heads.specs.Formals.{all_known, entries, called_formals}
 use Rattle.occ_typed_heads.specs.Groups.{groups, values}
 use Rattle.occ_typed_heads.specs.Knowing.{all_found, known_types, unless_told}
 use Rattle.occ_typed_heads.specs.Results.{results}
@@ -23,7 +23,7 @@ pub record Headed : Type 0 where
 -- ---- of a procedure
 
 abbrev pub procedure_meaning : Bool → List HeadFormal → Meaning
-procedure_meaning true xs = m.Procedure (parameters xs)
+procedure_meaning true xs = m.Procedure (called_formals xs)
 procedure_meaning false xs = m.Faulty
 
 abbrev pub procedure_heading : Bool → List HeadFormal → Heading
@@ -37,7 +37,7 @@ procedure s formals =
 -- ---- of a function
 
 abbrev pub function_meaning : Bool → List HeadFormal → List (Option OccType) → Meaning
-function_meaning true xs types = m.Function (parameters xs) (known_types types)
+function_meaning true xs types = m.Function (called_formals xs) (known_types types)
 function_meaning false xs types = m.Faulty
 
 -- nothing is compared with the results of a head with a fault

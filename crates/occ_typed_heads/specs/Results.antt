@@ -1,7 +1,7 @@
 -- The types of the results of a FUNCTION, each a type of data in which no `[]` stands.
 use Rattle.std.specs.Prelude.{Option, List, [], ◌∷◌, ◌++◌}
 use Rattle.occ_types.specs.declared.types.OccType.{OccType}
-use Rattle.occ_operands.specs.declared.kind.Fault.{Fault}
+use Rattle.occ_base.specs.declared.fault.Fault.{Fault}
 use Rattle.occ_names.specs.declared.scope.Scope.{Scope}
 use Rattle.occ_expression_forms.specs.declared.tree.TypeForm.{TypeForm}
 use Rattle.occ_typed_specifications.specs.Defining.{data_form_type}

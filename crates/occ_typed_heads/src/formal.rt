@@ -1,10 +1,10 @@
 ghost use Rattle.std.specs.Prelude.{◌≡◌, ◌∷◌, ◌++◌, [], IfOk, OnOk};
-ghost use Rattle.occ_typed_heads.specs.Formals.{access_of as the_access, all_known as all_are_known, as_element as told_element, each_of as told_each, entries as told_entries, entry as told_entry, parameter as told_parameter, parameters as told_parameters};
+ghost use Rattle.occ_typed_heads.specs.Formals.{access_of as the_access, all_known as all_are_known, as_element as told_element, each_of as told_each, entries as told_entries, entry as told_entry, called_formal as told_called_formal, called_formals as told_called_formals};
 
 use super::result_type::is_known;
 use occ_base::{Items, Name, Shared};
-use occ_names::{Access, Entry, Meaning, Parameter, Whole};
-use occ_types::{OccType, Passing};
+use occ_names::{Access, Entry, Meaning, Whole};
+use occ_types::{Formal, OccType, Passing};
 use std::alloc::{AllocError, Global};
 
 /// A formal of a head, and the type of its group, if that is known.
@@ -125,29 +125,29 @@ pub fn entries(alloc: Global, known: bool, formals: &[HeadFormal]) -> Result<Ite
 }
 
 /// A formal as a call sees it, if its type is known.
-fn push_parameter(
+fn push_called(
     of: &Option<Shared<OccType>>,
     passing: Passing,
-    parameters: &mut Items<Parameter>,
+    called: &mut Items<Formal>,
 ) -> Result<(), AllocError>
-    ensures { OnOk result (parameters.new ≡ parameters.old ++ told_parameter of.now passing) }
+    ensures { OnOk result (called.new ≡ called.old ++ told_called_formal of.now passing) }
 {
     match of {
         None => Ok(()),
         Some(of) => {
             let of = of.share()?;
-            parameters.push(Parameter { of, passing })
+            called.push(Formal { of, passing })
         }
     }
 }
 
 /// The formals as a call sees them, of those whose type is known.
-pub fn parameters(alloc: Global, formals: &[HeadFormal]) -> Result<Items<Parameter>, AllocError>
-    ensures { IfOk result (λ parameters. parameters ≡ told_parameters formals.now) }
+pub fn called_formals(alloc: Global, formals: &[HeadFormal]) -> Result<Items<Formal>, AllocError>
+    ensures { IfOk result (λ called. called ≡ told_called_formals formals.now) }
 {
-    let mut parameters = Items::new(alloc);
+    let mut called = Items::new(alloc);
     for one in formals {
-        push_parameter(&one.of, one.passing, &mut parameters)?;
+        push_called(&one.of, one.passing, &mut called)?;
     }
-    Ok(parameters)
+    Ok(called)
 }

@@ -1,13 +1,12 @@
 ghost use Rattle.std.specs.Prelude.{◌≡◌, ◌++◌, IfOk, OnOk};
 ghost use Rattle.occ_typed_heads.specs.Heads.{function, function_heading as told_heading, function_meaning as told_meaning, function_results as told_results, types_known as types_are_known};
 
-use super::formal::{HeadFormal, all_known, entries, parameters};
+use super::formal::{HeadFormal, all_known, entries, called_formals};
 use super::group::value_groups;
 use super::heading::Heading;
 use super::result_type::{all_found, known_types, result_types, unless_told};
-use occ_base::{Items, Shared};
+use occ_base::{Fault, Items, Shared};
 use occ_names::{Meaning, Scope};
-use occ_operands::Fault;
 use occ_specification_forms::FunctionHead;
 use occ_types::OccType;
 use std::alloc::{AllocError, Global};
@@ -22,7 +21,7 @@ fn function_meaning(
     ensures { IfOk result (λ meaning. meaning ≡ told_meaning known formals.now types.now) }
 {
     if known {
-        let formals = parameters(alloc, formals)?;
+        let formals = called_formals(alloc, formals)?;
         let types = known_types(alloc, types)?;
         return Ok(Meaning::Function(formals, types));
     }

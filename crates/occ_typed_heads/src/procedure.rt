@@ -1,13 +1,12 @@
 ghost use Rattle.std.specs.Prelude.{◌≡◌, ◌++◌, IfOk, OnOk};
 ghost use Rattle.occ_typed_heads.specs.Heads.{procedure, procedure_heading as told_heading, procedure_meaning as told_meaning};
 
-use super::formal::{HeadFormal, all_known, entries, parameters};
+use super::formal::{HeadFormal, all_known, entries, called_formals};
 use super::group::groups;
 use super::heading::Heading;
 use super::result_type::unless_told;
-use occ_base::Items;
+use occ_base::{Fault, Items};
 use occ_names::{Meaning, Scope};
-use occ_operands::Fault;
 use occ_specification_forms::FormalGroup;
 use std::alloc::{AllocError, Global};
 
@@ -16,7 +15,7 @@ fn procedure_meaning(alloc: Global, known: bool, formals: &[HeadFormal]) -> Resu
     ensures { IfOk result (λ meaning. meaning ≡ told_meaning known formals.now) }
 {
     if known {
-        return Ok(Meaning::Procedure(parameters(alloc, formals)?));
+        return Ok(Meaning::Procedure(called_formals(alloc, formals)?));
     }
     Ok(Meaning::Faulty)
 }

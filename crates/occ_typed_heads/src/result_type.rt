@@ -2,11 +2,10 @@ ghost use Rattle.std.specs.Prelude.{◌≡◌, ◌∷◌, ◌++◌, [], IfOk, On
 ghost use Rattle.occ_typed_heads.specs.Knowing.{all_found as all_are_found, is_known as type_is_known, known_type as the_known_type, known_types as the_known_types, unless_told as known_unless_told};
 ghost use Rattle.occ_typed_heads.specs.Results.{results as told_results};
 
-use occ_base::{Items, Shared};
+use occ_base::{Fault, Items, Shared};
 use occ_typed_specifications::data_form_type;
 use occ_expression_forms::TypeForm;
 use occ_names::Scope;
-use occ_operands::Fault;
 use occ_types::OccType;
 use std::alloc::{AllocError, Global};
 

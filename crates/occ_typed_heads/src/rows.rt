@@ -1,5 +1,5 @@
 ghost use Rattle.std.specs.Prelude.{[], ◌∷◌, ◌≡◌, None, Some, false, true};
-ghost use Rattle.occ_typed_heads.specs.Formals.{entries, parameters};
+ghost use Rattle.occ_typed_heads.specs.Formals.{entries, called_formals};
 ghost use Rattle.occ_typed_heads.specs.Heads.{function_heading, procedure};
 ghost use Rattle.occ_names.specs.declared.meaning.Access.TheVariants as access;
 ghost use Rattle.occ_names.specs.declared.meaning.Meaning.TheVariants as m;
@@ -16,7 +16,7 @@ pub fn procedure_rows()
 /// The formal `VAL INT x`, where `x` is 120, in the body and to a call; in the body of a head with a fault it is faulty.
 pub fn formal_rows()
     ensures known { entries true ((record { name = 120 ∷ []; of = Some int; passing = passing.Value }) ∷ []) ≡ (record { name = 120 ∷ []; meaning = m.Element (record { of = int; access = access.Formal; value = None; root = 120 ∷ [] }) }) ∷ [] }
-    ensures called { parameters ((record { name = 120 ∷ []; of = Some int; passing = passing.Value }) ∷ []) ≡ (record { of = int; passing = passing.Value }) ∷ [] }
+    ensures called { called_formals ((record { name = 120 ∷ []; of = Some int; passing = passing.Value }) ∷ []) ≡ (record { of = int; passing = passing.Value }) ∷ [] }
     ensures faulty { entries false ((record { name = 120 ∷ []; of = Some int; passing = passing.Value }) ∷ []) ≡ (record { name = 120 ∷ []; meaning = m.Faulty }) ∷ [] }
 {}
 

@@ -1,7 +1,7 @@
 -- What a line adds to the names in scope.
 use Rattle.std.specs.Prelude.{Option, None, List, [], ◌∷◌}
 use Rattle.occ_names.specs.declared.meaning.Entry.{Entry}
-use Rattle.occ_operands.specs.declared.kind.Fault.{Fault}
+use Rattle.occ_base.specs.declared.fault.Fault.{Fault}
 
 -- the faults of a line, and what comes into scope by it
 pub record Declared : Type 0 where

@@ -1,8 +1,8 @@
 -- Types that are no data by their form: channels and timers, and arrays of them.
 use Rattle.std.specs.Prelude.{Bool, true, false, List, [], ◌∷◌, if◌then◌else◌}
 use Rattle.occ_base.specs.declared.code.Code.TheVariants as code
-use Rattle.occ_operands.specs.Settling.{nameless}
-use Rattle.occ_operands.specs.declared.kind.Fault.{Fault}
+use Rattle.occ_base.specs.Telling.{nameless}
+use Rattle.occ_base.specs.declared.fault.Fault.{Fault}
 use Rattle.occ_expression_forms.specs.declared.tree.Bounds.{Bounds}
 use Rattle.occ_expression_forms.specs.declared.tree.Bounds.TheOpen.{Builtin-F, TypeForm-F}
 use Rattle.occ_expression_forms.specs.declared.tree.Builtin.{Builtin, out-Builtin}

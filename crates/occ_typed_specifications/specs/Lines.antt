@@ -1,7 +1,7 @@
 -- Lines that typing does not know yet.
 use Rattle.std.specs.Prelude.{ℕ, List, [], ◌∷◌}
 use Rattle.occ_base.specs.declared.code.Code.TheVariants as code
-use Rattle.occ_operands.specs.Settling.{nameless}
+use Rattle.occ_base.specs.Telling.{nameless}
 use Rattle.occ_names.specs.declared.meaning.Meaning.TheVariants as m
 use Rattle.occ_typed_specifications.specs.Entering.{Declared}
 

@@ -2,8 +2,9 @@
 use Rattle.std.specs.Prelude.{ℕ, Option, Some, None, List, [], ◌∷◌, ◌++◌, if◌then◌else◌}
 use Rattle.occ_base.specs.declared.code.Code.TheVariants as code
 use Rattle.occ_types.specs.declared.types.OccType.{OccType}
-use Rattle.occ_operands.specs.Settling.{Told, nameless, silent}
-use Rattle.occ_operands.specs.declared.kind.Fault.{Fault}
+use Rattle.occ_operands.specs.Settling.{Told, silent}
+use Rattle.occ_base.specs.Telling.{nameless}
+use Rattle.occ_base.specs.declared.fault.Fault.{Fault}
 use Rattle.occ_operands.specs.declared.kind.Kind.{Kind}
 use Rattle.occ_operands.specs.declared.kind.Kind.TheVariants as k
 use Rattle.occ_names.specs.declared.meaning.Access.TheVariants as access

@@ -5,11 +5,10 @@ ghost use Rattle.occ_type_rules.specs.Listing.{repetitions};
 
 use super::form::tell_no_data;
 use super::told::unless_told;
-use occ_base::{Items, Name, Shared};
+use occ_base::{Fault, Items, Name, Shared};
 use occ_expr::{Opening, type_form};
 use occ_expression_forms::TypeForm;
 use occ_names::{Access, Entry, Meaning, Scope, Whole};
-use occ_operands::Fault;
 use occ_type_rules::repeated;
 use occ_scope::Scopes;
 use occ_types::OccType;

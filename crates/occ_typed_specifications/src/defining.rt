@@ -5,11 +5,10 @@ ghost use Rattle.occ_expr.specs.Written.{limited as told_limited};
 ghost use Rattle.std.specs.Prelude.{Some};
 
 use super::told::unless_told;
-use occ_base::{Code, Items, Name, Shared};
+use occ_base::{Code, Fault, Items, Name, Shared, tell};
 use occ_expr::{Opening, type_form};
 use occ_expression_forms::TypeForm;
 use occ_names::{Entry, Meaning, Scope, one_entry};
-use occ_operands::{Fault, tell};
 use occ_type_rules::of_data;
 use occ_tables::is_too_large;
 use occ_types::OccType;

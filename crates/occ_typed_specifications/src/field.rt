@@ -5,10 +5,9 @@ ghost use Rattle.occ_type_rules.specs.Listing.{repetitions};
 
 use super::defining::data_form_type;
 use super::told::unless_told;
-use occ_base::{Items, Name, Shared};
+use occ_base::{Fault, Items, Name, Shared};
 use occ_expression_forms::TypeForm;
 use occ_names::Scope;
-use occ_operands::Fault;
 use occ_type_rules::repeated;
 use occ_scope::Scopes;
 use occ_types::{Field, OccType};

@@ -3,9 +3,8 @@
 ghost use Rattle.std.specs.Prelude.{◌≡◌, ◌++◌, OnOk};
 ghost use Rattle.occ_typed_specifications.specs.Forms.{is_no_data as form_of_no_data, no_data_faults, no_data_word as word_of_no_data};
 
-use occ_base::{Code, Items};
+use occ_base::{Code, Fault, Items, tell};
 use occ_expression_forms::{Builtin, TypeForm};
-use occ_operands::{Fault, tell};
 use std::alloc::AllocError;
 
 /// Whether a type that begins with a reserved word is a channel or a timer.

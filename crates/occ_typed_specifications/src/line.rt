@@ -1,9 +1,8 @@
 ghost use Rattle.std.specs.Prelude.{◌≡◌, ◌++◌, IfOk, OnOk};
 ghost use Rattle.occ_typed_specifications.specs.Lines.{unknown as told_unknown};
 
-use occ_base::{Code, Items, Name};
+use occ_base::{Code, Fault, Items, Name, tell};
 use occ_names::{Entry, Meaning, one_entry};
-use occ_operands::{Fault, tell};
 use std::alloc::{AllocError, Global};
 
 /// S1 is told of a line that typing does not know yet, and the name that it specifies is faulty.

@@ -2,9 +2,8 @@ ghost use Rattle.std.specs.Prelude.{◌≡◌, ◌++◌, IfOk, OnOk};
 ghost use Rattle.occ_typed_specifications.specs.Recording.{recorded};
 
 use super::defining::{type_name, with_name};
-use occ_base::{Items, Name, Shared};
+use occ_base::{Fault, Items, Name, Shared};
 use occ_names::Meaning;
-use occ_operands::Fault;
 use occ_types::{Field, OccType, Packing};
 use std::alloc::{AllocError, Global};
 

@@ -5,7 +5,8 @@ ghost use Rattle.occ_typed_specifications.specs.Fields.{each_of, field_type};
 ghost use Rattle.occ_base.specs.declared.code.Code.TheVariants as code;
 ghost use Rattle.occ_names.specs.declared.meaning.Access.TheVariants as access;
 ghost use Rattle.occ_names.specs.declared.meaning.Meaning.TheVariants as m;
-ghost use Rattle.occ_operands.specs.Settling.{int, nameless};
+ghost use Rattle.occ_operands.specs.Settling.{int};
+ghost use Rattle.occ_base.specs.Telling.{nameless};
 ghost use Rattle.occ_types.specs.declared.types.OccType.TheVariants as t;
 
 /// `INT x, y:`, where `x` is 120 and `y` is 121, of a line without a fault, and of one that told T5: there both are

@@ -1,8 +1,7 @@
 ghost use Rattle.std.specs.Prelude.{◌≡◌};
 ghost use Rattle.occ_typed_specifications.specs.Entering.{unless_told as known_unless_told};
 
-use occ_base::{Items, Shared};
-use occ_operands::Fault;
+use occ_base::{Fault, Items, Shared};
 use occ_types::OccType;
 
 /// The type, if the line told nothing.

@@ -3,11 +3,11 @@ ghost use Rattle.occ_typed_specifications.specs.Valuing.{kind_unless_told as kno
 ghost use Rattle.occ_tables.specs.Terms.{judged};
 
 use super::mention::expr_mentions;
-use occ_base::{Code, Items, Name, Shared};
+use occ_base::{Code, Fault, Items, Name, Shared, tell};
 use occ_expr::{Opening, expression, type_form};
 use occ_expression_forms::{Expr, TypeForm};
 use occ_names::{Access, Entry, Meaning, Scope, Whole, one_entry};
-use occ_operands::{Fault, Kind, tell};
+use occ_operands::Kind;
 use occ_type_rules::{abbreviated, abbreviated_as};
 use occ_tables::Term;
 use occ_types::OccType;

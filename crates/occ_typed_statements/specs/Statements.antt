@@ -5,7 +5,7 @@ use Rattle.std.specs.BTreeSet.{BTreeSet}
 use Rattle.occ_types.specs.declared.types.OccType.{OccType}
 use Rattle.occ_operands.specs.Operators.{all_faults, kinds}
 use Rattle.occ_operands.specs.Settling.{Told}
-use Rattle.occ_operands.specs.declared.kind.Fault.{Fault}
+use Rattle.occ_base.specs.declared.fault.Fault.{Fault}
 use Rattle.occ_operands.specs.declared.kind.Kind.{Kind}
 use Rattle.occ_operands.specs.declared.kind.Kind.TheVariants as k
 use Rattle.occ_names.specs.declared.scope.Scope.{Scope}

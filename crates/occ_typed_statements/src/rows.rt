@@ -8,7 +8,7 @@ ghost use Rattle.occ_names.specs.Visible.{entered, nothing};
 ghost use Rattle.occ_names.specs.declared.meaning.Access.TheVariants as access;
 ghost use Rattle.occ_names.specs.declared.meaning.Meaning.TheVariants as m;
 ghost use Rattle.occ_names.specs.declared.scope.Scope.{Scope};
-ghost use Rattle.occ_operands.specs.Settling.{nameless};
+ghost use Rattle.occ_base.specs.Telling.{nameless};
 ghost use Rattle.occ_typed_statements.specs.Statements.{assignment, condition};
 ghost use Rattle.occ_types.specs.declared.types.OccType.TheVariants as t;
 ghost use Rattle.occ_types.specs.declared.value.Primitive.TheVariants as p;

@@ -3,11 +3,11 @@ ghost use Rattle.occ_expr.specs.Parts.{own_faults, terms as terms_of};
 ghost use Rattle.occ_typed_statements.specs.Statements.{assignment as told_assignment, condition as told_condition, is_any_faulty, options as told_options, results as told_results, said, selector as told_selector};
 
 use super::target::targets;
-use occ_base::{Items, Shared};
+use occ_base::{Fault, Items, Shared};
 use occ_expr::expression;
 use occ_expression_forms::{Element, Expr};
 use occ_names::Scope;
-use occ_operands::{Fault, Kind};
+use occ_operands::Kind;
 use occ_type_rules::{
     assigned, condition as judge_condition, options as choose, results as compare,
     selector as select,

@@ -3,11 +3,11 @@ ghost use Rattle.occ_names.specs.Visible.{visible};
 ghost use Rattle.occ_operands.specs.Operators.{all_faults, kinds as kinds_of};
 ghost use Rattle.occ_typed_statements.specs.Targets.{reached as told_reached, root as root_of, target_of as told_target, targets as told_targets};
 
-use occ_base::{Items, Name};
+use occ_base::{Fault, Items, Name};
 use occ_expr::element;
 use occ_expression_forms::Element;
 use occ_names::{Meaning, Scope};
-use occ_operands::{Fault, Kind};
+use occ_operands::Kind;
 use occ_type_rules::target;
 use std::alloc::{AllocError, Global};
 

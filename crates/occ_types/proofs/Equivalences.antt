@@ -1,7 +1,7 @@
 -- To be the same is an equivalence, of types, protocols and interfaces.
 use Rattle.std.proofs.Common.{◌≡◌, List, [], ◌∷◌, refl, sym, ◌∙◌}
 use Rattle.std.specs.List.{AllZip}
-use Rattle.occ_types.specs.Interface.{IsEquivalence, IsSameSet, IsSameFormal, IsSameExport, IsSameInterface}
+use Rattle.occ_types.specs.Interface.{IsEquivalence, IsSameSet, IsSameExport, IsSameInterface}
 
 pub equality : {X : Type 0} → IsEquivalence {X = X} (λ a b. a ≡ b)
 equality = record { reflexive = λ a. refl; symmetric = λ a b e. sym e; transitive = λ a b c e f. e ∙ f }
@@ -34,28 +34,18 @@ zip_transitive R is (x ∷ xs) (y ∷ ys) (z ∷ zs) h k = (is.transitive x y z 
 zip : {X : Type 0} (R : X → X → Type 0) → IsEquivalence R → IsEquivalence (AllZip R)
 zip R is = record { reflexive = zip_reflexive R is; symmetric = zip_symmetric R is; transitive = zip_transitive R is }
 
-same_formal : IsEquivalence IsSameFormal
-same_formal =
-    record {
-      reflexive = λ a. record { of = refl; passing = refl; uses = same_set.reflexive a.uses };
-      symmetric = λ a b s. record { of = sym s.of; passing = sym s.passing; uses = same_set.symmetric a.uses b.uses s.uses };
-      transitive = λ a b c s t. record { of = s.of ∙ t.of; passing = s.passing ∙ t.passing; uses = same_set.transitive a.uses b.uses c.uses s.uses t.uses };
-    }
-
-same_formals : IsEquivalence (AllZip IsSameFormal)
-same_formals = zip IsSameFormal same_formal
-
 same_export : IsEquivalence IsSameExport
 same_export =
     record {
-      reflexive = λ a. record { name = refl; kind = refl; formals = same_formals.reflexive a.formals; results = refl; effect = refl };
-      symmetric = λ a b s. record { name = sym s.name; kind = sym s.kind; formals = same_formals.symmetric a.formals b.formals s.formals; results = sym s.results; effect = sym s.effect };
+      reflexive = λ a. record { name = refl; kind = refl; formals = refl; results = refl; uses = same_set.reflexive a.uses; effect = refl };
+      symmetric = λ a b s. record { name = sym s.name; kind = sym s.kind; formals = sym s.formals; results = sym s.results; uses = same_set.symmetric a.uses b.uses s.uses; effect = sym s.effect };
       transitive = λ a b c s t.
           record {
             name = s.name ∙ t.name;
             kind = s.kind ∙ t.kind;
-            formals = same_formals.transitive a.formals b.formals c.formals s.formals t.formals;
+            formals = s.formals ∙ t.formals;
             results = s.results ∙ t.results;
+            uses = same_set.transitive a.uses b.uses c.uses s.uses t.uses;
             effect = s.effect ∙ t.effect;
           };
     }

@@ -1,9 +1,8 @@
--- When two interfaces are the same: they have the same exports, one by one. Of the uses of a formal it counts which
+-- When two interfaces are the same: they have the same exports, one by one. Of the uses of formals it counts which
 -- there are, and neither their order nor how often each stands in the list.
 use Rattle.std.specs.Prelude.{◌≡◌, List}
 use Rattle.std.specs.List.{AllZip, Contains}
 use Rattle.occ_types.specs.declared.interface.Export.{Export}
-use Rattle.occ_types.specs.declared.interface.Formal.{Formal}
 use Rattle.occ_types.specs.declared.interface.Interface.{Interface}
 
 abbrev pub IsWithin : {X : Type 0} → List X → List X → Type 0
@@ -14,16 +13,12 @@ pub record IsSameSet {X : Type 0} (xs ys : List X) : Type 0 where
   pub there : IsWithin xs ys
   pub back : IsWithin ys xs
 
-pub record IsSameFormal (a b : Formal) : Type 0 where
-  pub of : a.of ≡ b.of
-  pub passing : a.passing ≡ b.passing
-  pub uses : IsSameSet a.uses b.uses
-
 pub record IsSameExport (a b : Export) : Type 0 where
   pub name : a.name ≡ b.name
   pub kind : a.kind ≡ b.kind
-  pub formals : AllZip IsSameFormal a.formals b.formals
+  pub formals : a.formals ≡ b.formals
   pub results : a.results ≡ b.results
+  pub uses : IsSameSet a.uses b.uses
   pub effect : a.effect ≡ b.effect
 
 abbrev pub IsSameInterface : Interface → Interface → Type 0

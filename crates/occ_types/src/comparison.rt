@@ -1,13 +1,13 @@
 ghost use Rattle.std.specs.Prelude.{IsTrue, ◌≡◌, ◌↔◌};
 ghost use Rattle.std.specs.List.{AllZip, Contains};
-ghost use Rattle.occ_types.specs.Interface.{IsSameExport, IsSameFormal, IsSameInterface, IsSameSet, IsWithin};
+ghost use Rattle.occ_types.specs.Interface.{IsSameExport, IsSameInterface, IsSameSet, IsWithin};
 
-use super::{Export, Formal, Interface, OccType, Selector, Use, same_type};
-use occ_base::Items;
+use super::{Export, Formal, FormalUse, Interface, OccType, PartSelector, same_type};
+use occ_base::{Items, Shared};
 
-/// Whether two interfaces are the same: the same exports in the same order, where the uses of a formal are compared
-/// as sets. It goes once through both where their uses stand in one order; else, for each formal, as often as there
-/// are pairs of its uses.
+/// Whether two interfaces are the same: the same exports in the same order, where the uses of formals are compared as
+/// sets. It goes once through both where their uses stand in one order; else, for each export, as often as there are
+/// pairs of its uses.
 pub fn same_interface(a: &Interface, b: &Interface) -> bool
     ensures { IsTrue result ↔ IsSameInterface a.now b.now }
 {
@@ -45,70 +45,77 @@ impl Same for Export {
     fn same(&self, other: &Export) -> bool {
         self.name == other.name
             && self.kind == other.kind
-            && all_same(&self.formals, &other.formals)
+            && same_formals(&self.formals, &other.formals)
             && same_types(&self.results, &other.results)
+            && same_uses(&self.uses, &other.uses)
             && self.effect == other.effect
     }
 }
 
 impl Same for Formal {
-    ghost is_same = { IsSameFormal };
+    ghost is_same = { λ a b. a ≡ b };
 
     fn same(&self, other: &Formal) -> bool {
-        self.of.same(&other.of)
-            && self.passing == other.passing
-            && same_uses(&self.uses, &other.uses)
+        self.of.same(&other.of) && self.passing == other.passing
     }
 }
 
-impl Same for OccType {
+impl Same for Shared<OccType> {
     ghost is_same = { λ a b. a ≡ b };
 
-    fn same(&self, other: &OccType) -> bool {
-        same_type(self, other)
+    fn same(&self, other: &Shared<OccType>) -> bool {
+        same_type(self.get(), other.get())
     }
 }
 
-impl Same for Use {
+impl Same for FormalUse {
     ghost is_same = { λ a b. a ≡ b };
 
-    fn same(&self, other: &Use) -> bool {
-        self.kind == other.kind && same_selectors(&self.selectors, &other.selectors)
+    fn same(&self, other: &FormalUse) -> bool {
+        self.formal == other.formal
+            && self.kind == other.kind
+            && same_selectors(&self.selectors, &other.selectors)
     }
 }
 
-impl Same for Selector {
+impl Same for PartSelector {
     ghost is_same = { λ a b. a ≡ b };
 
-    fn same(&self, other: &Selector) -> bool {
+    fn same(&self, other: &PartSelector) -> bool {
         match (self, other) {
-            (Selector::Field(name), Selector::Field(other)) => name == other,
-            (Selector::Interval(places), Selector::Interval(others)) => places == others,
+            (PartSelector::Field(name), PartSelector::Field(other)) => name == other,
+            (PartSelector::Interval(places), PartSelector::Interval(others)) => places == others,
             _ => false,
         }
     }
 }
 
-fn same_types(a: &Items<OccType>, b: &Items<OccType>) -> bool
+fn same_formals(a: &Items<Formal>, b: &Items<Formal>) -> bool
     ensures { IsTrue result ↔ (a.now ≡ b.now) }
 {
     all_same(a, b)
 }
 
-fn same_selectors(a: &Items<Selector>, b: &Items<Selector>) -> bool
+fn same_types(a: &Items<Shared<OccType>>, b: &Items<Shared<OccType>>) -> bool
     ensures { IsTrue result ↔ (a.now ≡ b.now) }
 {
     all_same(a, b)
 }
 
-fn same_uses(a: &Items<Use>, b: &Items<Use>) -> bool
+fn same_selectors(a: &Items<PartSelector>, b: &Items<PartSelector>) -> bool
+    ensures { IsTrue result ↔ (a.now ≡ b.now) }
+{
+    all_same(a, b)
+}
+
+fn same_uses(a: &Items<FormalUse>, b: &Items<FormalUse>) -> bool
     ensures { IsTrue result ↔ IsSameSet a.now b.now }
 {
     are_among(a, b) && are_among(b, a)
 }
 
 /// Whether each of these uses is one of the others.
-fn are_among(uses: &Items<Use>, others: &Items<Use>) -> bool
+fn are_among(uses: &Items<FormalUse>, others: &Items<FormalUse>) -> bool
     ensures { IsTrue result ↔ IsWithin uses.now others.now }
 {
     let others = others.as_slice();
@@ -121,7 +128,7 @@ fn are_among(uses: &Items<Use>, others: &Items<Use>) -> bool
 }
 
 /// Whether a use stands at a place.
-fn stands_at(uses: &[Use], place: usize, wanted: &Use) -> bool
+fn stands_at(uses: &[FormalUse], place: usize, wanted: &FormalUse) -> bool
     ensures { IsTrue result → Contains uses.now wanted.now }
 {
     match uses.get(place) {
@@ -131,7 +138,7 @@ fn stands_at(uses: &[Use], place: usize, wanted: &Use) -> bool
 }
 
 /// Whether a use is one of these.
-fn is_among(uses: &[Use], wanted: &Use) -> bool
+fn is_among(uses: &[FormalUse], wanted: &FormalUse) -> bool
     ensures { IsTrue result ↔ Contains uses.now wanted.now }
 {
     for one in uses {

@@ -1,5 +1,5 @@
 use super::OccType;
-use occ_base::{Items, Name};
+use occ_base::{Items, Name, Shared};
 
 /// What a unit shows to those that use it: its exports in order of declaration. It has no line numbers, no
 /// comments and no names of formals.
@@ -14,7 +14,10 @@ pub struct Export {
     pub name: Name,
     pub kind: ExportKind,
     pub formals: Items<Formal>,
-    pub results: Items<OccType>,
+    pub results: Items<Shared<OccType>>,
+    /// The uses of single parts of formals. They count as a set: neither their order nor how often each stands here
+    /// matters.
+    pub uses: Items<FormalUse>,
     /// Whether the body has an input, an output, a PAR or an ALT.
     pub effect: Effect,
 }
@@ -33,13 +36,12 @@ pub enum Effect {
     None,
 }
 
-/// A formal, with what the body does with it.
+/// A formal, as a call sees it: of a procedure or function in scope as of one that a unit exports. Its type is shared,
+/// so that an interface is made from what a scope holds.
 #[derive(Drop)]
 pub struct Formal {
-    pub of: OccType,
+    pub of: Shared<OccType>,
     pub passing: Passing,
-    /// The uses of single parts. They count as a set: neither their order nor how often each stands here matters.
-    pub uses: Items<Use>,
 }
 
 /// Whether a formal is VAL.
@@ -51,8 +53,10 @@ pub enum Passing {
 
 /// A use of a part of a formal.
 #[derive(Drop)]
-pub struct Use {
-    pub selectors: Items<Selector>,
+pub struct FormalUse {
+    /// Which of the formals it is, from 0.
+    pub formal: u32,
+    pub selectors: Items<PartSelector>,
     pub kind: UseKind,
 }
 
@@ -67,7 +71,7 @@ pub enum UseKind {
 
 /// What leads from an element to a part of it.
 #[derive(Drop)]
-pub enum Selector {
+pub enum PartSelector {
     Field(Name),
     Interval(Interval),
 }

@@ -9,7 +9,7 @@ use Rattle.occ_names.specs.declared.meaning.Entry.{Entry}
 use Rattle.occ_names.specs.declared.meaning.Meaning.TheVariants as m
 use Rattle.occ_names.specs.declared.scope.Scope.{Scope}
 use Rattle.occ_operands.specs.Settling.{Told}
-use Rattle.occ_operands.specs.declared.kind.Fault.{Fault}
+use Rattle.occ_base.specs.declared.fault.Fault.{Fault}
 use Rattle.occ_operands.specs.declared.kind.Kind.{Kind}
 use Rattle.occ_typed_statements.specs.Statements.{condition, selector}
 use Rattle.occ_typing.specs.Lines.{Judged, beyond, over}

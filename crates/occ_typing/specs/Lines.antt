@@ -3,8 +3,8 @@ use Rattle.std.specs.Prelude.{Some, None, List, [], ◌∷◌}
 use Rattle.occ_base.specs.declared.code.Code.TheVariants as code
 use Rattle.occ_base.specs.declared.diag.Diag.{Diag}
 use Rattle.occ_names.specs.declared.meaning.Entry.{Entry}
-use Rattle.occ_operands.specs.Settling.{nameless}
-use Rattle.occ_operands.specs.declared.kind.Fault.{Fault}
+use Rattle.occ_base.specs.Telling.{nameless}
+use Rattle.occ_base.specs.declared.fault.Fault.{Fault}
 use Rattle.occ_typing.specs.declared.parent.Line.{Line}
 use Rattle.occ_typing.specs.declared.parent.Parent.{Parent}
 use Rattle.occ_typing.specs.declared.parent.Parent.TheVariants as parent

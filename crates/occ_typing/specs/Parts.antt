@@ -6,8 +6,8 @@ use Rattle.occ_expression_forms.specs.declared.tree.Expr.{Expr}
 use Rattle.occ_forms.specs.declared.tree.Part.{Part}
 use Rattle.occ_forms.specs.declared.tree.Part.TheVariants as part
 use Rattle.occ_names.specs.declared.scope.Scope.{Scope}
-use Rattle.occ_operands.specs.Settling.{nameless}
-use Rattle.occ_operands.specs.declared.kind.Fault.{Fault}
+use Rattle.occ_base.specs.Telling.{nameless}
+use Rattle.occ_base.specs.declared.fault.Fault.{Fault}
 use Rattle.occ_type_rules.specs.Choosing.{Chosen}
 use Rattle.occ_typed_statements.specs.Statements.{condition, options, results, said}
 use Rattle.occ_types.specs.declared.types.OccType.{OccType}

@@ -2,7 +2,7 @@
 use Rattle.std.specs.Prelude.{List, map}
 use Rattle.occ_base.specs.Errors.{error_at}
 use Rattle.occ_base.specs.declared.diag.Diag.{Diag}
-use Rattle.occ_operands.specs.declared.kind.Fault.{Fault}
+use Rattle.occ_base.specs.declared.fault.Fault.{Fault}
 use Rattle.occ_project.specs.declared.expanded.ExpandedLine.{ExpandedLine}
 
 abbrev pub diag_of : ExpandedLine → Fault → Diag

@@ -8,7 +8,7 @@ use Rattle.occ_forms.specs.declared.tree.Form.TheVariants as form
 use Rattle.occ_forms.specs.declared.tree.Part.{Part}
 use Rattle.occ_forms.specs.declared.tree.Part.TheVariants as part
 use Rattle.occ_names.specs.declared.scope.Scope.{Scope}
-use Rattle.occ_operands.specs.declared.kind.Fault.{Fault}
+use Rattle.occ_base.specs.declared.fault.Fault.{Fault}
 use Rattle.occ_project.specs.declared.expanded.ExpandedBody.{ExpandedBody}
 use Rattle.occ_project.specs.declared.expanded.ExpandedBody.TheVariants as body
 use Rattle.occ_specification_forms.specs.declared.tree.Specification.{Specification}

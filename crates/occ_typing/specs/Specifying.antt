@@ -13,7 +13,7 @@ use Rattle.occ_names.specs.declared.meaning.Entry.{Entry}
 use Rattle.occ_names.specs.declared.meaning.Meaning.{Meaning}
 use Rattle.occ_names.specs.declared.meaning.Meaning.TheVariants as m
 use Rattle.occ_names.specs.declared.scope.Scope.{Scope}
-use Rattle.occ_operands.specs.declared.kind.Fault.{Fault}
+use Rattle.occ_base.specs.declared.fault.Fault.{Fault}
 use Rattle.occ_typed_statements.specs.Statements.{is_any_faulty}
 use Rattle.occ_specification_forms.specs.declared.tree.FunctionHead.{FunctionHead}
 use Rattle.occ_specification_forms.specs.declared.tree.Head.{Head}

@@ -1,10 +1,9 @@
 ghost use Rattle.occ_typing.specs.Actions.{action_faults};
 ghost use Rattle.std.specs.Prelude.{◌≡◌, ◌++◌, OnOk};
 
-use occ_base::{Code, Items};
+use occ_base::{Code, Fault, Items, tell};
 use occ_forms::Action;
 use occ_names::Scope;
-use occ_operands::{Fault, tell};
 use occ_typed_statements::assignment;
 use std::alloc::{AllocError, Global};
 

@@ -3,11 +3,11 @@ ghost use Rattle.std.specs.Prelude.{◌≡◌, ◌++◌, IfOk, OnOk};
 
 use super::line::{over, plain};
 use super::parent::{Choosing, Line, Parent};
-use occ_base::{Code, Items};
+use occ_base::{Code, Fault, Items, tell};
 use occ_expression_forms::Expr;
 use occ_forms::{Construct, ConstructKind, Replicator};
 use occ_names::{Meaning, Scope, one_entry};
-use occ_operands::{Fault, Kind, tell};
+use occ_operands::Kind;
 use occ_typed_statements::{condition, selector};
 use std::alloc::{AllocError, Global};
 use std::collections::BTreeSet;

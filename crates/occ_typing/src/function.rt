@@ -6,11 +6,10 @@ ghost use Rattle.occ_typing.specs.Specifying.{function_faults as told_faults, fu
 ghost use Rattle.std.specs.Prelude.{◌≡◌, ◌∷◌, ◌++◌, IfOk, OnOk};
 
 use super::part::results_of;
-use occ_base::{Items, Shared};
+use occ_base::{Fault, Items, Shared};
 use occ_expression_forms::Expr;
 use occ_typed_heads::{Heading, function_head};
 use occ_names::{Entry, Meaning, Scope};
-use occ_operands::Fault;
 use occ_specification_forms::FunctionHead;
 use occ_types::OccType;
 use std::alloc::{AllocError, Global};

@@ -4,11 +4,10 @@ ghost use Rattle.std.specs.Prelude.{◌≡◌, ◌∷◌, ◌++◌, IfOk, OnOk};
 
 use super::line::{main, plain};
 use super::parent::{Choosing, Line, Parent};
-use occ_base::{Code, Items, Shared};
+use occ_base::{Code, Fault, Items, Shared, tell};
 use occ_expression_forms::Expr;
 use occ_forms::Part;
 use occ_names::Scope;
-use occ_operands::{Fault, tell};
 use occ_typed_statements::{condition, options, results, values};
 use occ_types::OccType;
 use std::alloc::{AllocError, Global};

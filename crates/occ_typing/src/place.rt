@@ -1,8 +1,7 @@
 ghost use Rattle.occ_typing.specs.Placed.{diag_of, placed};
 ghost use Rattle.std.specs.Prelude.{◌≡◌, ◌++◌, IfOk, OnOk};
 
-use occ_base::{Diag, Items, Name};
-use occ_operands::Fault;
+use occ_base::{Diag, Fault, Items, Name};
 use occ_project::ExpandedLine;
 use std::alloc::{AllocError, Global};
 

@@ -5,11 +5,10 @@ ghost use Rattle.occ_typing.specs.Records.{body_fields as told_body, body_packin
 ghost use Rattle.std.specs.Prelude.{◌≡◌, ◌++◌, [], IfOk, OnOk};
 
 use super::place::place;
-use occ_base::{Diag, Items};
+use occ_base::{Diag, Fault, Items};
 use occ_typed_specifications::fields;
 use occ_forms::{Form, Part};
 use occ_names::Scope;
-use occ_operands::Fault;
 use occ_project::ExpandedBody;
 use occ_scope::Scopes;
 use occ_specification_forms::{Specification, Specified};

@@ -4,10 +4,9 @@ ghost use Rattle.std.specs.Prelude.{◌≡◌, ◌++◌, IfOk, OnOk};
 use super::function::function_line;
 use super::line::line_of_one;
 use super::parent::{Line, Parent};
-use occ_base::Items;
+use occ_base::{Fault, Items};
 use occ_typed_specifications::{data_type, declaration, unknown, value};
 use occ_names::{Scope, one_entry};
-use occ_operands::Fault;
 use occ_specification_forms::Specification;
 use std::alloc::{AllocError, Global};
 
