@@ -5,7 +5,9 @@ ghost use Rattle.occ_tables.specs.Terms.{judged, judged_all};
 
 use occ_base::{Fault, Items, Shared, one_item};
 use occ_expression_forms::{Extreme, MonadicOperator, PairOperator, RunOperator};
-use occ_operands::{Free, Kind, applied as applied_to, converted as converted_to, operated, shifted};
+use occ_operands::{
+    Free, Kind, applied as applied_to, converted as converted_to, operated, shifted,
+};
 use occ_tables::{Limit, Term, alone, has_fault, most, operand, sized};
 use occ_types::{Monadic, OccType, Operator};
 use std::alloc::{AllocError, Global};

@@ -19,8 +19,7 @@ use super::written::{
 };
 use occ_base::{Fault, Items, Name, Shared, one_item};
 use occ_expression_forms::{
-    Bounds, Builtin, DataBase, Dimension, Element, Expr, NamedOperand, Operand,
-    TypeForm,
+    Bounds, Builtin, DataBase, Dimension, Element, Expr, NamedOperand, Operand, TypeForm,
 };
 use occ_names::{Meaning, Scope, carries, data_type};
 use occ_operands::{Kind, field, subscripted};

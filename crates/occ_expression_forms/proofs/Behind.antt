@@ -18,10 +18,10 @@ use Rattle.occ_expression_forms.specs.declared.tree.Expr.TheVariants as xv
 use Rattle.occ_expression_forms.specs.declared.tree.NamedOperand.{NamedOperand}
 use Rattle.occ_expression_forms.specs.declared.tree.Operand.{Operand}
 use Rattle.occ_expression_forms.specs.declared.tree.Operand.TheVariants as ov
-use Rattle.occ_expression_forms.specs.Brackets.{Fits, IsBracketed, closing_then, narrow_of}
+use Rattle.occ_expression_forms.specs.inside.Brackets.{Fits, IsBracketed, closing_then, narrow_of}
 use Rattle.occ_expression_forms.specs.Reading.{IsAfter, IsEndOfRun, IsNot, Reads, begin_of, is_plain_begin}
 use Rattle.occ_expression_forms.specs.Spelling.{arguments_of, element_then, expr_then, many, operand_then, subscript_of}
-use Rattle.occ_expression_forms.specs.Tails.{joined, tail_then}
+use Rattle.occ_expression_forms.specs.inside.Tails.{joined, tail_then}
 use Rattle.occ_expression_forms.proofs.Cases.{element_named_spells, operand_element_spells}
 use Rattle.occ_expression_forms.proofs.Classes.{ExprAt, at_named, expr_at, run_at_name}
 use Rattle.occ_expression_forms.proofs.Conversions.{widen}

@@ -17,10 +17,10 @@ use Rattle.occ_expression_forms.specs.declared.tree.Dimension.TheVariants as dv
 use Rattle.occ_expression_forms.specs.declared.tree.Expr.{Expr}
 use Rattle.occ_expression_forms.specs.declared.tree.Expr.TheVariants as xv
 use Rattle.occ_expression_forms.specs.declared.tree.Operand.{Operand}
-use Rattle.occ_expression_forms.specs.Brackets.{Fits, IsBracketed, closing_then}
+use Rattle.occ_expression_forms.specs.inside.Brackets.{Fits, IsBracketed, closing_then}
 use Rattle.occ_expression_forms.specs.Reading.{IsAfter, IsEndOfRun, Reads, begin_of, is_type_begin}
 use Rattle.occ_expression_forms.specs.Spelling.{builtin_then, dimension_then, expr_then, many, operand_then}
-use Rattle.occ_expression_forms.specs.Tails.{joined, tail_then}
+use Rattle.occ_expression_forms.specs.inside.Tails.{joined, tail_then}
 use Rattle.occ_expression_forms.proofs.Behind.{IsBracketRead, fitting}
 use Rattle.occ_expression_forms.proofs.Cases.{DimensionIs, dimension_is, dimension_is_open, dimension_is_sized, dimension_open_spells, dimension_sized_spells}
 use Rattle.occ_expression_forms.proofs.Classes.{ExprAt, at_array, at_dimension, builtin_class, dimension_class, expr_at, run_at_bracket}

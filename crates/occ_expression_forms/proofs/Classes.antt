@@ -26,7 +26,7 @@ use Rattle.occ_expression_forms.specs.declared.tree.PrimitiveWord.TheVariants as
 use Rattle.occ_expression_forms.specs.declared.tree.TypeForm.{TypeForm}
 use Rattle.occ_expression_forms.specs.Reading.{IsAfter, IsEnd, IsEndOfRun, IsNotCounted, Reads, begin_of, ends_run, is_counted}
 use Rattle.occ_expression_forms.specs.Spelling.{builtin_then, channel_words, dimension_then, element_then, expr_then, extreme_word, many, monadic_token, named_operand_then, operand_then, primitive_word, type_form_then}
-use Rattle.occ_expression_forms.specs.Tails.{joined, tail_then}
+use Rattle.occ_expression_forms.specs.inside.Tails.{joined, tail_then}
 use Rattle.occ_expression_forms.specs.TypeEnds.{EndsMost}
 use Rattle.occ_expression_forms.proofs.Cases.{BuiltinIs, DimensionIs, ExprIs, builtin_any_channel_spells, builtin_channel_spells, builtin_counted_spells, builtin_is, builtin_is_any_channel, builtin_is_channel, builtin_is_counted, builtin_is_primitive, builtin_is_timer, builtin_primitive_spells, builtin_timer_spells, dimension_is, dimension_is_open, dimension_is_sized, dimension_open_spells, dimension_sized_spells, expr_alone_spells, expr_applied_spells, expr_array_converted_spells, expr_converted_spells, expr_is, expr_is_alone, expr_is_applied, expr_is_array_converted, expr_is_converted, expr_is_most, expr_is_named, expr_is_pair, expr_is_run, expr_most_spells, expr_named_spells, operand_element_spells}
 use Rattle.occ_expression_forms.proofs.Operands.{OperandAt, alone_no_most, at_bracket, at_call, at_decorated, at_element, at_literal, at_parens, at_truth, operand_at, same_element}

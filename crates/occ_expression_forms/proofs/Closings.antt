@@ -9,7 +9,7 @@ use Rattle.occ_expression_forms.specs.declared.bracket.Closing.{Closing}
 use Rattle.occ_expression_forms.specs.declared.bracket.Closing.TheVariants as cl
 use Rattle.occ_expression_forms.specs.declared.tree.Bounds.{Bounds}
 use Rattle.occ_expression_forms.specs.declared.tree.Expr.{Expr}
-use Rattle.occ_expression_forms.specs.Brackets.{bounds_begin, closing_then, Fits}
+use Rattle.occ_expression_forms.specs.inside.Brackets.{bounds_begin, closing_then, Fits}
 use Rattle.occ_expression_forms.specs.Reading.{IsEnd, Reads, ends_expr}
 use Rattle.occ_expression_forms.specs.Spelling.{bounds_then, expr_then, many, next_item_of}
 use Rattle.occ_expression_forms.proofs.Begins.{no_expr}

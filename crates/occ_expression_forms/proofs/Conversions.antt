@@ -11,7 +11,7 @@ use Rattle.occ_expression_forms.specs.declared.tree.Expr.TheVariants as xv
 use Rattle.occ_expression_forms.specs.declared.tree.NamedOperand.{NamedOperand}
 use Rattle.occ_expression_forms.specs.declared.tree.Operand.{Operand}
 use Rattle.occ_expression_forms.specs.declared.tree.Operand.TheVariants as ov
-use Rattle.occ_expression_forms.specs.Brackets.{IsBracketed, closing_then, narrow_of}
+use Rattle.occ_expression_forms.specs.inside.Brackets.{IsBracketed, closing_then, narrow_of}
 use Rattle.occ_expression_forms.specs.Spelling.{builtin_then, dimension_then, expr_then, many, named_operand_then, operand_then}
 use Rattle.occ_expression_forms.proofs.Cases.{NamedOperandIs, OperandIs, expr_array_converted_spells, expr_converted_spells, expr_named_spells, named_operand_call_spells, named_operand_decorated_spells, named_operand_decorated_table_spells, named_operand_element_spells, named_operand_is, named_operand_is_call, named_operand_is_decorated, named_operand_is_decorated_table, named_operand_is_element, named_operand_is_literal, named_operand_is_table, named_operand_is_truth, named_operand_literal_spells, named_operand_table_spells, named_operand_truth_spells, operand_call_spells, operand_decorated_spells, operand_decorated_table_spells, operand_element_spells, operand_is, operand_is_call, operand_is_decorated, operand_is_decorated_table, operand_is_element, operand_is_literal, operand_is_parens, operand_is_table, operand_is_truth, operand_literal_spells, operand_table_spells, operand_truth_spells}
 use Rattle.occ_expression_forms.proofs.Narrow.{narrow_call, narrow_decorated, narrow_decorated_table, narrow_element, narrow_literal, narrow_of_table, narrow_parens, narrow_truth}

@@ -19,7 +19,7 @@ use Rattle.occ_expression_forms.specs.declared.tree.PrimitiveWord.{PrimitiveWord
 use Rattle.occ_expression_forms.specs.declared.tree.PrimitiveWord.TheVariants as pr
 use Rattle.occ_expression_forms.specs.declared.tree.TypeForm.{TypeForm}
 use Rattle.occ_expression_forms.specs.declared.tree.TypeForm.TheVariants as tv
-use Rattle.occ_expression_forms.specs.Parts.{primitive_of}
+use Rattle.occ_expression_forms.specs.inside.Parts.{primitive_of}
 use Rattle.occ_expression_forms.specs.declared.begin.Begin.{Begin}
 use Rattle.occ_expression_forms.specs.declared.types.Behind.{Behind}
 use Rattle.occ_expression_forms.specs.declared.types.Behind.TheVariants as bh

@@ -8,7 +8,7 @@ use Rattle.occ_expression_forms.specs.declared.tree.Literal.{Literal}
 use Rattle.occ_expression_forms.specs.declared.tree.NamedOperand.TheVariants as nv
 use Rattle.occ_expression_forms.specs.declared.tree.Operand.TheVariants as ov
 use Rattle.occ_expression_forms.specs.declared.tree.TypeForm.{TypeForm}
-use Rattle.occ_expression_forms.specs.Brackets.{narrow_of, narrow_step, narrow_table}
+use Rattle.occ_expression_forms.specs.inside.Brackets.{narrow_of, narrow_step, narrow_table}
 
 pub narrow_element : (el : Element) → narrow_of (ov.Element el) ≡ Some (nv.Element el)
 unfolding narrow_of

@@ -26,7 +26,7 @@ use Rattle.occ_expression_forms.specs.declared.tree.Literal.TheVariants as li
 use Rattle.occ_expression_forms.specs.declared.tree.Operand.{Operand, out-Operand}
 use Rattle.occ_expression_forms.specs.declared.tree.Operand.TheVariants as ov
 use Rattle.occ_expression_forms.specs.declared.tree.TypeForm.{TypeForm}
-use Rattle.occ_expression_forms.specs.Brackets.{Fits, IsBracketed, bracket_then, closing_then}
+use Rattle.occ_expression_forms.specs.inside.Brackets.{Fits, IsBracketed, bracket_then, closing_then}
 use Rattle.occ_expression_forms.specs.Reading.{IsAfter, IsNot, Reads, begin_of, ends_operand}
 use Rattle.occ_expression_forms.specs.Spelling.{arguments_of, bounds_then, bracketed, decoration_of, element_then, expr_then, literal_token, many, operand_then, subscript_of, table_of, truth_word}
 use Rattle.occ_expression_forms.proofs.Cases.{ElementIs, OperandIs, element_is, element_is_named, element_is_segment, element_named_spells, element_segment_spells, expr_alone_spells, operand_call_spells, operand_decorated_spells, operand_decorated_table_spells, operand_element_spells, operand_is, operand_is_call, operand_is_decorated, operand_is_decorated_table, operand_is_element, operand_is_literal, operand_is_parens, operand_is_table, operand_is_truth, operand_literal_spells, operand_parens_spells, operand_table_spells, operand_truth_spells}

@@ -12,10 +12,10 @@ use Rattle.occ_expression_forms.specs.declared.tree.PairOperator.{PairOperator}
 use Rattle.occ_expression_forms.specs.declared.tree.PairOperator.TheVariants as pa
 use Rattle.occ_expression_forms.specs.declared.tree.RunOperator.{RunOperator}
 use Rattle.occ_expression_forms.specs.declared.tree.RunOperator.TheVariants as ru
-use Rattle.occ_expression_forms.specs.Parts.{dyadic_of}
+use Rattle.occ_expression_forms.specs.inside.Parts.{dyadic_of}
 use Rattle.occ_expression_forms.specs.Reading.{IsAfter, IsEndOfRun, dyadic_token, ends_run, ends_operand, is_dyadic_symbol, is_dyadic_word}
 use Rattle.occ_expression_forms.specs.Spelling.{expr_then, many, operand_then, operated_of, pair_token, run_token}
-use Rattle.occ_expression_forms.specs.Tails.{joined, tail_then}
+use Rattle.occ_expression_forms.specs.inside.Tails.{joined, tail_then}
 use Rattle.occ_expression_forms.proofs.Cases.{expr_alone_spells, expr_pair_spells, expr_run_spells}
 use Rattle.occ_expression_forms.proofs.Many.{Within}
 

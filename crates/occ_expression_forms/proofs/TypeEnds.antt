@@ -17,7 +17,7 @@ use Rattle.occ_expression_forms.specs.declared.tree.Extreme.{Extreme}
 use Rattle.occ_expression_forms.specs.declared.tree.Operand.{Operand}
 use Rattle.occ_expression_forms.specs.declared.tree.TypeForm.{TypeForm}
 use Rattle.occ_expression_forms.specs.declared.tree.TypeForm.TheVariants as tv
-use Rattle.occ_expression_forms.specs.Parts.{primitive_of}
+use Rattle.occ_expression_forms.specs.inside.Parts.{primitive_of}
 use Rattle.occ_expression_forms.specs.Reading.{IsEndOfRun, begin_of, is_operand_begin}
 use Rattle.occ_expression_forms.specs.Spelling.{builtin_then, data_base_token, data_form_then, dimension_then, expr_then, many, operand_then}
 use Rattle.occ_expression_forms.specs.TypeEnds.{EndsChannel, EndsMost}

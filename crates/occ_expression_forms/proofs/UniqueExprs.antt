@@ -28,11 +28,11 @@ use Rattle.occ_expression_forms.specs.declared.tree.PrimitiveWord.{PrimitiveWord
 use Rattle.occ_expression_forms.specs.declared.tree.PrimitiveWord.TheVariants as pr
 use Rattle.occ_expression_forms.specs.declared.tree.RunOperator.{RunOperator}
 use Rattle.occ_expression_forms.specs.declared.tree.TypeForm.{TypeForm}
-use Rattle.occ_expression_forms.specs.Brackets.{IsBracketed, bounds_begin, closing_then, narrow_of}
-use Rattle.occ_expression_forms.specs.Parts.{extreme_of, monadic_of}
+use Rattle.occ_expression_forms.specs.inside.Brackets.{IsBracketed, bounds_begin, closing_then, narrow_of}
+use Rattle.occ_expression_forms.specs.inside.Parts.{extreme_of, monadic_of}
 use Rattle.occ_expression_forms.specs.Reading.{IsAfter, IsEnd, IsEndOfRun, IsNot, IsNotCounted, begin_of, ends_operand, ends_run, is_counted}
 use Rattle.occ_expression_forms.specs.Spelling.{arguments_of, builtin_then, data_form_then, dimension_then, element_then, expr_then, extreme_word, many, monadic_token, named_operand_then, operand_then, operated_of, perhaps_decoration_of, primitive_word, run_token, subscript_of, type_form_then}
-use Rattle.occ_expression_forms.specs.Tails.{joined, tail_then}
+use Rattle.occ_expression_forms.specs.inside.Tails.{joined, tail_then}
 use Rattle.occ_expression_forms.proofs.Begins.{no_expr}
 use Rattle.occ_expression_forms.proofs.Cases.{DimensionIs, ExprIs, dimension_is, dimension_is_open, dimension_is_sized, dimension_open_spells, dimension_sized_spells, expr_alone_spells, expr_applied_spells, expr_array_converted_spells, expr_converted_spells, expr_is, expr_is_alone, expr_is_applied, expr_is_array_converted, expr_is_converted, expr_is_most, expr_is_named, expr_is_pair, expr_is_run, expr_most_spells, expr_named_spells, expr_pair_spells, expr_run_spells}
 use Rattle.occ_expression_forms.proofs.Closings.{bounds_begins, closing_ends}

@@ -16,8 +16,8 @@ use Rattle.occ_expression_forms.specs.declared.tree.NamedOperand.{NamedOperand}
 use Rattle.occ_expression_forms.specs.declared.tree.Operand.{Operand, out-Operand}
 use Rattle.occ_expression_forms.specs.declared.tree.Operand.TheVariants as ov
 use Rattle.occ_expression_forms.specs.declared.tree.TypeForm.{TypeForm}
-use Rattle.occ_expression_forms.specs.Brackets.{Fits, IsBracketed, bounds_begin, closing_then, narrow_of}
-use Rattle.occ_expression_forms.specs.Parts.{literal_of, truth_of}
+use Rattle.occ_expression_forms.specs.inside.Brackets.{Fits, IsBracketed, bounds_begin, closing_then, narrow_of}
+use Rattle.occ_expression_forms.specs.inside.Parts.{literal_of, truth_of}
 use Rattle.occ_expression_forms.specs.Reading.{IsAfter, IsNot, begin_of, ends_operand, is_counted}
 use Rattle.occ_expression_forms.specs.Spelling.{arguments_of, decoration_of, element_then, expr_then, literal_token, many, named_operand_then, next_item_of, operand_then, perhaps_decoration_of, subscript_of, truth_word}
 use Rattle.occ_expression_forms.proofs.Cases.{NamedOperandIs, named_operand_call_spells, named_operand_decorated_spells, named_operand_decorated_table_spells, named_operand_element_spells, named_operand_is, named_operand_is_call, named_operand_is_decorated, named_operand_is_decorated_table, named_operand_is_element, named_operand_is_literal, named_operand_is_table, named_operand_is_truth, named_operand_literal_spells, named_operand_table_spells, named_operand_truth_spells, operand_call_spells, operand_decorated_spells, operand_decorated_table_spells, operand_element_spells, operand_literal_spells, operand_table_spells, operand_truth_spells}

@@ -17,7 +17,7 @@ use Rattle.occ_expression_forms.specs.declared.tree.Expr.{Expr}
 use Rattle.occ_expression_forms.specs.declared.tree.PrimitiveWord.{PrimitiveWord}
 use Rattle.occ_expression_forms.specs.declared.tree.TypeForm.{TypeForm}
 use Rattle.occ_expression_forms.specs.declared.tree.TypeForm.TheVariants as tv
-use Rattle.occ_expression_forms.specs.Parts.{based, data_base_of, primitive_of}
+use Rattle.occ_expression_forms.specs.inside.Parts.{based, data_base_of, primitive_of}
 use Rattle.occ_expression_forms.specs.Reading.{IsNot, IsNotCounted, IsNotWord, is_counted}
 use Rattle.occ_expression_forms.specs.Spelling.{Spelling, builtin_then, channel_words, counted_array, data_base_token, data_form_then, decoration_of, dimension_then, many, primitive_word, subscript_of, type_form_then}
 use Rattle.occ_expression_forms.proofs.Begins.{no_expr}

@@ -1,4 +1,4 @@
-ghost use Rattle.occ_expression_forms.specs.Brackets.{bounds_begin, bracket_then, closing_then, Fits};
+ghost use Rattle.occ_expression_forms.specs.inside.Brackets.{bounds_begin, bracket_then, closing_then, Fits};
 ghost use Rattle.occ_expression_forms.specs.Reading.{Reads, ReadsExpr};
 ghost use Rattle.occ_expression_forms.specs.Spelling.{bounds_then, expr_then};
 ghost use Rattle.occ_expression_forms.specs.declared.bracket.Bracket.TheVariants as br;

@@ -1,7 +1,7 @@
-ghost use Rattle.occ_expression_forms.specs.Brackets.{IsBracketed, closing_then};
+ghost use Rattle.occ_expression_forms.specs.inside.Brackets.{IsBracketed, closing_then};
 ghost use Rattle.occ_expression_forms.specs.Reading.{IsAfter, IsEndOfRun, Reads, ReadsExpr, begin_of, is_type_begin};
 ghost use Rattle.occ_expression_forms.specs.Spelling.{builtin_then, dimension_then, expr_then, many, operand_then};
-ghost use Rattle.occ_expression_forms.specs.Tails.{joined, tail_then};
+ghost use Rattle.occ_expression_forms.specs.inside.Tails.{joined, tail_then};
 ghost use Rattle.occ_expression_forms.specs.declared.begin.Begin.TheVariants as be;
 ghost use Rattle.occ_expression_forms.specs.declared.bracket.Closing.TheVariants as cl;
 ghost use Rattle.occ_expression_forms.specs.declared.tail.Tail.{Tail as ATail};

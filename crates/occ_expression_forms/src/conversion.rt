@@ -1,4 +1,4 @@
-ghost use Rattle.occ_expression_forms.specs.Brackets.{IsBracketed, closing_then, narrow_of};
+ghost use Rattle.occ_expression_forms.specs.inside.Brackets.{IsBracketed, closing_then, narrow_of};
 ghost use Rattle.occ_expression_forms.specs.Reading.{IsAfter, Reads, ReadsExpr};
 ghost use Rattle.occ_expression_forms.specs.Spelling.{builtin_then, dimension_then, expr_then, many, named_operand_then, operand_then};
 ghost use Rattle.occ_expression_forms.specs.declared.tree.Builtin.{Builtin as ABuiltin};

@@ -1,7 +1,7 @@
-ghost use Rattle.occ_expression_forms.specs.Brackets.{IsBracketed, closing_then, narrow_of};
+ghost use Rattle.occ_expression_forms.specs.inside.Brackets.{IsBracketed, closing_then, narrow_of};
 ghost use Rattle.occ_expression_forms.specs.Reading.{IsAfter, IsEndOfRun, Reads, ReadsExpr, begin_of, is_plain_begin};
 ghost use Rattle.occ_expression_forms.specs.Spelling.{arguments_of, expr_then, many, operand_then, subscript_of};
-ghost use Rattle.occ_expression_forms.specs.Tails.{joined, tail_then};
+ghost use Rattle.occ_expression_forms.specs.inside.Tails.{joined, tail_then};
 ghost use Rattle.occ_expression_forms.specs.declared.begin.Begin.TheVariants as be;
 ghost use Rattle.occ_expression_forms.specs.declared.bracket.Closing.TheVariants as cl;
 ghost use Rattle.occ_expression_forms.specs.declared.bracket.Closing.{Closing as SomeClosing};

@@ -1,4 +1,4 @@
-ghost use Rattle.occ_expression_forms.specs.Brackets.{IsBracketed, closing_then, narrow_of};
+ghost use Rattle.occ_expression_forms.specs.inside.Brackets.{IsBracketed, closing_then, narrow_of};
 ghost use Rattle.occ_expression_forms.specs.Reading.{IsAfter, IsNot, Reads, ReadsExpr};
 ghost use Rattle.occ_expression_forms.specs.Spelling.{arguments_of, bracketed, decoration_of, expr_then, literal_token, many, operand_then, subscript_of, truth_word};
 ghost use Rattle.occ_expression_forms.specs.declared.bracket.Closing.{Closing as SomeClosing};

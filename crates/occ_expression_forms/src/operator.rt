@@ -1,4 +1,4 @@
-ghost use Rattle.occ_expression_forms.specs.Parts.{dyadic_of, dyadic_symbol_of, dyadic_word_of, monadic_of};
+ghost use Rattle.occ_expression_forms.specs.inside.Parts.{dyadic_of, dyadic_symbol_of, dyadic_word_of, monadic_of};
 ghost use Rattle.occ_expression_forms.specs.Reading.{dyadic_token};
 ghost use Rattle.occ_expression_forms.specs.Spelling.{monadic_token};
 ghost use Rattle.occ_lines.specs.declared.token.Token.TheVariants as t;

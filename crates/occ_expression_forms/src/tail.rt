@@ -1,6 +1,6 @@
 ghost use Rattle.occ_expression_forms.specs.Reading.{dyadic_token, IsEndOfRun, Reads, ReadsExpr};
 ghost use Rattle.occ_expression_forms.specs.Spelling.{expr_then, many, operand_then, operated_of, run_token};
-ghost use Rattle.occ_expression_forms.specs.Tails.{joined, tail_then};
+ghost use Rattle.occ_expression_forms.specs.inside.Tails.{joined, tail_then};
 ghost use Rattle.occ_expression_forms.specs.declared.operator.Dyadic.{Dyadic as ADyadic};
 ghost use Rattle.occ_expression_forms.specs.declared.tail.Tail.{Tail as ATail};
 ghost use Rattle.occ_expression_forms.specs.declared.tree.Operand.{Operand as AnOperand};

@@ -5,7 +5,7 @@ use Rattle.occ_first.specs.declared.line.Line.{Line}
 use Rattle.occ_first.specs.declared.parallel.Mark.{Mark}
 use Rattle.occ_first.specs.declared.parallel.Use.{Use}
 use Rattle.occ_first.specs.declared.scope.Specification.{Specification}
-use Rattle.occ_first.specs.Marks.{Marks, begun, enter, open_at, unheaded}
+use Rattle.occ_first.specs.inside.Marks.{Marks, begun, enter, open_at, unheaded}
 use Rattle.occ_first.specs.Nesting.{is_head, role_of}
 use Rattle.occ_first.specs.Parallel.{LineAt, above, chain, component, component_uses, has_head, or_nearer, outermost, uses}
 

@@ -4,7 +4,7 @@ pub mod Nesting
 pub mod Scope
 pub mod Mentions
 pub mod Parallel
-pub mod Marks
 pub mod Diagnostics
 pub mod Samples
 pub mod View
+pub mod inside

@@ -1,6 +1,6 @@
 ghost use Rattle.std.specs.Prelude.{◌≡◌, ◌++◌, [], ◌+◌, ◌<◌, ◌^◌, true, OnOk, IfOk, length};
 ghost use Rattle.std.specs.List.{list_any};
-ghost use Rattle.occ_first.specs.Marks.{enter, unheaded};
+ghost use Rattle.occ_first.specs.inside.Marks.{enter, unheaded};
 ghost use Rattle.occ_first.specs.Nesting.{is_head, role_of};
 ghost use Rattle.occ_first.specs.Parallel.{component_uses, differ as differing, is_par as a_par, mention_uses, par_faults, parallel_faults, root_of, shares as sharing, uses as uses_of};
 ghost use Rattle.occ_first.specs.Scope.{visible as visible_in};

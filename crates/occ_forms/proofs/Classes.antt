@@ -37,7 +37,7 @@ use Rattle.occ_specification_forms.specs.declared.tree.Specification.TheVariants
 use Rattle.occ_specification_forms.specs.declared.tree.Specified.{Specified}
 use Rattle.occ_specification_forms.specs.declared.tree.Specified.TheVariants as sd
 use Rattle.occ_lines.specs.declared.token.Word.TheVariants as w
-use Rattle.occ_forms.specs.Classes.{class_at, class_of}
+use Rattle.occ_forms.specs.inside.Classes.{class_at, class_of}
 use Rattle.occ_forms.specs.Reading.{IsFormOf}
 use Rattle.occ_forms.specs.Spelling.{form_tokens}
 

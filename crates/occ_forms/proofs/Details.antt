@@ -27,7 +27,7 @@ use Rattle.occ_expression_forms.specs.declared.tree.Operand.TheVariants as ov
 use Rattle.occ_expression_forms.specs.declared.tree.PrimitiveWord.{PrimitiveWord}
 use Rattle.occ_expression_forms.specs.declared.tree.TypeForm.{TypeForm, out-TypeForm}
 use Rattle.occ_expression_forms.specs.declared.tree.TypeForm.TheVariants as tv
-use Rattle.occ_expression_forms.specs.Brackets.{bounds_begin, closing_then}
+use Rattle.occ_expression_forms.specs.inside.Brackets.{bounds_begin, closing_then}
 use Rattle.occ_expression_forms.specs.Reading.{IsNotCounted, Reads, ends_expr, is_counted}
 use Rattle.occ_expression_forms.specs.Spelling.{bounds_then, builtin_then, channel_words, counted_array, data_base_token, data_form_then, dimension_then, element_then, expr_then, many, subscript_of, type_form_then}
 use Rattle.occ_expression_forms.proofs.Begins.{no_expr}
@@ -37,7 +37,7 @@ use Rattle.occ_expression_forms.proofs.Dimensions.{base_ends, builtin_ends, data
 use Rattle.occ_expression_forms.proofs.UniqueExprs.{one_dimension_of, one_expr}
 use Rattle.occ_forms.specs.declared.tree.Detail.{Detail}
 use Rattle.occ_forms.specs.declared.tree.Detail.TheVariants as de
-use Rattle.occ_forms.specs.Details.{typed_of}
+use Rattle.occ_forms.specs.inside.Details.{typed_of}
 use Rattle.occ_forms.specs.Reading.{IsItemEnd, ends_item}
 use Rattle.occ_forms.specs.Spelling.{counted, detail_then}
 use Rattle.occ_forms.proofs.Ends.{count_ends}

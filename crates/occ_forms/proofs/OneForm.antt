@@ -33,9 +33,9 @@ use Rattle.occ_forms.specs.declared.tree.ConstructKind.TheVariants as ki
 use Rattle.occ_forms.specs.declared.tree.OutputItem.{OutputItem}
 use Rattle.occ_forms.specs.declared.tree.Part.TheVariants as pa
 use Rattle.occ_forms.specs.declared.tree.Replicator.{Replicator}
-use Rattle.occ_forms.specs.Classes.{class_of}
+use Rattle.occ_forms.specs.inside.Classes.{class_of}
 use Rattle.occ_forms.specs.Reading.{IsItemEnd}
-use Rattle.occ_forms.specs.Received.{received_tokens}
+use Rattle.occ_forms.specs.inside.Received.{received_tokens}
 use Rattle.occ_forms.specs.Spelling.{detail_then, form_tokens, guarded_then, input_item_then, kind_then, output_item_then, perhaps_replicator_then}
 use Rattle.occ_forms.proofs.Classes.{FormAt, at_assignment, at_case, at_case_alone, at_case_input, at_close, at_declaration, at_else, at_expressions, at_guard, at_input, at_output, at_packed_record, at_record, at_replicable, at_result, at_skip, at_specified, at_stop, at_tagged, at_value_of, at_while, form_at, specified_no_close}
 use Rattle.occ_forms.proofs.Lines.{no_empty}

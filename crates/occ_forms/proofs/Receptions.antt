@@ -16,7 +16,7 @@ use Rattle.occ_forms.specs.declared.tree.Guarded.TheVariants as gu
 use Rattle.occ_forms.specs.declared.tree.Input.{Input}
 use Rattle.occ_forms.specs.declared.tree.Input.TheVariants as ip
 use Rattle.occ_forms.specs.declared.tree.InputItem.{InputItem}
-use Rattle.occ_forms.specs.Received.{received_tokens}
+use Rattle.occ_forms.specs.inside.Received.{received_tokens}
 use Rattle.occ_forms.specs.Spelling.{guarded_then, input_item_then, tagged}
 use Rattle.occ_specification_forms.specs.Spelling.{listed}
 

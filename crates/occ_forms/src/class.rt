@@ -1,4 +1,4 @@
-ghost use Rattle.occ_forms.specs.Classes.{class_of, mark_class, symbol_class, word_class};
+ghost use Rattle.occ_forms.specs.inside.Classes.{class_of, mark_class, symbol_class, word_class};
 ghost use Rattle.std.specs.Prelude.{◌≡◌};
 
 use occ_expression_forms::mark;

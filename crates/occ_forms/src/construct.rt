@@ -11,7 +11,7 @@ ghost use Rattle.occ_lines.specs.declared.token.Token.{Token as AToken};
 ghost use Rattle.occ_lines.specs.declared.token.Word.TheVariants as w;
 ghost use Rattle.std.specs.Prelude.{IfOk, IfSome, List, MatchOption, None, Option, Some, [], ◌∷◌, ◌≡◌, ◌≢◌};
 
-use super::{Construct, Form, ConstructKind, Part, Replicator};
+use super::{Construct, ConstructKind, Form, Part, Replicator};
 use occ_expression_forms::{Expr, after, after_word, expression, name};
 use occ_lines::{Symbol, Token, Word};
 use occ_specification_forms::alone;

@@ -4,7 +4,7 @@ ghost use Rattle.occ_expression_forms.specs.declared.tree.Builtin.{Builtin as AB
 ghost use Rattle.occ_expression_forms.specs.declared.tree.DataForm.{DataForm as ADataForm};
 ghost use Rattle.occ_expression_forms.specs.declared.tree.Dimension.{Dimension as ADimension};
 ghost use Rattle.occ_expression_forms.specs.declared.tree.Element.{Element as AnElement};
-ghost use Rattle.occ_forms.specs.Details.{typed_of};
+ghost use Rattle.occ_forms.specs.inside.Details.{typed_of};
 ghost use Rattle.occ_forms.specs.Reading.{IsItemEnd};
 ghost use Rattle.occ_forms.specs.Spelling.{counted, detail_then};
 ghost use Rattle.occ_forms.specs.declared.tree.Detail.TheVariants as de;

@@ -1,7 +1,7 @@
 ghost use Rattle.occ_expression_forms.specs.Spelling.{element_then, expr_then, many};
 ghost use Rattle.occ_expression_forms.specs.declared.tree.Element.{Element as AnElement};
 ghost use Rattle.occ_expression_forms.specs.declared.tree.Expr.{Expr as AnExpr};
-ghost use Rattle.occ_forms.specs.Received.{received_behind, received_tokens};
+ghost use Rattle.occ_forms.specs.inside.Received.{received_behind, received_tokens};
 ghost use Rattle.occ_forms.specs.Spelling.{input_item_then, tagged};
 ghost use Rattle.occ_forms.specs.declared.input.Received.TheVariants as re;
 ghost use Rattle.occ_forms.specs.declared.input.Received.{Received as SomeReceived};

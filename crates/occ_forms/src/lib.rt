@@ -26,5 +26,6 @@ pub use preparation::prepare;
 pub use rows::{action_rows, body_rows, construct_rows, part_rows, tagged_rows};
 pub use source::{LineBody, Source, SourceLine};
 pub use tree::{
-    Action, Construct, Detail, Form, Guarded, Input, InputItem, ConstructKind, OutputItem, Part, Replicator,
+    Action, Construct, ConstructKind, Detail, Form, Guarded, Input, InputItem, OutputItem, Part,
+    Replicator,
 };

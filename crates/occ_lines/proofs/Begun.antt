@@ -9,7 +9,7 @@ use Rattle.occ_lines.specs.declared.token.Token.{Token}
 use Rattle.occ_lines.specs.declared.token.Token.TheVariants as t
 use Rattle.occ_lines.specs.Lexeme.{IsToken, LexesFrom, Stops, after_blanks, is_end, is_lexeme, is_symbol, starts_hexadecimal, starts_name, starts_number, string_ending, token_of}
 use Rattle.occ_lines.specs.Quoted.{IsQuoted, escape, escaped, is_plain, two_digits, unit, with_rest}
-use Rattle.occ_lines.specs.Scan.{IsLongest}
+use Rattle.occ_lines.specs.inside.Scan.{IsLongest}
 use Rattle.occ_lines.proofs.First.{first_found, first_none, first_shorter}
 use Rattle.occ_lines.proofs.Longest.{hexadecimal_longest, name_longest, number_longest, symbol_longest, symbol_none, symbol_one, symbol_two}
 use Rattle.occ_lines.proofs.Reading.{bad_character, bad_lexeme, blanks_le, no_close, no_unit, stop_end, whole_end}

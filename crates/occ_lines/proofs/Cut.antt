@@ -21,7 +21,7 @@ use Rattle.occ_lines.specs.Directive.{directive_body, directive_of}
 use Rattle.occ_lines.specs.Lexeme.{after_blanks, string_ending}
 use Rattle.occ_lines.specs.Lines.{ArePieces, GoesOn, Holds, IsHeld, IsBegun, IsLines, IsPiece, LexesString, column, continues, directive_lines, goes_on, is_skipped, joined, logical_of, next_passes, resumes, takes}
 use Rattle.occ_lines.specs.Quoted.{IsQuoted}
-use Rattle.occ_lines.specs.Walk.{AreLogical, AreRead, IsFresh, IsWanted, Settles, Speaks, broken_off, settled}
+use Rattle.occ_lines.specs.inside.Walk.{AreLogical, AreRead, IsFresh, IsWanted, Settles, Speaks, broken_off, settled}
 use Rattle.occ_lines.proofs.Begun.{begins_with, from_shorter, lexing, quoting}
 use Rattle.occ_lines.proofs.Reading.{one_list, other_match, same_match, whole_end}
 use Rattle.occ_lines.proofs.Spelled.{one_read}

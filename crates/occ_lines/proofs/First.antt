@@ -6,7 +6,7 @@ use Rattle.std.proofs.lemmas.List.{take_at, drop_at}
 use Rattle.occ_lines.specs.declared.token.Symbol.{Symbol}
 use Rattle.occ_lines.specs.declared.token.Token.{Token}
 use Rattle.occ_lines.specs.Lexeme.{IsFirst, is_hexadecimal, is_lexeme, is_name, is_number, is_symbol, symbol_by_row, symbol_row, symbol_token, token_of}
-use Rattle.occ_lines.specs.Scan.{IsLongest}
+use Rattle.occ_lines.specs.inside.Scan.{IsLongest}
 use Rattle.occ_lines.proofs.Longest.{is_lexeme_hexadecimal, is_lexeme_name, is_lexeme_number, is_lexeme_symbol, no_double, no_lexeme_empty, no_single}
 
 -- what is a token is a lexeme

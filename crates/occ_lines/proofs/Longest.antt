@@ -12,7 +12,7 @@ use Rattle.std.proofs.lemmas.List.Folds.{length-prefix_len}
 use Rattle.std.proofs.lemmas.List.Prefix.{front_fits}
 use Rattle.std.proofs.lemmas.List.{take_at}
 use Rattle.occ_lines.specs.Lexeme.{found_in, is_hexadecimal, is_lexeme, is_name, is_name_byte, is_number, is_symbol, starts_hexadecimal, starts_name, starts_number, symbol_row, symbols}
-use Rattle.occ_lines.specs.Scan.{IsLongest}
+use Rattle.occ_lines.specs.inside.Scan.{IsLongest}
 
 -- bytes of one class in front
 

@@ -10,7 +10,7 @@ use Rattle.occ_lines.specs.declared.token.Token.{Token}
 use Rattle.occ_lines.specs.declared.token.Token.TheVariants as t
 use Rattle.occ_lines.specs.Lexeme.{Ends, IsCharacter, IsFirst, IsOpen, IsString, IsToken, Lexes, LexesFrom, Stops, after_blanks, is_blank, is_end, string_ending}
 use Rattle.occ_lines.specs.Quoted.{IsQuoted, unit}
-use Rattle.occ_lines.specs.Scan.{IsRead}
+use Rattle.occ_lines.specs.inside.Scan.{IsRead}
 use Rattle.occ_lines.proofs.First.{first_no_character, first_no_string, first_same}
 use Rattle.occ_lines.proofs.Strings.{heads, one_quoted, one_unit, tails}
 

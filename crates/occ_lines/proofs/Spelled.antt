@@ -16,8 +16,8 @@ use Rattle.occ_lines.specs.declared.token.Token.TheVariants as t
 use Rattle.occ_lines.specs.Directive.{directive_of}
 use Rattle.occ_lines.specs.Lexeme.{Lexes, after_blanks, string_ending}
 use Rattle.occ_lines.specs.Lines.{IsClosed, IsUnclosed, LexesString, column, continues, goes_on, goes_on_token, is_skipped, resumes}
-use Rattle.occ_lines.specs.Walk.{AreLogical, AreRead, BreaksOff, Continues, IsFresh, IsLine, IsWanted, Resumes, Settles, Speaks, broken_off, settled, unfinished}
-use Rattle.occ_lines.specs.Scan.{Adds, Gathers, IsStringRead}
+use Rattle.occ_lines.specs.inside.Walk.{AreLogical, AreRead, BreaksOff, Continues, IsFresh, IsLine, IsWanted, Resumes, Settles, Speaks, broken_off, settled, unfinished}
+use Rattle.occ_lines.specs.inside.Scan.{Adds, Gathers, IsStringRead}
 use Rattle.occ_lines.proofs.Reading.{one_list}
 use Rattle.occ_lines.proofs.Strings.{one_quoted, tails}
 

@@ -3,7 +3,7 @@ use Rattle.std.proofs.Common.{◌≡◌, ◌==◌, ℕ, true, List, [], ◌∷�
 use Rattle.std.proofs.lemmas.Bool.{eq-eqb}
 use Rattle.std.proofs.lemmas.List.{append-nil}
 use Rattle.occ_lines.specs.Quoted.{IsQuoted, unit}
-use Rattle.occ_lines.specs.Scan.{Gathers}
+use Rattle.occ_lines.specs.inside.Scan.{Gathers}
 
 -- two texts that are one begin with one byte
 pub heads : (a b : ℕ) (xs ys : List ℕ) → a ∷ xs ≡ b ∷ ys → (a == b) ≡ true

@@ -2,5 +2,4 @@ pub mod Directive
 pub mod Lexeme
 pub mod Lines
 pub mod Quoted
-pub mod Scan
-pub mod Walk
+pub mod inside

@@ -3,8 +3,8 @@ ghost use Rattle.std.specs.Prelude.{◌≡◌, ◌≤◌, IfOk, List, length};
 ghost use Rattle.occ_lines.specs.Directive.{directive_body as the_directive_body};
 ghost use Rattle.occ_lines.specs.Lexeme.{after_blanks as behind_blanks};
 ghost use Rattle.occ_lines.specs.Lines.{column as the_column, directive_lines as the_directive_lines, is_skipped as a_skipped, logical_of as the_logical_of};
-ghost use Rattle.occ_lines.specs.Walk.{BreaksOff, Continues, IsFresh, IsLine, IsWanted, Resumes, Settles};
-ghost use Rattle.occ_lines.specs.Scan.{Adds};
+ghost use Rattle.occ_lines.specs.inside.Walk.{BreaksOff, Continues, IsFresh, IsLine, IsWanted, Resumes, Settles};
+ghost use Rattle.occ_lines.specs.inside.Scan.{Adds};
 ghost use Rattle.occ_lines.specs.declared.text.Body.TheVariants as body;
 
 use super::{Body, Logical, Token};

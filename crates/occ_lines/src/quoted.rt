@@ -3,7 +3,7 @@ ghost use Rattle.std.specs.Prelude.{◌≡◌, ◌≢◌, ◌≤◌, ◌<◌, []
 ghost use Rattle.std.specs.Char.{digit_value as the_digit_value, is_ascii_hexdigit};
 ghost use Rattle.occ_lines.specs.Lexeme.{string_ending as the_string_ending};
 ghost use Rattle.occ_lines.specs.Quoted.{escape as the_escape, escaped as the_escaped, is_plain as a_plain, two_digits as the_two_digits, unit as the_unit};
-ghost use Rattle.occ_lines.specs.Scan.{Gathers};
+ghost use Rattle.occ_lines.specs.inside.Scan.{Gathers};
 
 use crate::ending::Ending;
 use occ_base::{Code, Items};

@@ -1,7 +1,7 @@
 //! The logical lines of a text.
 ghost use Rattle.std.specs.Prelude.{◌≡◌, ◌++◌, ◌≤◌, ◌<◌, ◌↔◌, List, IsTrue, IsErrOf, IfOk, length};
 ghost use Rattle.occ_lines.specs.Lines.{IsLines, limit_fault, line_count};
-ghost use Rattle.occ_lines.specs.Walk.{AreRead, unfinished as the_unfinished};
+ghost use Rattle.occ_lines.specs.inside.Walk.{AreRead, unfinished as the_unfinished};
 ghost use Rattle.occ_lines.specs.declared.text.Logical.{Logical as ALogical};
 
 use super::{Body, Logical, TextFault};

@@ -3,7 +3,7 @@ ghost use Rattle.std.specs.Prelude.{◌≡◌, ◌≤◌, ◌↔◌, IsTrue, len
 ghost use Rattle.std.specs.Char.{is_ascii_digit as a_digit, is_ascii_hexdigit as a_hexdigit};
 ghost use Rattle.std.specs.List.{prefix_len};
 ghost use Rattle.occ_lines.specs.Lexeme.{is_lexeme, is_name_byte as a_name_byte, is_symbol as a_symbol};
-ghost use Rattle.occ_lines.specs.Scan.{IsLongest};
+ghost use Rattle.occ_lines.specs.inside.Scan.{IsLongest};
 
 use crate::lexeme::{
     behind_first, is_name_byte, is_symbol, starts_hexadecimal, starts_name, starts_number,

@@ -1,8 +1,8 @@
 //! A statement that is read line by line.
 ghost use Rattle.std.specs.Prelude.{◌≡◌, ◌≤◌, IfOk, List, length};
 ghost use Rattle.occ_lines.specs.Lines.{continues as it_continues, goes_on as it_goes_on, goes_on_symbol as symbol_goes_on, goes_on_token as token_goes_on, goes_on_word as word_goes_on, logical_of as the_logical_of, resumes as it_resumes};
-ghost use Rattle.occ_lines.specs.Walk.{settled as the_settled};
-ghost use Rattle.occ_lines.specs.Scan.{IsStringRead};
+ghost use Rattle.occ_lines.specs.inside.Walk.{settled as the_settled};
+ghost use Rattle.occ_lines.specs.inside.Scan.{IsStringRead};
 
 use super::{Body, Logical, Symbol, Token, Word};
 use crate::blanks::{after_blanks, column};

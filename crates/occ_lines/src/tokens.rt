@@ -1,7 +1,7 @@
 //! The tokens of a line of the text.
 ghost use Rattle.std.specs.Prelude.{◌≡◌, ◌<◌, ◌∷◌, List, ℕ, IfErr, IfOk, length, true};
 ghost use Rattle.occ_lines.specs.Lexeme.{IsToken, Lexes, Stops, hexadecimal_token as the_hexadecimal_token, is_hexadecimal as a_hexadecimal, is_name as a_name, is_number as a_number, name_token as the_name_token, number_token as the_number_token, symbol_token as the_symbol_token, token_of as the_token};
-ghost use Rattle.occ_lines.specs.Scan.{IsRead};
+ghost use Rattle.occ_lines.specs.inside.Scan.{IsRead};
 
 use super::Token;
 use crate::blanks::{after_blanks, is_end};

@@ -8,7 +8,7 @@ use Rattle.occ_project.specs.declared.expanded.ExpandedLine.{ExpandedLine}
 use Rattle.occ_project.specs.declared.making.Made.{Made}
 use Rattle.occ_project.specs.declared.reads.Read.{Read}
 use Rattle.occ_project.specs.Expansion.{Expansion, entry_faults, entry_lines, entry_names, expansion, expansion_of, first_places, limit_faults, unit_entries}
-use Rattle.occ_project.specs.Making.{after}
+use Rattle.occ_project.specs.inside.Making.{after}
 use Rattle.occ_project.specs.Reads.{open_lines}
 use Rattle.occ_project.proofs.Made.{made_of}
 

@@ -11,7 +11,7 @@ use Rattle.occ_project.specs.declared.entry.Held.{Held}
 use Rattle.occ_project.specs.declared.making.Made.{Made}
 use Rattle.occ_project.specs.declared.reads.Read.{Read}
 use Rattle.occ_project.specs.Entries.{FileEntries, entries, file_entries, held, included, inner_entries, is_among, put_in}
-use Rattle.occ_project.specs.Making.{after, step}
+use Rattle.occ_project.specs.inside.Making.{after, step}
 use Rattle.occ_project.proofs.Made.{after_both, after_over}
 
 -- what gives the entries of the files that a file puts in

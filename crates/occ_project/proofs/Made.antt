@@ -6,7 +6,7 @@ use Rattle.occ_base.specs.declared.diag.Diag.{Diag}
 use Rattle.occ_project.specs.declared.entry.ExpansionEntry.{ExpansionEntry}
 use Rattle.occ_project.specs.declared.making.Made.{Made}
 use Rattle.occ_project.specs.Expansion.{entry_faults, entry_lines, entry_names, limit_faults}
-use Rattle.occ_project.specs.Making.{after, ended, step, with_entry}
+use Rattle.occ_project.specs.inside.Making.{after, ended, step, with_entry}
 
 -- first these, then those
 pub after_both : (made : Made) (first more : List ExpansionEntry) → after made (first ++ more) ≡ after (after made first) more

@@ -3,5 +3,5 @@ pub mod Entries
 pub mod Expansion
 pub mod Uses
 pub mod Places
-pub mod Making
 pub mod Samples
+pub mod inside

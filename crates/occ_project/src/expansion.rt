@@ -1,6 +1,6 @@
 ghost use Rattle.occ_project.specs.Entries.{entries, held as what_is_held, included, put_in};
 ghost use Rattle.occ_project.specs.Expansion.{expansion, not_given};
-ghost use Rattle.occ_project.specs.Making.{after};
+ghost use Rattle.occ_project.specs.inside.Making.{after};
 ghost use Rattle.occ_project.specs.declared.expansion.ExpandFault.TheVariants.{Memory, NotGiven};
 ghost use Rattle.std.specs.Option.{option_map};
 ghost use Rattle.std.specs.Prelude.{Err, IfOk, List, None, OnOk, Some, ℕ, ◌*◌, ◌+◌, ◌^◌, ◌≡◌, ◌≤◌};

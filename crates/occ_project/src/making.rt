@@ -1,5 +1,5 @@
 ghost use Rattle.occ_project.specs.Expansion.{fault_names, held_faults, limit_fault};
-ghost use Rattle.occ_project.specs.Making.{step};
+ghost use Rattle.occ_project.specs.inside.Making.{step};
 ghost use Rattle.occ_project.specs.declared.entry.Held.TheVariants as held;
 ghost use Rattle.std.specs.Prelude.{OnOk, [], false, ◌≡◌, ◌++◌};
 

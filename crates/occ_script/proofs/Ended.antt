@@ -1,7 +1,7 @@
 -- Lines of bytes whose last line is ended.
 use Rattle.std.proofs.Common.{◌≡◌, ◌<◌, ◌+◌, ℕ, zero, suc, List, [], ◌∷◌, ◌++◌, ◌==◌, Bool, true, false, cond, not, refl, ap, sym, subst, ◌∙◌, length, take, drop, arith, eqb-true}
 use Rattle.occ_script.specs.Lines.{cut_lines}
-use Rattle.occ_script.specs.Ended.{IsEnded}
+use Rattle.occ_script.specs.inside.Ended.{IsEnded}
 use Rattle.occ_script.proofs.Cut.{to_feed, lines_behind, lines_cut}
 
 pub ended_drop : (n : ℕ) (bytes : List ℕ) → IsEnded bytes → IsEnded (drop n bytes)

@@ -3,8 +3,8 @@ use Rattle.std.proofs.Common.{◌≡◌, ◌≢◌, ◌<◌, ◌≤◌, ◌+◌,
 use Rattle.std.proofs.lemmas.Bool.{eqb-true}
 use Rattle.std.proofs.Math.Seq.{take-append_seam}
 use Rattle.occ_script.specs.Lines.{cut_lines, text_of}
-use Rattle.occ_script.specs.Ended.{IsEnded}
-use Rattle.occ_script.specs.Rest.{IsNoFeed}
+use Rattle.occ_script.specs.inside.Ended.{IsEnded}
+use Rattle.occ_script.specs.inside.Rest.{IsNoFeed}
 use Rattle.occ_script.proofs.Cut.{to_feed}
 use Rattle.occ_script.proofs.Ended.{ended_drop, feed_within, first_cut, feed_at}
 

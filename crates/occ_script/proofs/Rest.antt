@@ -2,7 +2,7 @@
 use Rattle.std.proofs.Common.{◌≡◌, ◌≢◌, ◌<◌, ◌+◌, ℕ, zero, suc, List, [], ◌∷◌, Bool, true, false, cond, nat_le, refl, ap, sym, subst, ◌∙◌, length, take, drop, Option, Some, None, arith}
 use Rattle.std.proofs.lemmas.List.{length-drop}
 use Rattle.occ_script.specs.Lines.{cut_lines, text_of}
-use Rattle.occ_script.specs.Ended.{IsEnded}
+use Rattle.occ_script.specs.inside.Ended.{IsEnded}
 use Rattle.occ_script.specs.Script.{Header, Script, header, command_at, script_in, script_from, then}
 use Rattle.occ_script.specs.Script.Header.{Opens, Takes, Finishes, Reports}
 use Rattle.occ_script.specs.Script.Command.{Open, Take, Finish, Report}

@@ -4,7 +4,7 @@ use Rattle.std.specs.Bool.{MatchBool}
 use Rattle.std.proofs.lemmas.Bool.{eqb-true, eq-eqb}
 use Rattle.std.proofs.Math.Seq.{take-append_seam}
 use Rattle.occ_script.specs.Lines.{cut_lines, feeds, put_before}
-use Rattle.occ_script.specs.Ended.{IsEnded, IsOpen}
+use Rattle.occ_script.specs.inside.Ended.{IsEnded, IsOpen}
 use Rattle.occ_script.proofs.Cut.{lines_cut}
 
 -- there is a first line

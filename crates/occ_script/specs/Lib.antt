@@ -1,10 +1,7 @@
 pub mod Devices
 pub mod Lines
 pub mod Script
-pub mod Header
-pub mod Ended
-pub mod Rest
 pub mod Machine
 pub mod Output
 pub mod Status
-pub mod Board
+pub mod inside

@@ -1,9 +1,9 @@
 ghost use Rattle.std.specs.Option.{option_map};
 ghost use Rattle.std.specs.Prelude.{◌≡◌, IfOk, List, None, OnErr, OnOk, Some};
 ghost use Rattle.occ_lines.specs.Lines.{limit_fault};
-ghost use Rattle.occ_script.specs.Board.{judged, refusal_word};
+ghost use Rattle.occ_script.specs.inside.Board.{judged, refusal_word};
 ghost use Rattle.occ_script.specs.Machine.{AreLines, Reading, ReadsCommand, after, after_open, answer as an_answer, finish_answer, finished, open_answer, refusal, report_answer, reported_errors, start, take_answer, taken, text_read};
-ghost use Rattle.occ_script.specs.Rest.{meant};
+ghost use Rattle.occ_script.specs.inside.Rest.{meant};
 
 use super::answer::{line, line_naming};
 use super::file::{
@@ -37,7 +37,7 @@ impl Model for Board {
 
     ghost coded = { Prim.hlevel (codes, builtins.the_row.coded, dimensions.the_row.coded, elements.the_row.coded, expressions.the_row.coded, types.the_row.coded) };
 
-    ghost use Rattle.occ_script.specs.Board.{IsKept, board_seen};
+    ghost use Rattle.occ_script.specs.inside.Board.{IsKept, board_seen};
 
     ghost view = { λ b. record { opened = board_seen b.opened; errors = b.errors } };
 

@@ -4,7 +4,7 @@ ghost use Rattle.std.specs.Prelude.{◌≡◌, ◌≤◌, ◌==◌, ◌∷◌, l
 ghost use Rattle.std.specs.Str.{bytes_eq};
 ghost use Rattle.occ_script.specs.Lines.{words};
 ghost use Rattle.occ_script.specs.Script.{header as a_header, is_number as a_number_text, number as a_number, number_on, worker as a_worker, bare as a_bare, with_worker as a_worker_command, with_text as an_opening};
-ghost use Rattle.occ_script.specs.Header.{header_seen, words_after};
+ghost use Rattle.occ_script.specs.inside.Header.{header_seen, words_after};
 
 use super::lines::length_before;
 

@@ -1,6 +1,6 @@
 ghost use Rattle.std.specs.Option.{option_map};
 ghost use Rattle.std.specs.Prelude.{◌≡◌, IfOk, Some};
-ghost use Rattle.occ_script.specs.Board.{IsKept, IsOutcomeOf, board_seen, file_seen, has_job_by, progress_seen, shown_seen};
+ghost use Rattle.occ_script.specs.inside.Board.{IsKept, IsOutcomeOf, board_seen, file_seen, has_job_by, progress_seen, shown_seen};
 ghost use Rattle.occ_script.specs.Machine.{finish_answer, finished, opened_text, reported_errors, shown as shown_of, take_answer, taken};
 
 use super::answer::{line, line_naming};

@@ -1,6 +1,6 @@
 ghost use Rattle.std.specs.Bool.{MatchBool};
 ghost use Rattle.std.specs.Prelude.{◌≡◌, ◌+◌, ◌≤◌, ◌<◌, ℕ, List, IfOk, OnErr, OnOk, Some, Err, drop, length, false, nat_lt, take, true};
-ghost use Rattle.occ_script.specs.Ended.{IsEnded, IsOpen};
+ghost use Rattle.occ_script.specs.inside.Ended.{IsEnded, IsOpen};
 ghost use Rattle.occ_script.specs.Lines.{cut_lines, feeds, script_limit, whole_lines};
 ghost use Rattle.occ_script.specs.declared.input.ReadFault.TheVariants as fault;
 

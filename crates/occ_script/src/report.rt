@@ -1,7 +1,7 @@
 ghost use Rattle.std.specs.Fmt.{decimal};
 ghost use Rattle.std.specs.List.{flat_map, list_any};
 ghost use Rattle.std.specs.Prelude.{◌≡◌, ◌++◌, IfOk, codes, length};
-ghost use Rattle.occ_script.specs.Board.{shown_seen};
+ghost use Rattle.occ_script.specs.inside.Board.{shown_seen};
 ghost use Rattle.occ_script.specs.Machine.{diag_text, is_error as an_error, told, unit_text};
 
 use super::answer::line_naming;

@@ -1,5 +1,5 @@
 ghost use Rattle.std.specs.Prelude.{◌≡◌, ◌≤◌, ◌+◌, ◌||◌, ◌⊎◌, IfOk, List, Some, cond, false, length, true, ℕ};
-ghost use Rattle.occ_script.specs.Ended.{IsEnded};
+ghost use Rattle.occ_script.specs.inside.Ended.{IsEnded};
 ghost use Rattle.occ_script.specs.Lines.{cut_lines, script_limit};
 ghost use Rattle.occ_script.specs.Machine.{IsReading, Reading};
 ghost use Rattle.occ_script.specs.Output.{IsFaultTold, IsTold, fault_text};

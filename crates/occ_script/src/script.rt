@@ -1,8 +1,8 @@
 ghost use Rattle.std.specs.Prelude.{◌≡◌, ◌≢◌, ◌+◌, ◌<◌, ◌≤◌, ◌∷◌, ◌++◌, ◌^◌, [], IfNone, IfSome, MatchOption, Some, drop, length, take};
-ghost use Rattle.occ_script.specs.Ended.{IsEnded};
-ghost use Rattle.occ_script.specs.Header.{seen};
+ghost use Rattle.occ_script.specs.inside.Ended.{IsEnded};
+ghost use Rattle.occ_script.specs.inside.Header.{seen};
 ghost use Rattle.occ_script.specs.Lines.{cut_lines, text_of};
-ghost use Rattle.occ_script.specs.Rest.{IsAtMost, IsLess, IsNoFeed, IsRest, next_seen, script_left};
+ghost use Rattle.occ_script.specs.inside.Rest.{IsAtMost, IsLess, IsNoFeed, IsRest, next_seen, script_left};
 ghost use Rattle.occ_script.specs.Script.{command_at, script_from};
 ghost use Rattle.occ_script.specs.Script.Header.{Opens};
 

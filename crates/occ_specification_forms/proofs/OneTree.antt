@@ -23,7 +23,7 @@ use Rattle.occ_specification_forms.specs.declared.tree.Recast.TheVariants as rc
 use Rattle.occ_specification_forms.specs.declared.tree.Specification.TheVariants as sp
 use Rattle.occ_specification_forms.specs.declared.tree.Specified.{Specified}
 use Rattle.occ_specification_forms.specs.declared.tree.Specified.TheVariants as sd
-use Rattle.occ_specification_forms.specs.Lines.{element_line, value_line}
+use Rattle.occ_specification_forms.specs.inside.Lines.{element_line, value_line}
 use Rattle.occ_specification_forms.specs.Reading.{binding_word, start_of}
 use Rattle.occ_specification_forms.specs.Spelling.{colon, function_head_then, head_tokens, item_then, names_then, specified_tokens}
 use Rattle.occ_specification_forms.proofs.Lists.{ListEnds}

@@ -1,4 +1,4 @@
 pub mod Depth
-pub mod Lines
 pub mod Reading
 pub mod Spelling
+pub mod inside

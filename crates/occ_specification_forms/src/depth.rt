@@ -2,7 +2,9 @@ ghost use Rattle.occ_specification_forms.specs.Depth.{formal_group_dimensions, f
 ghost use Rattle.std.specs.Prelude.{IsTrue, ◌<◌, ◌↔◌};
 
 use super::{FormalGroup, FunctionHead, Head, ItemForm, Specification, Specified, ValueGroup};
-use occ_expression_forms::{Measured, TypeForm, any_has_many_dimensions, counted_has_many_dimensions};
+use occ_expression_forms::{
+    Measured, TypeForm, any_has_many_dimensions, counted_has_many_dimensions,
+};
 
 impl Measured for ItemForm {
     ghost dimensions = { item_dimensions };

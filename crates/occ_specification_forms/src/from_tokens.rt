@@ -8,7 +8,9 @@ ghost use Rattle.occ_specification_forms.specs.Spelling.{colon, in_parens, liste
 ghost use Rattle.std.specs.Prelude.{IfOk, IfSome, List, MatchOption, Some, [], length, ◌∷◌, ◌≡◌, ◌≢◌, ◌≤◌, ◌<◌};
 
 use occ_base::Items;
-use occ_expression_forms::{Element, Expr, TypeForm, after, element, expression, joined, type_form};
+use occ_expression_forms::{
+    Element, Expr, TypeForm, after, element, expression, joined, type_form,
+};
 use occ_lines::{Symbol, Token};
 use std::alloc::{AllocError, Global};
 

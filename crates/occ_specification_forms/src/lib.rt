@@ -23,5 +23,6 @@ pub use law::one_tree_law;
 pub use line::specified;
 pub use rows::{head_rows, line_rows, no_form_rows};
 pub use tree::{
-    FormalGroup, FunctionHead, Head, Inlined, ItemForm, Recast, Specification, Specified, ValueGroup,
+    FormalGroup, FunctionHead, Head, Inlined, ItemForm, Recast, Specification, Specified,
+    ValueGroup,
 };

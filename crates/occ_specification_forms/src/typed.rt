@@ -5,7 +5,7 @@ ghost use Rattle.occ_expression_forms.specs.declared.tree.TypeForm.{TypeForm as 
 ghost use Rattle.occ_lines.specs.declared.token.Symbol.TheVariants as s;
 ghost use Rattle.occ_lines.specs.declared.token.Token.TheVariants as t;
 ghost use Rattle.occ_lines.specs.declared.token.Word.TheVariants as w;
-ghost use Rattle.occ_specification_forms.specs.Lines.{element_line};
+ghost use Rattle.occ_specification_forms.specs.inside.Lines.{element_line};
 ghost use Rattle.occ_specification_forms.specs.Reading.{binding_word};
 ghost use Rattle.occ_specification_forms.specs.Spelling.{colon, function_head_then, function_then, listed, name_then, names_then, next, specification_tokens, specified_tokens};
 ghost use Rattle.occ_specification_forms.specs.declared.binding.Binding.{Binding as ABinding};

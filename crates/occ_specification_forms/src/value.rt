@@ -3,7 +3,7 @@ ghost use Rattle.occ_expression_forms.specs.declared.tree.Expr.{Expr as AnExpr};
 ghost use Rattle.occ_expression_forms.specs.declared.tree.TypeForm.{TypeForm as ATypeForm};
 ghost use Rattle.occ_lines.specs.declared.token.Token.TheVariants as t;
 ghost use Rattle.occ_lines.specs.declared.token.Word.TheVariants as w;
-ghost use Rattle.occ_specification_forms.specs.Lines.{value_line};
+ghost use Rattle.occ_specification_forms.specs.inside.Lines.{value_line};
 ghost use Rattle.occ_specification_forms.specs.Reading.{binding_word};
 ghost use Rattle.occ_specification_forms.specs.Spelling.{colon, specification_tokens, specified_tokens};
 ghost use Rattle.occ_specification_forms.specs.declared.binding.Binding.{Binding as ABinding};

@@ -231,7 +231,11 @@ fn no_parts(
 }
 
 /// A segment of what has no components.
-fn no_segment(alloc: Global, bounds: &BoundTerms, faults: &mut Items<Fault>) -> Result<Kind, AllocError>
+fn no_segment(
+    alloc: Global,
+    bounds: &BoundTerms,
+    faults: &mut Items<Fault>,
+) -> Result<Kind, AllocError>
     ensures kind { IfOk result (λ kind. kind ≡ (told_no_segment bounds.now).kind) }
     ensures faults { OnOk result (faults.new ≡ faults.old ++ (told_no_segment bounds.now).faults) }
 {

@@ -7,7 +7,7 @@ use Rattle.occ_tree.specs.declared.place.Frame.{Frame}
 use Rattle.occ_tree.specs.declared.row.Row.{Row}
 use Rattle.occ_tree.specs.declared.sort.Sort.{Sort}
 use Rattle.occ_tree.specs.declared.place.Place.{Place}
-use Rattle.occ_tree.specs.Frames.{frame_at, frame_of, open_parents, outer, place_at, places, still_open, turned}
+use Rattle.occ_tree.specs.inside.Frames.{frame_at, frame_of, open_parents, outer, place_at, places, still_open, turned}
 use Rattle.occ_tree.specs.Nesting.{behind_deeper, can_hold, elders, parent_depth, roots, row_at}
 use Rattle.occ_tree.specs.Wrong.{is_wrong, wrong, wrong_from}
 use Rattle.occ_tree.specs.Table.{row_under}

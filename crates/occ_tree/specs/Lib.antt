@@ -2,11 +2,10 @@ pub mod Table
 pub mod Siblings
 pub mod Nesting
 pub mod Wrong
-pub mod Elders
-pub mod Frames
 pub mod Sorts
 pub mod Faults
 pub mod Forest
 pub mod Shapes
 pub mod Samples
 pub mod Obeys
+pub mod inside

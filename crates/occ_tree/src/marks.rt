@@ -1,6 +1,6 @@
 ghost use Rattle.std.specs.Prelude.{◌≡◌, List, IfOk, OnOk};
 ghost use Rattle.occ_tree.specs.declared.outline.Outline.{Outline};
-ghost use Rattle.occ_tree.specs.Frames.{place_at};
+ghost use Rattle.occ_tree.specs.inside.Frames.{place_at};
 ghost use Rattle.occ_tree.specs.Nesting.{behind_deeper, first_deeper, roots as roots_of, sorts};
 ghost use Rattle.occ_tree.specs.Wrong.{close_is_next as next_is_close, is_wrong as line_is_wrong, wrong};
 

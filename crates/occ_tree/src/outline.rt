@@ -5,7 +5,7 @@ ghost use Rattle.occ_tree.specs.Sorts.{action_sort, body_sort, construct_sort, e
 use super::sort::Sort;
 use occ_base::Items;
 use occ_expression_forms::{Element, Expr, Operand};
-use occ_forms::{Action, Construct, Detail, Form, Guarded, ConstructKind, Part};
+use occ_forms::{Action, Construct, ConstructKind, Detail, Form, Guarded, Part};
 use occ_project::{ExpandedBody, ExpandedLine};
 use occ_specification_forms::{Head, Specification, Specified};
 use std::alloc::{AllocError, Global};
@@ -178,7 +178,8 @@ fn plain_sort_of(kind: ConstructKind) -> Sort
     ensures { result ≡ plain_sort kind }
 {
     match kind {
-        ConstructKind::Sequence | ConstructKind::Parallel | ConstructKind::PriParallel => Sort::Block,
+        ConstructKind::Sequence | ConstructKind::Parallel | ConstructKind::PriParallel =>
+            Sort::Block,
         ConstructKind::Conditional => Sort::Conditional,
         ConstructKind::Alternation | ConstructKind::PriAlternation => Sort::Alternation,
     }
@@ -188,7 +189,8 @@ fn replicated_sort_of(kind: ConstructKind) -> Sort
     ensures { result ≡ replicated_sort kind }
 {
     match kind {
-        ConstructKind::Sequence | ConstructKind::Parallel | ConstructKind::PriParallel => Sort::ReplicatedBlock,
+        ConstructKind::Sequence | ConstructKind::Parallel | ConstructKind::PriParallel =>
+            Sort::ReplicatedBlock,
         ConstructKind::Conditional => Sort::ReplicatedConditional,
         ConstructKind::Alternation | ConstructKind::PriAlternation => Sort::ReplicatedAlternation,
     }

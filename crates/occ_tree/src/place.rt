@@ -1,6 +1,6 @@
 ghost use Rattle.std.specs.Prelude.{◌≡◌, [], ◌∷◌, List, None, Some, IfOk, OnOk};
 ghost use Rattle.occ_tree.specs.declared.outline.Outline.{Outline};
-ghost use Rattle.occ_tree.specs.Frames.{frame_of, open_parents, places, still_open, turned};
+ghost use Rattle.occ_tree.specs.inside.Frames.{frame_of, open_parents, places, still_open, turned};
 ghost use Rattle.occ_tree.specs.Nesting.{can_hold as holding, is_right_under as right_under};
 ghost use Rattle.occ_tree.specs.declared.place.Frame.{Frame};
 ghost use Rattle.occ_tree.specs.declared.sort.Sort.{Sort};

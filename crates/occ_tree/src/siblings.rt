@@ -2,7 +2,7 @@ ghost use Rattle.std.specs.Prelude.{◌≡◌, ◌∷◌, [], List};
 ghost use Rattle.std.specs.List.{list_any};
 ghost use Rattle.occ_tree.specs.declared.row.Row.{Row};
 ghost use Rattle.occ_tree.specs.declared.sort.Sort.{Sort};
-ghost use Rattle.occ_tree.specs.Elders.{elders_of};
+ghost use Rattle.occ_tree.specs.inside.Elders.{elders_of};
 ghost use Rattle.occ_tree.specs.Siblings.{begins_specification as beginning, ends_specified as ending_specified, first_is, is_disordered as disordered, is_loose as loose, is_misplaced as misplaced, is_one_too_many as one_too_many, lacks as lacking};
 ghost use Rattle.occ_tree.specs.Table.{is_close as close, is_main as main, is_process as process, is_result as result_line};
 

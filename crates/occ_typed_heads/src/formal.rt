@@ -113,7 +113,11 @@ fn entry(alloc: Global, known: bool, one: &HeadFormal) -> Result<Entry, AllocErr
 }
 
 /// The formals as they stand in scope in the body.
-pub fn entries(alloc: Global, known: bool, formals: &[HeadFormal]) -> Result<Items<Entry>, AllocError>
+pub fn entries(
+    alloc: Global,
+    known: bool,
+    formals: &[HeadFormal],
+) -> Result<Items<Entry>, AllocError>
     ensures { IfOk result (λ entries. entries ≡ told_entries known formals.now) }
 {
     let mut entries = Items::new(alloc);

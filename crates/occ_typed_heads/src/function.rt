@@ -1,7 +1,7 @@
 ghost use Rattle.std.specs.Prelude.{◌≡◌, ◌++◌, IfOk, OnOk};
 ghost use Rattle.occ_typed_heads.specs.Heads.{function, function_heading as told_heading, function_meaning as told_meaning, function_results as told_results, types_known as types_are_known};
 
-use super::formal::{HeadFormal, all_known, entries, called_formals};
+use super::formal::{HeadFormal, all_known, called_formals, entries};
 use super::group::value_groups;
 use super::heading::Heading;
 use super::result_type::{all_found, known_types, result_types, unless_told};

@@ -6,12 +6,12 @@ ghost use Rattle.occ_specification_forms.specs.declared.tree.FormalGroup.TheVari
 
 use super::formal::{HeadFormal, push_formal, push_formals};
 use occ_base::{Fault, Items, Name, Shared};
-use occ_typed_specifications::{repeated_all, tell_no_data};
 use occ_expr::{Opening, data_form, type_form};
 use occ_expression_forms::TypeForm;
 use occ_names::Scope;
 use occ_scope::Scopes;
 use occ_specification_forms::{FormalGroup, ValueGroup};
+use occ_typed_specifications::{repeated_all, tell_no_data};
 use occ_types::{OccType, Passing};
 use std::alloc::{AllocError, Global};
 

@@ -1,7 +1,7 @@
 ghost use Rattle.std.specs.Prelude.{◌≡◌, ◌++◌, IfOk, OnOk};
 ghost use Rattle.occ_typed_heads.specs.Heads.{procedure, procedure_heading as told_heading, procedure_meaning as told_meaning};
 
-use super::formal::{HeadFormal, all_known, entries, called_formals};
+use super::formal::{HeadFormal, all_known, called_formals, entries};
 use super::group::groups;
 use super::heading::Heading;
 use super::result_type::unless_told;
@@ -11,7 +11,11 @@ use occ_specification_forms::FormalGroup;
 use std::alloc::{AllocError, Global};
 
 /// What the name of a procedure stands for: nothing is known of it, if its head has a fault.
-fn procedure_meaning(alloc: Global, known: bool, formals: &[HeadFormal]) -> Result<Meaning, AllocError>
+fn procedure_meaning(
+    alloc: Global,
+    known: bool,
+    formals: &[HeadFormal],
+) -> Result<Meaning, AllocError>
     ensures { IfOk result (λ meaning. meaning ≡ told_meaning known formals.now) }
 {
     if known {
@@ -21,7 +25,11 @@ fn procedure_meaning(alloc: Global, known: bool, formals: &[HeadFormal]) -> Resu
 }
 
 /// What the head of a procedure with these formals makes known.
-fn procedure_heading(alloc: Global, known: bool, formals: &[HeadFormal]) -> Result<Heading, AllocError>
+fn procedure_heading(
+    alloc: Global,
+    known: bool,
+    formals: &[HeadFormal],
+) -> Result<Heading, AllocError>
     ensures { IfOk result (λ heading. heading ≡ told_heading known formals.now) }
 {
     let meaning = procedure_meaning(alloc, known, formals)?;

@@ -3,9 +3,9 @@ ghost use Rattle.occ_typed_heads.specs.Knowing.{all_found as all_are_found, is_k
 ghost use Rattle.occ_typed_heads.specs.Results.{results as told_results};
 
 use occ_base::{Fault, Items, Shared};
-use occ_typed_specifications::data_form_type;
 use occ_expression_forms::TypeForm;
 use occ_names::Scope;
+use occ_typed_specifications::data_form_type;
 use occ_types::OccType;
 use std::alloc::{AllocError, Global};
 

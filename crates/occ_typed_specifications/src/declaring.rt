@@ -9,8 +9,8 @@ use occ_base::{Fault, Items, Name, Shared};
 use occ_expr::{Opening, type_form};
 use occ_expression_forms::TypeForm;
 use occ_names::{Access, Entry, Meaning, Scope, Whole};
-use occ_type_rules::repeated;
 use occ_scope::Scopes;
+use occ_type_rules::repeated;
 use occ_types::OccType;
 use std::alloc::{AllocError, Global};
 

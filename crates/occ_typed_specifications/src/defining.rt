@@ -9,8 +9,8 @@ use occ_base::{Code, Fault, Items, Name, Shared, tell};
 use occ_expr::{Opening, type_form};
 use occ_expression_forms::TypeForm;
 use occ_names::{Entry, Meaning, Scope, one_entry};
-use occ_type_rules::of_data;
 use occ_tables::is_too_large;
+use occ_type_rules::of_data;
 use occ_types::OccType;
 use std::alloc::{AllocError, Global};
 

@@ -2,7 +2,9 @@ ghost use Rattle.std.specs.Prelude.{◌≡◌};
 ghost use Rattle.occ_typed_specifications.specs.Mentions.{by_access as told_by_access, in_any_dimension, in_any_expr, in_any_operand, in_bounds, in_builtin, in_dimension, in_element, in_expr, in_named_operand, in_operand, in_type_form, names_variable as name_of_variable};
 
 use occ_base::Name;
-use occ_expression_forms::{Bounds, Builtin, Dimension, Element, Expr, NamedOperand, Operand, TypeForm};
+use occ_expression_forms::{
+    Bounds, Builtin, Dimension, Element, Expr, NamedOperand, Operand, TypeForm,
+};
 use occ_names::{Access, Meaning, Scope};
 
 /// Whether what a name stands for is a variable or a formal.

@@ -8,8 +8,8 @@ use occ_expr::{Opening, expression, type_form};
 use occ_expression_forms::{Expr, TypeForm};
 use occ_names::{Access, Entry, Meaning, Scope, Whole, one_entry};
 use occ_operands::Kind;
-use occ_type_rules::{abbreviated, abbreviated_as};
 use occ_tables::Term;
+use occ_type_rules::{abbreviated, abbreviated_as};
 use occ_types::OccType;
 use std::alloc::{AllocError, Global};
 

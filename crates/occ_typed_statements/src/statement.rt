@@ -8,11 +8,11 @@ use occ_expr::expression;
 use occ_expression_forms::{Element, Expr};
 use occ_names::Scope;
 use occ_operands::Kind;
+use occ_tables::{Term, any_has_fault};
 use occ_type_rules::{
     assigned, condition as judge_condition, options as choose, results as compare,
     selector as select,
 };
-use occ_tables::{Term, any_has_fault};
 use occ_types::OccType;
 use std::alloc::{AllocError, Global};
 use std::collections::BTreeSet;

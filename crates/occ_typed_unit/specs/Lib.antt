@@ -1,4 +1,4 @@
 pub mod Forms
 pub mod Lines
-pub mod Opening
 pub mod Units
+pub mod inside

@@ -5,7 +5,7 @@ ghost use Rattle.occ_tree.specs.Forest.{forest_of};
 ghost use Rattle.occ_tree.specs.declared.tree.Node.{out-Node};
 ghost use Rattle.occ_typed_unit.specs.Lines.{is_process as counts, is_process_form as counts_form, line_with, own_process, process_number, processes, typed_line, typed_lines as told_lines};
 ghost use Rattle.occ_typed_unit.specs.Forms.{line_form as told_form};
-ghost use Rattle.occ_typed_unit.specs.Opening.{with_children, opened_at};
+ghost use Rattle.occ_typed_unit.specs.inside.Opening.{with_children, opened_at};
 ghost use Rattle.occ_typing.specs.Units.{behind_line as told_behind, judged as told_judged};
 ghost use Rattle.std.specs.Prelude.{◌≡◌, ◌+◌, ◌∷◌, ◌++◌, [], IfOk, OnOk, length};
 

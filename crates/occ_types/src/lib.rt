@@ -23,8 +23,8 @@ pub use fit::{
     alike, array_of, as_primitive, base_of, fields_of, fits, is_data, is_unknown, unnamed,
 };
 pub use interface::{
-    Effect, Export, ExportKind, Formal, FormalUse, Interface, Interval, Mark, PartSelector, Passing,
-    Places, UseKind,
+    Effect, Export, ExportKind, Formal, FormalUse, Interface, Interval, Mark, PartSelector,
+    Passing, Places, UseKind,
 };
 pub use literal::{value_of_number, value_of_pattern};
 pub use measure::{Measure, measure_of, measure_protocol};

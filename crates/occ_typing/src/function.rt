@@ -8,9 +8,9 @@ ghost use Rattle.std.specs.Prelude.{◌≡◌, ◌∷◌, ◌++◌, IfOk, OnOk};
 use super::part::results_of;
 use occ_base::{Fault, Items, Shared};
 use occ_expression_forms::Expr;
-use occ_typed_heads::{Heading, function_head};
 use occ_names::{Entry, Meaning, Scope};
 use occ_specification_forms::FunctionHead;
+use occ_typed_heads::{Heading, function_head};
 use occ_types::OccType;
 use std::alloc::{AllocError, Global};
 

@@ -12,11 +12,11 @@ use super::line::specifying;
 use super::parent::{Line, Parent};
 use super::record::record_of;
 use occ_base::{Code, Diag, Fault, Items, Name, tell};
-use occ_typed_specifications::record;
-use occ_typed_heads::{function_head, procedure_head};
 use occ_names::{Entry, Meaning, Scope, one_entry};
 use occ_specification_forms::Head;
 use occ_tree::Node;
+use occ_typed_heads::{function_head, procedure_head};
+use occ_typed_specifications::record;
 use std::alloc::{AllocError, Global};
 
 /// The head of a specification with this name, behind whose lines it stands for this.

@@ -6,13 +6,13 @@ ghost use Rattle.std.specs.Prelude.{◌≡◌, ◌++◌, [], IfOk, OnOk};
 
 use super::place::place;
 use occ_base::{Diag, Fault, Items};
-use occ_typed_specifications::fields;
 use occ_forms::{Form, Part};
 use occ_names::Scope;
 use occ_project::ExpandedBody;
 use occ_scope::Scopes;
 use occ_specification_forms::{Specification, Specified};
 use occ_tree::Node;
+use occ_typed_specifications::fields;
 use occ_types::{Field, Packing};
 use std::alloc::{AllocError, Global};
 

@@ -5,9 +5,9 @@ use super::function::function_line;
 use super::line::line_of_one;
 use super::parent::{Line, Parent};
 use occ_base::{Fault, Items};
-use occ_typed_specifications::{data_type, declaration, unknown, value};
 use occ_names::{Scope, one_entry};
 use occ_specification_forms::Specification;
+use occ_typed_specifications::{data_type, declaration, unknown, value};
 use std::alloc::{AllocError, Global};
 
 /// A specification of one line.

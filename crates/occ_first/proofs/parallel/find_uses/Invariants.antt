@@ -1,5 +1,5 @@
 use Rattle.std.proofs.Common.{◌≡◌, ◌++◌, ◌+◌, [], List, length}
-use Rattle.occ_first.specs.Marks.{Marks}
+use Rattle.occ_first.specs.inside.Marks.{Marks}
 use Rattle.occ_first.specs.Parallel.{LineAt, uses}
 use Rattle.occ_first.proofs.parallel.find_uses.Given as goal
 

@@ -4,7 +4,7 @@ use Rattle.std.specs.Option.{option_map}
 use Rattle.occ_forms.specs.declared.source.SourceLine.{SourceLine}
 use Rattle.occ_project.specs.declared.expansion.Inner.{Inner}
 use Rattle.occ_project.specs.Entries.{FileEntries}
-use Rattle.occ_project.specs.Making.{after}
+use Rattle.occ_project.specs.inside.Making.{after}
 use Rattle.occ_project.proofs.Inclusions.{entries_are, inner_done, line_done, over_now, popped, some_left}
 use Rattle.occ_project.proofs.expansion.+add_file.Goals as goal
 

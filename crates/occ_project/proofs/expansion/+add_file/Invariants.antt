@@ -1,6 +1,6 @@
 use Rattle.std.proofs.Common.{◌≡◌, drop}
 use Rattle.occ_project.specs.Entries.{entries, file_entries}
-use Rattle.occ_project.specs.Making.{after}
+use Rattle.occ_project.specs.inside.Making.{after}
 use Rattle.occ_project.proofs.Inclusions.{inner_of}
 use Rattle.occ_project.proofs.expansion.+add_file.Given as goal
 

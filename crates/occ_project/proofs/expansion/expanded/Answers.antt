@@ -4,7 +4,7 @@ use Rattle.occ_forms.specs.declared.source.SourceLine.{SourceLine}
 use Rattle.occ_project.specs.declared.making.Made.{Made}
 use Rattle.occ_project.specs.Entries.{entries}
 use Rattle.occ_project.specs.Expansion.{first_places, unit_entries}
-use Rattle.occ_project.specs.Making.{after}
+use Rattle.occ_project.specs.inside.Making.{after}
 use Rattle.occ_project.proofs.Expansions.{expansion_is, shown, started}
 use Rattle.occ_project.proofs.expansion.expanded.Goals as goal
 use Rattle.occ_project.proofs.expansion.expanded.Goals.{in-Some+in_ok-push-2+in_ok-add_file, in_default}

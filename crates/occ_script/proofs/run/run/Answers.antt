@@ -1,6 +1,6 @@
 use Rattle.std.proofs.Common.{◌∙◌, arith}
 use Rattle.occ_script.specs.Lines.{cut_lines}
-use Rattle.occ_script.specs.Rest.{script_left}
+use Rattle.occ_script.specs.inside.Rest.{script_left}
 use Rattle.occ_script.specs.Script.{script_from}
 use Rattle.occ_script.proofs.Running.{behind_more, one_command, told_device, told_end, told_fault, told_memory, reads_next}
 use Rattle.occ_script.proofs.run.run.Goals as goal

@@ -1,7 +1,7 @@
 use Rattle.std.proofs.Common.{◌≡◌, ◌+◌, ◌≤◌, false, length}
 use Rattle.occ_script.specs.Lines.{cut_lines}
 use Rattle.occ_script.specs.Machine.{IsReading, Reading}
-use Rattle.occ_script.specs.Rest.{IsRest, script_left}
+use Rattle.occ_script.specs.inside.Rest.{IsRest, script_left}
 use Rattle.occ_script.specs.Script.{script_from}
 use Rattle.occ_script.proofs.Running.{IsSoFar, behind}
 use Rattle.occ_script.proofs.run.run.Given as goal

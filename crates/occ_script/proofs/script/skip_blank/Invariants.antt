@@ -1,8 +1,8 @@
 use Rattle.std.proofs.Common.{◌≡◌, ◌≤◌, ◌<◌, ◌+◌, ◌^◌, length}
-use Rattle.occ_script.specs.Ended.{IsEnded}
+use Rattle.occ_script.specs.inside.Ended.{IsEnded}
 use Rattle.occ_script.specs.Lines.{cut_lines}
 use Rattle.occ_script.specs.Script.{script_from}
-use Rattle.occ_script.specs.Rest.{script_left}
+use Rattle.occ_script.specs.inside.Rest.{script_left}
 use Rattle.occ_script.proofs.script.skip_blank.Given as goal
 
 abbrev pub invariant-loop-behind : goal.invariant-loop-behind

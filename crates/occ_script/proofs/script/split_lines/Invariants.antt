@@ -1,5 +1,5 @@
 use Rattle.std.proofs.Common.{◌≡◌, ◌≤◌, ◌+◌, ◌++◌, length, take, drop}
-use Rattle.occ_script.specs.Ended.{IsEnded}
+use Rattle.occ_script.specs.inside.Ended.{IsEnded}
 use Rattle.occ_script.specs.Lines.{cut_lines, text_of}
 use Rattle.occ_script.proofs.script.split_lines.Given as goal
 

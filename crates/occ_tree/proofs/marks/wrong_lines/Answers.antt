@@ -1,5 +1,5 @@
 use Rattle.std.proofs.Common.{◌∙◌, [], sym}
-use Rattle.occ_tree.specs.Frames.{turned}
+use Rattle.occ_tree.specs.inside.Frames.{turned}
 use Rattle.occ_tree.proofs.Walk.{turned_twice, wrong_done, wrong_more}
 use Rattle.occ_tree.proofs.marks.wrong_lines.Goals as goal
 

@@ -1,6 +1,6 @@
 use Rattle.std.proofs.Common.{◌≡◌, List, length}
 use Rattle.occ_tree.specs.declared.outline.Outline.{Outline}
-use Rattle.occ_tree.specs.Frames.{places, turned}
+use Rattle.occ_tree.specs.inside.Frames.{places, turned}
 use Rattle.occ_tree.specs.Nesting.{roots}
 use Rattle.occ_tree.specs.Wrong.{wrong_from}
 use Rattle.occ_tree.proofs.marks.wrong_lines.Given as goal

@@ -1,6 +1,6 @@
 use Rattle.std.proofs.Common.{◌≡◌, ◌∷◌, [], List, length}
 use Rattle.occ_tree.specs.declared.outline.Outline.{Outline}
-use Rattle.occ_tree.specs.Frames.{open_parents, places, turned}
+use Rattle.occ_tree.specs.inside.Frames.{open_parents, places, turned}
 use Rattle.occ_tree.proofs.place.find_places.Given as goal
 
 abbrev pub invariant-loop-line : goal.invariant-loop-line

@@ -1,5 +1,5 @@
 use Rattle.std.proofs.Common.{◌≡◌, ◌∷◌, length}
-use Rattle.occ_tree.specs.Frames.{still_open}
+use Rattle.occ_tree.specs.inside.Frames.{still_open}
 use Rattle.occ_tree.proofs.place.Open.close.Given as goal
 
 abbrev pub invariant-loop-self : goal.invariant-loop-self

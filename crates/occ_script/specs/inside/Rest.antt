@@ -1,6 +1,6 @@
 -- What the program's values of a script stand for.
 use Rattle.std.specs.Prelude.{ℕ, ◌≡◌, ◌+◌, ◌<◌, ◌≤◌, ◌^◌, List, [], ◌∷◌, Some, None, length}
-use Rattle.occ_script.specs.Ended.{IsEnded}
+use Rattle.occ_script.specs.inside.Ended.{IsEnded}
 use Rattle.occ_script.specs.Lines.{cut_lines}
 use Rattle.occ_script.specs.Script.{Command, Script, script_from, ended, then}
 use Rattle.occ_script.specs.Script.Command.{Open, Take, Finish, Report}

@@ -6,7 +6,7 @@ use Rattle.occ_tree.specs.declared.place.Place.{Place}
 use Rattle.occ_tree.specs.declared.row.Row.{Row}
 use Rattle.occ_tree.specs.declared.row.Row.TheVariants as row
 use Rattle.occ_tree.specs.declared.sort.Sort.{Sort}
-use Rattle.occ_tree.specs.Elders.{elders_of}
+use Rattle.occ_tree.specs.inside.Elders.{elders_of}
 use Rattle.occ_tree.specs.Nesting.{can_hold, elders, parent_depth, row_at}
 use Rattle.occ_tree.specs.Table.{row_under}
 

@@ -1,0 +1,4 @@
+-- what no contract of a public call rests on
+pub mod Classes
+pub mod Details
+pub mod Received

@@ -1,0 +1,5 @@
+-- what no contract of a public call rests on
+pub mod Header
+pub mod Board
+pub mod Ended
+pub mod Rest
