@@ -25,9 +25,8 @@ mod tree;
 mod types;
 
 pub use depth::{
-    array_has_many_dimensions, counted_has_many_dimensions, data_form_has_many_dimensions,
-    element_has_many_dimensions, expr_has_many_dimensions, opens_too_many,
-    prefixed_has_many_dimensions, type_form_has_many_dimensions,
+    array_has_many_dimensions, counted_has_many_dimensions, opens_too_many,
+    prefixed_has_many_dimensions,
 };
 pub use inner_token::mark;
 pub use laws::{mark_law, most_end_law, one_reading_law, one_tree_law};

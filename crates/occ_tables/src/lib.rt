@@ -16,7 +16,7 @@ mod term;
 pub use beside::operand;
 pub use decorate::{decorated, decorated_table};
 pub use dimension::size;
-pub use extent::{arrayed, is_too_large};
+pub use extent::is_too_large;
 pub use measure::{Limit, most, sized};
 pub use merge::merged;
 pub use placing::{any_has_fault, has_fault, item};

@@ -59,10 +59,6 @@ abbrev pub bytes_in : Option ℕ → Option ℕ
 bytes_in (Some n) = cond (nat_le n 2147483647) (Some n) None
 bytes_in None = None
 
-abbrev pub is_known : Option ℕ → Bool
-is_known None = false
-is_known (Some n) = true
-
 -- over 2147483647
 abbrev pub is_over : Option ℕ → Bool
 is_over None = false

@@ -29,7 +29,7 @@ pub use interface::{
 pub use literal::{value_of_number, value_of_pattern};
 pub use measure::{Measure, measure_of, measure_protocol};
 pub use same::{same_protocol, same_type};
-pub use size::{bytes_of, has_bytes, is_oversized};
+pub use size::{bytes_of, is_oversized};
 pub use types::{Field, Item, OccType, Packing, Protocol, Tag};
 pub use unknown::holds_unknown;
 pub use value::{Primitive, Value};

@@ -1,7 +1,7 @@
 #![tactic(auto, using(crate::proofs::Sizes::size_rules))]
 
 ghost use Rattle.std.specs.Prelude.{IfSome, ◌+◌, ◌≡◌, ◌≤◌};
-ghost use Rattle.occ_types.specs.Size.{bytes_in, capped, cut, field_sizes, is_known, is_over, primitive_size, product_of, size_of, total_of};
+ghost use Rattle.occ_types.specs.Size.{bytes_in, capped, cut, field_sizes, is_over, primitive_size, product_of, size_of, total_of};
 
 use super::{Field, OccType, Primitive};
 
@@ -10,14 +10,6 @@ pub fn bytes_of(of: &OccType) -> Option<u32>
     ensures { result ≡ bytes_in (size_of of.now) }
 {
     within(extent(of))
-}
-
-/// Whether a type has bytes, be they too many: it is and holds no channel, no timer and no unknown type, and has no open
-/// dimension.
-pub fn has_bytes(of: &OccType) -> bool
-    ensures { result ≡ is_known (size_of of.now) }
-{
-    extent(of).is_some()
 }
 
 /// Whether a type has over 2,147,483,647 bytes.
