@@ -1,21 +1,14 @@
-//! The tests of the crates, each through what a crate has public.
+//! What no row shows: the public calls that no script reaches, and what they refuse; the form of operands with one
+//! operator between each two; the typed tree of a unit.
 #![tactic(auto)]
 
 #[cfg(test)]
-mod base;
+mod expansion;
 #[cfg(test)]
-mod forms;
-#[cfg(test)]
-mod lines;
-#[cfg(test)]
-mod names;
-#[cfg(test)]
-mod process;
-#[cfg(test)]
-mod project;
+mod form;
 #[cfg(test)]
 mod scope;
 #[cfg(test)]
-mod tree;
+mod typed;
 #[cfg(test)]
 mod types;

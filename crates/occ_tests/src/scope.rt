@@ -1,16 +1,13 @@
 use occ_base::Name;
-use occ_scope::Scopes;
+use occ_names::{Meaning, Scope};
 use std::test::Fail;
 
 #[test]
-fn finds_the_nearest(rt: HostRuntime) -> Result<(), Fail> {
-    let alloc = rt.alloc();
-    let a = Name::from_slice(alloc, b"a")?;
-    let mut scopes = Scopes::new(alloc);
-    assert_eq!(rt; scopes.enter(alloc, &a)?, 0);
-    assert_eq!(rt; scopes.enter(alloc, &a)?, 1);
-    assert_eq!(rt; scopes.find(&a), Some(1));
-    scopes.leave();
-    assert_eq!(rt; scopes.find(&a), Some(0));
+fn a_name_that_is_entered_alone_is_found(rt: HostRuntime) -> Result<(), Fail> {
+    let a = rt.alloc();
+    let name = Name::from_slice(a, b"x")?;
+    let mut scope = Scope::new(a);
+    scope.enter(a, &name, Meaning::Faulty)?;
+    assert!(rt; matches!(scope.find(&name), Some(Meaning::Faulty)));
     Ok(())
 }
