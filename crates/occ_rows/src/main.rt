@@ -1,6 +1,6 @@
 //! Runs the scripts of data/, each named by a line of data/rows.txt, and compares what they write and their
 //! status with what is wanted; then runs one of them over devices that fail at each of their calls in turn, and a
-//! script that never ends.
+//! script that never ends. A row is named by the rule that it shows; a sample of data/samples/ shows several.
 #![tactic(auto)]
 
 mod devices;
@@ -20,23 +20,23 @@ use std::{fs, io};
 use tally::Tally;
 
 /// The row whose script is run over failing devices.
-const FIRST: &str = "first";
+const DRIVEN: &str = "components_may_not_write_one_variable";
 
-/// More calls than a run of the first row makes.
+/// More calls than a run of that row makes.
 const CALLS: u32 = 1000;
 
 fn main(rt: HostRuntime) -> io::Result<()> {
     let rows = read_rows(&rt)?;
-    let first = read_row(&rt, FIRST)?;
+    let driven = read_row(&rt, DRIVEN)?;
     println!(rt; "rows: {}", run_rows(&rt, rows.as_slice())?)?;
-    println!(rt; "reads that fail: {}", refused_reads(rt.alloc(), &first))?;
+    println!(rt; "reads that fail: {}", refused_reads(rt.alloc(), &driven))?;
     println!(rt;
         "writes that fail: {}",
-        refused_writes(rt.alloc(), &first, false)
+        refused_writes(rt.alloc(), &driven, false)
     )?;
     println!(rt;
         "writes that take nothing: {}",
-        refused_writes(rt.alloc(), &first, true)
+        refused_writes(rt.alloc(), &driven, true)
     )?;
     println!(rt; "a script without end: {}", endless(rt.alloc()))
 }
