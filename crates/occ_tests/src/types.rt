@@ -1,7 +1,7 @@
 use occ_base::{Items, Name, Shared};
 use occ_types::{
     Effect, Export, ExportKind, FormalUse, Interface, OccType, Primitive, Protocol, UseKind,
-    bytes_of, has_bytes, same_interface, same_protocol, same_type,
+    bytes_of, same_interface, same_protocol, same_type,
 };
 use std::alloc::{AllocError, Global};
 use std::test::Fail;
@@ -19,7 +19,6 @@ fn types_are_told_apart_and_counted(rt: HostRuntime) -> Result<(), Fail> {
     assert!(rt; same_type(&three, &array(a, 3)?));
     assert!(rt; !same_type(&three, &array(a, 4)?));
     assert!(rt; same_protocol(&Protocol::Any, &Protocol::Any));
-    assert!(rt; has_bytes(&three));
     assert!(rt; matches!(bytes_of(&three), Some(12)));
     Ok(())
 }
