@@ -1,0 +1,4 @@
+-- what no contract of a public call rests on
+pub mod Searching
+pub mod Ranking
+pub mod Circling

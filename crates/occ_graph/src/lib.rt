@@ -1,0 +1,11 @@
+//! Graphs by places, whatever their nodes are: circles, what a node rests on outside of circles, and recursion along that.
+#![tactic(auto)]
+
+mod circles;
+pub mod laws;
+mod order;
+mod ranks;
+pub mod rows;
+mod search;
+
+pub use circles::find_rests;
