@@ -1,6 +1,6 @@
 use occ_base::{FileName, Items, Shared};
 use occ_forms::prepare;
-use occ_project::{ExpandFault, Read, expand};
+use occ_project::{ExpandFault, ExpandedLine, Read, expand};
 use std::alloc::Global;
 use std::test::Fail;
 
@@ -14,28 +14,51 @@ pub fn open(alloc: Global, name: &str, text: &str) -> Result<Read, Fail> {
     })
 }
 
+/// Whether this file is told not to be given.
+fn is_missing(fault: ExpandFault, file: &[u8]) -> bool {
+    match fault {
+        ExpandFault::NotGiven(missing) => missing.as_bytes() == file,
+        ExpandFault::Memory => false,
+    }
+}
+
+/// Whether a line stands there.
+fn stands_at(line: &ExpandedLine, file: &[u8], number: u32, depth: u64) -> bool {
+    line.file.as_bytes() == file && line.line == number && line.depth == depth
+}
+
+/// Whether a line uses this unit.
+fn uses(line: &ExpandedLine, unit: &[u8]) -> bool {
+    match line.units().first() {
+        Some(used) => used.as_bytes() == unit,
+        None => false,
+    }
+}
+
+#[test]
+fn a_file_that_is_not_given_is_told(rt: HostRuntime) -> Result<(), Fail> {
+    let a = rt.alloc();
+    let mut reads = Items::new(a);
+    reads.push(open(a, "a.occ", "#INCLUDE \"k.inc\"\n")?)?;
+    let is_told = match expand(a, &reads, FileName::read(b"a.occ")?) {
+        Ok(_) => false,
+        Err(fault) => is_missing(fault, b"k.inc"),
+    };
+    assert!(rt; is_told);
+    Ok(())
+}
+
 #[test]
 fn a_unit_is_expanded_once_its_files_are_given(rt: HostRuntime) -> Result<(), Fail> {
     let a = rt.alloc();
-    let unit = FileName::read(b"a.occ")?;
     let mut reads = Items::new(a);
     reads.push(open(a, "a.occ", "  #INCLUDE \"k.inc\"\n#USE \"b\"\n")?)?;
-    let Err(ExpandFault::NotGiven(missing)) = expand(a, &reads, unit) else {
-        panic!(rt; "nothing is asked for");
-    };
-    assert_eq!(rt; missing.as_bytes(), b"k.inc".as_slice());
     reads.push(open(a, "k.inc", "\n  SKIP\n")?)?;
-    let expanded = expand(a, &reads, unit)?;
+    let expanded = expand(a, &reads, FileName::read(b"a.occ")?)?;
     assert!(rt; expanded.faults().is_empty());
     assert_eq!(rt; expanded.reads().len(), 2);
-    let [included, uses] = expanded.lines() else {
-        panic!(rt; "other lines than two");
-    };
-    assert_eq!(rt; included.file.as_bytes(), b"k.inc".as_slice());
-    assert!(rt; included.line == 2 && included.depth == 2);
-    let [used] = uses.units() else {
-        panic!(rt; "other units than one");
-    };
-    assert_eq!(rt; used.as_bytes(), b"b.occ".as_slice());
+    assert_eq!(rt; expanded.lines().len(), 2);
+    assert!(rt; matches!(expanded.lines().first(), Some(line) if stands_at(line, b"k.inc", 2, 2)));
+    assert!(rt; matches!(expanded.lines().last(), Some(line) if uses(line, b"b.occ")));
     Ok(())
 }
