@@ -1,6 +1,6 @@
 use occ_base::{FileName, Items, Shared};
 use occ_forms::prepare;
-use occ_project::{ExpandFault, ExpandedLine, Read, expand};
+use occ_project::{ExpandFault, ExpandedLine, Read, Reads, expand};
 use std::alloc::Global;
 use std::test::Fail;
 
@@ -22,6 +22,14 @@ fn is_missing(fault: ExpandFault, file: &[u8]) -> bool {
     }
 }
 
+/// Whether the expansion of a.occ over these files tells that this one is not given.
+fn is_told_missing(alloc: Global, reads: &Reads, file: &[u8]) -> Result<bool, Fail> {
+    match expand(alloc, reads, FileName::read(b"a.occ")?) {
+        Ok(_expanded) => Ok(false),
+        Err(fault) => Ok(is_missing(fault, file)),
+    }
+}
+
 /// Whether a line stands there.
 fn stands_at(line: &ExpandedLine, file: &[u8], number: u32, depth: u64) -> bool {
     line.file.as_bytes() == file && line.line == number && line.depth == depth
@@ -40,11 +48,7 @@ fn a_file_that_is_not_given_is_told(rt: HostRuntime) -> Result<(), Fail> {
     let a = rt.alloc();
     let mut reads = Items::new(a);
     reads.push(open(a, "a.occ", "#INCLUDE \"k.inc\"\n")?)?;
-    let is_told = match expand(a, &reads, FileName::read(b"a.occ")?) {
-        Ok(_) => false,
-        Err(fault) => is_missing(fault, b"k.inc"),
-    };
-    assert!(rt; is_told);
+    assert!(rt; is_told_missing(a, &reads, b"k.inc")?);
     Ok(())
 }
 
