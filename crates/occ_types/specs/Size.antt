@@ -1,5 +1,5 @@
 -- The bytes of a type.
-use Rattle.std.specs.Prelude.{ℕ, ◌+◌, ◌*◌, min, nat_le, cond, Bool, false, not, Option, Some, None, List, [], ◌∷◌}
+use Rattle.std.specs.Prelude.{ℕ, ◌+◌, ◌*◌, min, nat_le, cond, Bool, true, false, not, Option, Some, None, List, [], ◌∷◌}
 use Rattle.occ_types.specs.declared.types.Item.TheOpen.{OccType-F, Field-F}
 use Rattle.occ_types.specs.declared.types.Item.TheFolds.{fold-OccType}
 use Rattle.occ_types.specs.declared.types.OccType.{OccType}
