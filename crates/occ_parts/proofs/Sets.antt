@@ -1,0 +1,138 @@
+-- What the computations on sets of places say of the places that lie in them.
+use Rattle.std.proofs.Common.{◌≡◌, ◌+◌, ℕ, Bool, true, false, ap, sym, ◌∙◌, refl, arith}
+use Rattle.std.specs.Prelude.{ℤ, pos, ◌+ℤ◌, ◌-ℤ◌, int_le, unsigned_abs, ◌&&◌, ◌||◌, ◌↔◌, Option, Some, None, IfSome, if◌then◌else◌}
+use Rattle.std.specs.Int.{int_max, int_min}
+use Rattle.std.proofs.lemmas.Int.{ints}
+use Rattle.occ_types.specs.declared.interface.Places.{Places}
+use Rattle.occ_types.specs.declared.interface.Places.TheVariants as places
+use Rattle.occ_parts.specs.Places.{Meet, common, holds, is_none, meet, run_to, short_run, united}
+
+run_case : (t : Bool) (a b x : ℤ) → int_le a b ≡ t → holds (if t then places.Run a (unsigned_abs (b -ℤ a)) else places.None) x ≡ (int_le a x && int_le x b)
+run_case true a b x e = grind (arith, ints)
+run_case false a b x e = grind (arith, ints)
+
+pub run_to_holds : (a b x : ℤ) → holds (run_to a b) x ≡ (int_le a x && int_le x b)
+run_to_holds a b x = run_case (int_le a b) a b x refl
+
+pub common_holds : (p q : Places) (x : ℤ) → holds (common p q) x ≡ (holds p x && holds q x)
+common_holds places.None q x = refl
+common_holds places.All q x = refl
+common_holds (places.From a) places.None x = grind arith
+common_holds (places.From a) places.All x = grind arith
+common_holds (places.From a) (places.From b) x = grind (arith, ints)
+common_holds (places.From a) (places.Run b m) x = run_to_holds (int_max a b) (b +ℤ pos m) x ∙ grind (arith, ints)
+common_holds (places.Run a n) places.None x = grind arith
+common_holds (places.Run a n) places.All x = grind arith
+common_holds (places.Run a n) (places.From b) x = run_to_holds (int_max a b) (a +ℤ pos n) x ∙ grind (arith, ints)
+common_holds (places.Run a n) (places.Run b m) x = run_to_holds (int_max a b) (int_min (a +ℤ pos n) (b +ℤ pos m)) x ∙ grind (arith, ints)
+
+-- a set that is not empty, and a place in it
+pub some_place : (p : Places) → is_none p ≡ false → (x : ℤ) × (holds p x ≡ true)
+some_place places.None h = cc
+some_place places.All h = (pos 0, refl)
+some_place (places.From a) h = (a, grind (arith, ints))
+some_place (places.Run a n) h = (a, grind (arith, ints))
+
+pub no_place : (p : Places) (x : ℤ) → is_none p ≡ true → holds p x ≡ false
+no_place places.None x h = refl
+no_place places.All x h = cc
+no_place (places.From a) x h = cc
+no_place (places.Run a n) x h = cc
+
+meet_some : (t : Bool) (p q : Places) → is_none (common p q) ≡ t → (if t then false else true) ≡ true → Meet p q
+meet_some true p q e h = cc
+meet_some false p q e h =
+    let found = some_place (common p q) e in
+    let both : (holds p (found.0) && holds q (found.0)) ≡ true = sym (common_holds p q (found.0)) ∙ found.1 in
+    (found.0, grind (arith, both), grind (arith, both))
+
+meet_none : (t : Bool) (p q : Places) → is_none (common p q) ≡ t → Meet p q → (if t then false else true) ≡ true
+meet_none false p q e m = refl
+meet_none true p q e (x, h, k) =
+    let none : (holds p x && holds q x) ≡ false = sym (common_holds p q x) ∙ no_place (common p q) x e in
+    grind (arith, none, h, k)
+
+pub meet_exactly : (p q : Places) → (meet p q ≡ true) ↔ Meet p q
+meet_exactly p q = (meet_some (is_none (common p q)) p q refl, meet_none (is_none (common p q)) p q refl)
+
+-- sets with the same places are one
+pub one_writing : (p q : Places) → ((x : ℤ) → holds p x ≡ holds q x) → p ≡ q
+one_writing places.None places.None h = refl
+one_writing places.None places.All h = let e : false ≡ true = h (pos 0) in cc
+one_writing places.None (places.From b) h = let e : false ≡ int_le b b = h b in grind (arith, ints)
+one_writing places.None (places.Run b m) h = let e : false ≡ (int_le b b && int_le b (b +ℤ pos m)) = h b in grind (arith, ints)
+one_writing places.All places.None h = let e : true ≡ false = h (pos 0) in cc
+one_writing places.All places.All h = refl
+one_writing places.All (places.From b) h = let e : true ≡ int_le b (b -ℤ pos 1) = h (b -ℤ pos 1) in grind (arith, ints)
+one_writing places.All (places.Run b m) h = let e : true ≡ (int_le b (b -ℤ pos 1) && int_le (b -ℤ pos 1) (b +ℤ pos m)) = h (b -ℤ pos 1) in grind (arith, ints)
+one_writing (places.From a) places.None h = let e : int_le a a ≡ false = h a in grind (arith, ints)
+one_writing (places.From a) places.All h = let e : int_le a (a -ℤ pos 1) ≡ true = h (a -ℤ pos 1) in grind (arith, ints)
+one_writing (places.From a) (places.From b) h =
+    let e : int_le a a ≡ int_le b a = h a in
+    let f : int_le a b ≡ int_le b b = h b in
+    ap places.From (let same : a ≡ b = grind (arith, ints) in same)
+one_writing (places.From a) (places.Run b m) h =
+    let e : int_le a a ≡ (int_le b a && int_le a (b +ℤ pos m)) = h a in
+    let f : int_le a (b +ℤ pos (m + 1)) ≡ (int_le b (b +ℤ pos (m + 1)) && int_le (b +ℤ pos (m + 1)) (b +ℤ pos m)) = h (b +ℤ pos (m + 1)) in
+    grind (arith, ints)
+one_writing (places.Run a n) places.None h = let e : (int_le a a && int_le a (a +ℤ pos n)) ≡ false = h a in grind (arith, ints)
+one_writing (places.Run a n) places.All h = let e : (int_le a (a -ℤ pos 1) && int_le (a -ℤ pos 1) (a +ℤ pos n)) ≡ true = h (a -ℤ pos 1) in grind (arith, ints)
+one_writing (places.Run a n) (places.From b) h =
+    let e : (int_le a b && int_le b (a +ℤ pos n)) ≡ int_le b b = h b in
+    let f : (int_le a (a +ℤ pos (n + 1)) && int_le (a +ℤ pos (n + 1)) (a +ℤ pos n)) ≡ int_le b (a +ℤ pos (n + 1)) = h (a +ℤ pos (n + 1)) in
+    grind (arith, ints)
+one_writing (places.Run a n) (places.Run b m) h =
+    let e : (int_le a a && int_le a (a +ℤ pos n)) ≡ (int_le b a && int_le a (b +ℤ pos m)) = h a in
+    let f : (int_le a b && int_le b (a +ℤ pos n)) ≡ (int_le b b && int_le b (b +ℤ pos m)) = h b in
+    let first : a ≡ b = grind (arith, ints) in
+    let g : (int_le a (a +ℤ pos n) && int_le (a +ℤ pos n) (a +ℤ pos n)) ≡ (int_le b (a +ℤ pos n) && int_le (a +ℤ pos n) (b +ℤ pos m)) = h (a +ℤ pos n) in
+    let i : (int_le a (b +ℤ pos m) && int_le (b +ℤ pos m) (a +ℤ pos n)) ≡ (int_le b (b +ℤ pos m) && int_le (b +ℤ pos m) (b +ℤ pos m)) = h (b +ℤ pos m) in
+    let more : n ≡ m = grind (arith, ints) in
+    ap (λ (k : ℤ). places.Run k n) first ∙ ap (places.Run b) more
+
+-- ---- sets made together
+
+abbrev IsUnionOf : Places → Places → Places → Type 0
+IsUnionOf p q r = (x : ℤ) → holds r x ≡ (holds p x || holds q x)
+
+abbrev IsUnionIfAny : Places → Places → Option Places → Type 0
+IsUnionIfAny p q r = IfSome r (IsUnionOf p q)
+
+from_run : (t : Bool) (a b : ℤ) (m : ℕ) → int_le a ((b +ℤ pos m) +ℤ pos 1) ≡ t → IsUnionIfAny (places.From a) (places.Run b m) (if t then Some (places.From (int_min a b)) else None)
+from_run true a b m e = λ x. grind (arith, ints)
+from_run false a b m e = tt
+
+run_from : (t : Bool) (a b : ℤ) (n : ℕ) → int_le b ((a +ℤ pos n) +ℤ pos 1) ≡ t → IsUnionIfAny (places.Run a n) (places.From b) (if t then Some (places.From (int_min a b)) else None)
+run_from true a b n e = λ x. grind (arith, ints)
+run_from false a b n e = tt
+
+short_case : (t : Bool) (p q : Places) (a b : ℤ) → IsUnionOf p q (run_to a b) → IsUnionIfAny p q (if t then Some (run_to a b) else None)
+short_case true p q a b h = h
+short_case false p q a b h = tt
+
+run_union : (a b : ℤ) (n m : ℕ) → (int_le b ((a +ℤ pos n) +ℤ pos 1) && int_le a ((b +ℤ pos m) +ℤ pos 1)) ≡ true
+    → IsUnionOf (places.Run a n) (places.Run b m) (run_to (int_min a b) (int_max (a +ℤ pos n) (b +ℤ pos m)))
+run_union a b n m e x = run_to_holds (int_min a b) (int_max (a +ℤ pos n) (b +ℤ pos m)) x ∙ grind (arith, ints)
+
+run_run : (t : Bool) (a b : ℤ) (n m : ℕ) → (int_le b ((a +ℤ pos n) +ℤ pos 1) && int_le a ((b +ℤ pos m) +ℤ pos 1)) ≡ t
+    → IsUnionIfAny (places.Run a n) (places.Run b m) (if t then short_run (int_min a b) (int_max (a +ℤ pos n) (b +ℤ pos m)) else None)
+run_run true a b n m e = short_case (int_le (int_max (a +ℤ pos n) (b +ℤ pos m)) (int_min a b +ℤ pos 4294967295)) (places.Run a n) (places.Run b m) (int_min a b) (int_max (a +ℤ pos n) (b +ℤ pos m)) (run_union a b n m e)
+run_run false a b n m e = tt
+
+pub united_holds : (p q : Places) → IfSome (united p q) (λ r. (x : ℤ) → holds r x ≡ (holds p x || holds q x))
+united_holds places.None q = λ x. refl
+united_holds places.All q = λ x. refl
+united_holds (places.From a) places.None = λ x. grind arith
+united_holds (places.From a) places.All = λ x. grind arith
+united_holds (places.From a) (places.From b) = λ x. grind (arith, ints)
+united_holds (places.From a) (places.Run b m) = from_run (int_le a ((b +ℤ pos m) +ℤ pos 1)) a b m refl
+united_holds (places.Run a n) places.None = λ x. grind arith
+united_holds (places.Run a n) places.All = λ x. grind arith
+united_holds (places.Run a n) (places.From b) = run_from (int_le b ((a +ℤ pos n) +ℤ pos 1)) a b n refl
+united_holds (places.Run a n) (places.Run b m) = run_run (int_le b ((a +ℤ pos n) +ℤ pos 1) && int_le a ((b +ℤ pos m) +ℤ pos 1)) a b n m refl
+
+-- ---- counted from a base
+
+near_case : (t : Bool) (y : ℤ) (P : ℤ → Type 0) → P y → IfSome (if t then Some y else None) P
+near_case true y P h = h
+near_case false y P h = tt

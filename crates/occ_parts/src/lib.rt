@@ -1,0 +1,16 @@
+//! Parts of variables and channels: what is selected from an element, whether two parts have an element in common, and
+//! lists of parts that are asked for.
+#![tactic(auto)]
+
+mod comparing;
+mod interval;
+pub mod laws;
+mod part;
+mod place;
+mod places;
+mod selectors;
+
+pub use comparing::{are_apart, overlap};
+pub use part::{Overlap, Part};
+pub use place::{Ending, Place};
+pub use selectors::copies;
