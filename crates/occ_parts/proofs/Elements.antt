@@ -131,7 +131,7 @@ apart_exactly xs ys = (apart_met xs ys, met_apart xs ys)
 
 -- ---- laws of the overlap
 
-same_test : (a b : Bool) → (a ≡ false → b ≡ false) → (b ≡ false → a ≡ false) → a ≡ b
+pub same_test : (a b : Bool) → (a ≡ false → b ≡ false) → (b ≡ false → a ≡ false) → a ≡ b
 same_test true true h k = refl
 same_test true false h k = k refl
 same_test false true h k = sym (h refl)
@@ -143,8 +143,8 @@ turned xs ys (ts, h, k) = (ts, k, h)
 pub apart_turned : (xs ys : List PartSelector) → are_apart xs ys ≡ are_apart ys xs
 apart_turned xs ys =
     same_test (are_apart xs ys) (are_apart ys xs)
-        (λ h. met_apart ys xs (turned xs ys (apart_met xs ys h)))
-        (λ h. met_apart xs ys (turned ys xs (apart_met ys xs h)))
+    (λ h. met_apart ys xs (turned xs ys (apart_met xs ys h)))
+    (λ h. met_apart xs ys (turned ys xs (apart_met ys xs h)))
 
 pub sure_turned : (xs ys : List PartSelector) → all_sure xs ys ≡ all_sure ys xs
 sure_turned [] [] = refl
@@ -208,17 +208,19 @@ must_sure true false false h = cc
 must_sure false d false h = cc
 
 pub apart_law : (a b : Part) → (overlap_of a b ≡ o.Apart) ↔ (a.root ≡ b.root → Meet a.selectors b.selectors → ⊥)
-apart_law a b =
-    ( (λ h r met. not_apart (a.root == b.root) (are_apart a.selectors b.selectors) (all_sure a.selectors b.selectors) h (root_same a.root b.root r) (met_apart a.selectors b.selectors met))
-    , (λ none. is_apart (a.root == b.root) (are_apart a.selectors b.selectors) (all_sure a.selectors b.selectors) (λ r d. none (root_known a.root b.root r) (apart_met a.selectors b.selectors d))) )
+apart_law a b = (
+  (λ h r met. not_apart (a.root == b.root) (are_apart a.selectors b.selectors) (all_sure a.selectors b.selectors) h (root_same a.root b.root r) (met_apart a.selectors b.selectors met)),
+  (λ none. is_apart (a.root == b.root) (are_apart a.selectors b.selectors) (all_sure a.selectors b.selectors) (λ r d. none (root_known a.root b.root r) (apart_met a.selectors b.selectors d))),
+)
 
 pub must_law : (a b : Part) → (overlap_of a b ≡ o.Must) ↔ ((a.root ≡ b.root) × Meet a.selectors b.selectors × (all_sure a.selectors b.selectors ≡ true))
 must_law a b =
     let c = a.root == b.root in
     let d = are_apart a.selectors b.selectors in
-    let e = all_sure a.selectors b.selectors in
-    ( (λ h. (root_known a.root b.root (must_root c d e h), apart_met a.selectors b.selectors (must_meet c d e h), must_sure c d e h))
-    , (λ (r, met, sure). is_must c d e (root_same a.root b.root r) (met_apart a.selectors b.selectors met) sure) )
+    let e = all_sure a.selectors b.selectors in (
+      (λ h. (root_known a.root b.root (must_root c d e h), apart_met a.selectors b.selectors (must_meet c d e h), must_sure c d e h)),
+      (λ (r, met, sure). is_must c d e (root_same a.root b.root r) (met_apart a.selectors b.selectors met) sure),
+    )
 
 pub empty_apart : (a b : Part) → has_empty a.selectors ≡ true → overlap_of a b ≡ o.Apart
 empty_apart a b h = is_apart (a.root == b.root) (are_apart a.selectors b.selectors) (all_sure a.selectors b.selectors) (λ r d. none d) where

@@ -1,2 +1,4 @@
 pub mod Sets
 pub mod Elements
+pub mod Segments
+pub mod Joining

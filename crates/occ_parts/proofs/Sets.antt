@@ -1,11 +1,11 @@
 -- What the computations on sets of places say of the places that lie in them.
 use Rattle.std.proofs.Common.{◌≡◌, ◌+◌, ℕ, Bool, true, false, ap, sym, ◌∙◌, refl, arith}
-use Rattle.std.specs.Prelude.{ℤ, pos, ◌+ℤ◌, ◌-ℤ◌, int_le, unsigned_abs, ◌&&◌, ◌||◌, ◌↔◌, Option, Some, None, IfSome, if◌then◌else◌}
+use Rattle.std.specs.Prelude.{ℤ, pos, negsuc, ◌+ℤ◌, ◌-ℤ◌, int_le, unsigned_abs, ◌&&◌, ◌||◌, ◌↔◌, Option, Some, None, IfSome, if◌then◌else◌}
 use Rattle.std.specs.Int.{int_max, int_min}
 use Rattle.std.proofs.lemmas.Int.{ints}
 use Rattle.occ_types.specs.declared.interface.Places.{Places}
 use Rattle.occ_types.specs.declared.interface.Places.TheVariants as places
-use Rattle.occ_parts.specs.Places.{Meet, common, holds, is_none, meet, run_to, short_run, united}
+use Rattle.occ_parts.specs.Places.{moved, from_place, is_next, run_from, Meet, common, holds, is_none, meet, run_to, united}
 
 run_case : (t : Bool) (a b x : ℤ) → int_le a b ≡ t → holds (if t then places.Run a (unsigned_abs (b -ℤ a)) else places.None) x ≡ (int_le a x && int_le x b)
 run_case true a b x e = grind (arith, ints)
@@ -98,26 +98,24 @@ IsUnionOf p q r = (x : ℤ) → holds r x ≡ (holds p x || holds q x)
 abbrev IsUnionIfAny : Places → Places → Option Places → Type 0
 IsUnionIfAny p q r = IfSome r (IsUnionOf p q)
 
-from_run : (t : Bool) (a b : ℤ) (m : ℕ) → int_le a ((b +ℤ pos m) +ℤ pos 1) ≡ t → IsUnionIfAny (places.From a) (places.Run b m) (if t then Some (places.From (int_min a b)) else None)
-from_run true a b m e = λ x. grind (arith, ints)
-from_run false a b m e = tt
+from_case : (t : Bool) (p q : Places) (r : Places) → (t ≡ true → IsUnionOf p q r) → IsUnionIfAny p q (if t then Some r else None)
+from_case true p q r h = h refl
+from_case false p q r h = tt
 
-run_from : (t : Bool) (a b : ℤ) (n : ℕ) → int_le b ((a +ℤ pos n) +ℤ pos 1) ≡ t → IsUnionIfAny (places.Run a n) (places.From b) (if t then Some (places.From (int_min a b)) else None)
-run_from true a b n e = λ x. grind (arith, ints)
-run_from false a b n e = tt
+from_union : (a b : ℤ) (m : ℕ) → is_next (b +ℤ pos m) a ≡ true → IsUnionOf (places.From a) (places.Run b m) (places.From (int_min a b))
+from_union a b m e x = grind (arith, ints)
 
-short_case : (t : Bool) (p q : Places) (a b : ℤ) → IsUnionOf p q (run_to a b) → IsUnionIfAny p q (if t then Some (run_to a b) else None)
-short_case true p q a b h = h
-short_case false p q a b h = tt
+union_from : (a b : ℤ) (n : ℕ) → is_next (a +ℤ pos n) b ≡ true → IsUnionOf (places.Run a n) (places.From b) (places.From (int_min b a))
+union_from a b n e x = grind (arith, ints)
 
-run_union : (a b : ℤ) (n m : ℕ) → (int_le b ((a +ℤ pos n) +ℤ pos 1) && int_le a ((b +ℤ pos m) +ℤ pos 1)) ≡ true
+run_union : (a b : ℤ) (n m : ℕ) → (is_next (a +ℤ pos n) b && is_next (b +ℤ pos m) a) ≡ true
     → IsUnionOf (places.Run a n) (places.Run b m) (run_to (int_min a b) (int_max (a +ℤ pos n) (b +ℤ pos m)))
 run_union a b n m e x = run_to_holds (int_min a b) (int_max (a +ℤ pos n) (b +ℤ pos m)) x ∙ grind (arith, ints)
 
-run_run : (t : Bool) (a b : ℤ) (n m : ℕ) → (int_le b ((a +ℤ pos n) +ℤ pos 1) && int_le a ((b +ℤ pos m) +ℤ pos 1)) ≡ t
-    → IsUnionIfAny (places.Run a n) (places.Run b m) (if t then short_run (int_min a b) (int_max (a +ℤ pos n) (b +ℤ pos m)) else None)
-run_run true a b n m e = short_case (int_le (int_max (a +ℤ pos n) (b +ℤ pos m)) (int_min a b +ℤ pos 4294967295)) (places.Run a n) (places.Run b m) (int_min a b) (int_max (a +ℤ pos n) (b +ℤ pos m)) (run_union a b n m e)
-run_run false a b n m e = tt
+runs_case : (t u : Bool) (p q r : Places) → (t ≡ true → IsUnionOf p q r) → IsUnionIfAny p q (if t then (if u then Some r else None) else None)
+runs_case true true p q r h = h refl
+runs_case true false p q r h = tt
+runs_case false u p q r h = tt
 
 pub united_holds : (p q : Places) → IfSome (united p q) (λ r. (x : ℤ) → holds r x ≡ (holds p x || holds q x))
 united_holds places.None q = λ x. refl
@@ -125,14 +123,24 @@ united_holds places.All q = λ x. refl
 united_holds (places.From a) places.None = λ x. grind arith
 united_holds (places.From a) places.All = λ x. grind arith
 united_holds (places.From a) (places.From b) = λ x. grind (arith, ints)
-united_holds (places.From a) (places.Run b m) = from_run (int_le a ((b +ℤ pos m) +ℤ pos 1)) a b m refl
+united_holds (places.From a) (places.Run b m) = from_case (is_next (b +ℤ pos m) a) (places.From a) (places.Run b m) (places.From (int_min a b)) (from_union a b m)
 united_holds (places.Run a n) places.None = λ x. grind arith
 united_holds (places.Run a n) places.All = λ x. grind arith
-united_holds (places.Run a n) (places.From b) = run_from (int_le b ((a +ℤ pos n) +ℤ pos 1)) a b n refl
-united_holds (places.Run a n) (places.Run b m) = run_run (int_le b ((a +ℤ pos n) +ℤ pos 1) && int_le a ((b +ℤ pos m) +ℤ pos 1)) a b n m refl
+united_holds (places.Run a n) (places.From b) = from_case (is_next (a +ℤ pos n) b) (places.Run a n) (places.From b) (places.From (int_min b a)) (union_from a b n)
+united_holds (places.Run a n) (places.Run b m) =
+    runs_case (is_next (a +ℤ pos n) b && is_next (b +ℤ pos m) a) (int_le (int_max (a +ℤ pos n) (b +ℤ pos m)) (int_min a b +ℤ pos 4294967295)) (places.Run a n) (places.Run b m)
+    (run_to (int_min a b) (int_max (a +ℤ pos n) (b +ℤ pos m))) (run_union a b n m)
 
 -- ---- counted from a base
 
-near_case : (t : Bool) (y : ℤ) (P : ℤ → Type 0) → P y → IfSome (if t then Some y else None) P
-near_case true y P h = h
-near_case false y P h = tt
+pub moved_holds : (b : ℤ) (p : Places) → IfSome (moved b p) (λ q. (x : ℤ) → holds q (b +ℤ x) ≡ holds p x)
+moved_holds b places.None = λ x. refl
+moved_holds b places.All = λ x. refl
+moved_holds b (places.From a) = from_near (int_le (negsuc 9223372036854775807) (b +ℤ a) && int_le (b +ℤ a) (pos 9223372036854775807)) where
+  from_near : (t : Bool) → IfSome (from_place (if t then Some (b +ℤ a) else None)) (λ q. (x : ℤ) → holds q (b +ℤ x) ≡ int_le a x)
+  from_near true = λ x. grind (arith, ints)
+  from_near false = tt
+moved_holds b (places.Run a n) = run_near (int_le (negsuc 9223372036854775807) (b +ℤ a) && int_le (b +ℤ a) (pos 9223372036854775807)) where
+  run_near : (t : Bool) → IfSome (run_from n (if t then Some (b +ℤ a) else None)) (λ q. (x : ℤ) → holds q (b +ℤ x) ≡ (int_le a x && int_le x (a +ℤ pos n)))
+  run_near true = λ x. grind (arith, ints)
+  run_near false = tt

@@ -48,8 +48,15 @@ abbrev pub short_run : ℤ → ℤ → Option Places
 short_run a b = if int_le b (a +ℤ pos 4294967295) then Some (run_to a b) else None
 
 -- b is at most one place behind a
-abbrev pub adjoins : ℤ → ℤ → Bool
-adjoins a b = int_le b (a +ℤ pos 1)
+abbrev pub is_next : ℤ → ℤ → Bool
+is_next a b = int_le (b -ℤ pos 1) a
+
+-- from a on, and from b to its last place
+abbrev pub from_with_run : ℤ → ℤ → ℤ → Option Places
+from_with_run a b last = if is_next last a then Some (places.From (int_min a b)) else None
+
+abbrev pub run_with_run : ℤ → ℤ → ℤ → ℤ → Option Places
+run_with_run a last b other = if is_next last b && is_next other a then short_run (int_min a b) (int_max last other) else None
 
 -- the places that lie in one or the other, if they follow one another and can be written as one set
 abbrev pub united : Places → Places → Option Places
@@ -58,12 +65,11 @@ united places.All q = Some places.All
 united (places.From a) places.None = Some (places.From a)
 united (places.From a) places.All = Some places.All
 united (places.From a) (places.From b) = Some (places.From (int_min a b))
-united (places.From a) (places.Run b m) = if adjoins (b +ℤ pos m) a then Some (places.From (int_min a b)) else None
+united (places.From a) (places.Run b m) = from_with_run a b (b +ℤ pos m)
 united (places.Run a n) places.None = Some (places.Run a n)
 united (places.Run a n) places.All = Some places.All
-united (places.Run a n) (places.From b) = if adjoins (a +ℤ pos n) b then Some (places.From (int_min a b)) else None
-united (places.Run a n) (places.Run b m) =
-    if adjoins (a +ℤ pos n) b && adjoins (b +ℤ pos m) a then short_run (int_min a b) (int_max (a +ℤ pos n) (b +ℤ pos m)) else None
+united (places.Run a n) (places.From b) = from_with_run b a (a +ℤ pos n)
+united (places.Run a n) (places.Run b m) = run_with_run a (a +ℤ pos n) b (b +ℤ pos m)
 
 -- a number of 64 bits
 abbrev pub near : ℤ → Option ℤ

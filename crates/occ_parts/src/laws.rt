@@ -1,19 +1,24 @@
-ghost use Rattle.std.specs.Prelude.{◌≡◌, ◌&&◌, ◌||◌, ◌↔◌, ◌++◌, ℕ, ℤ, IfSome, List, false, true};
+ghost use Rattle.std.specs.Prelude.{◌≡◌, ◌&&◌, ◌||◌, ◌↔◌, ◌++◌, ◌+ℤ◌, ℕ, ℤ, IfSome, List, None, Some, false, true};
+ghost use Rattle.occ_types.specs.declared.interface.Interval.{Interval as AnInterval};
 ghost use Rattle.occ_types.specs.declared.interface.PartSelector.{PartSelector as ASelector};
 ghost use Rattle.occ_types.specs.declared.interface.Places.{Places as ThePlaces};
 ghost use Rattle.occ_parts.specs.declared.part.Overlap.TheVariants as o;
 ghost use Rattle.occ_parts.specs.declared.part.Part.{Part as APart};
-ghost use Rattle.occ_parts.specs.Parts.{Meet as MeetElements, all_sure, has_empty, overlap_of};
-ghost use Rattle.occ_parts.specs.Places.{Meet, common, holds, meet, united};
+ghost use Rattle.occ_parts.specs.Parts.{Meet as MeetElements, all_sure, are_apart, has_empty, overlap_of};
+ghost use Rattle.occ_parts.specs.Keeping.{IsUnion, behind as joined_behind};
+ghost use Rattle.occ_parts.specs.Places.{Meet, common, holds, meet, moved, united};
+ghost use Rattle.occ_parts.specs.Selecting.{inside, unsure};
 
 /// Each set of places is written in one way. What two sets have in common is the places that lie in both, and they meet
-/// exactly if there is one. What they make together is the places that lie in one or the other.
-#[tactic(auto, using(crate::proofs::Sets::common_holds, crate::proofs::Sets::one_writing, crate::proofs::Sets::united_holds, crate::proofs::Sets::meet_exactly))]
+/// exactly if there is one. What they make together is the places that lie in one or the other. Counted from a base each place lies as far
+/// behind it as it lay behind 0.
+#[tactic(auto, using(crate::proofs::Sets::common_holds, crate::proofs::Sets::one_writing, crate::proofs::Sets::united_holds, crate::proofs::Sets::meet_exactly, crate::proofs::Sets::moved_holds))]
 pub fn places_law()
     ensures one_writing { (p q : ThePlaces) → ((x : ℤ) → holds p x ≡ holds q x) → p ≡ q }
     ensures common { (p q : ThePlaces) (x : ℤ) → holds (common p q) x ≡ (holds p x && holds q x) }
     ensures meet { (p q : ThePlaces) → (meet p q ≡ true) ↔ Meet p q }
     ensures united { (p q : ThePlaces) → IfSome (united p q) (λ r. (x : ℤ) → holds r x ≡ (holds p x || holds q x)) }
+    ensures moved { (b : ℤ) (p : ThePlaces) → IfSome (moved b p) (λ q. (x : ℤ) → holds q (b +ℤ x) ≡ holds p x) }
 {}
 
 /// Two parts are apart exactly if they have other roots or no element lies in both, and they surely are not exactly if
@@ -27,4 +32,19 @@ pub fn overlap_law()
     ensures symmetric { (a b : APart) → overlap_of a b ≡ overlap_of b a }
     ensures empty { (a b : APart) → has_empty a.selectors ≡ true → overlap_of a b ≡ o.Apart }
     ensures longer { (root : ℕ) (xs more : List ASelector) → has_empty (xs ++ more) ≡ false → overlap_of (record { root = root; selectors = xs }) (record { root = root; selectors = xs ++ more }) ≡ o.Apart → ⊥ }
+{}
+
+/// An interval that is selected from a segment with a known base, and counted from there, holds the places of the segment
+/// that it says, and is as sure. Selected from another segment it is this segment, unsure.
+pub fn segment_law()
+    ensures places { (outer inner : AnInterval) (b : ℤ) (q : ThePlaces) → moved b inner.places ≡ Some q → (x : ℤ) → holds (inside outer (Some b) inner).places (b +ℤ x) ≡ (holds outer.places (b +ℤ x) && holds inner.places x) }
+    ensures mark { (outer inner : AnInterval) (b : ℤ) (q : ThePlaces) → moved b inner.places ≡ Some q → (inside outer (Some b) inner).mark ≡ inner.mark }
+    ensures unknown { (outer inner : AnInterval) → inside outer None inner ≡ unsure outer.places }
+{}
+
+/// A part with the places of two in place of its last interval has an element in common with a part exactly if one of
+/// the two has.
+#[tactic(auto, using(crate::proofs::Joining::union_apart))]
+pub fn joined_law()
+    ensures { (front : List ASelector) (i j k : AnInterval) → IsUnion i.places j.places k.places → (q : List ASelector) → are_apart (joined_behind front k) q ≡ (are_apart (joined_behind front i) q && are_apart (joined_behind front j) q) }
 {}

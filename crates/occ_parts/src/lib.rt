@@ -4,13 +4,16 @@
 
 mod comparing;
 mod interval;
+mod kept;
 pub mod laws;
 mod part;
 mod place;
 mod places;
+pub mod rows;
 mod selectors;
 
 pub use comparing::{are_apart, overlap};
+pub use kept::{keep, meets_kept};
 pub use part::{Overlap, Part};
 pub use place::{Ending, Place};
 pub use selectors::copies;

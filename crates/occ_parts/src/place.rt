@@ -157,7 +157,10 @@ fn ending_with(ending: Ending, base: Option<i32>, interval: Interval) -> Ending
             Some(base) => Ending::Segment(interval, Some(i64::from(base))),
             None => Ending::Segment(interval, None),
         },
-        Ending::Segment(outer, at) => Ending::Segment(inside(outer, at, interval), behind(at, base)),
+        Ending::Segment(outer, at) => Ending::Segment(
+            inside(outer, at, interval),
+            behind(at, base),
+        ),
         Ending::Whole => Ending::Whole,
     }
 }

@@ -1,0 +1,121 @@
+ghost use Rattle.std.specs.Prelude.{◌≡◌, ◌∷◌, ◌++◌, ◌<◌, ◌||◌, IfOk, IfSome, IsTrue, List, OnErr, OnOk, Some, [], length, not, slice_get};
+ghost use Rattle.occ_types.specs.declared.interface.Mark.TheVariants as mark;
+ghost use Rattle.occ_types.specs.declared.interface.PartSelector.{PartSelector as ASelector};
+ghost use Rattle.occ_parts.specs.Keeping.{Joins, behind, meets_some};
+ghost use Rattle.occ_parts.specs.Parts.{are_apart as are_parted};
+ghost use Rattle.occ_parts.specs.Places.{united};
+
+use super::comparing::{are_apart, hold_nothing};
+use super::places::union;
+use occ_base::Items;
+use occ_types::{Interval, Mark, PartSelector, Places};
+use std::alloc::AllocError;
+
+/// Whether one of the kept parts has an element in common with a part. All are parts of one root, told by their selectors.
+pub fn meets_kept(kept: &[Items<PartSelector>], part: &[PartSelector]) -> bool
+    ensures { result ≡ meets_some kept.now part.now }
+{
+    for one in kept {
+        if !are_apart(one.as_slice(), part) {
+            return true;
+        }
+    }
+    false
+}
+
+/// Keeps a part: from now on what has an element in common with it has one in common with a kept part. It is made into one
+/// with a kept part where both differ in their last intervals alone, and these follow one another.
+pub fn keep(
+    kept: &mut Items<Items<PartSelector>>,
+    part: Items<PartSelector>,
+) -> Result<(), AllocError>
+    ensures ok { OnOk result ((q : List ASelector) → meets_some kept.new q ≡ (meets_some kept.old q || not (are_parted part q))) }
+    ensures err { OnErr result (kept.new ≡ kept.old) }
+{
+    if hold_nothing(part.as_slice()) {
+        return Ok(());
+    }
+    match find_joined(kept.as_slice(), part.as_slice()) {
+        Some((at, places)) => {
+            let part = with_last(part, places)?;
+            kept.set(at, part);
+            Ok(())
+        }
+        None => kept.push(part),
+    }
+}
+
+/// The first kept part with which a part makes one, and the places of both.
+fn find_joined(kept: &[Items<PartSelector>], part: &[PartSelector]) -> Option<(usize, Places)>
+    ensures within { IfSome result (λ found. found.0 < length kept.now) }
+    ensures joins { IfSome result (λ found. (one : List ASelector) × (slice_get kept.now found.0 ≡ Some one) × Joins one part.now found.1) }
+{
+    for (at, one) in kept.iter().enumerate() {
+        if let Some(places) = join(one.as_slice(), part) {
+            return Some((at, places));
+        }
+    }
+    None
+}
+
+/// The places of the last intervals of two parts that agree before these, if they follow one another.
+fn join(a: &[PartSelector], b: &[PartSelector]) -> Option<Places>
+    ensures { IfSome result (λ both. Joins a.now b.now both) }
+{
+    let (front, one) = split(a)?;
+    let (other_front, other) = split(b)?;
+    if !are_same(front, other_front) {
+        return None;
+    }
+    union(one.places, other.places)
+}
+
+/// The last selector, if it is an interval, and those before it.
+fn split(selectors: &[PartSelector]) -> Option<(&[PartSelector], Interval)>
+    ensures { IfSome result (λ parts. selectors.now ≡ behind parts.0.now parts.1) }
+{
+    match selectors {
+        [front @ .., PartSelector::Interval(last)] => Some((front, *last)),
+        _ => None,
+    }
+}
+
+/// Whether two lists of selectors are one.
+fn are_same(a: &[PartSelector], b: &[PartSelector]) -> bool
+    ensures { IsTrue result → a.now ≡ b.now }
+{
+    if a.len() != b.len() {
+        return false;
+    }
+    for (depth, x) in a.iter().enumerate() {
+        if !is_same(x, &b[depth]) {
+            return false;
+        }
+    }
+    true
+}
+
+fn is_same(a: &PartSelector, b: &PartSelector) -> bool
+    ensures { IsTrue result → a.now ≡ b.now }
+{
+    match (a, b) {
+        (PartSelector::Field(a), PartSelector::Field(b)) => a == b,
+        (PartSelector::Interval(a), PartSelector::Interval(b)) => a == b,
+        _ => false,
+    }
+}
+
+/// The part with these places in place of its last selector.
+fn with_last(
+    mut part: Items<PartSelector>,
+    places: Places,
+) -> Result<Items<PartSelector>, AllocError>
+    ensures { IfOk result (λ widened. (front : List ASelector) (last : ASelector) → part ≡ front ++ last ∷ [] → widened ≡ behind front (record { mark = mark.Unsure; places = places })) }
+{
+    part.pop();
+    part.push(PartSelector::Interval(Interval {
+        mark: Mark::Unsure,
+        places,
+    }))?;
+    Ok(part)
+}
