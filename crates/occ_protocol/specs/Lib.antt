@@ -1,0 +1,5 @@
+pub mod Carrying
+pub mod Matching
+pub mod Wanting
+pub mod Lines
+pub mod inside

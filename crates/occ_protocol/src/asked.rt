@@ -1,0 +1,50 @@
+ghost use Rattle.std.specs.Prelude.{◌≡◌, Option, Some, None, map};
+ghost use Rattle.occ_protocol.specs.Matching.{asked as asked_in, behind as asked_behind};
+ghost use Rattle.occ_protocol.specs.inside.Seen.{asked_seen, name_seen, seen, tag_seen};
+
+use super::carrier::{Carrier, is_faulty_tag, tag_named};
+use occ_base::{Code, Name};
+use occ_types::{Item, Tag};
+
+/// What a list of items is compared with.
+#[derive(Clone, Copy)]
+pub(super) enum Asked<'a> {
+    /// With nothing, and nothing is told.
+    Silent,
+    /// With nothing, and this code is told.
+    Instead(Code),
+    /// With nothing: this tag is not in the protocol.
+    NoTag(&'a Name),
+    /// Each item is any data.
+    AnyData,
+    /// With these items, one by one.
+    These(&'a [Item]),
+}
+
+/// What is asked of items behind this tag, of which the protocol says this.
+fn behind<'a>(name: &'a Name, tag: Option<&'a Tag>) -> Asked<'a>
+    ensures { asked_seen result ≡ asked_behind name.now (tag_seen tag.entry) }
+{
+    let Some(tag) = tag else {
+        return Asked::NoTag(name);
+    };
+    if is_faulty_tag(tag) {
+        return Asked::Silent;
+    }
+    Asked::These(tag.items.as_slice())
+}
+
+/// What is asked of items behind a tag, or behind none.
+pub(super) fn asked_of<'a>(carrier: Carrier<'a>, tag: Option<&'a Name>) -> Asked<'a>
+    ensures { asked_seen result ≡ asked_in (seen carrier.entry) (name_seen tag.entry) }
+{
+    match (carrier, tag) {
+        (Carrier::Hidden, _) => Asked::Silent,
+        (Carrier::Nothing | Carrier::Time, _) => Asked::Instead(Code::P4),
+        (Carrier::Data, None) => Asked::AnyData,
+        (Carrier::Data | Carrier::Sequence(_), Some(_)) => Asked::Instead(Code::P3),
+        (Carrier::Sequence(items), None) => Asked::These(items),
+        (Carrier::Variant(_), None) => Asked::Instead(Code::P3),
+        (Carrier::Variant(tags), Some(name)) => behind(name, tag_named(tags, name)),
+    }
+}

@@ -1,0 +1,95 @@
+#![tactic(auto, using(occ_types::proofs::Agreeing::fit_rules, crate::proofs::Carried::carried_rules))]
+
+ghost use Rattle.std.specs.Prelude.{◌≡◌};
+ghost use Rattle.std.specs.List.{list_any};
+ghost use Rattle.occ_protocol.specs.Carrying.{carried as carried_by, carrier as carrier_in, is_faulty_tag as has_faulty_line, is_unknown_item as has_unknown_type, of_type as type_in, tag_named as first_of_name};
+ghost use Rattle.occ_protocol.specs.inside.Seen.{seen, tag_seen};
+
+use occ_base::Name;
+use occ_operands::Kind;
+use occ_types::{Item, OccType, Protocol, Tag, is_unknown};
+
+/// What an element is to those who send and receive through it.
+#[derive(Clone, Copy)]
+pub(super) enum Carrier<'a> {
+    /// A fault hides it.
+    Hidden,
+    /// Neither a channel nor a timer.
+    Nothing,
+    /// A timer.
+    Time,
+    /// A channel of ANY.
+    Data,
+    /// A channel of these items.
+    Sequence(&'a [Item]),
+    /// A channel of these tags.
+    Variant(&'a [Tag]),
+}
+
+/// What an element is, by what is known of it.
+pub(super) fn carrier_of(channel: &Kind) -> Carrier<'_>
+    ensures { seen result ≡ carrier_in channel.now }
+{
+    match channel {
+        Kind::Known(known) => of_type(known.of.get()),
+        _ => Carrier::Hidden,
+    }
+}
+
+/// What an element of this type is.
+fn of_type(of: &OccType) -> Carrier<'_>
+    ensures { seen result ≡ type_in of.now }
+{
+    match of {
+        OccType::Channel(protocol) => carried(protocol.get()),
+        OccType::Timer => Carrier::Time,
+        OccType::Primitive(_) | OccType::Array(_, _) | OccType::Record(_, _) => Carrier::Nothing,
+        OccType::Named(_, _) | OccType::Unknown => Carrier::Nothing,
+    }
+}
+
+/// What a channel of this protocol is.
+fn carried(protocol: &Protocol) -> Carrier<'_>
+    ensures { seen result ≡ carried_by protocol.now }
+{
+    match protocol {
+        Protocol::Any => Carrier::Data,
+        Protocol::Sequence(items) => Carrier::Sequence(items.as_slice()),
+        Protocol::Variant(tags) => Carrier::Variant(tags.as_slice()),
+        Protocol::Defined(_, inner) => carried(inner.get()),
+    }
+}
+
+/// The first tag of this name.
+pub(super) fn tag_named<'a>(tags: &'a [Tag], name: &Name) -> Option<&'a Tag>
+    ensures { tag_seen result ≡ first_of_name tags.now name.now }
+{
+    for tag in tags {
+        if tag.name == *name {
+            return Some(tag);
+        }
+    }
+    None
+}
+
+/// Whether an item is of unknown type.
+fn is_unknown_item(item: &Item) -> bool
+    ensures { result ≡ has_unknown_type item.now }
+{
+    match item {
+        Item::Value(of) => is_unknown(of.get()),
+        Item::Counted(_, _) => false,
+    }
+}
+
+/// Whether the line of a tag has a fault.
+pub(super) fn is_faulty_tag(tag: &Tag) -> bool
+    ensures { result ≡ has_faulty_line tag.now }
+{
+    for item in tag.items.as_slice() {
+        if is_unknown_item(item) {
+            return true;
+        }
+    }
+    false
+}

@@ -1,0 +1,162 @@
+ghost use Rattle.std.specs.Prelude.{◌≡◌, ◌++◌, IfOk, OnOk, [], ◌∷◌};
+ghost use Rattle.occ_types.specs.declared.types.Item.TheVariants as i;
+ghost use Rattle.occ_operands.specs.Settling.{int as int_type};
+ghost use Rattle.occ_protocol.specs.Carrying.{carrier as carrier_in};
+ghost use Rattle.occ_protocol.specs.Lines.{alternative as told_alternative, awaited as told_awaited, cased as told_cased, exchanged as told_exchanged, lacks as is_lacking, received as told_received, takes_tag as is_taking_tag};
+ghost use Rattle.occ_protocol.specs.inside.Seen.{name_seen};
+
+use super::asked::asked_of;
+use super::carrier::{Carrier, carrier_of, tag_named};
+use super::given::Given;
+use super::matching::{against, tell_named, told};
+use occ_base::{Code, Fault, Items, Name};
+use occ_operands::{Kind, int};
+use occ_types::Item;
+use std::alloc::{AllocError, Global};
+
+/// Whether a name alone that is sent first through `channel` is not looked up: it is a tag, or what it is sent through
+/// is not known.
+pub fn takes_tag(channel: &Kind) -> bool
+    ensures { result ≡ is_taking_tag (carrier_in channel.now) }
+{
+    match carrier_of(channel) {
+        Carrier::Hidden | Carrier::Nothing | Carrier::Time | Carrier::Variant(_) => true,
+        Carrier::Data | Carrier::Sequence(_) => false,
+    }
+}
+
+/// What is told of the items of an output, or of an input behind `CASE` and a tag, through `channel`, whose name is
+/// `root`. An output has a tag where its first item is a name alone and `takes_tag` says so.
+///
+/// # Errors
+///
+/// Where memory is refused.
+pub fn exchanged(
+    alloc: Global,
+    channel: &Kind,
+    root: &Name,
+    tag: Option<&Name>,
+    given: &[Given],
+    faults: &mut Items<Fault>,
+) -> Result<(), AllocError>
+    ensures { OnOk result (faults.new ≡ faults.old ++ told_exchanged (carrier_in channel.now) root.now (name_seen tag.entry) given.now) }
+{
+    told(
+        alloc,
+        root,
+        asked_of(carrier_of(channel), tag),
+        given,
+        faults,
+    )
+}
+
+/// What a timer gives.
+fn time_items(alloc: Global) -> Result<Items<Item>, AllocError>
+    ensures { IfOk result (λ items. items ≡ i.Value int_type ∷ []) }
+{
+    let mut items = Items::new(alloc);
+    items.push(Item::Value(int(alloc)?))?;
+    Ok(items)
+}
+
+/// What is told of the items of an input without `CASE`: a channel's, or one INT of a timer.
+///
+/// # Errors
+///
+/// Where memory is refused.
+pub fn received(
+    alloc: Global,
+    channel: &Kind,
+    root: &Name,
+    given: &[Given],
+    faults: &mut Items<Fault>,
+) -> Result<(), AllocError>
+    ensures { OnOk result (faults.new ≡ faults.old ++ told_received (carrier_in channel.now) root.now given.now) }
+{
+    let carrier = carrier_of(channel);
+    match carrier {
+        Carrier::Time => {
+            let items = time_items(alloc)?;
+            against(alloc, root, items.as_slice(), given, faults)
+        }
+        _ => told(alloc, root, asked_of(carrier, None), given, faults),
+    }
+}
+
+/// What is told of what stands before `? AFTER`, which has to be a timer. Of what stands behind it an INT is wanted, and
+/// that is told as of any operand, whatever this is.
+///
+/// # Errors
+///
+/// Where memory is refused.
+pub fn awaited(
+    alloc: Global,
+    channel: &Kind,
+    root: &Name,
+    faults: &mut Items<Fault>,
+) -> Result<(), AllocError>
+    ensures { OnOk result (faults.new ≡ faults.old ++ told_awaited (carrier_in channel.now) root.now) }
+{
+    match carrier_of(channel) {
+        Carrier::Hidden | Carrier::Time => Ok(()),
+        Carrier::Nothing | Carrier::Data | Carrier::Sequence(_) | Carrier::Variant(_) => tell_named(
+            alloc,
+            Code::P4,
+            root,
+            faults,
+        ),
+    }
+}
+
+/// What is told of the first line of a case input.
+///
+/// # Errors
+///
+/// Where memory is refused.
+pub fn cased(
+    alloc: Global,
+    channel: &Kind,
+    root: &Name,
+    faults: &mut Items<Fault>,
+) -> Result<(), AllocError>
+    ensures { OnOk result (faults.new ≡ faults.old ++ told_cased (carrier_in channel.now) root.now) }
+{
+    match carrier_of(channel) {
+        Carrier::Hidden | Carrier::Variant(_) => Ok(()),
+        Carrier::Nothing | Carrier::Time => tell_named(alloc, Code::P4, root, faults),
+        Carrier::Data | Carrier::Sequence(_) => tell_named(alloc, Code::P3, root, faults),
+    }
+}
+
+/// What is told of a variant of a case input: of its tag, and of the items behind it.
+///
+/// # Errors
+///
+/// Where memory is refused.
+pub fn alternative(
+    alloc: Global,
+    channel: &Kind,
+    root: &Name,
+    tag: &Name,
+    given: &[Given],
+    faults: &mut Items<Fault>,
+) -> Result<(), AllocError>
+    ensures { OnOk result (faults.new ≡ faults.old ++ told_alternative (carrier_in channel.now) root.now tag.now given.now) }
+{
+    let carrier = carrier_of(channel);
+    match carrier {
+        Carrier::Variant(_) => told(alloc, root, asked_of(carrier, Some(tag)), given, faults),
+        _ => Ok(()),
+    }
+}
+
+/// Whether a tag is none of the protocol's, so that P2 tells of it, and not T8 where it stands among the variants of a
+/// case input a second time.
+pub fn lacks(channel: &Kind, tag: &Name) -> bool
+    ensures { result ≡ is_lacking (carrier_in channel.now) tag.now }
+{
+    match carrier_of(channel) {
+        Carrier::Variant(tags) => tag_named(tags, tag).is_none(),
+        _ => false,
+    }
+}

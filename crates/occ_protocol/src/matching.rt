@@ -1,0 +1,242 @@
+#![tactic(auto, using(occ_types::proofs::Agreeing::fit_rules, crate::proofs::Meeting::meeting_rules))]
+
+ghost use Rattle.std.specs.Prelude.{◌≡◌, ◌++◌, OnOk};
+ghost use Rattle.std.specs.List.{list_any};
+ghost use Rattle.occ_protocol.specs.Matching.{against as told_against, each_unmet as told_each_unmet, each_unmet_any as told_each_unmet_any, has_fault as is_given_with_fault, is_any as holds_any, is_any_count as counts_any, is_any_row as holds_any_row, is_count as counts, is_of as holds, is_row as holds_row, meets as is_met, meets_any as is_met_by_any, named as told_named, of_another_number as told_of_another_number, told as told_of, unmet as told_unmet};
+ghost use Rattle.occ_protocol.specs.inside.Seen.{asked_seen};
+
+use super::asked::Asked;
+use super::given::Given;
+use occ_base::{Code, Fault, Items, Name, Shared};
+use occ_operands::{Kind, is_faulty, number};
+use occ_types::{Item, OccType, Primitive, array_of, as_primitive, fits, is_data};
+use std::alloc::{AllocError, Global};
+
+/// Whether an operand is of this type.
+fn is_of(of: &OccType, kind: &Kind) -> bool
+    ensures { result ≡ holds of.now kind.now }
+{
+    match kind {
+        Kind::Known(known) => fits(of, known.of.get()),
+        _ => false,
+    }
+}
+
+/// Whether an operand is a count of just this type.
+fn is_count(count: Primitive, kind: &Kind) -> bool
+    ensures { result ≡ counts count kind.now }
+{
+    match kind {
+        Kind::Known(known) => match as_primitive(known.of.get()) {
+            Some(found) => count == found,
+            None => false,
+        },
+        _ => false,
+    }
+}
+
+/// Whether an operand is an array without a name, of values of this type.
+fn is_row(of: &OccType, kind: &Kind) -> bool
+    ensures { result ≡ holds_row of.now kind.now }
+{
+    match kind {
+        Kind::Known(known) => match array_of(known.of.get()) {
+            Some((_, inner)) => fits(of, inner.get()),
+            None => false,
+        },
+        _ => false,
+    }
+}
+
+/// Whether an item meets one of the protocol.
+fn meets(item: &Item, given: &Given) -> bool
+    ensures { result ≡ is_met item.now given.now }
+{
+    match (item, given) {
+        (Item::Value(of), Given::Plain(x)) => is_of(of.get(), x),
+        (Item::Value(_), Given::Counted(_, _)) => false,
+        (Item::Counted(_, _), Given::Plain(_)) => false,
+        (Item::Counted(count, of), Given::Counted(n, x)) => is_count(*count, n)
+            && is_row(of.get(), x),
+    }
+}
+
+/// Whether an operand is data of any type.
+fn is_any(kind: &Kind) -> bool
+    ensures { result ≡ holds_any kind.now }
+{
+    match kind {
+        Kind::Known(known) => is_data(known.of.get()),
+        _ => false,
+    }
+}
+
+/// Whether an operand is a count of an integer type or BYTE.
+fn is_any_count(kind: &Kind) -> bool
+    ensures { result ≡ counts_any kind.now }
+{
+    match kind {
+        Kind::Known(known) => number(as_primitive(known.of.get())).is_some(),
+        _ => false,
+    }
+}
+
+/// Whether an operand is an array without a name, of data.
+fn is_any_row(kind: &Kind) -> bool
+    ensures { result ≡ holds_any_row kind.now }
+{
+    match kind {
+        Kind::Known(known) => match array_of(known.of.get()) {
+            Some((_, inner)) => is_data(inner.get()),
+            None => false,
+        },
+        _ => false,
+    }
+}
+
+/// Whether an item may go through a channel of ANY.
+fn meets_any(given: &Given) -> bool
+    ensures { result ≡ is_met_by_any given.now }
+{
+    match given {
+        Given::Plain(x) => is_any(x),
+        Given::Counted(n, x) => is_any_count(n) && is_any_row(x),
+    }
+}
+
+/// Whether an item is faulty, its count or its array.
+fn has_fault(given: &Given) -> bool
+    ensures { result ≡ is_given_with_fault given.now }
+{
+    match given {
+        Given::Plain(x) => is_faulty(x),
+        Given::Counted(n, x) => is_faulty(n) || is_faulty(x),
+    }
+}
+
+/// Whether one of the items is faulty.
+fn any_has_fault(given: &[Given]) -> bool
+    ensures { result ≡ list_any is_given_with_fault given.now }
+{
+    for x in given {
+        if has_fault(x) {
+            return true;
+        }
+    }
+    false
+}
+
+/// A code is told with a name.
+pub(super) fn tell_named(
+    alloc: Global,
+    code: Code,
+    name: &Name,
+    faults: &mut Items<Fault>,
+) -> Result<(), AllocError>
+    ensures { OnOk result (faults.new ≡ faults.old ++ told_named code name.now) }
+{
+    let name = Some(name.copied(alloc)?);
+    faults.push(Fault { code, name })
+}
+
+/// P1 is told of an item that does not meet what is asked, unless it is faulty.
+fn unmet(
+    alloc: Global,
+    root: &Name,
+    is_met: bool,
+    given: &Given,
+    faults: &mut Items<Fault>,
+) -> Result<(), AllocError>
+    ensures { OnOk result (faults.new ≡ faults.old ++ told_unmet root.now is_met given.now) }
+{
+    if is_met || has_fault(given) {
+        return Ok(());
+    }
+    tell_named(alloc, Code::P1, root, faults)
+}
+
+/// As many items as the protocol has.
+fn each_unmet(
+    alloc: Global,
+    root: &Name,
+    items: &[Item],
+    given: &[Given],
+    faults: &mut Items<Fault>,
+) -> Result<(), AllocError>
+    ensures { OnOk result (faults.new ≡ faults.old ++ told_each_unmet root.now items.now given.now) }
+{
+    let mut given = given;
+    for item in items {
+        let Some((x, rest)) = given.split_first() else {
+            return Ok(());
+        };
+        unmet(alloc, root, meets(item, x), x, faults)?;
+        given = rest;
+    }
+    Ok(())
+}
+
+/// Items of a channel of ANY.
+fn each_unmet_any(
+    alloc: Global,
+    root: &Name,
+    given: &[Given],
+    faults: &mut Items<Fault>,
+) -> Result<(), AllocError>
+    ensures { OnOk result (faults.new ≡ faults.old ++ told_each_unmet_any root.now given.now) }
+{
+    for x in given {
+        unmet(alloc, root, meets_any(x), x, faults)?;
+    }
+    Ok(())
+}
+
+/// More or fewer items than the protocol has.
+fn of_another_number(
+    alloc: Global,
+    root: &Name,
+    given: &[Given],
+    faults: &mut Items<Fault>,
+) -> Result<(), AllocError>
+    ensures { OnOk result (faults.new ≡ faults.old ++ told_of_another_number root.now given.now) }
+{
+    if any_has_fault(given) {
+        return Ok(());
+    }
+    tell_named(alloc, Code::P1, root, faults)
+}
+
+/// Items against those of the protocol.
+pub(super) fn against(
+    alloc: Global,
+    root: &Name,
+    items: &[Item],
+    given: &[Given],
+    faults: &mut Items<Fault>,
+) -> Result<(), AllocError>
+    ensures { OnOk result (faults.new ≡ faults.old ++ told_against root.now items.now given.now) }
+{
+    if items.len() == given.len() {
+        return each_unmet(alloc, root, items, given, faults);
+    }
+    of_another_number(alloc, root, given, faults)
+}
+
+/// What is told of a list of items.
+pub(super) fn told(
+    alloc: Global,
+    root: &Name,
+    asked: Asked<'_>,
+    given: &[Given],
+    faults: &mut Items<Fault>,
+) -> Result<(), AllocError>
+    ensures { OnOk result (faults.new ≡ faults.old ++ told_of root.now (asked_seen asked.entry) given.now) }
+{
+    match asked {
+        Asked::Silent => Ok(()),
+        Asked::Instead(code) => tell_named(alloc, code, root, faults),
+        Asked::NoTag(name) => tell_named(alloc, Code::P2, name, faults),
+        Asked::AnyData => each_unmet_any(alloc, root, given, faults),
+        Asked::These(items) => against(alloc, root, items, given, faults),
+    }
+}
