@@ -1,3 +1,4 @@
 pub mod Carried
 pub mod Meeting
 pub mod Primitives
+pub mod Messages

@@ -1,6 +1,6 @@
 -- Items against those of a protocol, item by item.
 use Rattle.std.proofs.Common.{◌≡◌, ◌∙◌, ap, sym}
-use Rattle.occ_types.specs.declared.types.Item.{Item, out-Item, roll-Item}
+use Rattle.occ_types.specs.declared.types.Item.{Item, out-Item}
 use Rattle.occ_types.specs.declared.types.Item.TheOpen.{Item-F}
 use Rattle.occ_types.specs.declared.types.Item.TheVariants as i
 use Rattle.occ_types.specs.declared.types.Item.TheViews.{out-roll-Item}

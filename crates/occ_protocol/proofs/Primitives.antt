@@ -1,5 +1,5 @@
 -- Types that agree, where both are written out.
-use Rattle.std.proofs.Common.{◌≡◌, ◌∙◌, ℕ, List, Bool, false, ap}
+use Rattle.std.proofs.Common.{◌≡◌, ◌∙◌, ℕ, List, false, ap}
 use Rattle.occ_types.specs.Fits.{fits, is_same_primitive, primitive_fits}
 use Rattle.occ_types.specs.declared.types.OccType.{OccType}
 use Rattle.occ_types.specs.declared.types.OccType.TheVariants as t

@@ -2,7 +2,6 @@
 use Rattle.std.specs.Prelude.{ℕ, Option, Some, None, List, [], ◌∷◌, Bool, true, false}
 use Rattle.occ_base.specs.declared.code.Code.TheVariants as code
 use Rattle.occ_base.specs.declared.fault.Fault.{Fault}
-use Rattle.occ_types.specs.declared.types.Item.{Item}
 use Rattle.occ_types.specs.declared.types.Item.TheVariants as i
 use Rattle.occ_types.specs.declared.types.Tag.{Tag}
 use Rattle.occ_operands.specs.Settling.{int}

@@ -1,6 +1,5 @@
 -- What is wanted of each item that is sent, before it is known what it is.
-use Rattle.std.specs.Prelude.{ℕ, ◌==◌, Option, Some, None, List, [], ◌∷◌, length, map, if◌then◌else◌}
-use Rattle.occ_base.specs.declared.code.Code.{Code}
+use Rattle.std.specs.Prelude.{◌==◌, None, List, [], ◌∷◌, length, map, if◌then◌else◌}
 use Rattle.occ_types.specs.declared.types.Field.{Field}
 use Rattle.occ_types.specs.declared.types.Item.{Item, out-Item}
 use Rattle.occ_types.specs.declared.types.Item.TheOpen.{Item-F}

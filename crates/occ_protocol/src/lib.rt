@@ -4,6 +4,7 @@
 mod asked;
 mod carrier;
 mod given;
+pub mod laws;
 mod line;
 mod matching;
 pub mod rows;

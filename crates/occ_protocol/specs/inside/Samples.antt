@@ -1,6 +1,5 @@
 -- Channels and items for the rows of this crate.
-use Rattle.std.specs.Prelude.{ℕ, codes, Option, Some, None, List, [], ◌∷◌}
-use Rattle.occ_types.specs.declared.types.Item.{Item}
+use Rattle.std.specs.Prelude.{ℕ, codes, Some, None, List, [], ◌∷◌}
 use Rattle.occ_types.specs.declared.types.Item.TheVariants as i
 use Rattle.occ_types.specs.declared.types.OccType.{OccType}
 use Rattle.occ_types.specs.declared.types.OccType.TheVariants as t

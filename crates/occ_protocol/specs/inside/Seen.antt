@@ -1,7 +1,6 @@
 -- What the program's values of a channel stand for.
 use Rattle.std.specs.Prelude.{ℕ, List, Option, Some, None}
 use Rattle.std.specs.Borrow.{Bor}
-use Rattle.occ_base.specs.declared.code.Code.TheVariants as code
 use Rattle.occ_types.specs.declared.types.Tag.{Tag}
 use Rattle.occ_protocol.specs.Carrying.{Carrier}
 use Rattle.occ_protocol.specs.Carrying.Carrier.{Hidden, Nothing, Time, Data, Sequence, Variant}
