@@ -1,5 +1,6 @@
 -- What an element is to those who send and receive through it, and the tags of a protocol.
 use Rattle.std.specs.Prelude.{ℕ, Option, Some, None, List, [], ◌∷◌, Bool, true, false, if◌then◌else◌}
+use Rattle.std.specs.Borrow.{Bor}
 use Rattle.std.specs.List.{list_any}
 use Rattle.std.specs.Str.{bytes_eq}
 use Rattle.occ_types.specs.View.{as_channel, as_defined, as_sequence, as_value, as_variant, is_timer, is_unknown}
@@ -64,6 +65,11 @@ carrier (k.Free f) = Hidden
 carrier (k.Known x) = of_type x.of
 
 -- ---- tags
+
+-- the name of a tag, if there is one
+abbrev pub name_seen : Option (Bor (List ℕ)) → Option (List ℕ)
+name_seen None = None
+name_seen (Some name) = Some name.now
 
 -- the first tag of this name
 abbrev pub tag_named : List Tag → List ℕ → Option Tag

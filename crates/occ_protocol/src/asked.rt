@@ -1,6 +1,7 @@
 ghost use Rattle.std.specs.Prelude.{◌≡◌, Option, Some, None, map};
+ghost use Rattle.occ_protocol.specs.Carrying.{name_seen};
 ghost use Rattle.occ_protocol.specs.Matching.{asked as asked_in, behind as asked_behind};
-ghost use Rattle.occ_protocol.specs.inside.Seen.{asked_seen, name_seen, seen, tag_seen};
+ghost use Rattle.occ_protocol.specs.inside.Seen.{asked_seen, seen, tag_seen};
 
 use super::carrier::{Carrier, is_faulty_tag, tag_named};
 use occ_base::{Code, Name};

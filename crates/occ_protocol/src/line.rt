@@ -1,9 +1,8 @@
 ghost use Rattle.std.specs.Prelude.{◌≡◌, ◌++◌, IfOk, OnOk, [], ◌∷◌};
 ghost use Rattle.occ_types.specs.declared.types.Item.TheVariants as i;
 ghost use Rattle.occ_operands.specs.Settling.{int as int_type};
-ghost use Rattle.occ_protocol.specs.Carrying.{carrier as carrier_in};
+ghost use Rattle.occ_protocol.specs.Carrying.{carrier as carrier_in, name_seen};
 ghost use Rattle.occ_protocol.specs.Lines.{alternative as told_alternative, awaited as told_awaited, cased as told_cased, exchanged as told_exchanged, lacks as is_lacking, received as told_received, takes_tag as is_taking_tag};
-ghost use Rattle.occ_protocol.specs.inside.Seen.{name_seen};
 
 use super::asked::asked_of;
 use super::carrier::{Carrier, carrier_of, tag_named};

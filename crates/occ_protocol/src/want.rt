@@ -1,10 +1,10 @@
 #![tactic(auto, using(crate::proofs::Meeting::wanting_rules))]
 
 ghost use Rattle.std.specs.Prelude.{◌≡◌, IfOk, map};
-ghost use Rattle.occ_protocol.specs.Carrying.{carrier as carrier_in};
+ghost use Rattle.occ_protocol.specs.Carrying.{carrier as carrier_in, name_seen};
 ghost use Rattle.occ_protocol.specs.Matching.{asked as asked_in};
 ghost use Rattle.occ_protocol.specs.Wanting.{counted_wanted, each_wanted as wanted_each, hidden as is_hidden, nothing as is_nothing, wanted_against as is_wanted_against, wanted_for as is_wanted_for, wants as wants_of};
-ghost use Rattle.occ_protocol.specs.inside.Seen.{asked_seen, name_seen};
+ghost use Rattle.occ_protocol.specs.inside.Seen.{asked_seen};
 
 use super::asked::{Asked, asked_of};
 use super::carrier::carrier_of;

@@ -1,5 +1,5 @@
 -- What the program's values of a channel stand for.
-use Rattle.std.specs.Prelude.{ℕ, List, Option, Some, None}
+use Rattle.std.specs.Prelude.{Option, Some, None}
 use Rattle.std.specs.Borrow.{Bor}
 use Rattle.occ_types.specs.declared.types.Tag.{Tag}
 use Rattle.occ_protocol.specs.Carrying.{Carrier}
@@ -29,7 +29,3 @@ asked_seen (asked.These items) = These items.now
 abbrev pub tag_seen : Option (Bor Tag) → Option Tag
 tag_seen None = None
 tag_seen (Some tag) = Some tag.now
-
-abbrev pub name_seen : Option (Bor (List ℕ)) → Option (List ℕ)
-name_seen None = None
-name_seen (Some name) = Some name.now
