@@ -1,0 +1,9 @@
+pub mod Cut
+pub mod Words
+pub mod Before
+pub mod Ended
+pub mod Going
+pub mod First
+pub mod Whole
+pub mod Over
+pub mod Says

@@ -1,0 +1,17 @@
+ghost use Rattle.std.specs.List.{position, position_or_len};
+ghost use Rattle.std.specs.Prelude.{◌≡◌, ◌≤◌, ◌==◌, length};
+
+/// How many bytes stand before the first of these, all where there is none.
+#[tactic(auto, using(crate::proofs::Before::unwrapped, crate::proofs::Before::before_within))]
+pub fn length_before(bytes: &[u8], end: u8) -> usize
+    ensures value { result ≡ position_or_len (λ b. b == end) bytes.now }
+    ensures within { result ≤ length bytes.now }
+{
+    place_of(bytes, end).unwrap_or(bytes.len())
+}
+
+fn place_of(bytes: &[u8], byte: u8) -> Option<usize>
+    ensures { result ≡ position (λ b. b == byte) bytes.now }
+{
+    bytes.iter().position(|b| *b == byte)
+}
