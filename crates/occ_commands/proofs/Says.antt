@@ -5,7 +5,7 @@ use Rattle.std.proofs.lemmas.List.{length-drop}
 use Rattle.std.proofs.Math.Seq.{drop-append_seam, take-append_seam}
 use Rattle.occ_commands.specs.Says.{Says}
 use Rattle.occ_commands.specs.Says.Says.{alone, at_end, cut_short, skipped, with_text, wrong}
-use Rattle.occ_commands.specs.Script.{Command, Edit, Header, Script, command_at, ended, header, script_from, then, with_lines}
+use Rattle.occ_commands.specs.Script.{Edit, Header, Script, command_at, ended, header, script_from, then, with_lines}
 use Rattle.occ_commands.specs.Script.Header.{Alone, Texts}
 use Rattle.occ_commands.proofs.Going.{begin_line}
 

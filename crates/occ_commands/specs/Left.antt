@@ -1,5 +1,5 @@
 -- What is left of a script, and what it says next.
-use Rattle.std.specs.Prelude.{ℕ, ◌≡◌, ◌+◌, ◌<◌, ◌^◌, List, [], ◌∷◌, Some, None, length}
+use Rattle.std.specs.Prelude.{◌+◌, ◌<◌, ◌^◌, Some, None, length}
 use Rattle.occ_commands.specs.Ended.{IsEnded}
 use Rattle.occ_commands.specs.Lines.{cut_lines}
 use Rattle.occ_commands.specs.Script.{Command, Script, script_from, ended, then}
