@@ -1,0 +1,5 @@
+pub mod Project
+pub mod Units
+pub mod Places
+pub mod Along
+pub mod inside
