@@ -1,1 +1,4 @@
 pub mod Looks
+pub mod Rising
+pub mod Finding
+pub mod Putting

@@ -1,3 +1,3 @@
 -- what no contract of a public call rests on
-pub mod Searching
+pub mod Finding
 pub mod Keeping

@@ -20,7 +20,7 @@ pub fn reads_law()
 /// order.
 pub fn put_law()
     ensures in_order { (files : List Read) (file : Read) → IsProject files → IsProject (put files file) }
-    ensures files { (files : List Read) (file : Read) (name : List ℕ) → IsProject files → file_of (put files file) name ≡ cond (bytes_eq file.name name) file (file_of files name) }
+    ensures files { (files : List Read) (file : Read) (name : List ℕ) → file_of (put files file) name ≡ cond (bytes_eq file.name name) file (file_of files name) }
 {}
 
 /// The test for a circle tells whether a unit uses another in one.

@@ -1,6 +1,6 @@
-ghost use Rattle.occ_project.specs.Reads.{place as first_place};
+ghost use Rattle.occ_project.specs.Reads.{member, place as first_place};
 ghost use Rattle.occ_units.specs.Project.{IsProject, file_of, put};
-ghost use Rattle.occ_units.specs.inside.Searching.{IsGap};
+ghost use Rattle.occ_units.specs.inside.Finding.{IsGap};
 ghost use Rattle.std.specs.Option.{option_copied};
 ghost use Rattle.std.specs.Prelude.{[], map, IfOk, MatchResult, None, OnErr, OnOk, Some, ◌≡◌};
 
@@ -119,20 +119,30 @@ impl Project {
         }
     }
 
+    /// The file of that name.
+    fn file(&self, name: FileName) -> Option<&Read>
+        ensures { option_copied result ≡ member self.now name }
+    {
+        let place = self.place(name)?;
+        self.files.get(place)
+    }
+
     /// The text of the file of that name, if it is open.
     pub fn get(&self, name: FileName) -> Option<&Shared<Source>>
         ensures { option_copied result ≡ (file_of self.now name).source }
     {
-        let place = self.place(name)?;
-        self.files.get(place)?.source.as_ref()
+        match self.file(name) {
+            Some(file) => file.source.as_ref(),
+            None => None,
+        }
     }
 
     /// The number of the edit that gave the file of that name its text or took it away, 0 if there was none.
     pub fn revision(&self, name: FileName) -> u32
         ensures { result ≡ (file_of self.now name).revision }
     {
-        match self.place(name) {
-            Some(place) => self.files[place].revision,
+        match self.file(name) {
+            Some(file) => file.revision,
             None => 0,
         }
     }
@@ -141,8 +151,8 @@ impl Project {
     pub fn read(&self, name: FileName) -> Result<Read, AllocError>
         ensures { IfOk result (λ read. read ≡ file_of self.now name) }
     {
-        match self.place(name) {
-            Some(place) => share(&self.files[place]),
+        match self.file(name) {
+            Some(file) => share(file),
             None => Ok(Read {
                 name,
                 revision: 0,

@@ -1,7 +1,7 @@
 -- Where a file of a name would stand in a project that has none.
-use Rattle.std.specs.Prelude.{◌≡◌, ◌≤◌, ℕ, List, ◌++◌, ◌∷◌, length, map, take, drop, None}
-use Rattle.std.specs.List.{AllByRecursion}
-use Rattle.std.specs.declared.cmp.Ordering.TheVariants.{Less}
+use Rattle.std.specs.Prelude.{◌≡◌, ◌≤◌, ℕ, List, length, None}
+use Rattle.std.specs.List.{AllWithin}
+use Rattle.std.specs.declared.cmp.Ordering.TheVariants.{Less, Greater}
 use Rattle.occ_project.specs.declared.reads.Read.{Read}
 use Rattle.occ_project.specs.Reads.{name_cmp, place}
 
@@ -9,5 +9,5 @@ use Rattle.occ_project.specs.Reads.{name_cmp, place}
 pub record IsGap (name : List ℕ) (files : List Read) (at : ℕ) : Type 0 where
   pub within : at ≤ length files
   pub absent : place name files ≡ None
-  pub before : AllByRecursion (λ file. name_cmp file.name name ≡ Less) (take at files)
-  pub after : AllByRecursion (λ file. name_cmp name file.name ≡ Less) (drop at files)
+  pub before : AllWithin (λ file. name_cmp file.name name ≡ Less) files 0 at
+  pub after : AllWithin (λ file. name_cmp file.name name ≡ Greater) files at (length files)
