@@ -89,3 +89,16 @@ one_of read reads found false o e = behind read reads o ∙ e
 pub member_at : (name : List ℕ) (reads : List Read) → option_and_then (slice_get reads) (place name reads) ≡ member reads name
 member_at name [] = refl
 member_at name (read ∷ reads) = one_of read reads (member reads name) (is_named name read) (place name reads) (member_at name reads)
+
+pub no_files : IsProject []
+unfolding IsStrictlySortedBy
+no_files = tt
+
+-- a place is that of a file, whose name it is
+pub place_within : (name : List ℕ) (files : List Read) (at : ℕ) → place name files ≡ Some at → at < length files
+place_within name [] at e = cc
+place_within name (x ∷ files) at e = by (is_named name x) (place name files) (place_within name files) e where
+  by : (b : Bool) (o : Option ℕ) → ((k : ℕ) → o ≡ Some k → k < length files) → cond b (Some 0) (option_map suc o) ≡ Some at → at < length (x ∷ files)
+  by true o f h = let is : 0 ≡ at = cc in omega (arith, is)
+  by false None f h = cc
+  by false (Some k) f h = let is : suc k ≡ at = cc in omega (arith, is, f k refl)

@@ -2,3 +2,5 @@ pub mod Looks
 pub mod Rising
 pub mod Finding
 pub mod Putting
+pub mod Narrowed
+pub mod Edges

@@ -1,6 +1,6 @@
 ghost use Rattle.occ_units.specs.Places.{places_of as the_places_of};
 ghost use Rattle.occ_units.specs.inside.Keeping.{facts_of as the_facts_of};
-ghost use Rattle.std.specs.Prelude.{IfOk, map, ◌≡◌};
+ghost use Rattle.std.specs.Prelude.{[], map, IfOk, OnOk, ◌++◌, ◌∷◌, ◌≡◌};
 
 use super::Project;
 use super::expansion::expansion;
@@ -47,7 +47,22 @@ pub fn all_facts(alloc: Global, project: &Project) -> Result<Items<Facts>, Alloc
     Ok(all)
 }
 
+/// Adds the place of the file of that name, if it is in the project.
+fn add_place(
+    project: &Project,
+    name: FileName,
+    places: &mut Items<usize>,
+) -> Result<(), AllocError>
+    ensures { OnOk result (places.new ≡ places.old ++ the_places_of project.now (name ∷ [])) }
+{
+    match project.place(name) {
+        Some(place) => places.push(place),
+        None => Ok(()),
+    }
+}
+
 /// The places of the files of these names.
+#[tactic(auto, using(crate::proofs::Edges::places_more))]
 fn places_of(
     alloc: Global,
     project: &Project,
@@ -57,9 +72,7 @@ fn places_of(
 {
     let mut places = Items::new(alloc);
     for name in names {
-        if let Some(place) = project.place(*name) {
-            places.push(place)?;
-        }
+        add_place(project, *name, &mut places)?;
     }
     Ok(places)
 }

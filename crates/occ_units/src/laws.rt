@@ -1,19 +1,22 @@
+ghost use Rattle.occ_base.specs.FileName.{is_unit};
 ghost use Rattle.occ_project.specs.Entries.{is_among};
-ghost use Rattle.occ_project.specs.Expansion.{expansion};
+ghost use Rattle.occ_project.specs.Expansion.{expansion, not_given};
 ghost use Rattle.occ_project.specs.Reads.{open_lines};
 ghost use Rattle.occ_project.specs.declared.reads.Read.{Read};
 ghost use Rattle.occ_units.specs.Along.{IsLocal, along};
 ghost use Rattle.occ_units.specs.Places.{is_circular};
 ghost use Rattle.occ_units.specs.Project.{IsProject, file_of, put};
-ghost use Rattle.occ_units.specs.Units.{IsCircular};
-ghost use Rattle.std.specs.Prelude.{List, ℕ, cond, true, ◌≡◌, ◌↔◌};
+ghost use Rattle.occ_units.specs.Units.{IsCircular, unit_reads};
+ghost use Rattle.std.specs.Prelude.{List, None, ℕ, cond, true, ◌≡◌, ◌↔◌};
 ghost use Rattle.std.specs.Str.{bytes_eq};
 
 /// An expansion looks at nothing but its reads: over other files, among which these have the same lines or are absent
-/// as well, it is the same. The unit is one of them.
+/// as well, it is the same. The unit is one of them. So a unit has the same expansion over its reads alone.
 pub fn reads_law()
     ensures alone { (files others : List Read) (unit : List ℕ) → ((name : List ℕ) → is_among (expansion files unit).reads name ≡ true → open_lines others name ≡ open_lines files name) → expansion others unit ≡ expansion files unit }
     ensures itself { (files : List Read) (unit : List ℕ) → is_among (expansion files unit).reads unit ≡ true }
+    ensures own { (files : List Read) (unit : List ℕ) → is_unit unit ≡ true → expansion (unit_reads files unit) unit ≡ expansion files unit }
+    ensures given { (files : List Read) (unit : List ℕ) → is_unit unit ≡ true → not_given (unit_reads files unit) unit ≡ None }
 {}
 
 /// A file that is put into a project is the file of its name from then on, and those of other names stay. The names stay in

@@ -7,6 +7,7 @@ ghost use Rattle.std.specs.Prelude.{[], map, IfOk, MatchResult, None, OnErr, OnO
 use occ_base::{FileName, Items, Shared};
 use occ_forms::Source;
 use occ_project::{Read, Reads};
+use sqlite_items::at;
 use std::alloc::{AllocError, Global};
 use std::marker::Model;
 
@@ -84,8 +85,7 @@ impl Project {
     fn find(&self, name: FileName) -> Result<usize, usize>
         ensures { MatchResult result (λ at. first_place name self.now ≡ Some at) (λ at. IsGap name self.now at) }
     {
-        self.files
-            .binary_search_by(|file| file.name.cmp(&name))
+        self.files.binary_search_by_key(&name, |file| file.name)
     }
 
     /// The place of the file of that name.
@@ -123,8 +123,10 @@ impl Project {
     fn file(&self, name: FileName) -> Option<&Read>
         ensures { option_copied result ≡ member self.now name }
     {
-        let place = self.place(name)?;
-        self.files.get(place)
+        match self.place(name) {
+            Some(place) => at(self.files.as_slice(), place),
+            None => None,
+        }
     }
 
     /// The text of the file of that name, if it is open.

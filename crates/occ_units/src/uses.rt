@@ -9,6 +9,7 @@ use std::alloc::{AllocError, Global};
 use std::collections::BTreeSet;
 
 /// The names, each once, in order.
+#[tactic(auto, using(crate::proofs::Rising::placed_last, crate::proofs::Rising::placed_all))]
 fn in_order(alloc: Global, mut names: Items<FileName>) -> Result<Items<FileName>, AllocError>
     ensures { IfOk result (λ ordered. ordered ≡ names_in_order names) }
 {
