@@ -4,6 +4,7 @@ use Rattle.std.specs.List.{filter_map, flat_map, list_any, slice_get}
 use Rattle.std.specs.Option.{cons_option, option_and_then, option_map, is_some, unwrap_or}
 use Rattle.std.specs.Str.{bytes_eq}
 use Rattle.std.specs.Cmp.Lexicographic.{same_text}
+use Rattle.std.proofs.lemmas.List.{take_more}
 use Rattle.std.proofs.lemmas.List.Elements.{filter_map-append}
 use Rattle.std.proofs.lemmas.Bool.{cases_lt, eq-eqb, eqb-true}
 use Rattle.occ_base.specs.FileName.{is_unit}
@@ -148,3 +149,10 @@ whole files p q h = elim (cases_lt p (length files)) [
       let none : has_edge (graph_of files) p q ≡ false = ap (λ (ws : List ℕ). graph.is_among ws q) (no_edge (graph_of files) p (omega (arith, graph_long files, above))) in
       absurd (cc (none, h))
   ]
+
+-- one name more
+pub places_next : (files : List Read) (names : List (List ℕ)) (i : ℕ) (name : List ℕ) (old new : List ℕ) → i < length names → name ≡ get_or names i name → old ≡ places_of files (take i names)
+    → new ≡ old ++ places_of files (name ∷ []) → new ≡ places_of files (take (i + 1) names)
+places_next files names i name old new lt is e n =
+    n ∙ ap (λ (ps : List ℕ). ps ++ places_of files (name ∷ [])) e ∙ sym (places_more files (take i names) (name ∷ []))
+    ∙ ap (λ (m : List ℕ). places_of files (take i names ++ m ∷ [])) is ∙ ap (places_of files) (sym (take_more names i name lt))

@@ -4,3 +4,5 @@ pub mod Finding
 pub mod Putting
 pub mod Narrowed
 pub mod Edges
+pub mod Kept
+pub mod Rounds

@@ -8,7 +8,7 @@ use Rattle.occ_base.specs.FileName.{is_unit}
 use Rattle.occ_forms.specs.declared.source.SourceLine.{SourceLine}
 use Rattle.occ_project.specs.declared.reads.Read.{Read}
 use Rattle.occ_project.specs.Entries.{is_among}
-use Rattle.occ_project.specs.Expansion.{expansion, not_given}
+use Rattle.occ_project.specs.Expansion.{Expansion, expansion, not_given}
 use Rattle.occ_project.specs.Reads.{is_named, lines_of, member, open_lines}
 use Rattle.occ_units.specs.Project.{file_of}
 use Rattle.occ_units.specs.Units.{read_names, unit_reads}
@@ -99,3 +99,7 @@ own_given files unit u =
     ap (λ (fs : List Read). not_given fs unit) are
     ∙ ap (λ (ns : List (List ℕ)). find (λ name. not (is_some (member some name))) ns) (ap (λ e. e.reads) same)
     ∙ all_pass names (λ name. not (is_some (member some name))) (λ name a. ap not (is_given files names name a))
+
+pub narrowed_to : (files reads : List Read) (names : List (List ℕ)) (unit : List ℕ) (found : Expansion) → reads ≡ map (file_of files) names → found ≡ expansion reads unit → not_given reads unit ≡ None → found ≡ expansion files unit
+narrowed_to files reads names unit found r f g =
+    f ∙ ap (λ (fs : List Read). expansion fs unit) r ∙ narrowed files names unit (sym (ap (λ (fs : List Read). not_given fs unit) r) ∙ g)

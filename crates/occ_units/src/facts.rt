@@ -62,7 +62,6 @@ fn add_place(
 }
 
 /// The places of the files of these names.
-#[tactic(auto, using(crate::proofs::Edges::places_more))]
 fn places_of(
     alloc: Global,
     project: &Project,

@@ -1,15 +1,45 @@
-ghost use Rattle.occ_graph.specs.Graph.{rests as rests_in};
+ghost use Rattle.occ_graph.specs.Graph.{is_among as is_place, rests as rests_in};
+ghost use Rattle.occ_project.specs.Entries.{is_among};
+ghost use Rattle.occ_project.specs.Reads.{place};
 ghost use Rattle.occ_units.specs.Places.{graph_of, is_circular as uses_in_circle, standing_of};
 ghost use Rattle.occ_units.specs.Units.{read_names, used_units};
-ghost use Rattle.std.specs.Prelude.{IfOk, map, ◌≡◌};
+ghost use Rattle.occ_units.specs.inside.Keeping.{facts_of as the_facts_of};
+ghost use Rattle.std.specs.Option.{option_and_then, option_copied, option_map};
+ghost use Rattle.std.specs.Prelude.{[], get_or, IfOk, ◌≡◌};
 
 use super::facts::{Facts, all_facts, edges};
 use super::{Project, Standing};
 use occ_base::{FileName, Items};
 use occ_graph::find_rests;
+use occ_project::Expanded;
+use sqlite_items::at;
 use std::alloc::{AllocError, Global};
 use std::marker::Model;
 use std::slice;
+
+/// The places in a row, if there is one.
+fn row(rows: &[Items<usize>], place: usize) -> &[usize]
+    ensures { result.now ≡ get_or rows.now place [] }
+{
+    match rows.get(place) {
+        Some(row) => row.as_slice(),
+        None => &[],
+    }
+}
+
+/// Whether the name is one of these.
+fn is_name_among(names: &[FileName], name: FileName) -> bool
+    ensures { result ≡ is_among names.now name }
+{
+    names.iter().any(|other| *other == name)
+}
+
+/// Whether the place is one of these.
+fn is_place_among(places: &[usize], place: usize) -> bool
+    ensures { result ≡ is_place places.now place }
+{
+    places.iter().any(|other| *other == place)
+}
 
 /// What the units of a project read and use, and which of them in circles. In contracts it is the project: all that it
 /// answers is what the definitions give of that.
@@ -65,9 +95,23 @@ impl Graph {
     }
 
     /// What is known of the file of that name, if it is in the project.
-    fn facts_of(&self, name: FileName) -> Option<&Facts> {
-        let place = self.project.place(name)?;
-        self.facts.get(place)
+    fn facts_of(&self, name: FileName) -> Option<&Facts>
+        ensures { option_copied result ≡ option_map (λ at. the_facts_of self.now name) (place name self.now) }
+    {
+        match self.project.place(name) {
+            Some(place) => at(self.facts.as_slice(), place),
+            None => None,
+        }
+    }
+
+    /// The expansion of a unit that is in the project.
+    fn expanded(&self, unit: FileName) -> Option<&Expanded>
+        ensures { option_copied result ≡ option_and_then (λ at. (the_facts_of self.now unit).expanded) (place unit self.now) }
+    {
+        match &self.facts_of(unit)?.expanded {
+            Some(expanded) => Some(expanded.get()),
+            None => None,
+        }
     }
 
     /// The units that a unit uses, in order of name.
@@ -87,9 +131,9 @@ impl Graph {
         if !unit.is_unit() {
             return &[];
         }
-        match self.facts_of(*unit) {
-            Some(Facts { expanded: Some(expanded), .. }) => expanded.get().reads(),
-            _ => slice::from_ref(unit),
+        match self.expanded(*unit) {
+            Some(expanded) => expanded.reads(),
+            None => slice::from_ref(unit),
         }
     }
 
@@ -97,22 +141,20 @@ impl Graph {
     pub fn rests(&self, place: usize) -> &[usize]
         ensures { result.now ≡ rests_in (graph_of self.now) place }
     {
-        match self.rests.get(place) {
-            Some(rests) => rests.as_slice(),
-            None => &[],
-        }
+        row(self.rests.as_slice(), place)
     }
 
     /// Whether the one unit uses the other, which is the same or reaches it by units that each use the next.
     pub fn is_circular(&self, unit: FileName, used: FileName) -> bool
         ensures { result ≡ uses_in_circle self.now unit used }
     {
-        match (self.project.place(unit), self.project.place(used)) {
-            (Some(from), Some(to)) => {
-                self.uses(unit).contains(&used) && !self.rests(from).contains(&to)
-            }
-            _ => false,
-        }
+        let Some(from) = self.project.place(unit) else {
+            return false;
+        };
+        let Some(to) = self.project.place(used) else {
+            return false;
+        };
+        is_name_among(self.uses(unit), used) && !is_place_among(self.rests(from), to)
     }
 
     /// How a unit stands to one that uses it.

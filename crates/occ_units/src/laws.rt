@@ -10,6 +10,8 @@ ghost use Rattle.occ_units.specs.Units.{IsCircular, unit_reads};
 ghost use Rattle.std.specs.Prelude.{List, None, ℕ, cond, true, ◌≡◌, ◌↔◌};
 ghost use Rattle.std.specs.Str.{bytes_eq};
 
+use occ_graph::laws;
+
 /// An expansion looks at nothing but its reads: over other files, among which these have the same lines or are absent
 /// as well, it is the same. The unit is one of them. So a unit has the same expansion over its reads alone.
 pub fn reads_law()
@@ -29,10 +31,14 @@ pub fn put_law()
 /// The test for a circle tells whether a unit uses another in one.
 pub fn circle_law()
     ensures { (files : List Read) (u v : List ℕ) → (is_circular files u v ≡ true) ↔ IsCircular files u v }
-{}
+{
+    laws::circle_law();
+}
 
 /// What recursion gives of a unit is what the step gives of it from what recursion gives of others, for every step that
 /// asks only for units that the unit rests on.
 pub fn along_law<A>()
     ensures { (files : List Read) (step : List ℕ → (List ℕ → A) → A) (base : A) → IsProject files → IsLocal files step → (u : List ℕ) → along files step base u ≡ step u (along files step base) }
-{}
+{
+    laws::along_law::<A>();
+}

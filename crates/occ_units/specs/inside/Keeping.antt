@@ -6,7 +6,6 @@ use Rattle.occ_project.specs.declared.reads.Read.{Read}
 use Rattle.occ_project.specs.Expansion.{expansion}
 use Rattle.occ_units.specs.declared.facts.Facts.{Facts}
 use Rattle.occ_units.specs.Places.{graph_of}
-use Rattle.occ_units.specs.Project.{IsProject}
 use Rattle.occ_units.specs.Units.{used_units}
 
 -- what is known of a file
@@ -14,6 +13,5 @@ abbrev pub facts_of : List Read → List ℕ → Facts
 facts_of files name = record { expanded = cond (is_unit name) (Some (expansion files name)) None; uses = used_units files name }
 
 pub record IsGraph (files : List Read) (facts : List Facts) (rests : List (List ℕ)) : Type 0 where
-  pub in_order : IsProject files
   pub facts_are : facts ≡ map (λ file. facts_of files file.name) files
   pub rests_are : rests ≡ all_rests (graph_of files)
