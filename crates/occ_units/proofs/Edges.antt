@@ -1,7 +1,7 @@
 -- Places of files, and edges between them.
 use Rattle.std.proofs.Common.{◌≡◌, ℕ, zero, suc, ◌+◌, ◌<◌, ◌≤◌, true, false, Bool, cond, not, ◌&&◌, ◌||◌, ◌==◌, List, [], ◌∷◌, ◌++◌, length, map, take, get_or, Option, Some, None, refl, sym, ap, subst, ◌∙◌, inl, inr, arith}
-use Rattle.std.specs.List.{filter_map, flat_map, list_any, slice_get}
-use Rattle.std.specs.Option.{cons_option, option_and_then, option_map, is_some, unwrap_or}
+use Rattle.std.specs.List.{cons_option, filter_map, flat_map, slice_get}
+use Rattle.std.specs.Option.{option_and_then}
 use Rattle.std.specs.Str.{bytes_eq}
 use Rattle.std.specs.Cmp.Lexicographic.{same_text}
 use Rattle.std.proofs.lemmas.List.{take_more}
@@ -125,7 +125,7 @@ pub used_by_edge : (files : List Read) (u : List ℕ) (p q : ℕ) → place u fi
 used_by_edge files u p q e h = named_place files (used_units files u) q (sym (ap (λ (ws : List ℕ). graph.is_among ws q) (targets_are files u p e)) ∙ h)
 
 -- each edge leads to a place
-no_edge : (g : Graph) (p : ℕ) → length g ≤ p → targets g p ≡ []
+pub no_edge : (g : Graph) (p : ℕ) → length g ≤ p → targets g p ≡ []
 no_edge [] p h = refl
 no_edge (ws ∷ g) zero h = absurd (omega (arith, h))
 no_edge (ws ∷ g) (suc p) h = no_edge g p (omega (arith, h))

@@ -42,7 +42,7 @@ comparisons_rise name (x ∷ files) h (suc i) zero d le lt = absurd (omega (arit
 comparisons_rise name (x ∷ files) h (suc i) (suc j) d le lt = comparisons_rise name files h.1 i j d (omega (arith, le)) (omega (arith, lt))
 
 -- a file that has the name is the first that has it
-found_at : (name : List ℕ) (files : List Read) (at : ℕ) → IsProject files → at < length files → HoldsAt (λ file. name_cmp file.name name ≡ Equal) files at → place name files ≡ Some at
+pub found_at : (name : List ℕ) (files : List Read) (at : ℕ) → IsProject files → at < length files → HoldsAt (λ file. name_cmp file.name name ≡ Equal) files at → place name files ≡ Some at
 unfolding IsStrictlySortedBy
 found_at name [] at s lt h = absurd (omega (arith, lt))
 found_at name (x ∷ files) zero s lt h = ap (λ (b : Bool). cond b (Some 0) (option_map suc (place name files))) (equal_test x.name name (h x))

@@ -6,3 +6,4 @@ pub mod Narrowed
 pub mod Edges
 pub mod Kept
 pub mod Rounds
+pub mod Below
