@@ -110,13 +110,13 @@ module _ {A : Type 0} (files : List Read) (step : List ℕ → (List ℕ → A) 
     | inr above ↦ here (name_at files p) (by_place files f base) (by_place files h base) (λ v a.
         let none : is_among (rest_units files []) v ≡ true = subst (λ (n : List ℕ). is_among (rest_units files n) v ≡ true) (no_name files p above) a in
         absurd (cc none))
-    ]
+  ]
 
   module _ (law : (g : Graph) (step : ℕ → (ℕ → A) → A) (base : A) → graph.IsLocal g step → (u : ℕ) → graph.along g step base u ≡ step u (graph.along g step base)) where
     pub along_units : (u : List ℕ) → along files step base u ≡ step u (along files step base)
     unfolding along
     along_units u = here u (by_place files (along_places files step base) base) (along files step base) (λ v a.
-      let there = rest_open files u v a in
-      at_place (along_places files step base) v there.0 there.1
-      ∙ law (graph_of files) step_at base local_places there.0
-      ∙ ap (λ (n : List ℕ). step n (by_place files (along_places files step base) base)) (named_at files v there.0 there.1))
+        let there = rest_open files u v a in
+        at_place (along_places files step base) v there.0 there.1
+        ∙ law (graph_of files) step_at base local_places there.0
+        ∙ ap (λ (n : List ℕ). step n (by_place files (along_places files step base) base)) (named_at files v there.0 there.1))

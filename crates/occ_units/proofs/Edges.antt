@@ -1,6 +1,6 @@
 -- Places of files, and edges between them.
-use Rattle.std.proofs.Common.{◌≡◌, ℕ, zero, suc, ◌+◌, ◌<◌, ◌≤◌, true, false, Bool, cond, not, ◌&&◌, ◌||◌, ◌==◌, List, [], ◌∷◌, ◌++◌, length, map, take, get_or, Option, Some, None, refl, sym, ap, subst, ◌∙◌, inl, inr, arith}
-use Rattle.std.specs.List.{cons_option, filter_map, flat_map, slice_get}
+use Rattle.std.proofs.Common.{◌≡◌, ℕ, zero, suc, ◌+◌, ◌<◌, ◌≤◌, true, false, Bool, cond, ◌||◌, ◌==◌, List, [], ◌∷◌, ◌++◌, length, map, take, get_or, Option, Some, None, refl, sym, ap, ◌∙◌, inl, inr, arith}
+use Rattle.std.specs.List.{cons_option, flat_map, slice_get}
 use Rattle.std.specs.Option.{option_and_then}
 use Rattle.std.specs.Str.{bytes_eq}
 use Rattle.std.specs.Cmp.Lexicographic.{same_text}
@@ -14,7 +14,7 @@ use Rattle.occ_graph.specs.Graph as graph
 use Rattle.occ_project.specs.declared.reads.Read.{Read}
 use Rattle.occ_project.specs.Entries.{is_among}
 use Rattle.occ_project.specs.Expansion.{expansion, expansion_of, unit_entries}
-use Rattle.occ_project.specs.Reads.{is_named, lines_of, member, open_lines, place}
+use Rattle.occ_project.specs.Reads.{lines_of, member, open_lines, place}
 use Rattle.occ_project.specs.Uses.{units_of}
 use Rattle.occ_units.specs.Places.{graph_of, places_of}
 use Rattle.occ_units.specs.Units.{Uses, in_order, read_names, used_units}
@@ -148,7 +148,7 @@ whole files p q h = elim (cases_lt p (length files)) [
   | inr above ↦
       let none : has_edge (graph_of files) p q ≡ false = ap (λ (ws : List ℕ). graph.is_among ws q) (no_edge (graph_of files) p (omega (arith, graph_long files, above))) in
       absurd (cc (none, h))
-  ]
+]
 
 -- one name more
 pub places_next : (files : List Read) (names : List (List ℕ)) (i : ℕ) (name : List ℕ) (old new : List ℕ) → i < length names → name ≡ get_or names i name → old ≡ places_of files (take i names)

@@ -1,10 +1,10 @@
 -- What a binary search by name finds among the files of a project.
-use Rattle.std.proofs.Common.{◌≡◌, ℕ, zero, suc, ◌+◌, ◌<◌, ◌≤◌, true, false, Bool, cond, List, [], ◌∷◌, length, map, get_or, Option, Some, None, Result, Ok, Err, MatchResult, refl, sym, ap, ◌∙◌, subst, inl, inr, arith}
+use Rattle.std.proofs.Common.{◌≡◌, ℕ, zero, suc, ◌<◌, ◌≤◌, true, false, Bool, cond, List, [], ◌∷◌, length, map, get_or, Option, Some, None, Result, Ok, Err, MatchResult, refl, ap, ◌∙◌, subst, inl, inr, arith}
 use Rattle.std.proofs.lemmas.Bool.{cases_lt}
-use Rattle.std.specs.List.{AllByRecursion, AllWithin, HoldsAt, slice_get}
-use Rattle.std.specs.List.Sorted.{IsBinarySearchResult, IsNonDecreasingBy, IsPartitionPoint, IsSearchInRange, IsStrictlySortedBy}
+use Rattle.std.specs.List.{AllByRecursion, HoldsAt, slice_get}
+use Rattle.std.specs.List.Sorted.{IsBinarySearchResult, IsNonDecreasingBy, IsSearchInRange, IsStrictlySortedBy}
 use Rattle.std.specs.Option.{option_and_then, option_map}
-use Rattle.std.specs.Ordering.{is_eq, ordering_index, ordering_reverse}
+use Rattle.std.specs.Ordering.{ordering_index}
 use Rattle.std.specs.declared.cmp.Ordering.{Ordering}
 use Rattle.std.specs.declared.cmp.Ordering.TheVariants.{Less, Equal, Greater}
 use Rattle.occ_project.specs.declared.reads.Read.{Read}
@@ -71,7 +71,7 @@ module _ (name : List ℕ) (files : List Read) (sorted : IsProject files) where
         absent = no_place name files (λ k d lt. elim (cases_lt k at) [
           | inl below ↦ apart (get_or files k d).name name Less (parts.0 k d (omega arith) below)
           | inr above ↦ apart (get_or files k d).name name Greater (parts.1 k d above lt)
-          ]);
+        ]);
         before = parts.0;
         after = parts.1;
       }

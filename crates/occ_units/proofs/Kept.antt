@@ -1,6 +1,6 @@
 -- What a graph keeps is what the definitions give.
 use Rattle.std.proofs.Common.{◌≡◌, ℕ, zero, suc, ◌+◌, ◌<◌, ◌≤◌, true, false, Bool, cond, not, ◌&&◌, ◌||◌, ◌==◌, List, [], ◌∷◌, length, map, get_or, Option, Some, None, refl, sym, ap, subst, ◌∙◌, inl, inr, arith}
-use Rattle.std.specs.List.{filter, list_any, slice_get}
+use Rattle.std.specs.List.{filter, slice_get}
 use Rattle.std.specs.Option.{option_and_then, option_map}
 use Rattle.std.proofs.lemmas.Bool.{cases_lt, eqb-true}
 use Rattle.occ_base.specs.FileName.{is_unit}
@@ -86,7 +86,7 @@ pub rests_there : (g : Graph) (p : ℕ) → get_or (all_rests g) p [] ≡ rests 
 rests_there g p = elim (cases_lt p (length g)) [
   | inl below ↦ let e : 0 + p ≡ p = omega arith in rests_below g 0 (length g) p below ∙ ap (rests g) e
   | inr above ↦ rests_above g 0 (length g) p above ∙ sym (ap (filter (λ v. not (graph.is_circular g p v))) (no_edge g p above))
-  ]
+]
 
 -- those that pass a test
 passing : (ws : List ℕ) (test : ℕ → Bool) (q : ℕ) → graph.is_among (filter test ws) q ≡ (graph.is_among ws q && test q)

@@ -1,6 +1,6 @@
 -- An expansion looks at nothing but its reads.
-use Rattle.std.proofs.Common.{◌≡◌, ℕ, zero, suc, ◌+◌, true, false, Bool, cond, not, ◌||◌, List, [], ◌∷◌, ◌++◌, take, drop, length, Option, Some, None, Result, Ok, Err, refl, sym, ap, subst, ◌∙◌, append_assoc, append-nil, nat_eq}
-use Rattle.std.specs.List.{filter, flat_map, list_any}
+use Rattle.std.proofs.Common.{◌≡◌, ℕ, zero, suc, ◌+◌, true, false, Bool, cond, not, ◌||◌, List, [], ◌∷◌, ◌++◌, take, drop, Option, Some, None, Result, Err, refl, sym, ap, subst, ◌∙◌, append_assoc, append-nil, nat_eq}
+use Rattle.std.specs.List.{filter, flat_map}
 use Rattle.std.specs.Option.{ok_or, option_map}
 use Rattle.std.specs.Result.{result_err, result_ok}
 use Rattle.std.specs.Str.{bytes_eq}
@@ -16,7 +16,7 @@ use Rattle.occ_project.specs.declared.entry.ExpansionEntry.{ExpansionEntry}
 use Rattle.occ_project.specs.declared.entry.Held.{Held}
 use Rattle.occ_project.specs.declared.entry.Held.TheVariants.{Include}
 use Rattle.occ_project.specs.declared.reads.Read.{Read}
-use Rattle.occ_project.specs.Entries.{FileEntries, entries, entry_of, file_entries, held, included, inner_entries, is_among, line_entries, put_in}
+use Rattle.occ_project.specs.Entries.{FileEntries, entries, entry_of, file_entries, held, included, inner_entries, is_among, put_in}
 use Rattle.occ_project.specs.Expansion.{entry_faults, entry_lines, entry_names, expansion, expansion_of, fault_names, first_places, held_names, limit_faults, unit_entries}
 use Rattle.occ_project.specs.Reads.{open_lines}
 
@@ -111,8 +111,8 @@ module _ (files others : List Read) where
   regroup : (front rest xs front' more ys other : List ExpansionEntry) → other ≡ front' → Alike (front ++ (rest ++ xs)) (front' ++ (more ++ ys)) → Alike ((front ++ rest) ++ xs) ((other ++ more) ++ ys)
   regroup front rest xs front' more ys other e a =
       subst (λ (es : List ExpansionEntry). Alike ((front ++ rest) ++ xs) ((es ++ more) ++ ys)) (sym e)
-        (subst (λ (es : List ExpansionEntry). Alike es ((front' ++ more) ++ ys)) (sym (append_assoc front rest xs))
-          (subst (λ (es : List ExpansionEntry). Alike (front ++ (rest ++ xs)) es) (sym (append_assoc front' more ys)) a))
+      (subst (λ (es : List ExpansionEntry). Alike es ((front' ++ more) ++ ys)) (sym (append_assoc front rest xs))
+      (subst (λ (es : List ExpansionEntry). Alike (front ++ (rest ++ xs)) es) (sym (append_assoc front' more ys)) a))
 
   -- so are what a line holds, and the file that it puts in
   body_alike : (way : List (List ℕ)) (left depth : ℕ) (line : LineBody) → Agree (held_names (held (included files way left) depth line))
@@ -121,9 +121,9 @@ module _ (files others : List Read) where
   body_alike way left depth (body.Uses unit) a = (refl, refl)
   body_alike way left depth (body.Fault fault) a = (refl, refl)
   body_alike way left depth (body.Include name) a =
-      let same : included others way left name ≡ included files way left name = looked_up (is_among way name) (nat_eq left 0) name (open_lines files name) (open_lines others name) (a name) in
-      ( ap (λ (r : Result (List SourceLine) Code). Include name (result_err r)) same
-      , ap (λ (r : Result (List SourceLine) Code). option_map {T = List SourceLine} {U = List ℕ × List SourceLine} (λ lines. (name, lines)) (result_ok r)) same
+      let same : included others way left name ≡ included files way left name = looked_up (is_among way name) (nat_eq left 0) name (open_lines files name) (open_lines others name) (a name) in (
+        ap (λ (r : Result (List SourceLine) Code). Include name (result_err r)) same,
+        ap (λ (r : Result (List SourceLine) Code). option_map {T = List SourceLine} {U = List ℕ × List SourceLine} (λ lines. (name, lines)) (result_ok r)) same,
       )
 
   -- entries of a file, with others behind them
@@ -146,10 +146,10 @@ module _ (files others : List Read) where
       let inner = inner_entries f way depth (put_in found line.body) in
       let behind = inner_alike f g h way depth (put_in found line.body) (rest ++ xs) (more ++ ys) (lines_alike left f g h way file raise lines xs ys a) in
       one_more (entry_of found file raise line) (entry_of given file raise line) ((inner ++ rest) ++ xs) ((inner_entries g way depth (put_in given line.body) ++ more) ++ ys) refl (λ known.
-        let same = body_alike way left depth line.body known in
-        ( ap (λ (x : Held). record { file = file; line = line.line; held = x }) same.0
-        , regroup inner rest xs (inner_entries g way depth (put_in found line.body)) more ys (inner_entries g way depth (put_in given line.body)) (ap (inner_entries g way depth) same.1) behind
-        ))
+      let same = body_alike way left depth line.body known in (
+        ap (λ (x : Held). record { file = file; line = line.line; held = x }) same.0,
+        regroup inner rest xs (inner_entries g way depth (put_in found line.body)) more ys (inner_entries g way depth (put_in given line.body)) (ap (inner_entries g way depth) same.1) behind,
+      ))
 
   none_alike : FilesAlike (λ way file raise lines. []) (λ way file raise lines. [])
   none_alike way file raise lines xs ys a = a
@@ -169,7 +169,7 @@ module _ (files others : List Read) where
       let xs = entries files 16 (unit ∷ []) unit 0 lines in
       let ys = entries others 16 (unit ∷ []) unit 0 lines in
       subst (λ (es : List ExpansionEntry). Alike es ys) (append-nil xs)
-        (subst (λ (es : List ExpansionEntry). Alike (xs ++ []) es) (append-nil ys) (entries_alike 16 (unit ∷ []) unit 0 lines [] [] nothing_alike))
+      (subst (λ (es : List ExpansionEntry). Alike (xs ++ []) es) (append-nil ys) (entries_alike 16 (unit ∷ []) unit 0 lines [] [] nothing_alike))
 
   -- of entries that are the same as far as the limit, the expansion is
   of_same : (limit : ℕ) (unit : List ℕ) (xs ys : List ExpansionEntry) → Same limit xs ys → expansion_of limit unit ys ≡ expansion_of limit unit xs

@@ -1,17 +1,16 @@
 -- An expansion over a part of a project that holds all that it looks up.
 use Rattle.std.proofs.Common.{◌≡◌, ℕ, true, false, Bool, cond, not, ◌||◌, List, [], ◌∷◌, map, Option, Some, None, refl, sym, ap, subst, ◌∙◌}
 use Rattle.std.specs.List.{find}
-use Rattle.std.specs.Option.{is_some, option_and_then, option_map, unwrap_or}
+use Rattle.std.specs.Option.{is_some, option_and_then, unwrap_or}
 use Rattle.std.specs.Str.{bytes_eq}
 use Rattle.std.specs.Cmp.Lexicographic.{same_text}
 use Rattle.occ_base.specs.FileName.{is_unit}
-use Rattle.occ_forms.specs.declared.source.SourceLine.{SourceLine}
 use Rattle.occ_project.specs.declared.reads.Read.{Read}
 use Rattle.occ_project.specs.Entries.{is_among}
 use Rattle.occ_project.specs.Expansion.{Expansion, expansion, not_given}
 use Rattle.occ_project.specs.Reads.{is_named, lines_of, member, open_lines}
 use Rattle.occ_units.specs.Project.{file_of}
-use Rattle.occ_units.specs.Units.{read_names, unit_reads}
+use Rattle.occ_units.specs.Units.{unit_reads}
 use Rattle.occ_units.proofs.Looks.{looks_at_reads, same_bytes}
 
 pub member_named : (files : List Read) (name : List ℕ) (file : Read) → member files name ≡ Some file → file.name ≡ name

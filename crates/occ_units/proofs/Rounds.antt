@@ -1,5 +1,5 @@
 -- Circles by names are circles by places.
-use Rattle.std.proofs.Common.{◌≡◌, ◌↔◌, ℕ, true, false, Bool, ◌&&◌, ◌⊎◌, List, [], ◌∷◌, Option, Some, None, refl, sym, ap, subst, ◌∙◌, inl, inr}
+use Rattle.std.proofs.Common.{◌≡◌, ◌↔◌, ℕ, true, false, Bool, ◌&&◌, ◌⊎◌, List, [], ◌∷◌, Option, Some, None, refl, ap, subst, ◌∙◌, inl, inr}
 use Rattle.occ_graph.specs.Graph.{Graph, Path, has_edge}
 use Rattle.occ_graph.specs.Graph as graph
 use Rattle.occ_project.specs.declared.reads.Read.{Read}

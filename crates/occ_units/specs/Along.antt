@@ -1,5 +1,5 @@
 -- Recursion along the units that a unit rests on: what a unit has is made from what these have.
-use Rattle.std.specs.Prelude.{◌≡◌, ℕ, true, List, [], Option, slice_get}
+use Rattle.std.specs.Prelude.{◌≡◌, ℕ, true, List, [], slice_get}
 use Rattle.std.specs.Option.{option_map, unwrap_or}
 use Rattle.occ_graph.specs.Along as graph
 use Rattle.occ_project.specs.declared.reads.Read.{Read}

@@ -1,5 +1,5 @@
 -- The same by places in the project, so that it can be computed.
-use Rattle.std.specs.Prelude.{ℕ, Bool, true, false, cond, ◌&&◌, List, map, Option, Some, None}
+use Rattle.std.specs.Prelude.{ℕ, Bool, true, false, cond, ◌&&◌, List, map, Option, Some}
 use Rattle.std.specs.List.{filter, filter_map}
 use Rattle.std.specs.Option.{is_some}
 use Rattle.occ_graph.specs.Graph.{Graph}

@@ -1,6 +1,6 @@
 -- What a unit reads of a project, which units it uses, and which of them in a circle. A unit is a file whose name ends in
 -- `.occ`.
-use Rattle.std.specs.Prelude.{◌≡◌, ℕ, Bool, true, cond, ◌⊎◌, List, [], ◌∷◌, map}
+use Rattle.std.specs.Prelude.{◌≡◌, ℕ, true, cond, ◌⊎◌, List, [], ◌∷◌, map}
 use Rattle.std.specs.BTreeSet.{insert_key}
 use Rattle.std.specs.List.{flat_map}
 use Rattle.occ_base.specs.FileName.{is_unit}

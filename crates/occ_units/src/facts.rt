@@ -48,11 +48,7 @@ pub fn all_facts(alloc: Global, project: &Project) -> Result<Items<Facts>, Alloc
 }
 
 /// Adds the place of the file of that name, if it is in the project.
-fn add_place(
-    project: &Project,
-    name: FileName,
-    places: &mut Items<usize>,
-) -> Result<(), AllocError>
+fn add_place(project: &Project, name: FileName, places: &mut Items<usize>) -> Result<(), AllocError>
     ensures { OnOk result (places.new ≡ places.old ++ the_places_of project.now (name ∷ [])) }
 {
     match project.place(name) {

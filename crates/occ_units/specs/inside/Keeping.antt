@@ -1,5 +1,5 @@
 -- What a graph keeps.
-use Rattle.std.specs.Prelude.{◌≡◌, ℕ, List, [], cond, map, Some, None}
+use Rattle.std.specs.Prelude.{◌≡◌, ℕ, List, cond, map, Some, None}
 use Rattle.occ_base.specs.FileName.{is_unit}
 use Rattle.occ_graph.specs.Graph.{all_rests}
 use Rattle.occ_project.specs.declared.reads.Read.{Read}

@@ -1,4 +1,3 @@
-use Rattle.std.proofs.Common.{arith}
 use Rattle.occ_units.proofs.Edges.{places_next}
 use Rattle.occ_units.proofs.facts.places_of.Goals as goal
 

@@ -11,5 +11,5 @@ returns-then-is_name_among c =
     let from : place c.args.unit files ≡ Some c.in-Some.from = sym (c.in-Some.ensures ∙ ap (place c.args.unit) c.self.view_is) in
     let to : place c.args.used files ≡ Some c.in-Some-place.to = sym (c.in-Some-place.ensures ∙ ap (place c.args.used) c.self.view_is) in
     used_in_circle files c.args.unit c.args.used c.in-Some.from c.in-Some-place.to c.is_place_among.result from to
-      (sym (c.if-is_name_among.ensures ∙ ap (λ (names : List (List ℕ)). is_among names c.args.used) c.uses.ensures))
-      (c.is_place_among.ensures ∙ ap (λ (places : List ℕ). is_place places c.in-Some-place.to) c.rests.ensures)
+    (sym (c.if-is_name_among.ensures ∙ ap (λ (names : List (List ℕ)). is_among names c.args.used) c.uses.ensures))
+    (c.is_place_among.ensures ∙ ap (λ (places : List ℕ). is_place places c.in-Some-place.to) c.rests.ensures)

@@ -1,4 +1,4 @@
-use Rattle.std.proofs.Common.{◌∙◌, ap}
+use Rattle.std.proofs.Common.{◌∙◌}
 use Rattle.occ_units.proofs.Kept.{uses_found, uses_none}
 use Rattle.occ_units.proofs.graph.Graph.uses.Goals as goal
 

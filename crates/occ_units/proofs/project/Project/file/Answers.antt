@@ -1,4 +1,4 @@
-use Rattle.std.proofs.Common.{List, None, Some, ap, sym, ◌∙◌}
+use Rattle.std.proofs.Common.{List, ap, ◌∙◌}
 use Rattle.std.specs.List.{slice_get}
 use Rattle.std.specs.Option.{option_and_then}
 use Rattle.occ_project.specs.declared.reads.Read.{Read}
