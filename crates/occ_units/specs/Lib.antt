@@ -2,4 +2,5 @@ pub mod Project
 pub mod Units
 pub mod Places
 pub mod Along
+pub mod Samples
 pub mod inside
