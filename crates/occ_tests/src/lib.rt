@@ -12,3 +12,5 @@ mod scope;
 mod typed;
 #[cfg(test)]
 mod types;
+#[cfg(test)]
+mod units;

@@ -150,7 +150,7 @@ impl Project {
     }
 
     /// The file of that name as it is read: its revision, and its text unless it is absent.
-    pub fn read(&self, name: FileName) -> Result<Read, AllocError>
+    pub(crate) fn read(&self, name: FileName) -> Result<Read, AllocError>
         ensures { IfOk result (λ read. read ≡ file_of self.now name) }
     {
         match self.file(name) {
@@ -175,14 +175,14 @@ impl Project {
     }
 
     /// All its files as they are read.
-    pub fn all_reads(&self, alloc: Global) -> Result<Reads, AllocError>
+    pub(crate) fn all_reads(&self, alloc: Global) -> Result<Reads, AllocError>
         ensures { IfOk result (λ reads. reads ≡ self.now) }
     {
         Ok(Items::from_vec(share_all(alloc, self.files.as_slice())?))
     }
 
     /// The same project, which shares its texts.
-    pub fn share(&self, alloc: Global) -> Result<Project, AllocError>
+    pub(crate) fn share(&self, alloc: Global) -> Result<Project, AllocError>
         ensures { IfOk result (λ project. project ≡ self.now) }
     {
         Ok(Project {
