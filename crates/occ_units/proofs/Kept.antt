@@ -1,0 +1,143 @@
+-- What a graph keeps is what the definitions give.
+use Rattle.std.proofs.Common.{◌≡◌, ℕ, zero, suc, ◌+◌, ◌<◌, ◌≤◌, true, false, Bool, cond, not, ◌&&◌, ◌||◌, ◌==◌, List, [], ◌∷◌, length, map, get_or, Option, Some, None, refl, sym, ap, subst, ◌∙◌, inl, inr, arith}
+use Rattle.std.specs.List.{filter, slice_get}
+use Rattle.std.specs.Option.{option_and_then, option_map}
+use Rattle.std.proofs.lemmas.Bool.{cases_lt, eqb-true}
+use Rattle.occ_base.specs.FileName.{is_unit}
+use Rattle.occ_graph.specs.Graph.{Graph, IsWhole, all_rests, has_edge, rests, rests_from, targets}
+use Rattle.occ_graph.specs.Graph as graph
+use Rattle.occ_project.specs.declared.reads.Read.{Read}
+use Rattle.occ_project.specs.Entries.{is_among}
+use Rattle.occ_project.specs.Expansion.{Expansion, expansion}
+use Rattle.occ_project.specs.Reads.{place}
+use Rattle.occ_units.specs.declared.facts.Facts.{Facts}
+use Rattle.occ_units.specs.Places.{circular_at, graph_of, is_circular, places_of}
+use Rattle.occ_units.specs.Units.{read_names, used_units}
+use Rattle.occ_units.specs.inside.Keeping.{IsGraph, facts_of}
+use Rattle.occ_units.proofs.Edges.{edge, file_at, no_edge, read_alone, unused, whole}
+
+-- the edges
+edges_of : (files some : List Read) → map (λ (f : Facts). places_of files f.uses) (map (λ (file : Read). facts_of files file.name) some) ≡ map (λ (file : Read). places_of files (used_units files file.name)) some
+edges_of files [] = refl
+edges_of files (x ∷ some) = ap (λ (es : List (List ℕ)). places_of files (used_units files x.name) ∷ es) (edges_of files some)
+
+pub edges_are : (files : List Read) (facts : List Facts) (edges : Graph) → facts ≡ map (λ (file : Read). facts_of files file.name) files → edges ≡ map (λ (f : Facts). places_of files f.uses) facts → edges ≡ graph_of files
+edges_are files facts edges f e = e ∙ ap (map (λ (f : Facts). places_of files f.uses)) f ∙ edges_of files files
+
+pub edges_whole : (files : List Read) (facts : List Facts) (edges : Graph) → facts ≡ map (λ (file : Read). facts_of files file.name) files → edges ≡ map (λ (f : Facts). places_of files f.uses) facts → IsWhole edges
+edges_whole files facts edges f e = subst IsWhole (sym (edges_are files facts edges f e)) (whole files)
+
+-- what is known at a place
+map_at : {X Y : Type 0} (f : X → Y) (xs : List X) (p : ℕ) (x : X) → slice_get xs p ≡ Some x → slice_get (map f xs) p ≡ Some (f x)
+map_at f [] p x e = cc
+map_at f (y ∷ xs) zero x e = let is : y ≡ x = cc in cc
+map_at f (y ∷ xs) (suc p) x e = map_at f xs p x e
+
+pub facts_there : (files : List Read) (facts : List Facts) (name : List ℕ) (p : ℕ) → facts ≡ map (λ (file : Read). facts_of files file.name) files → place name files ≡ Some p
+    → slice_get facts p ≡ option_map (λ (at : ℕ). facts_of files name) (place name files)
+facts_there files facts name p f e =
+    let there = file_at files name p e in
+    ap (λ (fs : List Facts). slice_get fs p) f ∙ map_at (λ (file : Read). facts_of files file.name) files p there.0 there.1
+    ∙ ap (λ (n : List ℕ). Some (facts_of files n)) there.2 ∙ sym (ap (option_map (λ (at : ℕ). facts_of files name)) e)
+
+-- what a unit uses
+pub uses_found : (files : List Read) (unit : List ℕ) (facts : Facts) → Some facts ≡ option_map (λ (at : ℕ). facts_of files unit) (place unit files) → facts.uses ≡ used_units files unit
+uses_found files unit facts e = by (place unit files) e where
+  by : (o : Option ℕ) → Some facts ≡ option_map (λ (at : ℕ). facts_of files unit) o → facts.uses ≡ used_units files unit
+  by None h = cc
+  by (Some p) h = let is : facts ≡ facts_of files unit = cc in ap (λ (f : Facts). f.uses) is
+
+pub uses_none : (files : List Read) (unit : List ℕ) → None ≡ option_map (λ (at : ℕ). facts_of files unit) (place unit files) → [] ≡ used_units files unit
+uses_none files unit e = by (place unit files) refl e where
+  by : (o : Option ℕ) → place unit files ≡ o → None ≡ option_map (λ (at : ℕ). facts_of files unit) o → [] ≡ used_units files unit
+  by None p h = sym (unused files unit p)
+  by (Some p) q h = cc
+
+-- what it reads
+pub reads_found : (files : List Read) (unit : List ℕ) (found : Expansion) → is_unit unit ≡ true → Some found ≡ option_and_then (λ (at : ℕ). (facts_of files unit).expanded) (place unit files) → found.reads ≡ read_names files unit
+reads_found files unit found u e = by (place unit files) (is_unit unit) u e where
+  by : (o : Option ℕ) (b : Bool) → b ≡ true → Some found ≡ option_and_then (λ (at : ℕ). cond b (Some (expansion files unit)) None) o → found.reads ≡ cond b (expansion files unit).reads []
+  by None b t h = cc
+  by (Some p) true t h = let is : found ≡ expansion files unit = cc in ap (λ (x : Expansion). x.reads) is
+  by (Some p) false t h = cc
+
+pub reads_none : (files : List Read) (unit : List ℕ) → is_unit unit ≡ true → None ≡ option_and_then (λ (at : ℕ). (facts_of files unit).expanded) (place unit files) → unit ∷ [] ≡ read_names files unit
+reads_none files unit u e = by (place unit files) (is_unit unit) refl u e where
+  by : (o : Option ℕ) (b : Bool) → place unit files ≡ o → b ≡ true → None ≡ option_and_then (λ (at : ℕ). cond b (Some (expansion files unit)) None) o → unit ∷ [] ≡ read_names files unit
+  by None b p t h = sym (read_alone files unit p u)
+  by (Some p) true q t h = cc
+  by (Some p) false q t h = cc
+
+pub reads_no_unit : (files : List Read) (unit : List ℕ) → is_unit unit ≡ false → [] ≡ read_names files unit
+reads_no_unit files unit u = sym (ap (λ (b : Bool). cond b (expansion files unit).reads []) u)
+
+-- what a node rests on, by its place
+rests_below : (g : Graph) (u n p : ℕ) → p < n → get_or (rests_from g u n) p [] ≡ rests g (u + p)
+rests_below g u zero p lt = absurd (omega (arith, lt))
+rests_below g u (suc n) zero lt = let e : u ≡ u + 0 = omega arith in ap (rests g) e
+rests_below g u (suc n) (suc p) lt = let e : u + 1 + p ≡ u + suc p = omega arith in rests_below g (u + 1) n p (omega (arith, lt)) ∙ ap (rests g) e
+
+rests_above : (g : Graph) (u n p : ℕ) → n ≤ p → get_or (rests_from g u n) p [] ≡ []
+rests_above g u zero p le = refl
+rests_above g u (suc n) zero le = absurd (omega (arith, le))
+rests_above g u (suc n) (suc p) le = rests_above g (u + 1) n p (omega (arith, le))
+
+pub rests_there : (g : Graph) (p : ℕ) → get_or (all_rests g) p [] ≡ rests g p
+rests_there g p = elim (cases_lt p (length g)) [
+  | inl below ↦ let e : 0 + p ≡ p = omega arith in rests_below g 0 (length g) p below ∙ ap (rests g) e
+  | inr above ↦ rests_above g 0 (length g) p above ∙ sym (ap (filter (λ v. not (graph.is_circular g p v))) (no_edge g p above))
+]
+
+-- those that pass a test
+passing : (ws : List ℕ) (test : ℕ → Bool) (q : ℕ) → graph.is_among (filter test ws) q ≡ (graph.is_among ws q && test q)
+passing [] test q = refl
+passing (w ∷ ws) test q = by (w == q) (test w) refl (λ e. ap test (eqb-true w q e)) (passing ws test q) where
+  none : (b c : Bool) → c ≡ false → (b && c) ≡ c
+  none true c e = refl
+  none false c e = sym e
+
+  by : (b c : Bool) → (w == q) ≡ b → (b ≡ true → c ≡ test q) → graph.is_among (filter test ws) q ≡ (graph.is_among ws q && test q)
+      → graph.is_among (cond c (w ∷ filter test ws) (filter test ws)) q ≡ ((b || graph.is_among ws q) && test q)
+  by true true p t h = ap (λ (b : Bool). b || graph.is_among (filter test ws) q) p ∙ t refl
+  by true false p t h = h ∙ none (graph.is_among ws q) (test q) (sym (t refl))
+  by false true p t h = ap (λ (b : Bool). b || graph.is_among (filter test ws) q) p ∙ h
+  by false false p t h = h
+
+pub resting : (g : Graph) (p q : ℕ) → has_edge g p q ≡ true → graph.is_among (rests g p) q ≡ not (graph.is_circular g p q)
+resting g p q h = passing (targets g p) (λ v. not (graph.is_circular g p v)) q ∙ ap (λ (b : Bool). b && not (graph.is_circular g p q)) h
+
+-- a use in a circle is one of no rest
+twice : (b : Bool) → not (not b) ≡ b
+twice true = refl
+twice false = refl
+
+pub in_circle : (files : List Read) (u v : List ℕ) (p q : ℕ) → place u files ≡ Some p → place v files ≡ Some q
+    → (is_among (used_units files u) v && not (graph.is_among (rests (graph_of files) p) q)) ≡ is_circular files u v
+in_circle files u v p q e f = by (is_among (used_units files u) v) refl ∙ ap (λ (o : Option ℕ). is_among (used_units files u) v && circular_at (graph_of files) o (Some q)) (sym e) ∙ ap (λ (o : Option ℕ). is_among (used_units files u) v && circular_at (graph_of files) (place u files) o) (sym f) where
+  by : (b : Bool) → is_among (used_units files u) v ≡ b → (b && not (graph.is_among (rests (graph_of files) p) q)) ≡ (b && graph.is_circular (graph_of files) p q)
+  by true h = ap not (resting (graph_of files) p q (edge files u v p q e f h)) ∙ twice (graph.is_circular (graph_of files) p q)
+  by false h = refl
+
+and_none : (b c : Bool) → c ≡ false → false ≡ (b && c)
+and_none true c e = sym e
+and_none false c e = refl
+
+pub no_circle_from : (files : List Read) (u v : List ℕ) → place u files ≡ None → false ≡ is_circular files u v
+no_circle_from files u v e = and_none (is_among (used_units files u) v) (circular_at (graph_of files) (place u files) (place v files)) (ap (λ (o : Option ℕ). circular_at (graph_of files) o (place v files)) e)
+
+nowhere : (g : Graph) (o : Option ℕ) → circular_at g o None ≡ false
+nowhere g None = refl
+nowhere g (Some p) = refl
+
+pub no_circle_to : (files : List Read) (u v : List ℕ) → place v files ≡ None → false ≡ is_circular files u v
+no_circle_to files u v e = and_none (is_among (used_units files u) v) (circular_at (graph_of files) (place u files) (place v files)) (ap (circular_at (graph_of files) (place u files)) e ∙ nowhere (graph_of files) (place u files))
+
+pub used_in_circle : (files : List Read) (u v : List ℕ) (p q : ℕ) (among : Bool) → place u files ≡ Some p → place v files ≡ Some q → is_among (used_units files u) v ≡ true
+    → among ≡ graph.is_among (rests (graph_of files) p) q → not among ≡ is_circular files u v
+used_in_circle files u v p q among e f h a =
+    ap not a ∙ ap (λ (b : Bool). b && not (graph.is_among (rests (graph_of files) p) q)) (sym h) ∙ in_circle files u v p q e f
+
+pub all_kept : (files same : List Read) (facts lent : List Facts) (edges : Graph) (found : List (List ℕ)) → same ≡ files → facts ≡ map (λ (file : Read). facts_of files file.name) files → lent ≡ facts
+    → edges ≡ map (λ (f : Facts). places_of files f.uses) lent → found ≡ all_rests edges → IsGraph same facts found
+all_kept files same facts lent edges found s f l e r =
+    subst (λ (fs : List Read). IsGraph fs facts found) (sym s) (record { facts_are = f; rests_are = r ∙ ap all_rests (edges_are files lent edges (l ∙ f) e) })

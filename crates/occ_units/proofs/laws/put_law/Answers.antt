@@ -1,0 +1,8 @@
+use Rattle.occ_units.proofs.Putting.{file_put, put_rises}
+use Rattle.occ_units.proofs.laws.put_law.Goals as goal
+
+pub returns-clause-in_order : goal.returns-clause-in_order
+returns-clause-in_order c = put_rises
+
+pub returns-clause-files : goal.returns-clause-files
+returns-clause-files c = file_put

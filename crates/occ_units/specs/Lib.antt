@@ -1,0 +1,6 @@
+pub mod Project
+pub mod Units
+pub mod Places
+pub mod Along
+pub mod Samples
+pub mod inside

@@ -1,0 +1,88 @@
+ghost use Rattle.occ_units.specs.Places.{places_of as the_places_of};
+ghost use Rattle.occ_units.specs.inside.Keeping.{facts_of as the_facts_of};
+ghost use Rattle.std.specs.Prelude.{[], map, IfOk, OnOk, ◌++◌, ◌∷◌, ◌≡◌};
+
+use super::Project;
+use super::expansion::expansion;
+use super::uses::used_units;
+use occ_base::{FileName, Items, Shared};
+use occ_project::Expanded;
+use std::alloc::{AllocError, Global};
+
+/// What is known of a file of a project.
+#[derive(Drop)]
+pub struct Facts {
+    /// Its expansion, if it is a unit.
+    pub expanded: Option<Shared<Expanded>>,
+    /// The units that it uses, in order of name.
+    pub uses: Items<FileName>,
+}
+
+/// What is known of the file of that name.
+fn facts_of(alloc: Global, project: &Project, name: FileName) -> Result<Facts, AllocError>
+    ensures { IfOk result (λ facts. facts ≡ the_facts_of project.now name) }
+{
+    if !name.is_unit() {
+        return Ok(Facts {
+            expanded: None,
+            uses: Items::new(alloc),
+        });
+    }
+    let expanded = expansion(alloc, project, name)?;
+    let uses = used_units(alloc, expanded.lines())?;
+    Ok(Facts {
+        expanded: Some(Shared::new(alloc, expanded)?),
+        uses,
+    })
+}
+
+/// What is known of each file.
+pub fn all_facts(alloc: Global, project: &Project) -> Result<Items<Facts>, AllocError>
+    ensures { IfOk result (λ all. all ≡ map (λ file. the_facts_of project.now file.name) project.now) }
+{
+    let mut all = Items::new(alloc);
+    for file in project.files() {
+        all.push(facts_of(alloc, project, file.name)?)?;
+    }
+    Ok(all)
+}
+
+/// Adds the place of the file of that name, if it is in the project.
+fn add_place(project: &Project, name: FileName, places: &mut Items<usize>) -> Result<(), AllocError>
+    ensures { OnOk result (places.new ≡ places.old ++ the_places_of project.now (name ∷ [])) }
+{
+    match project.place(name) {
+        Some(place) => places.push(place),
+        None => Ok(()),
+    }
+}
+
+/// The places of the files of these names.
+fn places_of(
+    alloc: Global,
+    project: &Project,
+    names: &[FileName],
+) -> Result<Items<usize>, AllocError>
+    ensures { IfOk result (λ places. places ≡ the_places_of project.now names.now) }
+{
+    let mut places = Items::new(alloc);
+    for name in names {
+        add_place(project, *name, &mut places)?;
+    }
+    Ok(places)
+}
+
+/// An edge from each unit to each that it uses and that is in the project.
+pub fn edges(
+    alloc: Global,
+    project: &Project,
+    all: &[Facts],
+) -> Result<Items<Items<usize>>, AllocError>
+    ensures { IfOk result (λ edges. edges ≡ map (λ facts. the_places_of project.now facts.uses) all.now) }
+{
+    let mut edges = Items::new(alloc);
+    for facts in all {
+        edges.push(places_of(alloc, project, facts.uses.as_slice())?)?;
+    }
+    Ok(edges)
+}

@@ -1,0 +1,44 @@
+ghost use Rattle.occ_base.specs.FileName.{is_unit};
+ghost use Rattle.occ_project.specs.Entries.{is_among};
+ghost use Rattle.occ_project.specs.Expansion.{expansion, not_given};
+ghost use Rattle.occ_project.specs.Reads.{open_lines};
+ghost use Rattle.occ_project.specs.declared.reads.Read.{Read};
+ghost use Rattle.occ_units.specs.Along.{IsLocal, along};
+ghost use Rattle.occ_units.specs.Places.{is_circular};
+ghost use Rattle.occ_units.specs.Project.{IsProject, file_of, put};
+ghost use Rattle.occ_units.specs.Units.{IsCircular, unit_reads};
+ghost use Rattle.std.specs.Prelude.{List, None, ℕ, cond, true, ◌≡◌, ◌↔◌};
+ghost use Rattle.std.specs.Str.{bytes_eq};
+
+use occ_graph::laws;
+
+/// An expansion looks at nothing but its reads: over other files, among which these have the same lines or are absent
+/// as well, it is the same. The unit is one of them. So a unit has the same expansion over its reads alone.
+pub fn reads_law()
+    ensures alone { (files others : List Read) (unit : List ℕ) → ((name : List ℕ) → is_among (expansion files unit).reads name ≡ true → open_lines others name ≡ open_lines files name) → expansion others unit ≡ expansion files unit }
+    ensures itself { (files : List Read) (unit : List ℕ) → is_among (expansion files unit).reads unit ≡ true }
+    ensures own { (files : List Read) (unit : List ℕ) → is_unit unit ≡ true → expansion (unit_reads files unit) unit ≡ expansion files unit }
+    ensures given { (files : List Read) (unit : List ℕ) → is_unit unit ≡ true → not_given (unit_reads files unit) unit ≡ None }
+{}
+
+/// A file that is put into a project is the file of its name from then on, and those of other names stay. The names stay in
+/// order.
+pub fn put_law()
+    ensures in_order { (files : List Read) (file : Read) → IsProject files → IsProject (put files file) }
+    ensures files { (files : List Read) (file : Read) (name : List ℕ) → file_of (put files file) name ≡ cond (bytes_eq file.name name) file (file_of files name) }
+{}
+
+/// The test for a circle tells whether a unit uses another in one.
+pub fn circle_law()
+    ensures { (files : List Read) (u v : List ℕ) → (is_circular files u v ≡ true) ↔ IsCircular files u v }
+{
+    laws::circle_law();
+}
+
+/// What recursion gives of a unit is what the step gives of it from what recursion gives of others, for every step that
+/// asks only for units that the unit rests on.
+pub fn along_law<A>()
+    ensures { (files : List Read) (step : List ℕ → (List ℕ → A) → A) (base : A) → IsProject files → IsLocal files step → (u : List ℕ) → along files step base u ≡ step u (along files step base) }
+{
+    laws::along_law::<A>();
+}

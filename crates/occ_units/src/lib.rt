@@ -1,0 +1,15 @@
+//! Many units: a project, what each of its units reads and uses, and which of them use each other in circles.
+#![tactic(auto)]
+
+mod expansion;
+mod facts;
+mod graph;
+pub mod laws;
+mod project;
+pub mod rows;
+mod standing;
+mod uses;
+
+pub use graph::Graph;
+pub use project::Project;
+pub use standing::Standing;

@@ -1,0 +1,192 @@
+ghost use Rattle.occ_project.specs.Reads.{member, place as first_place};
+ghost use Rattle.occ_units.specs.Project.{IsProject, file_of, put};
+ghost use Rattle.occ_units.specs.inside.Finding.{IsGap};
+ghost use Rattle.std.specs.Option.{option_copied};
+ghost use Rattle.std.specs.Prelude.{[], map, IfOk, MatchResult, None, OnErr, OnOk, Some, ◌≡◌};
+
+use occ_base::{FileName, Items, Shared};
+use occ_forms::Source;
+use occ_project::{Read, Reads};
+use sqlite_items::at;
+use std::alloc::{AllocError, Global};
+use std::marker::Model;
+
+/// Files in order of name, each with the number of the edit that gave it its text or took it away.
+#[derive(Drop)]
+pub struct Project {
+    files: Vec<Read>,
+}
+
+impl Model for Project {
+    ghost use Rattle.occ_expression_forms.specs.contracts.tree.Builtin as builtins;
+    ghost use Rattle.occ_expression_forms.specs.contracts.tree.Dimension as dimensions;
+    ghost use Rattle.occ_expression_forms.specs.contracts.tree.Element as elements;
+    ghost use Rattle.occ_expression_forms.specs.contracts.tree.Expr as expressions;
+    ghost use Rattle.occ_expression_forms.specs.contracts.tree.TypeForm as types;
+    ghost use Rattle.occ_project.specs.declared.reads.Read.{Read};
+    ghost use Rattle.occ_units.specs.Project.{IsProject};
+    ghost use Rattle.std.specs.Coded.{codes};
+    ghost use Rattle.std.specs.Prelude.{List};
+
+    ghost Value = { List Read };
+
+    ghost coded = { Prim.hlevel (codes, builtins.the_row.coded, dimensions.the_row.coded, elements.the_row.coded, expressions.the_row.coded, types.the_row.coded) };
+
+    ghost view = { λ project. project.files.items };
+
+    ghost invariant = { λ project. IsProject project.files.items };
+}
+
+/// A file with the same name, revision and text, which is shared.
+fn share(file: &Read) -> Result<Read, AllocError>
+    ensures { IfOk result (λ shared. shared ≡ file.now) }
+{
+    let source = match &file.source {
+        Some(source) => Some(source.share()?),
+        None => None,
+    };
+    Ok(Read {
+        name: file.name,
+        revision: file.revision,
+        source,
+    })
+}
+
+/// The same files.
+fn share_all(alloc: Global, files: &[Read]) -> Result<Vec<Read>, AllocError>
+    ensures { IfOk result (λ shared. shared.items ≡ files.now) }
+{
+    let mut shared = Vec::new(alloc);
+    for file in files {
+        shared.push(share(file)?)?;
+    }
+    Ok(shared)
+}
+
+impl Project {
+    /// A project without files.
+    pub fn new(alloc: Global) -> Project
+        ensures { result ≡ [] }
+    {
+        Project {
+            files: Vec::new(alloc),
+        }
+    }
+
+    /// Its files, in order of name.
+    pub fn files(&self) -> &[Read]
+        ensures files { result.now ≡ self.now }
+        ensures in_order { IsProject self.now }
+    {
+        self.files.as_slice()
+    }
+
+    /// Where a file of that name stands, or where one would.
+    fn find(&self, name: FileName) -> Result<usize, usize>
+        ensures { MatchResult result (λ at. first_place name self.now ≡ Some at) (λ at. IsGap name self.now at) }
+    {
+        self.files.binary_search_by_key(&name, |file| file.name)
+    }
+
+    /// The place of the file of that name.
+    pub fn place(&self, name: FileName) -> Option<usize>
+        ensures { result ≡ first_place name self.now }
+    {
+        self.find(name).ok()
+    }
+
+    /// Gives the file of that name this text, or takes it away, by the edit of that number.
+    pub fn set(
+        &mut self,
+        name: FileName,
+        revision: u32,
+        source: Option<Shared<Source>>,
+    ) -> Result<(), AllocError>
+        ensures ok { OnOk result (self.new ≡ put self.old (record { name = name; revision = revision; source = source })) }
+        ensures err { OnErr result (self.new ≡ self.old) }
+    {
+        let file = Read {
+            name,
+            revision,
+            source,
+        };
+        match self.find(name) {
+            Ok(at) => {
+                self.files[at] = file;
+                Ok(())
+            }
+            Err(at) => Ok(self.files.insert(at, file)?),
+        }
+    }
+
+    /// The file of that name.
+    fn file(&self, name: FileName) -> Option<&Read>
+        ensures { option_copied result ≡ member self.now name }
+    {
+        match self.place(name) {
+            Some(place) => at(self.files.as_slice(), place),
+            None => None,
+        }
+    }
+
+    /// The text of the file of that name, if it is open.
+    pub fn get(&self, name: FileName) -> Option<&Shared<Source>>
+        ensures { option_copied result ≡ (file_of self.now name).source }
+    {
+        match self.file(name) {
+            Some(file) => file.source.as_ref(),
+            None => None,
+        }
+    }
+
+    /// The number of the edit that gave the file of that name its text or took it away, 0 if there was none.
+    pub fn revision(&self, name: FileName) -> u32
+        ensures { result ≡ (file_of self.now name).revision }
+    {
+        match self.file(name) {
+            Some(file) => file.revision,
+            None => 0,
+        }
+    }
+
+    /// The file of that name as it is read: its revision, and its text unless it is absent.
+    pub(crate) fn read(&self, name: FileName) -> Result<Read, AllocError>
+        ensures { IfOk result (λ read. read ≡ file_of self.now name) }
+    {
+        match self.file(name) {
+            Some(file) => share(file),
+            None => Ok(Read {
+                name,
+                revision: 0,
+                source: None,
+            }),
+        }
+    }
+
+    /// The files of these names as they are read.
+    pub fn reads(&self, alloc: Global, names: &[FileName]) -> Result<Reads, AllocError>
+        ensures { IfOk result (λ reads. reads ≡ map (file_of self.now) names.now) }
+    {
+        let mut reads = Items::new(alloc);
+        for name in names {
+            reads.push(self.read(*name)?)?;
+        }
+        Ok(reads)
+    }
+
+    /// All its files as they are read.
+    pub(crate) fn all_reads(&self, alloc: Global) -> Result<Reads, AllocError>
+        ensures { IfOk result (λ reads. reads ≡ self.now) }
+    {
+        Ok(Items::from_vec(share_all(alloc, self.files.as_slice())?))
+    }
+
+    /// The same project, which shares its texts.
+    pub(crate) fn share(&self, alloc: Global) -> Result<Project, AllocError>
+        ensures { IfOk result (λ project. project ≡ self.now) }
+    {
+        Ok(Project {
+            files: share_all(alloc, self.files.as_slice())?,
+        })
+    }
+}
