@@ -1,3 +1,4 @@
 pub mod Views
-pub mod Selecting
+pub mod Fields
 pub mod Walking
+pub mod DraftTypes

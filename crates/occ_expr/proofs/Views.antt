@@ -1,5 +1,5 @@
 -- What each form is in any scope, from what its parts are.
-use Rattle.std.proofs.Common.{◌≡◌, ◌∙◌, ℕ, Bool, List, [], ◌∷◌, map, refl, ap, sym}
+use Rattle.std.proofs.Common.{◌≡◌, ◌∙◌, ℕ, Bool, Option, List, [], ◌∷◌, map, refl, ap, sym}
 use Rattle.occ_expression_forms.specs.declared.tree.ChannelWords.{ChannelWords}
 use Rattle.occ_expression_forms.specs.declared.tree.DataBase.{DataBase}
 use Rattle.occ_expression_forms.specs.declared.tree.Extreme.{Extreme}
@@ -426,19 +426,133 @@ type_form_named_view ds name o s = ap (λ (v : TypeFormView). v o s) (type_form_
 pub type_form_builtin_view : (ds : List Dimension) (u : Builtin) (o : Opening) (s : Scope) → type_form_view (tv.Builtin ds u) o s ≡ type_form_step (TypeForm-F.Builtin (dimension_views ds) (builtin_view u)) o s
 type_form_builtin_view ds u o s = ap (λ (v : TypeFormView). v o s) (type_form_builtin ds u)
 
-pub ruleset bounds_rules = (bounds_from_said, bounds_for_said, bounds_from_for_said)
+pub bounds_from_tree : (e : Expr) (s : Scope) (n : Option ℕ) → (bounds_view (bv.From e)).tree s n ≡ (bounds_step (Bounds-F.From (expr_view e))).tree s n
+bounds_from_tree e s n = ap (λ (v : BoundsView). v.tree s n) (bounds_from e)
+
+pub bounds_for_tree : (e : Expr) (s : Scope) (n : Option ℕ) → (bounds_view (bv.For e)).tree s n ≡ (bounds_step (Bounds-F.For (expr_view e))).tree s n
+bounds_for_tree e s n = ap (λ (v : BoundsView). v.tree s n) (bounds_for e)
+
+pub bounds_from_for_tree : (e : Expr) (f : Expr) (s : Scope) (n : Option ℕ) → (bounds_view (bv.FromFor e f)).tree s n ≡ (bounds_step (Bounds-F.FromFor (expr_view e) (expr_view f))).tree s n
+bounds_from_for_tree e f s n = ap (λ (v : BoundsView). v.tree s n) (bounds_from_for e f)
+
+pub element_named_tree : (name : List ℕ) (es : List Expr) (s : Scope) → (element_view (ev.Named name es)).tree s ≡ (element_step (Element-F.Element::Named name (expr_views es))).tree s
+element_named_tree name es s = ap (λ (v : ElementView). v.tree s) (element_named name es)
+
+pub element_named_whole_draft : (name : List ℕ) (es : List Expr) (s : Scope) → (element_view (ev.Named name es)).whole_draft s ≡ (element_step (Element-F.Element::Named name (expr_views es))).whole_draft s
+element_named_whole_draft name es s = ap (λ (v : ElementView). v.whole_draft s) (element_named name es)
+
+pub element_segment_tree : (el : Element) (b : Bounds) (es : List Expr) (s : Scope) → (element_view (ev.Segment el b es)).tree s ≡ (element_step (Element-F.Segment (element_view el) (bounds_view b) (expr_views es))).tree s
+element_segment_tree el b es s = ap (λ (v : ElementView). v.tree s) (element_segment el b es)
+
+pub element_segment_whole_draft : (el : Element) (b : Bounds) (es : List Expr) (s : Scope) → (element_view (ev.Segment el b es)).whole_draft s ≡ (element_step (Element-F.Segment (element_view el) (bounds_view b) (expr_views es))).whole_draft s
+element_segment_whole_draft el b es s = ap (λ (v : ElementView). v.whole_draft s) (element_segment el b es)
+
+pub expr_alone_draft : (o : Operand) (s : Scope) → (expr_view (xv.Alone o)).draft s ≡ (expr_step (Expr-F.Alone (operand_view o))).draft s
+expr_alone_draft o s = ap (λ (v : ExprView). v.draft s) (expr_alone o)
+
+pub expr_run_draft : (operator : RunOperator) (a : Operand) (b : Operand) (os : List Operand) (s : Scope) → (expr_view (xv.Run operator a b os)).draft s ≡ (expr_step (Expr-F.Run operator (operand_view a) (operand_view b) (operand_views os))).draft s
+expr_run_draft operator a b os s = ap (λ (v : ExprView). v.draft s) (expr_run operator a b os)
+
+pub expr_pair_draft : (a : Operand) (operator : PairOperator) (b : Operand) (s : Scope) → (expr_view (xv.Pair a operator b)).draft s ≡ (expr_step (Expr-F.Pair (operand_view a) operator (operand_view b))).draft s
+expr_pair_draft a operator b s = ap (λ (v : ExprView). v.draft s) (expr_pair a operator b)
+
+pub expr_applied_draft : (operator : MonadicOperator) (o : Operand) (s : Scope) → (expr_view (xv.Applied operator o)).draft s ≡ (expr_step (Expr-F.Applied operator (operand_view o))).draft s
+expr_applied_draft operator o s = ap (λ (v : ExprView). v.draft s) (expr_applied operator o)
+
+pub expr_converted_draft : (ds : List Dimension) (u : Builtin) (o : Operand) (s : Scope) → (expr_view (xv.Converted ds u o)).draft s ≡ (expr_step (Expr-F.Converted (dimension_views ds) (builtin_view u) (operand_view o))).draft s
+expr_converted_draft ds u o s = ap (λ (v : ExprView). v.draft s) (expr_converted ds u o)
+
+pub expr_array_converted_draft : (d : Dimension) (ds : List Dimension) (name : List ℕ) (o : Operand) (s : Scope) → (expr_view (xv.ArrayConverted d ds name o)).draft s ≡ (expr_step (Expr-F.ArrayConverted (dimension_view d) (dimension_views ds) name (operand_view o))).draft s
+expr_array_converted_draft d ds name o s = ap (λ (v : ExprView). v.draft s) (expr_array_converted d ds name o)
+
+pub expr_named_draft : (name : List ℕ) (o : NamedOperand) (s : Scope) → (expr_view (xv.Named name o)).draft s ≡ (expr_step (Expr-F.Expr::Named name (named_operand_view o))).draft s
+expr_named_draft name o s = ap (λ (v : ExprView). v.draft s) (expr_named name o)
+
+pub expr_most_draft : (extreme : Extreme) (ty : TypeForm) (s : Scope) → (expr_view (xv.Most extreme ty)).draft s ≡ (expr_step (Expr-F.Most extreme (type_form_view ty))).draft s
+expr_most_draft extreme ty s = ap (λ (v : ExprView). v.draft s) (expr_most extreme ty)
+
+pub named_operand_element_draft : (el : Element) (s : Scope) → (named_operand_view (nv.Element el)).draft s ≡ (named_operand_step (NamedOperand-F.NamedOperand::Element (element_view el))).draft s
+named_operand_element_draft el s = ap (λ (v : NamedOperandView). v.draft s) (named_operand_element el)
+
+pub named_operand_literal_draft : (lit : Literal) (s : Scope) → (named_operand_view (nv.Literal lit)).draft s ≡ (named_operand_step (NamedOperand-F.NamedOperand::Literal lit)).draft s
+named_operand_literal_draft lit s = ap (λ (v : NamedOperandView). v.draft s) (named_operand_literal lit)
+
+pub named_operand_decorated_draft : (lit : Literal) (ty : TypeForm) (s : Scope) → (named_operand_view (nv.Decorated lit ty)).draft s ≡ (named_operand_step (NamedOperand-F.NamedOperand::Decorated lit (type_form_view ty))).draft s
+named_operand_decorated_draft lit ty s = ap (λ (v : NamedOperandView). v.draft s) (named_operand_decorated lit ty)
+
+pub named_operand_truth_draft : (b : Bool) (s : Scope) → (named_operand_view (nv.Truth b)).draft s ≡ (named_operand_step (NamedOperand-F.NamedOperand::Truth b)).draft s
+named_operand_truth_draft b s = ap (λ (v : NamedOperandView). v.draft s) (named_operand_truth b)
+
+pub named_operand_table_draft : (e : Expr) (f : Expr) (es : List Expr) (s : Scope) → (named_operand_view (nv.Table e f es)).draft s ≡ (named_operand_step (NamedOperand-F.NamedOperand::Table (expr_view e) (expr_view f) (expr_views es))).draft s
+named_operand_table_draft e f es s = ap (λ (v : NamedOperandView). v.draft s) (named_operand_table e f es)
+
+pub named_operand_decorated_table_draft : (e : Expr) (es : List Expr) (ty : TypeForm) (s : Scope) → (named_operand_view (nv.DecoratedTable e es ty)).draft s ≡ (named_operand_step (NamedOperand-F.NamedOperand::DecoratedTable (expr_view e) (expr_views es) (type_form_view ty))).draft s
+named_operand_decorated_table_draft e es ty s = ap (λ (v : NamedOperandView). v.draft s) (named_operand_decorated_table e es ty)
+
+pub named_operand_call_draft : (name : List ℕ) (es : List Expr) (s : Scope) → (named_operand_view (nv.Call name es)).draft s ≡ (named_operand_step (NamedOperand-F.NamedOperand::Call name (expr_views es))).draft s
+named_operand_call_draft name es s = ap (λ (v : NamedOperandView). v.draft s) (named_operand_call name es)
+
+pub operand_element_draft : (el : Element) (s : Scope) → (operand_view (ov.Element el)).draft s ≡ (operand_step (Operand-F.Operand::Element (element_view el))).draft s
+operand_element_draft el s = ap (λ (v : OperandView). v.draft s) (operand_element el)
+
+pub operand_element_whole_draft : (el : Element) (s : Scope) → (operand_view (ov.Element el)).whole_draft s ≡ (operand_step (Operand-F.Operand::Element (element_view el))).whole_draft s
+operand_element_whole_draft el s = ap (λ (v : OperandView). v.whole_draft s) (operand_element el)
+
+pub operand_literal_draft : (lit : Literal) (s : Scope) → (operand_view (ov.Literal lit)).draft s ≡ (operand_step (Operand-F.Operand::Literal lit)).draft s
+operand_literal_draft lit s = ap (λ (v : OperandView). v.draft s) (operand_literal lit)
+
+pub operand_literal_whole_draft : (lit : Literal) (s : Scope) → (operand_view (ov.Literal lit)).whole_draft s ≡ (operand_step (Operand-F.Operand::Literal lit)).whole_draft s
+operand_literal_whole_draft lit s = ap (λ (v : OperandView). v.whole_draft s) (operand_literal lit)
+
+pub operand_decorated_draft : (lit : Literal) (ty : TypeForm) (s : Scope) → (operand_view (ov.Decorated lit ty)).draft s ≡ (operand_step (Operand-F.Operand::Decorated lit (type_form_view ty))).draft s
+operand_decorated_draft lit ty s = ap (λ (v : OperandView). v.draft s) (operand_decorated lit ty)
+
+pub operand_decorated_whole_draft : (lit : Literal) (ty : TypeForm) (s : Scope) → (operand_view (ov.Decorated lit ty)).whole_draft s ≡ (operand_step (Operand-F.Operand::Decorated lit (type_form_view ty))).whole_draft s
+operand_decorated_whole_draft lit ty s = ap (λ (v : OperandView). v.whole_draft s) (operand_decorated lit ty)
+
+pub operand_truth_draft : (b : Bool) (s : Scope) → (operand_view (ov.Truth b)).draft s ≡ (operand_step (Operand-F.Operand::Truth b)).draft s
+operand_truth_draft b s = ap (λ (v : OperandView). v.draft s) (operand_truth b)
+
+pub operand_truth_whole_draft : (b : Bool) (s : Scope) → (operand_view (ov.Truth b)).whole_draft s ≡ (operand_step (Operand-F.Operand::Truth b)).whole_draft s
+operand_truth_whole_draft b s = ap (λ (v : OperandView). v.whole_draft s) (operand_truth b)
+
+pub operand_parens_draft : (e : Expr) (s : Scope) → (operand_view (ov.Parens e)).draft s ≡ (operand_step (Operand-F.Parens (expr_view e))).draft s
+operand_parens_draft e s = ap (λ (v : OperandView). v.draft s) (operand_parens e)
+
+pub operand_parens_whole_draft : (e : Expr) (s : Scope) → (operand_view (ov.Parens e)).whole_draft s ≡ (operand_step (Operand-F.Parens (expr_view e))).whole_draft s
+operand_parens_whole_draft e s = ap (λ (v : OperandView). v.whole_draft s) (operand_parens e)
+
+pub operand_table_draft : (e : Expr) (es : List Expr) (s : Scope) → (operand_view (ov.Table e es)).draft s ≡ (operand_step (Operand-F.Operand::Table (expr_view e) (expr_views es))).draft s
+operand_table_draft e es s = ap (λ (v : OperandView). v.draft s) (operand_table e es)
+
+pub operand_table_whole_draft : (e : Expr) (es : List Expr) (s : Scope) → (operand_view (ov.Table e es)).whole_draft s ≡ (operand_step (Operand-F.Operand::Table (expr_view e) (expr_views es))).whole_draft s
+operand_table_whole_draft e es s = ap (λ (v : OperandView). v.whole_draft s) (operand_table e es)
+
+pub operand_decorated_table_draft : (e : Expr) (es : List Expr) (ty : TypeForm) (s : Scope) → (operand_view (ov.DecoratedTable e es ty)).draft s ≡ (operand_step (Operand-F.Operand::DecoratedTable (expr_view e) (expr_views es) (type_form_view ty))).draft s
+operand_decorated_table_draft e es ty s = ap (λ (v : OperandView). v.draft s) (operand_decorated_table e es ty)
+
+pub operand_decorated_table_whole_draft : (e : Expr) (es : List Expr) (ty : TypeForm) (s : Scope) → (operand_view (ov.DecoratedTable e es ty)).whole_draft s ≡ (operand_step (Operand-F.Operand::DecoratedTable (expr_view e) (expr_views es) (type_form_view ty))).whole_draft s
+operand_decorated_table_whole_draft e es ty s = ap (λ (v : OperandView). v.whole_draft s) (operand_decorated_table e es ty)
+
+pub operand_call_draft : (name : List ℕ) (es : List Expr) (s : Scope) → (operand_view (ov.Call name es)).draft s ≡ (operand_step (Operand-F.Operand::Call name (expr_views es))).draft s
+operand_call_draft name es s = ap (λ (v : OperandView). v.draft s) (operand_call name es)
+
+pub operand_call_whole_draft : (name : List ℕ) (es : List Expr) (s : Scope) → (operand_view (ov.Call name es)).whole_draft s ≡ (operand_step (Operand-F.Operand::Call name (expr_views es))).whole_draft s
+operand_call_whole_draft name es s = ap (λ (v : OperandView). v.whole_draft s) (operand_call name es)
+
+pub ruleset bounds_rules = (bounds_from_said, bounds_for_said, bounds_from_for_said, bounds_from_tree, bounds_for_tree, bounds_from_for_tree)
 
 pub ruleset builtin_rules = (builtin_primitive_view, builtin_timer_view, builtin_any_channel_view, builtin_channel_view, builtin_counted_view)
 
 pub ruleset dimension_rules = (dimension_open_view, dimension_sized_view)
 
-pub ruleset element_rules = (element_named_told, element_named_whole, element_segment_told, element_segment_whole)
+pub ruleset element_rules = (element_named_told, element_named_whole, element_segment_told, element_segment_whole, element_named_tree, element_named_whole_draft, element_segment_tree, element_segment_whole_draft)
 
-pub ruleset expr_rules = (expr_alone_said, expr_run_said, expr_pair_said, expr_applied_said, expr_converted_said, expr_array_converted_said, expr_named_said, expr_most_said)
+pub ruleset expr_rules = (expr_alone_said, expr_run_said, expr_pair_said, expr_applied_said, expr_converted_said, expr_array_converted_said, expr_named_said, expr_most_said, expr_alone_draft, expr_run_draft, expr_pair_draft, expr_applied_draft, expr_converted_draft, expr_array_converted_draft, expr_named_draft, expr_most_draft)
 
-pub ruleset named_operand_rules = (named_operand_element_said, named_operand_literal_said, named_operand_decorated_said, named_operand_truth_said, named_operand_table_said, named_operand_decorated_table_said, named_operand_call_said)
+pub ruleset named_operand_rules = (named_operand_element_said, named_operand_literal_said, named_operand_decorated_said, named_operand_truth_said, named_operand_table_said, named_operand_decorated_table_said, named_operand_call_said, named_operand_element_draft, named_operand_literal_draft, named_operand_decorated_draft, named_operand_truth_draft, named_operand_table_draft, named_operand_decorated_table_draft, named_operand_call_draft)
 
-pub ruleset operand_rules = (operand_element_said, operand_element_whole, operand_literal_said, operand_literal_whole, operand_decorated_said, operand_decorated_whole, operand_truth_said, operand_truth_whole, operand_parens_said, operand_parens_whole, operand_table_said, operand_table_whole, operand_decorated_table_said, operand_decorated_table_whole, operand_call_said, operand_call_whole)
+pub ruleset operand_rules = (operand_element_said, operand_element_whole, operand_literal_said, operand_literal_whole, operand_decorated_said, operand_decorated_whole, operand_truth_said, operand_truth_whole, operand_parens_said, operand_parens_whole, operand_table_said, operand_table_whole, operand_decorated_table_said, operand_decorated_table_whole, operand_call_said, operand_call_whole, operand_element_draft, operand_element_whole_draft, operand_literal_draft, operand_literal_whole_draft, operand_decorated_draft, operand_decorated_whole_draft, operand_truth_draft, operand_truth_whole_draft, operand_parens_draft, operand_parens_whole_draft, operand_table_draft, operand_table_whole_draft, operand_decorated_table_draft, operand_decorated_table_whole_draft, operand_call_draft, operand_call_whole_draft)
 
 pub ruleset type_form_rules = (type_form_named_view, type_form_builtin_view)
 

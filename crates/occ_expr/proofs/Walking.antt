@@ -1,5 +1,6 @@
 -- What is told step by step is what is told of the whole form.
-use Rattle.std.proofs.Common.{◌≡◌, ◌∙◌, ◌++◌, ◌∷◌, [], ℕ, List, Option, ap, sym, subst, append_assoc}
+use Rattle.std.proofs.Common.{◌≡◌, ◌∙◌, ◌++◌, ◌∷◌, [], ℕ, List, Option, Some, Result, Ok, Err, IfOk, OnOk, ap, sym, subst, append_assoc}
+use Rattle.std.proofs.lemmas.Result.{IfOk-weaker, on_ok_weaker}
 use Rattle.occ_expression_forms.specs.declared.tree.Bounds.{Bounds}
 use Rattle.occ_expression_forms.specs.declared.tree.Builtin.{Builtin}
 use Rattle.occ_expression_forms.specs.declared.tree.Builtin.TheVariants as uv
@@ -11,7 +12,6 @@ use Rattle.occ_expression_forms.specs.declared.tree.Element.TheVariants as ev
 use Rattle.occ_expression_forms.specs.declared.tree.Expr.{Expr}
 use Rattle.occ_expression_forms.specs.declared.tree.Expr.TheVariants as xv
 use Rattle.occ_expression_forms.specs.declared.tree.Extreme.{Extreme}
-use Rattle.occ_expression_forms.specs.declared.tree.Literal.{Literal}
 use Rattle.occ_expression_forms.specs.declared.tree.MonadicOperator.{MonadicOperator}
 use Rattle.occ_expression_forms.specs.declared.tree.NamedOperand.{NamedOperand}
 use Rattle.occ_expression_forms.specs.declared.tree.NamedOperand.TheVariants as nv
@@ -29,12 +29,16 @@ use Rattle.occ_operands.specs.declared.kind.Kind.{Kind}
 use Rattle.occ_tables.specs.Terms.{judged, judged_all}
 use Rattle.occ_tables.specs.declared.selection.BoundTerms.{BoundTerms}
 use Rattle.occ_tables.specs.declared.term.Term.{Term}
+use Rattle.occ_types.specs.declared.constant.Operator.{Operator}
 use Rattle.occ_types.specs.declared.types.OccType.{OccType}
 use Rattle.occ_types.specs.declared.value.Primitive.{Primitive}
-use Rattle.occ_expr.specs.Literals.{decorated_literal}
 use Rattle.occ_expr.specs.Operations.{applied, converted, extreme_of, operation, pair, run_operator}
 use Rattle.occ_expr.specs.Parts.{in_scope, own_faults, segment_of, subscripts, table_as, table_item, table_items, terms}
-use Rattle.occ_expr.specs.Views.{bounds_view, builtin_view, dimension_view, dimension_views, each, element_view, expr_view, expr_views, named_operand_view, operand_view, operand_views, operands, type_form_view}
+use Rattle.occ_typed.specs.declared.expr.Selector.{Selector}
+use Rattle.occ_typed.specs.declared.expr.TypedElement.{TypedElement}
+use Rattle.occ_expr.specs.Elements.{selectors, with_selectors}
+use Rattle.occ_expr.proofs.Fields.{none_in_front}
+use Rattle.occ_expr.specs.Views.{bounds_view, components_of, part_of, builtin_view, dimension_view, dimension_views, each, element_view, expr_view, expr_views, named_operand_view, operand_view, operand_views, operands, type_form_view}
 use Rattle.occ_expr.specs.Written.{array_behind, array_over, channel, count_type, counted_type, data_form}
 use Rattle.occ_expr.specs.declared.written.Extent.{Extent}
 use Rattle.occ_expr.specs.declared.written.Opening.{Opening}
@@ -60,60 +64,43 @@ most_faults x w of s to old m e is h f k =
     subst (λ (y : Expr). e ≡ old ++ ((expr_view y).said s).faults) (sym is)
     (two _ _ _ _ _ h (k ∙ ap (λ (z : Option OccType). m ++ (extreme_of w z).faults) f) ∙ ap (λ z. old ++ z.faults) (sym (views.expr_most_said w of s)))
 
-pub applied_faults : (x : Expr) (op : MonadicOperator) (o : Operand) (s : Scope) (digits : Option ℕ) (term : Term) (old m e : List Fault)
+pub applied_faults : {T E : Type 0} (r : Result T E) (x : Expr) (op : MonadicOperator) (o : Operand) (s : Scope) (digits : Option ℕ) (term : Term) (old m e : List Fault)
     → x ≡ xv.Applied op o
     → m ≡ old ++ ((operand_view o).said s).faults
     → term ≡ ((operand_view o).said s).term
     → digits ≡ (operand_view o).digits
-    → e ≡ m ++ (applied op digits (judged term)).faults
-    → e ≡ old ++ ((expr_view x).said s).faults
-applied_faults x op o s digits term old m e is h f g k =
+    → OnOk r (e ≡ m ++ (applied op digits (judged term)).faults)
+    → OnOk r (e ≡ old ++ ((expr_view x).said s).faults)
+applied_faults r x op o s digits term old m e is h f g told =
+    on_ok_weaker r (λ k.
     subst (λ (y : Expr). e ≡ old ++ ((expr_view y).said s).faults) (sym is)
-    (two _ _ _ _ _ h (k ∙ ap (λ (z : Option ℕ). m ++ (applied op z (judged term)).faults) g ∙ ap (λ (z : Term). m ++ (applied op (operand_view o).digits (judged z)).faults) f) ∙ ap (λ z. old ++ z.faults) (sym (views.expr_applied_said op o s)))
+    (two _ _ _ _ _ h (k ∙ ap (λ (z : Option ℕ). m ++ (applied op z (judged term)).faults) g ∙ ap (λ (z : Term). m ++ (applied op (operand_view o).digits (judged z)).faults) f) ∙ ap (λ z. old ++ z.faults) (sym (views.expr_applied_said op o s)))) told
 
-pub pair_faults : (x : Expr) (a : Operand) (op : PairOperator) (b : Operand) (s : Scope) (ta tb : Term) (old m n e : List Fault)
+pub pair_faults : {T E : Type 0} (r : Result T E) (x : Expr) (a : Operand) (op : PairOperator) (b : Operand) (s : Scope) (ta tb : Term) (old m n e : List Fault)
     → x ≡ xv.Pair a op b
     → m ≡ old ++ ((operand_view a).said s).faults
     → ta ≡ ((operand_view a).said s).term
     → n ≡ m ++ ((operand_view b).said s).faults
     → tb ≡ ((operand_view b).said s).term
-    → e ≡ n ++ (pair op (judged ta) (judged tb)).faults
-    → e ≡ old ++ ((expr_view x).said s).faults
-pair_faults x a op b s ta tb old m n e is h f i g k =
+    → OnOk r (e ≡ n ++ (pair op (judged ta) (judged tb)).faults)
+    → OnOk r (e ≡ old ++ ((expr_view x).said s).faults)
+pair_faults r x a op b s ta tb old m n e is h f i g told =
+    on_ok_weaker r (λ k.
     subst (λ (y : Expr). e ≡ old ++ ((expr_view y).said s).faults) (sym is)
-    (three _ _ _ _ _ _ _ h i (k ∙ ap (λ (z : Term). n ++ (pair op (judged z) (judged tb)).faults) f ∙ ap (λ (z : Term). n ++ (pair op (judged ((operand_view a).said s).term) (judged z)).faults) g) ∙ ap (λ z. old ++ z.faults) (sym (views.expr_pair_said a op b s)))
+    (three _ _ _ _ _ _ _ h i (k ∙ ap (λ (z : Term). n ++ (pair op (judged z) (judged tb)).faults) f ∙ ap (λ (z : Term). n ++ (pair op (judged ((operand_view a).said s).term) (judged z)).faults) g) ∙ ap (λ z. old ++ z.faults) (sym (views.expr_pair_said a op b s)))) told
 
-pub named_conversion_faults : (x : Expr) (name : List ℕ) (o : NamedOperand) (s : Scope) (to : Option OccType) (term : Term) (old m n e : List Fault)
+pub named_conversion_faults : {T E : Type 0} (r : Result T E) (x : Expr) (name : List ℕ) (o : NamedOperand) (s : Scope) (to : Option OccType) (term : Term) (old m n e : List Fault)
     → x ≡ xv.Named name o
     → m ≡ old ++ (array_over [] (data_type name (visible s name))).faults
     → to ≡ (array_over [] (data_type name (visible s name))).found
     → n ≡ m ++ ((named_operand_view o).said s).faults
     → term ≡ ((named_operand_view o).said s).term
-    → e ≡ n ++ (converted to (judged term)).faults
-    → e ≡ old ++ ((expr_view x).said s).faults
-named_conversion_faults x name o s to term old m n e is h f i g k =
+    → OnOk r (e ≡ n ++ (converted to (judged term)).faults)
+    → OnOk r (e ≡ old ++ ((expr_view x).said s).faults)
+named_conversion_faults r x name o s to term old m n e is h f i g told =
+    on_ok_weaker r (λ k.
     subst (λ (y : Expr). e ≡ old ++ ((expr_view y).said s).faults) (sym is)
-    (three _ _ _ _ _ _ _ h i (k ∙ ap (λ (z : Option OccType). n ++ (converted z (judged term)).faults) f ∙ ap (λ (z : Term). n ++ (converted (array_over [] (data_type name (visible s name))).found (judged z)).faults) g) ∙ ap (λ z. old ++ z.faults) (sym (views.expr_named_said name o s)))
-
-pub decorated_faults : (x : Operand) (lit : Literal) (ty : TypeForm) (s : Scope) (to : Option OccType) (old m e : List Fault)
-    → x ≡ ov.Decorated lit ty
-    → m ≡ old ++ (type_form_view ty opening.Refused s).faults
-    → to ≡ (type_form_view ty opening.Refused s).found
-    → e ≡ m ++ (decorated_literal to lit).faults
-    → e ≡ old ++ ((operand_view x).said s).faults
-decorated_faults x lit ty s to old m e is h f k =
-    subst (λ (y : Operand). e ≡ old ++ ((operand_view y).said s).faults) (sym is)
-    (two _ _ _ _ _ h (k ∙ ap (λ (z : Option OccType). m ++ (decorated_literal z lit).faults) f) ∙ ap (λ z. old ++ z.faults) (sym (views.operand_decorated_said lit ty s)))
-
-pub named_decorated_faults : (x : NamedOperand) (lit : Literal) (ty : TypeForm) (s : Scope) (to : Option OccType) (old m e : List Fault)
-    → x ≡ nv.Decorated lit ty
-    → m ≡ old ++ (type_form_view ty opening.Refused s).faults
-    → to ≡ (type_form_view ty opening.Refused s).found
-    → e ≡ m ++ (decorated_literal to lit).faults
-    → e ≡ old ++ ((named_operand_view x).said s).faults
-named_decorated_faults x lit ty s to old m e is h f k =
-    subst (λ (y : NamedOperand). e ≡ old ++ ((named_operand_view y).said s).faults) (sym is)
-    (two _ _ _ _ _ h (k ∙ ap (λ (z : Option OccType). m ++ (decorated_literal z lit).faults) f) ∙ ap (λ z. old ++ z.faults) (sym (views.named_operand_decorated_said lit ty s)))
+    (three _ _ _ _ _ _ _ h i (k ∙ ap (λ (z : Option OccType). n ++ (converted z (judged term)).faults) f ∙ ap (λ (z : Term). n ++ (converted (array_over [] (data_type name (visible s name))).found (judged z)).faults) g) ∙ ap (λ z. old ++ z.faults) (sym (views.expr_named_said name o s)))) told
 
 pub table_faults : (x : Operand) (a : Expr) (es : List Expr) (s : Scope) (old m e : List Fault)
     → x ≡ ov.Table a es
@@ -134,7 +121,7 @@ named_table_faults x a b es s old m n e is h i k =
     subst (λ (y : NamedOperand). e ≡ old ++ ((named_operand_view y).said s).faults) (sym is)
     (three_right _ _ _ _ _ _ _ h i k ∙ ap (λ z. old ++ z.faults) (sym (views.named_operand_table_said a b es s)))
 
-pub decorated_table_faults : (x : Operand) (a : Expr) (es : List Expr) (ty : TypeForm) (s : Scope) (to : Option OccType) (term : Term) (its : List Term) (old m n p e : List Fault)
+pub decorated_table_faults : {T E : Type 0} (r : Result T E) (x : Operand) (a : Expr) (es : List Expr) (ty : TypeForm) (s : Scope) (to : Option OccType) (term : Term) (its : List Term) (old m n p e : List Fault)
     → x ≡ ov.DecoratedTable a es ty
     → m ≡ old ++ (table_item ((expr_view a).said s)).faults
     → term ≡ (table_item ((expr_view a).said s)).term
@@ -142,13 +129,14 @@ pub decorated_table_faults : (x : Operand) (a : Expr) (es : List Expr) (ty : Typ
     → its ≡ (term ∷ []) ++ terms (table_items (in_scope s (expr_views es)))
     → p ≡ n ++ (type_form_view ty opening.Refused s).faults
     → to ≡ (type_form_view ty opening.Refused s).found
-    → e ≡ p ++ (table_as to its).faults
-    → e ≡ old ++ ((operand_view x).said s).faults
-decorated_table_faults x a es ty s to term its old m n p e is h t i g j f k =
+    → OnOk r (e ≡ p ++ (table_as to its).faults)
+    → OnOk r (e ≡ old ++ ((operand_view x).said s).faults)
+decorated_table_faults r x a es ty s to term its old m n p e is h t i g j f told =
+    on_ok_weaker r (λ k.
     subst (λ (y : Operand). e ≡ old ++ ((operand_view y).said s).faults) (sym is)
-    (three _ _ _ _ _ _ _ (two _ _ _ _ _ h i) j (k ∙ ap (λ (z : Option OccType). p ++ (table_as z its).faults) f ∙ ap (λ (z : List Term). p ++ (table_as (type_form_view ty opening.Refused s).found z).faults) (g ∙ ap (λ (z : Term). z ∷ terms (table_items (in_scope s (expr_views es)))) t)) ∙ ap (λ z. old ++ z.faults) (sym (views.operand_decorated_table_said a es ty s)))
+    (three _ _ _ _ _ _ _ (two _ _ _ _ _ h i) j (k ∙ ap (λ (z : Option OccType). p ++ (table_as z its).faults) f ∙ ap (λ (z : List Term). p ++ (table_as (type_form_view ty opening.Refused s).found z).faults) (g ∙ ap (λ (z : Term). z ∷ terms (table_items (in_scope s (expr_views es)))) t)) ∙ ap (λ z. old ++ z.faults) (sym (views.operand_decorated_table_said a es ty s)))) told
 
-pub named_decorated_table_faults : (x : NamedOperand) (a : Expr) (es : List Expr) (ty : TypeForm) (s : Scope) (to : Option OccType) (term : Term) (its : List Term) (old m n p e : List Fault)
+pub named_decorated_table_faults : {T E : Type 0} (r : Result T E) (x : NamedOperand) (a : Expr) (es : List Expr) (ty : TypeForm) (s : Scope) (to : Option OccType) (term : Term) (its : List Term) (old m n p e : List Fault)
     → x ≡ nv.DecoratedTable a es ty
     → m ≡ old ++ (table_item ((expr_view a).said s)).faults
     → term ≡ (table_item ((expr_view a).said s)).term
@@ -156,13 +144,14 @@ pub named_decorated_table_faults : (x : NamedOperand) (a : Expr) (es : List Expr
     → its ≡ (term ∷ []) ++ terms (table_items (in_scope s (expr_views es)))
     → p ≡ n ++ (type_form_view ty opening.Refused s).faults
     → to ≡ (type_form_view ty opening.Refused s).found
-    → e ≡ p ++ (table_as to its).faults
-    → e ≡ old ++ ((named_operand_view x).said s).faults
-named_decorated_table_faults x a es ty s to term its old m n p e is h t i g j f k =
+    → OnOk r (e ≡ p ++ (table_as to its).faults)
+    → OnOk r (e ≡ old ++ ((named_operand_view x).said s).faults)
+named_decorated_table_faults r x a es ty s to term its old m n p e is h t i g j f told =
+    on_ok_weaker r (λ k.
     subst (λ (y : NamedOperand). e ≡ old ++ ((named_operand_view y).said s).faults) (sym is)
-    (three _ _ _ _ _ _ _ (two _ _ _ _ _ h i) j (k ∙ ap (λ (z : Option OccType). p ++ (table_as z its).faults) f ∙ ap (λ (z : List Term). p ++ (table_as (type_form_view ty opening.Refused s).found z).faults) (g ∙ ap (λ (z : Term). z ∷ terms (table_items (in_scope s (expr_views es)))) t)) ∙ ap (λ z. old ++ z.faults) (sym (views.named_operand_decorated_table_said a es ty s)))
+    (three _ _ _ _ _ _ _ (two _ _ _ _ _ h i) j (k ∙ ap (λ (z : Option OccType). p ++ (table_as z its).faults) f ∙ ap (λ (z : List Term). p ++ (table_as (type_form_view ty opening.Refused s).found z).faults) (g ∙ ap (λ (z : Term). z ∷ terms (table_items (in_scope s (expr_views es)))) t)) ∙ ap (λ z. old ++ z.faults) (sym (views.named_operand_decorated_table_said a es ty s)))) told
 
-pub conversion_faults : (x : Expr) (ds : List Dimension) (w : Builtin) (o : Operand) (s : Scope) (of to : Option OccType) (front : List Extent) (term : Term) (old m n p e : List Fault)
+pub conversion_faults : {T E : Type 0} (r : Result T E) (x : Expr) (ds : List Dimension) (w : Builtin) (o : Operand) (s : Scope) (of to : Option OccType) (front : List Extent) (term : Term) (old m n p e : List Fault)
     → x ≡ xv.Converted ds w o
     → m ≡ old ++ (builtin_view w s).faults
     → of ≡ (builtin_view w s).found
@@ -171,13 +160,14 @@ pub conversion_faults : (x : Expr) (ds : List Dimension) (w : Builtin) (o : Oper
     → to ≡ (array_behind front (each opening.Refused s (dimension_views ds)) of).found
     → p ≡ n ++ ((operand_view o).said s).faults
     → term ≡ ((operand_view o).said s).term
-    → e ≡ p ++ (converted to (judged term)).faults
-    → e ≡ old ++ ((expr_view x).said s).faults
-conversion_faults x ds w o s of to front term old m n p e is h f c i g j t k =
+    → OnOk r (e ≡ p ++ (converted to (judged term)).faults)
+    → OnOk r (e ≡ old ++ ((expr_view x).said s).faults)
+conversion_faults r x ds w o s of to front term old m n p e is h f c i g j t told =
+    on_ok_weaker r (λ k.
     subst (λ (y : Expr). e ≡ old ++ ((expr_view y).said s).faults) (sym is)
-    (three _ _ _ _ _ _ _ (two _ _ _ _ _ h (i ∙ ap (λ (z : List Extent). m ++ (array_behind z (each opening.Refused s (dimension_views ds)) of).faults) c ∙ ap (λ (z : Option OccType). m ++ (array_behind [] (each opening.Refused s (dimension_views ds)) z).faults) f)) j (k ∙ ap (λ (z : Option OccType). p ++ (converted z (judged term)).faults) (g ∙ ap (λ (z : List Extent). (array_behind z (each opening.Refused s (dimension_views ds)) of).found) c ∙ ap (λ (z : Option OccType). (array_behind [] (each opening.Refused s (dimension_views ds)) z).found) f) ∙ ap (λ (z : Term). p ++ (converted (array_behind [] (each opening.Refused s (dimension_views ds)) (builtin_view w s).found).found (judged z)).faults) t) ∙ ap (λ z. old ++ z.faults) (sym (views.expr_converted_said ds w o s)))
+    (three _ _ _ _ _ _ _ (two _ _ _ _ _ h (i ∙ ap (λ (z : List Extent). m ++ (array_behind z (each opening.Refused s (dimension_views ds)) of).faults) c ∙ ap (λ (z : Option OccType). m ++ (array_behind [] (each opening.Refused s (dimension_views ds)) z).faults) f)) j (k ∙ ap (λ (z : Option OccType). p ++ (converted z (judged term)).faults) (g ∙ ap (λ (z : List Extent). (array_behind z (each opening.Refused s (dimension_views ds)) of).found) c ∙ ap (λ (z : Option OccType). (array_behind [] (each opening.Refused s (dimension_views ds)) z).found) f) ∙ ap (λ (z : Term). p ++ (converted (array_behind [] (each opening.Refused s (dimension_views ds)) (builtin_view w s).found).found (judged z)).faults) t) ∙ ap (λ z. old ++ z.faults) (sym (views.expr_converted_said ds w o s)))) told
 
-pub array_conversion_faults : (x : Expr) (d : Dimension) (ds : List Dimension) (name : List ℕ) (o : Operand) (s : Scope) (of to : Option OccType) (ext : Extent) (front : List Extent) (term : Term) (old m l n p e : List Fault)
+pub array_conversion_faults : {T E : Type 0} (r : Result T E) (x : Expr) (d : Dimension) (ds : List Dimension) (name : List ℕ) (o : Operand) (s : Scope) (of to : Option OccType) (ext : Extent) (front : List Extent) (term : Term) (old m l n p e : List Fault)
     → x ≡ xv.ArrayConverted d ds name o
     → m ≡ old ++ (data_type name (visible s name)).faults
     → of ≡ (data_type name (visible s name)).found
@@ -188,13 +178,14 @@ pub array_conversion_faults : (x : Expr) (d : Dimension) (ds : List Dimension) (
     → to ≡ (array_behind front (each opening.Refused s (dimension_views ds)) of).found
     → p ≡ n ++ ((operand_view o).said s).faults
     → term ≡ ((operand_view o).said s).term
-    → e ≡ p ++ (converted to (judged term)).faults
-    → e ≡ old ++ ((expr_view x).said s).faults
-array_conversion_faults x d ds name o s of to ext front term old m l n p e is h f b x1 c i g j t k =
+    → OnOk r (e ≡ p ++ (converted to (judged term)).faults)
+    → OnOk r (e ≡ old ++ ((expr_view x).said s).faults)
+array_conversion_faults r x d ds name o s of to ext front term old m l n p e is h f b x1 c i g j t told =
+    on_ok_weaker r (λ k.
     subst (λ (y : Expr). e ≡ old ++ ((expr_view y).said s).faults) (sym is)
-    (three _ _ _ _ _ _ _ (three_right _ _ _ _ _ _ _ h b (i ∙ ap (λ (z : List Extent). l ++ (array_behind z (each opening.Refused s (dimension_views ds)) of).faults) (c ∙ ap (λ (z : Extent). z ∷ []) x1) ∙ ap (λ (z : Option OccType). l ++ (array_behind ((dimension_view d opening.Refused s).extent ∷ []) (each opening.Refused s (dimension_views ds)) z).faults) f)) j (k ∙ ap (λ (z : Option OccType). p ++ (converted z (judged term)).faults) (g ∙ ap (λ (z : List Extent). (array_behind z (each opening.Refused s (dimension_views ds)) of).found) (c ∙ ap (λ (z : Extent). z ∷ []) x1) ∙ ap (λ (z : Option OccType). (array_behind ((dimension_view d opening.Refused s).extent ∷ []) (each opening.Refused s (dimension_views ds)) z).found) f) ∙ ap (λ (z : Term). p ++ (converted (array_behind ((dimension_view d opening.Refused s).extent ∷ []) (each opening.Refused s (dimension_views ds)) (data_type name (visible s name)).found).found (judged z)).faults) t) ∙ ap (λ z. old ++ z.faults) (sym (views.expr_array_converted_said d ds name o s)))
+    (three _ _ _ _ _ _ _ (three_right _ _ _ _ _ _ _ h b (i ∙ ap (λ (z : List Extent). l ++ (array_behind z (each opening.Refused s (dimension_views ds)) of).faults) (c ∙ ap (λ (z : Extent). z ∷ []) x1) ∙ ap (λ (z : Option OccType). l ++ (array_behind ((dimension_view d opening.Refused s).extent ∷ []) (each opening.Refused s (dimension_views ds)) z).faults) f)) j (k ∙ ap (λ (z : Option OccType). p ++ (converted z (judged term)).faults) (g ∙ ap (λ (z : List Extent). (array_behind z (each opening.Refused s (dimension_views ds)) of).found) (c ∙ ap (λ (z : Extent). z ∷ []) x1) ∙ ap (λ (z : Option OccType). (array_behind ((dimension_view d opening.Refused s).extent ∷ []) (each opening.Refused s (dimension_views ds)) z).found) f) ∙ ap (λ (z : Term). p ++ (converted (array_behind ((dimension_view d opening.Refused s).extent ∷ []) (each opening.Refused s (dimension_views ds)) (data_type name (visible s name)).found).found (judged z)).faults) t) ∙ ap (λ z. old ++ z.faults) (sym (views.expr_array_converted_said d ds name o s)))) told
 
-pub run_faults : (x : Expr) (op : RunOperator) (a b : Operand) (os : List Operand) (s : Scope) (ta tb : Term) (its all : List Term) (old m n p e : List Fault)
+pub run_faults : {T E : Type 0} (r : Result T E) (x : Expr) (op : RunOperator) (operator : Operator) (a b : Operand) (os : List Operand) (s : Scope) (ta tb : Term) (its all : List Term) (old m n p e : List Fault)
     → x ≡ xv.Run op a b os
     → m ≡ old ++ ((operand_view a).said s).faults
     → ta ≡ ((operand_view a).said s).term
@@ -203,11 +194,13 @@ pub run_faults : (x : Expr) (op : RunOperator) (a b : Operand) (os : List Operan
     → p ≡ n ++ own_faults (operands s (operand_views os))
     → its ≡ ((ta ∷ []) ++ (tb ∷ [])) ++ terms (operands s (operand_views os))
     → all ≡ its
-    → e ≡ p ++ (operation (run_operator op) (judged_all all)).faults
-    → e ≡ old ++ ((expr_view x).said s).faults
-run_faults x op a b os s ta tb its all old m n p e is h t i u j g v k =
+    → operator ≡ run_operator op
+    → OnOk r (e ≡ p ++ (operation operator (judged_all all)).faults)
+    → OnOk r (e ≡ old ++ ((expr_view x).said s).faults)
+run_faults r x op operator a b os s ta tb its all old m n p e is h t i u j g v w told =
+    on_ok_weaker r (λ k.
     subst (λ (y : Expr). e ≡ old ++ ((expr_view y).said s).faults) (sym is)
-    (two _ _ _ _ _ (three_right _ _ _ _ _ _ _ h i j) (k ∙ ap (λ (z : List Term). p ++ (operation (run_operator op) (judged_all z)).faults) (v ∙ g ∙ ap (λ (z : Term). z ∷ tb ∷ terms (operands s (operand_views os))) t ∙ ap (λ (z : Term). ((operand_view a).said s).term ∷ z ∷ terms (operands s (operand_views os))) u)) ∙ ap (λ z. old ++ z.faults) (sym (views.expr_run_said op a b os s)))
+    (two _ _ _ _ _ (three_right _ _ _ _ _ _ _ h i j) (k ∙ ap (λ (z : Operator). p ++ (operation z (judged_all all)).faults) w ∙ ap (λ (z : List Term). p ++ (operation (run_operator op) (judged_all z)).faults) (v ∙ g ∙ ap (λ (z : Term). z ∷ tb ∷ terms (operands s (operand_views os))) t ∙ ap (λ (z : Term). ((operand_view a).said s).term ∷ z ∷ terms (operands s (operand_views os))) u)) ∙ ap (λ z. old ++ z.faults) (sym (views.expr_run_said op a b os s)))) told
 
 pub segment_faults : (x : Element) (el : Element) (part : Bounds) (es : List Expr) (s : Scope) (k1 k2 : Kind) (bs : BoundTerms) (old m n p e : List Fault)
     → x ≡ ev.Segment el part es
@@ -223,45 +216,49 @@ segment_faults x el part es s k1 k2 bs old m n p e is h f i g j u k =
     subst (λ (y : Element). e ≡ old ++ ((element_view y).told s).faults) (sym is)
     (two _ _ _ _ _ (three_right _ _ _ _ _ _ _ h i (j ∙ ap (λ (z : Kind). n ++ (segment_of z bs).faults) f ∙ ap (λ (z : BoundTerms). n ++ (segment_of ((element_view el).told s).kind z).faults) g)) (k ∙ ap (λ (z : Kind). p ++ (subscripts s (expr_views es) z).faults) (u ∙ ap (λ (z : Kind). (segment_of z bs).kind) f ∙ ap (λ (z : BoundTerms). (segment_of ((element_view el).told s).kind z).kind) g)) ∙ ap (λ z. old ++ z.faults) (sym (views.element_segment_told el part es s)))
 
-pub named_type_faults : (x : TypeForm) (ds : List Dimension) (name : List ℕ) (o : Opening) (s : Scope) (of : Option OccType) (front : List Extent) (old m e : List Fault)
+pub named_type_faults : {T E : Type 0} (r : Result T E) (x : TypeForm) (ds : List Dimension) (name : List ℕ) (o : Opening) (s : Scope) (of : Option OccType) (front : List Extent) (old m e : List Fault)
     → x ≡ tv.Named ds name
     → m ≡ old ++ (data_type name (visible s name)).faults
     → of ≡ (data_type name (visible s name)).found
     → front ≡ []
-    → e ≡ m ++ (array_behind front (each o s (dimension_views ds)) of).faults
-    → e ≡ old ++ (type_form_view x o s).faults
-named_type_faults x ds name o s of front old m e is h f c k =
+    → OnOk r (e ≡ m ++ (array_behind front (each o s (dimension_views ds)) of).faults)
+    → OnOk r (e ≡ old ++ (type_form_view x o s).faults)
+named_type_faults r x ds name o s of front old m e is h f c told =
+    on_ok_weaker r (λ k.
     subst (λ (y : TypeForm). e ≡ old ++ (type_form_view y o s).faults) (sym is)
-    (two _ _ _ _ _ h (k ∙ ap (λ (z : List Extent). m ++ (array_behind z (each o s (dimension_views ds)) of).faults) c ∙ ap (λ (z : Option OccType). m ++ (array_behind [] (each o s (dimension_views ds)) z).faults) f) ∙ ap (λ z. old ++ z.faults) (sym (views.type_form_named_view ds name o s)))
+    (two old (data_type name (visible s name)).faults (array_behind [] (each o s (dimension_views ds)) (data_type name (visible s name)).found).faults m e h (k ∙ ap (λ (z : List Extent). m ++ (array_behind z (each o s (dimension_views ds)) of).faults) c ∙ ap (λ (z : Option OccType). m ++ (array_behind [] (each o s (dimension_views ds)) z).faults) f) ∙ ap (λ z. old ++ z.faults) (sym (views.type_form_named_view ds name o s)))) told
 
-pub built_in_type_faults : (x : TypeForm) (ds : List Dimension) (w : Builtin) (o : Opening) (s : Scope) (of : Option OccType) (front : List Extent) (old m e : List Fault)
+pub built_in_type_faults : {T E : Type 0} (r : Result T E) (x : TypeForm) (ds : List Dimension) (w : Builtin) (o : Opening) (s : Scope) (of : Option OccType) (front : List Extent) (old m e : List Fault)
     → x ≡ tv.Builtin ds w
     → m ≡ old ++ (builtin_view w s).faults
     → of ≡ (builtin_view w s).found
     → front ≡ []
-    → e ≡ m ++ (array_behind front (each o s (dimension_views ds)) of).faults
-    → e ≡ old ++ (type_form_view x o s).faults
-built_in_type_faults x ds w o s of front old m e is h f c k =
+    → OnOk r (e ≡ m ++ (array_behind front (each o s (dimension_views ds)) of).faults)
+    → OnOk r (e ≡ old ++ (type_form_view x o s).faults)
+built_in_type_faults r x ds w o s of front old m e is h f c told =
+    on_ok_weaker r (λ k.
     subst (λ (y : TypeForm). e ≡ old ++ (type_form_view y o s).faults) (sym is)
-    (two _ _ _ _ _ h (k ∙ ap (λ (z : List Extent). m ++ (array_behind z (each o s (dimension_views ds)) of).faults) c ∙ ap (λ (z : Option OccType). m ++ (array_behind [] (each o s (dimension_views ds)) z).faults) f) ∙ ap (λ z. old ++ z.faults) (sym (views.type_form_builtin_view ds w o s)))
+    (two old (builtin_view w s).faults (array_behind [] (each o s (dimension_views ds)) (builtin_view w s).found).faults m e h (k ∙ ap (λ (z : List Extent). m ++ (array_behind z (each o s (dimension_views ds)) of).faults) c ∙ ap (λ (z : Option OccType). m ++ (array_behind [] (each o s (dimension_views ds)) z).faults) f) ∙ ap (λ z. old ++ z.faults) (sym (views.type_form_builtin_view ds w o s)))) told
 
-pub named_type_found : (x : TypeForm) (ds : List Dimension) (name : List ℕ) (o : Opening) (s : Scope) (of to : Option OccType) (front : List Extent)
+pub named_type_found : {E : Type 0} (r : Result (Option OccType) E) (x : TypeForm) (ds : List Dimension) (name : List ℕ) (o : Opening) (s : Scope) (of : Option OccType) (front : List Extent)
     → x ≡ tv.Named ds name
     → of ≡ (data_type name (visible s name)).found
     → front ≡ []
-    → to ≡ (array_behind front (each o s (dimension_views ds)) of).found
-    → to ≡ (type_form_view x o s).found
-named_type_found x ds name o s of to front is f c k =
-    subst (λ (y : TypeForm). to ≡ (type_form_view y o s).found) (sym is)
-    (k ∙ ap (λ (z : List Extent). (array_behind z (each o s (dimension_views ds)) of).found) c ∙ ap (λ (z : Option OccType). (array_behind [] (each o s (dimension_views ds)) z).found) f ∙ ap (λ z. z.found) (sym (views.type_form_named_view ds name o s)))
+    → IfOk r (λ found. found ≡ (array_behind front (each o s (dimension_views ds)) of).found)
+    → IfOk r (λ found. found ≡ (type_form_view x o s).found)
+named_type_found r x ds name o s of front is f c told =
+    IfOk-weaker r (λ found. found ≡ (array_behind front (each o s (dimension_views ds)) of).found) (λ found. found ≡ (type_form_view x o s).found) (λ found k.
+    subst (λ (y : TypeForm). found ≡ (type_form_view y o s).found) (sym is)
+    (k ∙ ap (λ (z : List Extent). (array_behind z (each o s (dimension_views ds)) of).found) c ∙ ap (λ (z : Option OccType). (array_behind [] (each o s (dimension_views ds)) z).found) f ∙ ap (λ z. z.found) (sym (views.type_form_named_view ds name o s)))) told
 
-pub channel_found : (x : Builtin) (words : ChannelWords) (ds : List Dimension) (base : DataBase) (s : Scope) (to : Option OccType)
+pub channel_found : {E : Type 0} (r : Result (Option OccType) E) (x : Builtin) (words : ChannelWords) (ds : List Dimension) (base : DataBase) (s : Scope)
     → x ≡ uv.Channel words ds base
-    → to ≡ (channel s (each opening.Refused s (dimension_views ds)) base).found
-    → to ≡ (builtin_view x s).found
-channel_found x words ds base s to is k =
-    subst (λ (y : Builtin). to ≡ (builtin_view y s).found) (sym is)
-    (k ∙ ap (λ z. z.found) (sym (views.builtin_channel_view words ds base s)))
+    → IfOk r (λ found. found ≡ (channel s (each opening.Refused s (dimension_views ds)) base).found)
+    → IfOk r (λ found. found ≡ (builtin_view x s).found)
+channel_found r x words ds base s is told =
+    IfOk-weaker r (λ found. found ≡ (channel s (each opening.Refused s (dimension_views ds)) base).found) (λ found. found ≡ (builtin_view x s).found) (λ found k.
+    subst (λ (y : Builtin). found ≡ (builtin_view y s).found) (sym is)
+    (k ∙ ap (λ z. z.found) (sym (views.builtin_channel_view words ds base s)))) told
 
 pub counted_faults : (x : Builtin) (words : ChannelWords) (ds : List Dimension) (base : DataBase) (es : List Dimension) (other : DataBase) (s : Scope) (of : Option OccType) (old m n e : List Fault)
     → x ≡ uv.Counted words ds base es other
@@ -274,13 +271,51 @@ counted_faults x words ds base es other s of old m n e is h f i k =
     subst (λ (y : Builtin). e ≡ old ++ (builtin_view y s).faults) (sym is)
     (three_right _ _ _ _ _ _ _ h (i ∙ ap (λ (z : Option OccType). m ++ (count_type z).faults) f) k ∙ ap (λ z. old ++ z.faults) (sym (views.builtin_counted_view words ds base es other s)))
 
-pub counted_found : (x : Builtin) (words : ChannelWords) (ds : List Dimension) (base : DataBase) (es : List Dimension) (other : DataBase) (s : Scope) (of to r : Option OccType) (count : Option Primitive)
+pub counted_found : {E : Type 0} (r : Result (Option OccType) E) (x : Builtin) (words : ChannelWords) (ds : List Dimension) (base : DataBase) (es : List Dimension) (other : DataBase) (s : Scope) (of to : Option OccType) (count : Option Primitive)
     → x ≡ uv.Counted words ds base es other
     → of ≡ (data_form s (each opening.Refused s (dimension_views ds)) base).found
     → count ≡ (count_type of).found
     → to ≡ (data_form s (each opening.Refused s (dimension_views es)) other).found
-    → r ≡ counted_type count to
-    → r ≡ (builtin_view x s).found
-counted_found x words ds base es other s of to r count is f g i k =
-    subst (λ (y : Builtin). r ≡ (builtin_view y s).found) (sym is)
-    (k ∙ ap (λ (z : Option Primitive). counted_type z to) (g ∙ ap (λ (z : Option OccType). (count_type z).found) f) ∙ ap (λ (z : Option OccType). counted_type (count_type (data_form s (each opening.Refused s (dimension_views ds)) base).found).found z) i ∙ ap (λ z. z.found) (sym (views.builtin_counted_view words ds base es other s)))
+    → IfOk r (λ found. found ≡ counted_type count to)
+    → IfOk r (λ found. found ≡ (builtin_view x s).found)
+counted_found r x words ds base es other s of to count is f g i told =
+    IfOk-weaker r (λ found. found ≡ counted_type count to) (λ found. found ≡ (builtin_view x s).found) (λ found k.
+    subst (λ (y : Builtin). found ≡ (builtin_view y s).found) (sym is)
+    (k ∙ ap (λ (z : Option Primitive). counted_type z to) (g ∙ ap (λ (z : Option OccType). (count_type z).found) f) ∙ ap (λ (z : Option OccType). counted_type (count_type (data_form s (each opening.Refused s (dimension_views ds)) base).found).found z) i ∙ ap (λ z. z.found) (sym (views.builtin_counted_view words ds base es other s)))) told
+
+pub segment_tree_made : (x el : Element) (part : Bounds) (es : List Expr) (s : Scope) (k1 k2 kind : Kind) (inner : Option TypedElement) (n : Option ℕ) (bs : BoundTerms) (sel : Option Selector) (start behind : Option (List Selector)) (v : Option TypedElement)
+    → x ≡ ev.Segment el part es
+    → k1 ≡ ((element_view el).told s).kind
+    → inner ≡ (element_view el).tree s
+    → n ≡ components_of k1
+    → bs ≡ ((bounds_view part).said s).bounds
+    → sel ≡ (bounds_view part).tree s n
+    → k2 ≡ (segment_of k1 bs).kind
+    → start ≡ Some []
+    → kind ≡ (subscripts s (expr_views es) k2).kind
+    → behind ≡ with_selectors start (selectors s (expr_views es) k2)
+    → v ≡ part_of kind inner sel behind
+    → v ≡ (element_view x).tree s
+segment_tree_made x el part es s k1 k2 kind inner n bs sel start behind v is h1 hi hn hb hs h2 hz hk he hv =
+    let whole = (element_view el).told s in
+    let segment = (segment_of whole.kind ((bounds_view part).said s).bounds).kind in
+    let k2_is : k2 ≡ segment = h2 ∙ ap (λ (z : Kind). (segment_of z bs).kind) h1 ∙ ap (λ (z : BoundTerms). (segment_of whole.kind z).kind) hb in
+    let kind_is : kind ≡ (subscripts s (expr_views es) segment).kind = hk ∙ ap (λ (z : Kind). (subscripts s (expr_views es) z).kind) k2_is in
+    let sel_is : sel ≡ (bounds_view part).tree s (components_of whole.kind) = hs ∙ ap (λ (z : Option ℕ). (bounds_view part).tree s z) (hn ∙ ap components_of h1) in
+    let behind_is : behind ≡ selectors s (expr_views es) segment
+    = he
+    ∙ ap (λ (z : Option (List Selector)). with_selectors z (selectors s (expr_views es) k2)) hz
+    ∙ none_in_front (selectors s (expr_views es) k2)
+    ∙ ap (λ (z : Kind). selectors s (expr_views es) z) k2_is in
+    hv
+    ∙ ap (λ (z : Kind). part_of z inner sel behind) kind_is
+    ∙ ap (λ (z : Option TypedElement). part_of (subscripts s (expr_views es) segment).kind z sel behind) hi
+    ∙ ap (λ (z : Option Selector). part_of (subscripts s (expr_views es) segment).kind ((element_view el).tree s) z behind) sel_is
+    ∙ ap (λ (z : Option (List Selector)). part_of (subscripts s (expr_views es) segment).kind ((element_view el).tree s) ((bounds_view part).tree s (components_of whole.kind)) z) behind_is
+    ∙ sym (views.element_segment_tree el part es s)
+    ∙ ap (λ (y : Element). (element_view y).tree s) (sym is)
+
+-- what holds whatever is returned
+pub whatever : {T E : Type 0} (r : Result T E) {P : Type 0} → P → OnOk r P
+whatever (Ok x) p = p
+whatever (Err y) p = tt

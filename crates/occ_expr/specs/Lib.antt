@@ -1,6 +1,7 @@
-pub mod Literals
 pub mod Operations
+pub mod Literals
 pub mod Written
 pub mod Parts
-pub mod Trees
+pub mod Drafts
+pub mod Elements
 pub mod Views

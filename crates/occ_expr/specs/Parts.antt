@@ -21,9 +21,10 @@ use Rattle.occ_tables.specs.Decorating.{decorated_table}
 use Rattle.occ_tables.specs.Segments.{segment}
 use Rattle.occ_tables.specs.Terms.{and_then, item, judged, judged_all}
 use Rattle.occ_tables.specs.declared.selection.BoundTerms.{BoundTerms}
+use Rattle.occ_tables.specs.declared.selection.BoundTerms.TheVariants as bounds
 use Rattle.occ_tables.specs.declared.term.Term.{Term}
 use Rattle.occ_tables.specs.declared.term.Term.TheVariants as v
-use Rattle.occ_typed.specs.declared.expr.TypedExpr.{TypedExpr}
+use Rattle.occ_typed.specs.declared.draft.Draft.{Draft}
 use Rattle.occ_expr.specs.Operations.{converted, plain}
 
 -- what is said of an expression: its faults, and what it is before a type is wanted of it
@@ -31,16 +32,11 @@ pub record Said : Type 0 where
   pub faults : List Fault
   pub term : Term
 
--- the type that is wanted of an operand, if one is
-abbrev pub Wish : Type 0
-Wish = Option OccType
-
--- an expression in any scope: the name that it is, if it is a name alone, what is said of it, and the typed tree that it
--- becomes where a type is wanted of it or none is
+-- an expression in any scope: the name that it is, if it is a name alone, what is said of it, and its draft
 pub record ExprView : Type 0 where
   pub name : Option (List ℕ)
   pub said : Scope → Said
-  pub tree : Scope → Wish → TypedExpr
+  pub draft : Scope → Draft
 
 abbrev pub single : Told → Said
 single x = record { faults = x.faults; term = v.Single x.kind }
@@ -94,13 +90,20 @@ kind_of_whole (Some whole) = known whole.of whole.value
 abbrev pub named : Found Whole → Told
 named x = record { faults = x.faults; kind = kind_of_whole x.found }
 
--- behind what is faulty a name may be a field's, and is not looked up
-abbrev pub behind_a_fault_by_name : Scope → ExprView → Option (List ℕ) → Told
-behind_a_fault_by_name s e None = record { faults = (e.said s).faults; kind = k.Faulty }
-behind_a_fault_by_name s e (Some name) = silent
+-- no type is wanted of it, and it tells no more than itself
+abbrev pub by_itself : Said → List Fault
+by_itself x = x.faults ++ (judged x.term).alone.faults
 
-unfoldable pub behind_a_fault : Scope → ExprView → Told
+-- what a subscript tells behind what is faulty: a name may be a field's, and is not looked up
+abbrev pub behind_a_fault_by_name : Scope → ExprView → Option (List ℕ) → List Fault
+behind_a_fault_by_name s e None = by_itself (e.said s)
+behind_a_fault_by_name s e (Some name) = []
+
+unfoldable pub behind_a_fault : Scope → ExprView → List Fault
 behind_a_fault s e = behind_a_fault_by_name s e e.name
+
+abbrev pub nothing_behind : Scope → ExprView → Told
+nothing_behind s e = record { faults = behind_a_fault s e; kind = k.Faulty }
 
 unfoldable pub component : Scope → OccType → ExprView → Told
 component s of e = let x = e.said s in after x.faults (and_then (plain (judged x.term)) (subscripted of))
@@ -115,8 +118,8 @@ part s of None e = component s of e
 part s of (Some fields) e = field_or_component s of fields e e.name
 
 unfoldable pub subscript : Scope → ExprView → Kind → Told
-subscript s e k.Faulty = behind_a_fault s e
-subscript s e (k.Free f) = behind_a_fault s e
+subscript s e k.Faulty = nothing_behind s e
+subscript s e (k.Free f) = nothing_behind s e
 subscript s e (k.Known x) = part s x.of (fields_in (unnamed x.of)) e
 
 abbrev pub subscripts : Scope → List ExprView → Kind → Told
@@ -130,9 +133,15 @@ pub record SaidBounds : Type 0 where
   pub faults : List Fault
   pub bounds : BoundTerms
 
+-- each bound by itself, where the element is faulty
+abbrev pub bounds_alone : BoundTerms → List Fault
+bounds_alone (bounds.From x) = (judged x).alone.faults
+bounds_alone (bounds.For x) = (judged x).alone.faults
+bounds_alone (bounds.FromFor x y) = (judged x).alone.faults ++ (judged y).alone.faults
+
 unfoldable pub segment_of : Kind → BoundTerms → Told
-segment_of k.Faulty b = silent
-segment_of (k.Free f) b = silent
+segment_of k.Faulty b = record { faults = bounds_alone b; kind = k.Faulty }
+segment_of (k.Free f) b = record { faults = bounds_alone b; kind = k.Faulty }
 segment_of (k.Known x) b = segment x.of b
 
 abbrev pub segment_within : SaidBounds → Kind → Told

@@ -1,20 +1,27 @@
--- What is said of expressions, elements and types in a scope, and the typed trees that they become.
+-- What is said of expressions, elements and types in a scope, and their drafts.
 use Rattle.std.specs.Prelude.{ℕ, Option, Some, None, List, [], ◌∷◌, ◌++◌}
 use Rattle.occ_types.specs.declared.types.OccType.TheVariants as t
 use Rattle.occ_types.specs.declared.types.Protocol.TheVariants as protocol
 use Rattle.occ_operands.specs.Settling.{Told}
 use Rattle.occ_operands.specs.declared.kind.Kind.{Kind}
-use Rattle.occ_names.specs.Lookup.{data_type, good}
-use Rattle.occ_names.specs.Visible.{visible}
+use Rattle.occ_operands.specs.declared.kind.Kind.TheVariants as k
+use Rattle.occ_names.specs.Lookup.{data_type, element, good}
+use Rattle.occ_names.specs.Visible.{referent, visible}
 use Rattle.occ_names.specs.declared.scope.Scope.{Scope}
 use Rattle.occ_tables.specs.Dimensions.{size}
-use Rattle.occ_tables.specs.Terms.{and_then, judged, judged_all}
+use Rattle.occ_tables.specs.Terms.{judged, judged_all}
 use Rattle.occ_tables.specs.declared.selection.BoundTerms.TheVariants as bounds
+use Rattle.occ_typed.specs.declared.draft.Draft.{Draft}
+use Rattle.occ_typed.specs.declared.draft.Draft.TheVariants as d
 use Rattle.occ_typed.specs.declared.expr.Selector.{Selector}
 use Rattle.occ_typed.specs.declared.expr.Selector.TheVariants as by
-use Rattle.occ_typed.specs.declared.expr.TypedElement.{TypedElement}
+use Rattle.occ_typed.specs.declared.expr.TypedElement.{TypedElement, out-TypedElement}
 use Rattle.occ_typed.specs.declared.expr.TypedExpr.{TypedExpr}
-use Rattle.occ_typed.specs.declared.expr.TypedExpr.TheVariants as typed
+use Rattle.occ_types.specs.Fits.{unnamed}
+use Rattle.occ_types.specs.View.{as_array}
+use Rattle.occ_types.specs.declared.types.OccType.{OccType}
+use Rattle.occ_names.specs.declared.meaning.Meaning.{Meaning}
+use Rattle.occ_names.specs.declared.meaning.Meaning.TheVariants as meaning
 use Rattle.occ_expression_forms.specs.declared.tree.Bounds.{Bounds}
 use Rattle.occ_expression_forms.specs.declared.tree.Bounds.TheFolds.{fold-Bounds, fold-Builtin, fold-Dimension, fold-Element, fold-Expr, fold-NamedOperand, fold-Operand, fold-TypeForm}
 use Rattle.occ_expression_forms.specs.declared.tree.Bounds.TheOpen.{Bounds-F, Builtin-F, Dimension-F, Element-F, Expr-F, NamedOperand-F, Operand-F, TypeForm-F}
@@ -30,23 +37,24 @@ use Rattle.occ_expression_forms.specs.declared.tree.PairOperator.{PairOperator}
 use Rattle.occ_expression_forms.specs.declared.tree.RunOperator.{RunOperator}
 use Rattle.occ_expression_forms.specs.declared.tree.TypeForm.{TypeForm}
 use Rattle.occ_expr.specs.Literals.{decorated_literal, literal, truth}
-use Rattle.occ_expr.specs.Operations.{applied, converted, extreme_of, operation, pair, pair_operator, run_operator}
-use Rattle.occ_expr.specs.Parts.{ExprView, Said, SaidBounds, Wish, after, call, in_scope, named_element, own_faults, segment_element, segment_within, single, table, table_with_type, terms, whole_element}
-use Rattle.occ_expr.specs.Trees.{applied_tree, call_tree, element_tree, kind_under, left_wish, named_selectors, operand_wish, place_tree, right_wish, selectors, table_tree, whole_element_tree}
+use Rattle.occ_expr.specs.Operations.{applied, converted, extreme_of, operation, pair, run_operator}
+use Rattle.occ_expr.specs.Drafts.{applied_draft, conversion_draft, decorated_draft, item_draft, literal_draft, operation_draft, pair_draft}
+use Rattle.occ_expr.specs.Elements.{element_draft, element_of, one_selector, place_tree, selectors, with_selectors}
+use Rattle.occ_expr.specs.Parts.{ExprView, Said, SaidBounds, after, call, in_scope, named, named_element, only, own_faults, segment_element, segment_within, single, table, table_with_type, terms, whole_element}
 use Rattle.occ_expr.specs.Written.{Spanning, Written, array_over, array_over_more, channel, data_form, counted_channel, extent_of, open_dimension, primitive_of}
 use Rattle.occ_expr.specs.declared.written.Opening.{Opening}
 use Rattle.occ_expr.specs.declared.written.Opening.TheVariants as opening
 
 -- ---- what a form is in any scope
 
--- an element: the name that it is alone, what is told of it, and its typed tree, where it is no whole expression and as
--- one
+-- an element: the name that it is alone, what is told of it where it is no whole expression and as one, its typed tree, and
+-- its draft as a whole expression
 pub record ElementView : Type 0 where
   pub name : Option (List ℕ)
   pub told : Scope → Told
   pub whole : Scope → Told
-  pub tree : Scope → TypedElement
-  pub whole_tree : Scope → TypedExpr
+  pub tree : Scope → Option TypedElement
+  pub whole_draft : Scope → Draft
 
 -- an operand: also the integer in decimal digits that it is, without a type of its own
 pub record OperandView : Type 0 where
@@ -54,13 +62,13 @@ pub record OperandView : Type 0 where
   pub digits : Option ℕ
   pub said : Scope → Said
   pub whole : Scope → Said
-  pub tree : Scope → Wish → TypedExpr
-  pub whole_tree : Scope → Wish → TypedExpr
+  pub draft : Scope → Draft
+  pub whole_draft : Scope → Draft
 
--- which part a segment is
+-- which part a segment is of so many components, if their number is known
 pub record BoundsView : Type 0 where
   pub said : Scope → SaidBounds
-  pub tree : Scope → Selector
+  pub tree : Scope → Option ℕ → Option Selector
 
 abbrev pub BuiltinView : Type 0
 BuiltinView = Scope → Written
@@ -75,7 +83,7 @@ TypeFormView = Opening → Scope → Written
 -- an operand behind the name of a type
 pub record NamedOperandView : Type 0 where
   pub said : Scope → Said
-  pub tree : Scope → Wish → TypedExpr
+  pub draft : Scope → Draft
 
 -- ---- dimensions and types
 
@@ -111,25 +119,67 @@ name_alone name (e ∷ es) = None
 abbrev pub said_bounds : Said → Said → SaidBounds
 said_bounds x y = record { faults = x.faults ++ y.faults; bounds = bounds.FromFor x.term y.term }
 
+abbrev pub from_of : Option ℕ → Option TypedExpr → Option Selector
+from_of n None = None
+from_of n (Some t) = Some (by.From n t)
+
+abbrev pub for_of : Option ℕ → Option TypedExpr → Option Selector
+for_of n None = None
+for_of n (Some t) = Some (by.For n t)
+
+abbrev pub from_for_of : Option ℕ → Option TypedExpr → Option TypedExpr → Option Selector
+from_for_of n None u = None
+from_for_of n (Some t) None = None
+from_for_of n (Some t) (Some u) = Some (by.FromFor n t u)
+
 abbrev pub bounds_step : Bounds-F BoundsView BuiltinView DimensionView ElementView ExprView NamedOperandView OperandView TypeFormView → BoundsView
 bounds_step (Bounds-F.From e) =
-    record { said = λ s. let x = e.said s in record { faults = x.faults; bounds = bounds.From x.term }; tree = λ s. by.From (place_tree s e) }
+    record { said = λ s. let x = e.said s in record { faults = x.faults; bounds = bounds.From x.term }; tree = λ s n. from_of n (place_tree s e) }
 bounds_step (Bounds-F.For e) =
-    record { said = λ s. let x = e.said s in record { faults = x.faults; bounds = bounds.For x.term }; tree = λ s. by.For (place_tree s e) }
+    record { said = λ s. let x = e.said s in record { faults = x.faults; bounds = bounds.For x.term }; tree = λ s n. for_of n (place_tree s e) }
 bounds_step (Bounds-F.FromFor e f) =
-    record { said = λ s. said_bounds (e.said s) (f.said s); tree = λ s. by.FromFor (place_tree s e) (place_tree s f) }
+    record { said = λ s. said_bounds (e.said s) (f.said s); tree = λ s n. from_for_of n (place_tree s e) (place_tree s f) }
 
-abbrev pub named_tree : Scope → List ℕ → List ExprView → TypedElement
-named_tree s name es = element_tree s (named_element s name es).kind name (named_selectors s name es)
+-- a name with subscripts
+unfoldable pub named_tree : Scope → List ℕ → List ExprView → Option TypedElement
+named_tree s name es = element_of (named_element s name es).kind name (referent s name) (selectors s es (named (element name (visible s name))).kind)
+
+abbrev pub count_in : Option (Option ℕ × OccType) → Option ℕ
+count_in None = None
+count_in (Some parts) = parts.0
+
+-- the number of components of what is known, if it is an array and its number is known
+abbrev pub components_of : Kind → Option ℕ
+components_of k.Faulty = None
+components_of (k.Free f) = None
+components_of (k.Known x) = count_in (as_array (unnamed x.of))
 
 -- of what the element is a part, then which segment, then the subscripts behind it
-abbrev pub segment_selectors : Scope → ElementView → BoundsView → List ExprView → List Selector
-segment_selectors s el b es =
-    (el.tree s).selectors ++ (b.tree s ∷ selectors s es (and_then (el.told s) (segment_within (b.said s))).kind)
+unfoldable pub part_of : Kind → Option TypedElement → Option Selector → Option (List Selector) → Option TypedElement
+part_of kind None part behind = None
+part_of kind (Some el) part behind =
+    let x = out-TypedElement el in
+    element_of kind x.name (Some x.referent) (with_selectors (with_selectors (Some x.selectors) (one_selector part)) behind)
 
-abbrev pub segment_tree : Scope → ElementView → BoundsView → List ExprView → TypedElement
+abbrev pub segment_tree : Scope → ElementView → BoundsView → List ExprView → Option TypedElement
 segment_tree s el b es =
-    element_tree s (segment_element s (el.told s) (b.said s) es).kind (el.tree s).name (segment_selectors s el b es)
+    let whole = el.told s in
+    part_of (segment_element s whole (b.said s) es).kind (el.tree s) (b.tree s (components_of whole.kind)) (selectors s es (segment_within (b.said s) whole.kind).kind)
+
+-- `n[e]` as a whole expression: the conversion of a table of one item, if n is a data type
+abbrev pub item_of_one : Said → Draft → Draft
+item_of_one x a = d.Table (item_draft x.term a ∷ [])
+
+abbrev pub converted_element : Scope → OccType → Option ExprView → Draft → Draft
+converted_element s to None as_element = as_element
+converted_element s to (Some e) as_element = conversion_draft (Some to) (judged (table (e.said s ∷ [])).term) (item_of_one (e.said s) (e.draft s))
+
+abbrev pub whole_draft_of : Scope → List ExprView → Option Meaning → Draft → Draft
+whole_draft_of s es (Some (meaning.Type to)) as_element = converted_element s to (only es) as_element
+whole_draft_of s es found as_element = as_element
+
+unfoldable pub whole_element_draft : Scope → List ℕ → List ExprView → Draft
+whole_element_draft s name es = whole_draft_of s es (visible s name) (element_draft (named_tree s name es))
 
 abbrev pub element_step : Element-F BoundsView BuiltinView DimensionView ElementView ExprView NamedOperandView OperandView TypeFormView → ElementView
 element_step (Element-F.Element::Named name es) =
@@ -138,7 +188,7 @@ element_step (Element-F.Element::Named name es) =
       told = λ s. named_element s name es;
       whole = λ s. whole_element s name es;
       tree = λ s. named_tree s name es;
-      whole_tree = λ s. whole_element_tree s name es (named_tree s name es);
+      whole_draft = λ s. whole_element_draft s name es;
     }
 element_step (Element-F.Segment el b es) =
     record {
@@ -146,7 +196,7 @@ element_step (Element-F.Segment el b es) =
       told = λ s. segment_element s (el.told s) (b.said s) es;
       whole = λ s. segment_element s (el.told s) (b.said s) es;
       tree = λ s. segment_tree s el b es;
-      whole_tree = λ s. typed.Element (segment_tree s el b es);
+      whole_draft = λ s. element_draft (segment_tree s el b es);
     }
 
 -- ---- operands
@@ -160,20 +210,33 @@ digits_of (l.String bytes) = None
 abbrev pub decorated : Written → Literal → Told
 decorated of lit = after of.faults (decorated_literal of.found lit)
 
-abbrev pub literal_tree : Said → Wish → TypedExpr
-literal_tree x wish = typed.Literal (kind_under wish x.term)
-
 -- an operand that is the same as a whole expression
-abbrev pub either_way : (Scope → Said) → (Scope → Wish → TypedExpr) → OperandView
-either_way said tree_for = record { name = None; digits = None; said = said; whole = said; tree = tree_for; whole_tree = tree_for }
+abbrev pub either_way : (Scope → Said) → (Scope → Draft) → OperandView
+either_way said draft = record { name = None; digits = None; said = said; whole = said; draft = draft; whole_draft = draft }
 
 -- a literal with its type, `TRUE` or `FALSE`
-abbrev pub literal_operand : (Scope → Said) → OperandView
-literal_operand said = either_way said (λ s wish. literal_tree (said s) wish)
+abbrev pub literal_operand : (Scope → Told) → OperandView
+literal_operand told = either_way (λ s. single (told s)) (λ s. literal_draft (told s).kind)
 
--- a table with these items, of which this is said
-abbrev pub tabled : (Scope → Said) → List ExprView → Scope → Wish → TypedExpr
-tabled said es s wish = table_tree s es (kind_under wish (said s).term)
+abbrev pub item_drafts : Scope → List ExprView → List Draft
+item_drafts s [] = []
+item_drafts s (e ∷ es) = item_draft (e.said s).term (e.draft s) ∷ item_drafts s es
+
+-- `n (e, ..)`: calls of functions are not typed yet
+abbrev pub converted_call : Scope → OccType → Option ExprView → Draft
+converted_call s to None = d.Faulty
+converted_call s to (Some e) = conversion_draft (Some to) (judged (e.said s).term) (e.draft s)
+
+abbrev pub call_draft_of : Scope → List ExprView → Option Meaning → Draft
+call_draft_of s es (Some (meaning.Type to)) = converted_call s to (only es)
+call_draft_of s es found = d.Faulty
+
+unfoldable pub call_draft : Scope → List ℕ → List ExprView → Draft
+call_draft s name es = call_draft_of s es (visible s name)
+
+-- a table with its type
+abbrev pub decorated_table : Scope → List ExprView → TypeFormView → Told
+decorated_table s es of = table_with_type (in_scope s es) (of opening.Refused s)
 
 abbrev pub operand_step : Operand-F BoundsView BuiltinView DimensionView ElementView ExprView NamedOperandView OperandView TypeFormView → OperandView
 operand_step (Operand-F.Operand::Element el) =
@@ -182,8 +245,8 @@ operand_step (Operand-F.Operand::Element el) =
       digits = None;
       said = λ s. single (el.told s);
       whole = λ s. single (el.whole s);
-      tree = λ s wish. typed.Element (el.tree s);
-      whole_tree = λ s wish. el.whole_tree s;
+      draft = λ s. element_draft (el.tree s);
+      whole_draft = el.whole_draft;
     }
 operand_step (Operand-F.Operand::Literal lit) =
     record {
@@ -191,40 +254,36 @@ operand_step (Operand-F.Operand::Literal lit) =
       digits = digits_of lit;
       said = λ s. single (literal lit);
       whole = λ s. single (literal lit);
-      tree = λ s wish. literal_tree (single (literal lit)) wish;
-      whole_tree = λ s wish. literal_tree (single (literal lit)) wish;
+      draft = λ s. literal_draft (literal lit).kind;
+      whole_draft = λ s. literal_draft (literal lit).kind;
     }
-operand_step (Operand-F.Operand::Decorated lit of) = literal_operand (λ s. single (decorated (of opening.Refused s) lit))
-operand_step (Operand-F.Operand::Truth b) = literal_operand (λ s. single (truth b))
-operand_step (Operand-F.Parens e) = either_way e.said e.tree
-operand_step (Operand-F.Operand::Table e es) =
-    either_way (λ s. table (e.said s ∷ in_scope s es)) (tabled (λ s. table (e.said s ∷ in_scope s es)) (e ∷ es))
+operand_step (Operand-F.Operand::Decorated lit of) = literal_operand (λ s. decorated (of opening.Refused s) lit)
+operand_step (Operand-F.Operand::Truth b) = literal_operand (λ s. truth b)
+operand_step (Operand-F.Parens e) = either_way e.said e.draft
+operand_step (Operand-F.Operand::Table e es) = either_way (λ s. table (in_scope s (e ∷ es))) (λ s. d.Table (item_drafts s (e ∷ es)))
 operand_step (Operand-F.Operand::DecoratedTable e es of) =
     either_way
-    (λ s. single (table_with_type (e.said s ∷ in_scope s es) (of opening.Refused s)))
-    (tabled (λ s. single (table_with_type (e.said s ∷ in_scope s es) (of opening.Refused s))) (e ∷ es))
-operand_step (Operand-F.Operand::Call name es) = either_way (λ s. single (call s name es)) (λ s wish. call_tree s name es)
+    (λ s. single (decorated_table s (e ∷ es) of))
+    (λ s. decorated_draft (decorated_table s (e ∷ es) of).kind (item_drafts s (e ∷ es)))
+operand_step (Operand-F.Operand::Call name es) = either_way (λ s. single (call s name es)) (λ s. call_draft s name es)
 
 -- a literal behind the name of a type, with its type or without
-abbrev pub named_literal : (Scope → Said) → NamedOperandView
-named_literal said = record { said = said; tree = λ s wish. literal_tree (said s) wish }
+abbrev pub named_literal : (Scope → Told) → NamedOperandView
+named_literal told = record { said = λ s. single (told s); draft = λ s. literal_draft (told s).kind }
 
 abbrev pub named_operand_step : NamedOperand-F BoundsView BuiltinView DimensionView ElementView ExprView NamedOperandView OperandView TypeFormView → NamedOperandView
-named_operand_step (NamedOperand-F.NamedOperand::Element el) = record { said = λ s. single (el.told s); tree = λ s wish. typed.Element (el.tree s) }
-named_operand_step (NamedOperand-F.NamedOperand::Literal lit) = named_literal (λ s. single (literal lit))
-named_operand_step (NamedOperand-F.NamedOperand::Decorated lit of) = named_literal (λ s. single (decorated (of opening.Refused s) lit))
-named_operand_step (NamedOperand-F.NamedOperand::Truth b) = named_literal (λ s. single (truth b))
+named_operand_step (NamedOperand-F.NamedOperand::Element el) = record { said = λ s. single (el.told s); draft = λ s. element_draft (el.tree s) }
+named_operand_step (NamedOperand-F.NamedOperand::Literal lit) = named_literal (λ s. literal lit)
+named_operand_step (NamedOperand-F.NamedOperand::Decorated lit of) = named_literal (λ s. decorated (of opening.Refused s) lit)
+named_operand_step (NamedOperand-F.NamedOperand::Truth b) = named_literal (λ s. truth b)
 named_operand_step (NamedOperand-F.NamedOperand::Table e f es) =
-    record {
-      said = λ s. table (e.said s ∷ f.said s ∷ in_scope s es);
-      tree = tabled (λ s. table (e.said s ∷ f.said s ∷ in_scope s es)) (e ∷ f ∷ es);
-    }
+    record { said = λ s. table (in_scope s (e ∷ f ∷ es)); draft = λ s. d.Table (item_drafts s (e ∷ f ∷ es)) }
 named_operand_step (NamedOperand-F.NamedOperand::DecoratedTable e es of) =
     record {
-      said = λ s. single (table_with_type (e.said s ∷ in_scope s es) (of opening.Refused s));
-      tree = tabled (λ s. single (table_with_type (e.said s ∷ in_scope s es) (of opening.Refused s))) (e ∷ es);
+      said = λ s. single (decorated_table s (e ∷ es) of);
+      draft = λ s. decorated_draft (decorated_table s (e ∷ es) of).kind (item_drafts s (e ∷ es));
     }
-named_operand_step (NamedOperand-F.NamedOperand::Call name es) = record { said = λ s. single (call s name es); tree = λ s wish. call_tree s name es }
+named_operand_step (NamedOperand-F.NamedOperand::Call name es) = record { said = λ s. single (call s name es); draft = λ s. call_draft s name es }
 
 -- ---- expressions
 
@@ -232,52 +291,48 @@ abbrev pub operands : Scope → List OperandView → List Said
 operands s [] = []
 operands s (o ∷ os) = o.said s ∷ operands s os
 
-abbrev pub operand_trees : Scope → Wish → List OperandView → List TypedExpr
-operand_trees s wish [] = []
-operand_trees s wish (o ∷ os) = o.tree s wish ∷ operand_trees s wish os
+abbrev pub operand_drafts : Scope → List OperandView → List Draft
+operand_drafts s [] = []
+operand_drafts s (o ∷ os) = o.draft s ∷ operand_drafts s os
 
 abbrev pub run_told : Scope → RunOperator → List OperandView → Told
 run_told s operator os = let xs = operands s os in after (own_faults xs) (operation (run_operator operator) (judged_all (terms xs)))
 
-unfoldable pub run_tree : Scope → RunOperator → List OperandView → Kind → TypedExpr
-run_tree s operator os whole =
-    typed.Operation whole (run_operator operator) (operand_trees s (operand_wish (run_operator operator) whole (terms (operands s os))) os)
-
 abbrev pub pair_told : PairOperator → Said → Said → Told
 pair_told operator x y = after (x.faults ++ y.faults) (pair operator (judged x.term) (judged y.term))
-
-unfoldable pub pair_tree : Scope → PairOperator → OperandView → OperandView → Kind → TypedExpr
-pair_tree s operator a b whole =
-    let xs = (a.said s).term ∷ (b.said s).term ∷ [] in
-    typed.Operation whole (pair_operator operator) (a.tree s (left_wish operator whole xs) ∷ b.tree s (right_wish operator whole xs) ∷ [])
 
 abbrev pub conversion : Written → Said → Told
 conversion to x = after (to.faults ++ x.faults) (converted to.found (judged x.term))
 
--- an expression with parts: what is told of it, and its tree once it is known what it is
-abbrev pub composed : (Scope → Told) → (Scope → Kind → TypedExpr) → ExprView
-composed told tree_of =
-    record { name = None; said = λ s. single (told s); tree = λ s wish. tree_of s (kind_under wish (single (told s)).term) }
+-- an expression with parts, of which this is told, and its draft
+abbrev pub composed : (Scope → Told) → (Scope → Draft) → ExprView
+composed told draft = record { name = None; said = λ s. single (told s); draft = draft }
 
--- no type is wanted of the operand of a conversion
-abbrev pub conversion_of : (Scope → Told) → (Scope → Wish → TypedExpr) → ExprView
-conversion_of told operand = composed told (λ s whole. typed.Converted whole (operand s None))
+-- a conversion of what is said so, with this draft
+abbrev pub conversion_of : (Scope → Written) → (Scope → Said) → (Scope → Draft) → ExprView
+conversion_of to said draft = composed (λ s. conversion (to s) (said s)) (λ s. conversion_draft (to s).found (judged (said s).term) (draft s))
 
 abbrev pub expr_step : Expr-F BoundsView BuiltinView DimensionView ElementView ExprView NamedOperandView OperandView TypeFormView → ExprView
-expr_step (Expr-F.Alone o) = record { name = o.name; said = o.whole; tree = o.whole_tree }
-expr_step (Expr-F.Run operator a b os) = composed (λ s. run_told s operator (a ∷ b ∷ os)) (λ s. run_tree s operator (a ∷ b ∷ os))
-expr_step (Expr-F.Pair a operator b) = composed (λ s. pair_told operator (a.said s) (b.said s)) (λ s. pair_tree s operator a b)
+expr_step (Expr-F.Alone o) = record { name = o.name; said = o.whole; draft = o.whole_draft }
+expr_step (Expr-F.Run operator a b os) =
+    composed
+    (λ s. run_told s operator (a ∷ b ∷ os))
+    (λ s. operation_draft (run_told s operator (a ∷ b ∷ os)).kind (run_operator operator) (operand_drafts s (a ∷ b ∷ os)))
+expr_step (Expr-F.Pair a operator b) =
+    composed
+    (λ s. pair_told operator (a.said s) (b.said s))
+    (λ s. pair_draft (pair_told operator (a.said s) (b.said s)).kind operator (a.draft s) (b.draft s))
 expr_step (Expr-F.Applied operator o) =
-    composed (λ s. let x = o.said s in after x.faults (applied operator o.digits (judged x.term))) (λ s whole. applied_tree operator o.digits whole (o.tree s))
-expr_step (Expr-F.Converted ds builtin o) =
-    conversion_of (λ s. conversion (array_over (each opening.Refused s ds) (builtin s)) (o.said s)) o.tree
+    composed
+    (λ s. let x = o.said s in after x.faults (applied operator o.digits (judged x.term)))
+    (λ s. let x = judged (o.said s).term in applied_draft (applied operator o.digits x).kind operator o.digits x (o.draft s))
+expr_step (Expr-F.Converted ds builtin o) = conversion_of (λ s. array_over (each opening.Refused s ds) (builtin s)) o.said o.draft
 expr_step (Expr-F.ArrayConverted d ds name o) =
-    conversion_of
-    (λ s. conversion (array_over_more (d opening.Refused s) (each opening.Refused s ds) (data_type name (visible s name))) (o.said s))
-    o.tree
-expr_step (Expr-F.Expr::Named name o) = conversion_of (λ s. conversion (array_over [] (data_type name (visible s name))) (o.said s)) o.tree
+    conversion_of (λ s. array_over_more (d opening.Refused s) (each opening.Refused s ds) (data_type name (visible s name))) o.said o.draft
+expr_step (Expr-F.Expr::Named name o) = conversion_of (λ s. array_over [] (data_type name (visible s name))) o.said o.draft
 expr_step (Expr-F.Most extreme of) =
-    composed (λ s. let to = of opening.Refused s in after to.faults (extreme_of extreme to.found)) (λ s whole. typed.Literal whole)
+    let told = λ (s : Scope). let to = of opening.Refused s in after to.faults (extreme_of extreme to.found) in
+    composed told (λ s. literal_draft (told s).kind)
 
 -- ---- of trees
 

@@ -1,18 +1,18 @@
-//! What is known of a single expression, element or type under the names in scope: its faults, and what it is before a
-//! type is wanted of it.
+//! What is read of a single expression, element or type under the names in scope: its faults, what it is before a type is
+//! wanted of it, and its typed tree as far as that does not depend on its place.
 #![tactic(auto)]
 
+mod drafting;
 mod literals;
 mod operation;
 mod parts;
+mod reading;
 pub mod rows;
+mod selecting;
 mod walk;
 mod written;
 
-pub use operation::{pair_operator, plain, run_operator};
-pub use parts::{digits_of, name_alone, named, only, segment_of};
-pub use walk::{
-    bounds, call, data_form, element, expression, named_operand, operand, subscript, table_item,
-    type_form, whole_element, whole_operand,
-};
-pub use written::{Extent, Opening};
+pub use reading::{Reading, Readings};
+pub use selecting::ElementReading;
+pub use walk::{data_form, element, expression, type_form};
+pub use written::Opening;

@@ -1,9 +1,14 @@
-ghost use Rattle.std.specs.Prelude.{◌≡◌, ◌∷◌, ◌++◌, [], IfOk, OnOk};
+ghost use Rattle.std.specs.Prelude.{◌≡◌, ◌∷◌, ◌++◌, [], IfOk, OnOk, Some};
+ghost use Rattle.occ_expr.specs.Drafts.{applied_draft as drafted_applied, conversion_draft, converted_to as drafted_converted, front_draft as drafted_front, negated_draft as drafted_negated, operation_draft as drafted_operation, pair_draft as drafted_pair, shift_draft as drafted_shift, size_draft as drafted_size};
 ghost use Rattle.occ_expr.specs.Operations.{another_has_fault as another, applied as told_applied, converted as told_converted, each_among as told_each, extreme_of as told_extreme, in_front as told_in_front, limit_of as the_limit, negated as told_negated, number_of_faulty as the_number_of_faulty, operation as told_operation, pair as told_pair, pair_operator as meaning_of_pair, plain as told_plain, run_operator as meaning_of_run, shift as told_shift};
 ghost use Rattle.occ_operands.specs.Operators.{all_faults, kinds as kinds_of};
-ghost use Rattle.occ_tables.specs.Terms.{judged, judged_all};
+ghost use Rattle.occ_tables.specs.Measuring.{sized as told_sized};
+ghost use Rattle.occ_tables.specs.Terms.{and_then, judged, judged_all};
+ghost use Rattle.occ_tables.specs.declared.term.Term.TheVariants as v;
 
-use occ_base::{Fault, Items, Shared, one_item};
+use super::drafting::{converted_draft, front_draft, operation_draft, shift_draft, size_draft};
+use super::reading::{Reading, Readings, faulty_reading, literal_reading};
+use occ_base::{Fault, Items, Shared};
 use occ_expression_forms::{Extreme, MonadicOperator, PairOperator, RunOperator};
 use occ_operands::{
     Free, Kind, applied as applied_to, converted as converted_to, operated, shifted,
@@ -103,7 +108,7 @@ fn each_among(
 
 /// What the operator gives on the operands between which it stands.
 #[tactic(auto, unfolding(crate::specs::Operations::operation))]
-pub fn operation(
+fn operation(
     alloc: Global,
     operands: &[Term],
     operator: Operator,
@@ -125,7 +130,7 @@ pub fn plain(alloc: Global, term: &Term, faults: &mut Items<Fault>) -> Result<Ki
     operand(alloc, term, false, faults)
 }
 
-/// A shift by a count.
+/// What is known of a shift by a count.
 fn shift(
     alloc: Global,
     operator: Operator,
@@ -141,42 +146,83 @@ fn shift(
     shifted(alloc, operator, &kind, &count, faults)
 }
 
+/// A shift by a count.
+fn shift_of(
+    alloc: Global,
+    operator: Operator,
+    shifted: Reading,
+    count: Reading,
+    faults: &mut Items<Fault>,
+) -> Result<Reading, AllocError>
+    ensures term { IfOk result (λ whole. whole.term ≡ v.Single (told_shift operator (judged shifted.term) (judged count.term)).kind) }
+    ensures draft { IfOk result (λ whole. whole.draft ≡ drafted_shift (told_shift operator (judged shifted.term) (judged count.term)).kind operator shifted.draft count.draft) }
+    ensures faults { OnOk result (faults.new ≡ faults.old ++ (told_shift operator (judged shifted.term) (judged count.term)).faults) }
+{
+    let kind = shift(alloc, operator, &shifted.term, &count.term, faults)?;
+    let draft = shift_draft(alloc, &kind, operator, shifted.draft, &count.draft)?;
+    Ok(Reading {
+        term: Term::Single(kind),
+        draft,
+    })
+}
+
+/// Operands with one operator between each two.
+pub fn operation_of(
+    alloc: Global,
+    operands: Readings,
+    operator: Operator,
+    faults: &mut Items<Fault>,
+) -> Result<Reading, AllocError>
+    ensures term { IfOk result (λ whole. whole.term ≡ v.Single (told_operation operator (judged_all operands.terms)).kind) }
+    ensures draft { IfOk result (λ whole. whole.draft ≡ drafted_operation (told_operation operator (judged_all operands.terms)).kind operator operands.drafts) }
+    ensures faults { OnOk result (faults.new ≡ faults.old ++ (told_operation operator (judged_all operands.terms)).faults) }
+{
+    let kind = operation(alloc, operands.terms.as_slice(), operator, faults)?;
+    let draft = operation_draft(alloc, &kind, operator, operands.drafts)?;
+    Ok(Reading {
+        term: Term::Single(kind),
+        draft,
+    })
+}
+
 /// Two operands with an operator between them.
 fn operation_of_two(
     alloc: Global,
-    first: Term,
+    first: Reading,
     operator: Operator,
-    second: Term,
+    second: Reading,
     faults: &mut Items<Fault>,
-) -> Result<Kind, AllocError>
-    ensures kind { IfOk result (λ kind. kind ≡ (told_operation operator (judged_all (first ∷ second ∷ []))).kind) }
-    ensures faults { OnOk result (faults.new ≡ faults.old ++ (told_operation operator (judged_all (first ∷ second ∷ []))).faults) }
+) -> Result<Reading, AllocError>
+    ensures term { IfOk result (λ whole. whole.term ≡ v.Single (told_operation operator (judged_all (first.term ∷ second.term ∷ []))).kind) }
+    ensures draft { IfOk result (λ whole. whole.draft ≡ drafted_operation (told_operation operator (judged_all (first.term ∷ second.term ∷ []))).kind operator (first.draft ∷ second.draft ∷ [])) }
+    ensures faults { OnOk result (faults.new ≡ faults.old ++ (told_operation operator (judged_all (first.term ∷ second.term ∷ []))).faults) }
 {
-    let mut operands = one_item(alloc, first)?;
+    let mut operands = Readings::one(alloc, first)?;
     operands.push(second)?;
-    operation(alloc, operands.as_slice(), operator, faults)
+    operation_of(alloc, operands, operator, faults)
 }
 
-/// What an operator gives on the two operands between which it stands.
-#[tactic(auto, unfolding(crate::specs::Operations::pair))]
+/// Two operands and what stands between them.
+#[tactic(auto, unfolding(crate::specs::Operations::pair, crate::specs::Drafts::pair_draft))]
 pub fn pair(
     alloc: Global,
-    first: Term,
+    first: Reading,
     operator: PairOperator,
-    second: Term,
+    second: Reading,
     faults: &mut Items<Fault>,
-) -> Result<Kind, AllocError>
-    ensures kind { IfOk result (λ kind. kind ≡ (told_pair operator (judged first) (judged second)).kind) }
-    ensures faults { OnOk result (faults.new ≡ faults.old ++ (told_pair operator (judged first) (judged second)).faults) }
+) -> Result<Reading, AllocError>
+    ensures term { IfOk result (λ whole. whole.term ≡ v.Single (told_pair operator (judged first.term) (judged second.term)).kind) }
+    ensures draft { IfOk result (λ whole. whole.draft ≡ drafted_pair (told_pair operator (judged first.term) (judged second.term)).kind operator first.draft second.draft) }
+    ensures faults { OnOk result (faults.new ≡ faults.old ++ (told_pair operator (judged first.term) (judged second.term)).faults) }
 {
     match operator {
-        PairOperator::ShiftLeft => shift(alloc, Operator::ShiftLeft, &first, &second, faults),
-        PairOperator::ShiftRight => shift(alloc, Operator::ShiftRight, &first, &second, faults),
+        PairOperator::ShiftLeft => shift_of(alloc, Operator::ShiftLeft, first, second, faults),
+        PairOperator::ShiftRight => shift_of(alloc, Operator::ShiftRight, first, second, faults),
         _ => operation_of_two(alloc, first, pair_operator(operator), second, faults),
     }
 }
 
-/// What an operator gives on the operand behind it.
+/// What is known of an operand behind an operator.
 fn in_front(
     alloc: Global,
     operator: Monadic,
@@ -190,68 +236,125 @@ fn in_front(
     applied_to(operator, &kind, faults)
 }
 
+/// An operator in front of an operand.
+fn front_of(
+    alloc: Global,
+    operator: Monadic,
+    operand: Reading,
+    faults: &mut Items<Fault>,
+) -> Result<Reading, AllocError>
+    ensures term { IfOk result (λ whole. whole.term ≡ v.Single (told_in_front operator (judged operand.term)).kind) }
+    ensures draft { IfOk result (λ whole. whole.draft ≡ drafted_front (told_in_front operator (judged operand.term)).kind operator operand.draft) }
+    ensures faults { OnOk result (faults.new ≡ faults.old ++ (told_in_front operator (judged operand.term)).faults) }
+{
+    let kind = in_front(alloc, operator, &operand.term, faults)?;
+    let draft = front_draft(alloc, &kind, operator, operand.draft)?;
+    Ok(Reading {
+        term: Term::Single(kind),
+        draft,
+    })
+}
+
 /// `-` in front of an operand, which may be an integer in decimal digits.
 fn negated(
     alloc: Global,
-    term: &Term,
+    operand: Reading,
     digits: Option<u64>,
     faults: &mut Items<Fault>,
-) -> Result<Kind, AllocError>
-    ensures kind { IfOk result (λ kind. kind ≡ (told_negated digits (judged term.now)).kind) }
-    ensures faults { OnOk result (faults.new ≡ faults.old ++ (told_negated digits (judged term.now)).faults) }
+) -> Result<Reading, AllocError>
+    ensures term { IfOk result (λ whole. whole.term ≡ v.Single (told_negated digits (judged operand.term)).kind) }
+    ensures draft { IfOk result (λ whole. whole.draft ≡ drafted_negated (told_negated digits (judged operand.term)).kind digits operand.draft) }
+    ensures faults { OnOk result (faults.new ≡ faults.old ++ (told_negated digits (judged operand.term)).faults) }
 {
     match digits {
-        Some(n) => Ok(Kind::Free(Free::decimal(0 - i128::from(n)))),
-        None => in_front(alloc, Monadic::Negate, term, faults),
+        Some(n) => literal_reading(alloc, Kind::Free(Free::decimal(0 - i128::from(n)))),
+        None => front_of(alloc, Monadic::Negate, operand, faults),
     }
 }
 
-/// What an operator gives on the operand behind it, which may be an integer in decimal digits.
-#[tactic(auto, unfolding(crate::specs::Operations::applied))]
+/// `SIZE` of an operand.
+fn size_of(
+    alloc: Global,
+    operand: Reading,
+    faults: &mut Items<Fault>,
+) -> Result<Reading, AllocError>
+    ensures term { IfOk result (λ whole. whole.term ≡ v.Single (and_then (judged operand.term).alone told_sized).kind) }
+    ensures draft { IfOk result (λ whole. whole.draft ≡ drafted_size (and_then (judged operand.term).alone told_sized).kind (judged operand.term).alone.kind operand.draft) }
+    ensures faults { OnOk result (faults.new ≡ faults.old ++ (and_then (judged operand.term).alone told_sized).faults) }
+{
+    let of = alone(alloc, &operand.term, faults)?;
+    let kind = sized(alloc, &of, faults)?;
+    let draft = size_draft(alloc, &kind, &of, &operand.draft)?;
+    Ok(Reading {
+        term: Term::Single(kind),
+        draft,
+    })
+}
+
+/// An operator in front of an operand, which may be an integer in decimal digits.
+#[tactic(auto, unfolding(crate::specs::Operations::applied, crate::specs::Drafts::applied_draft))]
 pub fn applied(
     alloc: Global,
-    term: &Term,
+    operand: Reading,
     operator: MonadicOperator,
     digits: Option<u64>,
     faults: &mut Items<Fault>,
-) -> Result<Kind, AllocError>
-    ensures kind { IfOk result (λ kind. kind ≡ (told_applied operator digits (judged term.now)).kind) }
-    ensures faults { OnOk result (faults.new ≡ faults.old ++ (told_applied operator digits (judged term.now)).faults) }
+) -> Result<Reading, AllocError>
+    ensures term { IfOk result (λ whole. whole.term ≡ v.Single (told_applied operator digits (judged operand.term)).kind) }
+    ensures draft { IfOk result (λ whole. whole.draft ≡ drafted_applied (told_applied operator digits (judged operand.term)).kind operator digits (judged operand.term) operand.draft) }
+    ensures faults { OnOk result (faults.new ≡ faults.old ++ (told_applied operator digits (judged operand.term)).faults) }
 {
     match operator {
-        MonadicOperator::Negate => negated(alloc, term, digits, faults),
-        MonadicOperator::Minus => in_front(alloc, Monadic::Minus, term, faults),
-        MonadicOperator::BitNot | MonadicOperator::BitNotWord => {
-            in_front(alloc, Monadic::BitNot, term, faults)
-        }
-        MonadicOperator::Not => in_front(alloc, Monadic::Not, term, faults),
-        MonadicOperator::Size => {
-            let kind = alone(alloc, term, faults)?;
-            sized(alloc, &kind, faults)
-        }
+        MonadicOperator::Negate => negated(alloc, operand, digits, faults),
+        MonadicOperator::Minus => front_of(alloc, Monadic::Minus, operand, faults),
+        MonadicOperator::BitNot => front_of(alloc, Monadic::BitNot, operand, faults),
+        MonadicOperator::BitNotWord => front_of(alloc, Monadic::BitNot, operand, faults),
+        MonadicOperator::Not => front_of(alloc, Monadic::Not, operand, faults),
+        MonadicOperator::Size => size_of(alloc, operand, faults),
     }
 }
 
-/// A conversion of an operand to a type. Where that has a fault the operand is judged all the same.
-#[tactic(auto, unfolding(crate::specs::Operations::converted))]
-pub fn converted(
+/// A conversion of an operand to a type that has no fault.
+#[tactic(auto, unfolding(crate::specs::Operations::converted, crate::specs::Drafts::conversion_draft))]
+fn converted_as(
     alloc: Global,
-    term: &Term,
-    to: Option<Shared<OccType>>,
+    operand: Reading,
+    to: &Shared<OccType>,
     faults: &mut Items<Fault>,
-) -> Result<Kind, AllocError>
-    ensures kind { IfOk result (λ kind. kind ≡ (told_converted to (judged term.now)).kind) }
-    ensures faults { OnOk result (faults.new ≡ faults.old ++ (told_converted to (judged term.now)).faults) }
+) -> Result<Reading, AllocError>
+    ensures term { IfOk result (λ whole. whole.term ≡ v.Single (told_converted (Some to.now) (judged operand.term)).kind) }
+    ensures draft { IfOk result (λ whole. whole.draft ≡ conversion_draft (Some to.now) (judged operand.term) operand.draft) }
+    ensures faults { OnOk result (faults.new ≡ faults.old ++ (told_converted (Some to.now) (judged operand.term)).faults) }
 {
-    let Some(to) = to else {
-        alone(alloc, term, faults)?;
-        return Ok(Kind::Faulty);
-    };
-    let kind = plain(alloc, term, faults)?;
-    converted_to(alloc, &to, &kind, faults)
+    let of = plain(alloc, &operand.term, faults)?;
+    let kind = converted_to(alloc, to, &of, faults)?;
+    let draft = converted_draft(alloc, &kind, &of, &operand.draft)?;
+    Ok(Reading {
+        term: Term::Single(kind),
+        draft,
+    })
 }
 
-/// The greatest or the least value of a type, if that has no fault.
+/// A conversion of an operand to a type. Where that has a fault the operand is judged all the same.
+#[tactic(auto, unfolding(crate::specs::Operations::converted, crate::specs::Drafts::conversion_draft))]
+pub fn converted(
+    alloc: Global,
+    operand: Reading,
+    to: Option<Shared<OccType>>,
+    faults: &mut Items<Fault>,
+) -> Result<Reading, AllocError>
+    ensures term { IfOk result (λ whole. whole.term ≡ v.Single (told_converted to (judged operand.term)).kind) }
+    ensures draft { IfOk result (λ whole. whole.draft ≡ conversion_draft to (judged operand.term) operand.draft) }
+    ensures faults { OnOk result (faults.new ≡ faults.old ++ (told_converted to (judged operand.term)).faults) }
+{
+    let Some(to) = to else {
+        alone(alloc, &operand.term, faults)?;
+        return Ok(faulty_reading());
+    };
+    converted_as(alloc, operand, &to, faults)
+}
+
+/// What is known of the greatest or the least value of a type, if that has no fault.
 #[tactic(auto, unfolding(crate::specs::Operations::extreme_of))]
 pub fn extreme_of(
     extreme: Extreme,

@@ -2,7 +2,9 @@
 
 ghost use Rattle.std.specs.Prelude.{◌≡◌, ◌∷◌, ◌++◌, [], IfOk, IfSome, MatchOption, None, OnOk, Some};
 ghost use Rattle.occ_expr.specs.Operations.{converted as told_converted};
-ghost use Rattle.occ_expr.specs.Parts.{call_faults as told_call_faults, named as told_named, only as only_one, segment_of as told_segment, table_as as told_table};
+ghost use Rattle.occ_expr.specs.Drafts.{conversion_draft};
+ghost use Rattle.occ_typed.specs.declared.draft.Draft.TheVariants as d;
+ghost use Rattle.occ_expr.specs.Parts.{bounds_alone as told_bounds, call_faults as told_call_faults, named as told_named, only as only_one, segment_of as told_segment, table_as as told_table};
 ghost use Rattle.occ_expr.specs.Views.{digits_of as digits, element_view, expr_view, expr_views, operand_view};
 ghost use Rattle.occ_names.specs.Lookup.{element as told_element};
 ghost use Rattle.occ_names.specs.Visible.{visible};
@@ -10,11 +12,13 @@ ghost use Rattle.occ_tables.specs.Terms.{judged};
 ghost use Rattle.occ_tables.specs.declared.term.Term.TheVariants as v;
 
 use super::operation::converted;
-use occ_base::{Code, Fault, Items, Name, Shared, one_item, tell};
+use super::reading::{Reading, Readings};
+use occ_base::{Code, Fault, Items, Name, Shared, tell};
 use occ_expression_forms::{Element, Expr, Literal, Operand};
 use occ_names::{Meaning, Scope, element};
 use occ_operands::{Kind, known};
-use occ_tables::{BoundTerms, Term, decorated_table, segment};
+use occ_tables::{BoundTerms, Term, alone, decorated_table, segment};
+use occ_typed::Draft;
 use occ_types::OccType;
 use std::alloc::{AllocError, Global};
 
@@ -138,7 +142,32 @@ pub fn named(
     }
 }
 
-/// A segment of what is known; none of what is faulty.
+/// What is told of each bound by itself.
+fn bounds_alone(
+    alloc: Global,
+    bounds: &BoundTerms,
+    faults: &mut Items<Fault>,
+) -> Result<(), AllocError>
+    ensures { OnOk result (faults.new ≡ faults.old ++ told_bounds bounds.now) }
+{
+    match bounds {
+        BoundTerms::From(base) => {
+            alone(alloc, base, faults)?;
+            Ok(())
+        }
+        BoundTerms::For(count) => {
+            alone(alloc, count, faults)?;
+            Ok(())
+        }
+        BoundTerms::FromFor(base, count) => {
+            alone(alloc, base, faults)?;
+            alone(alloc, count, faults)?;
+            Ok(())
+        }
+    }
+}
+
+/// A segment of what is known; of what is faulty none, and each bound is judged by itself.
 #[tactic(auto, unfolding(crate::specs::Parts::segment_of))]
 pub fn segment_of(
     alloc: Global,
@@ -151,8 +180,14 @@ pub fn segment_of(
 {
     match kind {
         Kind::Known(found) => segment(alloc, bounds, found.of.get(), faults),
-        Kind::Faulty => Ok(Kind::Faulty),
-        Kind::Free(_) => Ok(Kind::Faulty),
+        Kind::Faulty => {
+            bounds_alone(alloc, bounds, faults)?;
+            Ok(Kind::Faulty)
+        }
+        Kind::Free(_) => {
+            bounds_alone(alloc, bounds, faults)?;
+            Ok(Kind::Faulty)
+        }
     }
 }
 
@@ -176,13 +211,18 @@ pub fn table_as(
 /// The conversion of a table of one item.
 pub fn converted_table(
     alloc: Global,
-    item: Term,
+    item: Reading,
     to: Shared<OccType>,
     faults: &mut Items<Fault>,
-) -> Result<Kind, AllocError>
-    ensures kind { IfOk result (λ kind. kind ≡ (told_converted (Some to) (judged (v.Table (item ∷ [])))).kind) }
-    ensures faults { OnOk result (faults.new ≡ faults.old ++ (told_converted (Some to) (judged (v.Table (item ∷ [])))).faults) }
+) -> Result<Reading, AllocError>
+    ensures term { IfOk result (λ whole. whole.term ≡ v.Single (told_converted (Some to) (judged (v.Table (item.term ∷ [])))).kind) }
+    ensures draft { IfOk result (λ whole. whole.draft ≡ conversion_draft (Some to) (judged (v.Table (item.term ∷ []))) (d.Table (item.draft ∷ []))) }
+    ensures faults { OnOk result (faults.new ≡ faults.old ++ (told_converted (Some to) (judged (v.Table (item.term ∷ [])))).faults) }
 {
-    let items = one_item(alloc, item)?;
-    converted(alloc, &Term::Table(items), Some(to), faults)
+    let items = Readings::one(alloc, item)?;
+    let table = Reading {
+        term: Term::Table(items.terms),
+        draft: Draft::Table(items.drafts),
+    };
+    converted(alloc, table, Some(to), faults)
 }

@@ -1,17 +1,27 @@
-ghost use Rattle.std.specs.Prelude.{◌≡◌, ◌∷◌, ◌++◌, [], IfOk, OnOk};
+ghost use Rattle.std.specs.Prelude.{◌≡◌, ◌++◌, [], IfOk, OnOk};
 ghost use Rattle.occ_expr.specs.declared.written.Opening.TheVariants as opened;
 ghost use Rattle.occ_names.specs.Lookup.{data_type as data_type_named};
 ghost use Rattle.occ_names.specs.Visible.{visible};
 ghost use Rattle.occ_types.specs.Fits.{unnamed as no_names};
 ghost use Rattle.occ_types.specs.View.{fields_in};
-ghost use Rattle.occ_expr.specs.Parts.{call as told_call, component as told_component, behind_a_fault as told_behind_a_fault, function_call as told_function_call, in_scope, named_element as told_named_element, own_faults, part as told_part, subscript as told_subscript, subscripts as told_subscripts, table_item as said_item, table_items as said_items, terms as terms_of, whole_element as told_whole_element};
-ghost use Rattle.occ_expr.specs.Views.{bounds_view, builtin_view, dimension_view, dimension_views, each, element_view, expr_view, expr_views, named_operand_view, operand_view, operand_views, operands as said_operands, type_form_view};
+ghost use Rattle.occ_expr.specs.Parts.{call as told_call, table_as as told_table, component as told_component, behind_a_fault as told_behind_a_fault, function_call as told_function_call, in_scope, named_element as told_named_element, own_faults, part as told_part, subscript as told_subscript, subscripts as told_subscripts, table_item as said_item, table_items as said_items, terms as terms_of, whole_element as told_whole_element};
+ghost use Rattle.occ_expr.specs.Drafts.{decorated_draft as drafted_table, item_draft as drafted_item};
+ghost use Rattle.occ_tables.specs.declared.term.Term.TheVariants as v;
+ghost use Rattle.occ_typed.specs.declared.draft.Draft.TheVariants as d;
+ghost use Rattle.occ_expr.specs.Elements.{component_at as selected_component, place_tree as the_place, selector as the_selector, selector_in, selectors as the_selectors, with_selectors};
+ghost use Rattle.occ_expr.specs.Views.{bounds_view, call_draft as drafted_call, item_drafts as drafted_items, named_tree as the_named_tree, operand_drafts as drafted_operands, whole_element_draft as drafted_whole, builtin_view, dimension_view, dimension_views, each, element_view, expr_view, expr_views, named_operand_view, operand_view, operand_views, operands as said_operands, type_form_view};
 ghost use Rattle.occ_expr.specs.Written.{all_spanning_faults, array_behind as written_behind, array_over as written_over, channel as written_channel, data_form as written_data, extents as the_extents};
 
+use super::drafting::{decorated_draft, item_draft};
 use super::literals::{decorated_literal, literal, truth};
-use super::operation::{applied, converted, extreme_of, operation, pair, plain, run_operator};
+use super::operation::{applied, converted, extreme_of, operation_of, pair, plain, run_operator};
 use super::parts::{
     converted_table, digits_of, name_alone, named, only, segment_of, table_as, tell_call,
+};
+use super::reading::{Reading, Readings, faulty_reading, literal_reading};
+use super::selecting::{
+    BoundsReading, ElementReading, component_at, components_of, element_of, element_reading,
+    field_selector, for_of, from_for_of, from_of, part_of, place_tree, with_selector,
 };
 use super::written::{
     Extent, Opening, array_type, base_type, count_type, counted_type, extent_of, named_channel,
@@ -23,11 +33,12 @@ use occ_expression_forms::{
 };
 use occ_names::{Meaning, Scope, carries, data_type};
 use occ_operands::{Kind, field, subscripted};
-use occ_tables::{BoundTerms, Term, item, size};
+use occ_tables::{BoundTerms, Term, alone, is_no_item, item, size};
+use occ_typed::{Draft, Selector};
 use occ_types::{OccType, Protocol, fields_of, unnamed};
 use std::alloc::{AllocError, Global};
 
-/// What is known of an expression before a type is wanted of it.
+/// What is read of an expression before a type is wanted of it.
 #[tactic(auto, using(crate::proofs::Views::expr_rules))]
 #[cycle(walk)]
 pub fn expression(
@@ -35,31 +46,29 @@ pub fn expression(
     expr: &Expr,
     scope: &Scope,
     faults: &mut Items<Fault>,
-) -> Result<Term, AllocError>
-    ensures term { IfOk result (λ term. term ≡ ((expr_view expr.now).said scope.now).term) }
+) -> Result<Reading, AllocError>
+    ensures term { IfOk result (λ whole. whole.term ≡ ((expr_view expr.now).said scope.now).term) }
+    ensures draft { IfOk result (λ whole. whole.draft ≡ (expr_view expr.now).draft scope.now) }
     ensures faults { OnOk result (faults.new ≡ faults.old ++ ((expr_view expr.now).said scope.now).faults) }
 {
     match expr {
         Expr::Alone(behind) => whole_operand(alloc, behind.get(), scope, faults),
         Expr::Run(operator, first, second, more) => {
             let first = operand(alloc, first.get(), scope, faults)?;
-            let mut terms = one_item(alloc, first)?;
+            let mut readings = Readings::one(alloc, first)?;
             let second = operand(alloc, second.get(), scope, faults)?;
-            terms.push(second)?;
-            operands(alloc, more.as_slice(), scope, &mut terms, faults)?;
-            let kind = operation(alloc, terms.as_slice(), run_operator(*operator), faults)?;
-            Ok(Term::Single(kind))
+            readings.push(second)?;
+            operands(alloc, more.as_slice(), scope, &mut readings, faults)?;
+            operation_of(alloc, readings, run_operator(*operator), faults)
         }
         Expr::Pair(first, operator, second) => {
             let first = operand(alloc, first.get(), scope, faults)?;
             let second = operand(alloc, second.get(), scope, faults)?;
-            let kind = pair(alloc, first, *operator, second, faults)?;
-            Ok(Term::Single(kind))
+            pair(alloc, first, *operator, second, faults)
         }
         Expr::Applied(operator, behind) => {
-            let term = operand(alloc, behind.get(), scope, faults)?;
-            let kind = applied(alloc, &term, *operator, digits_of(behind.get()), faults)?;
-            Ok(Term::Single(kind))
+            let reading = operand(alloc, behind.get(), scope, faults)?;
+            applied(alloc, reading, *operator, digits_of(behind.get()), faults)
         }
         Expr::Converted(dims, word, behind) => {
             let of = builtin(alloc, word.get(), scope, faults)?;
@@ -72,9 +81,8 @@ pub fn expression(
                 scope,
                 faults,
             )?;
-            let term = operand(alloc, behind.get(), scope, faults)?;
-            let kind = converted(alloc, &term, to, faults)?;
-            Ok(Term::Single(kind))
+            let reading = operand(alloc, behind.get(), scope, faults)?;
+            converted(alloc, reading, to, faults)
         }
         Expr::ArrayConverted(first, more, name, behind) => {
             let of = data_type(alloc, scope, name, faults)?;
@@ -89,64 +97,68 @@ pub fn expression(
                 scope,
                 faults,
             )?;
-            let term = operand(alloc, behind.get(), scope, faults)?;
-            let kind = converted(alloc, &term, to, faults)?;
-            Ok(Term::Single(kind))
+            let reading = operand(alloc, behind.get(), scope, faults)?;
+            converted(alloc, reading, to, faults)
         }
         Expr::Named(name, behind) => {
             let to = named_type(alloc, name, scope, faults)?;
-            let term = named_operand(alloc, behind.get(), scope, faults)?;
-            let kind = converted(alloc, &term, to, faults)?;
-            Ok(Term::Single(kind))
+            let reading = named_operand(alloc, behind.get(), scope, faults)?;
+            converted(alloc, reading, to, faults)
         }
         Expr::Most(extreme, of) => {
             let of = type_form(alloc, of.get(), Opening::Refused, scope, faults)?;
             let kind = extreme_of(*extreme, of, faults)?;
-            Ok(Term::Single(kind))
+            literal_reading(alloc, kind)
         }
     }
 }
 
-/// What is known of an operand beside an operator, or behind a type.
+/// What is read of an operand beside an operator, or behind a type.
 #[tactic(auto, using(crate::proofs::Views::operand_rules))]
 #[cycle(walk)]
-pub fn operand(
+fn operand(
     alloc: Global,
     operand: &Operand,
     scope: &Scope,
     faults: &mut Items<Fault>,
-) -> Result<Term, AllocError>
-    ensures term { IfOk result (λ term. term ≡ ((operand_view operand.now).said scope.now).term) }
+) -> Result<Reading, AllocError>
+    ensures term { IfOk result (λ whole. whole.term ≡ ((operand_view operand.now).said scope.now).term) }
+    ensures draft { IfOk result (λ whole. whole.draft ≡ (operand_view operand.now).draft scope.now) }
     ensures faults { OnOk result (faults.new ≡ faults.old ++ ((operand_view operand.now).said scope.now).faults) }
 {
     match operand {
-        Operand::Element(part) => Ok(Term::Single(element(alloc, part.get(), scope, faults)?)),
-        Operand::Literal(written) => Ok(Term::Single(literal(alloc, written, faults)?)),
+        Operand::Element(part) => {
+            let read = element(alloc, part.get(), scope, faults)?;
+            element_reading(alloc, read)
+        }
+        Operand::Literal(written) => {
+            let kind = literal(alloc, written, faults)?;
+            literal_reading(alloc, kind)
+        }
         Operand::Decorated(written, of) => {
             let to = type_form(alloc, of.get(), Opening::Refused, scope, faults)?;
             let kind = decorated_literal(alloc, written, to, faults)?;
-            Ok(Term::Single(kind))
+            literal_reading(alloc, kind)
         }
-        Operand::Truth(value) => Ok(Term::Single(truth(alloc, *value)?)),
+        Operand::Truth(value) => {
+            let kind = truth(alloc, *value)?;
+            literal_reading(alloc, kind)
+        }
         Operand::Parens(expr) => expression(alloc, expr.get(), scope, faults),
         Operand::Table(first, more) => {
             let first = table_item(alloc, first.get(), scope, faults)?;
-            let mut items = one_item(alloc, first)?;
+            let mut items = Readings::one(alloc, first)?;
             more_items(alloc, more.as_slice(), scope, &mut items, faults)?;
-            Ok(Term::Table(items))
+            Ok(table_reading(items))
         }
         Operand::DecoratedTable(first, more, of) => {
             let first = table_item(alloc, first.get(), scope, faults)?;
-            let mut items = one_item(alloc, first)?;
+            let mut items = Readings::one(alloc, first)?;
             more_items(alloc, more.as_slice(), scope, &mut items, faults)?;
             let to = type_form(alloc, of.get(), Opening::Refused, scope, faults)?;
-            let kind = table_as(alloc, items.as_slice(), to, faults)?;
-            Ok(Term::Single(kind))
+            decorated_reading(alloc, items, to, faults)
         }
-        Operand::Call(name, exprs) => {
-            let kind = call(alloc, name, exprs.as_slice(), scope, faults)?;
-            Ok(Term::Single(kind))
-        }
+        Operand::Call(name, exprs) => call(alloc, name, exprs.as_slice(), scope, faults),
     }
 }
 
@@ -156,38 +168,35 @@ fn operands(
     alloc: Global,
     operands: &[Operand],
     scope: &Scope,
-    terms: &mut Items<Term>,
+    readings: &mut Readings,
     faults: &mut Items<Fault>,
 ) -> Result<(), AllocError>
-    ensures terms { OnOk result (terms.new ≡ terms.old ++ terms_of (said_operands scope.now (operand_views operands.now))) }
+    ensures terms { OnOk result (readings.new.terms ≡ readings.old.terms ++ terms_of (said_operands scope.now (operand_views operands.now))) }
+    ensures drafts { OnOk result (readings.new.drafts ≡ readings.old.drafts ++ drafted_operands scope.now (operand_views operands.now)) }
     ensures faults { OnOk result (faults.new ≡ faults.old ++ own_faults (said_operands scope.now (operand_views operands.now))) }
 {
     for one in operands {
-        let term = operand(alloc, one, scope, faults)?;
-        terms.push(term)?;
+        let reading = operand(alloc, one, scope, faults)?;
+        readings.push(reading)?;
     }
     Ok(())
 }
 
-/// What is known of an operand that is a whole expression.
+/// What is read of an operand that is a whole expression.
 #[tactic(auto, using(crate::proofs::Views::operand_rules))]
 #[cycle(walk)]
-pub fn whole_operand(
+fn whole_operand(
     alloc: Global,
     whole: &Operand,
     scope: &Scope,
     faults: &mut Items<Fault>,
-) -> Result<Term, AllocError>
-    ensures term { IfOk result (λ term. term ≡ ((operand_view whole.now).whole scope.now).term) }
+) -> Result<Reading, AllocError>
+    ensures term { IfOk result (λ read. read.term ≡ ((operand_view whole.now).whole scope.now).term) }
+    ensures draft { IfOk result (λ read. read.draft ≡ (operand_view whole.now).whole_draft scope.now) }
     ensures faults { OnOk result (faults.new ≡ faults.old ++ ((operand_view whole.now).whole scope.now).faults) }
 {
     match whole {
-        Operand::Element(part) => Ok(Term::Single(whole_element(
-            alloc,
-            part.get(),
-            scope,
-            faults,
-        )?)),
+        Operand::Element(part) => whole_element(alloc, part.get(), scope, faults),
         Operand::Literal(_) => operand(alloc, whole, scope, faults),
         Operand::Decorated(_, _) => operand(alloc, whole, scope, faults),
         Operand::Truth(_) => operand(alloc, whole, scope, faults),
@@ -198,64 +207,105 @@ pub fn whole_operand(
     }
 }
 
-/// What is known of an operand that stands directly behind the name of a type.
+/// What is read of an operand that stands directly behind the name of a type.
 #[tactic(auto, using(crate::proofs::Views::named_operand_rules))]
 #[cycle(walk)]
-pub fn named_operand(
+fn named_operand(
     alloc: Global,
     operand: &NamedOperand,
     scope: &Scope,
     faults: &mut Items<Fault>,
-) -> Result<Term, AllocError>
-    ensures term { IfOk result (λ term. term ≡ ((named_operand_view operand.now).said scope.now).term) }
+) -> Result<Reading, AllocError>
+    ensures term { IfOk result (λ whole. whole.term ≡ ((named_operand_view operand.now).said scope.now).term) }
+    ensures draft { IfOk result (λ whole. whole.draft ≡ (named_operand_view operand.now).draft scope.now) }
     ensures faults { OnOk result (faults.new ≡ faults.old ++ ((named_operand_view operand.now).said scope.now).faults) }
 {
     match operand {
-        NamedOperand::Element(part) => Ok(Term::Single(element(alloc, part.get(), scope, faults)?)),
-        NamedOperand::Literal(written) => Ok(Term::Single(literal(alloc, written, faults)?)),
+        NamedOperand::Element(part) => {
+            let read = element(alloc, part.get(), scope, faults)?;
+            element_reading(alloc, read)
+        }
+        NamedOperand::Literal(written) => {
+            let kind = literal(alloc, written, faults)?;
+            literal_reading(alloc, kind)
+        }
         NamedOperand::Decorated(written, of) => {
             let to = type_form(alloc, of.get(), Opening::Refused, scope, faults)?;
             let kind = decorated_literal(alloc, written, to, faults)?;
-            Ok(Term::Single(kind))
+            literal_reading(alloc, kind)
         }
-        NamedOperand::Truth(value) => Ok(Term::Single(truth(alloc, *value)?)),
+        NamedOperand::Truth(value) => {
+            let kind = truth(alloc, *value)?;
+            literal_reading(alloc, kind)
+        }
         NamedOperand::Table(first, second, more) => {
             let first = table_item(alloc, first.get(), scope, faults)?;
-            let mut items = one_item(alloc, first)?;
+            let mut items = Readings::one(alloc, first)?;
             let second = table_item(alloc, second.get(), scope, faults)?;
             items.push(second)?;
             more_items(alloc, more.as_slice(), scope, &mut items, faults)?;
-            Ok(Term::Table(items))
+            Ok(table_reading(items))
         }
         NamedOperand::DecoratedTable(first, more, of) => {
             let first = table_item(alloc, first.get(), scope, faults)?;
-            let mut items = one_item(alloc, first)?;
+            let mut items = Readings::one(alloc, first)?;
             more_items(alloc, more.as_slice(), scope, &mut items, faults)?;
             let to = type_form(alloc, of.get(), Opening::Refused, scope, faults)?;
-            let kind = table_as(alloc, items.as_slice(), to, faults)?;
-            Ok(Term::Single(kind))
+            decorated_reading(alloc, items, to, faults)
         }
         NamedOperand::Call(name, arguments) => {
-            let kind = call(alloc, name, arguments.as_slice(), scope, faults)?;
-            Ok(Term::Single(kind))
+            call(alloc, name, arguments.as_slice(), scope, faults)
         }
     }
 }
 
+/// A table of these items without its type.
+fn table_reading(items: Readings) -> Reading
+    ensures term { result.term ≡ v.Table items.terms }
+    ensures draft { result.draft ≡ d.Table items.drafts }
+{
+    Reading {
+        term: Term::Table(items.terms),
+        draft: Draft::Table(items.drafts),
+    }
+}
+
+/// A table of these items with its type, if that has no fault.
+fn decorated_reading(
+    alloc: Global,
+    items: Readings,
+    to: Option<Shared<OccType>>,
+    faults: &mut Items<Fault>,
+) -> Result<Reading, AllocError>
+    ensures term { IfOk result (λ whole. whole.term ≡ v.Single (told_table to items.terms).kind) }
+    ensures draft { IfOk result (λ whole. whole.draft ≡ drafted_table (told_table to items.terms).kind items.drafts) }
+    ensures faults { OnOk result (faults.new ≡ faults.old ++ (told_table to items.terms).faults) }
+{
+    let kind = table_as(alloc, items.terms.as_slice(), to, faults)?;
+    let draft = decorated_draft(alloc, &kind, items.drafts.as_slice())?;
+    Ok(Reading {
+        term: Term::Single(kind),
+        draft,
+    })
+}
+
 /// An expression as an item of a table.
-#[tactic(auto, unfolding(crate::specs::Parts::table_item))]
+#[tactic(auto, unfolding(crate::specs::Parts::table_item, crate::specs::Drafts::item_draft))]
 #[cycle(walk)]
-pub fn table_item(
+fn table_item(
     alloc: Global,
     expr: &Expr,
     scope: &Scope,
     faults: &mut Items<Fault>,
-) -> Result<Term, AllocError>
-    ensures term { IfOk result (λ term. term ≡ (said_item ((expr_view expr.now).said scope.now)).term) }
+) -> Result<Reading, AllocError>
+    ensures term { IfOk result (λ whole. whole.term ≡ (said_item ((expr_view expr.now).said scope.now)).term) }
+    ensures draft { IfOk result (λ whole. whole.draft ≡ drafted_item ((expr_view expr.now).said scope.now).term ((expr_view expr.now).draft scope.now)) }
     ensures faults { OnOk result (faults.new ≡ faults.old ++ (said_item ((expr_view expr.now).said scope.now)).faults) }
 {
-    let term = expression(alloc, expr, scope, faults)?;
-    item(term, faults)
+    let read = expression(alloc, expr, scope, faults)?;
+    let draft = item_draft(is_no_item(&read.term), read.draft);
+    let term = item(read.term, faults)?;
+    Ok(Reading { term, draft })
 }
 
 /// More items of a table.
@@ -264,10 +314,11 @@ fn more_items(
     alloc: Global,
     exprs: &[Expr],
     scope: &Scope,
-    items: &mut Items<Term>,
+    items: &mut Readings,
     faults: &mut Items<Fault>,
 ) -> Result<(), AllocError>
-    ensures items { OnOk result (items.new ≡ items.old ++ terms_of (said_items (in_scope scope.now (expr_views exprs.now)))) }
+    ensures terms { OnOk result (items.new.terms ≡ items.old.terms ++ terms_of (said_items (in_scope scope.now (expr_views exprs.now)))) }
+    ensures drafts { OnOk result (items.new.drafts ≡ items.old.drafts ++ drafted_items scope.now (expr_views exprs.now)) }
     ensures faults { OnOk result (faults.new ≡ faults.old ++ own_faults (said_items (in_scope scope.now (expr_views exprs.now)))) }
 {
     for expr in exprs {
@@ -293,7 +344,7 @@ fn arguments(
     Ok(())
 }
 
-/// A call that converts nothing.
+/// What is told of a call that converts nothing.
 #[tactic(auto, unfolding(crate::specs::Parts::function_call))]
 #[cycle(walk)]
 fn function_call(
@@ -302,36 +353,36 @@ fn function_call(
     exprs: &[Expr],
     scope: &Scope,
     faults: &mut Items<Fault>,
-) -> Result<Kind, AllocError>
-    ensures kind { IfOk result (λ kind. kind ≡ (told_function_call scope.now name.now (expr_views exprs.now)).kind) }
-    ensures faults { OnOk result (faults.new ≡ faults.old ++ (told_function_call scope.now name.now (expr_views exprs.now)).faults) }
+) -> Result<(), AllocError>
+    ensures { OnOk result (faults.new ≡ faults.old ++ (told_function_call scope.now name.now (expr_views exprs.now)).faults) }
 {
     tell_call(alloc, scope, name, faults)?;
-    arguments(alloc, exprs, scope, faults)?;
-    Ok(Kind::Faulty)
+    arguments(alloc, exprs, scope, faults)
 }
 
-/// What is known of a call: it is a conversion, if it names a data type and has one argument.
-#[tactic(auto, unfolding(crate::specs::Parts::call))]
+/// What is read of a call: it is a conversion, if it names a data type and has one argument.
+#[tactic(auto, unfolding(crate::specs::Parts::call, crate::specs::Parts::function_call, crate::specs::Views::call_draft))]
 #[cycle(walk)]
-pub fn call(
+fn call(
     alloc: Global,
     name: &Name,
     exprs: &[Expr],
     scope: &Scope,
     faults: &mut Items<Fault>,
-) -> Result<Kind, AllocError>
-    ensures kind { IfOk result (λ kind. kind ≡ (told_call scope.now name.now (expr_views exprs.now)).kind) }
+) -> Result<Reading, AllocError>
+    ensures term { IfOk result (λ whole. whole.term ≡ v.Single (told_call scope.now name.now (expr_views exprs.now)).kind) }
+    ensures draft { IfOk result (λ whole. whole.draft ≡ drafted_call scope.now name.now (expr_views exprs.now)) }
     ensures faults { OnOk result (faults.new ≡ faults.old ++ (told_call scope.now name.now (expr_views exprs.now)).faults) }
 {
     let (Some(Meaning::Type(to)), Some(expr)) = (scope.find(name), only(exprs)) else {
-        return function_call(alloc, name, exprs, scope, faults);
+        function_call(alloc, name, exprs, scope, faults)?;
+        return Ok(faulty_reading());
     };
-    let term = expression(alloc, expr, scope, faults)?;
-    converted(alloc, &term, Some(to.share()?), faults)
+    let read = expression(alloc, expr, scope, faults)?;
+    converted(alloc, read, Some(to.share()?), faults)
 }
 
-/// What is known of an element.
+/// What is read of an element.
 #[tactic(auto, using(crate::proofs::Views::element_rules))]
 #[cycle(walk)]
 pub fn element(
@@ -339,44 +390,59 @@ pub fn element(
     element: &Element,
     scope: &Scope,
     faults: &mut Items<Fault>,
-) -> Result<Kind, AllocError>
-    ensures kind { IfOk result (λ kind. kind ≡ ((element_view element.now).told scope.now).kind) }
+) -> Result<ElementReading, AllocError>
+    ensures kind { IfOk result (λ read. read.kind ≡ ((element_view element.now).told scope.now).kind) }
+    ensures tree { IfOk result (λ read. read.tree ≡ (element_view element.now).tree scope.now) }
     ensures faults { OnOk result (faults.new ≡ faults.old ++ ((element_view element.now).told scope.now).faults) }
 {
     match element {
         Element::Named(name, exprs) => named_element(alloc, name, exprs.as_slice(), scope, faults),
         Element::Segment(whole, part, exprs) => {
-            let kind = self::element(alloc, whole.get(), scope, faults)?;
-            let bounds = bounds(alloc, part.get(), scope, faults)?;
-            let kind = segment_of(alloc, &kind, &bounds, faults)?;
-            subscripts(alloc, exprs.as_slice(), kind, scope, faults)
+            let inner = self::element(alloc, whole.get(), scope, faults)?;
+            let read = bounds(alloc, part.get(), components_of(&inner.kind), scope, faults)?;
+            let segment = segment_of(alloc, &inner.kind, &read.bounds, faults)?;
+            let selectors = Some(Items::new(alloc));
+            let (kind, behind) = subscripts(
+                alloc,
+                exprs.as_slice(),
+                segment,
+                selectors,
+                scope,
+                faults,
+            )?;
+            let tree = part_of(&kind, inner.tree, read.selector, behind)?;
+            Ok(ElementReading { kind, tree })
         }
     }
 }
 
-/// What is known of an element that is a whole expression: the conversion of a table of one item, if it names a data
-/// type and has one subscript.
+/// What is read of an element that is a whole expression: the conversion of a table of one item, if it names a data type
+/// and has one subscript.
 #[tactic(auto, using(crate::proofs::Views::element_rules))]
 #[cycle(walk)]
-pub fn whole_element(
+fn whole_element(
     alloc: Global,
     whole: &Element,
     scope: &Scope,
     faults: &mut Items<Fault>,
-) -> Result<Kind, AllocError>
-    ensures kind { IfOk result (λ kind. kind ≡ ((element_view whole.now).whole scope.now).kind) }
+) -> Result<Reading, AllocError>
+    ensures term { IfOk result (λ read. read.term ≡ v.Single ((element_view whole.now).whole scope.now).kind) }
+    ensures draft { IfOk result (λ read. read.draft ≡ (element_view whole.now).whole_draft scope.now) }
     ensures faults { OnOk result (faults.new ≡ faults.old ++ ((element_view whole.now).whole scope.now).faults) }
 {
     match whole {
         Element::Named(name, exprs) => {
             whole_named_element(alloc, name, exprs.as_slice(), scope, faults)
         }
-        Element::Segment(_, _, _) => element(alloc, whole, scope, faults),
+        Element::Segment(_, _, _) => {
+            let read = element(alloc, whole, scope, faults)?;
+            element_reading(alloc, read)
+        }
     }
 }
 
 /// The same of a name with subscripts.
-#[tactic(auto, unfolding(crate::specs::Parts::whole_element, crate::specs::Parts::table_item))]
+#[tactic(auto, unfolding(crate::specs::Parts::whole_element, crate::specs::Parts::table_item, crate::specs::Views::whole_element_draft))]
 #[cycle(walk)]
 fn whole_named_element(
     alloc: Global,
@@ -384,19 +450,21 @@ fn whole_named_element(
     exprs: &[Expr],
     scope: &Scope,
     faults: &mut Items<Fault>,
-) -> Result<Kind, AllocError>
-    ensures kind { IfOk result (λ kind. kind ≡ (told_whole_element scope.now name.now (expr_views exprs.now)).kind) }
+) -> Result<Reading, AllocError>
+    ensures term { IfOk result (λ read. read.term ≡ v.Single (told_whole_element scope.now name.now (expr_views exprs.now)).kind) }
+    ensures draft { IfOk result (λ read. read.draft ≡ drafted_whole scope.now name.now (expr_views exprs.now)) }
     ensures faults { OnOk result (faults.new ≡ faults.old ++ (told_whole_element scope.now name.now (expr_views exprs.now)).faults) }
 {
     let (Some(Meaning::Type(to)), Some(expr)) = (scope.find(name), only(exprs)) else {
-        return named_element(alloc, name, exprs, scope, faults);
+        let read = named_element(alloc, name, exprs, scope, faults)?;
+        return element_reading(alloc, read);
     };
     let item = table_item(alloc, expr, scope, faults)?;
     converted_table(alloc, item, to.share()?, faults)
 }
 
 /// A name with subscripts.
-#[tactic(auto, unfolding(crate::specs::Parts::named_element))]
+#[tactic(auto, using(crate::proofs::Fields::front_rules), unfolding(crate::specs::Parts::named_element, crate::specs::Views::named_tree))]
 #[cycle(walk)]
 fn named_element(
     alloc: Global,
@@ -404,53 +472,70 @@ fn named_element(
     exprs: &[Expr],
     scope: &Scope,
     faults: &mut Items<Fault>,
-) -> Result<Kind, AllocError>
-    ensures kind { IfOk result (λ kind. kind ≡ (told_named_element scope.now name.now (expr_views exprs.now)).kind) }
+) -> Result<ElementReading, AllocError>
+    ensures kind { IfOk result (λ read. read.kind ≡ (told_named_element scope.now name.now (expr_views exprs.now)).kind) }
+    ensures tree { IfOk result (λ read. read.tree ≡ the_named_tree scope.now name.now (expr_views exprs.now)) }
     ensures faults { OnOk result (faults.new ≡ faults.old ++ (told_named_element scope.now name.now (expr_views exprs.now)).faults) }
 {
-    let kind = named(alloc, scope, name, faults)?;
-    subscripts(alloc, exprs, kind, scope, faults)
+    let whole = named(alloc, scope, name, faults)?;
+    let selectors = Some(Items::new(alloc));
+    let (kind, selectors) = subscripts(alloc, exprs, whole, selectors, scope, faults)?;
+    let referent = scope.referent(name)?;
+    let tree = element_of(&kind, name.copied(alloc)?, referent, selectors)?;
+    Ok(ElementReading { kind, tree })
 }
 
-/// What subscripts select of what is known.
+/// What subscripts select of what is known, and how, behind those that selected it.
+#[tactic(auto, using(crate::proofs::Fields::front_rules))]
 #[cycle(walk)]
 fn subscripts(
     alloc: Global,
     exprs: &[Expr],
     mut kind: Kind,
+    mut selectors: Option<Items<Selector>>,
     scope: &Scope,
     faults: &mut Items<Fault>,
-) -> Result<Kind, AllocError>
-    ensures kind { IfOk result (λ found. found ≡ (told_subscripts scope.now (expr_views exprs.now) kind).kind) }
+) -> Result<(Kind, Option<Items<Selector>>), AllocError>
+    ensures kind { IfOk result (λ r. r.0 ≡ (told_subscripts scope.now (expr_views exprs.now) kind).kind) }
+    ensures selectors { IfOk result (λ r. r.1 ≡ with_selectors selectors (the_selectors scope.now (expr_views exprs.now) kind)) }
     ensures faults { OnOk result (faults.new ≡ faults.old ++ (told_subscripts scope.now (expr_views exprs.now) kind).faults) }
 {
     for expr in exprs {
-        kind = subscript(alloc, expr, &kind, scope, faults)?;
+        let (next, selector) = subscript(alloc, expr, &kind, scope, faults)?;
+        selectors = with_selector(selectors, selector)?;
+        kind = next;
     }
-    Ok(kind)
+    Ok((kind, selectors))
 }
 
-/// What a subscript selects of what is known.
-#[tactic(auto, unfolding(crate::specs::Parts::subscript))]
+/// What a subscript selects of what is known, and how.
+#[tactic(auto, unfolding(crate::specs::Parts::subscript, crate::specs::Elements::selector))]
 #[cycle(walk)]
-pub fn subscript(
+fn subscript(
     alloc: Global,
     expr: &Expr,
     whole: &Kind,
     scope: &Scope,
     faults: &mut Items<Fault>,
-) -> Result<Kind, AllocError>
-    ensures kind { IfOk result (λ kind. kind ≡ (told_subscript scope.now (expr_view expr.now) whole.now).kind) }
+) -> Result<(Kind, Option<Selector>), AllocError>
+    ensures kind { IfOk result (λ r. r.0 ≡ (told_subscript scope.now (expr_view expr.now) whole.now).kind) }
+    ensures selector { IfOk result (λ r. r.1 ≡ the_selector scope.now (expr_view expr.now) whole.now) }
     ensures faults { OnOk result (faults.new ≡ faults.old ++ (told_subscript scope.now (expr_view expr.now) whole.now).faults) }
 {
     match whole {
         Kind::Known(found) => part(alloc, expr, found.of.get(), scope, faults),
-        Kind::Faulty => behind_a_fault(alloc, expr, scope, faults),
-        Kind::Free(_) => behind_a_fault(alloc, expr, scope, faults),
+        Kind::Faulty => {
+            behind_a_fault(alloc, expr, scope, faults)?;
+            Ok((Kind::Faulty, None))
+        }
+        Kind::Free(_) => {
+            behind_a_fault(alloc, expr, scope, faults)?;
+            Ok((Kind::Faulty, None))
+        }
     }
 }
 
-/// A subscript of what has a fault: a name alone may be a field's, and is not looked up.
+/// What is told of a subscript of what has a fault: a name alone may be a field's, and is not looked up.
 #[tactic(auto, unfolding(crate::specs::Parts::behind_a_fault))]
 #[cycle(walk)]
 fn behind_a_fault(
@@ -458,17 +543,17 @@ fn behind_a_fault(
     expr: &Expr,
     scope: &Scope,
     faults: &mut Items<Fault>,
-) -> Result<Kind, AllocError>
-    ensures kind { IfOk result (λ kind. kind ≡ (told_behind_a_fault scope.now (expr_view expr.now)).kind) }
-    ensures faults { OnOk result (faults.new ≡ faults.old ++ (told_behind_a_fault scope.now (expr_view expr.now)).faults) }
+) -> Result<(), AllocError>
+    ensures { OnOk result (faults.new ≡ faults.old ++ told_behind_a_fault scope.now (expr_view expr.now)) }
 {
     if name_alone(expr).is_none() {
-        expression(alloc, expr, scope, faults)?;
+        let read = expression(alloc, expr, scope, faults)?;
+        alone(alloc, &read.term, faults)?;
     }
-    Ok(Kind::Faulty)
+    Ok(())
 }
 
-/// What a subscript selects of a value of a type: of a record, a field.
+/// What a subscript selects of a value of a type, and how: of a record, a field.
 #[tactic(auto, unfolding(crate::specs::Parts::part))]
 #[cycle(walk)]
 fn part(
@@ -477,17 +562,20 @@ fn part(
     of: &OccType,
     scope: &Scope,
     faults: &mut Items<Fault>,
-) -> Result<Kind, AllocError>
-    ensures kind { IfOk result (λ kind. kind ≡ (told_part scope.now of.now (fields_in (no_names of.now)) (expr_view expr.now)).kind) }
+) -> Result<(Kind, Option<Selector>), AllocError>
+    ensures kind { IfOk result (λ r. r.0 ≡ (told_part scope.now of.now (fields_in (no_names of.now)) (expr_view expr.now)).kind) }
+    ensures selector { IfOk result (λ r. r.1 ≡ selector_in scope.now (expr_view expr.now) (fields_in (no_names of.now)) (expr_view expr.now).name) }
     ensures faults { OnOk result (faults.new ≡ faults.old ++ (told_part scope.now of.now (fields_in (no_names of.now)) (expr_view expr.now)).faults) }
 {
     let (Some(fields), Some(name)) = (fields_of(unnamed(of)), name_alone(expr)) else {
         return component(alloc, expr, of, scope, faults);
     };
-    field(alloc, fields, name, faults)
+    let kind = field(alloc, fields, name, faults)?;
+    let selector = field_selector(alloc, name, fields)?;
+    Ok((kind, selector))
 }
 
-/// What a subscript selects that is no name of a field.
+/// What a subscript selects that is no name of a field, and how.
 #[tactic(auto, unfolding(crate::specs::Parts::component))]
 #[cycle(walk)]
 fn component(
@@ -496,40 +584,58 @@ fn component(
     of: &OccType,
     scope: &Scope,
     faults: &mut Items<Fault>,
-) -> Result<Kind, AllocError>
-    ensures kind { IfOk result (λ kind. kind ≡ (told_component scope.now of.now (expr_view expr.now)).kind) }
+) -> Result<(Kind, Option<Selector>), AllocError>
+    ensures kind { IfOk result (λ r. r.0 ≡ (told_component scope.now of.now (expr_view expr.now)).kind) }
+    ensures selector { IfOk result (λ r. r.1 ≡ selected_component (the_place scope.now (expr_view expr.now))) }
     ensures faults { OnOk result (faults.new ≡ faults.old ++ (told_component scope.now of.now (expr_view expr.now)).faults) }
 {
-    let term = expression(alloc, expr, scope, faults)?;
-    let index = plain(alloc, &term, faults)?;
-    subscripted(alloc, of, &index, faults)
+    let read = expression(alloc, expr, scope, faults)?;
+    let index = plain(alloc, &read.term, faults)?;
+    let kind = subscripted(alloc, of, &index, faults)?;
+    let selector = component_at(alloc, &read.draft)?;
+    Ok((kind, selector))
 }
 
-/// The bounds of a segment.
+/// The bounds of a segment of so many components, if their number is known.
 #[tactic(auto, using(crate::proofs::Views::bounds_rules))]
 #[cycle(walk)]
-pub fn bounds(
+fn bounds(
     alloc: Global,
     bounds: &Bounds,
+    components: Option<u32>,
     scope: &Scope,
     faults: &mut Items<Fault>,
-) -> Result<BoundTerms, AllocError>
-    ensures bounds { IfOk result (λ found. found ≡ ((bounds_view bounds.now).said scope.now).bounds) }
+) -> Result<BoundsReading, AllocError>
+    ensures bounds { IfOk result (λ read. read.bounds ≡ ((bounds_view bounds.now).said scope.now).bounds) }
+    ensures selector { IfOk result (λ read. read.selector ≡ (bounds_view bounds.now).tree scope.now components) }
     ensures faults { OnOk result (faults.new ≡ faults.old ++ ((bounds_view bounds.now).said scope.now).faults) }
 {
     match bounds {
         Bounds::From(base) => {
             let base = expression(alloc, base.get(), scope, faults)?;
-            Ok(BoundTerms::From(base))
+            let selector = from_of(components, place_tree(alloc, &base.draft)?);
+            Ok(BoundsReading {
+                bounds: BoundTerms::From(base.term),
+                selector,
+            })
         }
         Bounds::For(count) => {
             let count = expression(alloc, count.get(), scope, faults)?;
-            Ok(BoundTerms::For(count))
+            let selector = for_of(components, place_tree(alloc, &count.draft)?);
+            Ok(BoundsReading {
+                bounds: BoundTerms::For(count.term),
+                selector,
+            })
         }
         Bounds::FromFor(base, count) => {
             let base = expression(alloc, base.get(), scope, faults)?;
             let count = expression(alloc, count.get(), scope, faults)?;
-            Ok(BoundTerms::FromFor(base, count))
+            let first = place_tree(alloc, &base.draft)?;
+            let selector = from_for_of(components, first, place_tree(alloc, &count.draft)?);
+            Ok(BoundsReading {
+                bounds: BoundTerms::FromFor(base.term, count.term),
+                selector,
+            })
         }
     }
 }
@@ -645,8 +751,8 @@ fn dimension(
     match dimension {
         Dimension::Open => open_dimension(opening, faults),
         Dimension::Sized(expr) => {
-            let term = expression(alloc, expr.get(), scope, faults)?;
-            let count = size(alloc, &term, faults)?;
+            let read = expression(alloc, expr.get(), scope, faults)?;
+            let count = size(alloc, &read.term, faults)?;
             Ok(extent_of(count))
         }
     }

@@ -1,4 +1,3 @@
-pub mod Order
 pub mod Faults
 pub mod Nesting
 pub mod Scope

@@ -97,7 +97,7 @@ abbrev pub use_faults : List ℕ → ℕ → List Use → Use → List Diag
 use_faults file line us u =
     if is_written u.access && list_any (shares u) us then error_at file line code.U1 (Some u.name) ∷ [] else []
 
--- at a PAR on the line with these uses
+-- at a PAR on that line of the file, with these uses
 abbrev pub par_faults : List ℕ → ℕ → List Use → List Diag
 par_faults file line us = flat_map (use_faults file line us) us
 
@@ -118,7 +118,7 @@ abbrev pub is_par : Line → Bool
 is_par l = is_par_body l.body
 
 -- at each PAR of the lines, the first of which is at the place
-abbrev pub parallel_faults : List ℕ → List Specification → ℕ → List Line → List Diag
-parallel_faults file ss place [] = []
-parallel_faults file ss place (l ∷ ls) =
-    (if is_par l then par_faults file l.line (uses ss [] (place + 1) (under l.depth ls)) else []) ++ parallel_faults file ss (place + 1) ls
+abbrev pub parallel_faults : List Specification → ℕ → List Line → List Diag
+parallel_faults ss place [] = []
+parallel_faults ss place (l ∷ ls) =
+    (if is_par l then par_faults l.file l.line (uses ss [] (place + 1) (under l.depth ls)) else []) ++ parallel_faults ss (place + 1) ls

@@ -8,7 +8,7 @@ use Rattle.occ_first.specs.declared.scope.Sort.TheVariants as sort
 use Rattle.occ_first.specs.declared.scope.Specification.{Specification}
 
 abbrev pub of_form : ℕ → Form → Line
-of_form d f = record { line = 1; depth = d; body = body.Form f }
+of_form d f = record { file = []; line = 1; depth = d; body = body.Form f }
 
 abbrev pub skip_at : ℕ → Line
 skip_at d = of_form d form.Skip

@@ -236,7 +236,7 @@ body_of (held.Form f) = known (form_of f)
 body_of other = body.Other
 
 abbrev pub line_of : ExpandedLine → Line
-line_of l = record { line = l.line; depth = l.depth; body = body_of l.body }
+line_of l = record { file = l.file; line = l.line; depth = l.depth; body = body_of l.body }
 
 -- the lines as the first sublanguage has them
 abbrev pub lines_of : List ExpandedLine → List Line

@@ -1,17 +1,18 @@
-//! The diagnostics of a unit in the first sublanguage: faults of lines, shape, names and the parallel rule. A
-//! private part of occheck, used by its crate of scripts alone.
+//! What the lines of a unit tell in the first sublanguage: lines that it does not have, and the parallel rule. A
+//! private part of the check of a unit.
 #![tactic(auto)]
 
 mod faults;
 mod line;
 mod mention;
 mod nesting;
-mod order;
 mod parallel;
 mod rows;
 mod scope;
 mod unit;
 mod view;
 
-pub use rows::{item_rows, order_law, under_rows, visible_rows};
-pub use unit::diagnostics;
+pub use line::Line;
+pub use rows::{item_rows, under_rows, visible_rows};
+pub use unit::find_known_faults;
+pub use view::lines_view;

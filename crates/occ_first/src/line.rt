@@ -1,4 +1,4 @@
-use occ_base::{Items, Name};
+use occ_base::{FileName, Items, Name};
 
 /// A variable, whole or at a subscript.
 #[derive(Drop)]
@@ -56,7 +56,9 @@ pub enum Body {
 /// A line as the first sublanguage has it.
 #[derive(Drop)]
 pub struct Line {
-    /// The line of the text on which it begins, from 1.
+    /// The file in which it stands.
+    pub file: FileName,
+    /// The line of that file on which it begins, from 1.
     pub line: u32,
     /// The number of levels that it stands in.
     pub depth: u64,

@@ -218,11 +218,10 @@ fn is_par(line: &Line) -> bool
 /// The diagnostics of the parallel rule.
 pub fn find_parallel_faults(
     alloc: Global,
-    file: FileName,
     specifications: &[Specification],
     lines: &[Line],
 ) -> Result<Items<Diag>, AllocError>
-    ensures { IfOk result (λ found. found ≡ parallel_faults file specifications.now 0 lines.now) }
+    ensures { IfOk result (λ found. found ≡ parallel_faults specifications.now 0 lines.now) }
 {
     let mut found = Items::new(alloc);
     let mut place = 0;
@@ -231,7 +230,7 @@ pub fn find_parallel_faults(
         place += 1;
         if is_par(line) {
             let uses = find_uses(alloc, specifications, place, under(line.depth, behind))?;
-            add_par_faults(alloc, file, line.line, uses.as_slice(), &mut found)?;
+            add_par_faults(alloc, line.file, line.line, uses.as_slice(), &mut found)?;
         }
         rest = behind;
     }

@@ -1,9 +1,5 @@
 //! Worked rows of the definitions.
-ghost use Rattle.std.specs.List.Sorted.{IsStrictlySortedBy};
-ghost use Rattle.occ_base.specs.Order.{diag_order};
-ghost use Rattle.occ_base.specs.declared.diag.Diag.{Diag};
-ghost use Rattle.occ_first.specs.Order.{in_order};
-ghost use Rattle.std.specs.Prelude.{◌≡◌, [], ◌∷◌, List, None, Some, codes};
+ghost use Rattle.std.specs.Prelude.{◌≡◌, [], ◌∷◌, None, Some, codes};
 ghost use Rattle.occ_first.specs.Nesting.{under};
 ghost use Rattle.occ_first.specs.Samples.{close_at, head_at, int_at, seq_at, skip_at, variable_to};
 ghost use Rattle.occ_first.specs.Scope.{rest_of_item, visible};
@@ -28,10 +24,4 @@ pub fn visible_rows()
     ensures behind { visible (codes "x") 4 (variable_to (codes "x") 1 9 ∷ variable_to (codes "x") 2 4 ∷ []) ≡ Some (variable_to (codes "x") 1 9) }
     ensures before { visible (codes "x") 0 (variable_to (codes "x") 1 9 ∷ []) ≡ None }
     ensures other { visible (codes "y") 3 (variable_to (codes "x") 1 9 ∷ []) ≡ None }
-{}
-
-/// The law of the order: whatever was found, in order each diagnostic stands below those after it, and so once.
-#[tactic(auto, using(crate::proofs::Rising::in_order_rises))]
-pub fn order_law()
-    ensures rising { (ds : List Diag) → IsStrictlySortedBy diag_order (in_order ds) }
 {}

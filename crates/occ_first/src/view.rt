@@ -357,6 +357,7 @@ fn line_view(alloc: Global, line: &ExpandedLine) -> Result<Line, AllocError>
 {
     let body = body_view(alloc, &line.body)?;
     Ok(Line {
+        file: line.file,
         line: line.line,
         depth: line.depth,
         body,
@@ -364,7 +365,7 @@ fn line_view(alloc: Global, line: &ExpandedLine) -> Result<Line, AllocError>
 }
 
 /// The lines, as the first sublanguage has them.
-pub fn view(alloc: Global, lines: &[ExpandedLine]) -> Result<Items<Line>, AllocError>
+pub fn lines_view(alloc: Global, lines: &[ExpandedLine]) -> Result<Items<Line>, AllocError>
     ensures { IfOk result (λ r. r ≡ lines_of lines.now) }
 {
     let mut found = Items::new(alloc);

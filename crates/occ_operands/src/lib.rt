@@ -13,4 +13,4 @@ pub use kind::{Free, Kind, Known, Outcome};
 pub use operate::{applied, is_faulty, operand_type, operated, shifted, type_in};
 pub use part::{field, subscripted};
 pub use settle::{int, known, landed, number, settled};
-pub use want::{converted, wanted};
+pub use want::{converted, fitted, wanted};

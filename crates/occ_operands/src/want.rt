@@ -9,7 +9,11 @@ use occ_types::{OccType, Primitive, Value, alike, as_primitive, base_of, convert
 use std::alloc::{AllocError, Global};
 
 /// A settled operand must be of the type.
-fn fitted(of: &Shared<OccType>, kind: &Kind, faults: &mut Items<Fault>) -> Result<Kind, AllocError>
+pub fn fitted(
+    of: &Shared<OccType>,
+    kind: &Kind,
+    faults: &mut Items<Fault>,
+) -> Result<Kind, AllocError>
     ensures kind { IfOk result (λ fitted. fitted ≡ (fitting of.now kind.now).kind) }
     ensures faults { OnOk result (faults.new ≡ faults.old ++ (fitting of.now kind.now).faults) }
 {

@@ -11,3 +11,5 @@ pub mod Over
 pub mod Opened
 pub mod Running
 pub mod Std
+pub mod Alone
+pub mod Shown

@@ -16,7 +16,8 @@ use Rattle.occ_lines.specs.declared.text.TextFault.{TextFault}
 use Rattle.occ_lines.specs.declared.text.TextFault.TheVariants as text
 use Rattle.occ_forms.specs.Prepared.{IsPrepared, Prepared}
 use Rattle.occ_forms.specs.declared.source.SourceLine.{SourceLine}
-use Rattle.occ_first.specs.Diagnostics.{diagnostics_of}
+use Rattle.occ_project.specs.declared.reads.Read.{Read}
+use Rattle.occ_report.specs.Checks.{diags}
 use Rattle.occ_script.specs.Script.{Command}
 use Rattle.occ_script.specs.Script.Command.{Open, Take, Finish, Report}
 
@@ -137,11 +138,15 @@ progress_finished w Checked = Checked
 abbrev pub finished : ℕ → Opened → Opened
 finished w o = with_progress o (progress_finished w o.progress)
 
+-- a project in which this file alone is open
+abbrev pub one_file : List ℕ → Prepared → List Read
+one_file file source = record { name = file; revision = 1; source = Some source } ∷ []
+
 -- the diagnostics that a report shows of a unit, none where it is pending
 abbrev pub shown : Opened → Progress → Option (List Diag)
 shown o Waiting = None
 shown o (Taken w) = None
-shown o Checked = Some (diagnostics_of o.name o.source)
+shown o Checked = Some (diags (one_file o.name o.source) o.name)
 
 abbrev pub diag_text : Diag → List ℕ
 diag_text d = told (codes "  " ++ diag_line d)

@@ -4,10 +4,12 @@ ghost use Rattle.occ_script.specs.inside.Board.{IsKept, IsOutcomeOf, board_seen,
 ghost use Rattle.occ_script.specs.Machine.{finish_answer, finished, opened_text, reported_errors, shown as shown_of, take_answer, taken};
 
 use super::answer::{line, line_naming};
+use super::job::job;
 use super::report::{has_error, unit_report};
-use occ_base::{Diag, FileName, Items, Shared};
-use occ_first::diagnostics;
+use occ_base::{Diag, FileName, Shared};
+use occ_check::{Outcome, check};
 use occ_forms::Source;
+use occ_report::laws::input_law;
 use std::alloc::{AllocError, Global};
 
 /// How far the check of the open file has come.
@@ -17,8 +19,8 @@ pub enum Progress {
     Waiting,
     /// This worker has its job.
     Taken(u8),
-    /// Its outcome is kept: these are its diagnostics in order.
-    Checked(Items<Diag>),
+    /// Its outcome is kept.
+    Checked(Outcome),
 }
 
 /// The open file.
@@ -106,20 +108,24 @@ pub fn check_job(
     alloc: Global,
     opened: &Option<OpenFile>,
     worker: u8,
-) -> Result<Option<Items<Diag>>, AllocError>
+) -> Result<Option<Outcome>, AllocError>
+    requires { IsKept opened.now }
     ensures { IfOk result (λ outcome. IsOutcomeOf worker opened.now outcome) }
 {
     match opened {
         Some(file) if has_job(file, worker) => {
-            let outcome = diagnostics(alloc, file.name, &file.source)?;
-            Ok(Some(outcome))
+            let job = job(alloc, file.name, &file.source)?;
+            match check(alloc, job) {
+                Ok(outcome) => Ok(Some(outcome)),
+                Err((_job, refused)) => Err(refused),
+            }
         }
         _ => Ok(None),
     }
 }
 
 /// The file, with the outcome of the worker's job if there is one.
-pub fn keep(opened: Option<OpenFile>, worker: u8, outcome: Option<Items<Diag>>) -> Option<OpenFile>
+pub fn keep(opened: Option<OpenFile>, worker: u8, outcome: Option<Outcome>) -> Option<OpenFile>
     requires kept { IsKept opened }
     requires outcome { IsOutcomeOf worker opened outcome }
     ensures kept { IsKept result }
@@ -131,7 +137,7 @@ pub fn keep(opened: Option<OpenFile>, worker: u8, outcome: Option<Items<Diag>>) 
         progress,
     } = opened?;
     let progress = match outcome {
-        Some(diags) => Progress::Checked(diags),
+        Some(outcome) => Progress::Checked(outcome),
         None => progress,
     };
     Some(OpenFile {
@@ -175,8 +181,9 @@ fn shown(opened: &OpenFile) -> Option<&[Diag]>
     requires { IsKept (Some opened.now) }
     ensures { shown_seen result ≡ shown_of (file_seen opened.now) (progress_seen opened.now.progress) }
 {
+    input_law();
     match &opened.progress {
-        Progress::Checked(diags) => Some(diags.as_slice()),
+        Progress::Checked(outcome) => Some(outcome.diags()),
         _ => None,
     }
 }

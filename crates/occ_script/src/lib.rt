@@ -11,6 +11,7 @@ mod command;
 mod devices;
 mod file;
 mod input;
+mod job;
 mod lines;
 mod report;
 mod rows;

@@ -12,7 +12,7 @@ use Rattle.occ_operands.specs.Settling.{Told, fault_of, known, silent}
 use Rattle.occ_base.specs.Telling.{nameless}
 use Rattle.occ_base.specs.declared.fault.Fault.{Fault}
 use Rattle.occ_operands.specs.declared.kind.Kind.TheVariants as k
-use Rattle.occ_tables.specs.Terms.{Judged, alone, has_fault, under, with_items}
+use Rattle.occ_tables.specs.Terms.{Judged, alone, each_under, has_fault, with_items}
 
 -- ---- a character or a string, which is of a type of its own, as a value of a type that is this one but for names
 abbrev pub decorated : OccType → OccType → Option Value → Told
@@ -27,11 +27,11 @@ abbrev pub of_count : OccType → Option ℕ → ℕ → Told
 of_count to n items = if counts_fit n (Some items) then whole to else fault_of code.T2
 
 abbrev pub of_array : OccType → Option ℕ → OccType → List Judged → Told
-of_array to n of xs = let ys = map (under of) xs in with_items ys (of_count to n (length (kinds ys)))
+of_array to n of xs = let ys = each_under of xs in with_items ys (of_count to n (length (kinds ys)))
 
--- of a field whose line has a fault it is not known what it holds: nothing is wanted of its value
+-- of a field whose line has a fault it is not known what it holds: nothing is wanted of its value, and the table is faulty
 abbrev pub field_value : Field → Judged → Told
-field_value f x = if is_unknown f.of then (if x.is_faulty then silent else whole f.of) else x.under f.of
+field_value f x = if is_unknown f.of then silent else x.under f.of
 
 abbrev pub field_values : List Field → List Judged → List Told
 field_values [] xs = []

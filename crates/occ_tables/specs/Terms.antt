@@ -1,6 +1,6 @@
 -- What is told of an operand where a type is wanted of it or none is, and what is known of it then. A table takes its
 -- type item by item.
-use Rattle.std.specs.Prelude.{ℕ, nat_le, Bool, true, false, not, Option, Some, None, List, [], ◌∷◌, ◌++◌, length, map, if◌then◌else◌}
+use Rattle.std.specs.Prelude.{ℕ, nat_le, Bool, true, false, not, ◌||◌, Option, Some, None, List, [], ◌∷◌, ◌++◌, length, map, if◌then◌else◌}
 use Rattle.std.specs.List.{list_any}
 use Rattle.occ_base.specs.declared.code.Code.TheVariants as code
 use Rattle.occ_types.specs.Fits.{is_data}
@@ -9,12 +9,13 @@ use Rattle.occ_types.specs.declared.types.OccType.{OccType}
 use Rattle.occ_operands.specs.Operators.{all_faults, is_faulty, kinds}
 use Rattle.occ_operands.specs.Settling.{Told, fault_of, int, known, settled, silent}
 use Rattle.occ_base.specs.Telling.{nameless}
-use Rattle.occ_operands.specs.Wanting.{wanted}
+use Rattle.occ_operands.specs.Wanting.{fitted, wanted}
 use Rattle.occ_base.specs.declared.fault.Fault.{Fault}
 use Rattle.occ_operands.specs.declared.kind.Kind.{Kind}
 use Rattle.occ_operands.specs.declared.kind.Kind.TheVariants as k
 use Rattle.occ_tables.specs.Extents.{arrayed}
 use Rattle.occ_tables.specs.Merging.{merged}
+use Rattle.occ_tables.specs.declared.table.Settled.{Settled}
 use Rattle.occ_tables.specs.declared.term.Term.{Term, out-Term}
 use Rattle.occ_tables.specs.declared.term.Term.TheFolds.{fold-Term}
 use Rattle.occ_tables.specs.declared.term.Term.TheOpen.{Term-F}
@@ -70,14 +71,32 @@ joined of xs = with_items xs (items_type of (kinds xs))
 
 -- ---- operands, tables among them
 
--- an operand: whether it is free, whether something in it is faulty, what is told of it where no type is wanted, where
--- one is, and beside other operands, of which one has a fault or none has
+-- an operand: whether it is free, whether something in it is faulty, what is told of it where no type is wanted, where one
+-- is, before it is compared with it and then, and beside other operands, of which one has a fault or none has
 pub record Judged : Type 0 where
   pub is_free : Bool
   pub is_faulty : Bool
   pub alone : Told
+  pub settled : OccType → Settled
   pub under : OccType → Told
   pub beside : Bool → Told
+
+-- something in it is faulty once types are settled, not for being of another type than the one that is wanted
+abbrev pub is_faulty_settled : Settled → Bool
+is_faulty_settled y = y.is_faulty
+
+abbrev pub told_of : Settled → Told
+told_of y = record { faults = y.faults; kind = y.kind }
+
+abbrev pub settled_so : Told → Bool → Settled
+settled_so y is_faulty = record { faults = y.faults; kind = y.kind; is_faulty = is_faulty }
+
+-- what is faulty itself
+abbrev pub settled_itself : Told → Settled
+settled_itself y = settled_so y (is_faulty y.kind)
+
+abbrev pub settled_under : OccType → Judged → Settled
+settled_under of x = x.settled of
 
 abbrev pub under : OccType → Judged → Told
 under of x = x.under of
@@ -85,17 +104,45 @@ under of x = x.under of
 abbrev pub alone : Judged → Told
 alone x = x.alone
 
+-- what is settled must be of the type
+abbrev pub fitted_to : OccType → Settled → Told
+fitted_to of y = and_then (told_of y) (fitted of)
+
+-- beside a faulty item nothing is wanted of an item: it is judged alone, and of a faulty one its own fault was told
+abbrev pub own_or_alone : Settled → Judged → Told
+own_or_alone y x = if y.is_faulty then record { faults = y.faults; kind = k.Faulty } else x.alone
+
+abbrev pub each_own_or_alone : List Settled → List Judged → List Told
+each_own_or_alone ys [] = []
+each_own_or_alone [] (x ∷ xs) = []
+each_own_or_alone (y ∷ ys) (x ∷ xs) = own_or_alone y x ∷ each_own_or_alone ys xs
+
+abbrev pub fitted_or_alone : OccType → List Settled → List Judged → List Told
+fitted_or_alone of ys xs = if list_any is_faulty_settled ys then each_own_or_alone ys xs else map (fitted_to of) ys
+
+-- items, of each of which the type is wanted, as far as none is faulty
+abbrev pub each_under : OccType → List Judged → List Told
+each_under of xs = fitted_or_alone of (map (settled_under of) xs) xs
+
 abbrev pub all_under : OccType → List Judged → Told
-all_under of xs = joined of (map (under of) xs)
+all_under of xs = joined of (each_under of xs)
 
 -- the first item that is not free; if all are, an INT
 abbrev pub first_settled : List Judged → Told
 first_settled [] = record { faults = []; kind = known int None }
 first_settled (x ∷ xs) = if x.is_free then first_settled xs else x.alone
 
+-- the faults of all but that one, before it or behind it: each is judged by itself
+abbrev pub others_from : Bool → List Judged → List Fault
+others_from is_behind [] = []
+others_from is_behind (x ∷ xs) = if is_behind || x.is_free then x.alone.faults ++ others_from is_behind xs else others_from true xs
+
+abbrev pub others_faults : List Judged → List Fault
+others_faults xs = others_from false xs
+
 -- the items take the type of this one, if it is not faulty
 abbrev pub after_first : List Judged → Kind → Told
-after_first xs k.Faulty = silent
+after_first xs k.Faulty = record { faults = others_faults xs; kind = k.Faulty }
 after_first xs (k.Free f) = silent
 after_first xs (k.Known x) = all_under x.of xs
 
@@ -103,13 +150,20 @@ after_first xs (k.Known x) = all_under x.of xs
 abbrev pub table_alone : List Judged → Told
 table_alone xs = and_then (first_settled xs) (after_first xs)
 
-abbrev pub table_of : List Judged → Option (Option ℕ × OccType) → Told
-table_of xs None = table_alone xs
-table_of xs (Some parts) = all_under parts.1 xs
+-- where the type of its items is wanted: it is faulty where one of them is
+abbrev pub all_settled : OccType → List Judged → Settled
+all_settled of xs = settled_so (all_under of xs) (list_any is_faulty_settled (map (settled_under of) xs))
+
+abbrev pub table_of : List Judged → Option (Option ℕ × OccType) → Settled
+table_of xs None = settled_itself (table_alone xs)
+table_of xs (Some parts) = all_settled parts.1 xs
 
 -- a type is wanted: the items of an array without a name are wanted to be of its component's
+abbrev pub table_settled : List Judged → OccType → Settled
+table_settled xs of = table_of xs (as_array of)
+
 abbrev pub table_under : List Judged → OccType → Told
-table_under xs of = and_then (table_of xs (as_array of)) (wanted of)
+table_under xs of = fitted_to of (table_settled xs of)
 
 abbrev pub has_fault : Judged → Bool
 has_fault x = x.is_faulty
@@ -122,8 +176,10 @@ abbrev pub table_beside : List Judged → Bool → Told
 table_beside xs other_has_fault = if other_has_fault then as_it_is (table_alone xs).kind else table_alone xs
 
 abbrev pub term_step : Term-F Judged → Judged
-term_step (Term-F.Single k) = record { is_free = is_free_kind k; is_faulty = is_faulty k; alone = settled int k; under = λ of. wanted of k; beside = λ other_has_fault. as_it_is k }
-term_step (Term-F.Table xs) = record { is_free = false; is_faulty = list_any has_fault xs; alone = table_alone xs; under = table_under xs; beside = table_beside xs }
+term_step (Term-F.Single k) =
+    record { is_free = is_free_kind k; is_faulty = is_faulty k; alone = settled int k; settled = λ of. settled_itself (settled of k); under = λ of. wanted of k; beside = λ other_has_fault. as_it_is k }
+term_step (Term-F.Table xs) =
+    record { is_free = false; is_faulty = list_any has_fault xs; alone = table_alone xs; settled = table_settled xs; under = table_under xs; beside = table_beside xs }
 
 abbrev pub judged : Term → Judged
 judged = fold-Term Judged term_step

@@ -1,14 +1,14 @@
 #![tactic(auto, using(crate::proofs::Judging::counting_rules))]
 
-ghost use Rattle.std.specs.Prelude.{◌≡◌, ◌++◌, IfOk, OnOk, Some, length, map};
+ghost use Rattle.std.specs.Prelude.{◌≡◌, ◌++◌, IfOk, OnOk, Some};
 ghost use Rattle.occ_operands.specs.Operators.{all_faults, kinds as kinds_of};
 ghost use Rattle.occ_tables.specs.Decorating.{decorated as told_decorated, decorated_table as told_decorated_table, field_value as told_field_value, field_values as told_field_values, misused as told_misused, of_another_number as told_of_another_number, of_array as told_of_array, of_count as told_of_count, of_fields as told_of_fields, of_record as told_of_record, of_values as told_of_values};
-ghost use Rattle.occ_tables.specs.Terms.{alone as told_alone, judged, judged_all};
+ghost use Rattle.occ_tables.specs.Terms.{judged, judged_all};
 ghost use Rattle.occ_types.specs.Fits.{counts_fit, unnamed as without_name};
 ghost use Rattle.occ_types.specs.View.{fields_in};
 
-use super::placing::{any_has_fault, has_fault};
-use super::table::{alone, any_faulty, each_under, under};
+use super::placing::any_has_fault;
+use super::table::{any_faulty, each_alone, each_under, under};
 use super::term::Term;
 use occ_base::{Code, Fault, Items, Shared, tell};
 use occ_operands::{Kind, known};
@@ -78,7 +78,7 @@ fn of_array(
     of_count(to, count, kinds.len(), faults)
 }
 
-/// The value of a field. Of a field whose line has a fault it is not known what it holds.
+/// The value of a field. Of a field whose line has a fault it is not known what it holds, and the table is faulty.
 fn field_value(
     alloc: Global,
     field: &Field,
@@ -88,13 +88,10 @@ fn field_value(
     ensures kind { IfOk result (λ kind. kind ≡ (told_field_value field.now (judged item.now)).kind) }
     ensures faults { OnOk result (faults.new ≡ faults.old ++ (told_field_value field.now (judged item.now)).faults) }
 {
-    if !is_unknown(field.of.get()) {
-        return under(alloc, item, &field.of, faults);
-    }
-    if has_fault(item) {
+    if is_unknown(field.of.get()) {
         return Ok(Kind::Faulty);
     }
-    known(&field.of, None)
+    under(alloc, item, &field.of, faults)
 }
 
 /// The values of the fields, in their order.
@@ -116,23 +113,6 @@ fn field_values(
         let kind = field_value(alloc, field, item, faults)?;
         kinds.push(kind)?;
         items = rest;
-    }
-    Ok(kinds)
-}
-
-/// Each operand, of which no type is wanted.
-fn each_alone(
-    alloc: Global,
-    terms: &[Term],
-    faults: &mut Items<Fault>,
-) -> Result<Items<Kind>, AllocError>
-    ensures kinds { IfOk result (λ kinds. kinds ≡ kinds_of (map told_alone (judged_all terms.now))) }
-    ensures faults { OnOk result (faults.new ≡ faults.old ++ all_faults (map told_alone (judged_all terms.now))) }
-{
-    let mut kinds = Items::new(alloc);
-    for term in terms {
-        let kind = alone(alloc, term, faults)?;
-        kinds.push(kind)?;
     }
     Ok(kinds)
 }

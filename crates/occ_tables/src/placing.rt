@@ -21,7 +21,7 @@ fn is_no_data(kind: &Kind) -> bool
 }
 
 /// Whether an operand is a channel, a timer or an array of them.
-fn is_no_item(term: &Term) -> bool
+pub fn is_no_item(term: &Term) -> bool
     ensures { result ≡ no_item term.now }
 {
     match term {

@@ -1,12 +1,15 @@
-ghost use Rattle.std.specs.Prelude.{[], ◌∷◌, ◌≡◌, None, Some, negsuc, pos};
+ghost use Rattle.std.specs.Prelude.{[], ◌∷◌, ◌≡◌, None, Some, false, negsuc, pos, true};
 ghost use Rattle.occ_base.specs.declared.code.Code.TheVariants as code;
 ghost use Rattle.occ_operands.specs.Settling.{fault_of, int, known};
+ghost use Rattle.occ_operands.specs.declared.kind.Kind.TheVariants as k;
 ghost use Rattle.occ_base.specs.Telling.{nameless};
 ghost use Rattle.occ_tables.specs.Decorating.{decorated_table};
 ghost use Rattle.occ_tables.specs.Dimensions.{size_of_kind};
 ghost use Rattle.occ_tables.specs.Measuring.{most, sized};
 ghost use Rattle.occ_tables.specs.Merging.{merged};
 ghost use Rattle.occ_tables.specs.Segments.{taken};
+ghost use Rattle.occ_tables.specs.Terms.{all_settled, term_step};
+ghost use Rattle.occ_tables.specs.declared.term.Term.TheOpen.{Term-F};
 ghost use Rattle.occ_tables.specs.declared.measure.Limit.TheVariants as limit;
 ghost use Rattle.occ_types.specs.declared.types.OccType.TheVariants as t;
 ghost use Rattle.occ_types.specs.declared.types.Packing.TheVariants as packing;
@@ -42,6 +45,14 @@ pub fn measure_rows()
 pub fn decorated_rows()
     ensures record { decorated_table (t.Record packing.Plain ((record { name = 120 ∷ []; of = int }) ∷ [])) [] ≡ fault_of code.T4 }
     ensures misused { decorated_table int [] ≡ fault_of code.T2 }
+{}
+
+/// A table of an INT, where BYTEs are wanted: T2, but nothing in it is faulty, as in a table of a faulty item.
+#[tactic(auto, using(occ_types::proofs::Agreeing::fit_rules))]
+pub fn beside_rows()
+    ensures told { (all_settled (t.Primitive p.Byte) (term_step (Term-F.Single (known int None)) ∷ [])).faults ≡ nameless code.T2 ∷ [] }
+    ensures whole { (all_settled (t.Primitive p.Byte) (term_step (Term-F.Single (known int None)) ∷ [])).is_faulty ≡ false }
+    ensures faulty { (all_settled (t.Primitive p.Byte) (term_step (Term-F.Single k.Faulty) ∷ [])).is_faulty ≡ true }
 {}
 
 /// The one type of an array of four and one of which no size is known; an array of five is another.

@@ -1,5 +1,5 @@
 //! What no row shows: the public calls that no script reaches, and what they refuse; the form of operands with one
-//! operator between each two; the typed tree of a unit.
+//! operator between each two.
 #![tactic(auto)]
 
 #[cfg(test)]
@@ -8,7 +8,5 @@ mod expansion;
 mod form;
 #[cfg(test)]
 mod scope;
-#[cfg(test)]
-mod typed;
 #[cfg(test)]
 mod types;

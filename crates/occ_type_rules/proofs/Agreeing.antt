@@ -3,14 +3,13 @@ use Rattle.std.proofs.Common.{◌≡◌, Bool, true, false, [], map, refl, sym, 
 use Rattle.std.specs.Prelude.{if◌then◌else◌}
 use Rattle.occ_base.specs.declared.code.Code.TheVariants as code
 use Rattle.occ_types.specs.Fits.{fits}
-use Rattle.occ_types.specs.View.{as_array}
 use Rattle.occ_types.specs.declared.types.OccType.{OccType}
 use Rattle.occ_operands.specs.Settling.{Told, fault_of, settled}
 use Rattle.occ_operands.specs.Wanting.{fitted, wanted}
 use Rattle.occ_operands.specs.declared.kind.Kind.{Kind}
 use Rattle.occ_operands.specs.declared.kind.Kind.TheVariants as k
 use Rattle.occ_operands.specs.declared.kind.Known.{Known}
-use Rattle.occ_tables.specs.Terms.{Judged, judged, table_of, term_step}
+use Rattle.occ_tables.specs.Terms.{Judged, judged, table_settled, term_step}
 use Rattle.occ_tables.specs.declared.term.Term.{Term, out-Term, roll-Term}
 use Rattle.occ_tables.specs.declared.term.Term.TheFolds.{fold-roll-Term}
 use Rattle.occ_tables.specs.declared.term.Term.TheOpen.{Term-F}
@@ -35,7 +34,7 @@ wanted_agrees of y = fitted_agrees of ((settled of y).kind)
 
 layer_agrees : (of : OccType) (y : Term-F Term) → Agrees of (((judged (roll-Term y)).under of).kind)
 layer_agrees of (Term-F.Single y) = subst (λ (j : Judged). Agrees of ((j.under of).kind)) (sym (fold-roll-Term Judged term_step (Term-F.Single y))) (wanted_agrees of y)
-layer_agrees of (Term-F.Table xs) = subst (λ (j : Judged). Agrees of ((j.under of).kind)) (sym (fold-roll-Term Judged term_step (Term-F.Table xs))) (wanted_agrees of ((table_of (map judged xs) (as_array of)).kind))
+layer_agrees of (Term-F.Table xs) = subst (λ (j : Judged). Agrees of ((j.under of).kind)) (sym (fold-roll-Term Judged term_step (Term-F.Table xs))) (fitted_agrees of ((table_settled (map judged xs) of).kind))
 
 pub under_agrees : (of : OccType) (x : Term) → Agrees of (((judged x).under of).kind)
 under_agrees of x = subst (λ (t : Term). Agrees of (((judged t).under of).kind)) (roll-out-Term x) (layer_agrees of (out-Term x))

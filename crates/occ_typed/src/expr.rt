@@ -1,40 +1,49 @@
-use occ_base::{Boxed, Items, Name};
+use occ_base::{Items, Name, Shared};
 use occ_names::Referent;
-use occ_operands::Kind;
+use occ_operands::Known;
 use occ_types::{Monadic, Operator};
 
-/// An expression with all its parts. Each but `Unknown` has its kind: its type, and its value where it is constant. An
-/// expression without a fault has parts without a fault, so each of these is known. Of a type that an expression writes
-/// its tree has the type alone, and of a string no bytes.
+/// An expression with all its parts, each with its type, and with its value where it is constant. Trees that hold a tree
+/// share it. Of a type that an expression writes its tree has the type alone, and of a string no bytes.
 #[cycle(typed)]
 #[derive(Drop)]
 pub enum TypedExpr {
     /// A literal, with its type or without, and with the `-` that makes one literal with it; `TRUE` or `FALSE`; the greatest
     /// or the least value of a type.
-    Literal(Kind),
-    Element(Boxed<TypedElement>),
+    Literal(Known),
+    Element(Shared<TypedElement>),
     /// Operands with one operator between each two, a shift and its count among them.
-    Operation(Kind, Operator, Items<TypedExpr>),
+    Operation(Known, Operator, Items<Shared<TypedExpr>>),
     /// An operator in front of its operand.
-    Applied(Kind, Monadic, Boxed<TypedExpr>),
+    Applied(Known, Monadic, Shared<TypedExpr>),
     /// The number of components of an array.
-    Size(Kind, Boxed<TypedExpr>),
+    Size(Known, Shared<TypedExpr>),
     /// A conversion of the operand to the type of the whole.
-    Converted(Kind, Boxed<TypedExpr>),
+    Converted(Known, Shared<TypedExpr>),
     /// The items of a table, or the values of the fields of a record in their order.
-    Table(Kind, Items<TypedExpr>),
-    /// What typing does not know yet: a call.
-    Unknown,
+    Table(Known, Items<Shared<TypedExpr>>),
+    /// A call of a function that has one result: its specification, and the actuals. Typing makes none yet.
+    Call(Known, Referent, Items<TypedActual>),
+}
+
+/// An actual of a call, as its formal takes it.
+#[cycle(typed)]
+#[derive(Drop)]
+pub enum TypedActual {
+    /// For a formal that is VAL.
+    Value(Shared<TypedExpr>),
+    /// For one that is not: a variable, a channel or a timer.
+    Variable(Shared<TypedElement>),
 }
 
 /// A part of what a name stands for: the whole, if it has no selectors.
 #[cycle(typed)]
 #[derive(Drop)]
 pub struct TypedElement {
-    pub kind: Kind,
+    pub known: Known,
     pub name: Name,
-    /// The specification of the name, if it has one.
-    pub referent: Option<Referent>,
+    /// The specification of the name.
+    pub referent: Referent,
     /// From the outermost on.
     pub selectors: Items<Selector>,
 }
@@ -43,14 +52,14 @@ pub struct TypedElement {
 #[cycle(typed)]
 #[derive(Drop)]
 pub enum Selector {
-    /// The field of this name.
-    Field(Name),
+    /// The field at this place of its record, from 0, and its name.
+    Field(usize, Name),
     /// The component at this place.
-    Component(Boxed<TypedExpr>),
-    /// The components from this place on.
-    From(Boxed<TypedExpr>),
-    /// So many components from the first on.
-    For(Boxed<TypedExpr>),
-    /// From a place on so many components.
-    FromFor(Boxed<TypedExpr>, Boxed<TypedExpr>),
+    Component(Shared<TypedExpr>),
+    /// Of so many components, if their number is known, those from this place on.
+    From(Option<u32>, Shared<TypedExpr>),
+    /// Of so many components, if their number is known, the first ones: so many.
+    For(Option<u32>, Shared<TypedExpr>),
+    /// Of so many components, if their number is known, those from a place on: so many.
+    FromFor(Option<u32>, Shared<TypedExpr>, Shared<TypedExpr>),
 }

@@ -1,6 +1,14 @@
-//! The typed tree: what typing makes of expressions for the layers above, which type nothing again.
+//! The typed tree: what typing makes of expressions for the layers above, which type nothing again; and an expression
+//! before its place gives a type to what is free in it.
 #![tactic(auto)]
 
+mod draft;
+mod element;
 mod expr;
+mod placing;
+pub mod rows;
 
-pub use expr::{Selector, TypedElement, TypedExpr};
+pub use draft::Draft;
+pub use element::known_of;
+pub use expr::{Selector, TypedActual, TypedElement, TypedExpr};
+pub use placing::{all_placed, each_placed, placed, value_in};

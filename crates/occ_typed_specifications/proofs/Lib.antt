@@ -1,2 +1,1 @@
 pub mod Forming
-pub mod Mentions

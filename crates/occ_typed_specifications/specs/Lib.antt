@@ -6,4 +6,3 @@ pub mod Defining
 pub mod Lines
 pub mod Fields
 pub mod Recording
-pub mod Mentions

@@ -1,9 +1,7 @@
 -- `VAL n IS e:` and `VAL t n IS e:`.
-use Rattle.std.specs.Prelude.{ℕ, Option, Some, None, List, [], ◌∷◌, ◌++◌, if◌then◌else◌}
-use Rattle.occ_base.specs.declared.code.Code.TheVariants as code
+use Rattle.std.specs.Prelude.{ℕ, Option, Some, None, List, [], ◌∷◌, ◌++◌}
 use Rattle.occ_types.specs.declared.types.OccType.{OccType}
 use Rattle.occ_operands.specs.Settling.{Told, silent}
-use Rattle.occ_base.specs.Telling.{nameless}
 use Rattle.occ_base.specs.declared.fault.Fault.{Fault}
 use Rattle.occ_operands.specs.declared.kind.Kind.{Kind}
 use Rattle.occ_operands.specs.declared.kind.Kind.TheVariants as k
@@ -19,7 +17,9 @@ use Rattle.occ_expr.specs.Views.{expr_view, type_form_view}
 use Rattle.occ_expr.specs.declared.written.Opening.TheVariants as opening
 use Rattle.occ_type_rules.specs.Abbreviating.{abbreviated, abbreviated_as}
 use Rattle.occ_typed_specifications.specs.Entering.{Declared}
-use Rattle.occ_typed_specifications.specs.Mentions.{in_expr}
+use Rattle.occ_typed.specs.Placing.{placed}
+use Rattle.occ_typed.specs.declared.draft.Draft.{Draft}
+use Rattle.occ_typed.specs.declared.expr.TypedExpr.{TypedExpr}
 
 -- nothing is asked of the value where the type is not known
 unfoldable pub value_as : Option OccType → Judged → Told
@@ -40,12 +40,14 @@ abbrev pub value_told : Scope → Option TypeForm → Expr → Told
 value_told s None e = value_alone s e
 value_told s (Some of) e = value_with_type s of e
 
--- typing does not know yet a value in which a variable or a formal is named
-abbrev pub naming_faults : Scope → Expr → List Fault
-naming_faults s e = if in_expr s e then nameless code.S1 ∷ [] else []
+-- its tree, which is of the type of the value
+abbrev pub tree_of : Kind → Draft → Option TypedExpr
+tree_of k.Faulty x = None
+tree_of (k.Free f) x = None
+tree_of (k.Known y) x = placed x y.of
 
-unfoldable pub line_told : Scope → Option TypeForm → Expr → Told
-line_told s of e = let x = value_told s of e in record { faults = x.faults ++ naming_faults s e; kind = x.kind }
+unfoldable pub value_tree : Scope → Option TypeForm → Expr → Option TypedExpr
+value_tree s of e = tree_of (value_told s of e).kind ((expr_view e).draft s)
 
 -- the name of a value of which this is known
 abbrev pub value_name : Kind → List ℕ → Meaning
@@ -59,5 +61,5 @@ kind_unless_told (fault ∷ faults) kind = k.Faulty
 
 unfoldable pub value : Scope → Option TypeForm → List ℕ → Expr → Declared
 value s of name e =
-    let x = line_told s of e in
+    let x = value_told s of e in
     record { faults = x.faults; adds = (record { name = name; meaning = value_name (kind_unless_told x.faults x.kind) name }) ∷ [] }

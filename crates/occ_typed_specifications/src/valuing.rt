@@ -1,15 +1,16 @@
 ghost use Rattle.std.specs.Prelude.{◌≡◌, ◌∷◌, ◌++◌, [], IfOk, OnOk};
-ghost use Rattle.occ_typed_specifications.specs.Valuing.{kind_unless_told as known_unless_told, line_told, naming_faults, value as told_value, value_alone as told_alone, value_as as told_as, value_name as told_name, value_told, value_with_type as told_with_type};
+ghost use Rattle.occ_expr.specs.Views.{expr_view};
+ghost use Rattle.occ_typed_specifications.specs.Valuing.{kind_unless_told as known_unless_told, tree_of as told_tree, value as told_value, value_alone as told_alone, value_as as told_as, value_name as told_name, value_told, value_tree as told_value_tree, value_with_type as told_with_type};
 ghost use Rattle.occ_tables.specs.Terms.{judged};
 
-use super::mention::expr_mentions;
-use occ_base::{Code, Fault, Items, Name, Shared, tell};
+use occ_base::{Fault, Items, Name, Shared};
 use occ_expr::{Opening, expression, type_form};
 use occ_expression_forms::{Expr, TypeForm};
 use occ_names::{Access, Entry, Meaning, Scope, Whole, one_entry};
 use occ_operands::Kind;
 use occ_tables::Term;
 use occ_type_rules::{abbreviated, abbreviated_as};
+use occ_typed::{Draft, TypedExpr, placed};
 use occ_types::OccType;
 use std::alloc::{AllocError, Global};
 
@@ -30,22 +31,47 @@ fn value_as(
     }
 }
 
-/// What is known of the value of `VAL n IS e`.
+/// What is read of a value: what is known of it, and its tree, if it has no fault.
+#[derive(Drop)]
+struct Valued {
+    kind: Kind,
+    tree: Option<Shared<TypedExpr>>,
+}
+
+/// The tree of a value of which this is known.
+fn tree_of(
+    alloc: Global,
+    kind: &Kind,
+    draft: &Draft,
+) -> Result<Option<Shared<TypedExpr>>, AllocError>
+    ensures { IfOk result (λ tree. tree ≡ told_tree kind.now draft.now) }
+{
+    match kind {
+        Kind::Known(known) => placed(alloc, draft, &known.of),
+        Kind::Faulty => Ok(None),
+        Kind::Free(_) => Ok(None),
+    }
+}
+
+/// The value of `VAL n IS e`.
 #[tactic(auto, unfolding(crate::specs::Valuing::value_alone))]
 fn value_alone(
     alloc: Global,
     expr: &Expr,
     scope: &Scope,
     faults: &mut Items<Fault>,
-) -> Result<Kind, AllocError>
-    ensures kind { IfOk result (λ kind. kind ≡ (told_alone scope.now expr.now).kind) }
+) -> Result<Valued, AllocError>
+    ensures kind { IfOk result (λ value. value.kind ≡ (told_alone scope.now expr.now).kind) }
+    ensures tree { IfOk result (λ value. value.tree ≡ told_tree (told_alone scope.now expr.now).kind ((expr_view expr.now).draft scope.now)) }
     ensures faults { OnOk result (faults.new ≡ faults.old ++ (told_alone scope.now expr.now).faults) }
 {
-    let term = expression(alloc, expr, scope, faults)?;
-    abbreviated(alloc, &term, faults)
+    let read = expression(alloc, expr, scope, faults)?;
+    let kind = abbreviated(alloc, &read.term, faults)?;
+    let tree = tree_of(alloc, &kind, &read.draft)?;
+    Ok(Valued { kind, tree })
 }
 
-/// What is known of the value of `VAL t n IS e`.
+/// The value of `VAL t n IS e`.
 #[tactic(auto, unfolding(crate::specs::Valuing::value_with_type))]
 fn value_with_type(
     alloc: Global,
@@ -53,24 +79,29 @@ fn value_with_type(
     expr: &Expr,
     scope: &Scope,
     faults: &mut Items<Fault>,
-) -> Result<Kind, AllocError>
-    ensures kind { IfOk result (λ kind. kind ≡ (told_with_type scope.now of.now expr.now).kind) }
+) -> Result<Valued, AllocError>
+    ensures kind { IfOk result (λ value. value.kind ≡ (told_with_type scope.now of.now expr.now).kind) }
+    ensures tree { IfOk result (λ value. value.tree ≡ told_tree (told_with_type scope.now of.now expr.now).kind ((expr_view expr.now).draft scope.now)) }
     ensures faults { OnOk result (faults.new ≡ faults.old ++ (told_with_type scope.now of.now expr.now).faults) }
 {
     let of = type_form(alloc, of, Opening::Allowed, scope, faults)?;
-    let term = expression(alloc, expr, scope, faults)?;
-    value_as(alloc, &of, &term, faults)
+    let read = expression(alloc, expr, scope, faults)?;
+    let kind = value_as(alloc, &of, &read.term, faults)?;
+    let tree = tree_of(alloc, &kind, &read.draft)?;
+    Ok(Valued { kind, tree })
 }
 
-/// What is known of the value, with a type or without.
-fn valued(
+/// The value, with a type or without.
+#[tactic(auto, unfolding(crate::specs::Valuing::value_tree))]
+fn value_read(
     alloc: Global,
     of: &Option<TypeForm>,
     expr: &Expr,
     scope: &Scope,
     faults: &mut Items<Fault>,
-) -> Result<Kind, AllocError>
-    ensures kind { IfOk result (λ kind. kind ≡ (value_told scope.now of.now expr.now).kind) }
+) -> Result<Valued, AllocError>
+    ensures kind { IfOk result (λ value. value.kind ≡ (value_told scope.now of.now expr.now).kind) }
+    ensures tree { IfOk result (λ value. value.tree ≡ told_value_tree scope.now of.now expr.now) }
     ensures faults { OnOk result (faults.new ≡ faults.old ++ (value_told scope.now of.now expr.now).faults) }
 {
     match of {
@@ -79,56 +110,11 @@ fn valued(
     }
 }
 
-/// S1 is told of a value in which a variable or a formal is named.
-fn tell_naming(expr: &Expr, scope: &Scope, faults: &mut Items<Fault>) -> Result<(), AllocError>
-    ensures { OnOk result (faults.new ≡ faults.old ++ naming_faults scope.now expr.now) }
-{
-    if expr_mentions(expr, scope) {
-        tell(faults, Code::S1)?;
-    }
-    Ok(())
-}
-
-/// What is known of the value, with all that the line tells.
-#[tactic(auto, unfolding(crate::specs::Valuing::line_told))]
-fn of_line(
-    alloc: Global,
-    of: &Option<TypeForm>,
-    expr: &Expr,
-    scope: &Scope,
-    faults: &mut Items<Fault>,
-) -> Result<Kind, AllocError>
-    ensures kind { IfOk result (λ kind. kind ≡ (line_told scope.now of.now expr.now).kind) }
-    ensures faults { OnOk result (faults.new ≡ faults.old ++ (line_told scope.now of.now expr.now).faults) }
-{
-    let kind = valued(alloc, of, expr, scope, faults)?;
-    tell_naming(expr, scope, faults)?;
-    Ok(kind)
-}
-
 /// What is known of the value, if the line told nothing.
 fn unless_told(told: &Items<Fault>, kind: Kind) -> Kind
     ensures { result ≡ known_unless_told told.now kind }
 {
     if told.is_empty() { kind } else { Kind::Faulty }
-}
-
-/// What is known of the value for its name.
-fn name_kind(
-    alloc: Global,
-    of: &Option<TypeForm>,
-    expr: &Expr,
-    scope: &Scope,
-    faults: &mut Items<Fault>,
-) -> Result<Kind, AllocError>
-    ensures kind { IfOk result (λ kind. kind ≡ known_unless_told (line_told scope.now of.now expr.now).faults (line_told scope.now of.now expr.now).kind) }
-    ensures faults { OnOk result (faults.new ≡ faults.old ++ (line_told scope.now of.now expr.now).faults) }
-{
-    let mut told = Items::new(alloc);
-    let kind = of_line(alloc, of, expr, scope, &mut told)?;
-    let kind = unless_told(&told, kind);
-    faults.append(told)?;
-    Ok(kind)
 }
 
 /// The name of a value of which this is known.
@@ -147,6 +133,13 @@ fn value_name(alloc: Global, kind: Kind, name: &Name) -> Result<Meaning, AllocEr
     }
 }
 
+/// What comes into scope behind a line that abbreviates a value, and the tree of the value, if it has no fault.
+#[derive(Drop)]
+pub struct ValueLine {
+    pub adds: Items<Entry>,
+    pub tree: Option<Shared<TypedExpr>>,
+}
+
 /// `VAL n IS e:` or `VAL t n IS e:`
 #[tactic(auto, unfolding(crate::specs::Valuing::value))]
 pub fn value(
@@ -156,11 +149,16 @@ pub fn value(
     expr: &Expr,
     scope: &Scope,
     faults: &mut Items<Fault>,
-) -> Result<Items<Entry>, AllocError>
-    ensures adds { IfOk result (λ adds. adds ≡ (told_value scope.now of.now name.now expr.now).adds) }
+) -> Result<ValueLine, AllocError>
+    ensures adds { IfOk result (λ line. line.adds ≡ (told_value scope.now of.now name.now expr.now).adds) }
+    ensures tree { IfOk result (λ line. line.tree ≡ told_value_tree scope.now of.now expr.now) }
     ensures faults { OnOk result (faults.new ≡ faults.old ++ (told_value scope.now of.now name.now expr.now).faults) }
 {
-    let kind = name_kind(alloc, of, expr, scope, faults)?;
+    let mut told = Items::new(alloc);
+    let Valued { kind, tree } = value_read(alloc, of, expr, scope, &mut told)?;
+    let kind = unless_told(&told, kind);
+    faults.append(told)?;
     let meaning = value_name(alloc, kind, name)?;
-    one_entry(alloc, name, meaning)
+    let adds = one_entry(alloc, name, meaning)?;
+    Ok(ValueLine { adds, tree })
 }

@@ -1,2 +1,3 @@
 pub mod Targets
+pub mod StatementTrees
 pub mod Statements

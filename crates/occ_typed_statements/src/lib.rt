@@ -1,8 +1,8 @@
-//! What a line of a process tells by its elements and expressions, under the names in scope.
+//! What a line of a process tells by its elements and expressions, under the names in scope, and their typed trees.
 #![tactic(auto)]
 
 pub mod rows;
 mod statement;
 mod target;
 
-pub use statement::{assignment, condition, options, results, selector, values};
+pub use statement::{TypedAssignment, assignment, condition, options, results, selector, values};

@@ -1,56 +1,67 @@
 ghost use Rattle.std.specs.Prelude.{◌≡◌, ◌∷◌, ◌++◌, IfOk, OnOk};
 ghost use Rattle.occ_expr.specs.Parts.{own_faults, terms as terms_of};
+ghost use Rattle.occ_typed_statements.specs.StatementTrees.{assigned as told_assigned, assignment_tree as told_assignment_tree, condition_tree as told_condition_tree, drafts as drafts_of, options_trees as told_options_trees, results_trees as told_results_trees, selector_tree as told_selector_tree, types_of as told_types};
 ghost use Rattle.occ_typed_statements.specs.Statements.{assignment as told_assignment, condition as told_condition, is_any_faulty, options as told_options, results as told_results, said, selector as told_selector};
 
-use super::target::targets;
+use super::target::all_targets;
 use occ_base::{Fault, Items, Shared};
-use occ_expr::expression;
+use occ_expr::{Readings, expression};
 use occ_expression_forms::{Element, Expr};
 use occ_names::Scope;
-use occ_operands::Kind;
-use occ_tables::{Term, any_has_fault};
+use occ_operands::{Kind, int};
+use occ_tables::any_has_fault;
 use occ_type_rules::{
     assigned, condition as judge_condition, options as choose, results as compare,
     selector as select,
 };
-use occ_types::OccType;
+use occ_typed::{Draft, TypedElement, TypedExpr, all_placed, each_placed, placed};
+use occ_types::{OccType, Primitive};
 use std::alloc::{AllocError, Global};
 use std::collections::BTreeSet;
+
+/// An assignment: its targets, and the value for each.
+#[derive(Drop)]
+pub struct TypedAssignment {
+    pub targets: Items<TypedElement>,
+    pub values: Items<Shared<TypedExpr>>,
+}
 
 /// Expressions behind those that were read.
 fn more_expressions(
     alloc: Global,
     exprs: &[Expr],
     scope: &Scope,
-    terms: &mut Items<Term>,
+    readings: &mut Readings,
     faults: &mut Items<Fault>,
 ) -> Result<(), AllocError>
-    ensures terms { OnOk result (terms.new ≡ terms.old ++ terms_of (said scope.now exprs.now)) }
+    ensures terms { OnOk result (readings.new.terms ≡ readings.old.terms ++ terms_of (said scope.now exprs.now)) }
+    ensures drafts { OnOk result (readings.new.drafts ≡ readings.old.drafts ++ drafts_of scope.now exprs.now) }
     ensures faults { OnOk result (faults.new ≡ faults.old ++ own_faults (said scope.now exprs.now)) }
 {
     for expr in exprs {
-        let term = expression(alloc, expr, scope, faults)?;
-        terms.push(term)?;
+        let reading = expression(alloc, expr, scope, faults)?;
+        readings.push(reading)?;
     }
     Ok(())
 }
 
-/// What is known of each expression of a list, before a type is wanted of it.
+/// What is read of each expression of a list, before a type is wanted of it.
 fn expressions(
     alloc: Global,
     first: &Expr,
     more: &[Expr],
     scope: &Scope,
     faults: &mut Items<Fault>,
-) -> Result<Items<Term>, AllocError>
-    ensures terms { IfOk result (λ terms. terms ≡ terms_of (said scope.now (first.now ∷ more.now))) }
+) -> Result<Readings, AllocError>
+    ensures terms { IfOk result (λ readings. readings.terms ≡ terms_of (said scope.now (first.now ∷ more.now))) }
+    ensures drafts { IfOk result (λ readings. readings.drafts ≡ drafts_of scope.now (first.now ∷ more.now)) }
     ensures faults { OnOk result (faults.new ≡ faults.old ++ own_faults (said scope.now (first.now ∷ more.now))) }
 {
-    let mut terms = Items::new(alloc);
-    let term = expression(alloc, first, scope, faults)?;
-    terms.push(term)?;
-    more_expressions(alloc, more, scope, &mut terms, faults)?;
-    Ok(terms)
+    let mut readings = Readings::new(alloc);
+    let reading = expression(alloc, first, scope, faults)?;
+    readings.push(reading)?;
+    more_expressions(alloc, more, scope, &mut readings, faults)?;
+    Ok(readings)
 }
 
 /// What expressions tell by themselves, where nothing is compared with them, and whether one of them has a fault.
@@ -65,7 +76,36 @@ pub fn values(
     ensures faults { OnOk result (faults.new ≡ faults.old ++ own_faults (said scope.now (first.now ∷ more.now))) }
 {
     let values = expressions(alloc, first, more, scope, faults)?;
-    Ok(any_has_fault(values.as_slice()))
+    Ok(any_has_fault(values.terms.as_slice()))
+}
+
+/// The types of targets.
+fn types_of(alloc: Global, targets: &[TypedElement]) -> Result<Items<Shared<OccType>>, AllocError>
+    ensures { IfOk result (λ types. types ≡ told_types targets.now) }
+{
+    let mut types = Items::new(alloc);
+    for target in targets {
+        types.push(target.known.of.share()?)?;
+    }
+    Ok(types)
+}
+
+/// The targets of an assignment and the values for them, if none has a fault.
+fn assignment_tree(
+    alloc: Global,
+    targets: Option<Items<TypedElement>>,
+    values: &[Draft],
+) -> Result<Option<TypedAssignment>, AllocError>
+    ensures { IfOk result (λ tree. tree ≡ told_assigned targets values.now) }
+{
+    let Some(targets) = targets else {
+        return Ok(None);
+    };
+    let types = types_of(alloc, targets.as_slice())?;
+    let Some(values) = each_placed(alloc, values, types.as_slice())? else {
+        return Ok(None);
+    };
+    Ok(Some(TypedAssignment { targets, values }))
 }
 
 /// `el, .. := e, ..`: the targets, the values, and each value for its target.
@@ -77,12 +117,19 @@ pub fn assignment(
     more_values: &[Expr],
     scope: &Scope,
     faults: &mut Items<Fault>,
-) -> Result<(), AllocError>
-    ensures { OnOk result (faults.new ≡ faults.old ++ told_assignment scope.now (first_target.now ∷ more_targets.now) (first_value.now ∷ more_values.now)) }
+) -> Result<Option<TypedAssignment>, AllocError>
+    ensures tree { IfOk result (λ tree. tree ≡ told_assignment_tree scope.now (first_target.now ∷ more_targets.now) (first_value.now ∷ more_values.now)) }
+    ensures faults { OnOk result (faults.new ≡ faults.old ++ told_assignment scope.now (first_target.now ∷ more_targets.now) (first_value.now ∷ more_values.now)) }
 {
-    let kinds = targets(alloc, first_target, more_targets, scope, faults)?;
-    let terms = expressions(alloc, first_value, more_values, scope, faults)?;
-    assigned(alloc, kinds.as_slice(), terms.as_slice(), faults)
+    let targets = all_targets(alloc, first_target, more_targets, scope, faults)?;
+    let values = expressions(alloc, first_value, more_values, scope, faults)?;
+    assigned(
+        alloc,
+        targets.kinds.as_slice(),
+        values.terms.as_slice(),
+        faults,
+    )?;
+    assignment_tree(alloc, targets.trees, values.drafts.as_slice())
 }
 
 /// The condition of an `IF` or a `WHILE`.
@@ -91,25 +138,31 @@ pub fn condition(
     expr: &Expr,
     scope: &Scope,
     faults: &mut Items<Fault>,
-) -> Result<(), AllocError>
-    ensures { OnOk result (faults.new ≡ faults.old ++ told_condition scope.now expr.now) }
+) -> Result<Option<Shared<TypedExpr>>, AllocError>
+    ensures tree { IfOk result (λ tree. tree ≡ told_condition_tree scope.now expr.now) }
+    ensures faults { OnOk result (faults.new ≡ faults.old ++ told_condition scope.now expr.now) }
 {
-    let term = expression(alloc, expr, scope, faults)?;
-    judge_condition(alloc, &term, faults)
+    let read = expression(alloc, expr, scope, faults)?;
+    judge_condition(alloc, &read.term, faults)?;
+    let bool = Shared::new(alloc, OccType::Primitive(Primitive::Bool))?;
+    placed(alloc, &read.draft, &bool)
 }
 
-/// The selector of a `CASE`.
+/// The selector of a `CASE`: what is known of it, and its tree.
 pub fn selector(
     alloc: Global,
     expr: &Expr,
     scope: &Scope,
     faults: &mut Items<Fault>,
-) -> Result<Kind, AllocError>
-    ensures kind { IfOk result (λ kind. kind ≡ (told_selector scope.now expr.now).kind) }
+) -> Result<(Kind, Option<Shared<TypedExpr>>), AllocError>
+    ensures kind { IfOk result (λ r. r.0 ≡ (told_selector scope.now expr.now).kind) }
+    ensures tree { IfOk result (λ r. r.1 ≡ told_selector_tree scope.now expr.now) }
     ensures faults { OnOk result (faults.new ≡ faults.old ++ (told_selector scope.now expr.now).faults) }
 {
-    let term = expression(alloc, expr, scope, faults)?;
-    select(alloc, &term, faults)
+    let read = expression(alloc, expr, scope, faults)?;
+    let kind = select(alloc, &read.term, faults)?;
+    let tree = placed(alloc, &read.draft, &int(alloc)?)?;
+    Ok((kind, tree))
 }
 
 /// The options of one line of a `CASE` with this selector; `before` holds the numbers of those on the lines before.
@@ -121,19 +174,24 @@ pub fn options(
     before: &mut BTreeSet<i64>,
     scope: &Scope,
     faults: &mut Items<Fault>,
-) -> Result<(), AllocError>
+) -> Result<Option<Items<Shared<TypedExpr>>>, AllocError>
+    ensures trees { IfOk result (λ trees. trees ≡ told_options_trees scope.now selector.now (first.now ∷ more.now)) }
     ensures faults { OnOk result (faults.new ≡ faults.old ++ (told_options scope.now selector.now before.old (first.now ∷ more.now)).faults) }
     ensures numbers { OnOk result (before.new ≡ (told_options scope.now selector.now before.old (first.now ∷ more.now)).numbers) }
 {
-    let terms = expressions(alloc, first, more, scope, faults)?;
+    let read = expressions(alloc, first, more, scope, faults)?;
     match selector {
-        Kind::Known(known) => choose(alloc, &known.of, terms.as_slice(), before, faults),
-        Kind::Faulty => Ok(()),
-        Kind::Free(_) => Ok(()),
+        Kind::Known(known) => {
+            choose(alloc, &known.of, read.terms.as_slice(), before, faults)?;
+            all_placed(alloc, read.drafts.as_slice(), &known.of)
+        }
+        Kind::Faulty => Ok(None),
+        Kind::Free(_) => Ok(None),
     }
 }
 
-/// The results of a FUNCTION with results of these types, whose head has no fault, and whether one of them has a fault.
+/// The results of a FUNCTION with results of these types, whose head has no fault: whether one of them has a fault, and
+/// their trees.
 pub fn results(
     alloc: Global,
     first: &Expr,
@@ -141,11 +199,13 @@ pub fn results(
     types: &[Shared<OccType>],
     scope: &Scope,
     faults: &mut Items<Fault>,
-) -> Result<bool, AllocError>
-    ensures faulty { IfOk result (λ faulty. faulty ≡ is_any_faulty scope.now (first.now ∷ more.now)) }
+) -> Result<(bool, Option<Items<Shared<TypedExpr>>>), AllocError>
+    ensures faulty { IfOk result (λ r. r.0 ≡ is_any_faulty scope.now (first.now ∷ more.now)) }
+    ensures trees { IfOk result (λ r. r.1 ≡ told_results_trees scope.now types.now (first.now ∷ more.now)) }
     ensures faults { OnOk result (faults.new ≡ faults.old ++ told_results scope.now types.now (first.now ∷ more.now)) }
 {
-    let terms = expressions(alloc, first, more, scope, faults)?;
-    compare(alloc, types, terms.as_slice(), faults)?;
-    Ok(any_has_fault(terms.as_slice()))
+    let read = expressions(alloc, first, more, scope, faults)?;
+    compare(alloc, types, read.terms.as_slice(), faults)?;
+    let trees = each_placed(alloc, read.drafts.as_slice(), types)?;
+    Ok((any_has_fault(read.terms.as_slice()), trees))
 }

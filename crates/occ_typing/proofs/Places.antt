@@ -9,6 +9,7 @@ use Rattle.occ_typing.specs.Placed.{placed}
 use Rattle.occ_typing.specs.Places.{At, IsAmong, IsTold, IsToldIn, Stands, first, inner, inside, judged_at, later, told_at}
 use Rattle.occ_typing.specs.Units.{behind_line, lines, type_faults}
 use Rattle.occ_typing.specs.declared.parent.Parent.{Parent}
+use Rattle.occ_typing.specs.declared.using.Import.{Import}
 
 among_front : (d : Diag) (xs ys : List Diag) → IsAmong d xs → IsAmong d (xs ++ ys)
 among_front d [] ys h = absurd h
@@ -51,53 +52,53 @@ own_front d beneath under own (inl h) = among_front d beneath (under ++ own) h
 own_front d beneath under own (inr h) = among_back d beneath (under ++ own) (among_back d under own h)
 
 -- what is told under a line, and behind it
-abbrev IsToldUnder : Parent → Scope → ExpandedLine → Forest → Diag → Type 0
-IsToldUnder p s l under d = IsToldIn (judged_at p s l under).line.parent (inner (judged_at p s l under) s) (inner (judged_at p s l under) s) under d
+abbrev IsToldUnder : List Import → Parent → Scope → ExpandedLine → Forest → Diag → Type 0
+IsToldUnder is p s l under d = IsToldIn is (judged_at is p s l under).line.parent (inner (judged_at is p s l under) s) (inner (judged_at is p s l under) s) under d
 
-abbrev IsToldBehind : Parent → Scope → Scope → ExpandedLine → Forest → Forest → Diag → Type 0
-IsToldBehind p outer s l under behind d = IsToldIn (judged_at p s l under).line.next outer (behind_line outer s (judged_at p s l under).line.adds) behind d
+abbrev IsToldBehind : List Import → Parent → Scope → Scope → ExpandedLine → Forest → Forest → Diag → Type 0
+IsToldBehind is p outer s l under behind d = IsToldIn is (judged_at is p s l under).line.next outer (behind_line outer s (judged_at is p s l under).line.adds) behind d
 
-at_line : (p : Parent) (outer s : Scope) (l : ExpandedLine) (under behind : Forest) (d : Diag)
-    → IsAmong d (told_at (record { line = l; under = under; parent = p; scope = s })) → IsToldIn p outer s (Tree l under behind) d
-at_line p outer s l under behind d h = (record { line = l; under = under; parent = p; scope = s }, first p outer s l under behind, h)
+at_line : (is : List Import) (p : Parent) (outer s : Scope) (l : ExpandedLine) (under behind : Forest) (d : Diag)
+    → IsAmong d (told_at is (record { line = l; under = under; parent = p; scope = s })) → IsToldIn is p outer s (Tree l under behind) d
+at_line is p outer s l under behind d h = (record { line = l; under = under; parent = p; scope = s }, first p outer s l under behind, h)
 
-under_line : (p : Parent) (outer s : Scope) (l : ExpandedLine) (under behind : Forest) (d : Diag) → IsToldUnder p s l under d → IsToldIn p outer s (Tree l under behind) d
-under_line p outer s l under behind d r = (r.0, inside p outer s l under behind r.0 r.1, r.2)
+under_line : (is : List Import) (p : Parent) (outer s : Scope) (l : ExpandedLine) (under behind : Forest) (d : Diag) → IsToldUnder is p s l under d → IsToldIn is p outer s (Tree l under behind) d
+under_line is p outer s l under behind d r = (r.0, inside p outer s l under behind r.0 r.1, r.2)
 
-behind_it : (p : Parent) (outer s : Scope) (l : ExpandedLine) (under behind : Forest) (d : Diag) → IsToldBehind p outer s l under behind d → IsToldIn p outer s (Tree l under behind) d
-behind_it p outer s l under behind d r = (r.0, later p outer s l under behind r.0 r.1, r.2)
+behind_it : (is : List Import) (p : Parent) (outer s : Scope) (l : ExpandedLine) (under behind : Forest) (d : Diag) → IsToldBehind is p outer s l under behind d → IsToldIn is p outer s (Tree l under behind) d
+behind_it is p outer s l under behind d r = (r.0, later p outer s l under behind r.0 r.1, r.2)
 
-sound_cases : (p : Parent) (outer s : Scope) (l : ExpandedLine) (under behind : Forest) (d : Diag) (below rest : List Diag)
-    → (IsAmong d below → IsToldUnder p s l under d) → (IsAmong d rest → IsToldBehind p outer s l under behind d)
-    → (IsAmong d (told_at (record { line = l; under = under; parent = p; scope = s })) ⊎ IsAmong d below) ⊎ IsAmong d rest
-    → IsToldIn p outer s (Tree l under behind) d
-sound_cases p outer s l under behind d below rest f g (inl (inl h)) = at_line p outer s l under behind d h
-sound_cases p outer s l under behind d below rest f g (inl (inr h)) = under_line p outer s l under behind d (f h)
-sound_cases p outer s l under behind d below rest f g (inr h) = behind_it p outer s l under behind d (g h)
+sound_cases : (is : List Import) (p : Parent) (outer s : Scope) (l : ExpandedLine) (under behind : Forest) (d : Diag) (below rest : List Diag)
+    → (IsAmong d below → IsToldUnder is p s l under d) → (IsAmong d rest → IsToldBehind is p outer s l under behind d)
+    → (IsAmong d (told_at is (record { line = l; under = under; parent = p; scope = s })) ⊎ IsAmong d below) ⊎ IsAmong d rest
+    → IsToldIn is p outer s (Tree l under behind) d
+sound_cases is p outer s l under behind d below rest f g (inl (inl h)) = at_line is p outer s l under behind d h
+sound_cases is p outer s l under behind d below rest f g (inl (inr h)) = under_line is p outer s l under behind d (f h)
+sound_cases is p outer s l under behind d below rest f g (inr h) = behind_it is p outer s l under behind d (g h)
 
-sound : (p : Parent) (outer s : Scope) (f : Forest) (d : Diag) → IsAmong d (lines p outer s f) → IsToldIn p outer s f d
-sound p outer s Empty d h = absurd h
-sound p outer s (Tree l under behind) d h =
-    let x = judged_at p s l under in
-    let below = lines x.line.parent (inner x s) (inner x s) under in
-    let rest = lines x.line.next outer (behind_line outer s x.line.adds) behind in
-    sound_cases p outer s l under behind d below rest
-    (sound x.line.parent (inner x s) (inner x s) under d)
-    (sound x.line.next outer (behind_line outer s x.line.adds) behind d)
+sound : (is : List Import) (p : Parent) (outer s : Scope) (f : Forest) (d : Diag) → IsAmong d (lines is p outer s f) → IsToldIn is p outer s f d
+sound is p outer s Empty d h = absurd h
+sound is p outer s (Tree l under behind) d h =
+    let x = judged_at is p s l under in
+    let below = lines is x.line.parent (inner x s) (inner x s) under in
+    let rest = lines is x.line.next outer (behind_line outer s x.line.adds) behind in
+    sound_cases is p outer s l under behind d below rest
+    (sound is x.line.parent (inner x s) (inner x s) under d)
+    (sound is x.line.next outer (behind_line outer s x.line.adds) behind d)
     (split d x.beneath below (placed l x.faults) rest h)
 
-complete : (p : Parent) (outer s : Scope) (f : Forest) (a : At) (d : Diag) → Stands p outer s f a → IsAmong d (told_at a) → IsAmong d (lines p outer s f)
-complete p outer s f a d (first _ _ _ l under behind) h =
-    among_front d ((judged_at p s l under).beneath ++ (lines (judged_at p s l under).line.parent (inner (judged_at p s l under) s) (inner (judged_at p s l under) s) under ++ placed l (judged_at p s l under).faults)) (lines (judged_at p s l under).line.next outer (behind_line outer s (judged_at p s l under).line.adds) behind)
-    (own_front d (judged_at p s l under).beneath (lines (judged_at p s l under).line.parent (inner (judged_at p s l under) s) (inner (judged_at p s l under) s) under) (placed l (judged_at p s l under).faults) (among_both d (judged_at p s l under).beneath (placed l (judged_at p s l under).faults) h))
-complete p outer s f a d (inside _ _ _ l under behind _ is) h =
-    among_front d ((judged_at p s l under).beneath ++ (lines (judged_at p s l under).line.parent (inner (judged_at p s l under) s) (inner (judged_at p s l under) s) under ++ placed l (judged_at p s l under).faults)) (lines (judged_at p s l under).line.next outer (behind_line outer s (judged_at p s l under).line.adds) behind)
-    (among_back d (judged_at p s l under).beneath (lines (judged_at p s l under).line.parent (inner (judged_at p s l under) s) (inner (judged_at p s l under) s) under ++ placed l (judged_at p s l under).faults)
-    (among_front d (lines (judged_at p s l under).line.parent (inner (judged_at p s l under) s) (inner (judged_at p s l under) s) under) (placed l (judged_at p s l under).faults)
-    (complete (judged_at p s l under).line.parent (inner (judged_at p s l under) s) (inner (judged_at p s l under) s) under a d is h)))
-complete p outer s f a d (later _ _ _ l under behind _ is) h =
-    among_back d ((judged_at p s l under).beneath ++ (lines (judged_at p s l under).line.parent (inner (judged_at p s l under) s) (inner (judged_at p s l under) s) under ++ placed l (judged_at p s l under).faults)) (lines (judged_at p s l under).line.next outer (behind_line outer s (judged_at p s l under).line.adds) behind)
-    (complete (judged_at p s l under).line.next outer (behind_line outer s (judged_at p s l under).line.adds) behind a d is h)
+complete : (is : List Import) (p : Parent) (outer s : Scope) (f : Forest) (a : At) (d : Diag) → Stands is p outer s f a → IsAmong d (told_at is a) → IsAmong d (lines is p outer s f)
+complete is p outer s f a d (first _ _ _ l under behind) h =
+    among_front d ((judged_at is p s l under).beneath ++ (lines is (judged_at is p s l under).line.parent (inner (judged_at is p s l under) s) (inner (judged_at is p s l under) s) under ++ placed l (judged_at is p s l under).faults)) (lines is (judged_at is p s l under).line.next outer (behind_line outer s (judged_at is p s l under).line.adds) behind)
+    (own_front d (judged_at is p s l under).beneath (lines is (judged_at is p s l under).line.parent (inner (judged_at is p s l under) s) (inner (judged_at is p s l under) s) under) (placed l (judged_at is p s l under).faults) (among_both d (judged_at is p s l under).beneath (placed l (judged_at is p s l under).faults) h))
+complete is p outer s f a d (inside _ _ _ l under behind _ below) h =
+    among_front d ((judged_at is p s l under).beneath ++ (lines is (judged_at is p s l under).line.parent (inner (judged_at is p s l under) s) (inner (judged_at is p s l under) s) under ++ placed l (judged_at is p s l under).faults)) (lines is (judged_at is p s l under).line.next outer (behind_line outer s (judged_at is p s l under).line.adds) behind)
+    (among_back d (judged_at is p s l under).beneath (lines is (judged_at is p s l under).line.parent (inner (judged_at is p s l under) s) (inner (judged_at is p s l under) s) under ++ placed l (judged_at is p s l under).faults)
+    (among_front d (lines is (judged_at is p s l under).line.parent (inner (judged_at is p s l under) s) (inner (judged_at is p s l under) s) under) (placed l (judged_at is p s l under).faults)
+    (complete is (judged_at is p s l under).line.parent (inner (judged_at is p s l under) s) (inner (judged_at is p s l under) s) under a d below h)))
+complete is p outer s f a d (later _ _ _ l under behind _ below) h =
+    among_back d ((judged_at is p s l under).beneath ++ (lines is (judged_at is p s l under).line.parent (inner (judged_at is p s l under) s) (inner (judged_at is p s l under) s) under ++ placed l (judged_at is p s l under).faults)) (lines is (judged_at is p s l under).line.next outer (behind_line outer s (judged_at is p s l under).line.adds) behind)
+    (complete is (judged_at is p s l under).line.next outer (behind_line outer s (judged_at is p s l under).line.adds) behind a d below h)
 
-pub told_places : (f : Forest) (d : Diag) → IsAmong d (type_faults f) ↔ IsTold f d
-told_places f d = (sound _ _ _ f d, λ h. complete _ _ _ f h.0 d h.1 h.2)
+pub told_places : (is : List Import) (f : Forest) (d : Diag) → IsAmong d (type_faults is f) ↔ IsTold is f d
+told_places is f d = (sound is _ _ _ f d, λ h. complete is _ _ _ f h.0 d h.1 h.2)

@@ -1,11 +1,15 @@
 -- Processes of one line.
 use Rattle.std.specs.Prelude.{List, [], ◌∷◌}
+use Rattle.occ_typed_statements.specs.StatementTrees.{assignment_tree}
+use Rattle.occ_typed_statements.specs.declared.statement.TypedAssignment.{TypedAssignment}
+use Rattle.occ_typing.specs.declared.tree.TypedForm.{TypedForm}
+use Rattle.occ_typing.specs.declared.tree.TypedForm.TheVariants as t
 use Rattle.occ_forms.specs.declared.tree.Action.{Action}
 use Rattle.occ_forms.specs.declared.tree.Action.TheVariants as action
 use Rattle.occ_names.specs.declared.scope.Scope.{Scope}
 use Rattle.occ_base.specs.declared.fault.Fault.{Fault}
 use Rattle.occ_typed_statements.specs.Statements.{assignment}
-use Rattle.occ_typing.specs.Lines.{beyond}
+use Rattle.occ_typing.specs.Lines.{beyond, made}
 
 abbrev pub action_faults : Scope → Action → List Fault
 action_faults s action.Skip = []
@@ -13,3 +17,13 @@ action_faults s action.Stop = []
 action_faults s (action.Assignment el els e es) = assignment s (el ∷ els) (e ∷ es)
 action_faults s (action.Output el item items) = beyond
 action_faults s (action.Input input) = beyond
+
+abbrev pub assigning : TypedAssignment → TypedForm
+assigning x = t.Assignment x.targets x.values
+
+abbrev pub action_form : Scope → Action → TypedForm
+action_form s action.Skip = t.Skip
+action_form s action.Stop = t.Stop
+action_form s (action.Assignment el els e es) = made assigning (assignment_tree s (el ∷ els) (e ∷ es))
+action_form s (action.Output el item items) = t.Unknown
+action_form s (action.Input input) = t.Unknown

@@ -8,3 +8,8 @@ pub mod Parts
 pub mod Records
 pub mod Specifying
 pub mod Units
+pub mod Using
+pub mod TypedLines
+pub mod Typed
+pub mod inside
+pub mod Rounds

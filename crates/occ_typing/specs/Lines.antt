@@ -1,40 +1,47 @@
 -- What a line is for the lines round it.
-use Rattle.std.specs.Prelude.{Some, None, List, [], ◌∷◌}
+use Rattle.std.specs.Prelude.{Option, Some, None, List, [], ◌∷◌}
 use Rattle.occ_base.specs.declared.code.Code.TheVariants as code
 use Rattle.occ_base.specs.declared.diag.Diag.{Diag}
 use Rattle.occ_names.specs.declared.meaning.Entry.{Entry}
 use Rattle.occ_base.specs.Telling.{nameless}
 use Rattle.occ_base.specs.declared.fault.Fault.{Fault}
 use Rattle.occ_typing.specs.declared.parent.Line.{Line}
+use Rattle.occ_typing.specs.declared.tree.TypedForm.{TypedForm}
+use Rattle.occ_typing.specs.declared.tree.TypedForm.TheVariants as t
 use Rattle.occ_typing.specs.declared.parent.Parent.{Parent}
 use Rattle.occ_typing.specs.declared.parent.Parent.TheVariants as parent
 
--- the faults of a line, the diagnostics of lines under it that are told with it, and what it is for those round it
+-- the faults of a line, the diagnostics of lines under it that are told with it, and what it is, for those round it too
 pub record Judged : Type 0 where
   pub faults : List Fault
   pub beneath : List Diag
   pub line : Line
 
 -- a main line, which says this of the lines under it
-abbrev pub over : List Fault → Parent → List Entry → Parent → Judged
-over faults under enters next =
+abbrev pub over : List Fault → Parent → List Entry → TypedForm → Parent → Judged
+over faults under enters form next =
     record {
       faults = faults;
       beneath = [];
-      line = record { parent = under; enters = enters; next = next; adds = None };
+      line = record { parent = under; enters = enters; next = next; adds = None; form = form };
     }
 
-abbrev pub main : List Fault → Parent → Judged
-main faults next = over faults parent.Process [] next
+abbrev pub main : List Fault → TypedForm → Parent → Judged
+main faults form next = over faults parent.Process [] form next
 
 -- a specification over no lines that it has anything to say of: of one line, a close, a head that typing does not know yet
-abbrev pub specifying : List Fault → List Entry → Parent → Judged
-specifying faults adds next =
+abbrev pub specifying : List Fault → List Entry → TypedForm → Parent → Judged
+specifying faults adds form next =
     record {
       faults = faults;
       beneath = [];
-      line = record { parent = parent.Process; enters = []; next = next; adds = Some adds };
+      line = record { parent = parent.Process; enters = []; next = next; adds = Some adds; form = form };
     }
+
+-- what a line is, if its trees are there
+abbrev pub made : {X : Type 0} → (X → TypedForm) → Option X → TypedForm
+made form None = t.Unknown
+made form (Some x) = form x
 
 -- a line that typing does not know yet
 abbrev pub beyond : List Fault

@@ -10,6 +10,7 @@ use Rattle.occ_typing.specs.Lines.{Judged}
 use Rattle.occ_typing.specs.Placed.{placed}
 use Rattle.occ_typing.specs.Units.{behind_line, judged}
 use Rattle.occ_typing.specs.declared.parent.Parent.{Parent}
+use Rattle.occ_typing.specs.declared.using.Import.{Import}
 use Rattle.occ_typing.specs.declared.parent.Parent.TheVariants as parent
 
 -- a line with those under it, what its parent says of it, and what stands in scope there
@@ -19,8 +20,8 @@ pub record At : Type 0 where
   pub parent : Parent
   pub scope : Scope
 
-abbrev pub judged_at : Parent → Scope → ExpandedLine → Forest → Judged
-judged_at p s l under = judged s l.body under p
+abbrev pub judged_at : List Import → Parent → Scope → ExpandedLine → Forest → Judged
+judged_at is p s l under = judged is s l.body under p
 
 -- in scope under a line: what stands in scope there, and what it enters
 abbrev pub inner : Judged → Scope → Scope
@@ -28,27 +29,27 @@ inner x s = with_all s x.line.enters
 
 -- a line stands somewhere in trees of which their parent says p, where s stands in scope at the first of their lines and
 -- outer round their item
-pub data Stands : Parent → Scope → Scope → Forest → At → Type 0 where
+pub data Stands (is : List Import) : Parent → Scope → Scope → Forest → At → Type 0 where
   first : (p : Parent) (outer s : Scope) (l : ExpandedLine) (under behind : Forest)
-      → Stands p outer s (Tree l under behind) (record { line = l; under = under; parent = p; scope = s })
+      → Stands is p outer s (Tree l under behind) (record { line = l; under = under; parent = p; scope = s })
   inside : (p : Parent) (outer s : Scope) (l : ExpandedLine) (under behind : Forest) (a : At)
-      → Stands (judged_at p s l under).line.parent (inner (judged_at p s l under) s) (inner (judged_at p s l under) s) under a
-      → Stands p outer s (Tree l under behind) a
+      → Stands is (judged_at is p s l under).line.parent (inner (judged_at is p s l under) s) (inner (judged_at is p s l under) s) under a
+      → Stands is p outer s (Tree l under behind) a
   later : (p : Parent) (outer s : Scope) (l : ExpandedLine) (under behind : Forest) (a : At)
-      → Stands (judged_at p s l under).line.next outer (behind_line outer s (judged_at p s l under).line.adds) behind a
-      → Stands p outer s (Tree l under behind) a
+      → Stands is (judged_at is p s l under).line.next outer (behind_line outer s (judged_at is p s l under).line.adds) behind a
+      → Stands is p outer s (Tree l under behind) a
 
 -- what a line tells, and, of a record, what the lines of its fields tell
-abbrev pub told_at : At → List Diag
-told_at a = (judged_at a.parent a.scope a.line a.under).beneath ++ placed a.line (judged_at a.parent a.scope a.line a.under).faults
+abbrev pub told_at : List Import → At → List Diag
+told_at is a = (judged_at is a.parent a.scope a.line a.under).beneath ++ placed a.line (judged_at is a.parent a.scope a.line a.under).faults
 
 abbrev pub IsAmong : Diag → List Diag → Type 0
 IsAmong d [] = ⊥
 IsAmong d (x ∷ xs) = (d ≡ x) ⊎ IsAmong d xs
 
-abbrev pub IsToldIn : Parent → Scope → Scope → Forest → Diag → Type 0
-IsToldIn p outer s f d = (a : At) × Stands p outer s f a × IsAmong d (told_at a)
+abbrev pub IsToldIn : List Import → Parent → Scope → Scope → Forest → Diag → Type 0
+IsToldIn is p outer s f d = (a : At) × Stands is p outer s f a × IsAmong d (told_at is a)
 
 -- of some line of a unit
-abbrev pub IsTold : Forest → Diag → Type 0
-IsTold f d = IsToldIn parent.Process nothing nothing f d
+abbrev pub IsTold : List Import → Forest → Diag → Type 0
+IsTold is f d = IsToldIn is parent.Process nothing nothing f d

@@ -12,12 +12,15 @@ use Rattle.occ_project.specs.declared.expanded.ExpandedLine.{ExpandedLine}
 use Rattle.occ_specification_forms.specs.declared.tree.Specified.{Specified}
 use Rattle.occ_specification_forms.specs.declared.tree.Specified.TheVariants as specified
 use Rattle.occ_tree.specs.Forest.{Forest, Empty, Tree}
-use Rattle.occ_typing.specs.Actions.{action_faults}
+use Rattle.occ_typing.specs.Actions.{action_faults, action_form}
 use Rattle.occ_typing.specs.Constructs.{constructing}
 use Rattle.occ_typing.specs.Lines.{Judged, beyond, main, over, specifying}
 use Rattle.occ_typing.specs.Parts.{expressing, parting}
 use Rattle.occ_typing.specs.Placed.{placed}
 use Rattle.occ_typing.specs.Specifying.{heading, one_line}
+use Rattle.occ_typing.specs.Using.{imported}
+use Rattle.occ_typing.specs.declared.tree.TypedForm.TheVariants as t
+use Rattle.occ_typing.specs.declared.using.Import.{Import}
 use Rattle.occ_typing.specs.declared.parent.Parent.{Parent}
 use Rattle.occ_typing.specs.declared.parent.Parent.TheVariants as parent
 
@@ -27,25 +30,26 @@ specifying_line s (specified.Head h) under next = heading s h under next
 
 abbrev pub form_line : Scope → Form → Forest → Parent → Judged
 form_line s (form.Specified x) under next = specifying_line s x under next
-form_line s form.Close under next = specifying [] [] next
-form_line s (form.Action a) under next = main (action_faults s a) next
+form_line s form.Close under next = specifying [] [] t.Close next
+form_line s (form.Action a) under next = main (action_faults s a) (action_form s a) next
 form_line s (form.Construct c) under next = constructing s c next
 form_line s (form.Part q) under next = parting s q next
 form_line s (form.Expressions e es) under next = expressing s e es next
-form_line s (form.Tagged name d ds) under next = main beyond next
+form_line s (form.Tagged name d ds) under next = main beyond t.Unknown next
 
-abbrev pub line : Scope → ExpandedBody → Forest → Parent → Judged
-line s (body.Form f) under next = form_line s f under next
-line s (body.Uses units) under next = specifying beyond [] next
-line s (body.Fault code) under next = main [] next
+abbrev pub line : List Import → Scope → ExpandedBody → Forest → Parent → Judged
+line is s (body.Form f) under next = form_line s f under next
+line is s (body.Uses units) under next = specifying [] (imported is units) t.Uses next
+line is s (body.Fault code) under next = main [] t.Unknown next
 
--- a line with these under it, whose parent says this of it; the lines of a record are told with its head
-unfoldable pub judged : Scope → ExpandedBody → Forest → Parent → Judged
-judged s b under parent.Process = line s b under parent.Process
-judged s b under parent.Conditional = line s b under parent.Conditional
-judged s b under (parent.Selection c) = line s b under (parent.Selection c)
-judged s b under (parent.Function types) = line s b under (parent.Function types)
-judged s b under parent.Record = over [] parent.Record [] parent.Record
+-- a line with these under it, whose parent says this of it, where units are used that export this; the lines of a record
+-- are told with its head
+unfoldable pub judged : List Import → Scope → ExpandedBody → Forest → Parent → Judged
+judged is s b under parent.Process = line is s b under parent.Process
+judged is s b under parent.Conditional = line is s b under parent.Conditional
+judged is s b under (parent.Selection c) = line is s b under (parent.Selection c)
+judged is s b under (parent.Function types) = line is s b under (parent.Function types)
+judged is s b under parent.Record = over [] parent.Record [] t.Member parent.Record
 
 -- what stands in scope behind a line: a specification adds to the item, a main line ends it
 abbrev pub behind_line : Scope → Scope → Option (List Entry) → Scope
@@ -53,21 +57,21 @@ behind_line outer s None = outer
 behind_line outer s (Some adds) = with_all s adds
 
 -- of lines of which their parent says this; s stands in scope at the first of them, and outer at the next item
-abbrev pub lines : Parent → Scope → Scope → Forest → List Diag
-lines p outer s Empty = []
-lines p outer s (Tree l under behind) =
-    let x = judged s l.body under p in
+abbrev pub lines : List Import → Parent → Scope → Scope → Forest → List Diag
+lines is p outer s Empty = []
+lines is p outer s (Tree l under behind) =
+    let x = judged is s l.body under p in
     let inner = with_all s x.line.enters in
-    (x.beneath ++ (lines x.line.parent inner inner under ++ placed l x.faults))
-    ++ lines x.line.next outer (behind_line outer s x.line.adds) behind
+    (x.beneath ++ (lines is x.line.parent inner inner under ++ placed l x.faults))
+    ++ lines is x.line.next outer (behind_line outer s x.line.adds) behind
 
 -- of a line, of those of fields that it tells, and of those under it
-abbrev pub line_faults : Parent → Scope → ExpandedLine → Forest → List Diag
-line_faults p s l under =
-    let x = judged s l.body under p in
+abbrev pub line_faults : List Import → Parent → Scope → ExpandedLine → Forest → List Diag
+line_faults is p s l under =
+    let x = judged is s l.body under p in
     let inner = with_all s x.line.enters in
-    x.beneath ++ (lines x.line.parent inner inner under ++ placed l x.faults)
+    x.beneath ++ (lines is x.line.parent inner inner under ++ placed l x.faults)
 
 -- of the lines of a unit: nothing is in scope at the first
-abbrev pub type_faults : Forest → List Diag
-type_faults f = lines parent.Process nothing nothing f
+abbrev pub type_faults : List Import → Forest → List Diag
+type_faults is f = lines is parent.Process nothing nothing f

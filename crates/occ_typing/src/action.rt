@@ -1,34 +1,46 @@
-ghost use Rattle.occ_typing.specs.Actions.{action_faults};
-ghost use Rattle.std.specs.Prelude.{◌≡◌, ◌++◌, OnOk};
+ghost use Rattle.occ_typing.specs.Actions.{action_faults, action_form as told_form};
+ghost use Rattle.std.specs.Prelude.{◌≡◌, ◌++◌, IfOk, OnOk};
 
+use super::form::assignment_form;
+use super::tree::TypedForm;
 use occ_base::{Code, Fault, Items, tell};
 use occ_forms::Action;
 use occ_names::Scope;
 use occ_typed_statements::assignment;
 use std::alloc::{AllocError, Global};
 
-/// What a process of one line tells.
+/// What a process of one line tells, and what it is.
 pub fn action(
     alloc: Global,
     action: &Action,
     scope: &Scope,
     faults: &mut Items<Fault>,
-) -> Result<(), AllocError>
-    ensures { OnOk result (faults.new ≡ faults.old ++ action_faults scope.now action.now) }
+) -> Result<TypedForm, AllocError>
+    ensures form { IfOk result (λ form. form ≡ told_form scope.now action.now) }
+    ensures faults { OnOk result (faults.new ≡ faults.old ++ action_faults scope.now action.now) }
 {
     match action {
-        Action::Skip => Ok(()),
-        Action::Stop => Ok(()),
-        Action::Assignment(target, targets, value, values) => assignment(
-            alloc,
-            target,
-            targets.as_slice(),
-            value,
-            values.as_slice(),
-            scope,
-            faults,
-        ),
-        Action::Output(_, _, _) => tell(faults, Code::S1),
-        Action::Input(_) => tell(faults, Code::S1),
+        Action::Skip => Ok(TypedForm::Skip),
+        Action::Stop => Ok(TypedForm::Stop),
+        Action::Assignment(target, targets, value, values) => {
+            let tree = assignment(
+                alloc,
+                target,
+                targets.as_slice(),
+                value,
+                values.as_slice(),
+                scope,
+                faults,
+            )?;
+            Ok(assignment_form(tree))
+        }
+        Action::Output(_, _, _) => {
+            tell(faults, Code::S1)?;
+            Ok(TypedForm::Unknown)
+        }
+        Action::Input(_) => {
+            tell(faults, Code::S1)?;
+            Ok(TypedForm::Unknown)
+        }
     }
 }

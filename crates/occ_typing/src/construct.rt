@@ -1,8 +1,10 @@
-ghost use Rattle.occ_typing.specs.Constructs.{choosing as told_choosing, constructing as told_constructing, replicable as told_replicable, under_word as told_under_word, word_faults as told_word_faults};
+ghost use Rattle.occ_typing.specs.Constructs.{choosing as told_choosing, constructing as told_constructing, replicable as told_replicable, under_word as told_under_word, word_faults as told_word_faults, word_form as told_word_form};
 ghost use Rattle.std.specs.Prelude.{◌≡◌, ◌++◌, IfOk, OnOk};
 
+use super::form::{selection_form, while_form};
 use super::line::{over, plain};
 use super::parent::{Choosing, Line, Parent};
+use super::tree::{BlockKind, TypedForm};
 use occ_base::{Code, Fault, Items, tell};
 use occ_expression_forms::Expr;
 use occ_forms::{Construct, ConstructKind, Replicator};
@@ -23,6 +25,20 @@ fn under_word(word: ConstructKind) -> Parent
         ConstructKind::Conditional => Parent::Conditional,
         ConstructKind::Alternation => Parent::Process,
         ConstructKind::PriAlternation => Parent::Process,
+    }
+}
+
+/// A construct of this word without a replicator.
+fn word_form(word: ConstructKind) -> TypedForm
+    ensures { result ≡ told_word_form word }
+{
+    match word {
+        ConstructKind::Sequence => TypedForm::Block(BlockKind::Sequence, None),
+        ConstructKind::Parallel => TypedForm::Block(BlockKind::Parallel, None),
+        ConstructKind::PriParallel => TypedForm::Block(BlockKind::Parallel, None),
+        ConstructKind::Conditional => TypedForm::Block(BlockKind::Conditional, None),
+        ConstructKind::Alternation => TypedForm::Unknown,
+        ConstructKind::PriAlternation => TypedForm::Unknown,
     }
 }
 
@@ -54,12 +70,12 @@ fn replicable(
     match replicator {
         None => {
             tell_word(word, faults)?;
-            Ok(plain(alloc, under_word(word), next))
+            Ok(plain(alloc, under_word(word), word_form(word), next))
         }
         Some(replicator) => {
             tell(faults, Code::S1)?;
             let index = one_entry(alloc, &replicator.name, Meaning::Faulty)?;
-            Ok(over(under_word(word), index, next))
+            Ok(over(under_word(word), index, TypedForm::Unknown, next))
         }
     }
 }
@@ -91,16 +107,16 @@ pub fn construct(
             replicable(alloc, *word, replicator, next, faults)
         }
         Construct::While(expr) => {
-            condition(alloc, expr, scope, faults)?;
-            Ok(plain(alloc, Parent::Process, next))
+            let tree = condition(alloc, expr, scope, faults)?;
+            Ok(plain(alloc, Parent::Process, while_form(tree), next))
         }
         Construct::Case(expr) => {
-            let kind = selector(alloc, expr, scope, faults)?;
-            Ok(plain(alloc, choosing(alloc, kind), next))
+            let (kind, tree) = selector(alloc, expr, scope, faults)?;
+            Ok(plain(alloc, choosing(alloc, kind), selection_form(tree), next))
         }
         Construct::CaseInput(_) => {
             tell(faults, Code::S1)?;
-            Ok(plain(alloc, Parent::Process, next))
+            Ok(plain(alloc, Parent::Process, TypedForm::Unknown, next))
         }
     }
 }

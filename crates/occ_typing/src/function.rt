@@ -1,20 +1,25 @@
 ghost use Rattle.occ_typed_heads.specs.Heads.{function as told_head};
 ghost use Rattle.occ_names.specs.Visible.{with_all};
 ghost use Rattle.occ_typed_statements.specs.Statements.{is_any_faulty};
-ghost use Rattle.occ_typing.specs.Parts.{results_of as told_results};
-ghost use Rattle.occ_typing.specs.Specifying.{function_faults as told_faults, function_meaning as told_meaning, known_unless as told_unless};
-ghost use Rattle.std.specs.Prelude.{◌≡◌, ◌∷◌, ◌++◌, IfOk, OnOk};
+ghost use Rattle.occ_typing.specs.Lines.{made, specifying as told_specifying};
+ghost use Rattle.occ_typing.specs.Parts.{results_in as told_results_in, results_of as told_results};
+ghost use Rattle.occ_typing.specs.Specifying.{function_faults as told_faults, function_line as told_function_line, known_unless as told_unless, named as told_named, one_line_function};
+ghost use Rattle.std.specs.Prelude.{◌≡◌, ◌∷◌, ◌++◌, [], IfOk, OnOk};
 
+use super::line::line_of_one;
+use super::parent::{Line, Parent};
 use super::part::results_of;
-use occ_base::{Fault, Items, Shared};
+use super::tree::TypedForm;
+use occ_base::{Fault, Items, Name, Shared};
 use occ_expression_forms::Expr;
-use occ_names::{Entry, Meaning, Scope};
+use occ_names::{Entry, Meaning, Scope, one_entry};
 use occ_specification_forms::FunctionHead;
+use occ_typed::TypedExpr;
 use occ_typed_heads::{Heading, function_head};
 use occ_types::OccType;
 use std::alloc::{AllocError, Global};
 
-/// The results of a FUNCTION of one line, under its formals, and whether one of them has a fault.
+/// The results of a FUNCTION of one line, under its formals: whether one of them has a fault, and their trees.
 #[tactic(auto, using(crate::proofs::Scopes::scope_rules))]
 fn results_under(
     alloc: Global,
@@ -24,16 +29,17 @@ fn results_under(
     types: &Option<Items<Shared<OccType>>>,
     scope: &mut Scope,
     faults: &mut Items<Fault>,
-) -> Result<bool, AllocError>
-    ensures faulty { IfOk result (λ faulty. faulty ≡ is_any_faulty (with_all scope.old formals.now) (first.now ∷ more.now)) }
+) -> Result<(bool, Option<Items<Shared<TypedExpr>>>), AllocError>
+    ensures faulty { IfOk result (λ r. r.0 ≡ is_any_faulty (with_all scope.old formals.now) (first.now ∷ more.now)) }
+    ensures trees { IfOk result (λ r. r.1 ≡ told_results_in (with_all scope.old formals.now) types.now (first.now ∷ more.now)) }
     ensures scope { OnOk result (scope.new ≡ scope.old) }
     ensures faults { OnOk result (faults.new ≡ faults.old ++ told_results (with_all scope.old formals.now) types.now (first.now ∷ more.now)) }
 {
     let count = scope.len();
     scope.enter_all(alloc, formals)?;
-    let faulty = results_of(alloc, first, more, types, scope, faults)?;
+    let found = results_of(alloc, first, more, types, scope, faults)?;
     scope.leave_to(count);
-    Ok(faulty)
+    Ok(found)
 }
 
 /// What a name stands for, if its line told nothing and has no faulty expression.
@@ -47,8 +53,16 @@ fn known_unless(faults: &Items<Fault>, faulty: bool, meaning: Meaning) -> Meanin
     }
 }
 
-/// What the head of a FUNCTION of one line makes known, and whether one of its expressions has a fault, with all that
-/// the line tells.
+/// What is read of a FUNCTION of one line: what its head makes known, whether one of its expressions has a fault, and their
+/// trees.
+#[derive(Drop)]
+struct FunctionRead {
+    heading: Heading,
+    faulty: bool,
+    trees: Option<Items<Shared<TypedExpr>>>,
+}
+
+/// A FUNCTION of one line, with all that it tells.
 #[tactic(auto, unfolding(crate::specs::Specifying::function_faults))]
 fn function_told(
     alloc: Global,
@@ -57,14 +71,15 @@ fn function_told(
     more: &[Expr],
     scope: &mut Scope,
     faults: &mut Items<Fault>,
-) -> Result<(Heading, bool), AllocError>
-    ensures heading { IfOk result (λ r. r.0 ≡ (told_head scope.old head.now).heading) }
-    ensures faulty { IfOk result (λ r. r.1 ≡ is_any_faulty (with_all scope.old (told_head scope.old head.now).heading.formals) (first.now ∷ more.now)) }
+) -> Result<FunctionRead, AllocError>
+    ensures heading { IfOk result (λ read. read.heading ≡ (told_head scope.old head.now).heading) }
+    ensures faulty { IfOk result (λ read. read.faulty ≡ is_any_faulty (with_all scope.old (told_head scope.old head.now).heading.formals) (first.now ∷ more.now)) }
+    ensures trees { IfOk result (λ read. read.trees ≡ told_results_in (with_all scope.old (told_head scope.old head.now).heading.formals) (told_head scope.old head.now).heading.results (first.now ∷ more.now)) }
     ensures scope { OnOk result (scope.new ≡ scope.old) }
     ensures faults { OnOk result (faults.new ≡ faults.old ++ told_faults scope.old (told_head scope.old head.now) (first.now ∷ more.now)) }
 {
     let heading = function_head(alloc, head, scope, faults)?;
-    let faulty = results_under(
+    let (faulty, trees) = results_under(
         alloc,
         first,
         more,
@@ -73,26 +88,66 @@ fn function_told(
         scope,
         faults,
     )?;
-    Ok((heading, faulty))
+    Ok(FunctionRead {
+        heading,
+        faulty,
+        trees,
+    })
 }
 
-/// What a FUNCTION of one line stands for behind it: `t, .. FUNCTION n (formals) IS e, ..:`
-#[tactic(auto, unfolding(crate::specs::Specifying::function_meaning))]
+/// A FUNCTION of one line with these formals, if its results have trees.
+fn form_of(formals: Items<Entry>, trees: Option<Items<Shared<TypedExpr>>>) -> TypedForm
+    ensures { result ≡ made (one_line_function formals) trees }
+{
+    match trees {
+        Some(trees) => TypedForm::OneLineFunction(formals, trees),
+        None => TypedForm::Unknown,
+    }
+}
+
+/// The line of a FUNCTION of one line of which this was read, and of which this was told.
+fn line_of_read(
+    alloc: Global,
+    name: &Name,
+    told: &Items<Fault>,
+    read: FunctionRead,
+    next: Parent,
+) -> Result<Line, AllocError>
+    ensures { IfOk result (λ one. one ≡ (told_specifying [] (told_named name.now (told_unless told.now read.faulty read.heading.meaning)) (made (one_line_function read.heading.formals) read.trees) next).line) }
+{
+    let FunctionRead {
+        heading,
+        faulty,
+        trees,
+    } = read;
+    let Heading {
+        formals,
+        meaning,
+        results: _,
+    } = heading;
+    let meaning = known_unless(told, faulty, meaning);
+    let adds = one_entry(alloc, name, meaning)?;
+    Ok(line_of_one(alloc, adds, form_of(formals, trees), next))
+}
+
+/// A FUNCTION of one line: `t, .. FUNCTION n (formals) IS e, ..:`
+#[tactic(auto, unfolding(crate::specs::Specifying::function_meaning, crate::specs::Specifying::function_form))]
 pub fn function_line(
     alloc: Global,
     head: &FunctionHead,
     first: &Expr,
     more: &[Expr],
     scope: &mut Scope,
+    next: Parent,
     faults: &mut Items<Fault>,
-) -> Result<Meaning, AllocError>
-    ensures meaning { IfOk result (λ meaning. meaning ≡ told_meaning scope.old (told_head scope.old head.now) (first.now ∷ more.now)) }
+) -> Result<Line, AllocError>
+    ensures line { IfOk result (λ one. one ≡ (told_function_line scope.old head.now (first.now ∷ more.now) next).line) }
     ensures scope { OnOk result (scope.new ≡ scope.old) }
-    ensures faults { OnOk result (faults.new ≡ faults.old ++ told_faults scope.old (told_head scope.old head.now) (first.now ∷ more.now)) }
+    ensures faults { OnOk result (faults.new ≡ faults.old ++ (told_function_line scope.old head.now (first.now ∷ more.now) next).faults) }
 {
     let mut told = Items::new(alloc);
-    let (heading, faulty) = function_told(alloc, head, first, more, scope, &mut told)?;
-    let meaning = known_unless(&told, faulty, heading.meaning);
+    let read = function_told(alloc, head, first, more, scope, &mut told)?;
+    let line = line_of_read(alloc, &head.name, &told, read, next)?;
     faults.append(told)?;
-    Ok(meaning)
+    Ok(line)
 }

@@ -11,6 +11,7 @@ ghost use Rattle.std.specs.Prelude.{◌≡◌, ◌++◌, [], Some, IfOk, OnOk};
 use super::line::specifying;
 use super::parent::{Line, Parent};
 use super::record::record_of;
+use super::tree::TypedForm;
 use occ_base::{Code, Diag, Fault, Items, Name, tell};
 use occ_names::{Entry, Meaning, Scope, one_entry};
 use occ_specification_forms::Head;
@@ -26,12 +27,13 @@ fn headed(
     meaning: Meaning,
     under: Parent,
     enters: Items<Entry>,
+    form: TypedForm,
     next: Parent,
 ) -> Result<Line, AllocError>
-    ensures { IfOk result (λ line. line ≡ record { parent = under; enters = enters; next = next; adds = Some (told_named name.now meaning) }) }
+    ensures { IfOk result (λ line. line ≡ record { parent = under; enters = enters; next = next; adds = Some (told_named name.now meaning); form = form }) }
 {
     let adds = one_entry(alloc, name, meaning)?;
-    Ok(specifying(under, enters, adds, next))
+    Ok(specifying(under, enters, adds, form, next))
 }
 
 /// The head of a record, with what the lines of its fields tell.
@@ -56,6 +58,7 @@ fn record_head(
         meaning,
         Parent::Record,
         Items::new(alloc),
+        TypedForm::RecordHead,
         next,
     )
 }
@@ -83,13 +86,22 @@ pub fn heading(
                 known.meaning,
                 Parent::Process,
                 known.formals,
+                TypedForm::ProcedureHead,
                 next,
             )
         }
         Head::Function(head) => {
             let known = function_head(alloc, head, scope, faults)?;
             let under = Parent::Function(known.results);
-            headed(alloc, &head.name, known.meaning, under, known.formals, next)
+            headed(
+                alloc,
+                &head.name,
+                known.meaning,
+                under,
+                known.formals,
+                TypedForm::FunctionHead,
+                next,
+            )
         }
         Head::Protocol(name) => {
             tell(faults, Code::S1)?;
@@ -99,6 +111,7 @@ pub fn heading(
                 Meaning::Faulty,
                 Parent::Process,
                 Items::new(alloc),
+                TypedForm::Unknown,
                 next,
             )
         }

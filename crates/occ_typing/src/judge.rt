@@ -11,6 +11,8 @@ use super::line::{line_of_one, main, plain};
 use super::parent::{Line, Parent};
 use super::part::{expressions, part};
 use super::specifying::one_line;
+use super::tree::TypedForm;
+use super::using::{Import, imported};
 use occ_base::{Code, Diag, Fault, Items, tell};
 use occ_forms::Form;
 use occ_names::Scope;
@@ -59,10 +61,10 @@ fn form_line(
         Form::Specified(specified) => {
             specifying_line(alloc, specified, nodes, scope, parent, found, faults)
         }
-        Form::Close => Ok(line_of_one(alloc, Items::new(alloc), parent)),
+        Form::Close => Ok(line_of_one(alloc, Items::new(alloc), TypedForm::Close, parent)),
         Form::Action(behind) => {
-            action(alloc, behind, scope, faults)?;
-            Ok(main(alloc, parent))
+            let form = action(alloc, behind, scope, faults)?;
+            Ok(main(alloc, form, parent))
         }
         Form::Construct(behind) => construct(alloc, behind, scope, parent, faults),
         Form::Part(behind) => part(alloc, behind, scope, parent, faults),
@@ -71,7 +73,7 @@ fn form_line(
         }
         Form::Tagged(_, _, _) => {
             tell(faults, Code::S1)?;
-            Ok(main(alloc, parent))
+            Ok(main(alloc, TypedForm::Unknown, parent))
         }
     }
 }
@@ -79,6 +81,7 @@ fn form_line(
 /// A line with these nodes under it, which its parent does not tell.
 fn line(
     alloc: Global,
+    imports: &[Import],
     body: &ExpandedBody,
     nodes: &[Node],
     scope: &mut Scope,
@@ -86,20 +89,20 @@ fn line(
     found: &mut Items<Diag>,
     faults: &mut Items<Fault>,
 ) -> Result<Line, AllocError>
-    ensures line { IfOk result (λ one. one ≡ (told_line scope.old body.now (forest_of nodes.now) parent).line) }
+    ensures line { IfOk result (λ one. one ≡ (told_line imports.now scope.old body.now (forest_of nodes.now) parent).line) }
     ensures scope { OnOk result (scope.new ≡ scope.old) }
-    ensures found { OnOk result (found.new ≡ found.old ++ (told_line scope.old body.now (forest_of nodes.now) parent).beneath) }
-    ensures faults { OnOk result (faults.new ≡ faults.old ++ (told_line scope.old body.now (forest_of nodes.now) parent).faults) }
+    ensures found { OnOk result (found.new ≡ found.old ++ (told_line imports.now scope.old body.now (forest_of nodes.now) parent).beneath) }
+    ensures faults { OnOk result (faults.new ≡ faults.old ++ (told_line imports.now scope.old body.now (forest_of nodes.now) parent).faults) }
 {
     match body {
         ExpandedBody::Form(form) => {
             form_line(alloc, form.get(), nodes, scope, parent, found, faults)
         }
-        ExpandedBody::Uses(_) => {
-            tell(faults, Code::S1)?;
-            Ok(line_of_one(alloc, Items::new(alloc), parent))
+        ExpandedBody::Uses(units) => {
+            let adds = imported(alloc, imports, units.as_slice())?;
+            Ok(line_of_one(alloc, adds, TypedForm::Uses, parent))
         }
-        ExpandedBody::Fault(_) => Ok(main(alloc, parent)),
+        ExpandedBody::Fault(_) => Ok(main(alloc, TypedForm::Unknown, parent)),
     }
 }
 
@@ -108,6 +111,7 @@ fn line(
 #[tactic(auto, unfolding(crate::specs::Units::judged))]
 pub fn judged(
     alloc: Global,
+    imports: &[Import],
     body: &ExpandedBody,
     nodes: &[Node],
     scope: &mut Scope,
@@ -115,16 +119,26 @@ pub fn judged(
     found: &mut Items<Diag>,
     faults: &mut Items<Fault>,
 ) -> Result<Line, AllocError>
-    ensures line { IfOk result (λ one. one ≡ (told_judged scope.old body.now (forest_of nodes.now) parent).line) }
+    ensures line { IfOk result (λ one. one ≡ (told_judged imports.now scope.old body.now (forest_of nodes.now) parent).line) }
     ensures scope { OnOk result (scope.new ≡ scope.old) }
-    ensures found { OnOk result (found.new ≡ found.old ++ (told_judged scope.old body.now (forest_of nodes.now) parent).beneath) }
-    ensures faults { OnOk result (faults.new ≡ faults.old ++ (told_judged scope.old body.now (forest_of nodes.now) parent).faults) }
+    ensures found { OnOk result (found.new ≡ found.old ++ (told_judged imports.now scope.old body.now (forest_of nodes.now) parent).beneath) }
+    ensures faults { OnOk result (faults.new ≡ faults.old ++ (told_judged imports.now scope.old body.now (forest_of nodes.now) parent).faults) }
 {
     match parent {
-        Parent::Record => Ok(plain(alloc, Parent::Record, Parent::Record)),
-        Parent::Process => line(alloc, body, nodes, scope, Parent::Process, found, faults),
+        Parent::Record => Ok(plain(alloc, Parent::Record, TypedForm::Member, Parent::Record)),
+        Parent::Process => line(
+            alloc,
+            imports,
+            body,
+            nodes,
+            scope,
+            Parent::Process,
+            found,
+            faults,
+        ),
         Parent::Conditional => line(
             alloc,
+            imports,
             body,
             nodes,
             scope,
@@ -135,6 +149,7 @@ pub fn judged(
         Parent::Selection(choosing) => {
             line(
                 alloc,
+                imports,
                 body,
                 nodes,
                 scope,
@@ -146,6 +161,7 @@ pub fn judged(
         Parent::Function(types) => {
             line(
                 alloc,
+                imports,
                 body,
                 nodes,
                 scope,

@@ -1,3 +1,4 @@
+use super::tree::TypedForm;
 use occ_base::{Items, Shared};
 use occ_names::Entry;
 use occ_operands::Kind;
@@ -41,4 +42,6 @@ pub struct Line {
     pub next: Parent,
     /// What comes into scope behind it, if it is a specification; else it ends the scope of those of its item.
     pub adds: Option<Items<Entry>>,
+    /// What it is, once its names and expressions are typed.
+    pub form: TypedForm,
 }

@@ -1,13 +1,16 @@
-ghost use Rattle.occ_typing.specs.Parts.{else_option as told_else_option, expressing as told_expressing, option as told_option, otherwise as told_otherwise, parting as told_parting, resulting as told_resulting, results_of as told_results, second as told_second, valued as told_valued};
+ghost use Rattle.occ_typing.specs.Parts.{else_option as told_else_option, expressing as told_expressing, option as told_option, otherwise as told_otherwise, parting as told_parting, resulting as told_resulting, results_in as told_results_in, results_of as told_results, second as told_second, valued as told_valued};
 ghost use Rattle.occ_typed_statements.specs.Statements.{is_any_faulty};
-ghost use Rattle.std.specs.Prelude.{◌≡◌, ◌∷◌, ◌++◌, IfOk, OnOk};
+ghost use Rattle.std.specs.Prelude.{◌≡◌, ◌∷◌, ◌++◌, [], IfOk, OnOk};
 
+use super::form::{condition_form, options_form, results_form};
 use super::line::{main, plain};
 use super::parent::{Choosing, Line, Parent};
+use super::tree::TypedForm;
 use occ_base::{Code, Fault, Items, Shared, tell};
 use occ_expression_forms::Expr;
 use occ_forms::Part;
 use occ_names::Scope;
+use occ_typed::TypedExpr;
 use occ_typed_statements::{condition, options, results, values};
 use occ_types::OccType;
 use std::alloc::{AllocError, Global};
@@ -24,7 +27,7 @@ fn option(
     ensures line { IfOk result (λ line. line ≡ (told_option scope.now choosing (first.now ∷ more.now)).line) }
     ensures faults { OnOk result (faults.new ≡ faults.old ++ (told_option scope.now choosing (first.now ∷ more.now)).faults) }
 {
-    options(
+    let trees = options(
         alloc,
         first,
         more,
@@ -33,7 +36,7 @@ fn option(
         scope,
         faults,
     )?;
-    Ok(main(alloc, Parent::Selection(choosing)))
+    Ok(main(alloc, options_form(trees), Parent::Selection(choosing)))
 }
 
 /// T8 is told of a second `ELSE`.
@@ -61,11 +64,11 @@ fn else_option(
         numbers: choosing.numbers,
         otherwise: true,
     };
-    Ok(main(alloc, Parent::Selection(choosing)))
+    Ok(main(alloc, TypedForm::Otherwise, Parent::Selection(choosing)))
 }
 
-/// The results of a FUNCTION, with which nothing is compared where its head has a fault, and whether one of them has a
-/// fault.
+/// The results of a FUNCTION, with which nothing is compared where its head has a fault: whether one of them has a fault,
+/// and their trees.
 pub fn results_of(
     alloc: Global,
     first: &Expr,
@@ -73,12 +76,16 @@ pub fn results_of(
     types: &Option<Items<Shared<OccType>>>,
     scope: &Scope,
     faults: &mut Items<Fault>,
-) -> Result<bool, AllocError>
-    ensures faulty { IfOk result (λ faulty. faulty ≡ is_any_faulty scope.now (first.now ∷ more.now)) }
+) -> Result<(bool, Option<Items<Shared<TypedExpr>>>), AllocError>
+    ensures faulty { IfOk result (λ r. r.0 ≡ is_any_faulty scope.now (first.now ∷ more.now)) }
+    ensures trees { IfOk result (λ r. r.1 ≡ told_results_in scope.now types.now (first.now ∷ more.now)) }
     ensures faults { OnOk result (faults.new ≡ faults.old ++ told_results scope.now types.now (first.now ∷ more.now)) }
 {
     match types {
-        None => values(alloc, first, more, scope, faults),
+        None => {
+            let faulty = values(alloc, first, more, scope, faults)?;
+            Ok((faulty, None))
+        }
         Some(types) => results(alloc, first, more, types.as_slice(), scope, faults),
     }
 }
@@ -97,21 +104,21 @@ pub fn expressions(
 {
     match parent {
         Parent::Conditional => {
-            condition(alloc, first, scope, faults)?;
-            Ok(main(alloc, Parent::Conditional))
+            let tree = condition(alloc, first, scope, faults)?;
+            Ok(main(alloc, condition_form(tree), Parent::Conditional))
         }
         Parent::Selection(choosing) => option(alloc, first, more, choosing, scope, faults),
         Parent::Process => {
             tell(faults, Code::S1)?;
-            Ok(main(alloc, Parent::Process))
+            Ok(main(alloc, TypedForm::Unknown, Parent::Process))
         }
         Parent::Function(types) => {
             tell(faults, Code::S1)?;
-            Ok(main(alloc, Parent::Function(types)))
+            Ok(main(alloc, TypedForm::Unknown, Parent::Function(types)))
         }
         Parent::Record => {
             tell(faults, Code::S1)?;
-            Ok(main(alloc, Parent::Record))
+            Ok(main(alloc, TypedForm::Unknown, Parent::Record))
         }
     }
 }
@@ -123,23 +130,29 @@ fn otherwise(alloc: Global, parent: Parent, faults: &mut Items<Fault>) -> Result
 {
     match parent {
         Parent::Selection(choosing) => else_option(alloc, choosing, faults),
-        Parent::Process => Ok(main(alloc, Parent::Process)),
-        Parent::Conditional => Ok(main(alloc, Parent::Conditional)),
-        Parent::Function(types) => Ok(main(alloc, Parent::Function(types))),
-        Parent::Record => Ok(main(alloc, Parent::Record)),
+        Parent::Process => Ok(main(alloc, TypedForm::Otherwise, Parent::Process)),
+        Parent::Conditional => Ok(main(alloc, TypedForm::Otherwise, Parent::Conditional)),
+        Parent::Function(types) => Ok(main(alloc, TypedForm::Otherwise, Parent::Function(types))),
+        Parent::Record => Ok(main(alloc, TypedForm::Otherwise, Parent::Record)),
     }
 }
 
 /// A `VALOF`.
 fn valued(alloc: Global, parent: Parent) -> Line
-    ensures { result ≡ (told_valued parent).line }
+    ensures line { result ≡ (told_valued parent).line }
+    ensures faults { (told_valued parent).faults ≡ [] }
 {
     match parent {
-        Parent::Function(types) => plain(alloc, Parent::Function(types), Parent::Process),
-        Parent::Process => main(alloc, Parent::Process),
-        Parent::Conditional => main(alloc, Parent::Conditional),
-        Parent::Selection(choosing) => main(alloc, Parent::Selection(choosing)),
-        Parent::Record => main(alloc, Parent::Record),
+        Parent::Function(types) => plain(
+            alloc,
+            Parent::Function(types),
+            TypedForm::ValueOf,
+            Parent::Process,
+        ),
+        Parent::Process => main(alloc, TypedForm::ValueOf, Parent::Process),
+        Parent::Conditional => main(alloc, TypedForm::ValueOf, Parent::Conditional),
+        Parent::Selection(choosing) => main(alloc, TypedForm::ValueOf, Parent::Selection(choosing)),
+        Parent::Record => main(alloc, TypedForm::ValueOf, Parent::Record),
     }
 }
 
@@ -157,13 +170,17 @@ fn resulting(
 {
     match parent {
         Parent::Function(types) => {
-            results_of(alloc, first, more, &types, scope, faults)?;
-            Ok(main(alloc, Parent::Function(types)))
+            let (_, trees) = results_of(alloc, first, more, &types, scope, faults)?;
+            Ok(main(alloc, results_form(trees), Parent::Function(types)))
         }
-        Parent::Process => Ok(main(alloc, Parent::Process)),
-        Parent::Conditional => Ok(main(alloc, Parent::Conditional)),
-        Parent::Selection(choosing) => Ok(main(alloc, Parent::Selection(choosing))),
-        Parent::Record => Ok(main(alloc, Parent::Record)),
+        Parent::Process => Ok(main(alloc, TypedForm::Unknown, Parent::Process)),
+        Parent::Conditional => Ok(main(alloc, TypedForm::Unknown, Parent::Conditional)),
+        Parent::Selection(choosing) => Ok(main(
+            alloc,
+            TypedForm::Unknown,
+            Parent::Selection(choosing),
+        )),
+        Parent::Record => Ok(main(alloc, TypedForm::Unknown, Parent::Record)),
     }
 }
 
@@ -181,18 +198,18 @@ pub fn part(
     match part {
         Part::Case => {
             tell(faults, Code::S1)?;
-            Ok(main(alloc, parent))
+            Ok(main(alloc, TypedForm::Unknown, parent))
         }
         Part::Else => otherwise(alloc, parent, faults),
         Part::ValueOf => Ok(valued(alloc, parent)),
         Part::Result(first, more) => {
             resulting(alloc, first, more.as_slice(), scope, parent, faults)
         }
-        Part::Record => Ok(main(alloc, parent)),
-        Part::PackedRecord => Ok(main(alloc, parent)),
+        Part::Record => Ok(main(alloc, TypedForm::Member, parent)),
+        Part::PackedRecord => Ok(main(alloc, TypedForm::Member, parent)),
         Part::Guard(_, _) => {
             tell(faults, Code::S1)?;
-            Ok(main(alloc, parent))
+            Ok(main(alloc, TypedForm::Unknown, parent))
         }
     }
 }

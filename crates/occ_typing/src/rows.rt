@@ -1,4 +1,5 @@
-ghost use Rattle.std.specs.Prelude.{[], ◌∷◌, ◌≡◌, None, false};
+ghost use Rattle.occ_typing.specs.declared.using.Import.{Import as AnImport};
+ghost use Rattle.std.specs.Prelude.{List, [], ◌∷◌, ◌≡◌, None, false};
 ghost use Rattle.occ_base.specs.Errors.{error_at};
 ghost use Rattle.occ_base.specs.declared.code.Code.TheVariants as code;
 ghost use Rattle.occ_forms.specs.declared.tree.Action.TheVariants as action;
@@ -16,12 +17,12 @@ ghost use Rattle.occ_typing.specs.declared.parent.Parent.TheVariants as parent;
 /// Under a CASE with an INT for its selector, an `ELSE` at line 3 and one at line 5, each over a `SKIP`: T8 at the second.
 #[tactic(auto, unfolding(crate::specs::Units::judged))]
 pub fn else_rows()
-    ensures { (s : Scope) → lines (parent.Selection (record { selector = known int None; numbers = record { keys = [] }; otherwise = false })) s s (Tree (at 3 (form.Part part.Else)) (Tree (at 4 (form.Action action.Skip)) Empty Empty) (Tree (at 5 (form.Part part.Else)) (Tree (at 6 (form.Action action.Skip)) Empty Empty) Empty)) ≡ error_at unit 5 code.T8 None ∷ [] }
+    ensures { (is : List AnImport) → (s : Scope) → lines is (parent.Selection (record { selector = known int None; numbers = record { keys = [] }; otherwise = false })) s s (Tree (at 3 (form.Part part.Else)) (Tree (at 4 (form.Action action.Skip)) Empty Empty) (Tree (at 5 (form.Part part.Else)) (Tree (at 6 (form.Action action.Skip)) Empty Empty) Empty)) ≡ error_at unit 5 code.T8 None ∷ [] }
 {}
 
 /// `SEQ` over `SKIP` tells nothing; `ALT`, which typing does not know yet, is S1.
 #[tactic(auto, unfolding(crate::specs::Units::judged))]
 pub fn construct_rows()
-    ensures known { (s : Scope) → lines parent.Process s s (Tree (at 2 (form.Construct (construct.Replicable word.Sequence None))) (Tree (at 3 (form.Action action.Skip)) Empty Empty) Empty) ≡ [] }
-    ensures unknown { (s : Scope) → lines parent.Process s s (Tree (at 2 (form.Construct (construct.Replicable word.Alternation None))) Empty Empty) ≡ error_at unit 2 code.S1 None ∷ [] }
+    ensures known { (is : List AnImport) → (s : Scope) → lines is parent.Process s s (Tree (at 2 (form.Construct (construct.Replicable word.Sequence None))) (Tree (at 3 (form.Action action.Skip)) Empty Empty) Empty) ≡ [] }
+    ensures unknown { (is : List AnImport) → (s : Scope) → lines is parent.Process s s (Tree (at 2 (form.Construct (construct.Replicable word.Alternation None))) Empty Empty) ≡ error_at unit 2 code.S1 None ∷ [] }
 {}

@@ -1,14 +1,87 @@
-ghost use Rattle.occ_typing.specs.Specifying.{one_line as told_one_line};
+ghost use Rattle.occ_typed_specifications.specs.Declaring.{declaration as told_declaration};
+ghost use Rattle.occ_typed_specifications.specs.Defining.{data_type as told_data_type};
+ghost use Rattle.occ_typed_specifications.specs.Lines.{unknown as told_unknown};
+ghost use Rattle.occ_typed_specifications.specs.Valuing.{value as told_value, value_tree};
+ghost use Rattle.occ_typing.specs.Lines.{made};
+ghost use Rattle.occ_typing.specs.Specifying.{declared_line, one_line as told_one_line};
+ghost use Rattle.occ_typing.specs.declared.tree.TypedForm.TheVariants as t;
 ghost use Rattle.std.specs.Prelude.{◌≡◌, ◌++◌, IfOk, OnOk};
 
+use super::form::value_form;
 use super::function::function_line;
 use super::line::line_of_one;
 use super::parent::{Line, Parent};
-use occ_base::{Fault, Items};
-use occ_names::{Scope, one_entry};
+use super::tree::TypedForm;
+use occ_base::{Fault, Items, Name};
+use occ_expression_forms::{Expr, TypeForm};
+use occ_names::Scope;
 use occ_specification_forms::Specification;
-use occ_typed_specifications::{data_type, declaration, unknown, value};
+use occ_typed_specifications::{ValueLine, data_type, declaration, unknown, value};
 use std::alloc::{AllocError, Global};
+
+/// A specification of one line that typing does not know yet.
+fn unknown_line(
+    alloc: Global,
+    name: &Name,
+    next: Parent,
+    faults: &mut Items<Fault>,
+) -> Result<Line, AllocError>
+    ensures line { IfOk result (λ one. one ≡ (declared_line (told_unknown name.now) t.Unknown next).line) }
+    ensures faults { OnOk result (faults.new ≡ faults.old ++ (told_unknown name.now).faults) }
+{
+    let adds = unknown(alloc, name, faults)?;
+    Ok(line_of_one(alloc, adds, TypedForm::Unknown, next))
+}
+
+/// A declaration.
+fn declaration_line(
+    alloc: Global,
+    of: &TypeForm,
+    first: &Name,
+    more: &[Name],
+    scope: &Scope,
+    next: Parent,
+    faults: &mut Items<Fault>,
+) -> Result<Line, AllocError>
+    ensures line { IfOk result (λ one. one ≡ (declared_line (told_declaration scope.now of.now first.now more.now) t.Declaration next).line) }
+    ensures faults { OnOk result (faults.new ≡ faults.old ++ (told_declaration scope.now of.now first.now more.now).faults) }
+{
+    let adds = declaration(alloc, of, first, more, scope, faults)?;
+    Ok(line_of_one(alloc, adds, TypedForm::Declaration, next))
+}
+
+/// A `VAL` form.
+fn value_line(
+    alloc: Global,
+    of: &Option<TypeForm>,
+    name: &Name,
+    expr: &Expr,
+    scope: &Scope,
+    next: Parent,
+    faults: &mut Items<Fault>,
+) -> Result<Line, AllocError>
+    ensures line { IfOk result (λ one. one ≡ (declared_line (told_value scope.now of.now name.now expr.now) (made t.Value (value_tree scope.now of.now expr.now)) next).line) }
+    ensures faults { OnOk result (faults.new ≡ faults.old ++ (told_value scope.now of.now name.now expr.now).faults) }
+{
+    let ValueLine { adds, tree } = value(alloc, of, name, expr, scope, faults)?;
+    Ok(line_of_one(alloc, adds, value_form(tree), next))
+}
+
+/// A data type of one line.
+fn data_type_line(
+    alloc: Global,
+    name: &Name,
+    of: &TypeForm,
+    scope: &Scope,
+    next: Parent,
+    faults: &mut Items<Fault>,
+) -> Result<Line, AllocError>
+    ensures line { IfOk result (λ one. one ≡ (declared_line (told_data_type scope.now name.now of.now) t.DataType next).line) }
+    ensures faults { OnOk result (faults.new ≡ faults.old ++ (told_data_type scope.now name.now of.now).faults) }
+{
+    let adds = data_type(alloc, name, of, scope, faults)?;
+    Ok(line_of_one(alloc, adds, TypedForm::DataType, next))
+}
 
 /// A specification of one line.
 pub fn one_line(
@@ -22,20 +95,20 @@ pub fn one_line(
     ensures scope { OnOk result (scope.new ≡ scope.old) }
     ensures faults { OnOk result (faults.new ≡ faults.old ++ (told_one_line scope.old line.now next).faults) }
 {
-    let adds = match line {
+    match line {
         Specification::Declaration(of, first, more) => {
-            declaration(alloc, of, first, more.as_slice(), scope, faults)?
+            declaration_line(alloc, of, first, more.as_slice(), scope, next, faults)
         }
-        Specification::Value(of, name, expr) => value(alloc, of, name, expr, scope, faults)?,
-        Specification::DataType(name, of) => data_type(alloc, name, of, scope, faults)?,
+        Specification::Value(of, name, expr) => {
+            value_line(alloc, of, name, expr, scope, next, faults)
+        }
+        Specification::DataType(name, of) => data_type_line(alloc, name, of, scope, next, faults),
         Specification::Function(head, first, more) => {
-            let meaning = function_line(alloc, head, first, more.as_slice(), scope, faults)?;
-            one_entry(alloc, &head.name, meaning)?
+            function_line(alloc, head, first, more.as_slice(), scope, next, faults)
         }
-        Specification::Abbreviation(_, name, _) => unknown(alloc, name, faults)?,
-        Specification::Retyped(_, _, name, _) => unknown(alloc, name, faults)?,
-        Specification::RetypedValue(_, _, name, _) => unknown(alloc, name, faults)?,
-        Specification::Protocol(name, _, _) => unknown(alloc, name, faults)?,
-    };
-    Ok(line_of_one(alloc, adds, next))
+        Specification::Abbreviation(_, name, _) => unknown_line(alloc, name, next, faults),
+        Specification::Retyped(_, _, name, _) => unknown_line(alloc, name, next, faults),
+        Specification::RetypedValue(_, _, name, _) => unknown_line(alloc, name, next, faults),
+        Specification::Protocol(name, _, _) => unknown_line(alloc, name, next, faults),
+    }
 }

@@ -1,20 +1,67 @@
 ghost use Rattle.occ_tree.specs.Forest.{forest_of};
-ghost use Rattle.occ_typing.specs.Units.{type_faults as told_faults};
-ghost use Rattle.std.specs.Prelude.{◌≡◌, IfOk};
+ghost use Rattle.occ_typing.specs.Typed.{IsTypedTree, Refuses};
+ghost use Rattle.occ_typing.specs.declared.unit.TypeFault.TheVariants.{Memory};
+ghost use Rattle.std.specs.Prelude.{◌≡◌, IfErr, IfOk};
 
 use super::parent::Parent;
+use super::tree::TypedLine;
+use super::using::Import;
 use super::walk::lines;
 use occ_base::{Diag, Items};
 use occ_names::Scope;
-use occ_tree::Node;
+use occ_project::Place;
+use occ_tree::Unit;
 use std::alloc::{AllocError, Global};
+use thiserror::Error;
 
-/// The diagnostics of names and types of a unit with these roots, in no order, some perhaps more than once.
-pub fn type_faults(alloc: Global, roots: &[Node]) -> Result<Items<Diag>, AllocError>
-    ensures { IfOk result (λ found. found ≡ told_faults (forest_of roots.now)) }
+/// The typed tree of a unit.
+#[derive(Drop)]
+pub struct Typed {
+    /// The lines that stand under no other, in their order.
+    pub lines: Items<TypedLine>,
+    /// Where the processes stand, each at the place of its number.
+    pub processes: Items<Place>,
+}
+
+/// Why a unit has no typed tree.
+#[derive(Debug, Drop, Error)]
+pub enum TypeFault {
+    /// The diagnostics of names and types, at least one, in no order, some perhaps more than once.
+    #[error("names or types with faults")]
+    Faults(Items<Diag>),
+    /// Memory was refused.
+    #[error("out of memory")]
+    Memory,
+}
+
+impl From<AllocError> for TypeFault {
+    ghost from_gives = { λ _ fault. fault ≡ Memory };
+
+    fn from(_error: AllocError) -> TypeFault {
+        TypeFault::Memory
+    }
+}
+
+/// The typed tree of a unit, or its diagnostics of names and types. Of each unit that it uses the exports are those of the
+/// first import of that name; one of which there is no import exports nothing.
+pub fn type_unit(alloc: Global, unit: &Unit, imports: &[Import]) -> Result<Typed, TypeFault>
+    ensures typed { IfOk result (λ typed. IsTypedTree imports.now (forest_of unit.now.roots) typed) }
+    ensures faults { IfErr result (λ fault. Refuses imports.now (forest_of unit.now.roots) fault) }
 {
     let mut scope = Scope::new(alloc);
-    let mut found = Items::new(alloc);
-    lines(alloc, roots, Parent::Process, &mut scope, &mut found)?;
-    Ok(found)
+    let mut faults = Items::new(alloc);
+    let mut processes = Items::new(alloc);
+    let lines = lines(
+        alloc,
+        imports,
+        unit.roots.as_slice(),
+        Parent::Process,
+        &mut scope,
+        &mut processes,
+        &mut faults,
+    )?;
+    if !faults.is_empty() {
+        return Err(TypeFault::Faults(faults));
+    }
+    Ok(Typed { lines, processes })
 }

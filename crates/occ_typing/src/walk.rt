@@ -3,19 +3,26 @@
 ghost use Rattle.occ_names.specs.Visible.{back_to, with_all};
 ghost use Rattle.occ_tree.specs.Forest.{forest_of};
 ghost use Rattle.occ_tree.specs.declared.tree.Node.{out-Node};
+ghost use Rattle.occ_typing.specs.Placed.{placed};
+ghost use Rattle.occ_typing.specs.TypedLines.{is_process as counts, is_process_body as counts_body, is_process_form as counts_form, line_processes, line_with, own_process, process_number, processes, typed_lines};
 ghost use Rattle.occ_typing.specs.Units.{behind_line as told_behind, judged as told_judged, line_faults, lines as told_lines};
-ghost use Rattle.std.specs.Prelude.{◌≡◌, ◌++◌, IfOk, OnErr, OnOk};
+ghost use Rattle.occ_typing.specs.inside.Opening.{opened_at, with_children};
+ghost use Rattle.std.specs.Prelude.{◌≡◌, ◌+◌, ◌∷◌, ◌++◌, [], IfOk, OnErr, OnOk, length};
 
 use super::judge::judged;
-use super::parent::Parent;
+use super::parent::{Line, Parent};
 use super::place::place;
-use occ_base::{Diag, Items};
+use super::tree::{ProcessId, TypedForm, TypedLine};
+use super::using::Import;
+use occ_base::{Boxed, Diag, Items};
+use occ_forms::Form;
 use occ_names::{Entry, Scope};
+use occ_project::{ExpandedBody, ExpandedLine, Place};
 use occ_tree::Node;
 use std::alloc::{AllocError, Global};
 
 /// What stands in scope behind a line, where so many specifications stood in scope round its item.
-pub fn go_behind(
+fn go_behind(
     alloc: Global,
     adds: &Option<Items<Entry>>,
     outer: usize,
@@ -33,82 +40,285 @@ pub fn go_behind(
     }
 }
 
-/// The diagnostics of lines under another, by which these names come into scope.
-#[cycle(lines)]
-fn inner(
-    alloc: Global,
-    nodes: &[Node],
-    parent: Parent,
-    enters: &[Entry],
-    scope: &mut Scope,
-    found: &mut Items<Diag>,
-) -> Result<(), AllocError>
-    ensures scope { OnOk result (scope.new ≡ scope.old) }
-    ensures found { OnOk result (found.new ≡ found.old ++ told_lines parent (with_all scope.old enters.now) (with_all scope.old enters.now) (forest_of nodes.now)) }
+/// Whether a line of this form is a process, where processes may stand.
+fn is_process_form(form: &Form) -> bool
+    ensures { result ≡ counts_form form.now }
 {
-    let count = scope.len();
-    scope.enter_all(alloc, enters)?;
-    lines(alloc, nodes, parent, scope, found)?;
-    scope.leave_to(count);
-    Ok(())
+    match form {
+        Form::Action(_) | Form::Construct(_) | Form::Expressions(_, _) => true,
+        Form::Specified(_) | Form::Close | Form::Part(_) | Form::Tagged(_, _, _) => false,
+    }
 }
 
-/// The diagnostics of a line and of those under it, and what its parent says of the lines behind it; so many
-/// specifications stood in scope round its item.
-#[cycle(lines)]
-fn line(
+/// Whether a line is a process, where processes may stand.
+fn is_process_body(body: &ExpandedBody) -> bool
+    ensures { result ≡ counts_body body.now }
+{
+    match body {
+        ExpandedBody::Form(form) => is_process_form(form.get()),
+        ExpandedBody::Uses(_) | ExpandedBody::Fault(_) => false,
+    }
+}
+
+/// Whether a line whose parent says this of it is a process.
+#[tactic(auto, unfolding(crate::specs::TypedLines::is_process))]
+fn is_process(parent: &Parent, body: &ExpandedBody) -> bool
+    ensures { result ≡ counts parent.now body.now }
+{
+    match parent {
+        Parent::Process => is_process_body(body),
+        Parent::Function(_) => is_process_body(body),
+        Parent::Conditional => false,
+        Parent::Selection(_) => false,
+        Parent::Record => false,
+    }
+}
+
+/// The number of a line, if it is a process, which is then listed behind the others.
+fn number(
+    parent: &Parent,
+    line: &ExpandedLine,
+    places: &mut Items<Place>,
+) -> Result<Option<ProcessId>, AllocError>
+    ensures number { IfOk result (λ number. number ≡ process_number (length places.old) parent.now line.now) }
+    ensures places { OnOk result (places.new ≡ places.old ++ own_process parent.now line.now) }
+{
+    if !is_process(parent, &line.body) {
+        return Ok(None);
+    }
+    let number = places.len();
+    places.push(line.place())?;
+    Ok(Some(number))
+}
+
+/// A line before those under it.
+#[derive(Drop)]
+struct Opened {
+    place: Place,
+    process: Option<ProcessId>,
+    form: Boxed<TypedForm>,
+    enters: Items<Entry>,
+    next: Parent,
+    adds: Option<Items<Entry>>,
+}
+
+/// What is known of a line before those under it: what it says of them, and with what faults.
+#[derive(Drop)]
+struct Begun {
+    parent: Parent,
+    opened: Opened,
+    own: Items<Diag>,
+}
+
+/// A line before those under it, which is then listed if it is a process; what it says of them, and what it tells itself.
+fn open(
     alloc: Global,
+    imports: &[Import],
     node: &Node,
     parent: Parent,
-    outer: usize,
     scope: &mut Scope,
+    places: &mut Items<Place>,
     found: &mut Items<Diag>,
-) -> Result<Parent, AllocError>
-    ensures next { IfOk result (λ next. next ≡ (told_judged scope.old (out-Node node.now).line.body (forest_of (out-Node node.now).children) parent).line.next) }
-    ensures scope { OnOk result (scope.new ≡ told_behind (back_to outer scope.old) scope.old (told_judged scope.old (out-Node node.now).line.body (forest_of (out-Node node.now).children) parent).line.adds) }
-    ensures found { OnOk result (found.new ≡ found.old ++ line_faults parent scope.old (out-Node node.now).line (forest_of (out-Node node.now).children)) }
+) -> Result<Begun, AllocError>
+    ensures parent { IfOk result (λ r. r.parent ≡ (told_judged imports.now scope.old (out-Node node.now).line.body (forest_of (out-Node node.now).children) parent).line.parent) }
+    ensures line { IfOk result (λ r. r.opened ≡ opened_at parent (length places.old) (out-Node node.now).line (told_judged imports.now scope.old (out-Node node.now).line.body (forest_of (out-Node node.now).children) parent)) }
+    ensures own { IfOk result (λ r. r.own ≡ placed (out-Node node.now).line (told_judged imports.now scope.old (out-Node node.now).line.body (forest_of (out-Node node.now).children) parent).faults) }
+    ensures scope { OnOk result (scope.new ≡ scope.old) }
+    ensures places { OnOk result (places.new ≡ places.old ++ own_process parent (out-Node node.now).line) }
+    ensures found { OnOk result (found.new ≡ found.old ++ (told_judged imports.now scope.old (out-Node node.now).line.body (forest_of (out-Node node.now).children) parent).beneath) }
 {
+    let process = number(&parent, &node.line, places)?;
     let mut faults = Items::new(alloc);
-    let nodes = node.children.as_slice();
     let line = judged(
         alloc,
+        imports,
         &node.line.body,
-        nodes,
+        node.children.as_slice(),
         scope,
         parent,
         found,
         &mut faults,
     )?;
-    inner(
-        alloc,
-        nodes,
-        line.parent,
-        line.enters.as_slice(),
-        scope,
-        found,
-    )?;
-    place(alloc, &node.line, faults.as_slice(), found)?;
-    go_behind(alloc, &line.adds, outer, scope)?;
-    Ok(line.next)
+    let mut own = Items::new(alloc);
+    place(alloc, &node.line, faults.as_slice(), &mut own)?;
+    let Line {
+        parent,
+        enters,
+        next,
+        adds,
+        form,
+    } = line;
+    let form = Boxed::new(alloc, form)?;
+    let opened = Opened {
+        place: node.line.place(),
+        process,
+        form,
+        enters,
+        next,
+        adds,
+    };
+    Ok(Begun {
+        parent,
+        opened,
+        own,
+    })
 }
 
-/// The diagnostics of lines, of which their parent says this.
+/// The line with those under it, behind others, and what its parent says of the lines behind it; so many specifications
+/// stood in scope round its item.
+fn close(
+    alloc: Global,
+    opened: Opened,
+    under: Items<TypedLine>,
+    outer: usize,
+    scope: &mut Scope,
+    typed: &mut Items<TypedLine>,
+) -> Result<Parent, AllocError>
+    ensures next { IfOk result (λ next. next ≡ opened.next) }
+    ensures scope { OnOk result (scope.new ≡ told_behind (back_to outer scope.old) scope.old opened.adds) }
+    ensures typed { OnOk result (typed.new ≡ typed.old ++ with_children opened under ∷ []) }
+{
+    go_behind(alloc, &opened.adds, outer, scope)?;
+    let Opened {
+        place,
+        process,
+        form,
+        enters,
+        next,
+        adds,
+    } = opened;
+    typed.push(TypedLine {
+        place,
+        process,
+        form,
+        enters,
+        adds,
+        under,
+    })?;
+    Ok(next)
+}
+
+/// The lines under another, by which these names come into scope: their typed lines, their processes and what they tell.
+#[cycle(lines)]
+fn inner(
+    alloc: Global,
+    imports: &[Import],
+    nodes: &[Node],
+    parent: Parent,
+    enters: &[Entry],
+    scope: &mut Scope,
+    places: &mut Items<Place>,
+    found: &mut Items<Diag>,
+) -> Result<Items<TypedLine>, AllocError>
+    ensures typed { IfOk result (λ typed. typed ≡ typed_lines imports.now parent (with_all scope.old enters.now) (with_all scope.old enters.now) (length places.old) (forest_of nodes.now)) }
+    ensures scope { OnOk result (scope.new ≡ scope.old) }
+    ensures places { OnOk result (places.new ≡ places.old ++ processes imports.now parent (with_all scope.old enters.now) (with_all scope.old enters.now) (forest_of nodes.now)) }
+    ensures found { OnOk result (found.new ≡ found.old ++ told_lines imports.now parent (with_all scope.old enters.now) (with_all scope.old enters.now) (forest_of nodes.now)) }
+{
+    let count = scope.len();
+    scope.enter_all(alloc, enters)?;
+    let typed = lines(alloc, imports, nodes, parent, scope, places, found)?;
+    scope.leave_to(count);
+    Ok(typed)
+}
+
+/// A line with those under it, behind others, and what its parent says of the lines behind it; so many specifications stood
+/// in scope round its item.
+#[cycle(lines)]
+fn line(
+    alloc: Global,
+    imports: &[Import],
+    node: &Node,
+    parent: Parent,
+    outer: usize,
+    scope: &mut Scope,
+    places: &mut Items<Place>,
+    typed: &mut Items<TypedLine>,
+    found: &mut Items<Diag>,
+) -> Result<Parent, AllocError>
+    ensures next { IfOk result (λ next. next ≡ (told_judged imports.now scope.old (out-Node node.now).line.body (forest_of (out-Node node.now).children) parent).line.next) }
+    ensures scope { OnOk result (scope.new ≡ told_behind (back_to outer scope.old) scope.old (told_judged imports.now scope.old (out-Node node.now).line.body (forest_of (out-Node node.now).children) parent).line.adds) }
+    ensures places { OnOk result (places.new ≡ places.old ++ line_processes imports.now parent scope.old (out-Node node.now).line (forest_of (out-Node node.now).children)) }
+    ensures typed { OnOk result (typed.new ≡ typed.old ++ line_with imports.now parent scope.old (length places.old) (out-Node node.now).line (forest_of (out-Node node.now).children) ∷ []) }
+    ensures found { OnOk result (found.new ≡ found.old ++ line_faults imports.now parent scope.old (out-Node node.now).line (forest_of (out-Node node.now).children)) }
+{
+    let begun = open(alloc, imports, node, parent, scope, places, found)?;
+    go_under(
+        alloc,
+        imports,
+        node.children.as_slice(),
+        begun,
+        outer,
+        scope,
+        places,
+        typed,
+        found,
+    )
+}
+
+/// A line that is begun, with these nodes under it, behind others, and what its parent says of the lines behind it.
+#[cycle(lines)]
+fn go_under(
+    alloc: Global,
+    imports: &[Import],
+    nodes: &[Node],
+    begun: Begun,
+    outer: usize,
+    scope: &mut Scope,
+    places: &mut Items<Place>,
+    typed: &mut Items<TypedLine>,
+    found: &mut Items<Diag>,
+) -> Result<Parent, AllocError>
+    ensures next { IfOk result (λ next. next ≡ begun.opened.next) }
+    ensures scope { OnOk result (scope.new ≡ told_behind (back_to outer scope.old) scope.old begun.opened.adds) }
+    ensures places { OnOk result (places.new ≡ places.old ++ processes imports.now begun.parent (with_all scope.old begun.opened.enters) (with_all scope.old begun.opened.enters) (forest_of nodes.now)) }
+    ensures typed { OnOk result (typed.new ≡ typed.old ++ with_children begun.opened (typed_lines imports.now begun.parent (with_all scope.old begun.opened.enters) (with_all scope.old begun.opened.enters) (length places.old) (forest_of nodes.now)) ∷ []) }
+    ensures found { OnOk result (found.new ≡ found.old ++ (told_lines imports.now begun.parent (with_all scope.old begun.opened.enters) (with_all scope.old begun.opened.enters) (forest_of nodes.now) ++ begun.own)) }
+{
+    let Begun {
+        parent,
+        opened,
+        own,
+    } = begun;
+    let under = inner(
+        alloc,
+        imports,
+        nodes,
+        parent,
+        opened.enters.as_slice(),
+        scope,
+        places,
+        found,
+    )?;
+    found.append(own)?;
+    close(alloc, opened, under, outer, scope, typed)
+}
+
+/// The typed lines of nodes, of which their parent says this, with their processes and what they tell, behind those of
+/// others.
 #[cycle(lines)]
 pub fn lines(
     alloc: Global,
+    imports: &[Import],
     nodes: &[Node],
     parent: Parent,
     scope: &mut Scope,
+    places: &mut Items<Place>,
     found: &mut Items<Diag>,
-) -> Result<(), AllocError>
+) -> Result<Items<TypedLine>, AllocError>
+    ensures typed { IfOk result (λ typed. typed ≡ typed_lines imports.now parent scope.old scope.old (length places.old) (forest_of nodes.now)) }
     ensures scope { OnOk result (scope.new ≡ scope.old) }
-    ensures found { OnOk result (found.new ≡ found.old ++ told_lines parent scope.old scope.old (forest_of nodes.now)) }
+    ensures places { OnOk result (places.new ≡ places.old ++ processes imports.now parent scope.old scope.old (forest_of nodes.now)) }
+    ensures found { OnOk result (found.new ≡ found.old ++ told_lines imports.now parent scope.old scope.old (forest_of nodes.now)) }
 {
     let outer = scope.len();
     let mut parent = parent;
+    let mut typed = Items::new(alloc);
     for node in nodes {
-        parent = line(alloc, node, parent, outer, scope, found)?;
+        parent = line(
+            alloc, imports, node, parent, outer, scope, places, &mut typed, found,
+        )?;
     }
     scope.leave_to(outer);
-    Ok(())
+    Ok(typed)
 }

@@ -2,7 +2,7 @@ use Rattle.std.proofs.Common.{◌∙◌, ◌++◌, ◌∷◌, [], List, refl, ap
 use Rattle.occ_operands.specs.Settling.{Told, int}
 use Rattle.occ_types.specs.declared.types.Field.{Field}
 use Rattle.occ_types.specs.declared.types.Packing.TheVariants as packing
-use Rattle.occ_expr.proofs.Selecting.{field_of_record, int_field}
+use Rattle.occ_expr.proofs.Fields.{field_of_record, int_field}
 use Rattle.occ_expr.proofs.rows.field_rows.Goals as goal
 
 abbrev two_fields : List Field

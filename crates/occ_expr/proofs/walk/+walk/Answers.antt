@@ -1,5 +1,4 @@
-use Rattle.std.proofs.Common.{◌∙◌, ◌++◌, ◌∷◌, [], ap, sym}
-use Rattle.std.proofs.lemmas.Result.{IfOk-weaker, on_ok_weaker}
+use Rattle.std.proofs.Common.{◌∙◌, ◌++◌, ◌∷◌, [], Some, ap, refl, sym}
 use Rattle.occ_expression_forms.specs.declared.tree.Builtin.TheVariants as uv
 use Rattle.occ_expression_forms.specs.declared.tree.Element.TheVariants as ev
 use Rattle.occ_expression_forms.specs.declared.tree.Expr.TheVariants as xv
@@ -13,61 +12,29 @@ use Rattle.occ_expr.specs.Views.{expr_views, operand_view, operand_views, operan
 use Rattle.occ_expr.proofs.Walking as step
 use Rattle.occ_expr.proofs.walk.+walk.Goals as goal
 
-pub expression-returns-in_ok-kind-in-Most-clause-faults : goal.expression-returns-in_ok-kind-in-Most-clause-faults
-expression-returns-in_ok-kind-in-Most-clause-faults t c =
-    step.most_faults _ _ _ _ _ _ _ _ (c.in-Most.is ∙ ap (λ z. xv.Most c.in-Most.extreme z) (sym c.get-in-Most.ensures)) c.in_ok-of-in-Most.ensures.faults c.in_ok-of-in-Most.ensures.found c.in_ok-kind-in-Most.ensures.faults
-
-pub expression-returns-in_ok-kind-in-Applied-clause-faults : goal.expression-returns-in_ok-kind-in-Applied-clause-faults
-expression-returns-in_ok-kind-in-Applied-clause-faults t c =
-    step.applied_faults _ _ _ _ _ _ _ _ _ (c.in-Applied.is ∙ ap (λ z. xv.Applied c.in-Applied.operator z) (sym c.get-in-Applied.ensures)) c.in_ok-term-in-Applied.ensures.faults c.in_ok-term-in-Applied.ensures.term (c.digits_of.ensures ∙ ap (λ z. (operand_view z).digits) (c.get-in-Applied-2.ensures ∙ sym c.get-in-Applied.ensures)) c.in_ok-kind-in-Applied.ensures.faults
-
-pub expression-returns-in_ok-kind-in-Pair-clause-faults : goal.expression-returns-in_ok-kind-in-Pair-clause-faults
-expression-returns-in_ok-kind-in-Pair-clause-faults t c =
-    step.pair_faults _ _ _ _ _ _ _ _ _ _ _ (c.in-Pair.is ∙ ap (λ z. xv.Pair z c.in-Pair.operator c.in-Pair.second) (sym c.get-in-Pair.ensures) ∙ ap (λ z. xv.Pair c.get-in-Pair.result.now c.in-Pair.operator z) (sym c.get-in-Pair-2.ensures)) c.in_ok-first-in-Pair.ensures.faults c.in_ok-first-in-Pair.ensures.term c.in_ok-second-in-Pair.ensures.faults c.in_ok-second-in-Pair.ensures.term c.in_ok-kind-in-Pair.ensures.faults
-
-pub expression-returns-in_ok-kind-in-Named-clause-faults : goal.expression-returns-in_ok-kind-in-Named-clause-faults
-expression-returns-in_ok-kind-in-Named-clause-faults t c =
-    step.named_conversion_faults _ _ _ _ _ _ _ _ _ _ (c.in-Named.is ∙ ap (λ z. xv.Named c.in-Named.name z) (sym c.get-in-Named.ensures)) c.in_ok-to-in-Named.ensures.faults c.in_ok-to-in-Named.ensures.found c.in_ok-term-in-Named.ensures.faults c.in_ok-term-in-Named.ensures.term c.in_ok-kind-in-Named.ensures.faults
-
-pub expression-returns-in_ok-kind-in-Converted-clause-faults : goal.expression-returns-in_ok-kind-in-Converted-clause-faults
-expression-returns-in_ok-kind-in-Converted-clause-faults t c =
-    step.conversion_faults _ _ _ _ _ _ _ _ _ _ _ _ _ _ (c.in-Converted.is ∙ ap (λ z. xv.Converted z c.in-Converted.word c.in-Converted.behind) (sym c.as_slice-in-Converted.ensures) ∙ ap (λ z. xv.Converted c.as_slice-in-Converted.result.now z c.in-Converted.behind) (sym c.get-in-Converted.ensures) ∙ ap (λ z. xv.Converted c.as_slice-in-Converted.result.now c.get-in-Converted.result.now z) (sym c.get-in-Converted-2.ensures)) c.in_ok-of-in-Converted.ensures.faults c.in_ok-of-in-Converted.ensures.found c.new.ensures c.in_ok-to-in-Converted.ensures.faults c.in_ok-to-in-Converted.ensures.found c.in_ok-term-in-Converted.ensures.faults c.in_ok-term-in-Converted.ensures.term c.in_ok-kind-in-Converted.ensures.faults
-
-pub expression-returns-in_ok-kind-in-ArrayConverted-clause-faults : goal.expression-returns-in_ok-kind-in-ArrayConverted-clause-faults
-expression-returns-in_ok-kind-in-ArrayConverted-clause-faults t c =
-    step.array_conversion_faults _ _ _ _ _ _ _ _ _ _ _ _ _ _ _ _ _ (c.in-ArrayConverted.is ∙ ap (λ z. xv.ArrayConverted z c.in-ArrayConverted.more c.in-ArrayConverted.name c.in-ArrayConverted.behind) (sym c.get-in-ArrayConverted.ensures) ∙ ap (λ z. xv.ArrayConverted c.get-in-ArrayConverted.result.now z c.in-ArrayConverted.name c.in-ArrayConverted.behind) (sym c.as_slice-in-ArrayConverted.ensures) ∙ ap (λ z. xv.ArrayConverted c.get-in-ArrayConverted.result.now c.as_slice-in-ArrayConverted.result.now c.in-ArrayConverted.name z) (sym c.get-in-ArrayConverted-2.ensures)) c.in_ok-of-in-ArrayConverted.ensures.faults c.in_ok-of-in-ArrayConverted.ensures.found c.in_ok-first-in-ArrayConverted.ensures.faults c.in_ok-first-in-ArrayConverted.ensures.extent c.in_ok-extents-in-ArrayConverted.ensures c.in_ok-to-in-ArrayConverted.ensures.faults c.in_ok-to-in-ArrayConverted.ensures.found c.in_ok-term-in-ArrayConverted.ensures.faults c.in_ok-term-in-ArrayConverted.ensures.term c.in_ok-kind-in-ArrayConverted.ensures.faults
-
-pub expression-returns-in_ok-kind-in-Run-clause-faults : goal.expression-returns-in_ok-kind-in-Run-clause-faults
-expression-returns-in_ok-kind-in-Run-clause-faults t c =
-    step.run_faults _ _ _ _ _ _ _ _ _ _ _ _ _ _ _ (c.in-Run.is ∙ ap (λ z. xv.Run c.in-Run.operator z c.in-Run.second c.in-Run.more) (sym c.get-in-Run.ensures) ∙ ap (λ z. xv.Run c.in-Run.operator c.get-in-Run.result.now z c.in-Run.more) (sym c.get-in-Run-2.ensures) ∙ ap (λ z. xv.Run c.in-Run.operator c.get-in-Run.result.now c.get-in-Run-2.result.now z) (sym c.as_slice.ensures)) c.in_ok-first-in-Run.ensures.faults c.in_ok-first-in-Run.ensures.term c.in_ok-second-in-Run.ensures.faults c.in_ok-second-in-Run.ensures.term c.in_ok-operands-in-Run.ensures.faults (c.in_ok-operands-in-Run.ensures.terms ∙ ap (λ z. z ++ terms (operands c.args.scope.now (operand_views c.as_slice.result.now))) (c.in_ok-push-in-Run.ensures.ok ∙ ap (λ z. z ++ c.in_ok-second-in-Run.second ∷ []) c.in_ok-terms-in-Run.ensures)) c.as_slice-in-Run.ensures (c.in_ok-kind-in-Run.ensures.faults ∙ ap (λ z. c.operands.new.faults ++ (operation z (judged_all c.as_slice-in-Run.result.now)).faults) c.run_operator.ensures)
-
-pub element-returns-in_ok-kind-in-Segment-2-clause-faults : goal.element-returns-in_ok-kind-in-Segment-2-clause-faults
-element-returns-in_ok-kind-in-Segment-2-clause-faults t c =
-    on_ok_weaker c.subscripts.result (λ h. step.segment_faults _ _ _ _ _ _ _ _ _ _ _ _ _ (c.in-Segment.is ∙ ap (λ z. ev.Segment z c.in-Segment.part c.in-Segment.exprs) (sym c.get.ensures) ∙ ap (λ z. ev.Segment c.get.result.now z c.in-Segment.exprs) (sym c.get-in-Segment.ensures) ∙ ap (λ z. ev.Segment c.get.result.now c.get-in-Segment.result.now z) (sym c.as_slice-in-Segment.ensures)) c.in_ok-kind-in-Segment.ensures.faults c.in_ok-kind-in-Segment.ensures.kind c.in_ok-bounds-in-Segment.ensures.faults c.in_ok-bounds-in-Segment.ensures.bounds c.in_ok-kind-in-Segment-2.ensures.faults c.in_ok-kind-in-Segment-2.ensures.kind h) c.subscripts.ensures.faults
-
 pub type_form-returns-in_ok-of-in-Named-clause-faults : goal.type_form-returns-in_ok-of-in-Named-clause-faults
 type_form-returns-in_ok-of-in-Named-clause-faults t c =
-    on_ok_weaker c.array_over.result (λ h. step.named_type_faults _ _ _ _ _ _ _ _ _ _ (c.in-Named.is ∙ ap (λ z. tv.Named z c.in-Named.name) (sym c.as_slice.ensures)) c.in_ok-of-in-Named.ensures.faults c.in_ok-of-in-Named.ensures.found c.new.ensures h) c.array_over.ensures.faults
+    step.named_type_faults c.array_over.result _ _ _ _ _ _ _ _ _ _ (c.in-Named.is ∙ ap (λ z. tv.Named z c.in-Named.name) (sym c.as_slice.ensures)) c.in_ok-of-in-Named.ensures.faults c.in_ok-of-in-Named.ensures.found c.new.ensures c.array_over.ensures.faults
 
 pub type_form-returns-in_ok-of-in-Named-clause-found : goal.type_form-returns-in_ok-of-in-Named-clause-found
 type_form-returns-in_ok-of-in-Named-clause-found t c =
-    IfOk-weaker c.array_over.result _ _ (λ v h. step.named_type_found _ _ _ _ _ _ _ _ (c.in-Named.is ∙ ap (λ z. tv.Named z c.in-Named.name) (sym c.as_slice.ensures)) c.in_ok-of-in-Named.ensures.found c.new.ensures h) c.array_over.ensures.found
+    step.named_type_found c.array_over.result _ _ _ _ _ _ _ (c.in-Named.is ∙ ap (λ z. tv.Named z c.in-Named.name) (sym c.as_slice.ensures)) c.in_ok-of-in-Named.ensures.found c.new.ensures c.array_over.ensures.found
 
 pub type_form-returns-in_ok-of-in-Builtin-clause-faults : goal.type_form-returns-in_ok-of-in-Builtin-clause-faults
 type_form-returns-in_ok-of-in-Builtin-clause-faults t c =
-    on_ok_weaker c.array_over-in-Builtin.result (λ h. step.built_in_type_faults _ _ _ _ _ _ _ _ _ _ (c.in-Builtin.is ∙ ap (λ z. tv.Builtin z c.in-Builtin.word) (sym c.as_slice-in-Builtin.ensures) ∙ ap (λ z. tv.Builtin c.as_slice-in-Builtin.result.now z) (sym c.get.ensures)) c.in_ok-of-in-Builtin.ensures.faults c.in_ok-of-in-Builtin.ensures.found c.new-in-Builtin.ensures h) c.array_over-in-Builtin.ensures.faults
+    step.built_in_type_faults c.array_over-in-Builtin.result _ _ _ _ _ _ _ _ _ _ (c.in-Builtin.is ∙ ap (λ z. tv.Builtin z c.in-Builtin.word) (sym c.as_slice-in-Builtin.ensures) ∙ ap (λ z. tv.Builtin c.as_slice-in-Builtin.result.now z) (sym c.get.ensures)) c.in_ok-of-in-Builtin.ensures.faults c.in_ok-of-in-Builtin.ensures.found c.new-in-Builtin.ensures c.array_over-in-Builtin.ensures.faults
 
 pub builtin-returns-in-Channel-clause-found : goal.builtin-returns-in-Channel-clause-found
 builtin-returns-in-Channel-clause-found t c =
-    IfOk-weaker c.channel.result _ _ (λ v h. step.channel_found _ _ _ _ _ _ (c.in-Channel.is ∙ ap (λ z. uv.Channel c.in-Channel.field-0 z c.in-Channel.base) (sym c.as_slice.ensures)) h) c.channel.ensures.found
+    step.channel_found c.channel.result _ _ _ _ _ (c.in-Channel.is ∙ ap (λ z. uv.Channel c.in-Channel.field-0 z c.in-Channel.base) (sym c.as_slice.ensures)) c.channel.ensures.found
 
 pub builtin-returns-in_ok-of-in-Counted-clause-found : goal.builtin-returns-in_ok-of-in-Counted-clause-found
 builtin-returns-in_ok-of-in-Counted-clause-found t c =
-    IfOk-weaker c.counted_type.result _ _ (λ v h. step.counted_found _ _ _ _ _ _ _ _ _ _ _ (c.in-Counted.is ∙ ap (λ z. uv.Counted c.in-Counted.field-0 z c.in-Counted.base c.in-Counted.others c.in-Counted.other) (sym c.as_slice-in-Counted.ensures) ∙ ap (λ z. uv.Counted c.in-Counted.field-0 c.as_slice-in-Counted.result.now c.in-Counted.base z c.in-Counted.other) (sym c.as_slice-in-Counted-2.ensures)) c.in_ok-count-in-Counted.ensures.found c.in_ok-count-in-Counted-2.ensures.found c.in_ok-of-in-Counted.ensures.found h) c.counted_type.ensures
+    step.counted_found c.counted_type.result _ _ _ _ _ _ _ _ _ _ (c.in-Counted.is ∙ ap (λ z. uv.Counted c.in-Counted.field-0 z c.in-Counted.base c.in-Counted.others c.in-Counted.other) (sym c.as_slice-in-Counted.ensures) ∙ ap (λ z. uv.Counted c.in-Counted.field-0 c.as_slice-in-Counted.result.now c.in-Counted.base z c.in-Counted.other) (sym c.as_slice-in-Counted-2.ensures)) c.in_ok-count-in-Counted.ensures.found c.in_ok-count-in-Counted-2.ensures.found c.in_ok-of-in-Counted.ensures.found c.counted_type.ensures
 
 pub builtin-returns-in_ok-of-in-Counted-clause-faults : goal.builtin-returns-in_ok-of-in-Counted-clause-faults
 builtin-returns-in_ok-of-in-Counted-clause-faults t c =
-    IfOk-weaker c.counted_type.result _ _ (λ v h. step.counted_faults _ _ _ _ _ _ _ _ _ _ _ _ (c.in-Counted.is ∙ ap (λ z. uv.Counted c.in-Counted.field-0 z c.in-Counted.base c.in-Counted.others c.in-Counted.other) (sym c.as_slice-in-Counted.ensures) ∙ ap (λ z. uv.Counted c.in-Counted.field-0 c.as_slice-in-Counted.result.now c.in-Counted.base z c.in-Counted.other) (sym c.as_slice-in-Counted-2.ensures)) c.in_ok-count-in-Counted.ensures.faults c.in_ok-count-in-Counted.ensures.found c.in_ok-count-in-Counted-2.ensures.faults c.in_ok-of-in-Counted.ensures.faults) c.counted_type.ensures
+    step.whatever c.counted_type.result (step.counted_faults _ _ _ _ _ _ _ _ _ _ _ _ (c.in-Counted.is ∙ ap (λ z. uv.Counted c.in-Counted.field-0 z c.in-Counted.base c.in-Counted.others c.in-Counted.other) (sym c.as_slice-in-Counted.ensures) ∙ ap (λ z. uv.Counted c.in-Counted.field-0 c.as_slice-in-Counted.result.now c.in-Counted.base z c.in-Counted.other) (sym c.as_slice-in-Counted-2.ensures)) c.in_ok-count-in-Counted.ensures.faults c.in_ok-count-in-Counted.ensures.found c.in_ok-count-in-Counted-2.ensures.faults c.in_ok-of-in-Counted.ensures.faults)
 
 pub operand-returns-in_ok-more_items-in-Table-clause-faults : goal.operand-returns-in_ok-more_items-in-Table-clause-faults
 operand-returns-in_ok-more_items-in-Table-clause-faults t c =
@@ -77,10 +44,46 @@ pub named_operand-returns-in_ok-more_items-in-Table-clause-faults : goal.named_o
 named_operand-returns-in_ok-more_items-in-Table-clause-faults t c =
     step.named_table_faults _ _ _ _ _ _ _ _ _ (c.in-Table.is ∙ ap (λ z. nv.Table z c.in-Table.second c.in-Table.more) (sym c.get-in-Table.ensures) ∙ ap (λ z. nv.Table c.get-in-Table.result.now z c.in-Table.more) (sym c.get-in-Table-2.ensures) ∙ ap (λ z. nv.Table c.get-in-Table.result.now c.get-in-Table-2.result.now z) (sym c.as_slice.ensures)) c.in_ok-first-in-Table.ensures.faults c.in_ok-second-in-Table.ensures.faults c.in_ok-more_items-in-Table.ensures.faults
 
-pub operand-returns-in_ok-kind-in-DecoratedTable-clause-faults : goal.operand-returns-in_ok-kind-in-DecoratedTable-clause-faults
-operand-returns-in_ok-kind-in-DecoratedTable-clause-faults t c =
-    step.decorated_table_faults _ _ _ _ _ _ _ _ _ _ _ _ _ (c.in-DecoratedTable.is ∙ ap (λ z. ov.DecoratedTable z c.in-DecoratedTable.more c.in-DecoratedTable.of) (sym c.get-in-DecoratedTable.ensures) ∙ ap (λ z. ov.DecoratedTable c.get-in-DecoratedTable.result.now z c.in-DecoratedTable.of) (sym c.as_slice-in-DecoratedTable.ensures) ∙ ap (λ z. ov.DecoratedTable c.get-in-DecoratedTable.result.now c.as_slice-in-DecoratedTable.result.now z) (sym c.get-in-DecoratedTable-2.ensures)) c.in_ok-first-in-DecoratedTable.ensures.faults c.in_ok-first-in-DecoratedTable.ensures.term c.in_ok-more_items-in-DecoratedTable.ensures.faults (c.as_slice-in-DecoratedTable-2.ensures ∙ c.in_ok-more_items-in-DecoratedTable.ensures.items ∙ ap (λ z. z ++ terms (table_items (in_scope c.args.scope.now (expr_views c.as_slice-in-DecoratedTable.result.now)))) c.in_ok-items-in-DecoratedTable.ensures) c.in_ok-to-in-DecoratedTable.ensures.faults c.in_ok-to-in-DecoratedTable.ensures.found c.in_ok-kind-in-DecoratedTable.ensures.faults
+pub expression-returns-in_ok-kind-in-Most-clause-faults : goal.expression-returns-in_ok-kind-in-Most-clause-faults
+expression-returns-in_ok-kind-in-Most-clause-faults t c =
+    step.whatever c.literal_reading.result (step.most_faults _ _ _ _ _ _ _ _ (c.in-Most.is ∙ ap (λ z. xv.Most c.in-Most.extreme z) (sym c.get-in-Most.ensures)) c.in_ok-of-in-Most.ensures.faults c.in_ok-of-in-Most.ensures.found c.in_ok-kind-in-Most.ensures.faults)
 
-pub named_operand-returns-in_ok-kind-in-DecoratedTable-clause-faults : goal.named_operand-returns-in_ok-kind-in-DecoratedTable-clause-faults
-named_operand-returns-in_ok-kind-in-DecoratedTable-clause-faults t c =
-    step.named_decorated_table_faults _ _ _ _ _ _ _ _ _ _ _ _ _ (c.in-DecoratedTable.is ∙ ap (λ z. nv.DecoratedTable z c.in-DecoratedTable.more c.in-DecoratedTable.of) (sym c.get-in-DecoratedTable.ensures) ∙ ap (λ z. nv.DecoratedTable c.get-in-DecoratedTable.result.now z c.in-DecoratedTable.of) (sym c.as_slice-in-DecoratedTable.ensures) ∙ ap (λ z. nv.DecoratedTable c.get-in-DecoratedTable.result.now c.as_slice-in-DecoratedTable.result.now z) (sym c.get-in-DecoratedTable-2.ensures)) c.in_ok-first-in-DecoratedTable.ensures.faults c.in_ok-first-in-DecoratedTable.ensures.term c.in_ok-more_items-in-DecoratedTable.ensures.faults (c.as_slice-in-DecoratedTable-2.ensures ∙ c.in_ok-more_items-in-DecoratedTable.ensures.items ∙ ap (λ z. z ++ terms (table_items (in_scope c.args.scope.now (expr_views c.as_slice-in-DecoratedTable.result.now)))) c.in_ok-items-in-DecoratedTable.ensures) c.in_ok-to-in-DecoratedTable.ensures.faults c.in_ok-to-in-DecoratedTable.ensures.found c.in_ok-kind-in-DecoratedTable.ensures.faults
+pub expression-returns-in_ok-reading-in-Applied-clause-faults : goal.expression-returns-in_ok-reading-in-Applied-clause-faults
+expression-returns-in_ok-reading-in-Applied-clause-faults t c =
+    step.applied_faults c.applied.result _ _ _ _ _ _ _ _ _ (c.in-Applied.is ∙ ap (λ z. xv.Applied c.in-Applied.operator z) (sym c.get-in-Applied.ensures)) c.in_ok-reading-in-Applied.ensures.faults c.in_ok-reading-in-Applied.ensures.term (c.digits_of.ensures ∙ ap (λ z. (operand_view z).digits) (c.get-in-Applied-2.ensures ∙ sym c.get-in-Applied.ensures)) c.applied.ensures.faults
+
+pub expression-returns-in_ok-second-in-Pair-clause-faults : goal.expression-returns-in_ok-second-in-Pair-clause-faults
+expression-returns-in_ok-second-in-Pair-clause-faults t c =
+    step.pair_faults c.pair.result _ _ _ _ _ _ _ _ _ _ _ (c.in-Pair.is ∙ ap (λ z. xv.Pair z c.in-Pair.operator c.in-Pair.second) (sym c.get-in-Pair.ensures) ∙ ap (λ z. xv.Pair c.get-in-Pair.result.now c.in-Pair.operator z) (sym c.get-in-Pair-2.ensures)) c.in_ok-first-in-Pair.ensures.faults c.in_ok-first-in-Pair.ensures.term c.in_ok-second-in-Pair.ensures.faults c.in_ok-second-in-Pair.ensures.term c.pair.ensures.faults
+
+pub expression-returns-in_ok-reading-in-Named-clause-faults : goal.expression-returns-in_ok-reading-in-Named-clause-faults
+expression-returns-in_ok-reading-in-Named-clause-faults t c =
+    step.named_conversion_faults c.converted-in-Named.result _ _ _ _ _ _ _ _ _ _ (c.in-Named.is ∙ ap (λ z. xv.Named c.in-Named.name z) (sym c.get-in-Named.ensures)) c.in_ok-to-in-Named.ensures.faults c.in_ok-to-in-Named.ensures.found c.in_ok-reading-in-Named.ensures.faults c.in_ok-reading-in-Named.ensures.term c.converted-in-Named.ensures.faults
+
+pub expression-returns-in_ok-reading-in-Converted-clause-faults : goal.expression-returns-in_ok-reading-in-Converted-clause-faults
+expression-returns-in_ok-reading-in-Converted-clause-faults t c =
+    step.conversion_faults c.converted.result _ _ _ _ _ _ _ _ _ _ _ _ _ _ (c.in-Converted.is ∙ ap (λ z. xv.Converted z c.in-Converted.word c.in-Converted.behind) (sym c.as_slice-in-Converted.ensures) ∙ ap (λ z. xv.Converted c.as_slice-in-Converted.result.now z c.in-Converted.behind) (sym c.get-in-Converted.ensures) ∙ ap (λ z. xv.Converted c.as_slice-in-Converted.result.now c.get-in-Converted.result.now z) (sym c.get-in-Converted-2.ensures)) c.in_ok-of-in-Converted.ensures.faults c.in_ok-of-in-Converted.ensures.found c.new.ensures c.in_ok-to-in-Converted.ensures.faults c.in_ok-to-in-Converted.ensures.found c.in_ok-reading-in-Converted.ensures.faults c.in_ok-reading-in-Converted.ensures.term c.converted.ensures.faults
+
+pub expression-returns-in_ok-reading-in-ArrayConverted-clause-faults : goal.expression-returns-in_ok-reading-in-ArrayConverted-clause-faults
+expression-returns-in_ok-reading-in-ArrayConverted-clause-faults t c =
+    step.array_conversion_faults c.converted-in-ArrayConverted.result _ _ _ _ _ _ _ _ _ _ _ _ _ _ _ _ _ (c.in-ArrayConverted.is ∙ ap (λ z. xv.ArrayConverted z c.in-ArrayConverted.more c.in-ArrayConverted.name c.in-ArrayConverted.behind) (sym c.get-in-ArrayConverted.ensures) ∙ ap (λ z. xv.ArrayConverted c.get-in-ArrayConverted.result.now z c.in-ArrayConverted.name c.in-ArrayConverted.behind) (sym c.as_slice-in-ArrayConverted.ensures) ∙ ap (λ z. xv.ArrayConverted c.get-in-ArrayConverted.result.now c.as_slice-in-ArrayConverted.result.now c.in-ArrayConverted.name z) (sym c.get-in-ArrayConverted-2.ensures)) c.in_ok-of-in-ArrayConverted.ensures.faults c.in_ok-of-in-ArrayConverted.ensures.found c.in_ok-first-in-ArrayConverted.ensures.faults c.in_ok-first-in-ArrayConverted.ensures.extent c.in_ok-extents-in-ArrayConverted.ensures c.in_ok-to-in-ArrayConverted.ensures.faults c.in_ok-to-in-ArrayConverted.ensures.found c.in_ok-reading-in-ArrayConverted.ensures.faults c.in_ok-reading-in-ArrayConverted.ensures.term c.converted-in-ArrayConverted.ensures.faults
+
+pub expression-returns-in_ok-operands-in-Run-clause-faults : goal.expression-returns-in_ok-operands-in-Run-clause-faults
+expression-returns-in_ok-operands-in-Run-clause-faults t c =
+    step.run_faults c.operation_of.result _ _ _ _ _ _ _ _ _ _ _ _ _ _ _ _ (c.in-Run.is ∙ ap (λ z. xv.Run c.in-Run.operator z c.in-Run.second c.in-Run.more) (sym c.get-in-Run.ensures) ∙ ap (λ z. xv.Run c.in-Run.operator c.get-in-Run.result.now z c.in-Run.more) (sym c.get-in-Run-2.ensures) ∙ ap (λ z. xv.Run c.in-Run.operator c.get-in-Run.result.now c.get-in-Run-2.result.now z) (sym c.as_slice.ensures)) c.in_ok-first-in-Run.ensures.faults c.in_ok-first-in-Run.ensures.term c.in_ok-second-in-Run.ensures.faults c.in_ok-second-in-Run.ensures.term c.in_ok-operands-in-Run.ensures.faults (c.in_ok-operands-in-Run.ensures.terms ∙ ap (λ z. z ++ terms (operands c.args.scope.now (operand_views c.as_slice.result.now))) (c.in_ok-push-in-Run.ensures.terms ∙ ap (λ z. z ++ c.in_ok-second-in-Run.second.term ∷ []) c.in_ok-readings-in-Run.ensures.terms)) refl c.run_operator.ensures c.operation_of.ensures.faults
+
+pub operand-returns-in_ok-to-in-DecoratedTable-clause-faults : goal.operand-returns-in_ok-to-in-DecoratedTable-clause-faults
+operand-returns-in_ok-to-in-DecoratedTable-clause-faults t c =
+    step.decorated_table_faults c.decorated_reading.result _ _ _ _ _ _ _ _ _ _ _ _ _ (c.in-DecoratedTable.is ∙ ap (λ z. ov.DecoratedTable z c.in-DecoratedTable.more c.in-DecoratedTable.of) (sym c.get-in-DecoratedTable.ensures) ∙ ap (λ z. ov.DecoratedTable c.get-in-DecoratedTable.result.now z c.in-DecoratedTable.of) (sym c.as_slice-in-DecoratedTable.ensures) ∙ ap (λ z. ov.DecoratedTable c.get-in-DecoratedTable.result.now c.as_slice-in-DecoratedTable.result.now z) (sym c.get-in-DecoratedTable-2.ensures)) c.in_ok-first-in-DecoratedTable.ensures.faults c.in_ok-first-in-DecoratedTable.ensures.term c.in_ok-more_items-in-DecoratedTable.ensures.faults (c.in_ok-more_items-in-DecoratedTable.ensures.terms ∙ ap (λ z. z ++ terms (table_items (in_scope c.args.scope.now (expr_views c.as_slice-in-DecoratedTable.result.now)))) c.in_ok-items-in-DecoratedTable.ensures.terms) c.in_ok-to-in-DecoratedTable.ensures.faults c.in_ok-to-in-DecoratedTable.ensures.found c.decorated_reading.ensures.faults
+
+pub named_operand-returns-in_ok-to-in-DecoratedTable-clause-faults : goal.named_operand-returns-in_ok-to-in-DecoratedTable-clause-faults
+named_operand-returns-in_ok-to-in-DecoratedTable-clause-faults t c =
+    step.named_decorated_table_faults c.decorated_reading.result _ _ _ _ _ _ _ _ _ _ _ _ _ (c.in-DecoratedTable.is ∙ ap (λ z. nv.DecoratedTable z c.in-DecoratedTable.more c.in-DecoratedTable.of) (sym c.get-in-DecoratedTable.ensures) ∙ ap (λ z. nv.DecoratedTable c.get-in-DecoratedTable.result.now z c.in-DecoratedTable.of) (sym c.as_slice-in-DecoratedTable.ensures) ∙ ap (λ z. nv.DecoratedTable c.get-in-DecoratedTable.result.now c.as_slice-in-DecoratedTable.result.now z) (sym c.get-in-DecoratedTable-2.ensures)) c.in_ok-first-in-DecoratedTable.ensures.faults c.in_ok-first-in-DecoratedTable.ensures.term c.in_ok-more_items-in-DecoratedTable.ensures.faults (c.in_ok-more_items-in-DecoratedTable.ensures.terms ∙ ap (λ z. z ++ terms (table_items (in_scope c.args.scope.now (expr_views c.as_slice-in-DecoratedTable.result.now)))) c.in_ok-items-in-DecoratedTable.ensures.terms) c.in_ok-to-in-DecoratedTable.ensures.faults c.in_ok-to-in-DecoratedTable.ensures.found c.decorated_reading.ensures.faults
+
+pub element-returns-in_ok-tree-in-Segment-clause-faults : goal.element-returns-in_ok-tree-in-Segment-clause-faults
+element-returns-in_ok-tree-in-Segment-clause-faults t c =
+    step.segment_faults _ _ _ _ _ _ _ _ _ _ _ _ _ (c.in-Segment.is ∙ ap (λ z. ev.Segment z c.in-Segment.part c.in-Segment.exprs) (sym c.get.ensures) ∙ ap (λ z. ev.Segment c.get.result.now z c.in-Segment.exprs) (sym c.get-in-Segment.ensures) ∙ ap (λ z. ev.Segment c.get.result.now c.get-in-Segment.result.now z) (sym c.as_slice-in-Segment.ensures)) c.in_ok-inner-in-Segment.ensures.faults c.in_ok-inner-in-Segment.ensures.kind c.in_ok-read-in-Segment.ensures.faults c.in_ok-read-in-Segment.ensures.bounds c.in_ok-segment-in-Segment.ensures.faults c.in_ok-segment-in-Segment.ensures.kind c.in_ok-kind-in-Segment.ensures.faults
+
+pub element-returns-in_ok-tree-in-Segment-clause-tree : goal.element-returns-in_ok-tree-in-Segment-clause-tree
+element-returns-in_ok-tree-in-Segment-clause-tree t c =
+    step.segment_tree_made _ _ _ _ _ _ _ _ _ _ _ _ _ _ _ (c.in-Segment.is ∙ ap (λ z. ev.Segment z c.in-Segment.part c.in-Segment.exprs) (sym c.get.ensures) ∙ ap (λ z. ev.Segment c.get.result.now z c.in-Segment.exprs) (sym c.get-in-Segment.ensures) ∙ ap (λ z. ev.Segment c.get.result.now c.get-in-Segment.result.now z) (sym c.as_slice-in-Segment.ensures)) c.in_ok-inner-in-Segment.ensures.kind c.in_ok-inner-in-Segment.ensures.tree c.components_of.ensures c.in_ok-read-in-Segment.ensures.bounds c.in_ok-read-in-Segment.ensures.selector c.in_ok-segment-in-Segment.ensures.kind (ap (λ z. Some z) c.new.ensures) c.in_ok-kind-in-Segment.ensures.kind c.in_ok-kind-in-Segment.ensures.selectors c.in_ok-tree-in-Segment.ensures

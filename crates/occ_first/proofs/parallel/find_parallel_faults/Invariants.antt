@@ -5,7 +5,7 @@ use Rattle.occ_first.proofs.parallel.find_parallel_faults.Given as goal
 abbrev pub invariant-loop-line : goal.invariant-loop-line
 invariant-loop-line l = record {
   lines : l.place + length l.rest ≡ length l.fn.lines;
-  found : l.found ++ parallel_faults l.file l.specifications l.place l.rest ≡ parallel_faults l.file l.specifications 0 l.fn.lines;
+  found : l.found ++ parallel_faults l.specifications l.place l.rest ≡ parallel_faults l.specifications 0 l.fn.lines;
 }
 
 abbrev pub decreases-loop-line : goal.decreases-loop-line

@@ -1,13 +1,19 @@
-use Rattle.std.proofs.Common.{◌≡◌, ◌++◌, drop, map}
+use Rattle.std.proofs.Common.{◌≡◌, ◌++◌, drop, false, map}
 use Rattle.occ_operands.specs.Operators.{all_faults, kinds}
-use Rattle.occ_tables.specs.Terms.{first_settled, judged_all, under}
+use Rattle.occ_tables.specs.Terms.{each_own_or_alone, first_settled, judged_all, others_from, settled_under}
 use Rattle.occ_tables.proofs.table.+judge.Given as goal
 
-abbrev pub invariant-each_under-loop-term : goal.invariant-each_under-loop-term
-invariant-each_under-loop-term l =
-    (l.kinds ++ kinds (map (under l.of) (judged_all (drop l.term-index l.terms))) ≡ kinds (map (under l.of) (judged_all l.terms)))
-    × (l.faults ++ all_faults (map (under l.of) (judged_all (drop l.term-index l.terms))) ≡ l.initial.faults ++ all_faults (map (under l.of) (judged_all l.terms)))
+abbrev pub invariant-each_settled-loop-term : goal.invariant-each_settled-loop-term
+invariant-each_settled-loop-term l = l.found ++ map (settled_under l.of) (judged_all (drop l.term-index l.terms)) ≡ map (settled_under l.of) (judged_all l.terms)
+
+abbrev pub invariant-each_own_or_alone-loop-term : goal.invariant-each_own_or_alone-loop-term
+invariant-each_own_or_alone-loop-term l =
+    (l.kinds ++ kinds (each_own_or_alone l.settled (judged_all (drop l.term-index l.terms))) ≡ kinds (each_own_or_alone l.initial.settled (judged_all l.terms)))
+    × (l.faults ++ all_faults (each_own_or_alone l.settled (judged_all (drop l.term-index l.terms))) ≡ l.initial.faults ++ all_faults (each_own_or_alone l.initial.settled (judged_all l.terms)))
 
 abbrev pub invariant-first_settled-loop-item : goal.invariant-first_settled-loop-item
 invariant-first_settled-loop-item l =
     (l.faults ≡ l.initial.faults) × (first_settled (judged_all (drop l.item-index l.items)) ≡ first_settled (judged_all l.items))
+
+abbrev pub invariant-tell_others-loop-item : goal.invariant-tell_others-loop-item
+invariant-tell_others-loop-item l = l.faults ++ others_from l.is_behind (judged_all (drop l.item-index l.items)) ≡ l.initial.faults ++ others_from false (judged_all l.items)

@@ -1,0 +1,4 @@
+pub mod Trees
+pub mod Run
+pub mod Shown
+pub mod Resting

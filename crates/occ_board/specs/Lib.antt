@@ -1,0 +1,6 @@
+pub mod Journal
+pub mod Same
+pub mod Done
+pub mod Verdicts
+pub mod Machine
+pub mod Samples

@@ -1,0 +1,142 @@
+-- The machine: what is at a moment, and what each event answers and leaves. No diagnostics are in its state: a report takes
+-- them from the texts.
+use Rattle.std.specs.Prelude.{ℕ, ◌+◌, not, List, [], ◌∷◌, ◌++◌, length, map, if◌then◌else◌, Option, Some, None}
+use Rattle.std.specs.List.{filter, find}
+use Rattle.std.specs.Str.{bytes_eq}
+use Rattle.occ_base.specs.declared.diag.Diag.{Diag}
+use Rattle.occ_board.specs.Done.{done, is_input_among, pending_units, ready_units}
+use Rattle.occ_board.specs.Journal.{refusal, replay}
+use Rattle.occ_board.specs.Same.{same_input}
+use Rattle.occ_board.specs.Verdicts.{verdict_of}
+use Rattle.occ_board.specs.declared.entry.Edit.{Edit}
+use Rattle.occ_board.specs.declared.entry.EditFault.{EditFault}
+use Rattle.occ_board.specs.declared.entry.Entry.{Entry}
+use Rattle.occ_board.specs.declared.verdict.Verdict.{Verdict}
+use Rattle.occ_board.specs.declared.verdict.Verdict.TheVariants as verdict
+use Rattle.occ_check.specs.Input.{Input}
+use Rattle.occ_project.specs.declared.reads.Read.{Read}
+use Rattle.occ_report.specs.Checks.{diags, input}
+use Rattle.occ_report.specs.Report.{open_units}
+
+-- the edits that were accepted; the inputs of the outcomes that are kept, one for each unit at most; those handed out
+pub record State : Type 0 where
+  pub journal : List Entry
+  pub kept : List Input
+  pub handed : List Input
+
+abbrev pub start : State
+start = record { journal = []; kept = []; handed = [] }
+
+abbrev pub files_of : State → List Read
+files_of s = replay s.journal
+
+-- ---- edits
+
+abbrev pub edit_answer : State → Edit → Option EditFault
+edit_answer s e = refusal s.journal e
+
+-- the number of the edit, if it is accepted
+abbrev pub edit_number : State → ℕ
+edit_number s = length s.journal + 1
+
+abbrev pub after_edit : Option EditFault → State → ℕ → Edit → State
+after_edit None s session e = record { journal = s.journal ++ (record { session = session; edit = e }) ∷ []; kept = s.kept; handed = s.handed }
+after_edit (Some fault) s session e = s
+
+-- ---- jobs
+
+-- the present input of the least ready unit that is not handed out with it
+abbrev pub take_answer : State → Option Input
+take_answer s = find (λ i. not (is_input_among s.handed i)) (map (input (files_of s)) (ready_units (files_of s) s.kept))
+
+abbrev pub handed_out : List Input → Option Input → List Input
+handed_out handed None = handed
+handed_out handed (Some i) = handed ++ i ∷ []
+
+abbrev pub after_take : State → State
+after_take s = record { journal = s.journal; kept = s.kept; handed = handed_out s.handed (take_answer s) }
+
+-- without this one
+abbrev pub unhanded : List Input → Input → List Input
+unhanded handed i = filter (λ j. not (same_input j i)) handed
+
+abbrev pub after_abandon : State → Input → State
+after_abandon s i = record { journal = s.journal; kept = s.kept; handed = unhanded s.handed i }
+
+-- ---- outcomes
+
+abbrev pub finish_answer : State → Input → Verdict
+finish_answer s i = verdict_of (files_of s) (length s.journal) s.kept i
+
+-- in place of the one that is kept of its unit, if one is
+abbrev pub with_kept : List Input → Input → List Input
+with_kept [] i = i ∷ []
+with_kept (j ∷ js) i = if bytes_eq j.unit i.unit then i ∷ js else j ∷ with_kept js i
+
+abbrev pub kept_after : Verdict → List Input → Input → List Input
+kept_after verdict.Accepted kept i = with_kept kept i
+kept_after verdict.Repeated kept i = kept
+kept_after (verdict.Stale name) kept i = kept
+kept_after (verdict.Foreign name) kept i = kept
+
+abbrev pub after_finish : State → Input → State
+after_finish s i = record { journal = s.journal; kept = kept_after (finish_answer s i) s.kept i; handed = unhanded s.handed i }
+
+-- ---- what is asked
+
+-- the diagnostics of a unit, if it is done
+abbrev pub shown : State → List ℕ → Option (List Diag)
+shown s u = if done (files_of s) s.kept u then Some (diags (files_of s) u) else None
+
+-- each open unit in order of name
+abbrev pub report_answer : State → List (List ℕ × Option (List Diag))
+report_answer s = map (λ u. (u, shown s u)) (open_units (files_of s))
+
+abbrev pub pending_answer : State → ℕ
+pending_answer s = length (pending_units (files_of s) s.kept)
+
+-- ---- events
+
+pub data Event : Type 0 where
+  -- a session makes an edit
+  Edited : ℕ → Edit → Event
+  Take : Event
+  -- of an outcome, and of a job, with this input
+  Finish : Input → Event
+  Abandon : Input → Event
+  Report : Event
+  Pending : Event
+
+pub data Answer : Type 0 where
+  Number : ℕ → Answer
+  Refused : EditFault → Answer
+  Job : Option Input → Answer
+  Judged : Verdict → Answer
+  Nothing : Answer
+  Shows : List (List ℕ × Option (List Diag)) → Answer
+  Count : ℕ → Answer
+
+abbrev pub edited_answer : Option EditFault → ℕ → Answer
+edited_answer None n = Answer.Number n
+edited_answer (Some fault) n = Answer.Refused fault
+
+abbrev pub answer : State → Event → Answer
+answer s (Event.Edited session e) = edited_answer (edit_answer s e) (edit_number s)
+answer s Event.Take = Answer.Job (take_answer s)
+answer s (Event.Finish i) = Answer.Judged (finish_answer s i)
+answer s (Event.Abandon i) = Answer.Nothing
+answer s Event.Report = Answer.Shows (report_answer s)
+answer s Event.Pending = Answer.Count (pending_answer s)
+
+abbrev pub after : State → Event → State
+after s (Event.Edited session e) = after_edit (edit_answer s e) s session e
+after s Event.Take = after_take s
+after s (Event.Finish i) = after_finish s i
+after s (Event.Abandon i) = after_abandon s i
+after s Event.Report = s
+after s Event.Pending = s
+
+-- behind these events, one after the other
+abbrev pub after_all : State → List Event → State
+after_all s [] = s
+after_all s (e ∷ es) = after_all (after s e) es

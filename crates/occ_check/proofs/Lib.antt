@@ -1,0 +1,5 @@
+pub mod Placed
+pub mod Names
+pub mod Rising
+pub mod Exported
+pub mod Firsts

@@ -1,0 +1,35 @@
+-- The diagnostics of a unit and its interface, as the rules give them for what its check looks at.
+use Rattle.std.specs.Prelude.{Bool, true, false, List, ◌++◌, Option, None, if◌then◌else◌}
+use Rattle.std.specs.List.{list_any}
+use Rattle.occ_base.specs.declared.code.Grade.{Grade}
+use Rattle.occ_base.specs.declared.code.Grade.TheVariants as grade
+use Rattle.occ_base.specs.declared.diag.Diag.{Diag}
+use Rattle.occ_check.specs.Faults.{line_faults}
+use Rattle.occ_check.specs.Input.{Input, expansion_in}
+use Rattle.occ_check.specs.Language.{behind, lines_judged}
+use Rattle.occ_check.specs.Order.{in_order}
+use Rattle.occ_check.specs.declared.language.Judgement.{Judgement}
+use Rattle.occ_types.specs.declared.interface.Interface.{Interface}
+
+-- of its files, its lines and the units that it uses
+abbrev pub unit_faults : Input → List Diag
+unit_faults i = (expansion_in i).faults ++ line_faults i.used (expansion_in i).lines
+
+-- these alone, if there are any, else what the language says of the lines
+abbrev pub judged : Input → Judgement
+judged i = behind (unit_faults i) (lines_judged (expansion_in i).lines i.used)
+
+-- in order, each once
+unfoldable pub diags_of : Input → List Diag
+diags_of i = in_order (judged i).faults
+
+abbrev pub is_error : Grade → Bool
+is_error grade.Error = true
+is_error grade.Check = false
+
+abbrev pub has_error : List Diag → Bool
+has_error = list_any (λ d. is_error d.grade)
+
+-- none of a unit that has an error
+unfoldable pub interface_of : Input → Option Interface
+interface_of i = if has_error (diags_of i) then None else (judged i).interface

@@ -1,0 +1,60 @@
+-- What the language says of a unit none of whose lines has a fault. All else of a check asks it by `lines_judged` alone,
+-- whatever the language is.
+use Rattle.std.specs.Prelude.{ℕ, List, [], ◌∷◌, Some, None}
+use Rattle.std.specs.List.{flat_map}
+use Rattle.occ_base.specs.declared.diag.Diag.{Diag}
+use Rattle.occ_check.specs.Exports.{interface_in}
+use Rattle.occ_check.specs.declared.language.Judgement.{Judgement}
+use Rattle.occ_check.specs.declared.used.Used.{Used}
+use Rattle.occ_check.specs.declared.used.Used.TheVariants as how
+use Rattle.occ_check.specs.declared.used.UsedUnit.{UsedUnit}
+use Rattle.occ_first.specs.Diagnostics.{known_faults}
+use Rattle.occ_first.specs.View.{lines_of}
+use Rattle.occ_project.specs.declared.expanded.ExpandedBody.{ExpandedBody}
+use Rattle.occ_project.specs.declared.expanded.ExpandedBody.TheVariants as body
+use Rattle.occ_project.specs.declared.expanded.ExpandedLine.{ExpandedLine}
+use Rattle.occ_tree.specs.Faults.{shape_faults}
+use Rattle.occ_tree.specs.Forest.{nested}
+use Rattle.occ_typing.specs.TypedLines.{typed_unit}
+use Rattle.occ_typing.specs.Units.{type_faults}
+use Rattle.occ_typing.specs.declared.using.Import.{Import}
+
+-- these alone, if there are any, else what comes later
+abbrev pub behind : List Diag → Judgement → Judgement
+behind [] later = later
+behind (d ∷ ds) later = record { faults = d ∷ ds; interface = None }
+
+-- what a unit shows that is used so
+abbrev pub shown : List ℕ → Used → List Import
+shown unit (how.Clean interface) = record { unit = unit; interface = interface } ∷ []
+shown unit how.Absent = []
+shown unit how.Circular = []
+shown unit how.Faulty = []
+
+abbrev pub shown_by : UsedUnit → List Import
+shown_by u = shown u.unit u.used
+
+-- what the used units show, which come into scope where a line uses them
+abbrev pub imports : List UsedUnit → List Import
+imports = flat_map shown_by
+
+-- a line, unless it is a `#USE`: the first sublanguage has none, and uses of variables ask nothing of them
+abbrev pub other_line : ExpandedLine → ExpandedBody → List ExpandedLine
+other_line l (body.Form form) = l ∷ []
+other_line l (body.Uses units) = []
+other_line l (body.Fault code) = l ∷ []
+
+abbrev pub other_lines : List ExpandedLine → List ExpandedLine
+other_lines = flat_map (λ l. other_line l l.body)
+
+-- of lines that are not known yet, and of uses
+abbrev pub uses_told : List ExpandedLine → List Diag
+uses_told ls = known_faults (lines_of (other_lines ls))
+
+-- of names and types; else of lines that are not known yet and of uses
+abbrev pub lines_typed : List ExpandedLine → List Import → Judgement
+lines_typed ls shows = behind (type_faults shows (nested ls)) (record { faults = uses_told ls; interface = Some (interface_in (typed_unit shows (nested ls))) })
+
+-- of the lines of a unit that uses these: first what is wrong with their shape, else what they mean
+unfoldable pub lines_judged : List ExpandedLine → List UsedUnit → Judgement
+lines_judged ls used = behind (shape_faults ls) (lines_typed ls (imports used))

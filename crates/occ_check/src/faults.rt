@@ -1,0 +1,89 @@
+ghost use Rattle.std.specs.Prelude.{◌≡◌, ◌++◌, OnOk};
+ghost use Rattle.std.specs.List.{flat_map};
+ghost use Rattle.occ_check.specs.Faults.{line_faults, own_faults, standing, use_code as code_of_use, use_faults};
+
+use super::used::{Used, UsedUnit};
+use occ_base::{Code, Diag, FileName, Items, Name};
+use occ_project::{ExpandedBody, ExpandedLine};
+use std::alloc::{AllocError, Global};
+
+/// What is wrong with a use of the unit, as it stands among these: one that is not among them is absent.
+fn use_code(used: &[UsedUnit], unit: FileName) -> Option<Code>
+    ensures { result ≡ code_of_use (standing used.now unit) }
+{
+    for one in used {
+        if one.unit == unit {
+            return match one.used {
+                Used::Absent => Some(Code::G1),
+                Used::Circular => Some(Code::G2),
+                Used::Faulty => Some(Code::G3),
+                Used::Clean(_) => None,
+            };
+        }
+    }
+    Some(Code::G1)
+}
+
+/// Adds the fault of a use of the unit at the line, if it has one.
+fn add_use_fault(
+    alloc: Global,
+    used: &[UsedUnit],
+    line: &ExpandedLine,
+    unit: FileName,
+    found: &mut Items<Diag>,
+) -> Result<(), AllocError>
+    ensures { OnOk result (found.new ≡ found.old ++ use_faults used.now line.now unit) }
+{
+    let Some(code) = use_code(used, unit) else {
+        return Ok(());
+    };
+    let name = Name::from_slice(alloc, unit.as_bytes())?;
+    found.push(Diag::error(line.file, line.line, code, Some(name)))
+}
+
+/// Adds the faults of the units that the line uses.
+fn add_use_faults(
+    alloc: Global,
+    used: &[UsedUnit],
+    line: &ExpandedLine,
+    units: &[FileName],
+    found: &mut Items<Diag>,
+) -> Result<(), AllocError>
+    ensures { OnOk result (found.new ≡ found.old ++ flat_map (use_faults used.now line.now) units.now) }
+{
+    for unit in units {
+        add_use_fault(alloc, used, line, *unit, found)?;
+    }
+    Ok(())
+}
+
+/// Adds the fault that the line has instead of a form, or those of the units that it uses.
+fn add_own_faults(
+    alloc: Global,
+    used: &[UsedUnit],
+    line: &ExpandedLine,
+    found: &mut Items<Diag>,
+) -> Result<(), AllocError>
+    ensures { OnOk result (found.new ≡ found.old ++ own_faults used.now line.now) }
+{
+    match &line.body {
+        ExpandedBody::Form(_) => Ok(()),
+        ExpandedBody::Uses(units) => add_use_faults(alloc, used, line, units.as_slice(), found),
+        ExpandedBody::Fault(code) => found.push(Diag::error(line.file, line.line, *code, None)),
+    }
+}
+
+/// Adds the faults of the lines, and of the units that they use.
+pub fn find_line_faults(
+    alloc: Global,
+    used: &[UsedUnit],
+    lines: &[ExpandedLine],
+    found: &mut Items<Diag>,
+) -> Result<(), AllocError>
+    ensures { OnOk result (found.new ≡ found.old ++ line_faults used.now lines.now) }
+{
+    for line in lines {
+        add_own_faults(alloc, used, line, found)?;
+    }
+    Ok(())
+}

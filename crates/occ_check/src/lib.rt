@@ -1,0 +1,18 @@
+//! The check of one unit: what it looks at (its input), the job that holds that, and its outcome, the diagnostics and
+//! the interface that the rules give for that input.
+#![tactic(auto)]
+
+mod exports;
+mod faults;
+mod job;
+mod language;
+mod order;
+mod outcome;
+mod rows;
+mod used;
+mod uses;
+
+pub use job::{Job, JobFault};
+pub use outcome::{Outcome, check};
+pub use rows::{input_rows, order_law, use_rows};
+pub use used::{Used, UsedUnit};

@@ -1,0 +1,163 @@
+-- The drafts of expressions from those of their parts. A draft has the parts of an expression in their order, without its
+-- parentheses; what is known of the whole decides whether it is typed already, still free, or faulty.
+use Rattle.std.specs.Prelude.{ℕ, Option, Some, None, List, [], ◌∷◌, if◌then◌else◌}
+use Rattle.occ_operands.specs.Settling.{int}
+use Rattle.occ_operands.specs.declared.kind.Free.{Free}
+use Rattle.occ_operands.specs.declared.kind.Kind.{Kind}
+use Rattle.occ_operands.specs.declared.kind.Kind.TheVariants as k
+use Rattle.occ_operands.specs.declared.kind.Known.{Known}
+use Rattle.occ_tables.specs.Terms.{Judged, is_no_item}
+use Rattle.occ_tables.specs.declared.term.Term.{Term}
+use Rattle.occ_typed.specs.Placing.{all_placed, applied_of, each_placed, known_of, operation_of, placed, shifted_of, table_of}
+use Rattle.occ_typed.specs.declared.draft.Draft.{Draft, out-Draft}
+use Rattle.occ_typed.specs.declared.draft.Draft.TheOpen.{Draft-F}
+use Rattle.occ_typed.specs.declared.draft.Draft.TheVariants as d
+use Rattle.occ_typed.specs.declared.expr.TypedExpr.{TypedExpr}
+use Rattle.occ_typed.specs.declared.expr.TypedExpr.TheVariants as typed
+use Rattle.occ_types.specs.Fits.{unnamed}
+use Rattle.occ_types.specs.View.{as_array, fields_in}
+use Rattle.occ_types.specs.declared.constant.Monadic.{Monadic}
+use Rattle.occ_types.specs.declared.constant.Monadic.TheVariants as m
+use Rattle.occ_types.specs.declared.constant.Operator.{Operator}
+use Rattle.occ_types.specs.declared.constant.Operator.TheVariants as op
+use Rattle.occ_types.specs.declared.types.Field.{Field}
+use Rattle.occ_types.specs.declared.types.OccType.{OccType}
+use Rattle.occ_expression_forms.specs.declared.tree.MonadicOperator.{MonadicOperator}
+use Rattle.occ_expression_forms.specs.declared.tree.MonadicOperator.TheVariants as mo
+use Rattle.occ_expression_forms.specs.declared.tree.PairOperator.{PairOperator}
+use Rattle.occ_expression_forms.specs.declared.tree.PairOperator.TheVariants as po
+use Rattle.occ_expr.specs.Operations.{converted, pair_operator, plain}
+
+-- this tree, if all of its parts have theirs
+abbrev pub drafted : Option TypedExpr → Draft
+drafted None = d.Faulty
+drafted (Some t) = d.Typed t
+
+-- a literal, of which this is known; also TRUE, FALSE, and an end of a type
+abbrev pub literal_draft : Kind → Draft
+literal_draft k.Faulty = d.Faulty
+literal_draft (k.Free f) = d.Literal f
+literal_draft (k.Known x) = d.Typed (typed.Literal x)
+
+-- the type that an operand of which none is wanted has, of which this is known
+abbrev pub type_alone : Kind → OccType
+type_alone k.Faulty = int
+type_alone (k.Free f) = int
+type_alone (k.Known x) = x.of
+
+-- ---- operators
+
+abbrev pub type_layer : Draft-F Draft → Option OccType
+type_layer Draft-F.Faulty = None
+type_layer (Draft-F.Typed t) = Some (known_of t).of
+type_layer (Draft-F.Literal f) = None
+type_layer (Draft-F.Operation f op ds) = None
+type_layer (Draft-F.Applied f op x) = None
+type_layer (Draft-F.Shifted f op x count) = None
+type_layer (Draft-F.Table ds) = None
+
+-- the type of what is typed already
+unfoldable pub own_type : Draft → Option OccType
+own_type x = type_layer (out-Draft x)
+
+abbrev pub type_or : Option OccType → OccType → OccType
+type_or None of = of
+type_or (Some own) of = own
+
+-- the type of the first operand that is not free, which all take; if all are free, INT
+abbrev pub operands_type : List Draft → OccType
+operands_type [] = int
+operands_type (x ∷ xs) = type_or (own_type x) (operands_type xs)
+
+unfoldable pub operation_draft : Kind → Operator → List Draft → Draft
+operation_draft k.Faulty op xs = d.Faulty
+operation_draft (k.Free f) op xs = d.Operation f op xs
+operation_draft (k.Known x) op xs = drafted (operation_of x op (all_placed xs (operands_type xs)))
+
+abbrev pub shifted_free : Free → Operator → Draft → Option TypedExpr → Draft
+shifted_free f op x None = d.Faulty
+shifted_free f op x (Some count) = d.Shifted f op x count
+
+abbrev pub shifted_known : Known → Operator → Option TypedExpr → Option TypedExpr → Option TypedExpr
+shifted_known x op t None = None
+shifted_known x op t (Some count) = shifted_of x op t count
+
+-- the count of a shift is an INT
+unfoldable pub shift_draft : Kind → Operator → Draft → Draft → Draft
+shift_draft k.Faulty op x count = d.Faulty
+shift_draft (k.Free f) op x count = shifted_free f op x (placed count int)
+shift_draft (k.Known y) op x count = drafted (shifted_known y op (placed x y.of) (placed count int))
+
+unfoldable pub pair_draft : Kind → PairOperator → Draft → Draft → Draft
+pair_draft whole po.ShiftLeft x y = shift_draft whole op.ShiftLeft x y
+pair_draft whole po.ShiftRight x y = shift_draft whole op.ShiftRight x y
+pair_draft whole operator x y = operation_draft whole (pair_operator operator) (x ∷ y ∷ [])
+
+unfoldable pub front_draft : Kind → Monadic → Draft → Draft
+front_draft k.Faulty op x = d.Faulty
+front_draft (k.Free f) op x = d.Applied f op x
+front_draft (k.Known y) op x = drafted (applied_of y op (placed x y.of))
+
+-- `-` makes one literal with an integer in decimal digits that has no type of its own
+abbrev pub negated_draft : Kind → Option ℕ → Draft → Draft
+negated_draft whole None x = front_draft whole m.Negate x
+negated_draft whole (Some n) x = literal_draft whole
+
+abbrev pub size_of : Known → Option TypedExpr → Option TypedExpr
+size_of x None = None
+size_of x (Some t) = Some (typed.Size x t)
+
+abbrev pub size_draft : Kind → Kind → Draft → Draft
+size_draft k.Faulty operand x = d.Faulty
+size_draft (k.Free f) operand x = d.Faulty
+size_draft (k.Known y) operand x = drafted (size_of y (placed x (type_alone operand)))
+
+unfoldable pub applied_draft : Kind → MonadicOperator → Option ℕ → Judged → Draft → Draft
+applied_draft whole mo.Negate digits operand x = negated_draft whole digits x
+applied_draft whole mo.Minus digits operand x = front_draft whole m.Minus x
+applied_draft whole mo.BitNot digits operand x = front_draft whole m.BitNot x
+applied_draft whole mo.BitNotWord digits operand x = front_draft whole m.BitNot x
+applied_draft whole mo.Not digits operand x = front_draft whole m.Not x
+applied_draft whole mo.Size digits operand x = size_draft whole operand.alone.kind x
+
+-- ---- conversions, which want nothing of their operand
+
+abbrev pub converted_of : Known → Option TypedExpr → Option TypedExpr
+converted_of x None = None
+converted_of x (Some t) = Some (typed.Converted x t)
+
+abbrev pub converted_to : Kind → Kind → Draft → Draft
+converted_to k.Faulty operand x = d.Faulty
+converted_to (k.Free f) operand x = d.Faulty
+converted_to (k.Known y) operand x = drafted (converted_of y (placed x (type_alone operand)))
+
+unfoldable pub conversion_draft : Option OccType → Judged → Draft → Draft
+conversion_draft to operand x = converted_to (converted to operand).kind (plain operand).kind x
+
+-- ---- tables
+
+-- an item that is a channel, a timer or an array of them is faulty
+unfoldable pub item_draft : Term → Draft → Draft
+item_draft term x = if is_no_item term then d.Faulty else x
+
+abbrev pub types_of : List Field → List OccType
+types_of [] = []
+types_of (f ∷ fs) = f.of ∷ types_of fs
+
+abbrev pub values_placed : List Draft → Option (List Field) → Option (List TypedExpr)
+values_placed xs None = None
+values_placed xs (Some fields) = each_placed xs (types_of fields)
+
+abbrev pub components_placed : List Draft → OccType → Option (Option ℕ × OccType) → Option (List TypedExpr)
+components_placed xs of None = values_placed xs (fields_in (unnamed of))
+components_placed xs of (Some parts) = all_placed xs parts.1
+
+-- the items of a table of this type: components, or the values of fields in their order
+abbrev pub items_placed : List Draft → OccType → Option (List TypedExpr)
+items_placed xs of = components_placed xs of (as_array (unnamed of))
+
+-- a table with its type behind it
+unfoldable pub decorated_draft : Kind → List Draft → Draft
+decorated_draft k.Faulty xs = d.Faulty
+decorated_draft (k.Free f) xs = d.Faulty
+decorated_draft (k.Known x) xs = drafted (table_of x (items_placed xs x.of))

@@ -1,0 +1,81 @@
+ghost use Rattle.std.specs.Prelude.{◌≡◌, ◌∷◌, ◌++◌, [], IfOk, OnOk};
+ghost use Rattle.occ_expr.specs.Drafts.{literal_draft as drafted_literal};
+ghost use Rattle.occ_operands.specs.declared.kind.Kind.TheVariants as k;
+ghost use Rattle.occ_tables.specs.declared.term.Term.TheVariants as v;
+ghost use Rattle.occ_typed.specs.declared.draft.Draft.TheVariants as d;
+
+use super::drafting::literal_draft;
+use occ_base::{Items, one_item};
+use occ_operands::Kind;
+use occ_tables::Term;
+use occ_typed::Draft;
+use std::alloc::{AllocError, Global};
+
+/// What is read of an expression before a type is wanted of it: what is known of it, and its draft.
+#[derive(Drop)]
+pub struct Reading {
+    pub term: Term,
+    pub draft: Draft,
+}
+
+/// What is read of several expressions, in their order.
+#[derive(Drop)]
+pub struct Readings {
+    pub terms: Items<Term>,
+    pub drafts: Items<Draft>,
+}
+
+impl Readings {
+    /// Of no expression.
+    pub fn new(alloc: Global) -> Readings
+        ensures terms { result.terms ≡ [] }
+        ensures drafts { result.drafts ≡ [] }
+    {
+        Readings {
+            terms: Items::new(alloc),
+            drafts: Items::new(alloc),
+        }
+    }
+
+    /// Of one expression.
+    pub fn one(alloc: Global, first: Reading) -> Result<Readings, AllocError>
+        ensures terms { IfOk result (λ all. all.terms ≡ first.term ∷ []) }
+        ensures drafts { IfOk result (λ all. all.drafts ≡ first.draft ∷ []) }
+    {
+        let terms = one_item(alloc, first.term)?;
+        let drafts = one_item(alloc, first.draft)?;
+        Ok(Readings { terms, drafts })
+    }
+
+    /// Of one expression more.
+    pub fn push(&mut self, next: Reading) -> Result<(), AllocError>
+        ensures terms { OnOk result (self.new.terms ≡ self.old.terms ++ next.term ∷ []) }
+        ensures drafts { OnOk result (self.new.drafts ≡ self.old.drafts ++ next.draft ∷ []) }
+    {
+        self.terms.push(next.term)?;
+        self.drafts.push(next.draft)
+    }
+}
+
+/// Of an expression that is faulty.
+pub fn faulty_reading() -> Reading
+    ensures term { result.term ≡ v.Single k.Faulty }
+    ensures draft { result.draft ≡ d.Faulty }
+{
+    Reading {
+        term: Term::Single(Kind::Faulty),
+        draft: Draft::Faulty,
+    }
+}
+
+/// Of a literal of which this is known.
+pub fn literal_reading(alloc: Global, kind: Kind) -> Result<Reading, AllocError>
+    ensures term { IfOk result (λ whole. whole.term ≡ v.Single kind) }
+    ensures draft { IfOk result (λ whole. whole.draft ≡ drafted_literal kind) }
+{
+    let draft = literal_draft(alloc, &kind)?;
+    Ok(Reading {
+        term: Term::Single(kind),
+        draft,
+    })
+}

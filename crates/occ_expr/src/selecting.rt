@@ -1,0 +1,234 @@
+#![tactic(auto, using(crate::proofs::Fields::front_rules))]
+
+ghost use Rattle.std.specs.Prelude.{◌≡◌, IfOk, None, Some};
+ghost use Rattle.occ_expr.specs.Elements.{component_at as told_component, element_draft as drafted_element, element_of as told_element, field_at, field_place as told_place, one_selector, with_selectors};
+ghost use Rattle.occ_expr.specs.Views.{components_of as the_components, for_of as told_for, from_for_of as told_from_for, from_of as told_from, part_of as told_part};
+ghost use Rattle.occ_operands.specs.Settling.{int as int_type};
+ghost use Rattle.occ_operands.specs.declared.kind.Kind.TheVariants as k;
+ghost use Rattle.occ_tables.specs.declared.term.Term.TheVariants as v;
+ghost use Rattle.occ_typed.specs.Placing.{placed as told_placed};
+
+use super::reading::Reading;
+use occ_base::{Items, Name, Shared};
+use occ_names::Referent;
+use occ_operands::{Kind, Known, int};
+use occ_tables::{BoundTerms, Term};
+use occ_typed::{Draft, Selector, TypedElement, TypedExpr, placed};
+use occ_types::{Field, array_of, unnamed};
+use std::alloc::{AllocError, Global};
+
+/// What is read of an element: what is known of it, and its tree, if it has no fault.
+#[derive(Drop)]
+pub struct ElementReading {
+    pub kind: Kind,
+    pub tree: Option<TypedElement>,
+}
+
+/// What is read of the bounds of a segment: what is known of each, and what they select, if they have no fault.
+#[derive(Drop)]
+pub struct BoundsReading {
+    pub bounds: BoundTerms,
+    pub selector: Option<Selector>,
+}
+
+/// The same once more.
+fn shared(known: &Known) -> Result<Known, AllocError>
+    ensures { IfOk result (λ shared. shared ≡ known.now) }
+{
+    let of = known.of.share()?;
+    Ok(Known {
+        of,
+        value: known.value,
+    })
+}
+
+/// The tree of a place or a count, which is an INT.
+pub fn place_tree(alloc: Global, draft: &Draft) -> Result<Option<Shared<TypedExpr>>, AllocError>
+    ensures { IfOk result (λ tree. tree ≡ told_placed draft.now int_type) }
+{
+    placed(alloc, draft, &int(alloc)?)
+}
+
+/// The component at a place.
+pub fn component_at(alloc: Global, place: &Draft) -> Result<Option<Selector>, AllocError>
+    ensures { IfOk result (λ selector. selector ≡ told_component (told_placed place.now int_type)) }
+{
+    let Some(tree) = place_tree(alloc, place)? else {
+        return Ok(None);
+    };
+    Ok(Some(Selector::Component(tree)))
+}
+
+/// The place of the first field of a name.
+fn field_place(name: &Name, fields: &[Field]) -> Option<usize>
+    ensures { result ≡ told_place name.now fields.now }
+{
+    let mut place = 0;
+    for field in fields {
+        if field.name == *name {
+            return Some(place);
+        }
+        place += 1;
+    }
+    None
+}
+
+/// The field of a name.
+pub fn field_selector(
+    alloc: Global,
+    name: &Name,
+    fields: &[Field],
+) -> Result<Option<Selector>, AllocError>
+    ensures { IfOk result (λ selector. selector ≡ field_at name.now (told_place name.now fields.now)) }
+{
+    let Some(place) = field_place(name, fields) else {
+        return Ok(None);
+    };
+    Ok(Some(Selector::Field(place, name.copied(alloc)?)))
+}
+
+/// One selector more, if all are there.
+pub fn with_selector(
+    selectors: Option<Items<Selector>>,
+    next: Option<Selector>,
+) -> Result<Option<Items<Selector>>, AllocError>
+    ensures { IfOk result (λ all. all ≡ with_selectors selectors (one_selector next)) }
+{
+    let (Some(mut selectors), Some(next)) = (selectors, next) else {
+        return Ok(None);
+    };
+    selectors.push(next)?;
+    Ok(Some(selectors))
+}
+
+/// Selectors and those behind them, if all are there.
+fn with_more(
+    selectors: Option<Items<Selector>>,
+    more: Option<Items<Selector>>,
+) -> Result<Option<Items<Selector>>, AllocError>
+    ensures { IfOk result (λ all. all ≡ with_selectors selectors more) }
+{
+    let (Some(mut selectors), Some(more)) = (selectors, more) else {
+        return Ok(None);
+    };
+    selectors.append(more)?;
+    Ok(Some(selectors))
+}
+
+/// The number of components of what is known, if it is an array and its number is known.
+pub fn components_of(kind: &Kind) -> Option<u32>
+    ensures { result ≡ the_components kind.now }
+{
+    match kind {
+        Kind::Known(known) => match array_of(unnamed(known.of.get())) {
+            Some((count, _)) => count,
+            None => None,
+        },
+        Kind::Faulty => None,
+        Kind::Free(_) => None,
+    }
+}
+
+/// `FROM e` of so many components.
+pub fn from_of(count: Option<u32>, base: Option<Shared<TypedExpr>>) -> Option<Selector>
+    ensures { result ≡ told_from count base }
+{
+    match base {
+        Some(base) => Some(Selector::From(count, base)),
+        None => None,
+    }
+}
+
+/// `FOR e` of so many components.
+pub fn for_of(components: Option<u32>, count: Option<Shared<TypedExpr>>) -> Option<Selector>
+    ensures { result ≡ told_for components count }
+{
+    match count {
+        Some(count) => Some(Selector::For(components, count)),
+        None => None,
+    }
+}
+
+/// `FROM e FOR e` of so many components.
+pub fn from_for_of(
+    components: Option<u32>,
+    base: Option<Shared<TypedExpr>>,
+    count: Option<Shared<TypedExpr>>,
+) -> Option<Selector>
+    ensures { result ≡ told_from_for components base count }
+{
+    let (Some(base), Some(count)) = (base, count) else {
+        return None;
+    };
+    Some(Selector::FromFor(components, base, count))
+}
+
+/// An element of which this is known, with its specification and its selectors, if none of these is missing.
+#[tactic(auto, unfolding(crate::specs::Elements::element_of))]
+pub fn element_of(
+    kind: &Kind,
+    name: Name,
+    referent: Option<Referent>,
+    selectors: Option<Items<Selector>>,
+) -> Result<Option<TypedElement>, AllocError>
+    ensures { IfOk result (λ tree. tree ≡ told_element kind.now name referent selectors) }
+{
+    let (Kind::Known(known), Some(referent), Some(selectors)) = (kind, referent, selectors) else {
+        return Ok(None);
+    };
+    Ok(Some(TypedElement {
+        known: shared(known)?,
+        name,
+        referent,
+        selectors,
+    }))
+}
+
+/// The part of an element that a segment and subscripts behind it select.
+#[tactic(auto, unfolding(crate::specs::Views::part_of))]
+pub fn part_of(
+    kind: &Kind,
+    whole: Option<TypedElement>,
+    part: Option<Selector>,
+    behind: Option<Items<Selector>>,
+) -> Result<Option<TypedElement>, AllocError>
+    ensures { IfOk result (λ tree. tree ≡ told_part kind.now whole part behind) }
+{
+    let Some(
+        TypedElement {
+            known: _,
+            name,
+            referent,
+            selectors,
+        },
+    ) = whole
+    else {
+        return Ok(None);
+    };
+    let selectors = with_more(with_selector(Some(selectors), part)?, behind)?;
+    element_of(kind, name, Some(referent), selectors)
+}
+
+/// The draft of an element.
+fn element_draft(alloc: Global, tree: Option<TypedElement>) -> Result<Draft, AllocError>
+    ensures { IfOk result (λ draft. draft ≡ drafted_element tree) }
+{
+    let Some(tree) = tree else {
+        return Ok(Draft::Faulty);
+    };
+    let tree = TypedExpr::Element(Shared::new(alloc, tree)?);
+    Ok(Draft::Typed(Shared::new(alloc, tree)?))
+}
+
+/// An element as an expression.
+pub fn element_reading(alloc: Global, element: ElementReading) -> Result<Reading, AllocError>
+    ensures term { IfOk result (λ whole. whole.term ≡ v.Single element.kind) }
+    ensures draft { IfOk result (λ whole. whole.draft ≡ drafted_element element.tree) }
+{
+    let ElementReading { kind, tree } = element;
+    let draft = element_draft(alloc, tree)?;
+    Ok(Reading {
+        term: Term::Single(kind),
+        draft,
+    })
+}

@@ -1,6 +1,0 @@
-use Rattle.std.proofs.Common.{◌≡◌, ◌++◌, drop}
-use Rattle.occ_first.specs.Faults.{line_faults}
-use Rattle.occ_first.proofs.faults.find_line_faults.Given as goal
-
-abbrev pub invariant-loop-line : goal.invariant-loop-line
-invariant-loop-line l = l.found ++ line_faults l.unit (drop l.line-index l.lines) ≡ l.fn.found ++ line_faults l.unit l.lines

@@ -1,0 +1,23 @@
+#![tactic(auto, using(crate::proofs::Knowing::knowing_rules))]
+
+ghost use Rattle.std.specs.Prelude.{◌≡◌};
+ghost use Rattle.occ_typed.specs.Placing.{known_of as the_known};
+
+use super::TypedExpr;
+use occ_operands::Known;
+
+/// The type of an expression, and its value where it is constant.
+pub fn known_of(tree: &TypedExpr) -> &Known
+    ensures { result.now ≡ the_known tree.now }
+{
+    match tree {
+        TypedExpr::Literal(known) => known,
+        TypedExpr::Element(element) => &element.get().known,
+        TypedExpr::Operation(known, _, _) => known,
+        TypedExpr::Applied(known, _, _) => known,
+        TypedExpr::Size(known, _) => known,
+        TypedExpr::Converted(known, _) => known,
+        TypedExpr::Table(known, _) => known,
+        TypedExpr::Call(known, _, _) => known,
+    }
+}

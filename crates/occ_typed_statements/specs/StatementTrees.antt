@@ -1,0 +1,69 @@
+-- The typed trees of a line of a process: of each expression the type at its place is wanted.
+use Rattle.std.specs.Prelude.{Option, Some, None, List, [], ◌∷◌, ◌++◌}
+use Rattle.occ_expr.specs.Views.{element_view, expr_view}
+use Rattle.occ_expression_forms.specs.declared.tree.Element.{Element}
+use Rattle.occ_expression_forms.specs.declared.tree.Expr.{Expr}
+use Rattle.occ_names.specs.declared.scope.Scope.{Scope}
+use Rattle.occ_operands.specs.Settling.{int}
+use Rattle.occ_operands.specs.declared.kind.Kind.{Kind}
+use Rattle.occ_operands.specs.declared.kind.Kind.TheVariants as k
+use Rattle.occ_typed.specs.Placing.{all_placed, each_placed, placed}
+use Rattle.occ_typed.specs.declared.draft.Draft.{Draft}
+use Rattle.occ_typed.specs.declared.expr.TypedElement.{TypedElement, out-TypedElement}
+use Rattle.occ_typed.specs.declared.expr.TypedExpr.{TypedExpr}
+use Rattle.occ_types.specs.declared.types.OccType.{OccType}
+use Rattle.occ_types.specs.declared.types.OccType.TheVariants as t
+use Rattle.occ_types.specs.declared.value.Primitive.TheVariants as p
+use Rattle.occ_typed_statements.specs.declared.statement.TypedAssignment.{TypedAssignment}
+
+abbrev pub drafts : Scope → List Expr → List Draft
+drafts s [] = []
+drafts s (e ∷ es) = (expr_view e).draft s ∷ drafts s es
+
+-- ---- assignments: each value is of the type of its target
+
+abbrev pub with_elements : Option (List TypedElement) → Option (List TypedElement) → Option (List TypedElement)
+with_elements None ys = None
+with_elements (Some xs) None = None
+with_elements (Some xs) (Some ys) = Some (xs ++ ys)
+
+abbrev pub one_element : Option TypedElement → Option (List TypedElement)
+one_element None = None
+one_element (Some x) = Some (x ∷ [])
+
+abbrev pub target_trees : Scope → List Element → Option (List TypedElement)
+target_trees s [] = Some []
+target_trees s (el ∷ els) = with_elements (one_element ((element_view el).tree s)) (target_trees s els)
+
+abbrev pub types_of : List TypedElement → List OccType
+types_of [] = []
+types_of (el ∷ els) = (out-TypedElement el).known.of ∷ types_of els
+
+abbrev pub assigned_values : List TypedElement → Option (List TypedExpr) → Option TypedAssignment
+assigned_values els None = None
+assigned_values els (Some ts) = Some (record { targets = els; values = ts })
+
+abbrev pub assigned : Option (List TypedElement) → List Draft → Option TypedAssignment
+assigned None xs = None
+assigned (Some els) xs = assigned_values els (each_placed xs (types_of els))
+
+abbrev pub assignment_tree : Scope → List Element → List Expr → Option TypedAssignment
+assignment_tree s els es = assigned (target_trees s els) (drafts s es)
+
+-- ---- conditions are BOOL, a selector is an integer or a BYTE, and its options are of its type
+
+abbrev pub condition_tree : Scope → Expr → Option TypedExpr
+condition_tree s e = placed ((expr_view e).draft s) (t.Primitive p.Bool)
+
+abbrev pub selector_tree : Scope → Expr → Option TypedExpr
+selector_tree s e = placed ((expr_view e).draft s) int
+
+abbrev pub options_trees : Scope → Kind → List Expr → Option (List TypedExpr)
+options_trees s k.Faulty es = None
+options_trees s (k.Free f) es = None
+options_trees s (k.Known x) es = all_placed (drafts s es) x.of
+
+-- ---- results of a FUNCTION, each of the type at its place
+
+abbrev pub results_trees : Scope → List OccType → List Expr → Option (List TypedExpr)
+results_trees s types es = each_placed (drafts s es) types

@@ -1,4 +1,0 @@
-pub mod Forms
-pub mod Lines
-pub mod Units
-pub mod inside

@@ -1,0 +1,34 @@
+-- What is in scope at a line, said over the whole tree: outermost first, what the lines of specification before each
+-- ancestor in its item add and what the ancestor enters, and last what those before the line in its own item add.
+use Rattle.std.specs.Prelude.{◌≡◌, Option, Some, None, List, [], ◌++◌}
+use Rattle.occ_names.specs.Visible.{nothing, with_all}
+use Rattle.occ_names.specs.declared.meaning.Entry.{Entry}
+use Rattle.occ_names.specs.declared.scope.Scope.{Scope}
+use Rattle.occ_tree.specs.Forest.{Forest}
+use Rattle.occ_typing.specs.Places.{At, Stands, first, inner, inside, judged_at, later}
+use Rattle.occ_typing.specs.Units.{behind_line}
+use Rattle.occ_typing.specs.declared.parent.Parent.{Parent}
+use Rattle.occ_typing.specs.declared.parent.Parent.TheVariants as parent
+use Rattle.occ_typing.specs.declared.using.Import.{Import}
+
+-- what the lines of an item have added behind one more of its lines: a main line ends the item
+abbrev pub item_behind : List Entry → Option (List Entry) → List Entry
+item_behind item None = []
+item_behind item (Some adds) = item ++ adds
+
+-- of a line that stands in trees, where the lines before these in their item have added this
+abbrev pub round : (is : List Import) (p : Parent) (outer s : Scope) (f : Forest) (a : At) → Stands is p outer s f a → List Entry → List Entry
+round is p outer s f a (first _ _ _ l under behind) item = item
+round is p outer s f a (inside _ _ _ l under behind _ below) item =
+    let x = judged_at is p s l under in
+    item ++ (x.line.enters ++ round is x.line.parent (inner x s) (inner x s) under a below [])
+round is p outer s f a (later _ _ _ l under behind _ below) item =
+    let x = judged_at is p s l under in
+    round is x.line.next outer (behind_line outer s x.line.adds) behind a below (item_behind item x.line.adds)
+
+-- of a line of a unit
+abbrev pub unit_round : (is : List Import) (f : Forest) (a : At) → Stands is parent.Process nothing nothing f a → List Entry
+unit_round is f a h = round is parent.Process nothing nothing f a h []
+
+abbrev pub IsRound : List Import → Forest → Type 0
+IsRound is f = (a : At) (h : Stands is parent.Process nothing nothing f a) → a.scope ≡ with_all nothing (unit_round is f a h)

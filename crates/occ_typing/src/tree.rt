@@ -1,0 +1,166 @@
+use occ_base::{Boxed, Items, Name, Shared};
+use occ_names::{Entry, Referent};
+use occ_project::Place;
+use occ_typed::{TypedActual, TypedElement, TypedExpr};
+
+/// The number of a process of a unit, from 0, in the order of its listing.
+pub type ProcessId = usize;
+
+/// What a block does with the lines under it. PRI PAR and PRI ALT are checked as PAR and ALT.
+#[derive(Clone, Copy)]
+pub enum BlockKind {
+    /// `SEQ`
+    Sequence,
+    /// `PAR`
+    Parallel,
+    /// `IF`
+    Conditional,
+    /// `ALT`
+    Alternation,
+}
+
+/// `n = e FOR e`: its index is the one name that its line enters.
+#[derive(Drop)]
+pub struct TypedReplicator {
+    pub base: Shared<TypedExpr>,
+    pub count: Shared<TypedExpr>,
+    /// Its base and count, where it is known.
+    pub known: Option<KnownReplicator>,
+}
+
+/// The base and the count of a known replicator.
+#[derive(Clone, Copy)]
+pub struct KnownReplicator {
+    pub base: i32,
+    pub count: u32,
+}
+
+/// What an output sends as one.
+#[derive(Drop)]
+pub enum TypedOutput {
+    Value(Shared<TypedExpr>),
+    /// How many components, and the array.
+    Counted(Shared<TypedExpr>, Shared<TypedExpr>),
+    /// The tag at this place of its protocol, and its name.
+    Tag(usize, Name),
+}
+
+/// What an input receives as one.
+#[derive(Drop)]
+pub enum TypedTarget {
+    Single(TypedElement),
+    /// Where the number of components goes, and where they go.
+    Counted(TypedElement, TypedElement),
+}
+
+/// An input, as a process or as a guard.
+#[derive(Drop)]
+pub enum TypedInput {
+    /// `el ? i; ..` of a channel.
+    Plain(TypedElement, Items<TypedTarget>),
+    /// `el ? i` of a timer.
+    Time(TypedElement, TypedElement),
+    /// `el ? AFTER e`
+    After(TypedElement, Shared<TypedExpr>),
+    /// `el ? CASE n; i; ..`: the channel, the place of the tag in its protocol and its name, and the targets.
+    Tagged(TypedElement, usize, Name, Items<TypedTarget>),
+}
+
+/// What stands behind the `&` of a guard.
+#[derive(Drop)]
+pub enum TypedGuard {
+    /// `SKIP`
+    Skip,
+    Input(TypedInput),
+    /// `el ? CASE`
+    CaseInput(TypedElement),
+}
+
+/// What a line is, once its names and expressions are typed. Typing knows no channels, replicators, calls and
+/// abbreviations of elements yet, and makes no line of these.
+#[derive(Drop)]
+pub enum TypedForm {
+    /// `t n, ..:`
+    Declaration,
+    /// `n IS el:` or `t n IS el:`
+    Abbreviation(TypedElement),
+    /// `t n RETYPES el:` or `t n RESHAPES el:`
+    Retyped(TypedElement),
+    /// `VAL n IS e:` or `VAL t n IS e:`
+    Value(Shared<TypedExpr>),
+    /// `VAL t n RETYPES e:` or `VAL t n RESHAPES e:`
+    RetypedValue(Shared<TypedExpr>),
+    /// `t, .. FUNCTION n (formals) IS e, ..:`: its formals, which are not among what the line enters, and its results with
+    /// these in scope.
+    OneLineFunction(Items<Entry>, Items<Shared<TypedExpr>>),
+    /// `DATA TYPE n IS t:`
+    DataType,
+    /// `PROTOCOL n IS item; ..:`
+    Protocol,
+    /// `#USE`
+    Uses,
+    /// `PROC n (formals)`
+    ProcedureHead,
+    /// `t, .. FUNCTION n (formals)`
+    FunctionHead,
+    /// `DATA TYPE n`, over a record.
+    RecordHead,
+    /// `PROTOCOL n`, over its tags.
+    ProtocolHead,
+    /// A line under the head of a record or of a protocol, which is told with the head.
+    Member,
+    /// `:`
+    Close,
+    /// `SKIP`
+    Skip,
+    /// `STOP`
+    Stop,
+    /// `el, .. := e, ..`: the targets, and the values for them.
+    Assignment(Items<TypedElement>, Items<Shared<TypedExpr>>),
+    /// `el ! o; ..`
+    Output(TypedElement, Items<TypedOutput>),
+    Input(TypedInput),
+    /// An instance of a PROC: its specification, and the actuals.
+    Instance(Referent, Items<TypedActual>),
+    /// `SEQ`, `PAR`, `IF` or `ALT`, perhaps with a replicator.
+    Block(BlockKind, Option<TypedReplicator>),
+    /// `WHILE e`
+    While(Shared<TypedExpr>),
+    /// `CASE e`
+    Selection(Shared<TypedExpr>),
+    /// `el ? CASE`
+    CaseInput(TypedElement),
+    /// `e`, the condition of a choice.
+    Condition(Shared<TypedExpr>),
+    /// `e, ..`: options of a selection.
+    Options(Items<Shared<TypedExpr>>),
+    /// `ELSE`
+    Otherwise,
+    /// `e & g`
+    Guard(Shared<TypedExpr>, TypedGuard),
+    /// `n; i; ..`, a variant of a case input: the place of the tag in its protocol and its name, and the targets.
+    Variant(usize, Name, Items<TypedTarget>),
+    /// `VALOF`
+    ValueOf,
+    /// `RESULT e, ..`
+    Results(Items<Shared<TypedExpr>>),
+    /// A line that typing does not know yet, or that has a fault.
+    Unknown,
+}
+
+/// A line of a unit, with those under it.
+#[cycle(lines)]
+#[derive(Drop)]
+pub struct TypedLine {
+    pub place: Place,
+    /// Its number, if it is a process.
+    pub process: Option<ProcessId>,
+    pub form: Boxed<TypedForm>,
+    /// What comes into scope under it.
+    pub enters: Items<Entry>,
+    /// What comes into scope behind it, if it is a line of a specification; else it is the last line of its item, and
+    /// what the lines of specifications before it brought into scope goes out of scope behind it. A line of a record has
+    /// none either.
+    pub adds: Option<Items<Entry>>,
+    pub under: Items<TypedLine>,
+}
