@@ -3,6 +3,8 @@
 #![tactic(auto)]
 
 #[cfg(test)]
+mod check;
+#[cfg(test)]
 mod expansion;
 #[cfg(test)]
 mod form;
@@ -10,3 +12,5 @@ mod form;
 mod scope;
 #[cfg(test)]
 mod types;
+#[cfg(test)]
+mod units;
