@@ -4,3 +4,4 @@ pub mod Done
 pub mod Verdicts
 pub mod Machine
 pub mod Samples
+pub mod inside

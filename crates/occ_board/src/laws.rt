@@ -4,11 +4,12 @@ ghost use Rattle.occ_board.specs.Journal.{replay};
 ghost use Rattle.occ_board.specs.Machine.{State, files_of, pending_answer, report_answer};
 ghost use Rattle.occ_board.specs.Same.{same_input, same_used};
 ghost use Rattle.occ_board.specs.declared.entry.Entry.{Entry as AnEntry};
+ghost use Rattle.occ_board.specs.declared.report.Shown.TheVariants as shown;
 ghost use Rattle.occ_check.specs.Input.{Input};
 ghost use Rattle.occ_check.specs.declared.used.UsedUnit.{UsedUnit};
 ghost use Rattle.occ_report.specs.Report.{whole_report};
 ghost use Rattle.occ_units.specs.Project.{IsProject};
-ghost use Rattle.std.specs.Prelude.{◌≡◌, ◌↔◌, ℕ, List, Some, map, true};
+ghost use Rattle.std.specs.Prelude.{◌≡◌, ◌↔◌, ℕ, List, map, true};
 
 use occ_units::laws::{along_law, put_law};
 
@@ -21,7 +22,7 @@ pub fn same_law()
 
 /// With no unit pending the report is the report from nothing.
 pub fn report_law()
-    ensures { (s : State) → pending_answer s ≡ 0 → report_answer s ≡ map (λ row. (row.0, Some row.1)) (whole_report (files_of s)) }
+    ensures { (s : State) → pending_answer s ≡ 0 → report_answer s ≡ map (λ row. record { unit = row.0; shown = shown.Done row.1 }) (whole_report (files_of s)) }
 {}
 
 /// The files that edits make stand in order of name. A unit is done exactly if it is open, its present input is the one
