@@ -15,8 +15,13 @@ const FILE_LIMIT: usize = 1024;
 fn count_open(project: &Project) -> usize
     ensures { result ≡ open_number project.now }
 {
-    let files = project.files();
-    files.iter().filter(|file| file.source.is_some()).count()
+    let mut count = 0;
+    for file in project.files() {
+        if file.source.is_some() {
+            count += 1;
+        }
+    }
+    count
 }
 
 /// The refusal of a full journal.

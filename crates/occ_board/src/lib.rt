@@ -1,5 +1,5 @@
-//! The state of everything: files and their edits, jobs handed out, outcomes kept. So far its definition: the machine of
-//! which each call is to be one event, with worked rows.
+//! The state of everything: files and their edits, jobs handed out, outcomes kept. Each call is one event of the machine in
+//! `specs/Machine.antt`.
 #![tactic(auto)]
 
 mod board;
