@@ -3,8 +3,6 @@
 #![tactic(auto)]
 
 #[cfg(test)]
-mod board;
-#[cfg(test)]
 mod expansion;
 #[cfg(test)]
 mod form;
