@@ -58,7 +58,14 @@ none_more (k ∷ js) u (suc p) j none lt e h =
     let next : suc (p + 1) ≡ suc p + 1 = omega arith in
     subst (λ (m : ℕ). place_in (take m (k ∷ js)) u ≡ None) next (by (bytes_eq k.unit u) (place_in (take p js) u) none (λ n. none_more js u p j n (omega (arith, lt)) e h))
   where
-  by : (b : Bool) (o : Option ℕ) → (if b then Some 0 else option_map suc o) ≡ None → (o ≡ None → place_in (take (p + 1) js) u ≡ None) → (if b then Some 0 else option_map suc (place_in (take (p + 1) js) u)) ≡ None
-  by true o n f = absurd cc
-  by false (Some q) n f = absurd cc
-  by false None n f = ap (option_map suc) (f refl)
+    by : (b : Bool) (o : Option ℕ) → (if b then Some 0 else option_map suc o) ≡ None → (o ≡ None → place_in (take (p + 1) js) u ≡ None) → (if b then Some 0 else option_map suc (place_in (take (p + 1) js) u)) ≡ None
+    by true o n f = absurd cc
+    by false (Some q) n f = absurd cc
+    by false None n f = ap (option_map suc) (f refl)
+
+-- the place of an outcome's unit, as it was looked for
+pub looked_for : (slice items : List Input) (job outcome : Input) (unit : List ℕ) (o : Option ℕ) → slice ≡ items → unit ≡ job.unit → job ≡ outcome → o ≡ place_in slice unit → place_in items outcome.unit ≡ o
+looked_for slice items job outcome unit o s u j e =
+    sym (ap (place_in items) (u ∙ ap (λ (i : Input). i.unit) j))
+    ∙ sym (ap (λ (is : List Input). place_in is unit) s)
+    ∙ sym e

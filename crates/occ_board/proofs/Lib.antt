@@ -19,3 +19,4 @@ pub mod Apart
 pub mod Accepted
 pub mod Edited
 pub mod Begun
+pub mod Taken

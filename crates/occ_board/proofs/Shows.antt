@@ -1,14 +1,19 @@
 -- Rows of a report, and how many units are pending, file by file.
-use Rattle.std.proofs.Common.{◌≡◌, ◌∙◌, ◌++◌, ◌+◌, ◌<◌, Bool, true, false, not, cond, ℕ, List, [], ◌∷◌, length, map, take, get_or, refl, sym, ap, length-append}
+use Rattle.std.proofs.Common.{◌≡◌, ◌∙◌, ◌&&◌, ◌++◌, ◌+◌, ◌<◌, ◌≤◌, Bool, true, false, not, cond, ℕ, List, [], ◌∷◌, length, map, take, get_or, Some, refl, sym, ap, length-append, arith}
 use Rattle.std.proofs.lemmas.List.{map-append, take_more}
 use Rattle.std.proofs.lemmas.List.Elements.{filter-append}
-use Rattle.std.specs.List.{filter}
+use Rattle.std.proofs.lemmas.Option.{get_or_from_slice_get}
+use Rattle.std.specs.List.{filter, slice_get}
+use Rattle.occ_board.proofs.Places.{placed, there_is}
+use Rattle.occ_board.proofs.Settled.{flag_at}
 use Rattle.occ_board.specs.Done.{done}
 use Rattle.occ_board.specs.Machine.{row_of}
 use Rattle.occ_board.specs.declared.report.Row.{Row}
+use Rattle.occ_board.specs.inside.Flagged.{AreFlags}
 use Rattle.occ_check.specs.Input.{Input}
 use Rattle.occ_project.specs.declared.reads.Read.{Read}
 use Rattle.occ_report.specs.Report.{is_open_unit}
+use Rattle.occ_units.specs.Project.{IsProject}
 
 -- the open units among files
 abbrev pub units_in : List Read → List (List ℕ)
@@ -55,3 +60,28 @@ pending_more files kept p file lt e =
     ∙ ap (length {A = List ℕ}) (filter-append q (units_in (take p files)) (units_in (file ∷ [])))
     ∙ length-append (filter q (units_in (take p files))) (filter q (units_in (file ∷ [])))
     ∙ ap (λ (n : ℕ). pending_in files kept (take p files) + n) (one_by (is_open_unit file) (not (done files kept file.name)) q file refl)
+
+there : (files : List Read) (p : ℕ) (file : Read) → p < length files → file ≡ get_or files p file → slice_get files p ≡ Some file
+there files p file lt e = let at = there_is files p lt in at.1 ∙ ap Some (sym (e ∙ get_or_from_slice_get files p at.0 file at.1))
+
+-- the flag at the place of a file tells whether its unit is done
+pub flag_here : (files : List Read) (kept : List Input) (flags : List Bool) (p : ℕ) (file : Read) → IsProject files → AreFlags files kept flags → p < length files → file ≡ get_or files p file
+    → get_or flags p false ≡ done files kept file.name
+flag_here files kept flags p file s are lt e = sym (flag_at files flags file.name p (placed files p file s (there files p file lt e))) ∙ are file.name
+
+-- one more file is counted
+one_more : (b c : Bool) (m n : ℕ) → m ≡ n → cond (b && c) (m + 1) m ≡ n + cond (cond b c false) 1 0
+one_more true true m n e = ap (λ (k : ℕ). k + 1) e
+one_more true false m n e = let k : m ≡ n + 0 = omega (arith, e) in k
+one_more false c m n e = let k : m ≡ n + 0 = omega (arith, e) in k
+
+pub counted : (files : List Read) (kept : List Input) (p : ℕ) (file : Read) (count : ℕ) (b : Bool) → p < length files → file ≡ get_or files p file → b ≡ (is_open_unit file && not (done files kept file.name))
+    → count ≡ pending_in files kept (take p files) → cond b (count + 1) count ≡ pending_in files kept (take (p + 1) files)
+counted files kept p file count b lt e is so =
+    ap (λ (x : Bool). cond x (count + 1) count) is
+    ∙ one_more (is_open_unit file) (not (done files kept file.name)) count (pending_in files kept (take p files)) so
+    ∙ sym (pending_more files kept p file lt e)
+
+pub at_most : (b : Bool) (count p next : ℕ) → next ≡ cond b (count + 1) count → count ≤ p → next ≤ p + 1
+at_most true count p next e le = omega (arith, e, le)
+at_most false count p next e le = omega (arith, e, le)

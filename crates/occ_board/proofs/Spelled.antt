@@ -18,13 +18,13 @@ use Rattle.occ_lines.specs.declared.token.Token.{Token}
 module _ (one_form : (a b : Form) → form_tokens a ≡ form_tokens b → a ≡ b) where
   -- a line that has a form is not too deep
   formed_not_deep : (tokens : List Token) (form : Form) → HasForm tokens form → IsTooDeep tokens → ⊥
-  formed_not_deep tokens form has (inl open) = omega (arith, open, has.few_open)
+  formed_not_deep tokens form has (inl deep) = omega (arith, deep, has.few_open)
   formed_not_deep tokens form has (inr other) =
       let same : form_dimensions other.0 ≡ form_dimensions form = ap form_dimensions (one_form other.0 form (sym other.1 ∙ has.spelled)) in
       omega (arith, same, other.2, has.few_dimensions)
 
   no_form_not_deep : (tokens : List Token) → HasNoForm tokens → IsTooDeep tokens → ⊥
-  no_form_not_deep tokens none (inl open) = omega (arith, open, none.few_open)
+  no_form_not_deep tokens none (inl deep) = omega (arith, deep, none.few_open)
   no_form_not_deep tokens none (inr other) = none.none other.0 other.1
 
   abbrev IsFault : List Token → Code → Type 0

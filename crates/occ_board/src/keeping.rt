@@ -1,18 +1,26 @@
 ghost use Rattle.occ_board.specs.Machine.{unhanded, with_kept};
 ghost use Rattle.occ_board.specs.inside.Holding.{place_in};
 ghost use Rattle.std.specs.Prelude.{◌≡◌, IfErr, IfOk, Some, slice_get};
+ghost use Rattle.std.specs.Str.{bytes_eq};
 
 use super::comparing::Same;
 use occ_base::FileName;
 use occ_check::{Job, Outcome};
 use std::alloc::AllocError;
 
+/// Whether an outcome is of that unit.
+fn is_of(outcome: &Outcome, unit: FileName) -> bool
+    ensures { result ≡ bytes_eq outcome.now.unit unit }
+{
+    outcome.job().unit() == unit
+}
+
 /// The place of the outcome that is kept of a unit.
 fn place_of(kept: &[Outcome], unit: FileName) -> Option<usize>
     ensures { result ≡ place_in kept.now unit }
 {
     for place in 0..kept.len() {
-        if kept[place].job().unit() == unit {
+        if is_of(&kept[place], unit) {
             return Some(place);
         }
     }

@@ -2,7 +2,7 @@
 ghost use Rattle.occ_board.specs.Done.{done, done_step, kept_of};
 ghost use Rattle.occ_board.specs.Edits.{IsApart};
 ghost use Rattle.occ_board.specs.Journal.{edited, replay};
-ghost use Rattle.occ_board.specs.Machine.{Event, State, after, files_of, finish_answer, pending_answer, report_answer};
+ghost use Rattle.occ_board.specs.Machine.{Event, State, after, files_of, finish_answer, pending_answer, report_answer, take_answer};
 ghost use Rattle.occ_board.specs.Same.{same_input, same_used};
 ghost use Rattle.occ_board.specs.declared.entry.Edit.{Edit as AnEdit};
 ghost use Rattle.occ_board.specs.declared.entry.Entry.{Entry as AnEntry};
@@ -16,7 +16,7 @@ ghost use Rattle.occ_report.specs.Checks.{input};
 ghost use Rattle.occ_report.specs.Report.{whole_report};
 ghost use Rattle.occ_units.specs.Places.{rest_units};
 ghost use Rattle.occ_units.specs.Project.{IsProject};
-ghost use Rattle.std.specs.Prelude.{◌≡◌, ◌<◌, ◌↔◌, ℕ, List, Some, map, true};
+ghost use Rattle.std.specs.Prelude.{◌≡◌, ◌<◌, ◌↔◌, ℕ, List, None, Some, map, true};
 
 use occ_report::Checked;
 use occ_units::laws::{along_law, circle_law, put_law, reads_law};
@@ -80,3 +80,14 @@ pub fn pending_law()
     ensures report { (s : State) → pending_answer (after s Event.Report) ≡ pending_answer s }
     ensures pending { (s : State) → pending_answer (after s Event.Pending) ≡ pending_answer s }
 {}
+
+/// A job that is taken and finished at once is accepted, and the number of pending units falls. With none pending there is
+/// no job.
+pub fn taking_law()
+    ensures accepted { (s : State) (i : Input) → take_answer s ≡ Some i → finish_answer (after s Event.Take) i ≡ verdict.Accepted }
+    ensures fewer { (s : State) (i : Input) → take_answer s ≡ Some i → pending_answer (after (after s Event.Take) (Event.Finish i)) < pending_answer s }
+    ensures none { (s : State) → pending_answer s ≡ 0 → take_answer s ≡ None }
+{
+    done_law();
+    height_law();
+}

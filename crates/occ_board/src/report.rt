@@ -4,7 +4,7 @@ ghost use Rattle.occ_board.specs.declared.report.Shown.TheVariants as variants;
 ghost use Rattle.occ_board.specs.inside.Flagged.{AreFlags};
 ghost use Rattle.occ_report.specs.Checks.{diags as the_diags};
 ghost use Rattle.occ_report.specs.Report.{is_open_unit};
-ghost use Rattle.std.specs.Prelude.{◌≡◌, ◌∷◌, ◌++◌, [], IfOk, OnOk, cond, length, true};
+ghost use Rattle.std.specs.Prelude.{◌≡◌, ◌<◌, ◌+◌, ◌^◌, ◌&&◌, ◌∷◌, ◌++◌, [], IfOk, OnOk, cond, length, not, true};
 
 use super::flags::is_flagged;
 use super::laws::kept_law;
@@ -136,6 +136,21 @@ pub fn rows(
     Ok(rows)
 }
 
+/// Whether a file is an open unit that is not done.
+fn is_pending(file: &Read, done: bool) -> bool
+    ensures { result ≡ (is_open_unit file.now && not done) }
+{
+    file.name.is_unit() && file.source.is_some() && !done
+}
+
+/// One more, if it is counted.
+fn counted(count: usize, is_one: bool) -> usize
+    requires { count < 2 ^ 62 }
+    ensures { result ≡ cond is_one (count + 1) count }
+{
+    if is_one { count + 1 } else { count }
+}
+
 /// How many open units are not done.
 pub fn count_pending(graph: &Graph, kept: &[Outcome], flags: &[bool]) -> usize
     requires { AreFlags graph.now kept.now flags.now }
@@ -143,9 +158,8 @@ pub fn count_pending(graph: &Graph, kept: &[Outcome], flags: &[bool]) -> usize
 {
     let mut count = 0;
     for (place, file) in graph.project().files().iter().enumerate() {
-        if file.name.is_unit() && file.source.is_some() && !is_flagged(flags, place) {
-            count += 1;
-        }
+        let done = is_flagged(flags, place);
+        count = counted(count, is_pending(file, done));
     }
     count
 }

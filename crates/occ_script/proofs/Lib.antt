@@ -5,3 +5,4 @@ pub mod Std
 pub mod Stepwise
 pub mod Holding
 pub mod Editing
+pub mod Settled

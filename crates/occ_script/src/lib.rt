@@ -11,6 +11,7 @@ mod devices;
 mod edit;
 mod input;
 mod jobs;
+pub mod laws;
 mod report;
 mod run;
 mod settling;
