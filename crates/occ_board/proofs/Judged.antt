@@ -1,5 +1,5 @@
 -- An outcome that is accepted looked at what is so at present.
-use Rattle.std.proofs.Common.{◌≡◌, ◌∙◌, ◌&&◌, ◌||◌, Bool, true, false, not, cond, ℕ, List, [], ◌∷◌, map, Option, Some, None, refl, sym, ap}
+use Rattle.std.proofs.Common.{◌≡◌, ◌∙◌, ◌&&◌, ◌||◌, Bool, true, false, not, cond, ℕ, List, [], ◌∷◌, map, Option, Some, None, refl, sym, ap, nat_eq, nat_lt, if◌then◌else◌}
 use Rattle.std.proofs.lemmas.Slice.Eq.{bytes_eq-Decides}
 use Rattle.std.specs.BTreeSet.{insert_key}
 use Rattle.std.specs.List.{filter, find, flat_map, list_all}
@@ -8,11 +8,13 @@ use Rattle.std.specs.Str.{bytes_eq}
 use Rattle.occ_base.specs.FileName.{is_unit}
 use Rattle.occ_board.proofs.Trees.{used_are_one}
 use Rattle.occ_board.proofs.Truths.{both_true, left_true, right_true}
-use Rattle.occ_board.specs.Done.{done}
+use Rattle.occ_board.specs.Done.{done, is_kept}
 use Rattle.occ_board.specs.Journal.{is_open}
 use Rattle.occ_board.specs.Same.{same_used}
-use Rattle.occ_board.specs.Verdicts.{is_off}
-use Rattle.occ_board.specs.inside.Ready.{is_rested}
+use Rattle.occ_board.specs.Verdicts.{is_as_read, is_off, off_read, reads_verdict}
+use Rattle.occ_board.specs.declared.verdict.Verdict.{Verdict}
+use Rattle.occ_board.specs.declared.verdict.Verdict.TheVariants as verdict
+use Rattle.occ_board.specs.inside.Ready.{IsAcceptable, is_rested}
 use Rattle.occ_check.specs.Input.{Input, IsInput, expansion_in}
 use Rattle.occ_check.specs.Order.{names_in_order}
 use Rattle.occ_check.specs.declared.used.UsedUnit.{UsedUnit}
@@ -145,3 +147,44 @@ module _ (files : List Read) (kept : List Input) (i : Input) (is : IsInput i) (n
 
   pub rested_is : is_rested files kept i.unit ≡ true
   rested_is = ap (λ (ns : List (List ℕ)). list_all (done files kept) (filter (λ v. is_below (standing_of files i.unit v)) ns)) (sym names_are) ∙ rests_on files kept i.unit i.used on
+
+nothing_found : (o : Option UsedUnit) (q : Option Verdict) → q ≡ option_map (λ one. verdict.Stale one.unit) o → q ≡ None → o ≡ None
+nothing_found None q e n = refl
+nothing_found (Some one) q e n = absurd cc
+
+-- so an outcome that nothing decides against may be kept
+pub acceptable : (files : List Read) (kept : List Input) (i : Input) (used : List UsedUnit) (user : List ℕ) (k : Bool) → IsInput i
+    → used ≡ i.used → user ≡ i.unit → i.reads ≡ map (now_of files) i.reads → None ≡ option_map (λ one. verdict.Stale one.unit) (find (is_off files kept user) used) → false ≡ is_kept kept i
+    → ((fs others : List Read) (unit : List ℕ) → ((name : List ℕ) → is_among (expansion fs unit).reads name ≡ true → open_lines others name ≡ open_lines fs name) → expansion others unit ≡ expansion fs unit)
+    → ((fs : List Read) (unit : List ℕ) → is_among (expansion fs unit).reads unit ≡ true)
+    → IsAcceptable files kept i
+acceptable files kept i used user k is ones n now none other alone itself =
+    let on : find (is_off files kept i.unit) i.used ≡ None =
+    ap (λ (u : List ℕ). find (is_off files kept u) i.used) (sym n) ∙ ap (find (is_off files kept user)) (sym ones) ∙ nothing_found (find (is_off files kept user) used) None none refl in
+    record {
+      now = input_is files kept i is now on (alone i.reads files i.unit);
+      job = record {
+        unit = unit_is files kept i is now on (alone i.reads files i.unit);
+        opened = opened_is files kept i is now on (alone i.reads files i.unit) (itself i.reads i.unit);
+        rested = rested_is files kept i is now on (alone i.reads files i.unit);
+      };
+      other = sym other;
+    }
+
+-- no read decides that an outcome is accepted
+never_by : (b : Bool) (name : List ℕ) (v : Verdict) → Some v ≡ Some (if b then verdict.Foreign name else verdict.Stale name) → v ≡ verdict.Accepted → ⊥
+never_by true name v e h = absurd cc
+never_by false name v e h = absurd cc
+
+pub never_accepted : (files : List Read) (accepted : ℕ) (reads : List Read) (v : Verdict) → Some v ≡ reads_verdict files accepted reads → v ≡ verdict.Accepted → ⊥
+never_accepted files accepted [] v e h = absurd cc
+never_accepted files accepted (read ∷ reads) v e h = by (is_as_read read (file_of files read.name)) e (λ k. never_accepted files accepted reads v k h) where
+  by : (b : Bool) → Some v ≡ (if b then reads_verdict files accepted reads else Some (off_read accepted read (file_of files read.name))) → (Some v ≡ reads_verdict files accepted reads → ⊥) → ⊥
+  by true k f = f k
+  by false k f = never_by (nat_lt accepted read.revision || nat_eq read.revision (file_of files read.name).revision) read.name v k h
+
+-- reads, as they were asked for
+pub all_now : (files project reads rs slice : List Read) → project ≡ files → slice ≡ rs → rs ≡ reads → slice ≡ map (now_of project) slice → reads ≡ map (now_of files) reads
+all_now files project reads rs slice p s r now =
+    let same : slice ≡ reads = s ∙ r in
+    sym same ∙ now ∙ ap (λ (fs : List Read). map (now_of fs) slice) p ∙ ap (map (now_of files)) same

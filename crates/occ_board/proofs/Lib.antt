@@ -20,3 +20,5 @@ pub mod Accepted
 pub mod Edited
 pub mod Begun
 pub mod Taken
+pub mod Unhanded
+pub mod Adopted

@@ -1,5 +1,5 @@
 -- Rows of a report, and how many units are pending, file by file.
-use Rattle.std.proofs.Common.{◌≡◌, ◌∙◌, ◌&&◌, ◌++◌, ◌+◌, ◌<◌, ◌≤◌, Bool, true, false, not, cond, ℕ, List, [], ◌∷◌, length, map, take, get_or, Some, refl, sym, ap, length-append, arith}
+use Rattle.std.proofs.Common.{◌≡◌, ◌∙◌, ◌&&◌, ◌++◌, ◌+◌, ◌<◌, ◌≤◌, Bool, true, false, not, cond, ℕ, List, [], ◌∷◌, length, map, take, get_or, Some, refl, sym, ap, subst, length-append, arith}
 use Rattle.std.proofs.lemmas.List.{map-append, take_more}
 use Rattle.std.proofs.lemmas.List.Elements.{filter-append}
 use Rattle.std.proofs.lemmas.Option.{get_or_from_slice_get}
@@ -61,13 +61,15 @@ pending_more files kept p file lt e =
     ∙ length-append (filter q (units_in (take p files))) (filter q (units_in (file ∷ [])))
     ∙ ap (λ (n : ℕ). pending_in files kept (take p files) + n) (one_by (is_open_unit file) (not (done files kept file.name)) q file refl)
 
-there : (files : List Read) (p : ℕ) (file : Read) → p < length files → file ≡ get_or files p file → slice_get files p ≡ Some file
+pub there : (files : List Read) (p : ℕ) (file : Read) → p < length files → file ≡ get_or files p file → slice_get files p ≡ Some file
 there files p file lt e = let at = there_is files p lt in at.1 ∙ ap Some (sym (e ∙ get_or_from_slice_get files p at.0 file at.1))
 
 -- the flag at the place of a file tells whether its unit is done
-pub flag_here : (files : List Read) (kept : List Input) (flags : List Bool) (p : ℕ) (file : Read) → IsProject files → AreFlags files kept flags → p < length files → file ≡ get_or files p file
+pub flag_here : (files items : List Read) (kept : List Input) (flags : List Bool) (p : ℕ) (file : Read) → IsProject items → items ≡ files → AreFlags files kept flags → p < length items → file ≡ get_or items p file
     → get_or flags p false ≡ done files kept file.name
-flag_here files kept flags p file s are lt e = sym (flag_at files flags file.name p (placed files p file s (there files p file lt e))) ∙ are file.name
+flag_here files items kept flags p file s same are lt e =
+    let here : slice_get files p ≡ Some file = ap (λ (fs : List Read). slice_get fs p) (sym same) ∙ there items p file lt e in
+    sym (flag_at files flags file.name p (placed files p file (subst IsProject same s) here)) ∙ are file.name
 
 -- one more file is counted
 one_more : (b c : Bool) (m n : ℕ) → m ≡ n → cond (b && c) (m + 1) m ≡ n + cond (cond b c false) 1 0
@@ -75,12 +77,12 @@ one_more true true m n e = ap (λ (k : ℕ). k + 1) e
 one_more true false m n e = let k : m ≡ n + 0 = omega (arith, e) in k
 one_more false c m n e = let k : m ≡ n + 0 = omega (arith, e) in k
 
-pub counted : (files : List Read) (kept : List Input) (p : ℕ) (file : Read) (count : ℕ) (b : Bool) → p < length files → file ≡ get_or files p file → b ≡ (is_open_unit file && not (done files kept file.name))
+pub counted : (files items : List Read) (kept : List Input) (p : ℕ) (file : Read) (count : ℕ) (b : Bool) → items ≡ files → p < length items → file ≡ get_or items p file → b ≡ (is_open_unit file && not (done files kept file.name))
     → count ≡ pending_in files kept (take p files) → cond b (count + 1) count ≡ pending_in files kept (take (p + 1) files)
-counted files kept p file count b lt e is so =
+counted files items kept p file count b same lt e is so =
     ap (λ (x : Bool). cond x (count + 1) count) is
     ∙ one_more (is_open_unit file) (not (done files kept file.name)) count (pending_in files kept (take p files)) so
-    ∙ sym (pending_more files kept p file lt e)
+    ∙ sym (pending_more files kept p file (subst (λ (fs : List Read). p < length fs) same lt) (e ∙ ap (λ (fs : List Read). get_or fs p file) same))
 
 pub at_most : (b : Bool) (count p next : ℕ) → next ≡ cond b (count + 1) count → count ≤ p → next ≤ p + 1
 at_most true count p next e le = omega (arith, e, le)

@@ -1,5 +1,9 @@
 -- The outcomes that are kept of units that are done show what the rules give.
-use Rattle.std.proofs.Common.{◌≡◌, ◌↔◌, ◌∙◌, ◌&&◌, ◌||◌, Bool, true, false, not, ℕ, List, map, Option, Some, None, refl, sym, ap}
+use Rattle.std.proofs.Common.{◌≡◌, ◌↔◌, ◌∙◌, ◌&&◌, ◌||◌, Bool, true, false, not, ℕ, List, map, Option, Some, None, refl, sym, ap, subst}
+use Rattle.std.proofs.lemmas.Slice.Eq.{bytes_eq-Decides}
+use Rattle.std.specs.Str.{bytes_eq}
+use Rattle.occ_forms.specs.Prepared.{IsPrepared}
+use Rattle.occ_forms.specs.declared.source.SourceLine.{SourceLine}
 use Rattle.std.specs.Option.{option_and_then}
 use Rattle.occ_board.proofs.Places.{file_named}
 use Rattle.occ_forms.specs.Prepared.{Prepared}
@@ -98,4 +102,15 @@ read_is r files read a b v iff e f = (
       ∙ ap (λ (s : Option Prepared). record { name = read.name; revision = (file_of files read.name).revision; source = s }) (sym e ∙ iff.0 h ∙ f)
       ∙ ap (λ (n : List ℕ). record { name = n; revision = (file_of files read.name).revision; source = (file_of files read.name).source }) (sym (file_named files read.name)),
   λ h. iff.1 (e ∙ ap (λ (x : Read). x.source) h ∙ sym f),
+)
+
+-- two sources are one if their texts are
+pub same_source : ((text : List ℕ) (lines others : List SourceLine) → IsPrepared text lines → IsPrepared text others → lines ≡ others) → (a b : Prepared) (s t : List ℕ) (r : Bool) → IsPrepared a.text a.lines → IsPrepared b.text b.lines
+    → s ≡ a.text → t ≡ b.text → r ≡ bytes_eq s t → (r ≡ true → a ≡ b) × (a ≡ b → r ≡ true)
+same_source law a b s t r p q e f is = (
+  λ h.
+      let texts : a.text ≡ b.text = sym e ∙ (bytes_eq-Decides s t).0 (sym is ∙ h) ∙ f in
+      ap (λ (x : List ℕ). record { text = x; lines = a.lines }) texts
+      ∙ ap (λ (ls : List SourceLine). record { text = b.text; lines = ls }) (law b.text a.lines b.lines (subst (λ (x : List ℕ). IsPrepared x a.lines) texts p) q),
+  λ h. is ∙ (bytes_eq-Decides s t).1 (e ∙ ap (λ (x : Prepared). x.text) h ∙ sym f),
 )

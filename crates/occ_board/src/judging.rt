@@ -1,5 +1,5 @@
 ghost use Rattle.occ_board.specs.Done.{is_kept};
-ghost use Rattle.occ_board.specs.Verdicts.{is_off as is_off_now, off_read as read_off, reads_verdict, verdict_of};
+ghost use Rattle.occ_board.specs.Verdicts.{is_off as is_off_now, off_read as read_off, or_else, reads_verdict, uses_verdict, verdict_of};
 ghost use Rattle.occ_board.specs.declared.verdict.Verdict.TheVariants as verdict;
 ghost use Rattle.occ_board.specs.inside.Flagged.{AreFlags, flag_of};
 ghost use Rattle.occ_board.specs.inside.Ready.{IsAcceptable};
@@ -7,7 +7,7 @@ ghost use Rattle.occ_units.specs.Places.{is_below, standing_of};
 ghost use Rattle.occ_units.specs.Project.{file_of};
 ghost use Rattle.std.specs.List.{find};
 ghost use Rattle.std.specs.Option.{option_map};
-ghost use Rattle.std.specs.Prelude.{◌≡◌, ◌&&◌, None, map, not};
+ghost use Rattle.std.specs.Prelude.{◌≡◌, ◌&&◌, None, cond, map, not};
 
 use super::Verdict;
 use super::comparing::Same;
@@ -93,22 +93,34 @@ fn is_repeated(kept: &[Outcome], job: &Job) -> bool
     }
 }
 
+/// What becomes of an outcome of a job whose reads are of their files as they are at present.
+fn judge_now(graph: &Graph, kept: &[Outcome], flags: &[bool], job: &Job) -> Verdict
+    requires flags { AreFlags graph.now kept.now flags.now }
+    requires now { job.now.reads ≡ map (λ read. file_of graph.now read.name) job.now.reads }
+    ensures value { result ≡ or_else (uses_verdict graph.now kept.now job.now) (cond (is_kept kept.now job.now) verdict.Repeated verdict.Accepted) }
+    ensures acceptable { result ≡ verdict.Accepted → IsAcceptable graph.now kept.now job.now }
+{
+    reads_law();
+    match judge_used(graph, kept, flags, job.unit(), job.used()) {
+        Some(verdict) => verdict,
+        None => {
+            if is_repeated(kept, job) {
+                Verdict::Repeated
+            } else {
+                Verdict::Accepted
+            }
+        }
+    }
+}
+
 /// What becomes of an outcome of a job, where so many edits were accepted.
 pub fn judge(graph: &Graph, accepted: usize, kept: &[Outcome], flags: &[bool], job: &Job) -> Verdict
     requires { AreFlags graph.now kept.now flags.now }
     ensures value { result ≡ verdict_of graph.now accepted kept.now job.now }
     ensures acceptable { result ≡ verdict.Accepted → IsAcceptable graph.now kept.now job.now }
 {
-    reads_law();
-    if let Some(verdict) = judge_reads(graph.project(), accepted, job.reads().as_slice()) {
-        return verdict;
-    }
-    if let Some(verdict) = judge_used(graph, kept, flags, job.unit(), job.used()) {
-        return verdict;
-    }
-    if is_repeated(kept, job) {
-        Verdict::Repeated
-    } else {
-        Verdict::Accepted
+    match judge_reads(graph.project(), accepted, job.reads().as_slice()) {
+        Some(verdict) => verdict,
+        None => judge_now(graph, kept, flags, job),
     }
 }

@@ -1,4 +1,5 @@
 ghost use Rattle.occ_board.specs.Machine.{unhanded, with_kept};
+ghost use Rattle.occ_board.specs.Same.{same_input};
 ghost use Rattle.occ_board.specs.inside.Holding.{place_in};
 ghost use Rattle.std.specs.Prelude.{◌≡◌, IfErr, IfOk, Some, slice_get};
 ghost use Rattle.std.specs.Str.{bytes_eq};
@@ -48,9 +49,23 @@ pub fn keep(kept: &mut Vec<Outcome>, outcome: Outcome) -> Result<usize, (Outcome
     }
 }
 
+/// Whether two jobs are one.
+fn is_job(one: &Job, other: &Job) -> bool
+    ensures { result ≡ same_input one.now other.now }
+{
+    one.is_same(other)
+}
+
 /// Takes a job away from those that are handed out.
 pub fn unhand(handed: &mut Vec<Job>, job: &Job)
     ensures { handed.new.items ≡ unhanded handed.old.items job.now }
 {
-    handed.retain(|other| !other.is_same(job));
+    let mut place = 0;
+    while place < handed.len() {
+        if is_job(&handed[place], job) {
+            handed.remove(place);
+        } else {
+            place += 1;
+        }
+    }
 }

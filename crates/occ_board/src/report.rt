@@ -137,7 +137,7 @@ pub fn rows(
 }
 
 /// Whether a file is an open unit that is not done.
-fn is_pending(file: &Read, done: bool) -> bool
+pub fn is_pending(file: &Read, done: bool) -> bool
     ensures { result ≡ (is_open_unit file.now && not done) }
 {
     file.name.is_unit() && file.source.is_some() && !done

@@ -11,6 +11,7 @@ ghost use Rattle.std.specs.Prelude.{◌≡◌, IfOk, IfSome, Some, map, slice_ge
 use super::flags::{are_rests_flagged, is_flagged};
 use super::laws::kept_law;
 use super::present::{is_present, shown_of};
+use super::report::is_pending;
 use occ_base::{FileName, Items, Shared};
 use occ_check::{Job, JobFault, Outcome, Used, UsedUnit};
 use occ_project::Read;
@@ -114,11 +115,14 @@ fn is_next(
     requires file { slice_get graph.now place ≡ Some file.now }
     ensures { result ≡ is_next_file graph.now kept.now handed.now file.now }
 {
-    file.name.is_unit()
-        && file.source.is_some()
-        && !is_flagged(flags, place)
-        && are_rests_flagged(graph, flags, place)
-        && !is_handed(graph, kept, handed, file.name)
+    let done = is_flagged(flags, place);
+    if !is_pending(file, done) {
+        return false;
+    }
+    if !are_rests_flagged(graph, flags, place) {
+        return false;
+    }
+    !is_handed(graph, kept, handed, file.name)
 }
 
 /// The least unit that is ready and whose present job is not handed out.
