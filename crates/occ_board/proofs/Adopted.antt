@@ -19,12 +19,18 @@ module _ (journal : List Entry) (kept handed : List Input) (s : State) (i : Inpu
   fits : IsAcceptable (replay journal) kept i
   fits = subst (λ (t : State). IsAcceptable (files_of t) t.kept i) (sym view) fit
 
+  abbrev later : List Entry → List Input → List Input → State
+  later es ks hs = record { journal = es; kept = ks; handed = hs }
+
+  abbrev state : List Input → List Input → State
+  state ks hs = later journal ks hs
+
   pub adopted : (left : List Input) (job : Input) → left ≡ unhanded handed job → job ≡ i
-      → record { journal = journal; kept = better; handed = left } ≡ record { journal = s.journal; kept = with_kept s.kept i; handed = unhanded s.handed i }
+      → ◌≡◌ {A = State} (record { journal = journal; kept = better; handed = left }) (record { journal = s.journal; kept = with_kept s.kept i; handed = unhanded s.handed i })
   adopted left job e j =
-      ap (λ (ks : List Input). record { journal = journal; kept = ks; handed = left }) same
-      ∙ ap (λ (hs : List Input). record { journal = journal; kept = with_kept kept i; handed = hs }) (e ∙ ap (unhanded handed) j)
-      ∙ ap (λ (t : State). record { journal = t.journal; kept = with_kept t.kept i; handed = unhanded t.handed i }) view
+      ap (λ (ks : List Input). state ks left) same
+      ∙ ap (state (with_kept kept i)) (e ∙ ap (unhanded handed) j)
+      ∙ ap (λ (t : State). later t.journal (with_kept t.kept i) (unhanded t.handed i)) view
 
   module _ (law : (files : List Read) (kept : List Input) (u : List ℕ) → IsProject files → done files kept u ≡ done_step files kept u (done files kept))
       (project : (es : List Entry) → IsProject (replay es))

@@ -20,5 +20,4 @@ pub mod Accepted
 pub mod Edited
 pub mod Begun
 pub mod Taken
-pub mod Unhanded
 pub mod Adopted
