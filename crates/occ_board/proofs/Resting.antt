@@ -20,7 +20,7 @@ or_right true b h = refl
 or_right false b h = h
 
 -- tests that agree on these names
-same_all : (f h : List ℕ → Bool) (vs : List (List ℕ)) → ((v : List ℕ) → is_among vs v ≡ true → f v ≡ h v) → list_all f vs ≡ list_all h vs
+pub same_all : (f h : List ℕ → Bool) (vs : List (List ℕ)) → ((v : List ℕ) → is_among vs v ≡ true → f v ≡ h v) → list_all f vs ≡ list_all h vs
 same_all f h [] e = refl
 same_all f h (v ∷ vs) e =
     ap (λ (b : Bool). b && list_all f vs) (e v (ap (λ (b : Bool). b || is_among vs v) ((bytes_eq-Decides v v).1 refl)))

@@ -34,16 +34,19 @@ open_number files = length (filter (λ file. is_some file.source) files)
 abbrev pub else_fault : Bool → EditFault → Option EditFault → Option EditFault
 else_fault test fault later = if test then Some fault else later
 
--- no more edits are accepted
-abbrev pub if_full : List Entry → Option EditFault
-if_full es = else_fault (nat_le 10000 (length es)) fault.JournalFull None
+-- no more edits are accepted behind so many
+abbrev pub if_full : ℕ → Option EditFault
+if_full accepted = else_fault (nat_le 10000 accepted) fault.JournalFull None
 
--- why an edit is refused behind these, the first that holds
+-- why an edit of these files is refused behind so many, the first that holds
+abbrev pub refusal_of : List Read → ℕ → Edit → Option EditFault
+refusal_of files accepted (edit.Added name source) =
+    else_fault (is_open files name) fault.AlreadyOpen (else_fault (nat_le 1024 (open_number files)) fault.TooManyFiles (if_full accepted))
+refusal_of files accepted (edit.Changed name source) = else_fault (not (is_open files name)) fault.NotOpen (if_full accepted)
+refusal_of files accepted (edit.Removed name) = else_fault (not (is_open files name)) fault.NotOpen (if_full accepted)
+
 abbrev pub refusal : List Entry → Edit → Option EditFault
-refusal es (edit.Added name source) =
-    else_fault (is_open (replay es) name) fault.AlreadyOpen (else_fault (nat_le 1024 (open_number (replay es))) fault.TooManyFiles (if_full es))
-refusal es (edit.Changed name source) = else_fault (not (is_open (replay es) name)) fault.NotOpen (if_full es)
-refusal es (edit.Removed name) = else_fault (not (is_open (replay es) name)) fault.NotOpen (if_full es)
+refusal es e = refusal_of (replay es) (length es) e
 
 -- behind these, no edit was accepted that should have been refused
 abbrev pub IsLegalBehind : List Entry → List Entry → Type 0

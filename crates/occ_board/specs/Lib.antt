@@ -1,6 +1,8 @@
 pub mod Journal
 pub mod Same
 pub mod Done
+pub mod Edits
 pub mod Verdicts
 pub mod Machine
 pub mod Samples
+pub mod inside

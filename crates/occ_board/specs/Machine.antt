@@ -3,7 +3,6 @@
 use Rattle.std.specs.Prelude.{ℕ, ◌+◌, not, List, [], ◌∷◌, ◌++◌, length, map, if◌then◌else◌, Option, Some, None}
 use Rattle.std.specs.List.{filter, find}
 use Rattle.std.specs.Str.{bytes_eq}
-use Rattle.occ_base.specs.declared.diag.Diag.{Diag}
 use Rattle.occ_board.specs.Done.{done, is_input_among, pending_units, ready_units}
 use Rattle.occ_board.specs.Journal.{refusal, replay}
 use Rattle.occ_board.specs.Same.{same_input}
@@ -11,6 +10,8 @@ use Rattle.occ_board.specs.Verdicts.{verdict_of}
 use Rattle.occ_board.specs.declared.entry.Edit.{Edit}
 use Rattle.occ_board.specs.declared.entry.EditFault.{EditFault}
 use Rattle.occ_board.specs.declared.entry.Entry.{Entry}
+use Rattle.occ_board.specs.declared.report.Row.{Row}
+use Rattle.occ_board.specs.declared.report.Shown.TheVariants as shown
 use Rattle.occ_board.specs.declared.verdict.Verdict.{Verdict}
 use Rattle.occ_board.specs.declared.verdict.Verdict.TheVariants as verdict
 use Rattle.occ_check.specs.Input.{Input}
@@ -46,8 +47,11 @@ after_edit (Some fault) s session e = s
 -- ---- jobs
 
 -- the present input of the least ready unit that is not handed out with it
+abbrev pub next_input : List Read → List Input → List Input → Option Input
+next_input files kept handed = find (λ i. not (is_input_among handed i)) (map (input files) (ready_units files kept))
+
 abbrev pub take_answer : State → Option Input
-take_answer s = find (λ i. not (is_input_among s.handed i)) (map (input (files_of s)) (ready_units (files_of s) s.kept))
+take_answer s = next_input (files_of s) s.kept s.handed
 
 abbrev pub handed_out : List Input → Option Input → List Input
 handed_out handed None = handed
@@ -84,13 +88,16 @@ after_finish s i = record { journal = s.journal; kept = kept_after (finish_answe
 
 -- ---- what is asked
 
--- the diagnostics of a unit, if it is done
-abbrev pub shown : State → List ℕ → Option (List Diag)
-shown s u = if done (files_of s) s.kept u then Some (diags (files_of s) u) else None
+-- a unit with its diagnostics in order if it is done, else as pending
+abbrev pub row_of : List Read → List Input → List ℕ → Row
+row_of files kept u = record { unit = u; shown = if done files kept u then shown.Done (diags files u) else shown.Pending }
 
 -- each open unit in order of name
-abbrev pub report_answer : State → List (List ℕ × Option (List Diag))
-report_answer s = map (λ u. (u, shown s u)) (open_units (files_of s))
+abbrev pub rows_of : List Read → List Input → List Row
+rows_of files kept = map (row_of files kept) (open_units files)
+
+abbrev pub report_answer : State → List Row
+report_answer s = rows_of (files_of s) s.kept
 
 abbrev pub pending_answer : State → ℕ
 pending_answer s = length (pending_units (files_of s) s.kept)
@@ -113,7 +120,7 @@ pub data Answer : Type 0 where
   Job : Option Input → Answer
   Judged : Verdict → Answer
   Nothing : Answer
-  Shows : List (List ℕ × Option (List Diag)) → Answer
+  Shows : List Row → Answer
   Count : ℕ → Answer
 
 abbrev pub edited_answer : Option EditFault → ℕ → Answer

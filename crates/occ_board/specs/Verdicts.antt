@@ -10,10 +10,9 @@ use Rattle.occ_board.specs.declared.verdict.Verdict.TheVariants as verdict
 use Rattle.occ_check.specs.Input.{Input}
 use Rattle.occ_check.specs.declared.used.UsedUnit.{UsedUnit}
 use Rattle.occ_forms.specs.Prepared.{Prepared}
-use Rattle.occ_project.specs.Entries.{is_among}
 use Rattle.occ_project.specs.declared.reads.Read.{Read}
 use Rattle.occ_report.specs.Checks.{checked, used_unit}
-use Rattle.occ_units.specs.Places.{rest_units}
+use Rattle.occ_units.specs.Places.{is_below, standing_of}
 use Rattle.occ_units.specs.Project.{file_of}
 
 abbrev pub same_text : Option Prepared → Option Prepared → Bool
@@ -35,10 +34,10 @@ reads_verdict files accepted [] = None
 reads_verdict files accepted (read ∷ reads) =
     if is_as_read read (file_of files read.name) then reads_verdict files accepted reads else Some (off_read accepted read (file_of files read.name))
 
--- a used unit that is pending, open and in no circle, or that stands otherwise at present
+-- a used unit that is open, in no circle and pending, or that stands otherwise at present
 abbrev pub is_off : List Read → List Input → List ℕ → UsedUnit → Bool
 is_off files kept u one =
-    (is_among (rest_units files u) one.unit && not (done files kept one.unit)) || not (same_used one (used_unit files u (checked files) one.unit))
+    (is_below (standing_of files u one.unit) && not (done files kept one.unit)) || not (same_used one (used_unit files u (checked files) one.unit))
 
 -- the first of the used units that is so decides
 abbrev pub uses_verdict : List Read → List Input → Input → Option Verdict

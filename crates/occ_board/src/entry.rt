@@ -1,5 +1,11 @@
+ghost use Rattle.occ_board.specs.Journal.{edited};
+ghost use Rattle.occ_board.specs.declared.entry.EditFault.TheVariants as fault;
+ghost use Rattle.std.specs.Option.{option_copied};
+ghost use Rattle.std.specs.Prelude.{◌≡◌, IfOk};
+
 use occ_base::{FileName, Shared};
 use occ_forms::Source;
+use std::alloc::{AllocError, AllocFailed};
 
 /// What happens to a file.
 #[derive(Drop)]
@@ -10,6 +16,37 @@ pub enum Edit {
     Changed(FileName, Shared<Source>),
     /// An open file is closed.
     Removed(FileName),
+}
+
+impl Edit {
+    /// The file that it is of.
+    pub fn name(&self) -> FileName
+        ensures { result ≡ (edited 0 self.now).name }
+    {
+        match self {
+            Edit::Added(name, _) | Edit::Changed(name, _) | Edit::Removed(name) => *name,
+        }
+    }
+
+    /// The text that the file has from then on, if it is open.
+    pub fn source(&self) -> Option<&Shared<Source>>
+        ensures { option_copied result ≡ (edited 0 self.now).source }
+    {
+        match self {
+            Edit::Added(_, source) | Edit::Changed(_, source) => Some(source),
+            Edit::Removed(_) => None,
+        }
+    }
+
+    /// That text, with one more owner.
+    pub(crate) fn shared(&self) -> Result<Option<Shared<Source>>, AllocError>
+        ensures { IfOk result (λ source. source ≡ (edited 0 self.now).source) }
+    {
+        match self.source() {
+            Some(source) => Ok(Some(source.share()?)),
+            None => Ok(None),
+        }
+    }
 }
 
 /// An edit that was accepted, and the session that made it.
@@ -32,4 +69,20 @@ pub enum EditFault {
     JournalFull,
     /// Memory was refused.
     Memory,
+}
+
+impl From<AllocError> for EditFault {
+    ghost from_gives = { λ _ e. e ≡ fault.Memory };
+
+    fn from(_error: AllocError) -> EditFault {
+        EditFault::Memory
+    }
+}
+
+impl<T: Drop> From<AllocFailed<T>> for EditFault {
+    ghost from_gives = { λ _ e. e ≡ fault.Memory };
+
+    fn from(_error: AllocFailed<T>) -> EditFault {
+        EditFault::Memory
+    }
 }

@@ -1,16 +1,25 @@
 //! Laws of the machine.
-ghost use Rattle.occ_board.specs.Done.{done, done_step};
-ghost use Rattle.occ_board.specs.Journal.{replay};
-ghost use Rattle.occ_board.specs.Machine.{State, files_of, pending_answer, report_answer};
+ghost use Rattle.occ_board.specs.Done.{done, done_step, kept_of};
+ghost use Rattle.occ_board.specs.Edits.{IsApart};
+ghost use Rattle.occ_board.specs.Journal.{edited, replay};
+ghost use Rattle.occ_board.specs.Machine.{Event, State, after, files_of, finish_answer, pending_answer, report_answer, take_answer};
 ghost use Rattle.occ_board.specs.Same.{same_input, same_used};
+ghost use Rattle.occ_board.specs.declared.entry.Edit.{Edit as AnEdit};
 ghost use Rattle.occ_board.specs.declared.entry.Entry.{Entry as AnEntry};
+ghost use Rattle.occ_board.specs.declared.report.Shown.TheVariants as shown;
+ghost use Rattle.occ_board.specs.declared.verdict.Verdict.TheVariants as verdict;
 ghost use Rattle.occ_check.specs.Input.{Input};
 ghost use Rattle.occ_check.specs.declared.used.UsedUnit.{UsedUnit};
+ghost use Rattle.occ_project.specs.Entries.{is_among};
+ghost use Rattle.occ_project.specs.declared.reads.Read.{Read};
+ghost use Rattle.occ_report.specs.Checks.{input};
 ghost use Rattle.occ_report.specs.Report.{whole_report};
+ghost use Rattle.occ_units.specs.Places.{rest_units};
 ghost use Rattle.occ_units.specs.Project.{IsProject};
-ghost use Rattle.std.specs.Prelude.{◌≡◌, ◌↔◌, ℕ, List, Some, map, true};
+ghost use Rattle.std.specs.Prelude.{◌≡◌, ◌<◌, ◌↔◌, ℕ, List, None, Some, map, true};
 
-use occ_units::laws::{along_law, put_law};
+use occ_report::Checked;
+use occ_units::laws::{along_law, circle_law, put_law, reads_law};
 
 /// The tests for inputs and for used units tell exactly whether two are one.
 #[tactic(auto, using(crate::proofs::Trees::inputs_are_one, crate::proofs::Trees::used_are_one))]
@@ -21,15 +30,64 @@ pub fn same_law()
 
 /// With no unit pending the report is the report from nothing.
 pub fn report_law()
-    ensures { (s : State) → pending_answer s ≡ 0 → report_answer s ≡ map (λ row. (row.0, Some row.1)) (whole_report (files_of s)) }
+    ensures { (s : State) → pending_answer s ≡ 0 → report_answer s ≡ map (λ row. record { unit = row.0; shown = shown.Done row.1 }) (whole_report (files_of s)) }
 {}
 
 /// The files that edits make stand in order of name. A unit is done exactly if it is open, its present input is the one
 /// that is kept of it, and all units that it rests on are done.
 pub fn done_law()
     ensures project { (es : List AnEntry) → IsProject (replay es) }
-    ensures done { (es : List AnEntry) (kept : List Input) (u : List ℕ) → done (replay es) kept u ≡ done_step (replay es) kept u (done (replay es) kept) }
+    ensures done { (files : List Read) (kept : List Input) (u : List ℕ) → IsProject files → done files kept u ≡ done_step files kept u (done files kept) }
 {
     put_law();
     along_law::<bool>();
+}
+
+/// Units have heights: each unit is higher than those that it rests on.
+pub fn height_law()
+    ensures { (files : List Read) → IsProject files → (height : List ℕ → ℕ) × ((u v : List ℕ) → is_among (rest_units files u) v ≡ true → height v < height u) }
+{
+    along_law::<usize>();
+}
+
+/// Of a unit that is done the present input is kept.
+pub fn kept_law()
+    ensures { (files : List Read) (kept : List Input) (u : List ℕ) → IsProject files → done files kept u ≡ true → kept_of kept u ≡ Some (input files u) }
+{
+    done_law();
+}
+
+/// An edit of a file changes neither what the check of a unit looks at nor whether the unit is done, if the file is a read
+/// neither of the unit nor of a unit that it reaches.
+pub fn edit_law()
+    ensures input { (s : State) (session : ℕ) (e : AnEdit) (u : List ℕ) → IsApart (files_of s) (edited 0 e).name u → input (files_of (after s (Event.Edited session e))) u ≡ input (files_of s) u }
+    ensures done { (s : State) (session : ℕ) (e : AnEdit) (u : List ℕ) → IsApart (files_of s) (edited 0 e).name u → done (files_of (after s (Event.Edited session e))) s.kept u ≡ done (files_of s) s.kept u }
+{
+    put_law();
+    reads_law();
+    circle_law();
+    done_law();
+    height_law();
+    along_law::<Checked>();
+}
+
+/// No event but an edit and an outcome that is accepted changes the number of pending units. (That an accepted outcome
+/// lowers it is a clause of `Board::finish`.)
+pub fn pending_law()
+    ensures take { (s : State) → pending_answer (after s Event.Take) ≡ pending_answer s }
+    ensures abandon { (s : State) (i : Input) → pending_answer (after s (Event.Abandon i)) ≡ pending_answer s }
+    ensures judged { (s : State) (i : Input) → (finish_answer s i ≡ verdict.Accepted → ⊥) → pending_answer (after s (Event.Finish i)) ≡ pending_answer s }
+    ensures report { (s : State) → pending_answer (after s Event.Report) ≡ pending_answer s }
+    ensures pending { (s : State) → pending_answer (after s Event.Pending) ≡ pending_answer s }
+{}
+
+/// A job that is taken and finished at once is accepted, and the number of pending units falls. With none pending there is
+/// no job.
+pub fn taking_law()
+    ensures accepted { (s : State) (i : Input) → take_answer s ≡ Some i → finish_answer (after s Event.Take) i ≡ verdict.Accepted }
+    ensures fewer { (s : State) (i : Input) → take_answer s ≡ Some i → pending_answer (after (after s Event.Take) (Event.Finish i)) < pending_answer s }
+    ensures none { (s : State) → pending_answer s ≡ 0 → take_answer s ≡ None }
+{
+    done_law();
+    height_law();
 }

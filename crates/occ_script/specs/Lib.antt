@@ -1,6 +1,5 @@
 pub mod Devices
-pub mod Lines
-pub mod Script
+pub mod Settling
 pub mod Machine
 pub mod Output
 pub mod Status

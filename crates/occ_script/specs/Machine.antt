@@ -1,25 +1,39 @@
--- The machine that answers the commands of a script: one file may be open, and its unit may be checked once.
-use Rattle.std.specs.Prelude.{ℕ, Bool, true, false, ◌≡◌, ◌==◌, List, [], ◌∷◌, ◌++◌, cond, codes, length, Option, Some, None}
+-- The machine that answers the commands of a script: the board, and the jobs that workers hold.
+use Rattle.std.specs.Prelude.{ℕ, Bool, true, false, ◌≡◌, ◌==◌, ◌||◌, List, [], ◌∷◌, ◌++◌, if◌then◌else◌, codes, length, Option, Some, None}
 use Rattle.std.specs.Fmt.{decimal}
 use Rattle.std.specs.List.{flat_map, list_any}
 use Rattle.std.specs.Option.{option_map}
-use Rattle.std.specs.Str.{bytes_eq}
 use Rattle.occ_base.specs.Diag.{diag_line}
-use Rattle.occ_base.specs.FileName.{is_unit, name_fault}
+use Rattle.occ_base.specs.FileName.{name_fault}
 use Rattle.occ_base.specs.declared.code.Grade.{Grade}
 use Rattle.occ_base.specs.declared.code.Grade.TheVariants.{Error, Check}
 use Rattle.occ_base.specs.declared.diag.Diag.{Diag}
 use Rattle.occ_base.specs.declared.file_name.NameFault.{NameFault}
 use Rattle.occ_base.specs.declared.file_name.NameFault.TheVariants as name
+use Rattle.occ_board.specs.Machine.{after as after_event, edit_answer, finish_answer, pending_answer, report_answer, start as no_files, take_answer}
+use Rattle.occ_board.specs.Machine.Event.{Abandon, Edited, Finish, Take}
+use Rattle.occ_board.specs.declared.entry.Edit.{Edit}
+use Rattle.occ_board.specs.declared.entry.Edit.TheVariants as edit
+use Rattle.occ_board.specs.declared.entry.EditFault.{EditFault}
+use Rattle.occ_board.specs.declared.entry.EditFault.TheVariants as refused
+use Rattle.occ_board.specs.declared.report.Row.{Row}
+use Rattle.occ_board.specs.declared.report.Shown.{Shown}
+use Rattle.occ_board.specs.declared.report.Shown.TheVariants as shown
+use Rattle.occ_board.specs.declared.verdict.Verdict.{Verdict}
+use Rattle.occ_board.specs.declared.verdict.Verdict.TheVariants as verdict
+use Rattle.occ_check.specs.Input.{Input}
+use Rattle.occ_commands.specs.Script.{Command, Placed}
+use Rattle.occ_commands.specs.Script.Command.{Change, Drop, Open, Remove, Report, Settle, Take as TakeBy, Finish as FinishBy}
+use Rattle.occ_forms.specs.Prepared.{IsPrepared, Prepared}
+use Rattle.occ_forms.specs.declared.source.SourceLine.{SourceLine}
 use Rattle.occ_lines.specs.Lines.{limit_fault}
 use Rattle.occ_lines.specs.declared.text.TextFault.{TextFault}
 use Rattle.occ_lines.specs.declared.text.TextFault.TheVariants as text
-use Rattle.occ_forms.specs.Prepared.{IsPrepared, Prepared}
-use Rattle.occ_forms.specs.declared.source.SourceLine.{SourceLine}
-use Rattle.occ_project.specs.declared.reads.Read.{Read}
-use Rattle.occ_report.specs.Checks.{diags}
-use Rattle.occ_script.specs.Script.{Command}
-use Rattle.occ_script.specs.Script.Command.{Open, Take, Finish, Report}
+use Rattle.occ_script.specs.Settling.{settled}
+use Rattle.occ_script.specs.declared.desk.Desk.{Desk}
+use Rattle.occ_script.specs.declared.desk.Held.{Held}
+
+-- ---- texts
 
 -- the lines of each text
 abbrev pub Reading : Type 0
@@ -33,36 +47,43 @@ AreLines contents lines = limit_fault contents ≡ None → IsPrepared contents 
 abbrev pub text_read : Reading → List ℕ → Prepared
 text_read read contents = record { text = contents; lines = read contents }
 
--- the text that the command opens has its lines
+-- the text that the command has has its lines
 abbrev pub ReadsCommand : Reading → Command → Type 0
 ReadsCommand read (Open file contents) = AreLines contents (read contents)
-ReadsCommand read (Take w) = Unit {0}
-ReadsCommand read (Finish w) = Unit {0}
+ReadsCommand read (Change file contents) = AreLines contents (read contents)
+ReadsCommand read (Remove file) = Unit {0}
+ReadsCommand read (TakeBy w) = Unit {0}
+ReadsCommand read (FinishBy w) = Unit {0}
+ReadsCommand read (Drop w) = Unit {0}
+ReadsCommand read Settle = Unit {0}
 ReadsCommand read Report = Unit {0}
 
--- each text that the commands open has its lines
-abbrev pub IsReading : Reading → List Command → Type 0
+-- each text that the commands have has its lines
+abbrev pub IsReading : Reading → List Placed → Type 0
 IsReading read [] = Unit {0}
-IsReading read (c ∷ cs) = ReadsCommand read c × IsReading read cs
+IsReading read (p ∷ ps) = ReadsCommand read p.command × IsReading read ps
 
--- how far the check of the open file has come: no worker has its job, this worker has it, its outcome is kept
-pub data Progress : Type 0 where
-  Waiting : Progress
-  Taken : ℕ → Progress
-  Checked : Progress
+-- ---- the state
 
-pub record Opened : Type 0 where
-  pub name : List ℕ
-  pub source : Prepared
-  pub progress : Progress
+-- no file is open, and no worker holds a job
+abbrev pub start : Desk
+start = record { board = no_files; held = []; errors = false }
 
--- the open file, and whether the last report told an error
-pub record State : Type 0 where
-  pub opened : Option Opened
-  pub errors : Bool
+-- the job that the worker holds
+abbrev pub job_of : ℕ → List Held → Option Input
+job_of w [] = None
+job_of w (h ∷ hs) = if h.worker == w then Some h.job else job_of w hs
 
-abbrev pub start : State
-start = record { opened = None; errors = false }
+-- the worker holds none any more
+abbrev pub without : ℕ → List Held → List Held
+without w [] = []
+without w (h ∷ hs) = if h.worker == w then hs else h ∷ without w hs
+
+-- a line of the answer
+abbrev pub told : List ℕ → List ℕ
+told bytes = bytes ++ 10 ∷ []
+
+-- ---- edits
 
 abbrev pub name_word : NameFault → List ℕ
 name_word name.Length = codes "Length"
@@ -74,116 +95,129 @@ text_word text.TooLarge = codes "TooLarge"
 text_word text.TooManyLines = codes "TooManyLines"
 text_word text.Memory = codes "Memory"
 
--- why no other file may be opened
-abbrev pub board_word : Option Opened → List ℕ → Option (List ℕ)
-board_word None file = None
-board_word (Some opened) file = Some (cond (bytes_eq opened.name file) (codes "AlreadyOpen") (codes "TooManyFiles"))
+abbrev pub board_word : EditFault → List ℕ
+board_word refused.AlreadyOpen = codes "AlreadyOpen"
+board_word refused.NotOpen = codes "NotOpen"
+board_word refused.TooManyFiles = codes "TooManyFiles"
+board_word refused.JournalFull = codes "JournalFull"
+board_word refused.Memory = codes "Memory"
 
 abbrev pub or_else : Option (List ℕ) → Option (List ℕ) → Option (List ℕ)
 or_else (Some word) other = Some word
 or_else None other = other
 
--- why the file may not be opened with the text: a wrong name comes before a wrong text, and both before what is open
-abbrev pub refusal : State → List ℕ → List ℕ → Option (List ℕ)
-refusal s file contents = or_else (option_map name_word (name_fault file)) (or_else (option_map text_word (limit_fault contents)) (board_word s.opened file))
+-- why the name and the text of an edit are refused: a wrong name comes before a wrong text
+abbrev pub wrong_word : List ℕ → Option TextFault → Option (List ℕ)
+wrong_word file wrong = or_else (option_map name_word (name_fault file)) (option_map text_word wrong)
 
--- a line of the answer
-abbrev pub told : List ℕ → List ℕ
-told bytes = bytes ++ 10 ∷ []
+-- why the edit of the file is refused: both come before what the board says
+abbrev pub refusal : Desk → List ℕ → Option TextFault → Edit → Option (List ℕ)
+refusal s file wrong e = or_else (wrong_word file wrong) (option_map board_word (edit_answer s.board e))
 
-abbrev pub open_answer : Option (List ℕ) → List ℕ
-open_answer None = told (codes "ok")
-open_answer (Some word) = told (codes "refused " ++ word)
+abbrev pub edited_text : Option (List ℕ) → List ℕ
+edited_text None = told (codes "ok")
+edited_text (Some word) = told (codes "refused " ++ word)
 
-abbrev pub after_open : Option (List ℕ) → State → List ℕ → Prepared → State
-after_open None s file source = record { opened = Some (record { name = file; source = source; progress = Waiting }); errors = s.errors }
-after_open (Some word) s file source = s
+-- scripts are one session, of number 0
+abbrev pub after_edit : Option (List ℕ) → Desk → Edit → Desk
+after_edit None s e = record { board = after_event s.board (Edited 0 e); held = s.held; errors = s.errors }
+after_edit (Some word) s e = s
 
--- a worker asks for a job
-abbrev pub take_by : ℕ → Bool → List ℕ → Progress → List ℕ
-take_by w unit file Waiting = cond unit (told (codes "job " ++ file)) (told (codes "none"))
-take_by w unit file (Taken v) = cond (v == w) (told (codes "busy")) (told (codes "none"))
-take_by w unit file Checked = told (codes "none")
+-- ---- jobs
 
-abbrev pub take_answer : ℕ → Option Opened → List ℕ
-take_answer w None = told (codes "none")
-take_answer w (Some o) = take_by w (is_unit o.name) o.name o.progress
+abbrev pub taken_text : Option Input → List ℕ
+taken_text None = told (codes "none")
+taken_text (Some i) = told (codes "job " ++ i.unit)
 
-abbrev pub progress_taken : ℕ → Bool → Progress → Progress
-progress_taken w unit Waiting = cond unit (Taken w) Waiting
-progress_taken w unit (Taken v) = Taken v
-progress_taken w unit Checked = Checked
+abbrev pub take_text : Option Input → Option Input → List ℕ
+take_text (Some held) next = told (codes "busy")
+take_text None next = taken_text next
 
-abbrev pub with_progress : Opened → Progress → Opened
-with_progress o p = record { name = o.name; source = o.source; progress = p }
+abbrev pub with_job : ℕ → Option Input → List Held → List Held
+with_job w None held = held
+with_job w (Some i) held = held ++ (record { worker = w; job = i }) ∷ []
 
-abbrev pub taken : ℕ → Opened → Opened
-taken w o = with_progress o (progress_taken w (is_unit o.name) o.progress)
+abbrev pub after_take : ℕ → Option Input → Desk → Desk
+after_take w (Some held) s = s
+after_take w None s = record { board = after_event s.board Take; held = with_job w (take_answer s.board) s.held; errors = s.errors }
 
--- a worker's job is checked
-abbrev pub finish_by : ℕ → List ℕ → Progress → List ℕ
-finish_by w file Waiting = told (codes "idle")
-finish_by w file (Taken v) = cond (v == w) (told (codes "accepted " ++ file)) (told (codes "idle"))
-finish_by w file Checked = told (codes "idle")
+abbrev pub verdict_text : List ℕ → Verdict → List ℕ
+verdict_text unit verdict.Accepted = told (codes "accepted " ++ unit)
+verdict_text unit verdict.Repeated = told (codes "repeated " ++ unit)
+verdict_text unit (verdict.Stale file) = told (codes "stale " ++ file)
+verdict_text unit (verdict.Foreign file) = told (codes "foreign " ++ file)
 
-abbrev pub finish_answer : ℕ → Option Opened → List ℕ
-finish_answer w None = told (codes "idle")
-finish_answer w (Some o) = finish_by w o.name o.progress
+abbrev pub finish_text : Desk → Option Input → List ℕ
+finish_text s None = told (codes "idle")
+finish_text s (Some i) = verdict_text i.unit (finish_answer s.board i)
 
-abbrev pub progress_finished : ℕ → Progress → Progress
-progress_finished w Waiting = Waiting
-progress_finished w (Taken v) = cond (v == w) Checked (Taken v)
-progress_finished w Checked = Checked
+abbrev pub after_finish : ℕ → Option Input → Desk → Desk
+after_finish w None s = s
+after_finish w (Some i) s = record { board = after_event s.board (Finish i); held = without w s.held; errors = s.errors }
 
-abbrev pub finished : ℕ → Opened → Opened
-finished w o = with_progress o (progress_finished w o.progress)
+abbrev pub drop_text : Option Input → List ℕ
+drop_text None = told (codes "idle")
+drop_text (Some i) = told (codes "dropped " ++ i.unit)
 
--- a project in which this file alone is open
-abbrev pub one_file : List ℕ → Prepared → List Read
-one_file file source = record { name = file; revision = 1; source = Some source } ∷ []
+abbrev pub after_drop : ℕ → Option Input → Desk → Desk
+after_drop w None s = s
+after_drop w (Some i) s = record { board = after_event s.board (Abandon i); held = without w s.held; errors = s.errors }
 
--- the diagnostics that a report shows of a unit, none where it is pending
-abbrev pub shown : Opened → Progress → Option (List Diag)
-shown o Waiting = None
-shown o (Taken w) = None
-shown o Checked = Some (diags (one_file o.name o.source) o.name)
+-- ---- settling
+
+abbrev pub settle_text : Desk → List ℕ
+settle_text s = told (codes "settled " ++ decimal (pending_answer (settled s.board)))
+
+abbrev pub after_settle : Desk → Desk
+after_settle s = record { board = settled s.board; held = s.held; errors = s.errors }
+
+-- ---- reports
 
 abbrev pub diag_text : Diag → List ℕ
 diag_text d = told (codes "  " ++ diag_line d)
 
-abbrev pub unit_text : List ℕ → Option (List Diag) → List ℕ
-unit_text file None = told (codes "pending " ++ file)
-unit_text file (Some []) = told (codes "unit " ++ file ++ codes " ok")
-unit_text file (Some (d ∷ ds)) = told (codes "unit " ++ file ++ codes " " ++ decimal (length (d ∷ ds))) ++ flat_map diag_text (d ∷ ds)
+abbrev pub unit_text : List ℕ → Shown → List ℕ
+unit_text unit shown.Pending = told (codes "pending " ++ unit)
+unit_text unit (shown.Done []) = told (codes "unit " ++ unit ++ codes " ok")
+unit_text unit (shown.Done (d ∷ ds)) = told (codes "unit " ++ unit ++ codes " " ++ decimal (length (d ∷ ds))) ++ flat_map diag_text (d ∷ ds)
 
-abbrev pub opened_text : Option Opened → List ℕ
-opened_text None = []
-opened_text (Some o) = cond (is_unit o.name) (unit_text o.name (shown o o.progress)) []
-
-abbrev pub report_answer : State → List ℕ
-report_answer s = opened_text s.opened ++ told (codes "end")
+abbrev pub report_text : List Row → List ℕ
+report_text rows = flat_map (λ row. unit_text row.unit row.shown) rows ++ told (codes "end")
 
 abbrev pub is_error : Grade → Bool
 is_error Error = true
 is_error Check = false
 
-abbrev pub some_error : Option (List Diag) → Bool
-some_error None = false
-some_error (Some ds) = list_any (λ d. is_error d.grade) ds
+abbrev pub has_error : Shown → Bool
+has_error shown.Pending = false
+has_error (shown.Done ds) = list_any (λ d. is_error d.grade) ds
 
-abbrev pub reported_errors : Option Opened → Bool
-reported_errors None = false
-reported_errors (Some o) = cond (is_unit o.name) (some_error (shown o o.progress)) false
+abbrev pub tells_errors : List Row → Bool
+tells_errors rows = list_any (λ row. has_error row.shown) rows
 
--- what is answered to a command, and the state behind it
-abbrev pub answer : State → Command → List ℕ
-answer s (Open file contents) = open_answer (refusal s file contents)
-answer s (Take w) = take_answer w s.opened
-answer s (Finish w) = finish_answer w s.opened
-answer s Report = report_answer s
+abbrev pub after_report : Desk → Desk
+after_report s = record { board = s.board; held = s.held; errors = tells_errors (report_answer s.board) }
 
-abbrev pub after : Reading → State → Command → State
-after read s (Open file contents) = after_open (refusal s file contents) s file (text_read read contents)
-after read s (Take w) = record { opened = option_map (taken w) s.opened; errors = s.errors }
-after read s (Finish w) = record { opened = option_map (finished w) s.opened; errors = s.errors }
-after read s Report = record { opened = s.opened; errors = reported_errors s.opened }
+-- ---- what is answered to a command, and the state behind it
+
+abbrev pub answer : Reading → Desk → Command → List ℕ
+answer read s (Open file contents) = edited_text (refusal s file (limit_fault contents) (edit.Added file (text_read read contents)))
+answer read s (Change file contents) = edited_text (refusal s file (limit_fault contents) (edit.Changed file (text_read read contents)))
+answer read s (Remove file) = edited_text (refusal s file None (edit.Removed file))
+answer read s (TakeBy w) = take_text (job_of w s.held) (take_answer s.board)
+answer read s (FinishBy w) = finish_text s (job_of w s.held)
+answer read s (Drop w) = drop_text (job_of w s.held)
+answer read s Settle = settle_text s
+answer read s Report = report_text (report_answer s.board)
+
+abbrev pub after : Reading → Desk → Command → Desk
+after read s (Open file contents) =
+    after_edit (refusal s file (limit_fault contents) (edit.Added file (text_read read contents))) s (edit.Added file (text_read read contents))
+after read s (Change file contents) =
+    after_edit (refusal s file (limit_fault contents) (edit.Changed file (text_read read contents))) s (edit.Changed file (text_read read contents))
+after read s (Remove file) = after_edit (refusal s file None (edit.Removed file)) s (edit.Removed file)
+after read s (TakeBy w) = after_take w (job_of w s.held) s
+after read s (FinishBy w) = after_finish w (job_of w s.held) s
+after read s (Drop w) = after_drop w (job_of w s.held) s
+after read s Settle = after_settle s
+after read s Report = after_report s

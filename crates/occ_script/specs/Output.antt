@@ -2,26 +2,27 @@
 use Rattle.std.specs.Prelude.{ℕ, ◌≡◌, ◌⊎◌, ◌<◌, cond, length, IsSome, List, [], ◌∷◌, ◌++◌, codes, take, Option, Some, None}
 use Rattle.std.specs.Fmt.{decimal}
 use Rattle.occ_script.specs.Devices.{Appends, AppendsFront}
-use Rattle.occ_script.specs.Machine.{Reading, State, start, answer, after, told}
-use Rattle.occ_script.specs.Script.{Command, Script}
+use Rattle.occ_commands.specs.Script.{Placed, Script}
+use Rattle.occ_script.specs.Machine.{Reading, start, answer, after, told}
+use Rattle.occ_script.specs.declared.desk.Desk.{Desk}
 use Rattle.occ_script.specs.declared.status.Status.{Status}
 use Rattle.occ_script.specs.declared.status.Status.TheVariants as status
 
 -- the answers to commands, one after the other
-abbrev pub answers : Reading → State → List Command → List ℕ
+abbrev pub answers : Reading → Desk → List Placed → List ℕ
 answers read s [] = []
-answers read s (c ∷ cs) = answer s c ++ answers read (after read s c) cs
+answers read s (p ∷ ps) = answer read s p.command ++ answers read (after read s p.command) ps
 
 -- the state behind them
-abbrev pub state_after : Reading → State → List Command → State
+abbrev pub state_after : Reading → Desk → List Placed → Desk
 state_after read s [] = s
-state_after read s (c ∷ cs) = state_after read (after read s c) cs
+state_after read s (p ∷ ps) = state_after read (after read s p.command) ps
 
 abbrev pub fault_text : Option ℕ → List ℕ
 fault_text None = []
 fault_text (Some line) = told (codes "script fault " ++ decimal line)
 
-abbrev pub end_status : Option ℕ → State → Status
+abbrev pub end_status : Option ℕ → Desk → Status
 end_status None s = cond s.errors status.Errors status.Clean
 end_status (Some line) s = status.ScriptFault
 

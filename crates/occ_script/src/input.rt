@@ -1,14 +1,11 @@
-ghost use Rattle.std.specs.Bool.{MatchBool};
 ghost use Rattle.std.specs.Prelude.{◌≡◌, ◌+◌, ◌≤◌, ◌<◌, ℕ, List, IfOk, OnErr, OnOk, Some, Err, drop, length, false, nat_lt, take, true};
-ghost use Rattle.occ_script.specs.inside.Ended.{IsEnded, IsOpen};
-ghost use Rattle.occ_script.specs.Lines.{cut_lines, feeds, script_limit, whole_lines};
+ghost use Rattle.occ_commands.specs.Ended.{IsEnded};
+ghost use Rattle.occ_commands.specs.Lines.{cut_lines, script_limit, whole_lines};
 ghost use Rattle.occ_script.specs.declared.input.ReadFault.TheVariants as fault;
 
 use super::devices::ByteIn;
+use occ_commands::{LIMIT, ScriptText, whole_text};
 use std::alloc::{AllocError, Global};
-
-/// The greatest number of bytes of a script.
-const LIMIT: usize = 67_108_864;
 
 /// How many bytes are asked for at once, at most.
 const PIECE: usize = 8192;
@@ -30,14 +27,6 @@ impl From<AllocError> for ReadFault {
     }
 }
 
-/// The lines of a script that lie whole within the limit, each with its LF.
-#[derive(Drop)]
-pub struct ScriptText {
-    pub bytes: Vec<u8>,
-    /// Whether more bytes than the limit were given.
-    pub over: bool,
-}
-
 /// Reads a script to its end, and no further than one byte over the limit.
 pub fn read_script<R: ByteIn>(alloc: Global, reader: &mut R) -> Result<ScriptText, ReadFault>
     ensures ended { IfOk result (λ text. IsEnded text.bytes.items) }
@@ -50,11 +39,7 @@ pub fn read_script<R: ByteIn>(alloc: Global, reader: &mut R) -> Result<ScriptTex
     ensures fine { OnOk result (R.has_failed reader.new ≡ R.has_failed reader.old) }
 {
     let bytes = read_bytes(alloc, reader)?;
-    if bytes.len() > LIMIT {
-        Ok(cut_off(bytes))
-    } else {
-        Ok(end_last(bytes)?)
-    }
+    Ok(whole_text(bytes)?)
 }
 
 /// Reads all bytes, or one more than the limit.
@@ -80,58 +65,4 @@ fn read_bytes<R: ByteIn>(alloc: Global, reader: &mut R) -> Result<Vec<u8>, ReadF
         bytes.extend_from_slice(&piece[..count])?;
     }
     Ok(bytes)
-}
-
-/// The whole lines of more bytes than the limit.
-fn cut_off(bytes: Vec<u8>) -> ScriptText
-    requires { script_limit < length bytes.items }
-    ensures over { result.over ≡ true }
-    ensures ended { IsEnded result.bytes.items }
-    ensures short { length result.bytes.items ≤ script_limit }
-    ensures lines { cut_lines result.bytes.items ≡ take (feeds (take script_limit bytes.items)) (cut_lines (take script_limit bytes.items)) }
-{
-    let mut bytes = bytes;
-    bytes.truncate(LIMIT);
-    let length = ended_length(bytes.as_slice());
-    bytes.truncate(length);
-    ScriptText { bytes, over: true }
-}
-
-/// How many bytes stand up to the last LF, with it.
-fn ended_length(bytes: &[u8]) -> usize
-    ensures within { result ≤ length bytes.now }
-    ensures ended { IsEnded (take result bytes.now) }
-    ensures none { feeds (drop result bytes.now) ≡ 0 }
-{
-    let mut length = bytes.len();
-    while length > 0 && bytes[length - 1] != b'\n' {
-        length -= 1;
-    }
-    length
-}
-
-/// A script within the limit, the last line ended like the others.
-#[tactic(auto, using(crate::proofs::Whole::close_last, crate::proofs::Whole::ended_close))]
-fn end_last(bytes: Vec<u8>) -> Result<ScriptText, AllocError>
-    ensures over { IfOk result (λ text. text.over ≡ false) }
-    ensures ended { IfOk result (λ text. IsEnded text.bytes.items) }
-    ensures short { IfOk result (λ text. length text.bytes.items ≤ length bytes.items + 1) }
-    ensures lines { IfOk result (λ text. cut_lines text.bytes.items ≡ cut_lines bytes.items) }
-{
-    let mut bytes = bytes;
-    if is_ended(bytes.as_slice()) {
-        return Ok(ScriptText { bytes, over: false });
-    }
-    bytes.push(b'\n')?;
-    Ok(ScriptText { bytes, over: false })
-}
-
-/// Whether the last line is ended.
-fn is_ended(bytes: &[u8]) -> bool
-    ensures { MatchBool result (IsEnded bytes.now) (IsOpen bytes.now) }
-{
-    match bytes {
-        [] => true,
-        [.., last] => *last == b'\n',
-    }
 }

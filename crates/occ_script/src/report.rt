@@ -1,25 +1,53 @@
 ghost use Rattle.std.specs.Fmt.{decimal};
 ghost use Rattle.std.specs.List.{flat_map, list_any};
 ghost use Rattle.std.specs.Prelude.{◌≡◌, ◌++◌, IfOk, codes, length};
-ghost use Rattle.occ_script.specs.inside.Board.{shown_seen};
-ghost use Rattle.occ_script.specs.Machine.{diag_text, is_error as an_error, told, unit_text};
+ghost use Rattle.occ_script.specs.Machine.{diag_text, is_error as an_error, report_text, has_error as has_errors_in, tells_errors as some_errors, told, unit_text};
 
 use super::answer::line_naming;
 use occ_base::{Diag, Grade, write_diag};
+use occ_board::{Row, Shown};
 use std::alloc::{AllocError, Global};
 
+/// What a report writes.
+pub fn report_lines(alloc: Global, rows: &[Row]) -> Result<Vec<u8>, AllocError>
+    ensures { IfOk result (λ bytes. bytes.items ≡ report_text rows.now) }
+{
+    let mut bytes = Vec::new(alloc);
+    for row in rows {
+        let unit = unit_report(alloc, row.unit.as_bytes(), &row.shown)?;
+        bytes.extend_from_slice(unit.as_slice())?;
+    }
+    bytes.extend_from_slice(b"end\n")?;
+    Ok(bytes)
+}
+
 /// What a report tells of a unit: its diagnostics in order, or that it is pending.
-pub fn unit_report(
-    alloc: Global,
-    file: &[u8],
-    shown: Option<&[Diag]>,
-) -> Result<Vec<u8>, AllocError>
-    ensures { IfOk result (λ bytes. bytes.items ≡ unit_text file.now (shown_seen shown.entry)) }
+fn unit_report(alloc: Global, unit: &[u8], shown: &Shown) -> Result<Vec<u8>, AllocError>
+    ensures { IfOk result (λ bytes. bytes.items ≡ unit_text unit.now shown.now) }
 {
     match shown {
-        None => pending(alloc, file),
-        Some([]) => clean(alloc, file),
-        Some(diags) => faulty(alloc, file, diags),
+        Shown::Pending => pending(alloc, unit),
+        Shown::Done(diags) => match diags.as_slice() {
+            [] => clean(alloc, unit),
+            diags => faulty(alloc, unit, diags),
+        },
+    }
+}
+
+/// Whether one of the units has an error.
+pub fn tells_errors(rows: &[Row]) -> bool
+    ensures { result ≡ some_errors rows.now }
+{
+    rows.iter().any(has_errors)
+}
+
+/// Whether the unit is shown with an error.
+fn has_errors(row: &Row) -> bool
+    ensures { result ≡ has_errors_in row.now.shown }
+{
+    match &row.shown {
+        Shown::Pending => false,
+        Shown::Done(diags) => has_error(diags.as_slice()),
     }
 }
 
@@ -65,7 +93,7 @@ fn head(alloc: Global, file: &[u8], count: usize) -> Result<Vec<u8>, AllocError>
 }
 
 /// Whether one of the diagnostics is an error.
-pub fn has_error(diags: &[Diag]) -> bool
+fn has_error(diags: &[Diag]) -> bool
     ensures { result ≡ list_any (λ d. an_error d.grade) diags.now }
 {
     diags.iter().any(|diag| is_error(diag.grade))

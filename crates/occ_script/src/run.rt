@@ -1,19 +1,19 @@
 ghost use Rattle.std.specs.Prelude.{◌≡◌, ◌≤◌, ◌+◌, ◌||◌, ◌⊎◌, IfOk, List, Some, cond, false, length, true, ℕ};
-ghost use Rattle.occ_script.specs.inside.Ended.{IsEnded};
-ghost use Rattle.occ_script.specs.Lines.{cut_lines, script_limit};
+ghost use Rattle.occ_commands.specs.Ended.{IsEnded};
+ghost use Rattle.occ_commands.specs.Lines.{cut_lines, script_limit};
 ghost use Rattle.occ_script.specs.Machine.{IsReading, Reading};
 ghost use Rattle.occ_script.specs.Output.{IsFaultTold, IsTold, fault_text};
-ghost use Rattle.occ_script.specs.Script.{script_from, script_of};
+ghost use Rattle.occ_commands.specs.Script.{script_from, script_of};
 ghost use Rattle.occ_script.specs.Status.{is_device_fault};
 ghost use Rattle.occ_script.specs.declared.status.Status.TheVariants as status;
 
 use super::answer::line_naming;
-use super::board::Board;
+use super::desk::Desk;
 use super::devices::{ByteIn, ByteOut};
 use super::input::{ReadFault, read_script};
-use super::script::{Next, Rest, next_command};
 use super::status::Status;
 use super::written::write_all;
+use occ_commands::{Next, Rest, next_command};
 use std::alloc::{AllocError, Global};
 
 /// Runs a script: reads it whole, carries its commands out one after the other and writes the answer to each.
@@ -44,7 +44,7 @@ fn run<W: ByteOut>(alloc: Global, bytes: &[u8], over: bool, writer: &mut W) -> S
     ensures told { (read : Reading) → IsReading read (script_from over 1 (cut_lines bytes.now)).commands → IsTold read (script_from over 1 (cut_lines bytes.now)) (W.written writer.old) (W.written writer.new) result }
     ensures device { is_device_fault result ≡ W.has_failed writer.new }
 {
-    let mut board = Board::new();
+    let mut desk = Desk::new(alloc);
     let mut rest = Rest {
         bytes,
         line: 1,
@@ -52,10 +52,10 @@ fn run<W: ByteOut>(alloc: Global, bytes: &[u8], over: bool, writer: &mut W) -> S
     };
     for _ in 0..bytes.len() + 1 {
         match next_command(rest) {
-            Next::End => return end_status(board.told_errors()),
+            Next::End => return end_status(desk.errors),
             Next::Fault(line) => return tell_fault(alloc, line, writer),
-            Next::Command(command, left) => {
-                let answer = match board.answer(alloc, command) {
+            Next::Command(_line, command, left) => {
+                let answer = match desk.answer(alloc, command) {
                     Ok(answer) => answer,
                     Err(_) => return Status::NoMemory,
                 };

@@ -2,6 +2,7 @@ ghost use Rattle.occ_graph.specs.Graph.{is_among as is_place, rests as rests_in}
 ghost use Rattle.occ_project.specs.Entries.{is_among};
 ghost use Rattle.occ_project.specs.Reads.{place};
 ghost use Rattle.occ_units.specs.Places.{graph_of, is_circular as uses_in_circle, standing_of};
+ghost use Rattle.occ_units.specs.Project.{put};
 ghost use Rattle.occ_units.specs.Units.{read_names, used_units};
 ghost use Rattle.occ_units.specs.inside.Keeping.{facts_of as the_facts_of};
 ghost use Rattle.std.specs.Option.{option_and_then, option_copied, option_map};
@@ -9,7 +10,8 @@ ghost use Rattle.std.specs.Prelude.{[], get_or, IfOk, ◌≡◌};
 
 use super::facts::{Facts, all_facts, edges};
 use super::{Project, Standing};
-use occ_base::{FileName, Items};
+use occ_base::{FileName, Items, Shared};
+use occ_forms::Source;
 use occ_graph::find_rests;
 use occ_project::Expanded;
 use sqlite_items::at;
@@ -72,19 +74,52 @@ impl Model for Graph {
     ghost invariant = { λ graph. IsGraph graph.project graph.facts graph.rests };
 }
 
+/// The graph of a project, which it keeps.
+fn keep(alloc: Global, project: Project) -> Result<Graph, AllocError>
+    ensures { IfOk result (λ graph. graph ≡ project) }
+{
+    let facts = all_facts(alloc, &project)?;
+    let edges = edges(alloc, &project, facts.as_slice())?;
+    let rests = find_rests(alloc, edges.as_slice())?;
+    Ok(Graph {
+        project,
+        facts,
+        rests,
+    })
+}
+
 impl Graph {
+    /// The graph of a project without files.
+    pub fn new(alloc: Global) -> Graph
+        ensures { result ≡ [] }
+    {
+        Graph {
+            project: Project::new(alloc),
+            facts: Items::new(alloc),
+            rests: Items::new(alloc),
+        }
+    }
+
     /// The graph of a project.
     pub fn of(alloc: Global, project: &Project) -> Result<Graph, AllocError>
         ensures { IfOk result (λ graph. graph ≡ project.now) }
     {
-        let facts = all_facts(alloc, project)?;
-        let edges = edges(alloc, project, facts.as_slice())?;
-        let rests = find_rests(alloc, edges.as_slice())?;
-        Ok(Graph {
-            project: project.share(alloc)?,
-            facts,
-            rests,
-        })
+        keep(alloc, project.share(alloc)?)
+    }
+
+    /// The graph of the project in which the file of that name has this text, or is absent, by the edit of that number.
+    pub fn with(
+        &self,
+        alloc: Global,
+        name: FileName,
+        revision: u32,
+        source: Option<Shared<Source>>,
+    ) -> Result<Graph, AllocError>
+        ensures { IfOk result (λ graph. graph ≡ put self.now (record { name = name; revision = revision; source = source })) }
+    {
+        let mut project = self.project.share(alloc)?;
+        project.set(name, revision, source)?;
+        keep(alloc, project)
     }
 
     /// The project that it is of.

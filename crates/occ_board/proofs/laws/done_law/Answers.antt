@@ -2,11 +2,10 @@ use Rattle.std.proofs.Common.{[], false}
 use Rattle.occ_board.proofs.Resting.{is_local, none_is_project, replayed}
 use Rattle.occ_board.proofs.laws.done_law.Goals as goal
 use Rattle.occ_board.specs.Done.{done, done_step}
-use Rattle.occ_board.specs.Journal.{replay}
 
 pub returns-clause-project : goal.returns-clause-project
 returns-clause-project c = λ es. replayed c.put_law.ensures.in_order 1 [] es none_is_project
 
 pub returns-clause-done : goal.returns-clause-done
 unfolding done
-returns-clause-done c = λ es kept u. c.along_law.ensures (replay es) (done_step (replay es) kept) false (replayed c.put_law.ensures.in_order 1 [] es none_is_project) (is_local (replay es) kept) u
+returns-clause-done c = λ files kept u h. c.along_law.ensures files (done_step files kept) false h (is_local files kept) u

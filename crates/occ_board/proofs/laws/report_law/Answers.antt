@@ -1,4 +1,4 @@
-use Rattle.occ_board.proofs.Shown.{all_shown}
+use Rattle.occ_board.proofs.AllShown.{all_shown}
 use Rattle.occ_board.proofs.laws.report_law.Goals as goal
 use Rattle.occ_board.specs.Done.{done}
 use Rattle.occ_board.specs.Machine.{files_of}

@@ -1,8 +1,8 @@
 use Rattle.std.proofs.Common.{◌≡◌, ◌+◌, ◌≤◌, false, length}
-use Rattle.occ_script.specs.Lines.{cut_lines}
+use Rattle.occ_commands.specs.Lines.{cut_lines}
 use Rattle.occ_script.specs.Machine.{IsReading, Reading}
-use Rattle.occ_script.specs.inside.Rest.{IsRest, script_left}
-use Rattle.occ_script.specs.Script.{script_from}
+use Rattle.occ_commands.specs.Left.{IsRest, script_left}
+use Rattle.occ_commands.specs.Script.{script_from}
 use Rattle.occ_script.proofs.Running.{IsSoFar, behind}
 use Rattle.occ_script.proofs.run.run.Given as goal
 
@@ -12,5 +12,5 @@ invariant-loop g l = record {
   left : script_left l.rest ≡ behind l.counter (script_from l.over 1 (cut_lines l.bytes));
   room : l.counter + length l.rest.bytes.now ≤ length l.bytes;
   fine : g.W.ByteOut.has_failed l.writer ≡ false;
-  so_far : (read : Reading) → IsReading read (script_from l.over 1 (cut_lines l.bytes)).commands → IsSoFar read (script_from l.over 1 (cut_lines l.bytes)) l.counter l.board (g.W.ByteOut.written l.fn.writer) (g.W.ByteOut.written l.writer);
+  so_far : (read : Reading) → IsReading read (script_from l.over 1 (cut_lines l.bytes)).commands → IsSoFar read (script_from l.over 1 (cut_lines l.bytes)) l.counter l.desk (g.W.ByteOut.written l.fn.writer) (g.W.ByteOut.written l.writer);
 }

@@ -1,4 +1,4 @@
-use Rattle.occ_script.specs.Script.{script_of}
+use Rattle.occ_commands.specs.Script.{script_of}
 use Rattle.occ_script.proofs.Running.{same_script, told_nothing, told_same}
 use Rattle.occ_script.proofs.run.run_script.Goals as goal
 

@@ -1,0 +1,54 @@
+-- A board that keeps an outcome more.
+use Rattle.std.proofs.Common.{◌≡◌, ◌∙◌, ◌<◌, Bool, true, ℕ, List, length, sym, ap, subst}
+use Rattle.occ_board.proofs.Accepted.{fewer_pending, more_done}
+use Rattle.occ_board.specs.Done.{done, done_step, pending_units}
+use Rattle.occ_board.specs.Journal.{replay}
+use Rattle.occ_board.specs.Machine.{State, files_of, pending_answer, unhanded, with_kept}
+use Rattle.occ_board.specs.declared.entry.Entry.{Entry}
+use Rattle.occ_board.specs.inside.Flagged.{IsSound}
+use Rattle.occ_board.specs.inside.Holding.{IsBoard}
+use Rattle.occ_board.specs.inside.Ready.{IsAcceptable}
+use Rattle.occ_check.specs.Input.{Input}
+use Rattle.occ_project.specs.Entries.{is_among}
+use Rattle.occ_project.specs.declared.reads.Read.{Read}
+use Rattle.occ_units.specs.Places.{rest_units}
+use Rattle.occ_units.specs.Project.{IsProject}
+
+module _ (journal : List Entry) (kept handed : List Input) (s : State) (i : Input) (view : record { journal = journal; kept = kept; handed = handed } ≡ s) (fit : IsAcceptable (files_of s) s.kept i)
+    (better : List Input) (same : better ≡ with_kept kept i) where
+  fits : IsAcceptable (replay journal) kept i
+  fits = subst (λ (t : State). IsAcceptable (files_of t) t.kept i) (sym view) fit
+
+  abbrev later : List Entry → List Input → List Input → State
+  later es ks hs = record { journal = es; kept = ks; handed = hs }
+
+  abbrev state : List Input → List Input → State
+  state ks hs = later journal ks hs
+
+  pub adopted : (left : List Input) (job : Input) → left ≡ unhanded handed job → job ≡ i
+      → ◌≡◌ {A = State} (record { journal = journal; kept = better; handed = left }) (record { journal = s.journal; kept = with_kept s.kept i; handed = unhanded s.handed i })
+  adopted left job e j =
+      ap (λ (ks : List Input). state ks left) same
+      ∙ ap (state (with_kept kept i)) (e ∙ ap (unhanded handed) j)
+      ∙ ap (λ (t : State). later t.journal (with_kept t.kept i) (unhanded t.handed i)) view
+
+  module _ (law : (files : List Read) (kept : List Input) (u : List ℕ) → IsProject files → done files kept u ≡ done_step files kept u (done files kept))
+      (project : (es : List Entry) → IsProject (replay es))
+      (heights : (files : List Read) → IsProject files → (height : List ℕ → ℕ) × ((u v : List ℕ) → is_among (rest_units files u) v ≡ true → height v < height u)) where
+    -- what was done stays so
+    pub sound_still : (files : List Read) (flags : List Bool) → IsBoard journal kept files flags → IsSound files better flags
+    sound_still files flags board u h =
+        let high = heights (replay journal) (project journal) in
+        let was : done (replay journal) kept u ≡ true = ap (λ (fs : List Read). done fs kept u) (sym board.files_are) ∙ sym (board.flags_are u) ∙ h in
+        ap (λ (fs : List Read). done fs better u) board.files_are
+        ∙ ap (λ (ks : List Input). done (replay journal) ks u) same
+        ∙ more_done (replay journal) (λ ks v. law (replay journal) ks v (project journal)) high.0 high.1 kept i fits.now u was
+
+    -- and one unit more is done
+    pub fewer_left : (left : List Input) → pending_answer (record { journal = journal; kept = better; handed = left }) < pending_answer s
+    fewer_left left =
+        let high = heights (replay journal) (project journal) in
+        let less : length (pending_units (replay journal) (with_kept kept i)) < length (pending_units (replay journal) kept) =
+        fewer_pending (replay journal) (λ ks v. law (replay journal) ks v (project journal)) high.0 high.1 kept i fits.now fits.job.unit fits.job.opened fits.job.rested fits.other in
+        subst (λ (t : State). pending_answer (record { journal = journal; kept = better; handed = left }) < pending_answer t) view
+        (subst (λ (ks : List Input). length (pending_units (replay journal) ks) < length (pending_units (replay journal) kept)) (sym same) less)

@@ -1,0 +1,50 @@
+-- A board without files.
+use Rattle.std.proofs.Common.{◌≡◌, ◌∙◌, ◌++◌, ◌+◌, ◌<◌, ℕ, Bool, List, [], ◌∷◌, length, length-append, Option, None, refl, sym, ap, subst, arith}
+use Rattle.occ_board.proofs.Edits.{edited_is, legal_more, replay_more, room}
+use Rattle.occ_board.proofs.Resting.{none_is_project}
+use Rattle.occ_board.specs.Done.{done, done_step}
+use Rattle.occ_board.specs.Journal.{IsLegal, edited, refusal, replay}
+use Rattle.occ_board.specs.declared.entry.Edit.{Edit}
+use Rattle.occ_board.specs.declared.entry.Entry.{Entry}
+use Rattle.occ_board.specs.inside.Flagged.{AreFlags}
+use Rattle.occ_board.specs.inside.Holding.{IsBoard}
+use Rattle.occ_check.specs.Input.{Input}
+use Rattle.occ_forms.specs.Prepared.{Prepared}
+use Rattle.occ_project.specs.declared.reads.Read.{Read}
+use Rattle.occ_units.specs.Project.{IsProject, put}
+
+none : ((files : List Read) (kept : List Input) (u : List ℕ) → IsProject files → done files kept u ≡ done_step files kept u (done files kept)) → IsBoard [] [] [] []
+none law = record { few = omega arith; legal = tt; files_are = refl; len = refl; flags_are = λ u. sym (law [] [] u none_is_project) }
+
+pub begins : (journal : List Entry) (kept : List Input) (files : List Read) (flags : List Bool) → journal ≡ [] → kept ≡ [] → files ≡ [] → flags ≡ []
+    → ((files : List Read) (kept : List Input) (u : List ℕ) → IsProject files → done files kept u ≡ done_step files kept u (done files kept)) → IsBoard journal kept files flags
+begins journal kept files flags j k f g law =
+    subst (λ (x : List Entry). IsBoard x kept files flags) (sym j)
+    (subst (λ (x : List Input). IsBoard [] x files flags) (sym k) (subst (λ (x : List Read). IsBoard [] [] x flags) (sym f) (subst (λ (x : List Bool). IsBoard [] [] [] x) (sym g) (none law))))
+
+-- and one behind one more edit
+pub accepts : (journal next : List Entry) (kept : List Input) (files later : List Read) (flags now : List Bool) (n session : ℕ) (e : Edit) (name : List ℕ) (source : Option Prepared) → IsBoard journal kept files flags → refusal journal e ≡ None
+    → later ≡ put files (record { name = name; revision = n; source = source }) → n ≡ length journal + 1 → name ≡ (edited 0 e).name → source ≡ (edited 0 e).source → next ≡ journal ++ (record { session = session; edit = e }) ∷ []
+    → length now ≡ length later → AreFlags later kept now → IsBoard next kept later now
+accepts journal next kept files later flags now n session e name source board fine put_is number named with_text more len are =
+    let entry : Entry = record { session = session; edit = e } in
+    let under : length journal < 10000 = room (replay journal) (length journal) e fine in
+    let longer : length next ≡ length journal + 1 = ap (length {A = Entry}) more ∙ length-append journal (entry ∷ []) in
+    let whole : edited (length journal + 1) e ≡ record { name = name; revision = n; source = source } =
+    edited_is (length journal + 1) e
+    ∙ ap (λ (x : List ℕ). record { name = x; revision = length journal + 1; source = (edited 0 e).source }) (sym named)
+    ∙ ap (λ (x : ℕ). record { name = name; revision = x; source = (edited 0 e).source }) (sym number)
+    ∙ ap (λ (x : Option Prepared). record { name = name; revision = n; source = x }) (sym with_text)
+    in
+    record {
+      few = omega (arith, under, longer);
+      legal = subst IsLegal (sym more) (legal_more journal entry board.legal fine);
+      files_are =
+          put_is
+          ∙ ap (λ (fs : List Read). put fs (record { name = name; revision = n; source = source })) board.files_are
+          ∙ ap (put (replay journal)) (sym whole)
+          ∙ sym (replay_more journal entry)
+          ∙ ap replay (sym more);
+      len = len;
+      flags_are = are;
+    }

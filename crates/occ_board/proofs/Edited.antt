@@ -1,0 +1,68 @@
+-- What an edit leaves.
+use Rattle.std.proofs.Common.{◌≡◌, ◌↔◌, ◌∙◌, ◌<◌, ◌+◌, true, cond, ℕ, List, length, Option, Some, None, refl, sym, ap, subst}
+use Rattle.std.specs.Str.{bytes_eq}
+use Rattle.occ_board.proofs.Apart.{same_done_there, same_input_there}
+use Rattle.occ_board.proofs.Edits.{edited_is, replay_more}
+use Rattle.occ_board.specs.Done.{done, done_step, pending_units}
+use Rattle.occ_board.specs.Edits.{IsApart}
+use Rattle.occ_board.specs.Journal.{edited, replay}
+use Rattle.occ_board.specs.Machine.{Event, State, after, after_edit, edit_answer, files_of, finish_answer, kept_after, pending_answer}
+use Rattle.occ_board.specs.declared.entry.Edit.{Edit}
+use Rattle.occ_board.specs.declared.entry.EditFault.{EditFault}
+use Rattle.occ_board.specs.declared.entry.Entry.{Entry}
+use Rattle.occ_board.specs.declared.verdict.Verdict.{Verdict}
+use Rattle.occ_board.specs.declared.verdict.Verdict.TheVariants as verdict
+use Rattle.occ_check.specs.Input.{Input}
+use Rattle.occ_project.specs.Entries.{is_among}
+use Rattle.occ_project.specs.Expansion.{expansion}
+use Rattle.occ_project.specs.Reads.{open_lines}
+use Rattle.occ_project.specs.declared.reads.Read.{Read}
+use Rattle.occ_report.specs.Checks.{check_step, checked, input}
+use Rattle.occ_units.specs.Places.{is_circular, rest_units}
+use Rattle.occ_units.specs.Project.{IsProject, file_of, put}
+use Rattle.occ_units.specs.Units.{IsCircular}
+
+-- an outcome that is not accepted is not kept
+kept_by : (v : Verdict) (kept : List Input) (i : Input) → (v ≡ verdict.Accepted → ⊥) → kept_after v kept i ≡ kept
+kept_by verdict.Accepted kept i h = absurd (h refl)
+kept_by verdict.Repeated kept i h = refl
+kept_by (verdict.Stale name) kept i h = refl
+kept_by (verdict.Foreign name) kept i h = refl
+
+pub kept_unless : (s : State) (i : Input) → (finish_answer s i ≡ verdict.Accepted → ⊥) → pending_answer (after s (Event.Finish i)) ≡ pending_answer s
+kept_unless s i h = ap (λ (kept : List Input). length (pending_units (files_of s) kept)) (kept_by (finish_answer s i) s.kept i h)
+
+module _ (put_is : (files : List Read) (file : Read) (name : List ℕ) → file_of (put files file) name ≡ cond (bytes_eq file.name name) file (file_of files name))
+    (put_rises : (files : List Read) (file : Read) → IsProject files → IsProject (put files file))
+    (alone : (fs others : List Read) (unit : List ℕ) → ((name : List ℕ) → is_among (expansion fs unit).reads name ≡ true → open_lines others name ≡ open_lines fs name) → expansion others unit ≡ expansion fs unit)
+    (itself : (fs : List Read) (unit : List ℕ) → is_among (expansion fs unit).reads unit ≡ true)
+    (circles : (fs : List Read) (u v : List ℕ) → (is_circular fs u v ≡ true) ↔ IsCircular fs u v)
+    (heights : (files : List Read) → IsProject files → (height : List ℕ → ℕ) × ((u v : List ℕ) → is_among (rest_units files u) v ≡ true → height v < height u))
+    (project : (es : List Entry) → IsProject (replay es))
+    (step : (files : List Read) → IsProject files → (u : List ℕ) → checked files u ≡ check_step files u (checked files)) where
+  same_inputs : (files : List Read) (file : Read) (u : List ℕ) → IsProject files → IsApart files file.name u → input (put files file) u ≡ input files u
+  same_inputs files file u h apart =
+      let high = heights files h in
+      same_input_there files file u apart (put_is files file) alone itself circles high.0 high.1 (step files h) (step (put files file) (put_rises files file h))
+
+  by_answer : {X : Type 0} (f : List Read → X) (s : State) (session : ℕ) (e : Edit) → ((file : Read) → file.name ≡ (edited 0 e).name → f (put (files_of s) file) ≡ f (files_of s)) → f (files_of (after s (Event.Edited session e))) ≡ f (files_of s)
+  by_answer f s session e same = by (edit_answer s e) where
+    named : (edited (length s.journal + 1) e).name ≡ (edited 0 e).name
+    named = ap (λ (file : Read). file.name) (edited_is (length s.journal + 1) e)
+
+    by : (answer : Option EditFault) → f (files_of (after_edit answer s session e)) ≡ f (files_of s)
+    by None = ap f (replay_more s.journal (record { session = session; edit = e })) ∙ same (edited (length s.journal + 1) e) named
+    by (Some fault) = refl
+
+  pub same_input_later : (s : State) (session : ℕ) (e : Edit) (u : List ℕ) → IsApart (files_of s) (edited 0 e).name u → input (files_of (after s (Event.Edited session e))) u ≡ input (files_of s) u
+  same_input_later s session e u apart = by_answer (λ files. input files u) s session e (λ file n. same_inputs (files_of s) file u (project s.journal) (subst (λ (name : List ℕ). IsApart (files_of s) name u) (sym n) apart))
+
+  module _ (done_step_is : (files : List Read) (kept : List Input) (u : List ℕ) → IsProject files → done files kept u ≡ done_step files kept u (done files kept)) where
+    same_dones : (files : List Read) (file : Read) (kept : List Input) (u : List ℕ) → IsProject files → IsApart files file.name u → done (put files file) kept u ≡ done files kept u
+    same_dones files file kept u h apart =
+        let high = heights files h in
+        let later = put_rises files file h in
+        same_done_there files file u apart (put_is files file) alone itself circles high.0 high.1 (step files h) (step (put files file) later) kept (λ v. done_step_is files kept v h) (λ v. done_step_is (put files file) kept v later)
+
+    pub same_done_later : (s : State) (session : ℕ) (e : Edit) (u : List ℕ) → IsApart (files_of s) (edited 0 e).name u → done (files_of (after s (Event.Edited session e))) s.kept u ≡ done (files_of s) s.kept u
+    same_done_later s session e u apart = by_answer (λ files. done files s.kept u) s session e (λ file n. same_dones (files_of s) file s.kept u (project s.journal) (subst (λ (name : List ℕ). IsApart (files_of s) name u) (sym n) apart))

@@ -1,0 +1,125 @@
+-- The least unit that is ready and not handed out, by the files of a project.
+use Rattle.std.proofs.Common.{◌≡◌, ◌∙◌, ◌&&◌, ◌<◌, ◌≤◌, ◌+◌, Bool, true, false, not, cond, ℕ, List, [], ◌∷◌, length, map, drop, get_or, Option, Some, None, refl, sym, ap, subst}
+use Rattle.std.proofs.lemmas.List.{drop_all, drop_more}
+use Rattle.std.specs.List.{filter, find, list_all, slice_get}
+use Rattle.std.specs.Option.{is_some, option_map}
+use Rattle.occ_base.specs.FileName.{is_unit}
+use Rattle.occ_board.proofs.Places.{filed, named, placed}
+use Rattle.occ_board.proofs.Resting.{same_all}
+use Rattle.occ_board.proofs.Settled.{flag_at}
+use Rattle.occ_board.proofs.Shows.{there}
+use Rattle.occ_board.proofs.Truths.{left_true, right_true}
+use Rattle.occ_board.specs.Done.{done, is_input_among}
+use Rattle.occ_board.specs.Machine.{next_input}
+use Rattle.occ_board.specs.inside.Flagged.{AreFlags, flag_of}
+use Rattle.occ_board.specs.inside.Ready.{HasJob, is_next, is_rested}
+use Rattle.occ_check.specs.Input.{Input}
+use Rattle.occ_project.specs.declared.reads.Read.{Read}
+use Rattle.occ_report.specs.Checks.{input}
+use Rattle.occ_report.specs.Report.{is_open_unit}
+use Rattle.occ_units.specs.Along.{name_at}
+use Rattle.occ_units.specs.Places.{rest_units}
+use Rattle.occ_units.specs.Project.{IsProject, file_of}
+
+abbrev names_in : List Read → List (List ℕ)
+names_in files = map (λ file. file.name) files
+
+module _ (f : List ℕ → Input) (q r : List ℕ → Bool) (t : Input → Bool) where
+  abbrev first : List (List ℕ) → Option Input
+  first us = find t (map f (filter r (filter q us)))
+
+  by_handed : (b : Bool) (file : Read) (others : Option Read) (rest : Option Input) → rest ≡ option_map (λ file. f file.name) others → cond b (Some (f file.name)) rest ≡ option_map (λ file. f file.name) (cond b (Some file) others)
+  by_handed true file others rest e = refl
+  by_handed false file others rest e = e
+
+  by_rested : (b : Bool) (file : Read) (us : List (List ℕ)) (others : Option Read) → find t (map f us) ≡ option_map (λ file. f file.name) others → find t (map f (cond b (file.name ∷ us) us)) ≡ option_map (λ file. f file.name) (cond (b && t (f file.name)) (Some file) others)
+  by_rested true file us others e = by_handed (t (f file.name)) file others (find t (map f us)) e
+  by_rested false file us others e = e
+
+  by_done : (b : Bool) (file : Read) (us : List (List ℕ)) (others : Option Read) → find t (map f (filter r us)) ≡ option_map (λ file. f file.name) others → find t (map f (filter r (cond b (file.name ∷ us) us))) ≡ option_map (λ file. f file.name) (cond (b && (r file.name && t (f file.name))) (Some file) others)
+  by_done true file us others e = by_rested (r file.name) file (filter r us) others e
+  by_done false file us others e = e
+
+  by_open : (b : Bool) (file : Read) (files : List Read) (others : Option Read) → first (names_in files) ≡ option_map (λ file. f file.name) others
+      → first (names_in (cond b (file ∷ files) files)) ≡ option_map (λ file. f file.name) (cond (b && (q file.name && (r file.name && t (f file.name)))) (Some file) others)
+  by_open true file files others e = by_done (q file.name) file (filter q (names_in files)) others e
+  by_open false file files others e = e
+
+  first_is : (files : List Read) → first (names_in (filter is_open_unit files)) ≡ option_map (λ file. f file.name) (find (λ file. is_open_unit file && (q file.name && (r file.name && t (f file.name)))) files)
+  first_is [] = refl
+  first_is (file ∷ files) = by_open (is_open_unit file) file (filter is_open_unit files) (find (λ file. is_open_unit file && (q file.name && (r file.name && t (f file.name)))) files) (first_is files)
+
+pub next_is : (files : List Read) (kept handed : List Input) → next_input files kept handed ≡ option_map (λ file. input files file.name) (find (is_next files kept handed) files)
+next_is files kept handed = first_is (input files) (λ u. not (done files kept u)) (is_rested files kept) (λ i. not (is_input_among handed i)) files
+
+-- there is a job of it
+pub next_has_job : (files : List Read) (kept handed : List Input) (file : Read) → file_of files file.name ≡ file → is_next files kept handed file ≡ true → HasJob files kept file.name
+next_has_job files kept handed file here h =
+    let opened = left_true (is_open_unit file) (not (done files kept file.name) && (is_rested files kept file.name && not (is_input_among handed (input files file.name)))) h in
+    let rest = right_true (is_open_unit file) (not (done files kept file.name) && (is_rested files kept file.name && not (is_input_among handed (input files file.name)))) h in
+    let ready = right_true (not (done files kept file.name)) (is_rested files kept file.name && not (is_input_among handed (input files file.name))) rest in
+    record {
+      unit = left_true (is_unit file.name) (is_some file.source) opened;
+      opened = ap (λ (f : Read). is_some f.source) here ∙ right_true (is_unit file.name) (is_some file.source) opened;
+      rested = left_true (is_rested files kept file.name) (not (is_input_among handed (input files file.name))) ready;
+    }
+
+-- whether a file is next, by its parts
+not_open : (o d b r h : Bool) → b ≡ d → false ≡ (o && not b) → false ≡ (o && (not d && (r && h)))
+not_open true d b r h e k = let c : not d ≡ false = ap not (sym e) ∙ sym k in ap (λ (x : Bool). x && (r && h)) (sym c)
+not_open false d b r h e k = refl
+
+not_ready : (o d r h : Bool) → r ≡ false → false ≡ (o && (not d && (r && h)))
+not_ready true true r h e = refl
+not_ready true false r h e = ap (λ (x : Bool). x && h) (sym e)
+not_ready false d r h e = refl
+
+is_ready : (o d b r h : Bool) → b ≡ d → true ≡ (o && not b) → r ≡ true → h ≡ (o && (not d && (r && h)))
+is_ready true d b r h e k f =
+    let c : not d ≡ true = ap not (sym e) ∙ sym k in
+    sym (ap (λ (x : Bool). x && (r && h)) c ∙ ap (λ (x : Bool). x && h) f)
+is_ready false d b r h e k f = absurd cc
+
+module _ (files : List Read) (kept handed : List Input) (flags : List Bool) (p : ℕ) (file : Read) (project : IsProject files) (are : AreFlags files kept flags) (here : slice_get files p ≡ Some file) where
+  -- the flag at the place
+  flagged : (b : Bool) → b ≡ get_or flags p false → b ≡ done files kept file.name
+  flagged b e = e ∙ sym (flag_at files flags file.name p (placed files p file project here)) ∙ are file.name
+
+  pub rested_here : list_all (flag_of files flags) (rest_units files (name_at files p)) ≡ is_rested files kept file.name
+  rested_here =
+      ap (λ (n : List ℕ). list_all (flag_of files flags) (rest_units files n)) (named files p file here)
+      ∙ same_all (flag_of files flags) (done files kept) (rest_units files file.name) (λ v a. are v)
+
+  pub next_closed : (b : Bool) → b ≡ get_or flags p false → false ≡ (is_open_unit file && not b) → false ≡ is_next files kept handed file
+  next_closed b e k = not_open (is_open_unit file) (done files kept file.name) b (is_rested files kept file.name) (not (is_input_among handed (input files file.name))) (flagged b e) k
+
+  pub next_waits : list_all (flag_of files flags) (rest_units files (name_at files p)) ≡ false → false ≡ is_next files kept handed file
+  next_waits k = not_ready (is_open_unit file) (done files kept file.name) (is_rested files kept file.name) (not (is_input_among handed (input files file.name))) (sym rested_here ∙ k)
+
+  pub next_by : (b h : Bool) → b ≡ get_or flags p false → true ≡ (is_open_unit file && not b) → list_all (flag_of files flags) (rest_units files (name_at files p)) ≡ true → h ≡ is_input_among handed (input files file.name)
+      → not h ≡ is_next files kept handed file
+  next_by b h e k r g =
+      ap not g
+      ∙ is_ready (is_open_unit file) (done files kept file.name) b (is_rested files kept file.name) (not (is_input_among handed (input files file.name))) (flagged b e) k (sym rested_here ∙ r)
+
+-- the first file that is next
+module _ {X : Type 0} (t : X → Bool) (xs ys : List X) (same : ys ≡ xs) (p : ℕ) (sofar : find t (drop p xs) ≡ find t xs) where
+  at_next : (x : X) → p < length ys → x ≡ get_or ys p x → drop p xs ≡ x ∷ drop (p + 1) xs
+  at_next x lt e =
+      let within : p < length xs = subst (λ (zs : List X). p < length zs) same lt in
+      drop_more xs p x within ∙ ap (λ (z : X). z ∷ drop (p + 1) xs) (sym (e ∙ ap (λ (zs : List X). get_or zs p x) same))
+
+  pub first_found : (x : X) → p < length ys → x ≡ get_or ys p x → t x ≡ true → find t xs ≡ Some x
+  first_found x lt e k = sym sofar ∙ ap (find t) (at_next x lt e) ∙ ap (λ (b : Bool). cond b (Some x) (find t (drop (p + 1) xs))) k
+
+  pub first_passed : (x : X) → p < length ys → x ≡ get_or ys p x → t x ≡ false → find t (drop (p + 1) xs) ≡ find t xs
+  first_passed x lt e k = sym (ap (λ (b : Bool). cond b (Some x) (find t (drop (p + 1) xs))) k) ∙ sym (ap (find t) (at_next x lt e)) ∙ sofar
+
+  pub first_none : length ys ≤ p → find t xs ≡ None
+  first_none le = sym sofar ∙ ap (find t) (drop_all p xs (subst (λ (zs : List X). length zs ≤ p) same le))
+
+-- so there is a job of it
+pub job_there : (files ys : List Read) (kept handed : List Input) (p : ℕ) (file : Read) → IsProject files → ys ≡ files → p < length ys → file ≡ get_or ys p file → is_next files kept handed file ≡ true → HasJob files kept file.name
+job_there files ys kept handed p file project same lt e h =
+    let here : file ≡ get_or files p file = e ∙ ap (λ (zs : List Read). get_or zs p file) same in
+    next_has_job files kept handed file (filed files p file project (there files p file (subst (λ (zs : List Read). p < length zs) same lt) here)) h

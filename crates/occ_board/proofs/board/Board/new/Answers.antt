@@ -1,0 +1,6 @@
+use Rattle.std.proofs.Common.{rules}
+use Rattle.occ_board.proofs.Begun.{begins}
+use Rattle.occ_board.proofs.board.Board.new.Goals as goal
+
+pub invariant_of-result : goal.invariant_of-result
+invariant_of-result c = begins _ _ _ _ (search rules) (search rules) (search rules) (search rules) c.done_law.ensures.done

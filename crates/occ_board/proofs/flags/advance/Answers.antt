@@ -1,0 +1,14 @@
+use Rattle.std.proofs.Common.{ap, sym, refl, subst, arith, false, get_or, List, Bool, ◌∙◌, ◌≡◌, ◌<◌, length}
+use Rattle.occ_board.proofs.Settled.{set_fewer, set_sound}
+use Rattle.occ_board.proofs.flags.advance.Goals as goal
+use Rattle.occ_board.specs.inside.Flagged.{flag_of, unflagged}
+
+pub returns-clause-sound : goal.returns-clause-sound
+returns-clause-sound c = λ u h.
+    set_sound c.args.graph.now c.args.kept.now c.args.flags.now c.args.place c.requires.sound (c.if-not-is_done_by.ensures.done refl) u (ap (λ (fs : List Bool). flag_of c.args.graph.now fs u) (sym c.set.ensures) ∙ h)
+
+pub returns-clause-fewer : goal.returns-clause-fewer
+returns-clause-fewer c = λ h.
+    let lt : c.args.place < length c.args.flags.now = omega (arith, c.requires.len, c.requires.within) in
+    let none : get_or c.args.flags.now c.args.place false ≡ false = ap (λ (fs : List Bool). get_or fs c.args.place false) (sym c.as_slice.ensures) ∙ sym c.if-is_flagged.ensures in
+    subst (λ (fs : List Bool). unflagged fs < unflagged c.args.flags.now) (sym c.set.ensures) (set_fewer c.args.flags.now c.args.place lt none)

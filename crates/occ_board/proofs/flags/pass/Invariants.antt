@@ -1,0 +1,5 @@
+use Rattle.occ_board.proofs.Settled.{IsPass}
+use Rattle.occ_board.proofs.flags.pass.Given as goal
+
+abbrev pub invariant-loop-place : goal.invariant-loop-place
+invariant-loop-place l = IsPass l.graph l.kept l.fn.flags l.flags l.advanced l.place

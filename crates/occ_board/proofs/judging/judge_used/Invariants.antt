@@ -1,0 +1,7 @@
+use Rattle.std.proofs.Common.{◌≡◌, drop}
+use Rattle.std.specs.List.{find}
+use Rattle.occ_board.specs.Verdicts.{is_off}
+use Rattle.occ_board.proofs.judging.judge_used.Given as goal
+
+abbrev pub invariant-loop-one : goal.invariant-loop-one
+invariant-loop-one l = find (is_off l.graph l.kept l.user) (drop l.one-index l.used) ≡ find (is_off l.graph l.kept l.user) l.used

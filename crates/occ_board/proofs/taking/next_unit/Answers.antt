@@ -1,0 +1,34 @@
+use Rattle.std.proofs.Common.{arith, ap, sym, subst, ◌∙◌, ◌≡◌, ◌≤◌, length, List, None, Option, Some}
+use Rattle.std.specs.Option.{option_map}
+use Rattle.occ_board.proofs.Nexts.{first_found, first_none, first_passed, job_there, next_is}
+use Rattle.occ_board.proofs.taking.next_unit.Goals as goal
+use Rattle.occ_board.specs.inside.Ready.{is_next}
+use Rattle.occ_project.specs.declared.reads.Read.{Read}
+use Rattle.occ_report.specs.Checks.{input}
+use Rattle.occ_units.specs.Project.{IsProject}
+
+pub returns-then-is_next-clause-next : goal.returns-then-is_next-clause-next
+returns-then-is_next-clause-next c =
+    sym (
+    next_is c.args.graph.now c.args.kept.now c.args.handed.now
+    ∙ ap (λ (o : Option Read). option_map (λ (file : Read). input c.args.graph.now file.name) o)
+    (first_found (is_next c.args.graph.now c.args.kept.now c.args.handed.now) c.args.graph.now c.files-files.result.now (c.files-files.ensures.files ∙ c.project.ensures) c.loop-place.place c.loop-place.invariant c.index-files-place.result c.loop-place-test.true c.index-files-place.is
+    (sym c.if-is_next.ensures)))
+
+pub returns-then-is_next-clause-job : goal.returns-then-is_next-clause-job
+returns-then-is_next-clause-job c =
+    job_there c.args.graph.now c.files-files.result.now c.args.kept.now c.args.handed.now c.loop-place.place c.index-files-place.result (subst IsProject c.project.ensures c.files-files.ensures.in_order) (c.files-files.ensures.files ∙ c.project.ensures) c.loop-place-test.true
+    c.index-files-place.is (sym c.if-is_next.ensures)
+
+pub loop-place-preserved : goal.loop-place-preserved
+loop-place-preserved c =
+    first_passed (is_next c.args.graph.now c.args.kept.now c.args.handed.now) c.args.graph.now c.files-files.result.now (c.files-files.ensures.files ∙ c.project.ensures) c.loop-place.place c.loop-place.invariant c.index-files-place.result c.loop-place-test.true c.index-files-place.is
+    (sym c.if-is_next.ensures)
+
+pub returns-clause-next : goal.returns-clause-next
+returns-clause-next c =
+    let over : length c.files-files.result.now ≤ c.loop-place.place = omega (arith, c.loop-place-test.false) in
+    sym (
+    next_is c.args.graph.now c.args.kept.now c.args.handed.now
+    ∙ ap (λ (o : Option Read). option_map (λ (file : Read). input c.args.graph.now file.name) o)
+    (first_none (is_next c.args.graph.now c.args.kept.now c.args.handed.now) c.args.graph.now c.files-files.result.now (c.files-files.ensures.files ∙ c.project.ensures) c.loop-place.place c.loop-place.invariant over))

@@ -1,0 +1,4 @@
+-- what no contract of a public call rests on
+pub mod Flagged
+pub mod Holding
+pub mod Ready

@@ -1,0 +1,22 @@
+-- What a board keeps.
+use Rattle.std.specs.Prelude.{◌≡◌, ◌≤◌, ℕ, Bool, List, [], ◌∷◌, length, Option, Some, None, if◌then◌else◌}
+use Rattle.std.specs.Option.{option_map}
+use Rattle.std.specs.Str.{bytes_eq}
+use Rattle.std.specs.Prelude.{suc}
+use Rattle.occ_board.specs.Journal.{IsLegal, replay}
+use Rattle.occ_board.specs.declared.entry.Entry.{Entry}
+use Rattle.occ_board.specs.inside.Flagged.{AreFlags}
+use Rattle.occ_check.specs.Input.{Input}
+use Rattle.occ_project.specs.declared.reads.Read.{Read}
+
+pub record IsBoard (journal : List Entry) (kept : List Input) (files : List Read) (flags : List Bool) : Type 0 where
+  pub few : length journal ≤ 10000
+  pub legal : IsLegal journal
+  pub files_are : files ≡ replay journal
+  pub len : length flags ≡ length files
+  pub flags_are : AreFlags files kept flags
+
+-- the place of the input that is kept of a unit
+abbrev pub place_in : List Input → List ℕ → Option ℕ
+place_in [] u = None
+place_in (i ∷ is) u = if bytes_eq i.unit u then Some 0 else option_map suc (place_in is u)

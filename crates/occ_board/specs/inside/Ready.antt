@@ -1,0 +1,36 @@
+-- Units for which there may be a job.
+use Rattle.std.specs.Prelude.{◌≡◌, ◌&&◌, ℕ, Bool, true, false, not, List, slice_get, Some}
+use Rattle.std.specs.List.{list_all}
+use Rattle.occ_base.specs.FileName.{is_unit}
+use Rattle.occ_board.specs.Done.{done, is_input_among, is_kept}
+use Rattle.occ_board.specs.Journal.{is_open}
+use Rattle.occ_check.specs.Input.{Input}
+use Rattle.occ_project.specs.declared.reads.Read.{Read}
+use Rattle.occ_report.specs.Checks.{input}
+use Rattle.occ_report.specs.Report.{is_open_unit}
+use Rattle.occ_units.specs.Places.{is_below, rest_units, standing_of}
+
+-- all that the unit rests on is done
+abbrev pub is_rested : List Read → List Input → List ℕ → Bool
+is_rested files kept u = list_all (done files kept) (rest_units files u)
+
+-- of these units those that u rests on are done
+abbrev pub AreRested : List Read → List Input → List ℕ → List (List ℕ) → Type 0
+AreRested files kept u names = (i : ℕ) (v : List ℕ) → slice_get names i ≡ Some v → is_below (standing_of files u v) ≡ true → done files kept v ≡ true
+
+-- an open unit for which there is a job
+pub record HasJob (files : List Read) (kept : List Input) (u : List ℕ) : Type 0 where
+  pub unit : is_unit u ≡ true
+  pub opened : is_open files u ≡ true
+  pub rested : is_rested files kept u ≡ true
+
+-- the input is the present one of such a unit, and not the one that is kept of it
+pub record IsAcceptable (files : List Read) (kept : List Input) (i : Input) : Type 0 where
+  pub now : i ≡ input files i.unit
+  pub job : HasJob files kept i.unit
+  pub other : is_kept kept i ≡ false
+
+-- the file is a ready unit that is not handed out with its present input
+abbrev pub is_next : List Read → List Input → List Input → Read → Bool
+is_next files kept handed file =
+    is_open_unit file && (not (done files kept file.name) && (is_rested files kept file.name && not (is_input_among handed (input files file.name))))

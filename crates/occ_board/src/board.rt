@@ -1,0 +1,273 @@
+ghost use Rattle.occ_board.specs.Journal.{IsLegal, refusal as why_refused};
+ghost use Rattle.occ_board.specs.Machine.{Answer, Event, after, answer, edit_number, files_of, finish_answer, pending_answer, report_answer, start, take_answer, unhanded, with_kept};
+ghost use Rattle.occ_board.specs.declared.entry.Edit.TheVariants as an_edit;
+ghost use Rattle.occ_board.specs.declared.entry.EditFault.TheVariants as fault;
+ghost use Rattle.occ_board.specs.declared.entry.EditFault.{EditFault as AFault};
+ghost use Rattle.occ_board.specs.declared.verdict.Verdict.TheVariants as verdicts;
+ghost use Rattle.occ_board.specs.inside.Ready.{HasJob, IsAcceptable};
+ghost use Rattle.occ_report.specs.Checks.{input};
+ghost use Rattle.std.specs.Option.{option_map};
+ghost use Rattle.std.specs.Prelude.{◌≡◌, ◌<◌, ◌⊎◌, Err, IfErr, IfOk, IfSome, None, OnErr, OnOk};
+
+use super::flags::{no_flags, settle};
+use super::journal::refusal;
+use super::judging::judge;
+use super::keeping::{keep, unhand};
+use super::laws::{done_law, height_law};
+use super::report::{count_pending, rows};
+use super::taking::{job_now, next_unit};
+use super::{Edit, EditFault, Entry, Row, Verdict};
+use occ_base::{FileName, Items, Shared};
+use occ_check::{Job, Outcome};
+use occ_forms::Source;
+use occ_units::Graph;
+use std::alloc::{AllocError, Global};
+use std::marker::Model;
+
+/// The state of everything. In contracts it is the state of the machine: the edits that were accepted, the inputs of the
+/// outcomes that are kept, and those that are handed out.
+#[derive(Drop)]
+pub struct Board {
+    journal: Vec<Entry>,
+    kept: Vec<Outcome>,
+    handed: Vec<Job>,
+    /// The graph of the project that the edits make.
+    graph: Graph,
+    /// Of each file of the project whether it is a unit that is done.
+    flags: Items<bool>,
+}
+
+impl Model for Board {
+    ghost use Rattle.occ_expression_forms.specs.contracts.tree.Builtin as builtins;
+    ghost use Rattle.occ_expression_forms.specs.contracts.tree.Dimension as dimensions;
+    ghost use Rattle.occ_expression_forms.specs.contracts.tree.Element as elements;
+    ghost use Rattle.occ_expression_forms.specs.contracts.tree.Expr as expressions;
+    ghost use Rattle.occ_expression_forms.specs.contracts.tree.TypeForm as type_forms;
+    ghost use Rattle.occ_types.specs.contracts.types.OccType as types;
+    ghost use Rattle.occ_board.specs.Machine.{State};
+    ghost use Rattle.std.specs.Coded.{codes};
+
+    ghost Value = { State };
+
+    ghost coded = { Prim.hlevel (codes, builtins.the_row.coded, dimensions.the_row.coded, elements.the_row.coded, expressions.the_row.coded, type_forms.the_row.coded, types.the_row.coded) };
+
+    ghost use Rattle.occ_board.specs.inside.Holding.{IsBoard};
+
+    ghost view = { λ b. record { journal = b.journal.items; kept = b.kept.items; handed = b.handed.items } };
+
+    ghost invariant = { λ b. IsBoard b.journal.items b.kept.items b.graph b.flags };
+}
+
+impl Board {
+    /// A board without files.
+    pub fn new(alloc: Global) -> Board
+        ensures { result ≡ start }
+    {
+        done_law();
+        Board {
+            journal: Vec::new(alloc),
+            kept: Vec::new(alloc),
+            handed: Vec::new(alloc),
+            graph: Graph::new(alloc),
+            flags: Items::new(alloc),
+        }
+    }
+
+    /// A session opens a file with this text. The answer is the number of the edit.
+    pub fn open(
+        &mut self,
+        alloc: Global,
+        session: u32,
+        name: FileName,
+        source: Shared<Source>,
+    ) -> Result<u32, EditFault>
+        ensures answered { IfOk result (λ number. Answer.Number number ≡ answer self.old (Event.Edited session (an_edit.Added name source))) }
+        ensures after { OnOk result (self.new ≡ after self.old (Event.Edited session (an_edit.Added name source))) }
+        ensures fault { IfErr result (λ f. (f ≡ fault.Memory) ⊎ (Answer.Refused f ≡ answer self.old (Event.Edited session (an_edit.Added name source)))) }
+        ensures refused { (f : AFault) → answer self.old (Event.Edited session (an_edit.Added name source)) ≡ Answer.Refused f → result ≡ Err f }
+        ensures err { OnErr result (self.new ≡ self.old) }
+    {
+        self.edit(alloc, session, Edit::Added(name, source))
+    }
+
+    /// A session gives an open file this text.
+    pub fn change(
+        &mut self,
+        alloc: Global,
+        session: u32,
+        name: FileName,
+        source: Shared<Source>,
+    ) -> Result<u32, EditFault>
+        ensures answered { IfOk result (λ number. Answer.Number number ≡ answer self.old (Event.Edited session (an_edit.Changed name source))) }
+        ensures after { OnOk result (self.new ≡ after self.old (Event.Edited session (an_edit.Changed name source))) }
+        ensures fault { IfErr result (λ f. (f ≡ fault.Memory) ⊎ (Answer.Refused f ≡ answer self.old (Event.Edited session (an_edit.Changed name source)))) }
+        ensures refused { (f : AFault) → answer self.old (Event.Edited session (an_edit.Changed name source)) ≡ Answer.Refused f → result ≡ Err f }
+        ensures err { OnErr result (self.new ≡ self.old) }
+    {
+        self.edit(alloc, session, Edit::Changed(name, source))
+    }
+
+    /// A session closes an open file.
+    pub fn remove(&mut self, alloc: Global, session: u32, name: FileName) -> Result<u32, EditFault>
+        ensures answered { IfOk result (λ number. Answer.Number number ≡ answer self.old (Event.Edited session (an_edit.Removed name))) }
+        ensures after { OnOk result (self.new ≡ after self.old (Event.Edited session (an_edit.Removed name))) }
+        ensures fault { IfErr result (λ f. (f ≡ fault.Memory) ⊎ (Answer.Refused f ≡ answer self.old (Event.Edited session (an_edit.Removed name)))) }
+        ensures refused { (f : AFault) → answer self.old (Event.Edited session (an_edit.Removed name)) ≡ Answer.Refused f → result ≡ Err f }
+        ensures err { OnErr result (self.new ≡ self.old) }
+    {
+        self.edit(alloc, session, Edit::Removed(name))
+    }
+
+    /// Why an edit is refused, the first that holds.
+    fn refusal(&self, edit: &Edit) -> Option<EditFault>
+        ensures { result ≡ why_refused self.now.journal edit.now }
+    {
+        refusal(self.graph.project(), self.journal.len(), edit)
+    }
+
+    fn edit(&mut self, alloc: Global, session: u32, edit: Edit) -> Result<u32, EditFault>
+        ensures answered { IfOk result (λ number. Answer.Number number ≡ answer self.old (Event.Edited session edit)) }
+        ensures after { OnOk result (self.new ≡ after self.old (Event.Edited session edit)) }
+        ensures fault { IfErr result (λ f. (f ≡ fault.Memory) ⊎ (Answer.Refused f ≡ answer self.old (Event.Edited session edit))) }
+        ensures refused { (f : AFault) → answer self.old (Event.Edited session edit) ≡ Answer.Refused f → result ≡ Err f }
+        ensures err { OnErr result (self.new ≡ self.old) }
+    {
+        if let Some(fault) = self.refusal(&edit) {
+            return Err(fault);
+        }
+        Ok(self.accept(alloc, session, edit)?)
+    }
+
+    /// Makes an edit that is not refused. All that takes memory comes before the first change.
+    fn accept(&mut self, alloc: Global, session: u32, edit: Edit) -> Result<u32, AllocError>
+        requires { why_refused self.old.journal edit ≡ None }
+        ensures number { IfOk result (λ number. number ≡ edit_number self.old) }
+        ensures after { OnOk result (self.new ≡ after self.old (Event.Edited session edit)) }
+        ensures err { OnErr result (self.new ≡ self.old) }
+    {
+        let number = self.journal.len() as u32 + 1;
+        let graph = self.graph.with(alloc, edit.name(), number, edit.shared()?)?;
+        let mut flags = no_flags(alloc, graph.project().files().len())?;
+        settle(&graph, self.kept.as_slice(), &mut flags);
+        self.journal.push(Entry { session, edit })?;
+        self.graph = graph;
+        self.flags = flags;
+        Ok(number)
+    }
+
+    /// Hands out the job of the least unit that is ready and whose present job is not handed out, if there is one.
+    pub fn take(&mut self, alloc: Global) -> Result<Option<Job>, AllocError>
+        ensures answered { IfOk result (λ job. Answer.Job job ≡ answer self.old Event.Take) }
+        ensures after { OnOk result (self.new ≡ after self.old Event.Take) }
+        ensures err { OnErr result (self.new ≡ self.old) }
+    {
+        let Some(unit) = self.next_unit() else {
+            return Ok(None);
+        };
+        let job = self.job(alloc, unit)?;
+        let same = self.job(alloc, unit)?;
+        self.handed.push(same)?;
+        Ok(Some(job))
+    }
+
+    /// The least unit that is ready and whose present job is not handed out.
+    fn next_unit(&self) -> Option<FileName>
+        ensures next { option_map (input (files_of self.now)) result ≡ take_answer self.now }
+        ensures job { IfSome result (λ unit. HasJob (files_of self.now) self.now.kept unit) }
+    {
+        next_unit(
+            &self.graph,
+            self.kept.as_slice(),
+            self.handed.as_slice(),
+            self.flags.as_slice(),
+        )
+    }
+
+    /// The job of an open unit that looks at what is so at present.
+    fn job(&self, alloc: Global, unit: FileName) -> Result<Job, AllocError>
+        requires { HasJob (files_of self.now) self.now.kept unit }
+        ensures { IfOk result (λ job. job ≡ input (files_of self.now) unit) }
+    {
+        job_now(alloc, &self.graph, self.kept.as_slice(), unit)
+    }
+
+    /// Judges an outcome, and keeps it if it is accepted. Its job is handed out no more. Where memory is refused, which
+    /// only an outcome wants that is accepted, nothing is changed and it comes back.
+    pub fn finish(&mut self, outcome: Outcome) -> Result<Verdict, (Outcome, AllocError)>
+        ensures answered { IfOk result (λ verdict. Answer.Judged verdict ≡ answer self.old (Event.Finish outcome)) }
+        ensures after { OnOk result (self.new ≡ after self.old (Event.Finish outcome)) }
+        ensures present { IfOk result (λ verdict. verdict ≡ verdicts.Accepted → outcome ≡ input (files_of self.old) outcome.unit) }
+        ensures fewer { IfOk result (λ verdict. verdict ≡ verdicts.Accepted → pending_answer self.new < pending_answer self.old) }
+        ensures err { IfErr result (λ refused. (refused.0 ≡ outcome) × ((self.new ≡ self.old) × (finish_answer self.old outcome ≡ verdicts.Accepted))) }
+    {
+        let verdict = self.judge(outcome.job());
+        match verdict {
+            Verdict::Accepted => self.accept_outcome(outcome)?,
+            _ => unhand(&mut self.handed, outcome.job()),
+        }
+        Ok(verdict)
+    }
+
+    /// Keeps an outcome that looked at what is so at present, and hands its job out no more. What was done stays so.
+    fn accept_outcome(&mut self, outcome: Outcome) -> Result<(), (Outcome, AllocError)>
+        requires { IsAcceptable (files_of self.old) self.old.kept outcome }
+        ensures ok { OnOk result (self.new ≡ record { journal = self.old.journal; kept = with_kept self.old.kept outcome; handed = unhanded self.old.handed outcome }) }
+        ensures fewer { OnOk result (pending_answer self.new < pending_answer self.old) }
+        ensures err { IfErr result (λ refused. (refused.0 ≡ outcome) × (self.new ≡ self.old)) }
+    {
+        done_law();
+        height_law();
+        let place = keep(&mut self.kept, outcome)?;
+        unhand(&mut self.handed, self.kept[place].job());
+        settle(&self.graph, self.kept.as_slice(), &mut self.flags);
+        Ok(())
+    }
+
+    /// What becomes of the outcome of a job.
+    fn judge(&self, job: &Job) -> Verdict
+        ensures value { result ≡ finish_answer self.now job.now }
+        ensures acceptable { result ≡ verdicts.Accepted → IsAcceptable (files_of self.now) self.now.kept job.now }
+    {
+        judge(
+            &self.graph,
+            self.journal.len(),
+            self.kept.as_slice(),
+            self.flags.as_slice(),
+            job,
+        )
+    }
+
+    /// A job is handed out no more, and nothing is kept.
+    pub fn abandon(&mut self, job: &Job)
+        ensures { self.new ≡ after self.old (Event.Abandon job.now) }
+    {
+        unhand(&mut self.handed, job);
+    }
+
+    /// Each open unit in order of name, with its diagnostics in order, or as pending.
+    pub fn report(&self, alloc: Global) -> Result<Items<Row>, AllocError>
+        ensures { IfOk result (λ rows. rows ≡ report_answer self.now) }
+    {
+        rows(
+            alloc,
+            &self.graph,
+            self.kept.as_slice(),
+            self.flags.as_slice(),
+        )
+    }
+
+    /// How many open units are pending.
+    pub fn pending(&self) -> usize
+        ensures { result ≡ pending_answer self.now }
+    {
+        count_pending(&self.graph, self.kept.as_slice(), self.flags.as_slice())
+    }
+
+    /// The edits that were accepted, in order. The first has number 1.
+    pub fn entries(&self) -> &[Entry]
+        ensures entries { result.now ≡ self.now.journal }
+        ensures legal { IsLegal self.now.journal }
+    {
+        self.journal.as_slice()
+    }
+}

@@ -1,0 +1,157 @@
+ghost use Rattle.occ_board.specs.Done.{done, done_step};
+ghost use Rattle.occ_board.specs.inside.Flagged.{AreFlags, IsFull, IsFullAt, IsSound, flag_of, rest_flag, unflagged};
+ghost use Rattle.occ_graph.specs.Graph.{rests};
+ghost use Rattle.occ_units.specs.Along.{name_at};
+ghost use Rattle.occ_units.specs.Places.{graph_of, rest_units};
+ghost use Rattle.occ_units.specs.Project.{IsProject};
+ghost use Rattle.std.specs.List.{list_all};
+ghost use Rattle.std.specs.Prelude.{◌≡◌, ◌<◌, IfOk, IsFalse, IsTrue, Some, false, get_or, length, replicate, slice_get, true};
+
+use super::laws::{done_law, height_law};
+use super::present::is_kept_now;
+use occ_base::{FileName, Items};
+use occ_check::Outcome;
+use occ_project::Read;
+use occ_units::Graph;
+use sqlite_items::at;
+use std::alloc::{AllocError, Global};
+
+/// So many flags, none of which is set.
+pub fn no_flags(alloc: Global, count: usize) -> Result<Items<bool>, AllocError>
+    ensures { IfOk result (λ flags. flags ≡ replicate count false) }
+{
+    let mut flags = Items::new(alloc);
+    for _ in 0..count {
+        flags.push(false)?;
+    }
+    Ok(flags)
+}
+
+/// Whether the flag at a place is set.
+pub fn is_flagged(flags: &[bool], place: usize) -> bool
+    ensures { result ≡ get_or flags.now place false }
+{
+    match flags.get(place) {
+        Some(flag) => *flag,
+        None => false,
+    }
+}
+
+/// Whether a unit has its flag.
+pub fn has_flag(graph: &Graph, flags: &[bool], unit: FileName) -> bool
+    ensures { result ≡ flag_of graph.now flags.now unit }
+{
+    match graph.project().place(unit) {
+        Some(place) => is_flagged(flags, place),
+        None => false,
+    }
+}
+
+/// Whether the file at a place is absent, or has its flag.
+fn is_rest_flagged(files: &[Read], flags: &[bool], place: usize) -> bool
+    ensures { result ≡ rest_flag files.now flags.now place }
+{
+    match at(files, place) {
+        Some(file) => file.source.is_none() || is_flagged(flags, place),
+        None => true,
+    }
+}
+
+/// Whether the files at these places are absent, or have their flags.
+fn are_flagged(files: &[Read], flags: &[bool], places: &[usize]) -> bool
+    ensures { result ≡ list_all (rest_flag files.now flags.now) places.now }
+{
+    for place in places {
+        if !is_rest_flagged(files, flags, *place) {
+            return false;
+        }
+    }
+    true
+}
+
+/// Whether all units that the one at a place rests on have their flags.
+pub fn are_rests_flagged(graph: &Graph, flags: &[bool], place: usize) -> bool
+    requires { place < length graph.now }
+    ensures { result ≡ list_all (flag_of graph.now flags.now) (rest_units graph.now (name_at graph.now place)) }
+{
+    are_flagged(graph.project().files(), flags, graph.rests(place))
+}
+
+/// Whether the file at a place is done, as far as the flags tell.
+fn is_file_done(graph: &Graph, kept: &[Outcome], flags: &[bool], place: usize, file: &Read) -> bool
+    requires project { IsProject graph.now }
+    requires file { slice_get graph.now place ≡ Some file.now }
+    requires sound { IsSound graph.now kept.now flags.now }
+    ensures { result ≡ done_step graph.now kept.now file.now.name (flag_of graph.now flags.now) }
+{
+    if file.source.is_none() {
+        return false;
+    }
+    if !are_rests_flagged(graph, flags, place) {
+        return false;
+    }
+    is_kept_now(graph, kept, file.name)
+}
+
+/// The same of a place.
+fn is_done_by(graph: &Graph, kept: &[Outcome], flags: &[bool], place: usize) -> bool
+    requires within { place < length graph.now }
+    requires sound { IsSound graph.now kept.now flags.now }
+    ensures value { result ≡ done_step graph.now kept.now (name_at graph.now place) (flag_of graph.now flags.now) }
+    ensures done { IsTrue result → done graph.now kept.now (name_at graph.now place) ≡ true }
+{
+    done_law();
+    match at(graph.project().files(), place) {
+        Some(file) => is_file_done(graph, kept, flags, place, file),
+        None => false,
+    }
+}
+
+/// Sets the flag of a unit that is done by the flags that are set, and tells whether it did.
+fn advance(graph: &Graph, kept: &[Outcome], flags: &mut Items<bool>, place: usize) -> bool
+    requires within { place < length graph.now }
+    requires len { length flags.old ≡ length graph.now }
+    requires sound { IsSound graph.now kept.now flags.old }
+    ensures len { length flags.new ≡ length graph.now }
+    ensures sound { IsSound graph.now kept.now flags.new }
+    ensures fewer { IsTrue result → unflagged flags.new < unflagged flags.old }
+    ensures same { IsFalse result → flags.new ≡ flags.old }
+    ensures full { IsFalse result → IsFullAt graph.now kept.now flags.new place }
+{
+    if is_flagged(flags.as_slice(), place) || !is_done_by(graph, kept, flags.as_slice(), place) {
+        return false;
+    }
+    flags.set(place, true);
+    true
+}
+
+/// Goes once through all units, and tells whether it set a flag.
+fn pass(graph: &Graph, kept: &[Outcome], flags: &mut Items<bool>) -> bool
+    requires len { length flags.old ≡ length graph.now }
+    requires sound { IsSound graph.now kept.now flags.old }
+    ensures len { length flags.new ≡ length graph.now }
+    ensures sound { IsSound graph.now kept.now flags.new }
+    ensures fewer { IsTrue result → unflagged flags.new < unflagged flags.old }
+    ensures full { IsFalse result → IsFull graph.now kept.now flags.new (length graph.now) }
+{
+    let mut advanced = false;
+    for place in 0..flags.len() {
+        if advance(graph, kept, flags, place) {
+            advanced = true;
+        }
+    }
+    advanced
+}
+
+/// Sets the flags of all units that are done. It takes no memory.
+pub fn settle(graph: &Graph, kept: &[Outcome], flags: &mut Items<bool>)
+    requires len { length flags.old ≡ length graph.now }
+    requires sound { IsSound graph.now kept.now flags.old }
+    ensures len { length flags.new ≡ length graph.now }
+    ensures flags { AreFlags graph.now kept.now flags.new }
+{
+    let _files = graph.project().files();
+    done_law();
+    height_law();
+    while pass(graph, kept, flags) {}
+}

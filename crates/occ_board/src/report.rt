@@ -1,0 +1,165 @@
+ghost use Rattle.occ_board.specs.Done.{done as is_done, pending_units};
+ghost use Rattle.occ_board.specs.Machine.{row_of, rows_of};
+ghost use Rattle.occ_board.specs.declared.report.Shown.TheVariants as variants;
+ghost use Rattle.occ_board.specs.inside.Flagged.{AreFlags};
+ghost use Rattle.occ_report.specs.Checks.{diags as the_diags};
+ghost use Rattle.occ_report.specs.Report.{is_open_unit};
+ghost use Rattle.std.specs.Prelude.{◌≡◌, ◌<◌, ◌+◌, ◌^◌, ◌&&◌, ◌∷◌, ◌++◌, [], IfOk, OnOk, cond, length, not, true};
+
+use super::flags::is_flagged;
+use super::laws::kept_law;
+use super::present::kept_of;
+use occ_base::{Diag, FileName, Items};
+use occ_check::Outcome;
+use occ_project::Read;
+use occ_report::laws::input_law;
+use occ_units::Graph;
+use std::alloc::{AllocError, Global};
+
+/// What a report shows of a unit.
+#[derive(Drop)]
+pub enum Shown {
+    /// Its check is still to come.
+    Pending,
+    /// Its diagnostics, in their order, each once.
+    Done(Items<Diag>),
+}
+
+/// A unit in a report.
+#[derive(Drop)]
+pub struct Row {
+    pub unit: FileName,
+    pub shown: Shown,
+}
+
+/// The same diagnostic.
+fn copied(alloc: Global, diag: &Diag) -> Result<Diag, AllocError>
+    ensures { IfOk result (λ copy. copy ≡ diag.now) }
+{
+    let name = match &diag.name {
+        Some(name) => Some(name.copied(alloc)?),
+        None => None,
+    };
+    Ok(Diag {
+        file: diag.file,
+        line: diag.line,
+        code: diag.code,
+        grade: diag.grade,
+        name,
+    })
+}
+
+/// The same diagnostics.
+fn all_copied(alloc: Global, diags: &[Diag]) -> Result<Items<Diag>, AllocError>
+    ensures { IfOk result (λ copies. copies ≡ diags.now) }
+{
+    let mut found = Items::new(alloc);
+    for diag in diags {
+        found.push(copied(alloc, diag)?)?;
+    }
+    Ok(found)
+}
+
+/// The diagnostics of a unit that is done.
+fn diags_of(
+    alloc: Global,
+    graph: &Graph,
+    kept: &[Outcome],
+    unit: FileName,
+) -> Result<Items<Diag>, AllocError>
+    requires { is_done graph.now kept.now unit ≡ true }
+    ensures { IfOk result (λ diags. diags ≡ the_diags graph.now unit) }
+{
+    let _files = graph.project().files();
+    kept_law();
+    input_law();
+    match kept_of(kept, unit) {
+        Some(outcome) => all_copied(alloc, outcome.diags()),
+        None => unreachable!(),
+    }
+}
+
+/// What is shown of a unit, if it is done, or if it is not.
+fn show(
+    alloc: Global,
+    graph: &Graph,
+    kept: &[Outcome],
+    done: bool,
+    unit: FileName,
+) -> Result<Shown, AllocError>
+    requires { done ≡ is_done graph.now kept.now unit }
+    ensures { IfOk result (λ shown. shown ≡ (row_of graph.now kept.now unit).shown) }
+{
+    if done {
+        Ok(Shown::Done(diags_of(alloc, graph, kept, unit)?))
+    } else {
+        Ok(Shown::Pending)
+    }
+}
+
+/// Adds the row of a file, if it is an open unit.
+fn add_row(
+    alloc: Global,
+    graph: &Graph,
+    kept: &[Outcome],
+    done: bool,
+    file: &Read,
+    rows: &mut Items<Row>,
+) -> Result<(), AllocError>
+    requires { done ≡ is_done graph.now kept.now file.now.name }
+    ensures { OnOk result (rows.new ≡ rows.old ++ cond (is_open_unit file.now) (row_of graph.now kept.now file.now.name ∷ []) []) }
+{
+    if file.name.is_unit() && file.source.is_some() {
+        rows.push(Row {
+            unit: file.name,
+            shown: show(alloc, graph, kept, done, file.name)?,
+        })?;
+    }
+    Ok(())
+}
+
+/// The row of each open unit, in order of name.
+pub fn rows(
+    alloc: Global,
+    graph: &Graph,
+    kept: &[Outcome],
+    flags: &[bool],
+) -> Result<Items<Row>, AllocError>
+    requires { AreFlags graph.now kept.now flags.now }
+    ensures { IfOk result (λ rows. rows ≡ rows_of graph.now kept.now) }
+{
+    let mut rows = Items::new(alloc);
+    for (place, file) in graph.project().files().iter().enumerate() {
+        let done = is_flagged(flags, place);
+        add_row(alloc, graph, kept, done, file, &mut rows)?;
+    }
+    Ok(rows)
+}
+
+/// Whether a file is an open unit that is not done.
+pub fn is_pending(file: &Read, done: bool) -> bool
+    ensures { result ≡ (is_open_unit file.now && not done) }
+{
+    file.name.is_unit() && file.source.is_some() && !done
+}
+
+/// One more, if it is counted.
+fn counted(count: usize, is_one: bool) -> usize
+    requires { count < 2 ^ 62 }
+    ensures { result ≡ cond is_one (count + 1) count }
+{
+    if is_one { count + 1 } else { count }
+}
+
+/// How many open units are not done.
+pub fn count_pending(graph: &Graph, kept: &[Outcome], flags: &[bool]) -> usize
+    requires { AreFlags graph.now kept.now flags.now }
+    ensures { result ≡ length (pending_units graph.now kept.now) }
+{
+    let mut count = 0;
+    for (place, file) in graph.project().files().iter().enumerate() {
+        let done = is_flagged(flags, place);
+        count = counted(count, is_pending(file, done));
+    }
+    count
+}

@@ -1,0 +1,146 @@
+ghost use Rattle.occ_board.specs.Done.{done, is_input_among};
+ghost use Rattle.occ_board.specs.Machine.{next_input};
+ghost use Rattle.occ_board.specs.inside.Flagged.{AreFlags};
+ghost use Rattle.occ_board.specs.inside.Ready.{AreRested, HasJob, is_next as is_next_file, is_rested};
+ghost use Rattle.occ_report.specs.Checks.{checked, input, used_as as as_used, used_unit};
+ghost use Rattle.occ_units.specs.Places.{is_below, standing_of};
+ghost use Rattle.occ_units.specs.Project.{IsProject};
+ghost use Rattle.std.specs.Option.{option_copied, option_map};
+ghost use Rattle.std.specs.Prelude.{◌≡◌, IfOk, IfSome, Some, map, slice_get, true};
+
+use super::flags::{are_rests_flagged, is_flagged};
+use super::laws::kept_law;
+use super::present::{is_present, shown_of};
+use super::report::is_pending;
+use occ_base::{FileName, Items, Shared};
+use occ_check::{Job, JobFault, Outcome, Used, UsedUnit};
+use occ_project::Read;
+use occ_report::laws::{input_law, job_law};
+use occ_types::Interface;
+use occ_units::{Graph, Standing};
+use std::alloc::{AllocError, Global};
+
+/// How a unit is used that stands so, where this is what it shows.
+fn used_as(standing: Standing, shown: Option<&Shared<Interface>>) -> Result<Used, AllocError>
+    ensures { IfOk result (λ used. used ≡ as_used standing (option_copied shown.entry)) }
+{
+    match (standing, shown) {
+        (Standing::Absent, _) => Ok(Used::Absent),
+        (Standing::Circular, _) => Ok(Used::Circular),
+        (Standing::Below, None) => Ok(Used::Faulty),
+        (Standing::Below, Some(shown)) => Ok(Used::Clean(shown.share()?)),
+    }
+}
+
+/// A used unit as it stands at present to its user. If the user rests on it, it is done.
+fn unit_now(
+    graph: &Graph,
+    kept: &[Outcome],
+    user: FileName,
+    unit: FileName,
+) -> Result<UsedUnit, AllocError>
+    requires done { is_below (standing_of graph.now user unit) ≡ true → done graph.now kept.now unit ≡ true }
+    ensures { IfOk result (λ one. one ≡ used_unit graph.now user (checked graph.now) unit) }
+{
+    let _files = graph.project().files();
+    kept_law();
+    input_law();
+    let used = used_as(graph.standing(user, unit), shown_of(kept, unit))?;
+    Ok(UsedUnit { unit, used })
+}
+
+/// Units that a unit uses, as they stand at present.
+fn units_now(
+    alloc: Global,
+    graph: &Graph,
+    kept: &[Outcome],
+    user: FileName,
+    units: &[FileName],
+) -> Result<Items<UsedUnit>, AllocError>
+    requires rested { AreRested graph.now kept.now user units.now }
+    ensures { IfOk result (λ used. used ≡ map (used_unit graph.now user (checked graph.now)) units.now) }
+{
+    let mut used = Items::new(alloc);
+    for unit in units {
+        used.push(unit_now(graph, kept, user, *unit)?)?;
+    }
+    Ok(used)
+}
+
+/// The job of an open unit that looks at what is so at present.
+pub fn job_now(
+    alloc: Global,
+    graph: &Graph,
+    kept: &[Outcome],
+    unit: FileName,
+) -> Result<Job, AllocError>
+    requires { HasJob graph.now kept.now unit }
+    ensures { IfOk result (λ job. job ≡ input graph.now unit) }
+{
+    let reads = graph.project().reads(alloc, graph.reads(&unit))?;
+    let used = units_now(alloc, graph, kept, unit, graph.uses(unit))?;
+    job_law();
+    match Job::new(alloc, unit, reads, used) {
+        Ok(job) => Ok(job),
+        Err(JobFault::Memory) => Err(AllocError),
+        Err(JobFault::Reads) => unreachable!(),
+        Err(JobFault::Used) => unreachable!(),
+    }
+}
+
+/// Whether one of these jobs looks at what is so of a unit at present. All that the unit rests on is done.
+fn is_handed(graph: &Graph, kept: &[Outcome], handed: &[Job], unit: FileName) -> bool
+    requires { is_rested graph.now kept.now unit ≡ true }
+    ensures { result ≡ is_input_among handed.now (input graph.now unit) }
+{
+    for job in handed {
+        if is_present(graph, kept, unit, job) {
+            return true;
+        }
+    }
+    false
+}
+
+/// Whether the file at a place is a unit that is ready and whose present job is not handed out.
+fn is_next(
+    graph: &Graph,
+    kept: &[Outcome],
+    handed: &[Job],
+    flags: &[bool],
+    place: usize,
+    file: &Read,
+) -> bool
+    requires flags { AreFlags graph.now kept.now flags.now }
+    requires project { IsProject graph.now }
+    requires file { slice_get graph.now place ≡ Some file.now }
+    ensures { result ≡ is_next_file graph.now kept.now handed.now file.now }
+{
+    let done = is_flagged(flags, place);
+    if !is_pending(file, done) {
+        return false;
+    }
+    if !are_rests_flagged(graph, flags, place) {
+        return false;
+    }
+    !is_handed(graph, kept, handed, file.name)
+}
+
+/// The least unit that is ready and whose present job is not handed out.
+pub fn next_unit(
+    graph: &Graph,
+    kept: &[Outcome],
+    handed: &[Job],
+    flags: &[bool],
+) -> Option<FileName>
+    requires { AreFlags graph.now kept.now flags.now }
+    ensures next { option_map (input graph.now) result ≡ next_input graph.now kept.now handed.now }
+    ensures job { IfSome result (λ unit. HasJob graph.now kept.now unit) }
+{
+    let files = graph.project().files();
+    for (place, file) in files.iter().enumerate() {
+        if is_next(graph, kept, handed, flags, place, file) {
+            return Some(file.name);
+        }
+    }
+    None
+}
