@@ -1,5 +1,5 @@
 -- A job that is taken and finished at once is accepted.
-use Rattle.std.proofs.Common.{◌≡◌, ◌∙◌, ◌&&◌, ◌||◌, ◌<◌, Bool, true, false, not, cond, ℕ, suc, zero, List, [], ◌∷◌, length, map, Option, Some, None, refl, sym, ap, subst, nat_eq, if◌then◌else◌}
+use Rattle.std.proofs.Common.{◌≡◌, ◌∙◌, ◌&&◌, ◌||◌, ◌<◌, Bool, true, false, not, cond, ℕ, suc, List, [], ◌∷◌, length, map, Option, Some, None, refl, sym, ap, subst, if◌then◌else◌}
 use Rattle.std.proofs.lemmas.Bool.{eq-eqb}
 use Rattle.std.specs.List.{filter, find, list_all, slice_get}
 use Rattle.std.specs.Option.{option_map}
@@ -10,8 +10,7 @@ use Rattle.occ_board.proofs.Settled.{is_step}
 use Rattle.occ_board.proofs.Trees.{used_are_one}
 use Rattle.occ_board.proofs.Truths.{left_true, not_both, right_true}
 use Rattle.occ_board.specs.Done.{done, done_step, is_input_among, is_kept, pending_units}
-use Rattle.occ_board.specs.Journal.{is_open}
-use Rattle.occ_board.specs.Machine.{Event, State, after, files_of, finish_answer, kept_after, next_input, pending_answer, take_answer}
+use Rattle.occ_board.specs.Machine.{kept_after, next_input}
 use Rattle.occ_board.specs.Same.{same_used}
 use Rattle.occ_board.specs.Verdicts.{is_as_read, is_off, off_read, or_else, reads_verdict, same_text, verdict_of}
 use Rattle.occ_board.specs.declared.verdict.Verdict.{Verdict}

@@ -1,6 +1,6 @@
 -- The test for trees of numbers tells whether two are one.
-use base.Stored.{Coded, Gv, gnil, gnum, gcons}
-use Rattle.std.proofs.Common.{◌≡◌, ◌↔◌, ◌∙◌, ◌==◌, ◌&&◌, Bool, true, false, refl, sym, ap}
+use base.Stored.{Gv, gnil, gnum, gcons}
+use Rattle.std.proofs.Common.{◌≡◌, ◌↔◌, ◌∙◌, ◌&&◌, Bool, true, false, refl, sym, ap}
 use Rattle.std.proofs.lemmas.Bool.Decides.{Decides-eqb}
 use Rattle.occ_board.specs.Same.{coded_input, coded_used, same_input, same_tree, same_used}
 use Rattle.occ_check.specs.Input.{Input}

@@ -1,5 +1,5 @@
 -- Which units are done: those whose present input is kept, and that rest on units that are done.
-use Rattle.std.specs.Prelude.{ℕ, Bool, false, ◌&&◌, not, List, [], ◌∷◌, if◌then◌else◌, Option, Some, None}
+use Rattle.std.specs.Prelude.{ℕ, Bool, false, ◌&&◌, not, List, Option, Some, None}
 use Rattle.std.specs.List.{filter, find, list_all, list_any}
 use Rattle.std.specs.Str.{bytes_eq}
 use Rattle.occ_board.specs.Journal.{is_open}

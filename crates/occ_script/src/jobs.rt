@@ -18,11 +18,7 @@ pub fn checked(alloc: Global, job: Job) -> Result<Outcome, AllocError>
 }
 
 /// The answer that tells what became of an outcome of the unit.
-pub fn verdict_line(
-    alloc: Global,
-    unit: FileName,
-    verdict: Verdict,
-) -> Result<Vec<u8>, AllocError>
+pub fn verdict_line(alloc: Global, unit: FileName, verdict: Verdict) -> Result<Vec<u8>, AllocError>
     ensures { IfOk result (λ bytes. bytes.items ≡ verdict_text unit verdict) }
 {
     match verdict {

@@ -1,5 +1,5 @@
 -- Flags of the files of a project, at their places: set where a unit is known to be done.
-use Rattle.std.specs.Prelude.{◌≡◌, ◌<◌, ◌+◌, ◌||◌, ℕ, Bool, true, false, cond, not, List, [], ◌∷◌, get_or, length, Option, Some, None, slice_get}
+use Rattle.std.specs.Prelude.{◌≡◌, ◌<◌, ◌+◌, ◌||◌, ℕ, Bool, true, false, cond, not, List, [], ◌∷◌, get_or, Option, Some, None, slice_get}
 use Rattle.std.specs.Option.{is_some}
 use Rattle.occ_board.specs.Done.{done, done_step}
 use Rattle.occ_check.specs.Input.{Input}

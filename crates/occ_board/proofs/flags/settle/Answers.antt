@@ -1,4 +1,4 @@
-use Rattle.std.proofs.Common.{ap, subst, refl, rules, ◌≡◌, false}
+use Rattle.std.proofs.Common.{subst, rules}
 use Rattle.occ_board.proofs.Settled.{are_flags}
 use Rattle.occ_board.proofs.flags.settle.Goals as goal
 use Rattle.occ_units.specs.Project.{IsProject}

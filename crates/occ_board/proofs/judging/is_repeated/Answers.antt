@@ -1,4 +1,4 @@
-use Rattle.std.proofs.Common.{sym, ap, ◌∙◌, ◌≡◌, ◌↔◌, true, subst}
+use Rattle.std.proofs.Common.{◌≡◌, ◌↔◌, true, subst}
 use Rattle.occ_board.proofs.Stands.{kept_that}
 use Rattle.occ_board.proofs.judging.is_repeated.Goals as goal
 use Rattle.occ_check.specs.Input.{Input}

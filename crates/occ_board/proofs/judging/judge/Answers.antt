@@ -1,4 +1,4 @@
-use Rattle.std.proofs.Common.{refl, ap, sym, ◌∙◌, ◌≡◌, List, Some}
+use Rattle.std.proofs.Common.{refl}
 use Rattle.occ_board.proofs.Judged.{all_now, never_accepted}
 use Rattle.occ_board.proofs.judging.judge.Goals as goal
 

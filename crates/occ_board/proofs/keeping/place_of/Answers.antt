@@ -1,4 +1,4 @@
-use Rattle.std.proofs.Common.{rules, sym}
+use Rattle.std.proofs.Common.{sym}
 use Rattle.occ_board.proofs.Keeps.{first_there, none_more}
 use Rattle.occ_board.proofs.keeping.place_of.Goals as goal
 

@@ -1,4 +1,4 @@
-use Rattle.std.proofs.Common.{sym, ap, ◌∙◌, ◌≡◌, true, false, rules}
+use Rattle.std.proofs.Common.{sym, ap, ◌∙◌, ◌≡◌, false}
 use Rattle.occ_board.proofs.Places.{file_named}
 use Rattle.occ_board.proofs.Truths.{differ, not_both}
 use Rattle.occ_board.proofs.present.is_read_of.Goals as goal

@@ -1,4 +1,4 @@
-use Rattle.std.proofs.Common.{arith, ap, sym, subst, ◌∙◌, ◌≡◌, ◌≤◌, length, List, None, Option, Some}
+use Rattle.std.proofs.Common.{arith, ap, sym, subst, ◌∙◌, ◌≤◌, length, Option}
 use Rattle.std.specs.Option.{option_map}
 use Rattle.occ_board.proofs.Nexts.{first_found, first_none, first_passed, job_there, next_is}
 use Rattle.occ_board.proofs.taking.next_unit.Goals as goal

@@ -1,4 +1,4 @@
-use Rattle.std.proofs.Common.{arith, ap, sym, subst, ◌∙◌, ◌≡◌, ◌+◌, length, List}
+use Rattle.std.proofs.Common.{arith, ap, subst, ◌∙◌, ◌≡◌, ◌+◌, length, List}
 use Rattle.occ_board.proofs.Begun.{accepts}
 use Rattle.occ_board.proofs.board.Board.accept.Goals as goal
 use Rattle.occ_board.specs.Journal.{refusal}

@@ -1,4 +1,4 @@
-use Rattle.std.proofs.Common.{◌∙◌, ◌≡◌}
+use Rattle.std.proofs.Common.{◌∙◌}
 use Rattle.std.proofs.lemmas.Option.{get_or_from_slice_get}
 use Rattle.occ_board.proofs.Adopted.{adopted, fewer_left, sound_still}
 use Rattle.occ_board.proofs.board.Board.accept_outcome.Goals as goal

@@ -18,7 +18,7 @@ returns-then-is_some-clause-after c = λ read. always _ _ (busy_after c.args.wor
 pub returns-in_default-clause-answered : goal.returns-in_default-clause-answered
 returns-in_default-clause-answered c = λ read.
     subst (λ (t : List ℕ). IfOk c.line-in_default.result (λ bytes. bytes.items ≡ t))
-        (sym (free_text c.args.worker c.args.self.now.held (take_answer c.args.self.now.board) None (c.if-is_some.ensures ∙ ap is_some c.place_of.ensures) (job_is _ _ c.in_ok-job.ensures.answered ∙ c.in_default.is))) c.line-in_default.ensures
+    (sym (free_text c.args.worker c.args.self.now.held (take_answer c.args.self.now.board) None (c.if-is_some.ensures ∙ ap is_some c.place_of.ensures) (job_is _ _ c.in_ok-job.ensures.answered ∙ c.in_default.is))) c.line-in_default.ensures
 
 pub returns-clause-answered : goal.returns-clause-answered
 returns-clause-answered c = λ read.
