@@ -3,6 +3,8 @@
 #![tactic(auto)]
 
 #[cfg(test)]
+mod board;
+#[cfg(test)]
 mod check;
 #[cfg(test)]
 mod expansion;
