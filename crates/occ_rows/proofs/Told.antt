@@ -2,7 +2,7 @@
 use Rattle.std.proofs.Common.{◌≡◌, ◌≤◌, ℕ, List, [], Some, ap, sym, subst, ◌∙◌, arith}
 use Rattle.occ_script.specs.Machine.{Reading}
 use Rattle.occ_script.specs.Output.{IsTold, output, status_of}
-use Rattle.occ_script.specs.Script.{Script}
+use Rattle.occ_commands.specs.Script.{Script}
 use Rattle.occ_script.specs.Status.{exit_code}
 use Rattle.occ_script.specs.declared.status.Status.{Status}
 use Rattle.occ_script.specs.declared.status.Status.TheVariants as status

@@ -2,7 +2,7 @@
 use Rattle.std.specs.Prelude.{◌≡◌, ◌≤◌}
 use Rattle.occ_script.specs.Machine.{IsReading, Reading}
 use Rattle.occ_script.specs.Output.{output, status_of}
-use Rattle.occ_script.specs.Script.{script_of}
+use Rattle.occ_commands.specs.Script.{script_of}
 use Rattle.occ_script.specs.Status.{exit_code}
 use Rattle.occ_rows.specs.declared.row.Row.{Row}
 

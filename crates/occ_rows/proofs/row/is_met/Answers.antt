@@ -1,7 +1,7 @@
 use Rattle.std.proofs.Common.{◌∙◌, ap, sym, Some, List, ℕ}
 use Rattle.std.proofs.lemmas.Bool.{eqb-true}
 use Rattle.std.proofs.lemmas.Slice.Eq.{bytes_eq-Decides}
-use Rattle.occ_script.specs.Script.{script_of}
+use Rattle.occ_commands.specs.Script.{script_of}
 use Rattle.occ_rows.proofs.Told.{met}
 use Rattle.occ_rows.proofs.row.is_met.Goals.{then-code-row, else-code-row}
 use Rattle.occ_rows.proofs.row.is_met.Goals as goal
