@@ -170,9 +170,9 @@ segment_tree s el b es =
 abbrev pub item_of_one : Said → Draft → Draft
 item_of_one x a = d.Table (item_draft x.term a ∷ [])
 
-abbrev pub converted_element : Scope → OccType → Option ExprView → Draft → Draft
+abbrev pub converted_element : Scope → Option OccType → Option ExprView → Draft → Draft
 converted_element s to None as_element = as_element
-converted_element s to (Some e) as_element = conversion_draft (Some to) (judged (table (e.said s ∷ [])).term) (item_of_one (e.said s) (e.draft s))
+converted_element s to (Some e) as_element = conversion_draft to (judged (table (e.said s ∷ [])).term) (item_of_one (e.said s) (e.draft s))
 
 abbrev pub whole_draft_of : Scope → List ExprView → Option Meaning → Draft → Draft
 whole_draft_of s es (Some (meaning.Type to)) as_element = converted_element s to (only es) as_element
@@ -223,9 +223,9 @@ item_drafts s [] = []
 item_drafts s (e ∷ es) = item_draft (e.said s).term (e.draft s) ∷ item_drafts s es
 
 -- `n (e, ..)`: calls of functions are not typed yet
-abbrev pub converted_call : Scope → OccType → Option ExprView → Draft
+abbrev pub converted_call : Scope → Option OccType → Option ExprView → Draft
 converted_call s to None = d.Faulty
-converted_call s to (Some e) = conversion_draft (Some to) (judged (e.said s).term) (e.draft s)
+converted_call s to (Some e) = conversion_draft to (judged (e.said s).term) (e.draft s)
 
 abbrev pub call_draft_of : Scope → List ExprView → Option Meaning → Draft
 call_draft_of s es (Some (meaning.Type to)) = converted_call s to (only es)

@@ -16,7 +16,8 @@ use super::drafting::{decorated_draft, item_draft};
 use super::literals::{decorated_literal, literal, truth};
 use super::operation::{applied, converted, extreme_of, operation_of, pair, plain, run_operator};
 use super::parts::{
-    converted_table, digits_of, name_alone, named, only, segment_of, table_as, tell_call,
+    converted_table, digits_of, name_alone, named, only, segment_of, shared_type, table_as,
+    tell_call,
 };
 use super::reading::{Reading, Readings, faulty_reading, literal_reading};
 use super::selecting::{
@@ -379,7 +380,7 @@ fn call(
         return Ok(faulty_reading());
     };
     let read = expression(alloc, expr, scope, faults)?;
-    converted(alloc, read, Some(to.share()?), faults)
+    converted(alloc, read, shared_type(to)?, faults)
 }
 
 /// What is read of an element.
@@ -460,7 +461,7 @@ fn whole_named_element(
         return element_reading(alloc, read);
     };
     let item = table_item(alloc, expr, scope, faults)?;
-    converted_table(alloc, item, to.share()?, faults)
+    converted_table(alloc, item, shared_type(to)?, faults)
 }
 
 /// A name with subscripts.

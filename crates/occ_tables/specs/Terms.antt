@@ -6,7 +6,7 @@ use Rattle.occ_base.specs.declared.code.Code.TheVariants as code
 use Rattle.occ_types.specs.Fits.{is_data}
 use Rattle.occ_types.specs.View.{as_array}
 use Rattle.occ_types.specs.declared.types.OccType.{OccType}
-use Rattle.occ_operands.specs.Operators.{all_faults, is_faulty, kinds}
+use Rattle.occ_operands.specs.Operators.{all_faults, is_faulty, kinds, needs_faulty}
 use Rattle.occ_operands.specs.Settling.{Told, fault_of, int, known, settled, silent}
 use Rattle.occ_base.specs.Telling.{nameless}
 use Rattle.occ_operands.specs.Wanting.{fitted, wanted}
@@ -177,7 +177,7 @@ table_beside xs other_has_fault = if other_has_fault then as_it_is (table_alone 
 
 abbrev pub term_step : Term-F Judged → Judged
 term_step (Term-F.Single k) =
-    record { is_free = is_free_kind k; is_faulty = is_faulty k; alone = settled int k; settled = λ of. settled_itself (settled of k); under = λ of. wanted of k; beside = λ other_has_fault. as_it_is k }
+    record { is_free = is_free_kind k; is_faulty = needs_faulty k; alone = settled int k; settled = λ of. settled_itself (settled of k); under = λ of. wanted of k; beside = λ other_has_fault. as_it_is k }
 term_step (Term-F.Table xs) =
     record { is_free = false; is_faulty = list_any has_fault xs; alone = table_alone xs; settled = table_settled xs; under = table_under xs; beside = table_beside xs }
 

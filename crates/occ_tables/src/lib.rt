@@ -21,5 +21,5 @@ pub use measure::{Limit, most, sized};
 pub use merge::merged;
 pub use placing::{any_has_fault, has_fault, is_no_item, item};
 pub use selection::{BoundTerms, segment};
-pub use table::{alone, table_type, under};
+pub use table::{alone, each_alone, table_type, under};
 pub use term::Term;

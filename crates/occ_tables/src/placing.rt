@@ -6,7 +6,7 @@ ghost use Rattle.occ_tables.specs.Terms.{has_fault as fault_in, is_no_data as no
 
 use super::term::Term;
 use occ_base::{Code, Fault, Items, tell};
-use occ_operands::{Kind, is_faulty};
+use occ_operands::{Kind, needs_faulty};
 use occ_types::is_data;
 use std::alloc::AllocError;
 
@@ -48,7 +48,7 @@ pub fn has_fault(term: &Term) -> bool
     ensures { result ≡ fault_in (judged term.now) }
 {
     match term {
-        Term::Single(kind) => is_faulty(kind),
+        Term::Single(kind) => needs_faulty(kind),
         Term::Table(items) => any_has_fault(items.as_slice()),
     }
 }

@@ -37,7 +37,7 @@ is_process_body (body.Fault code) = false
 -- a line whose parent says this of it
 unfoldable pub is_process : Parent → ExpandedBody → Bool
 is_process parent.Process b = is_process_body b
-is_process (parent.Function types) b = is_process_body b
+is_process (parent.Function wanted) b = is_process_body b
 is_process parent.Conditional b = false
 is_process (parent.Selection c) b = false
 is_process parent.Record b = false

@@ -48,7 +48,7 @@ unfoldable pub judged : List Import → Scope → ExpandedBody → Forest → Pa
 judged is s b under parent.Process = line is s b under parent.Process
 judged is s b under parent.Conditional = line is s b under parent.Conditional
 judged is s b under (parent.Selection c) = line is s b under (parent.Selection c)
-judged is s b under (parent.Function types) = line is s b under (parent.Function types)
+judged is s b under (parent.Function wanted) = line is s b under (parent.Function wanted)
 judged is s b under parent.Record = over [] parent.Record [] t.Member parent.Record
 
 -- what stands in scope behind a line: a specification adds to the item, a main line ends it

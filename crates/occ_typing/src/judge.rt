@@ -158,14 +158,14 @@ pub fn judged(
                 faults,
             )
         }
-        Parent::Function(types) => {
+        Parent::Function(wanted) => {
             line(
                 alloc,
                 imports,
                 body,
                 nodes,
                 scope,
-                Parent::Function(types),
+                Parent::Function(wanted),
                 found,
                 faults,
             )

@@ -1,8 +1,8 @@
 use super::tree::TypedForm;
-use occ_base::{Items, Shared};
+use occ_base::Items;
 use occ_names::Entry;
 use occ_operands::Kind;
-use occ_types::OccType;
+use occ_typed_heads::Expected;
 use std::collections::BTreeSet;
 
 /// What is known of a `CASE` behind some of its options.
@@ -25,8 +25,8 @@ pub enum Parent {
     Conditional,
     /// The options of a `CASE`.
     Selection(Choosing),
-    /// The body of a FUNCTION with results of these types; they are not known where its head has a fault or needs what has one.
-    Function(Option<Items<Shared<OccType>>>),
+    /// The body of a FUNCTION, with the results that its head lets expect.
+    Function(Expected),
     /// The lines of a record, which are told with its head.
     Record,
 }

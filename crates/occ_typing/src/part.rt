@@ -11,8 +11,8 @@ use occ_expression_forms::Expr;
 use occ_forms::Part;
 use occ_names::Scope;
 use occ_typed::TypedExpr;
-use occ_typed_statements::{condition, options, results, values};
-use occ_types::OccType;
+use occ_typed_heads::Expected;
+use occ_typed_statements::{condition, hidden_results, options, results};
 use std::alloc::{AllocError, Global};
 
 /// A line of options.
@@ -67,26 +67,26 @@ fn else_option(
     Ok(main(alloc, TypedForm::Otherwise, Parent::Selection(choosing)))
 }
 
-/// The results of a FUNCTION, with which nothing is compared where its head has a fault: whether one of them has a fault,
-/// and their trees.
+/// The results of a FUNCTION, with which no types are compared where its head has a fault: whether one of them has a
+/// fault, and their trees.
 pub fn results_of(
     alloc: Global,
     first: &Expr,
     more: &[Expr],
-    types: &Option<Items<Shared<OccType>>>,
+    expected: &Expected,
     scope: &Scope,
     faults: &mut Items<Fault>,
 ) -> Result<(bool, Option<Items<Shared<TypedExpr>>>), AllocError>
     ensures faulty { IfOk result (λ r. r.0 ≡ is_any_faulty scope.now (first.now ∷ more.now)) }
-    ensures trees { IfOk result (λ r. r.1 ≡ told_results_in scope.now types.now (first.now ∷ more.now)) }
-    ensures faults { OnOk result (faults.new ≡ faults.old ++ told_results scope.now types.now (first.now ∷ more.now)) }
+    ensures trees { IfOk result (λ r. r.1 ≡ told_results_in scope.now expected.now (first.now ∷ more.now)) }
+    ensures faults { OnOk result (faults.new ≡ faults.old ++ told_results scope.now expected.now (first.now ∷ more.now)) }
 {
-    match types {
-        None => {
-            let faulty = values(alloc, first, more, scope, faults)?;
+    match expected {
+        Expected::Count(count) => {
+            let faulty = hidden_results(alloc, first, more, *count, scope, faults)?;
             Ok((faulty, None))
         }
-        Some(types) => results(alloc, first, more, types.as_slice(), scope, faults),
+        Expected::Types(types) => results(alloc, first, more, types.as_slice(), scope, faults),
     }
 }
 
@@ -112,9 +112,9 @@ pub fn expressions(
             tell(faults, Code::S1)?;
             Ok(main(alloc, TypedForm::Unknown, Parent::Process))
         }
-        Parent::Function(types) => {
+        Parent::Function(wanted) => {
             tell(faults, Code::S1)?;
-            Ok(main(alloc, TypedForm::Unknown, Parent::Function(types)))
+            Ok(main(alloc, TypedForm::Unknown, Parent::Function(wanted)))
         }
         Parent::Record => {
             tell(faults, Code::S1)?;
@@ -132,7 +132,7 @@ fn otherwise(alloc: Global, parent: Parent, faults: &mut Items<Fault>) -> Result
         Parent::Selection(choosing) => else_option(alloc, choosing, faults),
         Parent::Process => Ok(main(alloc, TypedForm::Otherwise, Parent::Process)),
         Parent::Conditional => Ok(main(alloc, TypedForm::Otherwise, Parent::Conditional)),
-        Parent::Function(types) => Ok(main(alloc, TypedForm::Otherwise, Parent::Function(types))),
+        Parent::Function(wanted) => Ok(main(alloc, TypedForm::Otherwise, Parent::Function(wanted))),
         Parent::Record => Ok(main(alloc, TypedForm::Otherwise, Parent::Record)),
     }
 }
@@ -143,9 +143,9 @@ fn valued(alloc: Global, parent: Parent) -> Line
     ensures faults { (told_valued parent).faults ≡ [] }
 {
     match parent {
-        Parent::Function(types) => plain(
+        Parent::Function(wanted) => plain(
             alloc,
-            Parent::Function(types),
+            Parent::Function(wanted),
             TypedForm::ValueOf,
             Parent::Process,
         ),
@@ -169,9 +169,9 @@ fn resulting(
     ensures faults { OnOk result (faults.new ≡ faults.old ++ (told_resulting scope.now (first.now ∷ more.now) parent).faults) }
 {
     match parent {
-        Parent::Function(types) => {
-            let (_, trees) = results_of(alloc, first, more, &types, scope, faults)?;
-            Ok(main(alloc, results_form(trees), Parent::Function(types)))
+        Parent::Function(wanted) => {
+            let (_, trees) = results_of(alloc, first, more, &wanted, scope, faults)?;
+            Ok(main(alloc, results_form(trees), Parent::Function(wanted)))
         }
         Parent::Process => Ok(main(alloc, TypedForm::Unknown, Parent::Process)),
         Parent::Conditional => Ok(main(alloc, TypedForm::Unknown, Parent::Conditional)),
