@@ -6,3 +6,4 @@ mod statement;
 mod target;
 
 pub use statement::{TypedAssignment, assignment, condition, options, results, selector, values};
+pub use target::{root, target_of};
