@@ -35,7 +35,7 @@ pub fn only(exprs: &[Expr]) -> Option<&Expr>
 }
 
 /// The name that an element is alone, without subscripts.
-fn element_name(element: &Element) -> Option<&Name>
+pub fn element_name(element: &Element) -> Option<&Name>
     ensures { MatchOption result ((element_view element.now).name ≡ None) (λ name. (element_view element.now).name ≡ Some name.now) }
 {
     match element {

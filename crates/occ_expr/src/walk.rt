@@ -10,7 +10,7 @@ ghost use Rattle.occ_tables.specs.declared.term.Term.TheVariants as v;
 ghost use Rattle.occ_typed.specs.declared.draft.Draft.TheVariants as d;
 ghost use Rattle.occ_expr.specs.Elements.{component_at as selected_component, place_tree as the_place, selector as the_selector, selector_in, selectors as the_selectors, with_selectors};
 ghost use Rattle.occ_expr.specs.Views.{bounds_view, call_draft as drafted_call, item_drafts as drafted_items, named_tree as the_named_tree, operand_drafts as drafted_operands, whole_element_draft as drafted_whole, builtin_view, dimension_view, dimension_views, each, element_view, expr_view, expr_views, named_operand_view, operand_view, operand_views, operands as said_operands, type_form_view};
-ghost use Rattle.occ_expr.specs.Written.{all_spanning_faults, array_behind as written_behind, array_over as written_over, channel as written_channel, data_form as written_data, extents as the_extents};
+ghost use Rattle.occ_expr.specs.Written.{all_spanning_faults, array_behind as written_behind, array_over as written_over, array_over_more as written_over_more, channel as written_channel, data_form as written_data, extents as the_extents};
 
 use super::drafting::{decorated_draft, item_draft};
 use super::literals::{decorated_literal, literal, truth};
@@ -684,7 +684,7 @@ pub fn type_form(
 
 /// The data type of this name.
 #[tactic(auto, unfolding(crate::specs::Written::array_behind))]
-fn named_type(
+pub fn named_type(
     alloc: Global,
     name: &Name,
     scope: &Scope,
@@ -850,4 +850,39 @@ fn channel(
             values_channel(alloc, of)
         }
     }
+}
+
+/// A type that begins with a reserved word behind these dimensions, if nothing is wrong with it.
+pub fn word_form(
+    alloc: Global,
+    dims: &[Dimension],
+    word: &Builtin,
+    opening: Opening,
+    scope: &Scope,
+    faults: &mut Items<Fault>,
+) -> Result<Option<Shared<OccType>>, AllocError>
+    ensures found { IfOk result (λ found. found ≡ (written_over (each opening scope.now (dimension_views dims.now)) (builtin_view word.now scope.now)).found) }
+    ensures faults { OnOk result (faults.new ≡ faults.old ++ (written_over (each opening scope.now (dimension_views dims.now)) (builtin_view word.now scope.now)).faults) }
+{
+    let of = builtin(alloc, word, scope, faults)?;
+    array_over(alloc, dims, Items::new(alloc), of, opening, scope, faults)
+}
+
+/// The type of this name behind dimensions, of which there is a first one, if nothing is wrong with it.
+pub fn array_form(
+    alloc: Global,
+    first: &Dimension,
+    more: &[Dimension],
+    name: &Name,
+    opening: Opening,
+    scope: &Scope,
+    faults: &mut Items<Fault>,
+) -> Result<Option<Shared<OccType>>, AllocError>
+    ensures found { IfOk result (λ found. found ≡ (written_over_more (dimension_view first.now opening scope.now) (each opening scope.now (dimension_views more.now)) (data_type_named name.now (visible scope.now name.now))).found) }
+    ensures faults { OnOk result (faults.new ≡ faults.old ++ (written_over_more (dimension_view first.now opening scope.now) (each opening scope.now (dimension_views more.now)) (data_type_named name.now (visible scope.now name.now))).faults) }
+{
+    let of = data_type(alloc, scope, name, faults)?;
+    let first = dimension(alloc, first, opening, scope, faults)?;
+    let extents = one_item(alloc, first)?;
+    array_over(alloc, more, extents, of, opening, scope, faults)
 }

@@ -16,7 +16,7 @@ use std::alloc::{AllocError, Global};
 
 /// A type, if it is one of data: else T2 is told.
 #[tactic(auto, unfolding(crate::specs::Defining::data_of))]
-fn data_of(
+pub fn data_of(
     of: Option<Shared<OccType>>,
     faults: &mut Items<Fault>,
 ) -> Result<Option<Shared<OccType>>, AllocError>
