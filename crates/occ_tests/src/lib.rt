@@ -1,9 +1,7 @@
 //! What no row shows: the public calls that no script reaches, and what they refuse; the form of operands with one
-//! operator between each two; the typed tree of a unit.
+//! operator between each two.
 #![tactic(auto)]
 
-#[cfg(test)]
-mod check;
 #[cfg(test)]
 mod expansion;
 #[cfg(test)]
@@ -11,8 +9,4 @@ mod form;
 #[cfg(test)]
 mod scope;
 #[cfg(test)]
-mod typed;
-#[cfg(test)]
 mod types;
-#[cfg(test)]
-mod units;
