@@ -1,10 +1,9 @@
 -- What is told of an operand, form by form.
-use Rattle.std.proofs.Common.{◌≡◌, ◌∙◌, List, [], ◌∷◌, length, map, refl, ap, sym, arith, false}
+use Rattle.std.proofs.Common.{◌≡◌, ◌∙◌, List, [], ◌∷◌, length, map, refl, ap, sym, arith}
 use Rattle.occ_operands.specs.declared.kind.Kind.{Kind}
 use Rattle.occ_tables.specs.declared.term.Term.{Term}
 use Rattle.occ_tables.specs.declared.term.Term.TheFolds.{fold-roll-Term}
 use Rattle.occ_tables.specs.declared.term.Term.TheOpen.{Term-F}
-use Rattle.occ_tables.specs.declared.term.Term.TheViews.{out-roll-Term}
 use Rattle.occ_tables.specs.declared.term.Term.TheVariants as v
 use Rattle.occ_tables.specs.Terms.{Judged, judged, judged_all, term_step}
 

@@ -1,6 +1,6 @@
 -- What is told of an operand where a type is wanted of it or none is, and what is known of it then. A table takes its
 -- type item by item.
-use Rattle.std.specs.Prelude.{ℕ, nat_le, Bool, true, false, not, ◌||◌, Option, Some, None, List, [], ◌∷◌, ◌++◌, length, map, if◌then◌else◌}
+use Rattle.std.specs.Prelude.{ℕ, nat_le, Bool, true, false, ◌||◌, Option, Some, None, List, [], ◌∷◌, ◌++◌, length, map, if◌then◌else◌}
 use Rattle.std.specs.List.{list_any}
 use Rattle.occ_base.specs.declared.code.Code.TheVariants as code
 use Rattle.occ_types.specs.Fits.{is_data}
@@ -8,7 +8,6 @@ use Rattle.occ_types.specs.View.{as_array}
 use Rattle.occ_types.specs.declared.types.OccType.{OccType}
 use Rattle.occ_operands.specs.Operators.{all_faults, is_faulty, kinds, needs_faulty}
 use Rattle.occ_operands.specs.Settling.{Told, fault_of, int, known, settled, silent}
-use Rattle.occ_base.specs.Telling.{nameless}
 use Rattle.occ_operands.specs.Wanting.{fitted, wanted}
 use Rattle.occ_base.specs.declared.fault.Fault.{Fault}
 use Rattle.occ_operands.specs.declared.kind.Kind.{Kind}
@@ -16,10 +15,9 @@ use Rattle.occ_operands.specs.declared.kind.Kind.TheVariants as k
 use Rattle.occ_tables.specs.Extents.{arrayed}
 use Rattle.occ_tables.specs.Merging.{merged}
 use Rattle.occ_tables.specs.declared.table.Settled.{Settled}
-use Rattle.occ_tables.specs.declared.term.Term.{Term, out-Term}
+use Rattle.occ_tables.specs.declared.term.Term.{Term}
 use Rattle.occ_tables.specs.declared.term.Term.TheFolds.{fold-Term}
 use Rattle.occ_tables.specs.declared.term.Term.TheOpen.{Term-F}
-use Rattle.occ_tables.specs.declared.term.Term.TheVariants as v
 
 -- what is told first, and then of what is known
 abbrev pub and_then : Told → (Kind → Told) → Told
