@@ -1,13 +1,12 @@
 -- The drafts of expressions from those of their parts. A draft has the parts of an expression in their order, without its
 -- parentheses; what is known of the whole decides whether it is typed already, still free, or faulty.
-use Rattle.std.specs.Prelude.{ℕ, Option, Some, None, List, [], ◌∷◌, if◌then◌else◌}
+use Rattle.std.specs.Prelude.{ℕ, Option, Some, None, List, [], ◌∷◌}
 use Rattle.occ_operands.specs.Settling.{int}
 use Rattle.occ_operands.specs.declared.kind.Free.{Free}
 use Rattle.occ_operands.specs.declared.kind.Kind.{Kind}
 use Rattle.occ_operands.specs.declared.kind.Kind.TheVariants as k
 use Rattle.occ_operands.specs.declared.kind.Known.{Known}
 use Rattle.occ_tables.specs.Terms.{Judged}
-use Rattle.occ_tables.specs.declared.term.Term.{Term}
 use Rattle.occ_typed.specs.Placing.{all_placed, applied_of, each_placed, known_of, operation_of, placed, shifted_of, table_of}
 use Rattle.occ_typed.specs.declared.draft.Draft.{Draft, out-Draft}
 use Rattle.occ_typed.specs.declared.draft.Draft.TheOpen.{Draft-F}
