@@ -19,7 +19,7 @@ use Rattle.occ_names.specs.declared.meaning.Whole.{Whole}
 use Rattle.occ_names.specs.declared.scope.Scope.{Scope}
 use Rattle.occ_tables.specs.Decorating.{decorated_table}
 use Rattle.occ_tables.specs.Segments.{segment}
-use Rattle.occ_tables.specs.Terms.{and_then, item, judged, judged_all}
+use Rattle.occ_tables.specs.Terms.{and_then, judged, judged_all}
 use Rattle.occ_tables.specs.declared.selection.BoundTerms.{BoundTerms}
 use Rattle.occ_tables.specs.declared.selection.BoundTerms.TheVariants as bounds
 use Rattle.occ_tables.specs.declared.term.Term.{Term}
@@ -61,17 +61,10 @@ only [] = None
 only (x ∷ []) = Some x
 only (x ∷ y ∷ xs) = None
 
--- ---- items of tables
-
-unfoldable pub table_item : Said → Said
-table_item x = let i = item x.term in record { faults = x.faults ++ i.faults; term = i.term }
-
-abbrev pub table_items : List Said → List Said
-table_items [] = []
-table_items (x ∷ xs) = table_item x ∷ table_items xs
+-- ---- tables
 
 abbrev pub table : List Said → Said
-table xs = let ys = table_items xs in record { faults = own_faults ys; term = v.Table (terms ys) }
+table xs = record { faults = own_faults xs; term = v.Table (terms xs) }
 
 -- nothing is asked of the items where the type is not known
 unfoldable pub table_as : Option OccType → List Term → Told
@@ -79,7 +72,7 @@ table_as None xs = silent
 table_as (Some to) xs = decorated_table to (judged_all xs)
 
 abbrev pub table_with_type : List Said → Found OccType → Told
-table_with_type xs of = let ys = table_items xs in after (own_faults ys ++ of.faults) (table_as of.found (terms ys))
+table_with_type xs of = after (own_faults xs ++ of.faults) (table_as of.found (terms xs))
 
 -- ---- elements
 
@@ -156,7 +149,8 @@ segment_element s x b es = and_then (and_then x (segment_within b)) (subscripts 
 abbrev pub call_faults : List ℕ → Option Meaning → List Fault
 call_faults name None = (record { code = code.N1; name = Some name }) ∷ []
 call_faults name (Some m.Faulty) = []
-call_faults name (Some (m.Type of)) = (record { code = code.N2; name = Some name }) ∷ []
+call_faults name (Some (m.Type None)) = []
+call_faults name (Some (m.Type (Some of))) = (record { code = code.N2; name = Some name }) ∷ []
 call_faults name (Some (m.Protocol p)) = (record { code = code.N2; name = Some name }) ∷ []
 call_faults name (Some (m.Procedure formals)) = (record { code = code.N2; name = Some name }) ∷ []
 call_faults name (Some (m.Function formals results)) = nameless code.S1 ∷ []
@@ -166,10 +160,11 @@ call_faults name (Some (m.Element whole)) = (record { code = code.N2; name = Som
 unfoldable pub function_call : Scope → List ℕ → List ExprView → Told
 function_call s name es = record { faults = call_faults name (visible s name) ++ own_faults (in_scope s es); kind = k.Faulty }
 
-abbrev pub argument_as : OccType → Said → Told
-argument_as to x = after x.faults (converted (Some to) (judged x.term))
+-- a type that has a fault is not known, and what is converted to it is judged all the same
+abbrev pub argument_as : Option OccType → Said → Told
+argument_as to x = after x.faults (converted to (judged x.term))
 
-abbrev pub call_of_type : Scope → List ℕ → List ExprView → OccType → Option ExprView → Told
+abbrev pub call_of_type : Scope → List ℕ → List ExprView → Option OccType → Option ExprView → Told
 call_of_type s name es to None = function_call s name es
 call_of_type s name es to (Some e) = argument_as to (e.said s)
 
@@ -181,10 +176,10 @@ call_of s name es meaning = function_call s name es
 unfoldable pub call : Scope → List ℕ → List ExprView → Told
 call s name es = call_of s name es (visible s name)
 
-abbrev pub table_of_one_as : OccType → Said → Told
-table_of_one_as to x = let y = table (x ∷ []) in after y.faults (converted (Some to) (judged y.term))
+abbrev pub table_of_one_as : Option OccType → Said → Told
+table_of_one_as to x = let y = table (x ∷ []) in after y.faults (converted to (judged y.term))
 
-abbrev pub element_of_type : Scope → List ℕ → List ExprView → OccType → Option ExprView → Told
+abbrev pub element_of_type : Scope → List ℕ → List ExprView → Option OccType → Option ExprView → Told
 element_of_type s name es to None = named_element s name es
 element_of_type s name es to (Some e) = table_of_one_as to (e.said s)
 

@@ -12,7 +12,8 @@ mod selecting;
 mod walk;
 mod written;
 
+pub use parts::{element_name, name_alone};
 pub use reading::{Reading, Readings};
 pub use selecting::ElementReading;
-pub use walk::{data_form, element, expression, type_form};
-pub use written::Opening;
+pub use walk::{array_form, data_form, element, expression, named_type, type_form, word_form};
+pub use written::{Opening, count_type};

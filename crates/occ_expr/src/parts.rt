@@ -35,7 +35,7 @@ pub fn only(exprs: &[Expr]) -> Option<&Expr>
 }
 
 /// The name that an element is alone, without subscripts.
-fn element_name(element: &Element) -> Option<&Name>
+pub fn element_name(element: &Element) -> Option<&Name>
     ensures { MatchOption result ((element_view element.now).name ≡ None) (λ name. (element_view element.now).name ≡ Some name.now) }
 {
     match element {
@@ -118,7 +118,7 @@ pub fn tell_call(
 {
     let code = match scope.find(name) {
         None => Code::N1,
-        Some(Meaning::Faulty) => return Ok(()),
+        Some(Meaning::Faulty | Meaning::Type(None)) => return Ok(()),
         Some(Meaning::Function(_, _)) => return tell(faults, Code::S1),
         Some(_) => Code::N2,
     };
@@ -208,21 +208,31 @@ pub fn table_as(
     }
 }
 
+/// The type that a name stands for, if it is known.
+pub fn shared_type(of: &Option<Shared<OccType>>) -> Result<Option<Shared<OccType>>, AllocError>
+    ensures { IfOk result (λ shared. shared ≡ of.now) }
+{
+    match of {
+        Some(of) => Ok(Some(of.share()?)),
+        None => Ok(None),
+    }
+}
+
 /// The conversion of a table of one item.
 pub fn converted_table(
     alloc: Global,
     item: Reading,
-    to: Shared<OccType>,
+    to: Option<Shared<OccType>>,
     faults: &mut Items<Fault>,
 ) -> Result<Reading, AllocError>
-    ensures term { IfOk result (λ whole. whole.term ≡ v.Single (told_converted (Some to) (judged (v.Table (item.term ∷ [])))).kind) }
-    ensures draft { IfOk result (λ whole. whole.draft ≡ conversion_draft (Some to) (judged (v.Table (item.term ∷ []))) (d.Table (item.draft ∷ []))) }
-    ensures faults { OnOk result (faults.new ≡ faults.old ++ (told_converted (Some to) (judged (v.Table (item.term ∷ [])))).faults) }
+    ensures term { IfOk result (λ whole. whole.term ≡ v.Single (told_converted to (judged (v.Table (item.term ∷ [])))).kind) }
+    ensures draft { IfOk result (λ whole. whole.draft ≡ conversion_draft to (judged (v.Table (item.term ∷ []))) (d.Table (item.draft ∷ []))) }
+    ensures faults { OnOk result (faults.new ≡ faults.old ++ (told_converted to (judged (v.Table (item.term ∷ [])))).faults) }
 {
     let items = Readings::one(alloc, item)?;
     let table = Reading {
         term: Term::Table(items.terms),
         draft: Draft::Table(items.drafts),
     };
-    converted(alloc, table, Some(to), faults)
+    converted(alloc, table, to, faults)
 }

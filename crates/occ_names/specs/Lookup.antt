@@ -22,7 +22,8 @@ good x = record { faults = []; found = Some x }
 abbrev pub faults_of : List ℕ → Option Meaning → List Fault
 faults_of name None = (record { code = code.N1; name = Some name }) ∷ []
 faults_of name (Some m.Faulty) = []
-faults_of name (Some (m.Type of)) = (record { code = code.N2; name = Some name }) ∷ []
+faults_of name (Some (m.Type None)) = []
+faults_of name (Some (m.Type (Some of))) = (record { code = code.N2; name = Some name }) ∷ []
 faults_of name (Some (m.Protocol p)) = (record { code = code.N2; name = Some name }) ∷ []
 faults_of name (Some (m.Procedure formals)) = (record { code = code.N2; name = Some name }) ∷ []
 faults_of name (Some (m.Function formals results)) = (record { code = code.N2; name = Some name }) ∷ []
@@ -38,11 +39,11 @@ element name meaning = nothing name meaning
 
 -- where a data type is needed
 abbrev pub data_type : List ℕ → Option Meaning → Found OccType
-data_type name (Some (m.Type of)) = good of
+data_type name (Some (m.Type (Some of))) = good of
 data_type name meaning = nothing name meaning
 
 -- behind CHAN OF, where a protocol or a data type is needed
 abbrev pub carries : List ℕ → Option Meaning → Found Carried
-carries name (Some (m.Type of)) = good (carried.Values of)
+carries name (Some (m.Type (Some of))) = good (carried.Values of)
 carries name (Some (m.Protocol p)) = good (carried.Protocol p)
 carries name meaning = nothing name meaning

@@ -28,7 +28,7 @@ fn tell(
 {
     let code = match scope.find(name) {
         None => Code::N1,
-        Some(Meaning::Faulty) => return Ok(()),
+        Some(Meaning::Faulty | Meaning::Type(None)) => return Ok(()),
         Some(_) => Code::N2,
     };
     let name = Some(name.copied(alloc)?);
@@ -66,7 +66,7 @@ pub fn data_type(
     ensures faults { OnOk result (faults.new ≡ faults.old ++ (told_data_type name.now (visible scope.now name.now)).faults) }
 {
     match scope.find(name) {
-        Some(Meaning::Type(of)) => Ok(Some(of.share()?)),
+        Some(Meaning::Type(Some(of))) => Ok(Some(of.share()?)),
         _ => {
             tell(alloc, scope, name, faults)?;
             Ok(None)
@@ -85,7 +85,7 @@ pub fn carries(
     ensures faults { OnOk result (faults.new ≡ faults.old ++ (told_carries name.now (visible scope.now name.now)).faults) }
 {
     match scope.find(name) {
-        Some(Meaning::Type(of)) => Ok(Some(Carried::Values(of.share()?))),
+        Some(Meaning::Type(Some(of))) => Ok(Some(Carried::Values(of.share()?))),
         Some(Meaning::Protocol(protocol)) => Ok(Some(Carried::Protocol(protocol.share()?))),
         _ => {
             tell(alloc, scope, name, faults)?;

@@ -33,7 +33,9 @@ pub struct Whole {
 pub enum Meaning {
     /// The line that specifies it has a fault: where it is used, nothing is told of it.
     Faulty,
-    Type(Shared<OccType>),
+    /// A data type: none, where the line that specifies it has a fault. Of such a name too nothing is told, but what
+    /// stands behind it is converted.
+    Type(Option<Shared<OccType>>),
     Protocol(Shared<Protocol>),
     /// A procedure with these formals.
     Procedure(Items<Formal>),

@@ -10,7 +10,7 @@ use Rattle.occ_types.specs.declared.value.Primitive.TheVariants as p
 use Rattle.occ_types.specs.declared.value.Value.{Value}
 use Rattle.occ_types.proofs.Agreeing.{as_array_at_array, as_primitive_at_primitive, fits_of_primitive, unnamed_of_array, unnamed_of_primitive}
 use Rattle.occ_operands.specs.Parts.{component_at, subscripted, subscripted_array}
-use Rattle.occ_operands.specs.Settling.{Told, base_of, fault_of, int, known, number, settled_free}
+use Rattle.occ_operands.specs.Settling.{Told, base_of, fault_of, faulty_if, int, known, number, settled_free}
 use Rattle.occ_operands.specs.Wanting.{fitted, wanted}
 use Rattle.occ_operands.specs.declared.kind.Free.{Free}
 use Rattle.occ_operands.specs.declared.kind.Kind.TheVariants as k
@@ -26,16 +26,16 @@ fitted_from of x = let y = fitted of x.kind in record { faults = x.faults ++ y.f
 
 -- a literal that settles in one primitive type, where another one or the same is wanted
 pub wanted_literal : (p q : Primitive) (f : Free) (value : Option Value)
-    → settled_free (t.Primitive p) f (number (Some p)) ≡ record { faults = []; kind = known (t.Primitive q) value }
+    → faulty_if f.is_faulty (settled_free (t.Primitive p) f (number (Some p))) ≡ record { faults = []; kind = known (t.Primitive q) value }
     → wanted (t.Primitive p) (k.Free f) ≡ (if primitive_fits p (Some q) then record { faults = []; kind = known (t.Primitive q) value } else fault_of code.T2)
 wanted_literal p q f value h =
-    ap (λ (z : Option Primitive). fitted_from (t.Primitive p) (settled_free (t.Primitive p) f (number z))) (base_of_primitive p)
+    ap (λ (z : Option Primitive). fitted_from (t.Primitive p) (faulty_if f.is_faulty (settled_free (t.Primitive p) f (number z)))) (base_of_primitive p)
     ∙ ap (fitted_from (t.Primitive p)) h
     ∙ ap (λ (b : Bool). if b then record { faults = []; kind = known (t.Primitive q) value } else fault_of code.T2) (fits_primitive p q)
 
 -- a place in an array, where it settles as an INT of this value
 pub component_of : (n : Option ℕ) (of : OccType) (f : Free) (value : Option Value)
-    → settled_free int f (Some p.Int) ≡ record { faults = []; kind = known int value }
+    → faulty_if f.is_faulty (settled_free int f (Some p.Int)) ≡ record { faults = []; kind = known int value }
     → subscripted (t.Array n of) (k.Free f) ≡ component_at n of (known int value)
 component_of n of f value h =
     ap (λ (z : Option (Option ℕ × OccType)). subscripted_array z (k.Free f)) (ap as_array (unnamed_of_array n of) ∙ as_array_at_array n of)

@@ -14,14 +14,15 @@ use Rattle.occ_types.specs.declared.value.Primitive.{Primitive}
 use Rattle.occ_types.specs.declared.value.Primitive.TheVariants as p
 use Rattle.occ_types.specs.declared.value.Value.{Value}
 use Rattle.occ_base.specs.declared.fault.Fault.{Fault}
+use Rattle.occ_operands.specs.declared.kind.Free.{Free}
 use Rattle.occ_operands.specs.declared.kind.Kind.{Kind}
 use Rattle.occ_operands.specs.declared.kind.Kind.TheVariants as k
 use Rattle.occ_operands.specs.declared.kind.Outcome.{Outcome}
 use Rattle.occ_operands.specs.declared.kind.Outcome.TheVariants as o
 use Rattle.occ_operands.specs.declared.operate.Class.{Class}
 use Rattle.occ_operands.specs.declared.operate.Class.TheVariants as c
-use Rattle.occ_operands.specs.Outcomes.{applied, in_each, in_type, run, shifted}
-use Rattle.occ_operands.specs.Settling.{Told, base_of, fault_of, int, landed, number, settled, silent}
+use Rattle.occ_operands.specs.Outcomes.{applied, in_each, in_type, misshifted, run, shifted}
+use Rattle.occ_operands.specs.Settling.{Told, base_of, fault_of, int, landed, number, settled, silent, wrong_faults}
 
 -- ---- the classes of operators
 
@@ -116,6 +117,12 @@ is_faulty k.Faulty = true
 is_faulty (k.Free f) = false
 is_faulty (k.Known x) = false
 
+-- it is faulty, or will be in whatever type it takes
+abbrev pub needs_faulty : Kind → Bool
+needs_faulty k.Faulty = true
+needs_faulty (k.Free f) = f.is_faulty
+needs_faulty (k.Known x) = false
+
 abbrev pub is_of : OccType → Kind → Bool
 is_of of k.Faulty = false
 is_of of (k.Free f) = false
@@ -144,7 +151,7 @@ decided op of ks =
 
 abbrev pub operated_from : Option Kind → Operator → List Kind → Told
 operated_from None op ks =
-    if is_arithmetic (class_of op) then record { faults = []; kind = k.Free (in_each (λ of. run_in op of ks)) }
+    if is_arithmetic (class_of op) then record { faults = []; kind = k.Free (in_each (list_any needs_faulty ks) (λ of. run_in op of ks)) }
     else decided op int ks
 operated_from (Some (k.Known x)) op ks = decided op x.of ks
 operated_from (Some k.Faulty) op ks = silent
@@ -172,13 +179,20 @@ operand_type op whole ks = operand_type_from (first_bound ks) op whole
 
 -- ---- shifts
 
+-- by a count that is no INT, and by a faulty one, the shift of a free operand is free all the same: what is shifted alone
+-- decides which type it takes, and has its own faults there
+abbrev pub known_count : Operator → Free → Bool → Option Value → Free
+known_count op f count_is_int count =
+    in_each f.is_faulty (λ of. if count_is_int then shifted op count (in_type f of) else misshifted (in_type f of))
+
+abbrev pub faulty_count : Operator → Free → Free
+faulty_count op f = in_each true (λ of. shifted op None (in_type f of))
+
 abbrev pub shifted_by : Operator → Kind → Kind → Told
 shifted_by op k.Faulty count = silent
-shifted_by op (k.Free f) k.Faulty = silent
+shifted_by op (k.Free f) k.Faulty = record { faults = []; kind = k.Free (faulty_count op f) }
 shifted_by op (k.Free f) (k.Free g) = silent
-shifted_by op (k.Free f) (k.Known y) =
-    if is_int (as_primitive y.of) then record { faults = []; kind = k.Free (in_each (λ of. shifted op y.value (in_type f of))) }
-    else fault_of code.T1
+shifted_by op (k.Free f) (k.Known y) = record { faults = []; kind = k.Free (known_count op f (is_int (as_primitive y.of)) y.value) }
 shifted_by op (k.Known x) k.Faulty = silent
 shifted_by op (k.Known x) (k.Free g) = silent
 shifted_by op (k.Known x) (k.Known y) =
@@ -207,16 +221,19 @@ takes m.Minus base = is_there (number base)
 takes m.BitNot base = is_there (number base)
 takes m.Not base = is_bool base
 
+abbrev pub not_number : Bool → Told
+not_number needs_faulty = if needs_faulty then silent else fault_of code.T1
+
 -- NOT takes no number: a free operand is an INT, which may have a fault of its own
-abbrev pub not_free : Outcome → Told
-not_free o.Unfit = fault_of code.T6
-not_free o.Faulty = fault_of code.T6
-not_free o.Varying = fault_of code.T1
-not_free (o.Constant v) = fault_of code.T1
+abbrev pub not_free : Bool → Outcome → Told
+not_free needs_faulty o.Unfit = fault_of code.T6
+not_free needs_faulty (o.Faulty x) = record { faults = wrong_faults x; kind = k.Faulty }
+not_free needs_faulty o.Varying = not_number needs_faulty
+not_free needs_faulty (o.Constant v) = not_number needs_faulty
 
 abbrev pub front_operated : Monadic → Kind → Told
 front_operated op k.Faulty = silent
 front_operated op (k.Free f) =
-    if is_not op then not_free f.int else record { faults = []; kind = k.Free (in_each (λ of. applied op (in_type f of))) }
+    if is_not op then not_free f.is_faulty f.int else record { faults = []; kind = k.Free (in_each f.is_faulty (λ of. applied op (in_type f of))) }
 front_operated op (k.Known x) =
     if takes op (base_of x.of) then landed x.of (applied op (value_outcome x.value)) else fault_of code.T1

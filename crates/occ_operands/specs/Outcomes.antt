@@ -1,6 +1,6 @@
 -- What a free expression comes to: an expression of undecorated integer literals, and of shifts of them by any count,
 -- which takes the type that is wanted of it. It comes to something in each type that it may take.
-use Rattle.std.specs.Prelude.{ℕ, ℤ, Option, Some, None, List, [], ◌∷◌, Result, Ok, Err}
+use Rattle.std.specs.Prelude.{ℕ, ℤ, Bool, false, Option, Some, None, List, [], ◌∷◌, Result, Ok, Err}
 use Rattle.occ_types.specs.Constant.{folded, folded_one, number_value, pattern_value}
 use Rattle.occ_types.specs.declared.constant.ConstFault.{ConstFault}
 use Rattle.occ_types.specs.declared.constant.Monadic.{Monadic}
@@ -11,6 +11,8 @@ use Rattle.occ_types.specs.declared.value.Value.{Value}
 use Rattle.occ_operands.specs.declared.kind.Free.{Free}
 use Rattle.occ_operands.specs.declared.kind.Outcome.{Outcome}
 use Rattle.occ_operands.specs.declared.kind.Outcome.TheVariants as o
+use Rattle.occ_operands.specs.declared.kind.Wrong.{Wrong}
+use Rattle.occ_operands.specs.declared.kind.Wrong.TheVariants as w
 
 -- what it comes to in one of them; it never takes BOOL
 abbrev pub in_type : Free → Primitive → Outcome
@@ -21,9 +23,10 @@ in_type f p.Int = f.int
 in_type f p.Int32 = f.int32
 in_type f p.Int64 = f.int64
 
--- so in each of them
-abbrev pub in_each : (Primitive → Outcome) → Free
-in_each tell = record { byte = tell p.Byte; int16 = tell p.Int16; int = tell p.Int; int32 = tell p.Int32; int64 = tell p.Int64 }
+-- so in each of them, and faulty in all of them or not
+abbrev pub in_each : Bool → (Primitive → Outcome) → Free
+in_each is_faulty tell =
+    record { is_faulty = is_faulty; byte = tell p.Byte; int16 = tell p.Int16; int = tell p.Int; int32 = tell p.Int32; int64 = tell p.Int64 }
 
 abbrev pub fitting : Option Value → Outcome
 fitting None = o.Unfit
@@ -31,25 +34,35 @@ fitting (Some v) = o.Constant v
 
 -- a decimal literal, with the - in front if there is one
 abbrev pub decimal : ℤ → Free
-decimal n = in_each (λ t. fitting (number_value t n))
+decimal n = in_each false (λ t. fitting (number_value t n))
 
 -- a hexadecimal literal
 abbrev pub hexadecimal : ℕ → Free
-hexadecimal n = in_each (λ t. fitting (pattern_value t n))
+hexadecimal n = in_each false (λ t. fitting (pattern_value t n))
 
 abbrev pub outcome_of : Result Value ConstFault → Outcome
 outcome_of (Ok v) = o.Constant v
-outcome_of (Err fault) = o.Faulty
+outcome_of (Err fault) = o.Faulty w.Value
 
--- of operands that are not all constant: a literal that does not fit comes first, then a fault
+-- what is wrong with two operands
+abbrev pub both_wrong : Wrong → Wrong → Wrong
+both_wrong w.Count w.Count = w.Count
+both_wrong w.Count w.Value = w.Both
+both_wrong w.Count w.Both = w.Both
+both_wrong w.Value w.Count = w.Both
+both_wrong w.Value w.Value = w.Value
+both_wrong w.Value w.Both = w.Both
+both_wrong w.Both y = w.Both
+
+-- of operands that are not all constant: a literal that does not fit comes first, then what is wrong with them
 abbrev pub worse : Outcome → Outcome → Outcome
 worse o.Unfit b = o.Unfit
-worse o.Faulty o.Unfit = o.Unfit
-worse o.Faulty o.Faulty = o.Faulty
-worse o.Faulty o.Varying = o.Faulty
-worse o.Faulty (o.Constant v) = o.Faulty
+worse (o.Faulty x) o.Unfit = o.Unfit
+worse (o.Faulty x) (o.Faulty y) = o.Faulty (both_wrong x y)
+worse (o.Faulty x) o.Varying = o.Faulty x
+worse (o.Faulty x) (o.Constant v) = o.Faulty x
 worse o.Varying o.Unfit = o.Unfit
-worse o.Varying o.Faulty = o.Faulty
+worse o.Varying (o.Faulty y) = o.Faulty y
 worse o.Varying o.Varying = o.Varying
 worse o.Varying (o.Constant v) = o.Varying
 worse (o.Constant u) b = b
@@ -62,10 +75,10 @@ worst a (b ∷ bs) = worst (worse a b) bs
 abbrev pub with_next : Operator → Outcome → Outcome → Outcome
 with_next op (o.Constant a) (o.Constant b) = outcome_of (folded op a b)
 with_next op (o.Constant a) o.Unfit = o.Unfit
-with_next op (o.Constant a) o.Faulty = o.Faulty
+with_next op (o.Constant a) (o.Faulty y) = o.Faulty y
 with_next op (o.Constant a) o.Varying = o.Varying
 with_next op o.Unfit b = o.Unfit
-with_next op o.Faulty b = o.Faulty
+with_next op (o.Faulty x) b = o.Faulty x
 with_next op o.Varying b = o.Varying
 
 abbrev pub with_all : Operator → Outcome → List Outcome → Outcome
@@ -74,7 +87,7 @@ with_all op a (b ∷ bs) = with_all op (with_next op a b) bs
 
 abbrev pub if_constant : Outcome → Outcome → Outcome
 if_constant o.Unfit value = o.Unfit
-if_constant o.Faulty value = o.Faulty
+if_constant (o.Faulty x) value = o.Faulty x
 if_constant o.Varying value = o.Varying
 if_constant (o.Constant v) value = value
 
@@ -85,7 +98,7 @@ run op a bs = if_constant (worst a bs) (with_all op a bs)
 abbrev pub applied : Monadic → Outcome → Outcome
 applied op (o.Constant a) = outcome_of (folded_one op a)
 applied op o.Unfit = o.Unfit
-applied op o.Faulty = o.Faulty
+applied op (o.Faulty x) = o.Faulty x
 applied op o.Varying = o.Varying
 
 -- a shift by this count, which is perhaps not constant
@@ -93,5 +106,12 @@ abbrev pub shifted : Operator → Option Value → Outcome → Outcome
 shifted op (Some count) (o.Constant a) = outcome_of (folded op a count)
 shifted op None (o.Constant a) = o.Varying
 shifted op count o.Unfit = o.Unfit
-shifted op count o.Faulty = o.Faulty
+shifted op count (o.Faulty x) = o.Faulty x
 shifted op count o.Varying = o.Varying
+
+-- a shift by a count that is no INT: nothing more is told of it where what is shifted has a fault
+abbrev pub misshifted : Outcome → Outcome
+misshifted o.Unfit = o.Unfit
+misshifted (o.Faulty x) = o.Faulty x
+misshifted o.Varying = o.Faulty w.Count
+misshifted (o.Constant v) = o.Faulty w.Count

@@ -1,5 +1,5 @@
 -- The type that an operand takes where one is wanted of it.
-use Rattle.std.specs.Prelude.{Option, Some, None, List, [], ◌∷◌}
+use Rattle.std.specs.Prelude.{Bool, Option, Some, None, List, [], ◌∷◌, if◌then◌else◌}
 use Rattle.occ_base.specs.declared.code.Code.{Code}
 use Rattle.occ_base.specs.declared.code.Code.TheVariants as code
 use Rattle.occ_base.specs.Telling.{nameless}
@@ -16,6 +16,8 @@ use Rattle.occ_operands.specs.declared.kind.Kind.{Kind}
 use Rattle.occ_operands.specs.declared.kind.Kind.TheVariants as k
 use Rattle.occ_operands.specs.declared.kind.Outcome.{Outcome}
 use Rattle.occ_operands.specs.declared.kind.Outcome.TheVariants as o
+use Rattle.occ_operands.specs.declared.kind.Wrong.{Wrong}
+use Rattle.occ_operands.specs.declared.kind.Wrong.TheVariants as w
 use Rattle.occ_operands.specs.Outcomes.{in_type}
 
 -- what is told of an operand: its faults, and what is known of it
@@ -37,10 +39,16 @@ silent = record { faults = []; kind = k.Faulty }
 abbrev pub known : OccType → Option Value → Kind
 known of value = k.Known (record { of = of; value = value })
 
--- of this type, it comes to that; a constant without a value, and a literal that does not fit, have a fault
+abbrev pub wrong_faults : Wrong → List Fault
+wrong_faults w.Count = nameless code.T1 ∷ []
+wrong_faults w.Value = nameless code.T6 ∷ []
+wrong_faults w.Both = nameless code.T1 ∷ nameless code.T6 ∷ []
+
+-- of this type, it comes to that; a constant without a value, a literal that does not fit, and a shift by what is no INT
+-- have a fault
 abbrev pub landed : OccType → Outcome → Told
 landed of o.Unfit = fault_of code.T6
-landed of o.Faulty = fault_of code.T6
+landed of (o.Faulty x) = record { faults = wrong_faults x; kind = k.Faulty }
 landed of o.Varying = record { faults = []; kind = known of None }
 landed of (o.Constant v) = record { faults = []; kind = known of (Some v) }
 
@@ -61,7 +69,7 @@ base_of of = as_primitive (unnamed of)
 -- the wanted type, where its literals fit it; else INT
 abbrev pub landed_or_int : OccType → Free → Outcome → Told
 landed_or_int of f o.Unfit = landed int f.int
-landed_or_int of f o.Faulty = landed of o.Faulty
+landed_or_int of f (o.Faulty x) = landed of (o.Faulty x)
 landed_or_int of f o.Varying = landed of o.Varying
 landed_or_int of f (o.Constant v) = landed of (o.Constant v)
 
@@ -69,8 +77,12 @@ abbrev pub settled_free : OccType → Free → Option Primitive → Told
 settled_free of f None = landed int f.int
 settled_free of f (Some base) = landed_or_int of f (in_type f base)
 
+-- what needs something faulty is faulty, whatever it comes to
+abbrev pub faulty_if : Bool → Told → Told
+faulty_if needs_faulty x = if needs_faulty then record { faults = x.faults; kind = k.Faulty } else x
+
 -- a free operand takes the wanted type, if that is a number under its names which each of its literals fits; else INT
 abbrev pub settled : OccType → Kind → Told
 settled of k.Faulty = silent
-settled of (k.Free f) = settled_free of f (number (base_of of))
+settled of (k.Free f) = faulty_if f.is_faulty (settled_free of f (number (base_of of)))
 settled of (k.Known x) = record { faults = []; kind = k.Known x }

@@ -8,13 +8,23 @@ pub struct Known {
     pub value: Option<Value>,
 }
 
+/// What is wrong with an expression in a type that each of its literals fits.
+#[derive(Clone, Copy)]
+pub enum Wrong {
+    /// The count of a shift is no INT.
+    Count,
+    /// A constant has no value.
+    Value,
+    /// Both, in two operands of it.
+    Both,
+}
+
 /// What a free expression comes to in one type.
 #[derive(Clone, Copy)]
 pub enum Outcome {
     /// One of its literals does not fit.
     Unfit,
-    /// It is constant, and has no value.
-    Faulty,
+    Faulty(Wrong),
     /// It is not constant.
     Varying,
     Constant(Value),
@@ -24,6 +34,8 @@ pub enum Outcome {
 /// that it may take.
 #[derive(Clone, Copy)]
 pub struct Free {
+    /// Whether the count of a shift in it is faulty, and so all of it in any type, whatever else is told of it there.
+    pub is_faulty: bool,
     pub byte: Outcome,
     pub int16: Outcome,
     pub int: Outcome,

@@ -9,8 +9,8 @@ pub mod rows;
 mod settle;
 mod want;
 
-pub use kind::{Free, Kind, Known, Outcome};
-pub use operate::{applied, is_faulty, operand_type, operated, shifted, type_in};
+pub use kind::{Free, Kind, Known, Outcome, Wrong};
+pub use operate::{applied, is_faulty, needs_faulty, operand_type, operated, shifted, type_in};
 pub use part::{field, subscripted};
 pub use settle::{int, known, landed, number, settled};
 pub use want::{converted, fitted, wanted};

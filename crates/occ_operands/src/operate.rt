@@ -1,13 +1,13 @@
 ghost use Rattle.std.specs.Prelude.{◌≡◌, ◌++◌, IfOk, MatchOption, None, OnOk, Some};
 ghost use Rattle.std.specs.List.{list_all, list_any};
-ghost use Rattle.occ_operands.specs.Operators.{allows as allowing, class_of as the_class, decided as deciding, first_bound as first_one_bound, front_operated as in_front, given as giving, is_arithmetic as arithmetic, is_faulty as faulty, is_int as int_itself, is_of as of_type, not_free as no_free, operated as operating, operand_type as type_of_operands, operated_from as operating_from, outcome_in as kind_outcome, run_in as running, shift_operated as shifting, shifted_by as shifting_by, takes as taking, type_in as type_known, value_outcome as outcome_of_value, verdict as judged};
-ghost use Rattle.occ_operands.specs.Outcomes.{applied as applied_outcome, in_each, in_type, shifted as shifted_outcome};
+ghost use Rattle.occ_operands.specs.Operators.{allows as allowing, class_of as the_class, decided as deciding, first_bound as first_one_bound, front_operated as in_front, given as giving, is_arithmetic as arithmetic, is_faulty as faulty, is_int as int_itself, is_of as of_type, faulty_count as shift_by_faulty, known_count as shift_by_known, needs_faulty as needing_faulty, not_free as no_free, not_number as no_number, operated as operating, operand_type as type_of_operands, operated_from as operating_from, outcome_in as kind_outcome, run_in as running, shift_operated as shifting, shifted_by as shifting_by, takes as taking, type_in as type_known, value_outcome as outcome_of_value, verdict as judged};
+ghost use Rattle.occ_operands.specs.Outcomes.{applied as applied_outcome, in_each, in_type, misshifted, shifted as shifted_outcome};
 ghost use Rattle.occ_operands.specs.declared.kind.Kind.TheVariants as k;
 ghost use Rattle.occ_types.specs.View.{as_primitive as primitive_of};
 
 use super::kind::{Free, Kind, Known, Outcome};
-use super::outcome::{Running, apply, shift};
-use super::settle::{int, landed, number, settled};
+use super::outcome::{Running, apply, misshift, shift};
+use super::settle::{int, landed, number, settled, tell_wrong};
 use occ_base::{Code, Fault, Items, Shared, tell};
 use occ_types::{Monadic, OccType, Operator, Primitive, Value, as_primitive, base_of, fits};
 use std::alloc::{AllocError, Global};
@@ -132,11 +132,29 @@ fn run_in(op: Operator, of: Primitive, kinds: &[Kind]) -> Outcome
     run.end()
 }
 
+/// Whether an operand is faulty, or will be in whatever type it takes.
+pub fn needs_faulty(kind: &Kind) -> bool
+    ensures { result ≡ needing_faulty kind.now }
+{
+    match kind {
+        Kind::Faulty => true,
+        Kind::Free(free) => free.is_faulty,
+        Kind::Known(_) => false,
+    }
+}
+
+fn any_needs_faulty(kinds: &[Kind]) -> bool
+    ensures { result ≡ list_any needing_faulty kinds.now }
+{
+    kinds.iter().any(|kind| needs_faulty(kind))
+}
+
 /// What free operands with one operator between each two come to in each type.
 fn free_run(op: Operator, kinds: &[Kind]) -> Free
-    ensures { result ≡ in_each (λ of. running op of kinds.now) }
+    ensures { result ≡ in_each (list_any needing_faulty kinds.now) (λ of. running op of kinds.now) }
 {
     Free {
+        is_faulty: any_needs_faulty(kinds),
         byte: run_in(op, Primitive::Byte, kinds),
         int16: run_in(op, Primitive::Int16, kinds),
         int: run_in(op, Primitive::Int, kinds),
@@ -283,16 +301,31 @@ pub fn operand_type(
     }
 }
 
-/// A free operand that is shifted by this count.
-fn free_shift(op: Operator, free: &Free, count: Option<Value>) -> Free
-    ensures { result ≡ in_each (λ of. shifted_outcome op count (in_type free.now of)) }
+/// A free operand that is shifted by this count, an INT.
+fn free_shift(op: Operator, free: &Free, is_faulty: bool, count: Option<Value>) -> Free
+    ensures { result ≡ in_each is_faulty (λ of. shifted_outcome op count (in_type free.now of)) }
 {
     Free {
+        is_faulty,
         byte: shift(op, count, free.byte),
         int16: shift(op, count, free.int16),
         int: shift(op, count, free.int),
         int32: shift(op, count, free.int32),
         int64: shift(op, count, free.int64),
+    }
+}
+
+/// A free operand that is shifted by a count that is no INT.
+fn free_misshift(free: &Free) -> Free
+    ensures { result ≡ in_each free.now.is_faulty (λ of. misshifted (in_type free.now of)) }
+{
+    Free {
+        is_faulty: free.is_faulty,
+        byte: misshift(free.byte),
+        int16: misshift(free.int16),
+        int: misshift(free.int),
+        int32: misshift(free.int32),
+        int64: misshift(free.int64),
     }
 }
 
@@ -323,6 +356,17 @@ fn known_shift(
     Ok(Kind::Faulty)
 }
 
+/// A free operand that is shifted by a count without a fault.
+fn known_count(op: Operator, free: &Free, count: &Known) -> Free
+    ensures { result ≡ shift_by_known op free.now (int_itself (primitive_of count.now.of)) count.now.value }
+{
+    if is_int(count.of.get()) {
+        free_shift(op, free, free.is_faulty, count.value)
+    } else {
+        free_misshift(free)
+    }
+}
+
 /// An operand that is shifted by a settled count.
 fn shifted_by(
     op: Operator,
@@ -334,13 +378,8 @@ fn shifted_by(
     ensures faults { OnOk result (faults.new ≡ faults.old ++ (shifting_by op kind.now count.now).faults) }
 {
     match (kind, count) {
-        (Kind::Free(free), Kind::Known(count)) => {
-            if is_int(count.of.get()) {
-                return Ok(Kind::Free(free_shift(op, free, count.value)));
-            }
-            tell(faults, Code::T1)?;
-            Ok(Kind::Faulty)
-        }
+        (Kind::Free(free), Kind::Known(count)) => Ok(Kind::Free(known_count(op, free, count))),
+        (Kind::Free(free), Kind::Faulty) => Ok(Kind::Free(free_shift(op, free, true, None))),
         (Kind::Known(known), Kind::Known(count)) => known_shift(op, known, count, faults),
         _ => Ok(Kind::Faulty),
     }
@@ -373,9 +412,10 @@ fn takes(op: Monadic, base: Option<Primitive>) -> bool
 
 /// A free operand behind an operator.
 fn free_front(op: Monadic, free: &Free) -> Free
-    ensures { result ≡ in_each (λ of. applied_outcome op (in_type free.now of)) }
+    ensures { result ≡ in_each free.now.is_faulty (λ of. applied_outcome op (in_type free.now of)) }
 {
     Free {
+        is_faulty: free.is_faulty,
         byte: apply(op, free.byte),
         int16: apply(op, free.int16),
         int: apply(op, free.int),
@@ -384,14 +424,29 @@ fn free_front(op: Monadic, free: &Free) -> Free
     }
 }
 
+/// NOT takes no number.
+fn not_number(needs_faulty: bool, faults: &mut Items<Fault>) -> Result<(), AllocError>
+    ensures { OnOk result (faults.new ≡ faults.old ++ (no_number needs_faulty).faults) }
+{
+    if needs_faulty {
+        return Ok(());
+    }
+    tell(faults, Code::T1)
+}
+
 /// NOT takes no number: a free operand is an INT, which may have a fault of its own.
-fn not_free(outcome: Outcome, faults: &mut Items<Fault>) -> Result<Kind, AllocError>
-    ensures kind { IfOk result (λ kind. kind ≡ (no_free outcome).kind) }
-    ensures faults { OnOk result (faults.new ≡ faults.old ++ (no_free outcome).faults) }
+fn not_free(
+    needs_faulty: bool,
+    outcome: Outcome,
+    faults: &mut Items<Fault>,
+) -> Result<Kind, AllocError>
+    ensures kind { IfOk result (λ kind. kind ≡ (no_free needs_faulty outcome).kind) }
+    ensures faults { OnOk result (faults.new ≡ faults.old ++ (no_free needs_faulty outcome).faults) }
 {
     match outcome {
-        Outcome::Unfit | Outcome::Faulty => tell(faults, Code::T6)?,
-        Outcome::Varying | Outcome::Constant(_) => tell(faults, Code::T1)?,
+        Outcome::Unfit => tell(faults, Code::T6)?,
+        Outcome::Faulty(wrong) => tell_wrong(wrong, faults)?,
+        Outcome::Varying | Outcome::Constant(_) => not_number(needs_faulty, faults)?,
     }
     Ok(Kind::Faulty)
 }
@@ -405,7 +460,7 @@ pub fn applied(op: Monadic, kind: &Kind, faults: &mut Items<Fault>) -> Result<Ki
         Kind::Faulty => Ok(Kind::Faulty),
         Kind::Free(free) => {
             if op == Monadic::Not {
-                return not_free(free.int, faults);
+                return not_free(free.is_faulty, free.int, faults);
             }
             Ok(Kind::Free(free_front(op, free)))
         }

@@ -1,8 +1,8 @@
 ghost use Rattle.std.specs.Prelude.{◌≡◌};
-ghost use Rattle.occ_operands.specs.Outcomes.{applied as applied_to, decimal as decimal_free, fitting as fitting_value, hexadecimal as hexadecimal_free, if_constant, in_type as outcome_in, outcome_of as outcome_of_result, shifted as shifted_by, with_next, worse as worse_of};
+ghost use Rattle.occ_operands.specs.Outcomes.{applied as applied_to, both_wrong as wrong_with_both, decimal as decimal_free, fitting as fitting_value, hexadecimal as hexadecimal_free, if_constant, in_type as outcome_in, misshifted as wrongly_shifted, outcome_of as outcome_of_result, shifted as shifted_by, with_next, worse as worse_of};
 ghost use Rattle.occ_types.specs.Constant.{number_value, pattern_value};
 
-use super::kind::{Free, Outcome};
+use super::kind::{Free, Outcome, Wrong};
 use occ_types::{
     ConstFault, Monadic, Operator, Primitive, Value, fold, fold_one, value_of_number,
     value_of_pattern,
@@ -14,6 +14,7 @@ impl Free {
         ensures { result ≡ decimal_free n }
     {
         Free {
+            is_faulty: false,
             byte: fitting(value_of_number(Primitive::Byte, n)),
             int16: fitting(value_of_number(Primitive::Int16, n)),
             int: fitting(value_of_number(Primitive::Int, n)),
@@ -27,6 +28,7 @@ impl Free {
         ensures { result ≡ hexadecimal_free n }
     {
         Free {
+            is_faulty: false,
             byte: fitting(value_of_pattern(Primitive::Byte, n)),
             int16: fitting(value_of_pattern(Primitive::Int16, n)),
             int: fitting(value_of_pattern(Primitive::Int, n)),
@@ -65,18 +67,31 @@ pub fn outcome_of(folded: Result<Value, ConstFault>) -> Outcome
 {
     match folded {
         Ok(value) => Outcome::Constant(value),
-        Err(_) => Outcome::Faulty,
+        Err(_) => Outcome::Faulty(Wrong::Value),
     }
 }
 
-/// Of operands that are not all constant: a literal that does not fit comes first, then a fault.
+/// What is wrong with two operands.
+fn both_wrong(a: Wrong, b: Wrong) -> Wrong
+    ensures { result ≡ wrong_with_both a b }
+{
+    match (a, b) {
+        (Wrong::Count, Wrong::Count) => Wrong::Count,
+        (Wrong::Value, Wrong::Value) => Wrong::Value,
+        _ => Wrong::Both,
+    }
+}
+
+/// Of operands that are not all constant: a literal that does not fit comes first, then what is wrong with them.
 fn worse(a: Outcome, b: Outcome) -> Outcome
     ensures { result ≡ worse_of a b }
 {
     match (a, b) {
         (Outcome::Constant(_), _) => b,
         (Outcome::Unfit, _) | (_, Outcome::Unfit) => Outcome::Unfit,
-        (Outcome::Faulty, _) | (_, Outcome::Faulty) => Outcome::Faulty,
+        (Outcome::Faulty(a), Outcome::Faulty(b)) => Outcome::Faulty(both_wrong(a, b)),
+        (Outcome::Faulty(_), _) => a,
+        (_, Outcome::Faulty(_)) => b,
         (Outcome::Varying, _) => Outcome::Varying,
     }
 }
@@ -101,6 +116,16 @@ pub fn shift(op: Operator, count: Option<Value>, a: Outcome) -> Outcome
             None => Outcome::Varying,
         },
         _ => a,
+    }
+}
+
+/// What a shift by a count gives that is no INT.
+pub fn misshift(a: Outcome) -> Outcome
+    ensures { result ≡ wrongly_shifted a }
+{
+    match a {
+        Outcome::Unfit | Outcome::Faulty(_) => a,
+        Outcome::Varying | Outcome::Constant(_) => Outcome::Faulty(Wrong::Count),
     }
 }
 

@@ -1,11 +1,12 @@
-ghost use Rattle.std.specs.Prelude.{[], ◌∷◌, ◌≡◌, None, Some, negsuc, pos, true};
+ghost use Rattle.std.specs.Prelude.{[], ◌∷◌, ◌≡◌, None, Some, false, negsuc, pos, true};
 ghost use Rattle.occ_base.specs.declared.code.Code.TheVariants as code;
 ghost use Rattle.occ_operands.specs.Operators.{front_operated, operated, shift_operated};
 ghost use Rattle.occ_operands.specs.Outcomes.{decimal, hexadecimal};
 ghost use Rattle.occ_operands.specs.declared.kind.Kind.TheVariants as k;
 ghost use Rattle.occ_operands.specs.declared.kind.Outcome.TheVariants as o;
+ghost use Rattle.occ_operands.specs.declared.kind.Wrong.TheVariants as w;
 ghost use Rattle.occ_operands.specs.Parts.{field, subscripted};
-ghost use Rattle.occ_operands.specs.Settling.{fault_of, int, known, silent};
+ghost use Rattle.occ_operands.specs.Settling.{fault_of, int, known, settled, silent};
 ghost use Rattle.occ_operands.specs.Wanting.{conversion, wanted};
 ghost use Rattle.occ_types.specs.declared.constant.Monadic.TheVariants as m;
 ghost use Rattle.occ_types.specs.declared.constant.Operator.TheVariants as op;
@@ -28,15 +29,25 @@ pub fn literal_rows()
 /// Free operands under operators: each literal fits, and the sum does not; a minus in front of a literal in
 /// parentheses. One faulty operand makes the whole faulty without a word.
 pub fn free_rows()
-    ensures sum { operated op.Add (k.Free (decimal (pos 200)) ∷ k.Free (decimal (pos 100)) ∷ []) ≡ record { faults = []; kind = k.Free (record { byte = o.Faulty; int16 = o.Constant (v.Int16 (pos 300)); int = o.Constant (v.Int (pos 300)); int32 = o.Constant (v.Int32 (pos 300)); int64 = o.Constant (v.Int64 (pos 300)) }) } }
-    ensures negated { front_operated m.Negate (k.Free (hexadecimal 128)) ≡ record { faults = []; kind = k.Free (record { byte = o.Faulty; int16 = o.Constant (v.Int16 (negsuc 127)); int = o.Constant (v.Int (negsuc 127)); int32 = o.Constant (v.Int32 (negsuc 127)); int64 = o.Constant (v.Int64 (negsuc 127)) }) } }
+    ensures sum { operated op.Add (k.Free (decimal (pos 200)) ∷ k.Free (decimal (pos 100)) ∷ []) ≡ record { faults = []; kind = k.Free (record { is_faulty = false; byte = o.Faulty w.Value; int16 = o.Constant (v.Int16 (pos 300)); int = o.Constant (v.Int (pos 300)); int32 = o.Constant (v.Int32 (pos 300)); int64 = o.Constant (v.Int64 (pos 300)) }) } }
+    ensures negated { front_operated m.Negate (k.Free (hexadecimal 128)) ≡ record { faults = []; kind = k.Free (record { is_faulty = false; byte = o.Faulty w.Value; int16 = o.Constant (v.Int16 (negsuc 127)); int = o.Constant (v.Int (negsuc 127)); int32 = o.Constant (v.Int32 (negsuc 127)); int64 = o.Constant (v.Int64 (negsuc 127)) }) } }
     ensures faulty { operated op.Add (k.Faulty ∷ k.Free (decimal (pos 5000000000)) ∷ []) ≡ silent }
 {}
 
 /// A free 1 shifted by an INT of 33: the count is too large but for an INT64.
 #[tactic(auto, using(occ_types::proofs::Agreeing::fit_rules))]
 pub fn shift_rows()
-    ensures { shift_operated op.ShiftLeft (k.Free (decimal (pos 1))) (known int (Some (v.Int (pos 33)))) ≡ record { faults = []; kind = k.Free (record { byte = o.Faulty; int16 = o.Faulty; int = o.Faulty; int32 = o.Faulty; int64 = o.Constant (v.Int64 (pos 8589934592)) }) } }
+    ensures { shift_operated op.ShiftLeft (k.Free (decimal (pos 1))) (known int (Some (v.Int (pos 33)))) ≡ record { faults = []; kind = k.Free (record { is_faulty = false; byte = o.Faulty w.Value; int16 = o.Faulty w.Value; int = o.Faulty w.Value; int32 = o.Faulty w.Value; int64 = o.Constant (v.Int64 (pos 8589934592)) }) } }
+{}
+
+/// Free operands shifted by counts that have a fault, or are no INT: what is told where an INT is wanted. What is shifted
+/// comes first.
+#[tactic(auto, using(occ_types::proofs::Agreeing::fit_rules))]
+pub fn count_rows()
+    ensures silent { settled int (shift_operated op.ShiftLeft (k.Free (decimal (pos 5))) k.Faulty).kind ≡ silent }
+    ensures unfit { settled int (shift_operated op.ShiftLeft (k.Free (decimal (pos 5000000000))) k.Faulty).kind ≡ fault_of code.T6 }
+    ensures byte { settled int (shift_operated op.ShiftLeft (k.Free (decimal (pos 5))) (known (t.Primitive p.Byte) None)).kind ≡ fault_of code.T1 }
+    ensures unfit_byte { settled int (shift_operated op.ShiftLeft (k.Free (decimal (pos 5000000000))) (known (t.Primitive p.Byte) None)).kind ≡ fault_of code.T6 }
 {}
 
 /// Literals where a type is wanted: 255 is a BYTE, 256 is none but an INT, `#FFFF` stands for the bits of an INT16, and

@@ -1,8 +1,8 @@
 ghost use Rattle.std.specs.Prelude.{◌≡◌, ◌++◌, IfOk, OnOk, [], ◌∷◌, None};
-ghost use Rattle.occ_operands.specs.Settling.{int as int_type, known as known_kind, landed as landing, landed_or_int as landing_or_int, number as number_base, settled as settling};
+ghost use Rattle.occ_operands.specs.Settling.{base_of as named_base, faulty_if as told_faulty_if, int as int_type, known as known_kind, landed as landing, landed_or_int as landing_or_int, number as number_base, settled as settling, settled_free as settling_free, wrong_faults};
 ghost use Rattle.occ_base.specs.Telling.{nameless};
 
-use super::kind::{Free, Kind, Known, Outcome};
+use super::kind::{Free, Kind, Known, Outcome, Wrong};
 use occ_base::{Code, Fault, Items, Shared, tell};
 use occ_types::{OccType, Primitive, Value, base_of};
 use std::alloc::{AllocError, Global};
@@ -32,6 +32,20 @@ pub fn known(of: &Shared<OccType>, value: Option<Value>) -> Result<Kind, AllocEr
     Ok(Kind::Known(Known { of, value }))
 }
 
+/// What is wrong is told.
+pub(super) fn tell_wrong(wrong: Wrong, faults: &mut Items<Fault>) -> Result<(), AllocError>
+    ensures { OnOk result (faults.new ≡ faults.old ++ wrong_faults wrong) }
+{
+    match wrong {
+        Wrong::Count => tell(faults, Code::T1),
+        Wrong::Value => tell(faults, Code::T6),
+        Wrong::Both => {
+            tell(faults, Code::T1)?;
+            tell(faults, Code::T6)
+        }
+    }
+}
+
 /// Of this type, it comes to that.
 pub fn landed(
     of: &Shared<OccType>,
@@ -42,8 +56,12 @@ pub fn landed(
     ensures faults { OnOk result (faults.new ≡ faults.old ++ (landing of.now outcome).faults) }
 {
     match outcome {
-        Outcome::Unfit | Outcome::Faulty => {
+        Outcome::Unfit => {
             tell(faults, Code::T6)?;
+            Ok(Kind::Faulty)
+        }
+        Outcome::Faulty(wrong) => {
+            tell_wrong(wrong, faults)?;
             Ok(Kind::Faulty)
         }
         Outcome::Varying => known(of, None),
@@ -68,6 +86,29 @@ fn landed_or_int(
     }
 }
 
+/// A free operand, of which this type is wanted.
+fn settled_free(
+    alloc: Global,
+    of: &Shared<OccType>,
+    free: &Free,
+    faults: &mut Items<Fault>,
+) -> Result<Kind, AllocError>
+    ensures kind { IfOk result (λ kind. kind ≡ (settling_free of.now free.now (number_base (named_base of.now))).kind) }
+    ensures faults { OnOk result (faults.new ≡ faults.old ++ (settling_free of.now free.now (number_base (named_base of.now))).faults) }
+{
+    match number(base_of(of.get())) {
+        Some(base) => landed_or_int(alloc, of, free, free.in_type(base), faults),
+        None => landed(&int(alloc)?, free.int, faults),
+    }
+}
+
+/// What is known of what needs something faulty, or does not.
+fn faulty_if(needs_faulty: bool, kind: Kind) -> Kind
+    ensures { result ≡ (told_faulty_if needs_faulty (record { faults = []; kind = kind })).kind }
+{
+    if needs_faulty { Kind::Faulty } else { kind }
+}
+
 /// What an operand is where this type is wanted of it: a free one takes the type, if that is a number under its names
 /// which each of its literals fits, and else INT.
 pub fn settled(
@@ -81,10 +122,10 @@ pub fn settled(
 {
     match kind {
         Kind::Faulty => Ok(Kind::Faulty),
-        Kind::Free(free) => match number(base_of(of.get())) {
-            Some(base) => landed_or_int(alloc, of, free, free.in_type(base), faults),
-            None => landed(&int(alloc)?, free.int, faults),
-        },
+        Kind::Free(free) => {
+            let kind = settled_free(alloc, of, free, faults)?;
+            Ok(faulty_if(free.is_faulty, kind))
+        }
         Kind::Known(found) => known(&found.of, found.value),
     }
 }

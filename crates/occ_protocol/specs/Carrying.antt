@@ -1,5 +1,5 @@
 -- What an element is to those who send and receive through it, and the tags of a protocol.
-use Rattle.std.specs.Prelude.{ℕ, Option, Some, None, List, [], ◌∷◌, Bool, true, false, if◌then◌else◌}
+use Rattle.std.specs.Prelude.{ℕ, ◌+◌, Option, Some, None, List, [], ◌∷◌, Bool, true, false, if◌then◌else◌}
 use Rattle.std.specs.Borrow.{Bor}
 use Rattle.std.specs.List.{list_any}
 use Rattle.std.specs.Str.{bytes_eq}
@@ -75,6 +75,14 @@ name_seen (Some name) = Some name.now
 abbrev pub tag_named : List Tag → List ℕ → Option Tag
 tag_named [] name = None
 tag_named (tag ∷ tags) name = if bytes_eq tag.name name then Some tag else tag_named tags name
+
+-- the place of the first tag of this name, with n tags before these
+abbrev pub place_from : ℕ → List Tag → List ℕ → Option ℕ
+place_from n [] name = None
+place_from n (tag ∷ tags) name = if bytes_eq tag.name name then Some n else place_from (n + 1) tags name
+
+abbrev pub place_named : List Tag → List ℕ → Option ℕ
+place_named tags name = place_from 0 tags name
 
 abbrev pub unknown_value : Option OccType → Bool
 unknown_value None = false

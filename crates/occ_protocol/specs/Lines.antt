@@ -5,7 +5,7 @@ use Rattle.occ_base.specs.declared.fault.Fault.{Fault}
 use Rattle.occ_types.specs.declared.types.Item.TheVariants as i
 use Rattle.occ_types.specs.declared.types.Tag.{Tag}
 use Rattle.occ_operands.specs.Settling.{int}
-use Rattle.occ_protocol.specs.Carrying.{Carrier, tag_named}
+use Rattle.occ_protocol.specs.Carrying.{Carrier, place_named, tag_named}
 use Rattle.occ_protocol.specs.Carrying.Carrier.{Hidden, Nothing, Time, Data, Sequence, Variant}
 use Rattle.occ_protocol.specs.Matching.{against, asked, named, told}
 use Rattle.occ_protocol.specs.declared.given.Given.{Given}
@@ -71,3 +71,20 @@ lacks Time tag = false
 lacks Data tag = false
 lacks (Sequence items) tag = false
 lacks (Variant tags) tag = is_missing (tag_named tags tag)
+
+-- the place of a tag in the protocol, if it has it
+abbrev pub tag_place : Carrier → List ℕ → Option ℕ
+tag_place Hidden tag = None
+tag_place Nothing tag = None
+tag_place Time tag = None
+tag_place Data tag = None
+tag_place (Sequence items) tag = None
+tag_place (Variant tags) tag = place_named tags tag
+
+abbrev pub is_timer : Carrier → Bool
+is_timer Hidden = false
+is_timer Nothing = false
+is_timer Time = true
+is_timer Data = false
+is_timer (Sequence items) = false
+is_timer (Variant tags) = false

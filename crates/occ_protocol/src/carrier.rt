@@ -2,7 +2,7 @@
 
 ghost use Rattle.std.specs.Prelude.{◌≡◌};
 ghost use Rattle.std.specs.List.{list_any};
-ghost use Rattle.occ_protocol.specs.Carrying.{carried as carried_by, carrier as carrier_in, is_faulty_tag as has_faulty_line, is_unknown_item as has_unknown_type, of_type as type_in, tag_named as first_of_name};
+ghost use Rattle.occ_protocol.specs.Carrying.{carried as carried_by, carrier as carrier_in, is_faulty_tag as has_faulty_line, is_unknown_item as has_unknown_type, of_type as type_in, place_named as first_place, tag_named as first_of_name};
 ghost use Rattle.occ_protocol.specs.inside.Seen.{seen, tag_seen};
 
 use occ_base::Name;
@@ -68,6 +68,20 @@ pub(super) fn tag_named<'a>(tags: &'a [Tag], name: &Name) -> Option<&'a Tag>
         if tag.name == *name {
             return Some(tag);
         }
+    }
+    None
+}
+
+/// The place of the first tag of this name.
+pub(super) fn place_named(tags: &[Tag], name: &Name) -> Option<usize>
+    ensures { result ≡ first_place tags.now name.now }
+{
+    let mut place = 0;
+    for tag in tags {
+        if tag.name == *name {
+            return Some(place);
+        }
+        place += 1;
     }
     None
 }

@@ -11,5 +11,7 @@ pub mod rows;
 mod want;
 
 pub use given::{Given, Shape, Want, Wanted};
-pub use line::{alternative, awaited, cased, exchanged, lacks, received, takes_tag};
+pub use line::{
+    alternative, awaited, cased, exchanged, is_timer, lacks, received, tag_place, takes_tag,
+};
 pub use want::wants;

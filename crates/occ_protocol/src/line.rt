@@ -2,10 +2,10 @@ ghost use Rattle.std.specs.Prelude.{◌≡◌, ◌++◌, IfOk, OnOk, [], ◌∷�
 ghost use Rattle.occ_types.specs.declared.types.Item.TheVariants as i;
 ghost use Rattle.occ_operands.specs.Settling.{int as int_type};
 ghost use Rattle.occ_protocol.specs.Carrying.{carrier as carrier_in, name_seen};
-ghost use Rattle.occ_protocol.specs.Lines.{alternative as told_alternative, awaited as told_awaited, cased as told_cased, exchanged as told_exchanged, lacks as is_lacking, received as told_received, takes_tag as is_taking_tag};
+ghost use Rattle.occ_protocol.specs.Lines.{alternative as told_alternative, awaited as told_awaited, cased as told_cased, exchanged as told_exchanged, is_timer as is_time, lacks as is_lacking, received as told_received, tag_place as the_tag_place, takes_tag as is_taking_tag};
 
 use super::asked::asked_of;
-use super::carrier::{Carrier, carrier_of, tag_named};
+use super::carrier::{Carrier, carrier_of, place_named, tag_named};
 use super::given::Given;
 use super::matching::{against, tell_named, told};
 use occ_base::{Code, Fault, Items, Name};
@@ -156,6 +156,26 @@ pub fn lacks(channel: &Kind, tag: &Name) -> bool
 {
     match carrier_of(channel) {
         Carrier::Variant(tags) => tag_named(tags, tag).is_none(),
+        _ => false,
+    }
+}
+
+/// The place of a tag in the protocol of `channel`, from 0: of the first tag of this name.
+pub fn tag_place(channel: &Kind, tag: &Name) -> Option<usize>
+    ensures { result ≡ the_tag_place (carrier_in channel.now) tag.now }
+{
+    match carrier_of(channel) {
+        Carrier::Variant(tags) => place_named(tags, tag),
+        _ => None,
+    }
+}
+
+/// Whether an input through `channel` is one from a timer.
+pub fn is_timer(channel: &Kind) -> bool
+    ensures { result ≡ is_time (carrier_in channel.now) }
+{
+    match carrier_of(channel) {
+        Carrier::Time => true,
         _ => false,
     }
 }

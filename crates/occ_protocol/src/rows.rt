@@ -8,7 +8,7 @@ ghost use Rattle.occ_types.specs.declared.types.Protocol.TheVariants as protocol
 ghost use Rattle.occ_types.specs.declared.value.Primitive.TheVariants as p;
 ghost use Rattle.occ_protocol.specs.Carrying.{carrier};
 ghost use Rattle.occ_protocol.specs.Carrying.Carrier.{Data, Hidden, Nothing, Sequence, Time};
-ghost use Rattle.occ_protocol.specs.Lines.{alternative, awaited, cased, exchanged, lacks, received, takes_tag};
+ghost use Rattle.occ_protocol.specs.Lines.{alternative, awaited, cased, exchanged, is_timer, lacks, received, tag_place, takes_tag};
 ghost use Rattle.occ_protocol.specs.Matching.{asked, named};
 ghost use Rattle.occ_protocol.specs.Wanting.{wants};
 ghost use Rattle.occ_protocol.specs.declared.given.Given.TheVariants as g;
@@ -91,12 +91,16 @@ pub fn tag_rows()
     ensures lacked { lacks choice (codes "tagz") ≡ true }
     ensures there { lacks choice (codes "b") ≡ false }
     ensures not_asked { lacks pair (codes "tagz") ≡ false }
+    ensures place { tag_place choice (codes "b") ≡ Some 1 }
+    ensures no_place { tag_place choice (codes "tagz") ≡ None }
 {}
 
 /// Timers: an input of an INT, of a BYTE, of two, of two of which one is faulty, and of a counted one; an output, a tag, a
 /// case input and `AFTER`. `AFTER`, and a case input, of channels and of a variable.
 #[tactic(auto, using(crate::proofs::Primitives::written_rules))]
 pub fn timer_rows()
+    ensures timer { is_timer Time ≡ true }
+    ensures no_timer { is_timer pair ≡ false }
     ensures int { received Time c (plain int ∷ []) ≡ [] }
     ensures byte { received Time c (plain byte ∷ []) ≡ named code.P1 c }
     ensures two { received Time c (plain int ∷ plain int ∷ []) ≡ named code.P1 c }

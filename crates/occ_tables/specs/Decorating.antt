@@ -1,18 +1,16 @@
 -- Tables, characters and strings with their type behind them.
-use Rattle.std.specs.Prelude.{ℕ, ◌==◌, Bool, Option, Some, None, List, [], ◌∷◌, ◌++◌, length, map, if◌then◌else◌}
-use Rattle.std.specs.List.{list_any}
+use Rattle.std.specs.Prelude.{ℕ, ◌==◌, Option, Some, None, List, [], ◌∷◌, length, map, if◌then◌else◌}
 use Rattle.occ_base.specs.declared.code.Code.TheVariants as code
 use Rattle.occ_types.specs.Fits.{alike, counts_fit, unnamed}
 use Rattle.occ_types.specs.View.{as_array, fields_in, is_unknown}
 use Rattle.occ_types.specs.declared.types.Field.{Field}
 use Rattle.occ_types.specs.declared.types.OccType.{OccType}
 use Rattle.occ_types.specs.declared.value.Value.{Value}
-use Rattle.occ_operands.specs.Operators.{all_faults, kinds}
+use Rattle.occ_operands.specs.Operators.{kinds}
 use Rattle.occ_operands.specs.Settling.{Told, fault_of, known, silent}
-use Rattle.occ_base.specs.Telling.{nameless}
-use Rattle.occ_base.specs.declared.fault.Fault.{Fault}
+use Rattle.occ_operands.specs.declared.kind.Kind.{Kind}
 use Rattle.occ_operands.specs.declared.kind.Kind.TheVariants as k
-use Rattle.occ_tables.specs.Terms.{Judged, alone, each_under, has_fault, with_items}
+use Rattle.occ_tables.specs.Terms.{Judged, alone, and_then, each_under, table_alone, with_items}
 
 -- ---- a character or a string, which is of a type of its own, as a value of a type that is this one but for names
 abbrev pub decorated : OccType → OccType → Option Value → Told
@@ -38,20 +36,22 @@ field_values [] xs = []
 field_values (f ∷ fs) [] = []
 field_values (f ∷ fs) (x ∷ xs) = field_value f x ∷ field_values fs xs
 
--- a table of a type that is neither: no type is wanted of its items
+abbrev pub mismatched : Kind → Told
+mismatched k.Faulty = silent
+mismatched (k.Free f) = silent
+mismatched (k.Known x) = fault_of code.T2
+
+-- a table of a type that is neither: no type is wanted of it, and it is not of this one
 abbrev pub misused : List Judged → Told
-misused xs = with_items (map alone xs) (fault_of code.T2)
+misused xs = and_then (table_alone xs) mismatched
 
 -- the values of the fields, in their order
 abbrev pub of_values : OccType → List Field → List Judged → Told
 of_values to fs xs = with_items (field_values fs xs) (whole to)
 
--- more or fewer values than fields: that is told first, and then no type is wanted of them
-abbrev pub number_faults : Bool → List Fault
-number_faults is_silent = if is_silent then [] else nameless code.T4 ∷ []
-
+-- more or fewer values than fields: no type is wanted of them
 abbrev pub of_another_number : List Judged → Told
-of_another_number xs = record { faults = number_faults (list_any has_fault xs) ++ all_faults (map alone xs); kind = k.Faulty }
+of_another_number xs = with_items (map alone xs) (fault_of code.T4)
 
 abbrev pub of_record : OccType → List Field → List Judged → Told
 of_record to fs xs =

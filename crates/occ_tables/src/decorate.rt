@@ -7,8 +7,7 @@ ghost use Rattle.occ_tables.specs.Terms.{judged, judged_all};
 ghost use Rattle.occ_types.specs.Fits.{counts_fit, unnamed as without_name};
 ghost use Rattle.occ_types.specs.View.{fields_in};
 
-use super::placing::any_has_fault;
-use super::table::{any_faulty, each_alone, each_under, under};
+use super::table::{any_faulty, each_alone, each_under, table_alone, under};
 use super::term::Term;
 use occ_base::{Code, Fault, Items, Shared, tell};
 use occ_operands::{Kind, known};
@@ -122,8 +121,7 @@ fn misused(alloc: Global, items: &[Term], faults: &mut Items<Fault>) -> Result<K
     ensures kind { IfOk result (λ kind. kind ≡ (told_misused (judged_all items.now)).kind) }
     ensures faults { OnOk result (faults.new ≡ faults.old ++ (told_misused (judged_all items.now)).faults) }
 {
-    let kinds = each_alone(alloc, items, faults)?;
-    if !any_faulty(kinds.as_slice()) {
+    if let Kind::Known(_) = table_alone(alloc, items, faults)? {
         tell(faults, Code::T2)?;
     }
     Ok(Kind::Faulty)
@@ -138,10 +136,10 @@ fn of_another_number(
     ensures kind { IfOk result (λ kind. kind ≡ (told_of_another_number (judged_all items.now)).kind) }
     ensures faults { OnOk result (faults.new ≡ faults.old ++ (told_of_another_number (judged_all items.now)).faults) }
 {
-    if !any_has_fault(items) {
+    let kinds = each_alone(alloc, items, faults)?;
+    if !any_faulty(kinds.as_slice()) {
         tell(faults, Code::T4)?;
     }
-    each_alone(alloc, items, faults)?;
     Ok(Kind::Faulty)
 }
 

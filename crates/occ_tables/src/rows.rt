@@ -1,9 +1,10 @@
 ghost use Rattle.std.specs.Prelude.{[], ◌∷◌, ◌≡◌, None, Some, false, negsuc, pos, true};
 ghost use Rattle.occ_base.specs.declared.code.Code.TheVariants as code;
-ghost use Rattle.occ_operands.specs.Settling.{fault_of, int, known};
+ghost use Rattle.occ_operands.specs.Outcomes.{decimal};
+ghost use Rattle.occ_operands.specs.Settling.{fault_of, int, known, silent};
 ghost use Rattle.occ_operands.specs.declared.kind.Kind.TheVariants as k;
 ghost use Rattle.occ_base.specs.Telling.{nameless};
-ghost use Rattle.occ_tables.specs.Decorating.{decorated_table};
+ghost use Rattle.occ_tables.specs.Decorating.{decorated_table, mismatched};
 ghost use Rattle.occ_tables.specs.Dimensions.{size_of_kind};
 ghost use Rattle.occ_tables.specs.Measuring.{most, sized};
 ghost use Rattle.occ_tables.specs.Merging.{merged};
@@ -40,11 +41,14 @@ pub fn measure_rows()
     ensures no_number { most limit.Greatest (t.Primitive p.Bool) ≡ fault_of code.T1 }
 {}
 
-/// A table without items of a type that is a record of one field: T4; and of a type that is none: T2.
+/// A table without items of a record of one field: T4; but one of 5000000000, a value that is faulty alone, of a record
+/// without fields: T6. Of INT no table is.
 #[tactic(auto, using(occ_types::proofs::Agreeing::fit_rules))]
 pub fn decorated_rows()
-    ensures record { decorated_table (t.Record packing.Plain ((record { name = 120 ∷ []; of = int }) ∷ [])) [] ≡ fault_of code.T4 }
-    ensures misused { decorated_table int [] ≡ fault_of code.T2 }
+    ensures number { decorated_table (t.Record packing.Plain ((record { name = 120 ∷ []; of = int }) ∷ [])) [] ≡ fault_of code.T4 }
+    ensures faulty { decorated_table (t.Record packing.Plain []) (term_step (Term-F.Single (k.Free (decimal (pos 5000000000)))) ∷ []) ≡ fault_of code.T6 }
+    ensures misused { mismatched (known (t.Array (Some 4) int) None) ≡ fault_of code.T2 }
+    ensures silent { decorated_table int (term_step (Term-F.Single k.Faulty) ∷ []) ≡ silent }
 {}
 
 /// A table of an INT, where BYTEs are wanted: T2, but nothing in it is faulty, as in a table of a faulty item.

@@ -14,5 +14,3 @@ mod form;
 mod scope;
 #[cfg(test)]
 mod types;
-#[cfg(test)]
-mod units;

@@ -13,4 +13,4 @@ pub use abbreviate::{abbreviated, abbreviated_as};
 pub use assign::{assigned, target};
 pub use choose::{condition, options, selector};
 pub use repeat::repeated;
-pub use result::{of_data, results};
+pub use result::{hidden_results, of_data, results};

@@ -1,12 +1,12 @@
 #![tactic(auto, using(crate::proofs::Counting::judged_length))]
 
 ghost use Rattle.std.specs.Prelude.{◌≡◌, ◌++◌, IfOk, OnOk};
-ghost use Rattle.occ_type_rules.specs.Resulting.{each_under as told_each_under, of_data as told_of_data, results as told_results};
+ghost use Rattle.occ_type_rules.specs.Resulting.{each_under as told_each_under, hidden_results as told_hidden, of_data as told_of_data, results as told_results};
 ghost use Rattle.occ_tables.specs.Terms.{judged_all};
 
 use super::count::of_another_number;
 use occ_base::{Code, Fault, Items, Shared, tell};
-use occ_tables::{Term, under};
+use occ_tables::{Term, each_alone, under};
 use occ_types::{OccType, is_data};
 use std::alloc::{AllocError, Global};
 
@@ -58,4 +58,20 @@ pub fn results(
         return each_under(alloc, types, terms, faults);
     }
     of_another_number(alloc, terms, false, faults)
+}
+
+/// The results of a FUNCTION with a fault in its head, which wants so many.
+pub fn hidden_results(
+    alloc: Global,
+    count: usize,
+    terms: &[Term],
+    faults: &mut Items<Fault>,
+) -> Result<(), AllocError>
+    ensures { OnOk result (faults.new ≡ faults.old ++ told_hidden count (judged_all terms.now)) }
+{
+    if count == terms.len() {
+        return Ok(());
+    }
+    each_alone(alloc, terms, faults)?;
+    Ok(())
 }

@@ -43,7 +43,7 @@ known_of t = known_layer (out-TypedExpr t)
 
 abbrev pub constant_in : Outcome → Option Value
 constant_in o.Unfit = None
-constant_in o.Faulty = None
+constant_in (o.Faulty x) = None
 constant_in o.Varying = None
 constant_in (o.Constant v) = Some v
 

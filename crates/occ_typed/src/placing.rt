@@ -18,7 +18,7 @@ fn constant(outcome: Outcome) -> Option<Value>
     match outcome {
         Outcome::Constant(value) => Some(value),
         Outcome::Unfit => None,
-        Outcome::Faulty => None,
+        Outcome::Faulty(_) => None,
         Outcome::Varying => None,
     }
 }

@@ -13,7 +13,6 @@ use Rattle.occ_expr.specs.Views.{dimension_views, each, type_form_view}
 use Rattle.occ_expr.specs.Written.{Written, data_form}
 use Rattle.occ_expr.specs.declared.written.Opening.TheVariants as opening
 use Rattle.occ_type_rules.specs.Listing.{repetitions}
-use Rattle.occ_typed_specifications.specs.Forms.{no_data_faults}
 use Rattle.occ_typed_heads.specs.Formals.{each_of}
 use Rattle.occ_typed_heads.specs.declared.formal.HeadFormal.{HeadFormal}
 
@@ -23,11 +22,9 @@ use Rattle.occ_typed_heads.specs.declared.formal.HeadFormal.{HeadFormal}
 unfoldable pub value_type : Scope → ValueGroup → Written
 value_type s x = data_form s (each opening.Allowed s (dimension_views x.form.dimensions)) x.form.base
 
--- also whether typing knows the type yet
+-- of formals that are no values, channels and timers among them
 unfoldable pub plain_type : Scope → TypeForm → Written
-plain_type s of =
-    let x = type_form_view of opening.Allowed s in
-    record { faults = x.faults ++ no_data_faults of; found = x.found }
+plain_type s of = type_form_view of opening.Allowed s
 
 abbrev pub type_of : Scope → FormalGroup → Written
 type_of s (g.Value x) = value_type s x

@@ -1,6 +1,6 @@
 -- What the head of a PROC or of a FUNCTION tells, and what it makes known: nothing, if it tells something or needs
 -- something faulty, and then all formals and the name are faulty.
-use Rattle.std.specs.Prelude.{Bool, true, false, ◌&&◌, Option, Some, None, List, [], ◌∷◌, ◌++◌}
+use Rattle.std.specs.Prelude.{Bool, true, false, ◌&&◌, Option, List, [], ◌∷◌, ◌++◌, length}
 use Rattle.occ_types.specs.declared.types.OccType.{OccType}
 use Rattle.occ_base.specs.declared.fault.Fault.{Fault}
 use Rattle.occ_names.specs.declared.meaning.Meaning.{Meaning}
@@ -13,6 +13,8 @@ use Rattle.occ_typed_heads.specs.Groups.{groups, values}
 use Rattle.occ_typed_heads.specs.Knowing.{all_found, known_types, unless_told}
 use Rattle.occ_typed_heads.specs.Results.{results}
 use Rattle.occ_typed_heads.specs.declared.formal.HeadFormal.{HeadFormal}
+use Rattle.occ_typed_heads.specs.declared.heading.Expected.{Expected}
+use Rattle.occ_typed_heads.specs.declared.heading.Expected.TheVariants as expected
 use Rattle.occ_typed_heads.specs.declared.heading.Heading.{Heading}
 
 -- the faults of a head, and what it makes known
@@ -27,7 +29,7 @@ procedure_meaning true xs = m.Procedure (called_formals xs)
 procedure_meaning false xs = m.Faulty
 
 abbrev pub procedure_heading : Bool → List HeadFormal → Heading
-procedure_heading known xs = record { formals = entries known xs; meaning = procedure_meaning known xs; results = None }
+procedure_heading known xs = record { formals = entries known xs; meaning = procedure_meaning known xs; results = expected.Types [] }
 
 unfoldable pub procedure : Scope → List FormalGroup → Headed
 procedure s formals =
@@ -40,10 +42,10 @@ abbrev pub function_meaning : Bool → List HeadFormal → List (Option OccType)
 function_meaning true xs types = m.Function (called_formals xs) (known_types types)
 function_meaning false xs types = m.Faulty
 
--- nothing is compared with the results of a head with a fault
-abbrev pub function_results : Bool → List (Option OccType) → Option (List OccType)
-function_results true types = Some (known_types types)
-function_results false types = None
+-- no types are compared with the results of a head with a fault
+abbrev pub function_results : Bool → List (Option OccType) → Expected
+function_results true types = expected.Types (known_types types)
+function_results false types = expected.Count (length types)
 
 abbrev pub function_heading : Bool → List HeadFormal → List (Option OccType) → Heading
 function_heading known xs types =

@@ -3,7 +3,7 @@ ghost use Rattle.occ_typed_heads.specs.Heads.{function, function_heading as told
 
 use super::formal::{HeadFormal, all_known, called_formals, entries};
 use super::group::value_groups;
-use super::heading::Heading;
+use super::heading::{Expected, Heading};
 use super::result_type::{all_found, known_types, result_types, unless_told};
 use occ_base::{Fault, Items, Shared};
 use occ_names::{Meaning, Scope};
@@ -28,18 +28,18 @@ fn function_meaning(
     Ok(Meaning::Faulty)
 }
 
-/// The types that the results must have, if the head has no fault.
+/// The results that the head lets expect: of these types, if it has no fault.
 fn function_results(
     alloc: Global,
     known: bool,
     types: &[Option<Shared<OccType>>],
-) -> Result<Option<Items<Shared<OccType>>>, AllocError>
+) -> Result<Expected, AllocError>
     ensures { IfOk result (λ results. results ≡ told_results known types.now) }
 {
     if known {
-        return Ok(Some(known_types(alloc, types)?));
+        return Ok(Expected::Types(known_types(alloc, types)?));
     }
-    Ok(None)
+    Ok(Expected::Count(types.len()))
 }
 
 /// What the head of a function with these formals, and with results of these types, makes known.

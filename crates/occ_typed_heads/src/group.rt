@@ -11,7 +11,7 @@ use occ_expression_forms::TypeForm;
 use occ_names::Scope;
 use occ_scope::Scopes;
 use occ_specification_forms::{FormalGroup, ValueGroup};
-use occ_typed_specifications::{repeated_all, tell_no_data};
+use occ_typed_specifications::repeated_all;
 use occ_types::{OccType, Passing};
 use std::alloc::{AllocError, Global};
 
@@ -47,9 +47,7 @@ fn plain_type(
     ensures found { IfOk result (λ found. found ≡ (told_plain scope.now of.now).found) }
     ensures faults { OnOk result (faults.new ≡ faults.old ++ (told_plain scope.now of.now).faults) }
 {
-    let found = type_form(alloc, of, Opening::Allowed, scope, faults)?;
-    tell_no_data(of, faults)?;
-    Ok(found)
+    type_form(alloc, of, Opening::Allowed, scope, faults)
 }
 
 /// Formals of one type, behind those of these names.

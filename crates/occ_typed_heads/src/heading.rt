@@ -2,6 +2,15 @@ use occ_base::{Items, Shared};
 use occ_names::{Entry, Meaning};
 use occ_types::OccType;
 
+/// The results that a head lets expect.
+#[derive(Drop)]
+pub enum Expected {
+    /// Of these types, in their order; of a procedure none.
+    Types(Items<Shared<OccType>>),
+    /// So many: the head has a fault, or needs what has one, and no types are compared with the results.
+    Count(usize),
+}
+
 /// What a head makes known.
 #[derive(Drop)]
 pub struct Heading {
@@ -9,7 +18,5 @@ pub struct Heading {
     pub formals: Items<Entry>,
     /// What the name stands for behind the body.
     pub meaning: Meaning,
-    /// The types that the results of a function must have. None of a procedure, and of a head with a fault: then
-    /// nothing is compared with the results.
-    pub results: Option<Items<Shared<OccType>>>,
+    pub results: Expected,
 }

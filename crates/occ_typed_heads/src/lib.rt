@@ -10,5 +10,5 @@ mod result_type;
 pub mod rows;
 
 pub use function::function_head;
-pub use heading::Heading;
+pub use heading::{Expected, Heading};
 pub use procedure::procedure_head;

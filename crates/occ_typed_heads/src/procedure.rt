@@ -3,7 +3,7 @@ ghost use Rattle.occ_typed_heads.specs.Heads.{procedure, procedure_heading as to
 
 use super::formal::{HeadFormal, all_known, called_formals, entries};
 use super::group::groups;
-use super::heading::Heading;
+use super::heading::{Expected, Heading};
 use super::result_type::unless_told;
 use occ_base::{Fault, Items};
 use occ_names::{Meaning, Scope};
@@ -37,7 +37,7 @@ fn procedure_heading(
     Ok(Heading {
         formals,
         meaning,
-        results: None,
+        results: Expected::Types(Items::new(alloc)),
     })
 }
 

@@ -1,6 +1,7 @@
 ghost use Rattle.std.specs.Prelude.{[], ◌∷◌, ◌≡◌, None, Some, false, true};
 ghost use Rattle.occ_typed_heads.specs.Formals.{entries, called_formals};
 ghost use Rattle.occ_typed_heads.specs.Heads.{function_heading, procedure};
+ghost use Rattle.occ_typed_heads.specs.declared.heading.Expected.TheVariants as expected;
 ghost use Rattle.occ_names.specs.declared.meaning.Access.TheVariants as access;
 ghost use Rattle.occ_names.specs.declared.meaning.Meaning.TheVariants as m;
 ghost use Rattle.occ_names.specs.declared.scope.Scope.{Scope};
@@ -10,7 +11,7 @@ ghost use Rattle.occ_types.specs.declared.interface.Passing.TheVariants as passi
 /// `PROC p ()`: it tells nothing, and its name stands for a procedure without formals.
 #[tactic(auto, unfolding(crate::specs::Heads::procedure))]
 pub fn procedure_rows()
-    ensures { (s : Scope) → procedure s [] ≡ record { faults = []; heading = record { formals = []; meaning = m.Procedure []; results = None } } }
+    ensures { (s : Scope) → procedure s [] ≡ record { faults = []; heading = record { formals = []; meaning = m.Procedure []; results = expected.Types [] } } }
 {}
 
 /// The formal `VAL INT x`, where `x` is 120, in the body and to a call; in the body of a head with a fault it is faulty.
@@ -20,9 +21,9 @@ pub fn formal_rows()
     ensures faulty { entries false ((record { name = 120 ∷ []; of = Some int; passing = passing.Value }) ∷ []) ≡ (record { name = 120 ∷ []; meaning = m.Faulty }) ∷ [] }
 {}
 
-/// A FUNCTION with one result of type INT and no formals, and the same with a fault in its head: nothing is compared with
-/// its results.
+/// A FUNCTION with one result of type INT and no formals, and the same with a fault in its head: no type is compared with
+/// its result.
 pub fn function_rows()
-    ensures known { function_heading true [] (Some int ∷ []) ≡ record { formals = []; meaning = m.Function [] (int ∷ []); results = Some (int ∷ []) } }
-    ensures faulty { function_heading false [] (Some int ∷ []) ≡ record { formals = []; meaning = m.Faulty; results = None } }
+    ensures known { function_heading true [] (Some int ∷ []) ≡ record { formals = []; meaning = m.Function [] (int ∷ []); results = expected.Types (int ∷ []) } }
+    ensures faulty { function_heading false [] (Some int ∷ []) ≡ record { formals = []; meaning = m.Faulty; results = expected.Count 1 } }
 {}

@@ -12,7 +12,6 @@ use Rattle.occ_expr.specs.Written.{Written}
 use Rattle.occ_expr.specs.declared.written.Opening.TheVariants as opening
 use Rattle.occ_type_rules.specs.Listing.{repetitions}
 use Rattle.occ_typed_specifications.specs.Entering.{Declared, unless_told}
-use Rattle.occ_typed_specifications.specs.Forms.{no_data_faults}
 
 -- a variable of this type, if it is known
 abbrev pub variable : Option OccType → List ℕ → Meaning
@@ -23,11 +22,11 @@ abbrev pub variables : Option OccType → List (List ℕ) → List Entry
 variables of [] = []
 variables of (name ∷ names) = (record { name = name; meaning = variable of name }) ∷ variables of names
 
--- the type, whether typing knows it yet, and each name that stood before in the line
+-- the type, and each name that stood before in the line
 unfoldable pub declared_type : Scope → TypeForm → List ℕ → List (List ℕ) → Written
 declared_type s of first more =
     let x = type_form_view of opening.Refused s in
-    record { faults = x.faults ++ (no_data_faults of ++ repetitions (first ∷ []) more); found = x.found }
+    record { faults = x.faults ++ repetitions (first ∷ []) more; found = x.found }
 
 -- all names of a line that tells something are faulty
 unfoldable pub declaration : Scope → TypeForm → List ℕ → List (List ℕ) → Declared

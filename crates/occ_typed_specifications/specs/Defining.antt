@@ -2,7 +2,6 @@
 use Rattle.std.specs.Prelude.{ℕ, Option, Some, None, List, [], ◌∷◌, ◌++◌}
 use Rattle.occ_types.specs.declared.types.OccType.{OccType}
 use Rattle.occ_types.specs.declared.types.OccType.TheVariants as t
-use Rattle.occ_names.specs.declared.meaning.Meaning.{Meaning}
 use Rattle.occ_names.specs.declared.meaning.Meaning.TheVariants as m
 use Rattle.occ_names.specs.declared.scope.Scope.{Scope}
 use Rattle.occ_expression_forms.specs.declared.tree.TypeForm.{TypeForm}
@@ -35,11 +34,7 @@ defined s name form =
     let y = with_name name x.found in
     record { faults = x.faults ++ y.faults; found = y.found }
 
-abbrev pub type_name : Option OccType → Meaning
-type_name None = m.Faulty
-type_name (Some of) = m.Type of
-
 unfoldable pub data_type : Scope → List ℕ → TypeForm → Declared
 data_type s name form =
     let x = defined s name form in
-    record { faults = x.faults; adds = (record { name = name; meaning = type_name (unless_told x.faults x.found) }) ∷ [] }
+    record { faults = x.faults; adds = (record { name = name; meaning = m.Type (unless_told x.faults x.found) }) ∷ [] }

@@ -1,5 +1,4 @@
 pub mod Entering
-pub mod Forms
 pub mod Declaring
 pub mod Valuing
 pub mod Defining

@@ -5,7 +5,8 @@ use Rattle.occ_types.specs.declared.types.OccType.TheVariants as t
 use Rattle.occ_types.specs.declared.types.Packing.{Packing}
 use Rattle.occ_base.specs.declared.fault.Fault.{Fault}
 use Rattle.occ_names.specs.declared.meaning.Meaning.{Meaning}
-use Rattle.occ_typed_specifications.specs.Defining.{type_name, with_name}
+use Rattle.occ_names.specs.declared.meaning.Meaning.TheVariants as m
+use Rattle.occ_typed_specifications.specs.Defining.{with_name}
 
 -- the faults of a head, and what its name stands for
 pub record Recorded : Type 0 where
@@ -16,4 +17,4 @@ pub record Recorded : Type 0 where
 unfoldable pub recorded : List ℕ → Packing → List Field → Recorded
 recorded name packing fields =
     let x = with_name name (Some (t.Record packing fields)) in
-    record { faults = x.faults; meaning = type_name x.found }
+    record { faults = x.faults; meaning = m.Type x.found }

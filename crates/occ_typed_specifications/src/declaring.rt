@@ -3,7 +3,6 @@ ghost use Rattle.occ_typed_specifications.specs.Declaring.{declaration as told_d
 ghost use Rattle.occ_typed_specifications.specs.Entering.{unless_told as known_unless_told};
 ghost use Rattle.occ_type_rules.specs.Listing.{repetitions};
 
-use super::form::tell_no_data;
 use super::told::unless_told;
 use occ_base::{Fault, Items, Name, Shared};
 use occ_expr::{Opening, type_form};
@@ -101,7 +100,6 @@ fn declared_type(
     ensures faults { OnOk result (faults.new ≡ faults.old ++ (told_type scope.now of.now first.now more.now).faults) }
 {
     let found = type_form(alloc, of, Opening::Refused, scope, faults)?;
-    tell_no_data(of, faults)?;
     repeated_behind(alloc, first, more, faults)?;
     Ok(found)
 }

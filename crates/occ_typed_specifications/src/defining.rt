@@ -1,5 +1,5 @@
 ghost use Rattle.std.specs.Prelude.{◌≡◌, ◌++◌, IfOk, OnOk};
-ghost use Rattle.occ_typed_specifications.specs.Defining.{data_form_type as told_form, data_of as told_data, data_type as told_data_type, defined as told_defined, type_name as told_name, with_name as told_with_name};
+ghost use Rattle.occ_typed_specifications.specs.Defining.{data_form_type as told_form, data_of as told_data, data_type as told_data_type, defined as told_defined, with_name as told_with_name};
 ghost use Rattle.occ_typed_specifications.specs.Entering.{unless_told as known_unless_told};
 ghost use Rattle.occ_expr.specs.Written.{limited as told_limited};
 ghost use Rattle.std.specs.Prelude.{Some};
@@ -16,7 +16,7 @@ use std::alloc::{AllocError, Global};
 
 /// A type, if it is one of data: else T2 is told.
 #[tactic(auto, unfolding(crate::specs::Defining::data_of))]
-fn data_of(
+pub fn data_of(
     of: Option<Shared<OccType>>,
     faults: &mut Items<Fault>,
 ) -> Result<Option<Shared<OccType>>, AllocError>
@@ -111,16 +111,6 @@ fn type_of_name(
     Ok(found)
 }
 
-/// The name of a type, if that is known.
-pub fn type_name(of: Option<Shared<OccType>>) -> Meaning
-    ensures { result ≡ told_name of }
-{
-    match of {
-        None => Meaning::Faulty,
-        Some(of) => Meaning::Type(of),
-    }
-}
-
 /// `DATA TYPE n IS t:`
 #[tactic(auto, unfolding(crate::specs::Defining::data_type))]
 pub fn data_type(
@@ -134,5 +124,5 @@ pub fn data_type(
     ensures faults { OnOk result (faults.new ≡ faults.old ++ (told_data_type scope.now name.now form.now).faults) }
 {
     let of = type_of_name(alloc, name, form, scope, faults)?;
-    one_entry(alloc, name, type_name(of))
+    one_entry(alloc, name, Meaning::Type(of))
 }

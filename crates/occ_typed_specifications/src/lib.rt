@@ -4,7 +4,6 @@
 mod declaring;
 mod defining;
 mod field;
-mod form;
 mod line;
 mod recording;
 pub mod rows;
@@ -12,9 +11,8 @@ mod told;
 mod valuing;
 
 pub use declaring::declaration;
-pub use defining::{data_form_type, data_type};
+pub use defining::{data_form_type, data_of, data_type};
 pub use field::{fields, repeated_all};
-pub use form::tell_no_data;
 pub use line::unknown;
 pub use recording::record;
-pub use valuing::{ValueLine, value};
+pub use valuing::{ValueLine, tree_of, value};

@@ -1,7 +1,7 @@
 ghost use Rattle.std.specs.Prelude.{◌≡◌, ◌++◌, IfOk, OnOk};
 ghost use Rattle.occ_typed_specifications.specs.Recording.{recorded};
 
-use super::defining::{type_name, with_name};
+use super::defining::with_name;
 use occ_base::{Fault, Items, Name, Shared};
 use occ_names::Meaning;
 use occ_types::{Field, OccType, Packing};
@@ -21,5 +21,5 @@ pub fn record(
 {
     let of = Shared::new(alloc, OccType::Record(packing, fields))?;
     let of = with_name(alloc, name, Some(of), faults)?;
-    Ok(type_name(of))
+    Ok(Meaning::Type(of))
 }

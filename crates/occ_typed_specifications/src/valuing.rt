@@ -39,7 +39,7 @@ struct Valued {
 }
 
 /// The tree of a value of which this is known.
-fn tree_of(
+pub fn tree_of(
     alloc: Global,
     kind: &Kind,
     draft: &Draft,

@@ -1,6 +1,6 @@
 -- What a line of a process tells by its elements and expressions, from what stands in scope.
 use Rattle.std.specs.List.{list_any}
-use Rattle.std.specs.Prelude.{ℤ, Bool, List, [], ◌++◌}
+use Rattle.std.specs.Prelude.{ℕ, ℤ, Bool, List, [], ◌++◌}
 use Rattle.std.specs.BTreeSet.{BTreeSet}
 use Rattle.occ_types.specs.declared.types.OccType.{OccType}
 use Rattle.occ_operands.specs.Operators.{all_faults, kinds}
@@ -16,7 +16,7 @@ use Rattle.occ_expr.specs.Parts.{Said, after, in_scope, own_faults, terms}
 use Rattle.occ_expr.specs.Views.{expr_view, expr_views}
 use Rattle.occ_type_rules.specs.Assigning.{assigned}
 use Rattle.occ_type_rules.specs.Choosing.{Chosen, condition as no_condition, options as chosen, selector as selecting}
-use Rattle.occ_type_rules.specs.Resulting.{results as resulting}
+use Rattle.occ_type_rules.specs.Resulting.{hidden_results as hiding, results as resulting}
 use Rattle.occ_typed_statements.specs.Targets.{targets}
 
 abbrev pub said : Scope → List Expr → List Said
@@ -63,3 +63,10 @@ results_by types xs = own_faults xs ++ resulting types (judged_all (terms xs))
 -- the results of a FUNCTION whose head has no fault
 abbrev pub results : Scope → List OccType → List Expr → List Fault
 results s types es = results_by types (said s es)
+
+abbrev pub hidden_results_by : ℕ → List Said → List Fault
+hidden_results_by n xs = own_faults xs ++ hiding n (judged_all (terms xs))
+
+-- the results of a FUNCTION whose head has a fault
+abbrev pub hidden_results : Scope → ℕ → List Expr → List Fault
+hidden_results s n es = hidden_results_by n (said s es)

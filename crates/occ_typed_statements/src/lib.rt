@@ -5,4 +5,7 @@ pub mod rows;
 mod statement;
 mod target;
 
-pub use statement::{TypedAssignment, assignment, condition, options, results, selector, values};
+pub use statement::{
+    TypedAssignment, assignment, condition, hidden_results, options, results, selector,
+};
+pub use target::{root, target_of};

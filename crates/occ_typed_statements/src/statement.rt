@@ -1,7 +1,7 @@
 ghost use Rattle.std.specs.Prelude.{◌≡◌, ◌∷◌, ◌++◌, IfOk, OnOk};
 ghost use Rattle.occ_expr.specs.Parts.{own_faults, terms as terms_of};
 ghost use Rattle.occ_typed_statements.specs.StatementTrees.{assigned as told_assigned, assignment_tree as told_assignment_tree, condition_tree as told_condition_tree, drafts as drafts_of, options_trees as told_options_trees, results_trees as told_results_trees, selector_tree as told_selector_tree, types_of as told_types};
-ghost use Rattle.occ_typed_statements.specs.Statements.{assignment as told_assignment, condition as told_condition, is_any_faulty, options as told_options, results as told_results, said, selector as told_selector};
+ghost use Rattle.occ_typed_statements.specs.Statements.{assignment as told_assignment, condition as told_condition, hidden_results as told_hidden_results, is_any_faulty, options as told_options, results as told_results, said, selector as told_selector};
 
 use super::target::all_targets;
 use occ_base::{Fault, Items, Shared};
@@ -11,8 +11,8 @@ use occ_names::Scope;
 use occ_operands::{Kind, int};
 use occ_tables::any_has_fault;
 use occ_type_rules::{
-    assigned, condition as judge_condition, options as choose, results as compare,
-    selector as select,
+    assigned, condition as judge_condition, hidden_results as count_results, options as choose,
+    results as compare, selector as select,
 };
 use occ_typed::{Draft, TypedElement, TypedExpr, all_placed, each_placed, placed};
 use occ_types::{OccType, Primitive};
@@ -62,21 +62,6 @@ fn expressions(
     readings.push(reading)?;
     more_expressions(alloc, more, scope, &mut readings, faults)?;
     Ok(readings)
-}
-
-/// What expressions tell by themselves, where nothing is compared with them, and whether one of them has a fault.
-pub fn values(
-    alloc: Global,
-    first: &Expr,
-    more: &[Expr],
-    scope: &Scope,
-    faults: &mut Items<Fault>,
-) -> Result<bool, AllocError>
-    ensures faulty { IfOk result (λ faulty. faulty ≡ is_any_faulty scope.now (first.now ∷ more.now)) }
-    ensures faults { OnOk result (faults.new ≡ faults.old ++ own_faults (said scope.now (first.now ∷ more.now))) }
-{
-    let values = expressions(alloc, first, more, scope, faults)?;
-    Ok(any_has_fault(values.terms.as_slice()))
 }
 
 /// The types of targets.
@@ -208,4 +193,21 @@ pub fn results(
     compare(alloc, types, read.terms.as_slice(), faults)?;
     let trees = each_placed(alloc, read.drafts.as_slice(), types)?;
     Ok((any_has_fault(read.terms.as_slice()), trees))
+}
+
+/// The results of a FUNCTION with a fault in its head, which wants so many: whether one of them has a fault.
+pub fn hidden_results(
+    alloc: Global,
+    first: &Expr,
+    more: &[Expr],
+    count: usize,
+    scope: &Scope,
+    faults: &mut Items<Fault>,
+) -> Result<bool, AllocError>
+    ensures faulty { IfOk result (λ faulty. faulty ≡ is_any_faulty scope.now (first.now ∷ more.now)) }
+    ensures faults { OnOk result (faults.new ≡ faults.old ++ told_hidden_results scope.now count (first.now ∷ more.now)) }
+{
+    let read = expressions(alloc, first, more, scope, faults)?;
+    count_results(alloc, count, read.terms.as_slice(), faults)?;
+    Ok(any_has_fault(read.terms.as_slice()))
 }

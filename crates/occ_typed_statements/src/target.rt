@@ -16,7 +16,7 @@ use std::alloc::{AllocError, Global};
 
 /// The name of which an element is a part.
 #[tactic(auto, using(crate::proofs::Roots::root_rules))]
-fn root(element: &Element) -> &Name
+pub fn root(element: &Element) -> &Name
     ensures { result.now ≡ root_of element.now }
 {
     match element {
@@ -49,7 +49,7 @@ fn reached(
 
 /// What is read of an element as a target: what is known of it, and its tree as an element.
 #[tactic(auto, unfolding(crate::specs::Targets::target_of))]
-fn target_of(
+pub fn target_of(
     alloc: Global,
     written: &Element,
     scope: &Scope,

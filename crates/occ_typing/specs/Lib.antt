@@ -6,6 +6,7 @@ pub mod Actions
 pub mod Constructs
 pub mod Parts
 pub mod Records
+pub mod Protocols
 pub mod Specifying
 pub mod Units
 pub mod Using

@@ -9,7 +9,20 @@ use Rattle.occ_typing.specs.declared.parent.Line.{Line}
 use Rattle.occ_typing.specs.declared.tree.TypedForm.{TypedForm}
 use Rattle.occ_typing.specs.declared.tree.TypedForm.TheVariants as t
 use Rattle.occ_typing.specs.declared.parent.Parent.{Parent}
-use Rattle.occ_typing.specs.declared.parent.Parent.TheVariants as parent
+use Rattle.occ_typing.specs.declared.parent.Role.{Role}
+use Rattle.occ_typing.specs.declared.parent.Role.TheVariants as role
+
+-- lines that stand as often as others do, of which more is said
+abbrev pub with_role : Role → Parent → Parent
+with_role r p = record { role = r; rounds = p.rounds }
+
+-- of them nothing more is said
+abbrev pub processes_in : Parent → Parent
+processes_in p = with_role role.Process p
+
+-- lines of a body, which no replicator round it repeats
+abbrev pub body_of : Role → Parent
+body_of r = record { role = r; rounds = 1 }
 
 -- the faults of a line, the diagnostics of lines under it that are told with it, and what it is, for those round it too
 pub record Judged : Type 0 where
@@ -27,15 +40,15 @@ over faults under enters form next =
     }
 
 abbrev pub main : List Fault → TypedForm → Parent → Judged
-main faults form next = over faults parent.Process [] form next
+main faults form next = over faults (processes_in next) [] form next
 
--- a specification over no lines that it has anything to say of: of one line, a close, a head that typing does not know yet
+-- a specification over no lines that it has anything to say of: of one line, a close
 abbrev pub specifying : List Fault → List Entry → TypedForm → Parent → Judged
 specifying faults adds form next =
     record {
       faults = faults;
       beneath = [];
-      line = record { parent = parent.Process; enters = []; next = next; adds = Some adds; form = form };
+      line = record { parent = processes_in next; enters = []; next = next; adds = Some adds; form = form };
     }
 
 -- what a line is, if its trees are there

@@ -6,12 +6,12 @@ use Rattle.occ_names.specs.Visible.{nothing, with_all}
 use Rattle.occ_names.specs.declared.scope.Scope.{Scope}
 use Rattle.occ_project.specs.declared.expanded.ExpandedLine.{ExpandedLine}
 use Rattle.occ_tree.specs.Forest.{Forest, Tree}
-use Rattle.occ_typing.specs.Lines.{Judged}
+use Rattle.occ_typing.specs.Lines.{Judged, body_of}
 use Rattle.occ_typing.specs.Placed.{placed}
 use Rattle.occ_typing.specs.Units.{behind_line, judged}
 use Rattle.occ_typing.specs.declared.parent.Parent.{Parent}
 use Rattle.occ_typing.specs.declared.using.Import.{Import}
-use Rattle.occ_typing.specs.declared.parent.Parent.TheVariants as parent
+use Rattle.occ_typing.specs.declared.parent.Role.TheVariants as role
 
 -- a line with those under it, what its parent says of it, and what stands in scope there
 pub record At : Type 0 where
@@ -52,4 +52,4 @@ IsToldIn is p outer s f d = (a : At) × Stands is p outer s f a × IsAmong d (to
 
 -- of some line of a unit
 abbrev pub IsTold : List Import → Forest → Diag → Type 0
-IsTold is f d = IsToldIn is parent.Process nothing nothing f d
+IsTold is f d = IsToldIn is (body_of role.Process) nothing nothing f d

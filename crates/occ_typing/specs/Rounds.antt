@@ -5,10 +5,11 @@ use Rattle.occ_names.specs.Visible.{nothing, with_all}
 use Rattle.occ_names.specs.declared.meaning.Entry.{Entry}
 use Rattle.occ_names.specs.declared.scope.Scope.{Scope}
 use Rattle.occ_tree.specs.Forest.{Forest}
+use Rattle.occ_typing.specs.Lines.{body_of}
 use Rattle.occ_typing.specs.Places.{At, Stands, first, inner, inside, judged_at, later}
 use Rattle.occ_typing.specs.Units.{behind_line}
 use Rattle.occ_typing.specs.declared.parent.Parent.{Parent}
-use Rattle.occ_typing.specs.declared.parent.Parent.TheVariants as parent
+use Rattle.occ_typing.specs.declared.parent.Role.TheVariants as role
 use Rattle.occ_typing.specs.declared.using.Import.{Import}
 
 -- what the lines of an item have added behind one more of its lines: a main line ends the item
@@ -27,8 +28,8 @@ round is p outer s f a (later _ _ _ l under behind _ below) item =
     round is x.line.next outer (behind_line outer s x.line.adds) behind a below (item_behind item x.line.adds)
 
 -- of a line of a unit
-abbrev pub unit_round : (is : List Import) (f : Forest) (a : At) → Stands is parent.Process nothing nothing f a → List Entry
-unit_round is f a h = round is parent.Process nothing nothing f a h []
+abbrev pub unit_round : (is : List Import) (f : Forest) (a : At) → Stands is (body_of role.Process) nothing nothing f a → List Entry
+unit_round is f a h = round is (body_of role.Process) nothing nothing f a h []
 
 abbrev pub IsRound : List Import → Forest → Type 0
-IsRound is f = (a : At) (h : Stands is parent.Process nothing nothing f a) → a.scope ≡ with_all nothing (unit_round is f a h)
+IsRound is f = (a : At) (h : Stands is (body_of role.Process) nothing nothing f a) → a.scope ≡ with_all nothing (unit_round is f a h)

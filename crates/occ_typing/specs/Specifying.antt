@@ -21,15 +21,16 @@ use Rattle.occ_specification_forms.specs.declared.tree.Head.TheVariants as head
 use Rattle.occ_specification_forms.specs.declared.tree.Specification.{Specification}
 use Rattle.occ_specification_forms.specs.declared.tree.Specification.TheVariants as specification
 use Rattle.occ_tree.specs.Forest.{Forest}
-use Rattle.occ_typing.specs.Constructs.{faulty_name}
 use Rattle.occ_typed.specs.declared.expr.TypedExpr.{TypedExpr}
-use Rattle.occ_typing.specs.Lines.{Judged, beyond, made, specifying}
+use Rattle.occ_typing.specs.Lines.{Judged, body_of, made, specifying, with_role}
+use Rattle.occ_typing.specs.Protocols.{TagLines, protocol_of}
 use Rattle.occ_typing.specs.Parts.{results_in, results_of}
 use Rattle.occ_typing.specs.declared.tree.TypedForm.{TypedForm}
 use Rattle.occ_typing.specs.declared.tree.TypedForm.TheVariants as t
 use Rattle.occ_typing.specs.Records.{Recorded, record_of}
 use Rattle.occ_typing.specs.declared.parent.Parent.{Parent}
-use Rattle.occ_typing.specs.declared.parent.Parent.TheVariants as parent
+use Rattle.occ_typing.specs.declared.parent.Role.TheVariants as role
+use Rattle.occ_typed_protocols.specs.Protocols.{protocol, tagged_protocol}
 
 -- nothing is known of the name of a line that tells something, or has an expression that is faulty
 abbrev pub known_unless : List Fault → Bool → Meaning → Meaning
@@ -69,7 +70,7 @@ one_line s (specification.Function head e es) next = function_line s head (e ∷
 one_line s (specification.Abbreviation of name el) next = declared_line (unknown name) t.Unknown next
 one_line s (specification.Retyped recast of name el) next = declared_line (unknown name) t.Unknown next
 one_line s (specification.RetypedValue recast of name e) next = declared_line (unknown name) t.Unknown next
-one_line s (specification.Protocol name item items) next = declared_line (unknown name) t.Unknown next
+one_line s (specification.Protocol name item items) next = declared_line (protocol s name (item ∷ items)) t.Protocol next
 
 -- a PROC or a FUNCTION, which says this of the lines of its body
 abbrev pub headed : List ℕ → Headed → Parent → TypedForm → Parent → Judged
@@ -81,7 +82,7 @@ headed name x under form next =
     }
 
 abbrev pub function_head : FunctionHead → Headed → Parent → Judged
-function_head head x next = headed head.name x (parent.Function x.heading.results) t.FunctionHead next
+function_head head x next = headed head.name x (body_of (role.Function x.heading.results)) t.FunctionHead next
 
 -- the type of a record is judged whole at its head, and its lines with it
 abbrev pub record_head : List ℕ → Recorded → Parent → Judged
@@ -90,11 +91,21 @@ record_head name r next =
     record {
       faults = x.faults;
       beneath = r.fields.diags;
-      line = record { parent = parent.Record; enters = []; next = next; adds = Some (named name x.meaning); form = t.RecordHead };
+      line = record { parent = with_role role.Members next; enters = []; next = next; adds = Some (named name x.meaning); form = t.RecordHead };
+    }
+
+-- a protocol likewise
+abbrev pub protocol_head : List ℕ → TagLines → Parent → Judged
+protocol_head name r next =
+    let x = tagged_protocol name r.tags in
+    record {
+      faults = x.faults;
+      beneath = r.diags;
+      line = record { parent = with_role role.Members next; enters = []; next = next; adds = Some (named name x.meaning); form = t.ProtocolHead };
     }
 
 abbrev pub heading : Scope → Head → Forest → Parent → Judged
-heading s (head.Procedure inlined name formals) under next = headed name (procedure s formals) parent.Process t.ProcedureHead next
+heading s (head.Procedure inlined name formals) under next = headed name (procedure s formals) (body_of role.Process) t.ProcedureHead next
 heading s (head.Function h) under next = function_head h (function s h) next
-heading s (head.Protocol name) under next = specifying beyond (faulty_name name ∷ []) t.Unknown next
+heading s (head.Protocol name) under next = protocol_head name (protocol_of s under) next
 heading s (head.DataType name) under next = record_head name (record_of s under) next

@@ -10,15 +10,16 @@ use Rattle.occ_project.specs.declared.expanded.ExpandedLine.{ExpandedLine}
 use Rattle.occ_project.specs.declared.expanded.Place.{Place}
 use Rattle.occ_project.specs.Places.{place_of}
 use Rattle.occ_tree.specs.Forest.{Forest, Empty, Tree}
-use Rattle.occ_typing.specs.Lines.{Judged}
+use Rattle.occ_typing.specs.Lines.{Judged, body_of}
 use Rattle.occ_typing.specs.Units.{behind_line, judged}
 use Rattle.occ_typing.specs.declared.parent.Parent.{Parent}
-use Rattle.occ_typing.specs.declared.parent.Parent.TheVariants as parent
+use Rattle.occ_typing.specs.declared.parent.Role.{Role}
+use Rattle.occ_typing.specs.declared.parent.Role.TheVariants as role
 use Rattle.occ_typing.specs.declared.tree.TypedLine.{TypedLine, roll-TypedLine}
 use Rattle.occ_typing.specs.declared.using.Import.{Import}
 
 -- ---- processes: actions, constructs and instances that stand where processes may. A choice under IF is none, though it may
--- be an IF itself, and no option is one; typing knows no guards yet
+-- be an IF itself; no alternative of an ALT is one, though it may be an input or an ALT itself; and no option or variant is
 
 abbrev pub is_process_form : Form → Bool
 is_process_form (form.Specified x) = false
@@ -34,13 +35,18 @@ is_process_body (body.Form f) = is_process_form f
 is_process_body (body.Uses units) = false
 is_process_body (body.Fault code) = false
 
+abbrev pub is_process_in : Role → ExpandedBody → Bool
+is_process_in role.Process b = is_process_body b
+is_process_in role.Conditional b = false
+is_process_in role.Alternation b = false
+is_process_in (role.Selection c) b = false
+is_process_in (role.Variants x) b = false
+is_process_in (role.Function wanted) b = is_process_body b
+is_process_in role.Members b = false
+
 -- a line whose parent says this of it
 unfoldable pub is_process : Parent → ExpandedBody → Bool
-is_process parent.Process b = is_process_body b
-is_process (parent.Function types) b = is_process_body b
-is_process parent.Conditional b = false
-is_process (parent.Selection c) b = false
-is_process parent.Record b = false
+is_process p b = is_process_in p.role b
 
 abbrev pub own_process : Parent → ExpandedLine → List Place
 own_process p l = if is_process p l.body then place_of l ∷ [] else []
@@ -98,7 +104,7 @@ line_with is p s n l under =
 
 -- of a unit: nothing is in scope at the first of its lines
 abbrev pub typed_unit : List Import → Forest → List TypedLine
-typed_unit is f = typed_lines is parent.Process nothing nothing 0 f
+typed_unit is f = typed_lines is (body_of role.Process) nothing nothing 0 f
 
 abbrev pub unit_processes : List Import → Forest → List Place
-unit_processes is f = processes is parent.Process nothing nothing f
+unit_processes is f = processes is (body_of role.Process) nothing nothing f

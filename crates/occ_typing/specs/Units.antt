@@ -1,5 +1,5 @@
 -- The diagnostics of names and types of the lines of a unit, by what stands in scope at each of them.
-use Rattle.std.specs.Prelude.{Option, Some, None, List, [], ◌++◌}
+use Rattle.std.specs.Prelude.{Option, Some, None, List, [], ◌∷◌, ◌++◌}
 use Rattle.occ_base.specs.declared.diag.Diag.{Diag}
 use Rattle.occ_forms.specs.declared.tree.Form.{Form}
 use Rattle.occ_forms.specs.declared.tree.Form.TheVariants as form
@@ -14,15 +14,16 @@ use Rattle.occ_specification_forms.specs.declared.tree.Specified.TheVariants as 
 use Rattle.occ_tree.specs.Forest.{Forest, Empty, Tree}
 use Rattle.occ_typing.specs.Actions.{action_faults, action_form}
 use Rattle.occ_typing.specs.Constructs.{constructing}
-use Rattle.occ_typing.specs.Lines.{Judged, beyond, main, over, specifying}
-use Rattle.occ_typing.specs.Parts.{expressing, parting}
+use Rattle.occ_typing.specs.Lines.{Judged, body_of, main, over, specifying, with_role}
+use Rattle.occ_typing.specs.Parts.{expressing, parting, tagged}
 use Rattle.occ_typing.specs.Placed.{placed}
 use Rattle.occ_typing.specs.Specifying.{heading, one_line}
 use Rattle.occ_typing.specs.Using.{imported}
 use Rattle.occ_typing.specs.declared.tree.TypedForm.TheVariants as t
 use Rattle.occ_typing.specs.declared.using.Import.{Import}
 use Rattle.occ_typing.specs.declared.parent.Parent.{Parent}
-use Rattle.occ_typing.specs.declared.parent.Parent.TheVariants as parent
+use Rattle.occ_typing.specs.declared.parent.Role.{Role}
+use Rattle.occ_typing.specs.declared.parent.Role.TheVariants as role
 
 abbrev pub specifying_line : Scope → Specified → Forest → Parent → Judged
 specifying_line s (specified.Line x) under next = one_line s x next
@@ -35,21 +36,26 @@ form_line s (form.Action a) under next = main (action_faults s a) (action_form s
 form_line s (form.Construct c) under next = constructing s c next
 form_line s (form.Part q) under next = parting s q next
 form_line s (form.Expressions e es) under next = expressing s e es next
-form_line s (form.Tagged name d ds) under next = main beyond t.Unknown next
+form_line s (form.Tagged name d ds) under next = tagged s name (d ∷ ds) next
 
 abbrev pub line : List Import → Scope → ExpandedBody → Forest → Parent → Judged
 line is s (body.Form f) under next = form_line s f under next
 line is s (body.Uses units) under next = specifying [] (imported is units) t.Uses next
 line is s (body.Fault code) under next = main [] t.Unknown next
 
+abbrev pub judged_in : List Import → Scope → ExpandedBody → Forest → Parent → Role → Judged
+judged_in is s b under p role.Process = line is s b under p
+judged_in is s b under p role.Conditional = line is s b under p
+judged_in is s b under p role.Alternation = line is s b under p
+judged_in is s b under p (role.Selection c) = line is s b under p
+judged_in is s b under p (role.Variants x) = line is s b under p
+judged_in is s b under p (role.Function wanted) = line is s b under p
+judged_in is s b under p role.Members = over [] (with_role role.Members p) [] t.Member p
+
 -- a line with these under it, whose parent says this of it, where units are used that export this; the lines of a record
--- are told with its head
+-- and of a protocol are told with its head
 unfoldable pub judged : List Import → Scope → ExpandedBody → Forest → Parent → Judged
-judged is s b under parent.Process = line is s b under parent.Process
-judged is s b under parent.Conditional = line is s b under parent.Conditional
-judged is s b under (parent.Selection c) = line is s b under (parent.Selection c)
-judged is s b under (parent.Function types) = line is s b under (parent.Function types)
-judged is s b under parent.Record = over [] parent.Record [] t.Member parent.Record
+judged is s b under p = judged_in is s b under p p.role
 
 -- what stands in scope behind a line: a specification adds to the item, a main line ends it
 abbrev pub behind_line : Scope → Scope → Option (List Entry) → Scope
@@ -74,4 +80,4 @@ line_faults is p s l under =
 
 -- of the lines of a unit: nothing is in scope at the first
 abbrev pub type_faults : List Import → Forest → List Diag
-type_faults is f = lines is parent.Process nothing nothing f
+type_faults is f = lines is (body_of role.Process) nothing nothing f

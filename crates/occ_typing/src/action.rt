@@ -1,11 +1,12 @@
 ghost use Rattle.occ_typing.specs.Actions.{action_faults, action_form as told_form};
 ghost use Rattle.std.specs.Prelude.{◌≡◌, ◌++◌, IfOk, OnOk};
 
-use super::form::assignment_form;
+use super::form::{assignment_form, input_form, output_form};
 use super::tree::TypedForm;
-use occ_base::{Code, Fault, Items, tell};
+use occ_base::{Fault, Items};
 use occ_forms::Action;
 use occ_names::Scope;
+use occ_typed_exchanges::{input, output};
 use occ_typed_statements::assignment;
 use std::alloc::{AllocError, Global};
 
@@ -34,13 +35,13 @@ pub fn action(
             )?;
             Ok(assignment_form(tree))
         }
-        Action::Output(_, _, _) => {
-            tell(faults, Code::S1)?;
-            Ok(TypedForm::Unknown)
+        Action::Output(channel, first, more) => {
+            let tree = output(alloc, channel, first, more.as_slice(), scope, faults)?;
+            Ok(output_form(tree))
         }
-        Action::Input(_) => {
-            tell(faults, Code::S1)?;
-            Ok(TypedForm::Unknown)
+        Action::Input(behind) => {
+            let tree = input(alloc, behind, scope, faults)?;
+            Ok(input_form(tree))
         }
     }
 }

@@ -1,58 +1,59 @@
-ghost use Rattle.occ_typing.specs.Constructs.{choosing as told_choosing, constructing as told_constructing, replicable as told_replicable, under_word as told_under_word, word_faults as told_word_faults, word_form as told_word_form};
+ghost use Rattle.occ_typing.specs.Constructs.{block_of as told_block, choosing as told_choosing, constructing as told_constructing, replicable as told_replicable, replicating_of as told_replicating, role_of as told_role};
 ghost use Rattle.std.specs.Prelude.{◌≡◌, ◌++◌, IfOk, OnOk};
 
-use super::form::{selection_form, while_form};
-use super::line::{over, plain};
-use super::parent::{Choosing, Line, Parent};
+use super::form::{case_input_form, replicated_form, selection_form, while_form};
+use super::line::{main, over, plain, with_role};
+use super::parent::{Choosing, Line, Parent, Role};
 use super::tree::{BlockKind, TypedForm};
-use occ_base::{Code, Fault, Items, tell};
-use occ_expression_forms::Expr;
+use occ_base::{Fault, Items};
 use occ_forms::{Construct, ConstructKind, Replicator};
-use occ_names::{Meaning, Scope, one_entry};
+use occ_names::Scope;
 use occ_operands::Kind;
+use occ_replicators::{Replicating, ReplicatorLine, replicator};
+use occ_typed_exchanges::case_input;
 use occ_typed_statements::{condition, selector};
 use std::alloc::{AllocError, Global};
 use std::collections::BTreeSet;
 
 /// What a construct says of the lines under it.
-fn under_word(word: ConstructKind) -> Parent
-    ensures { result ≡ told_under_word word }
+fn role_of(word: ConstructKind) -> Role
+    ensures { result ≡ told_role word }
 {
     match word {
-        ConstructKind::Sequence => Parent::Process,
-        ConstructKind::Parallel => Parent::Process,
-        ConstructKind::PriParallel => Parent::Process,
-        ConstructKind::Conditional => Parent::Conditional,
-        ConstructKind::Alternation => Parent::Process,
-        ConstructKind::PriAlternation => Parent::Process,
+        ConstructKind::Sequence => Role::Process,
+        ConstructKind::Parallel => Role::Process,
+        ConstructKind::PriParallel => Role::Process,
+        ConstructKind::Conditional => Role::Conditional,
+        ConstructKind::Alternation => Role::Alternation,
+        ConstructKind::PriAlternation => Role::Alternation,
     }
 }
 
-/// A construct of this word without a replicator.
-fn word_form(word: ConstructKind) -> TypedForm
-    ensures { result ≡ told_word_form word }
+/// What a construct does with the lines under it.
+fn block_of(word: ConstructKind) -> BlockKind
+    ensures { result ≡ told_block word }
 {
     match word {
-        ConstructKind::Sequence => TypedForm::Block(BlockKind::Sequence, None),
-        ConstructKind::Parallel => TypedForm::Block(BlockKind::Parallel, None),
-        ConstructKind::PriParallel => TypedForm::Block(BlockKind::Parallel, None),
-        ConstructKind::Conditional => TypedForm::Block(BlockKind::Conditional, None),
-        ConstructKind::Alternation => TypedForm::Unknown,
-        ConstructKind::PriAlternation => TypedForm::Unknown,
+        ConstructKind::Sequence => BlockKind::Sequence,
+        ConstructKind::Parallel => BlockKind::Parallel,
+        ConstructKind::PriParallel => BlockKind::Parallel,
+        ConstructKind::Conditional => BlockKind::Conditional,
+        ConstructKind::Alternation => BlockKind::Alternation,
+        ConstructKind::PriAlternation => BlockKind::Alternation,
     }
 }
 
-/// S1 is told of an alternation.
-fn tell_word(word: ConstructKind, faults: &mut Items<Fault>) -> Result<(), AllocError>
-    ensures { OnOk result (faults.new ≡ faults.old ++ told_word_faults word) }
+/// What a construct asks of its replicator.
+fn replicating_of(word: ConstructKind) -> Replicating
+    ensures { result ≡ told_replicating word }
 {
     match word {
-        ConstructKind::Sequence => Ok(()),
-        ConstructKind::Parallel => Ok(()),
-        ConstructKind::PriParallel => Ok(()),
-        ConstructKind::Conditional => Ok(()),
-        ConstructKind::Alternation => tell(faults, Code::S1),
-        ConstructKind::PriAlternation => tell(faults, Code::S1),
+        ConstructKind::Sequence => Replicating::Other,
+        ConstructKind::Parallel => Replicating::Parallel,
+        ConstructKind::PriParallel => Replicating::Parallel,
+        ConstructKind::Conditional => Replicating::Other,
+        ConstructKind::Alternation => Replicating::Other,
+        ConstructKind::PriAlternation => Replicating::Other,
     }
 }
 
@@ -60,31 +61,40 @@ fn tell_word(word: ConstructKind, faults: &mut Items<Fault>) -> Result<(), Alloc
 fn replicable(
     alloc: Global,
     word: ConstructKind,
-    replicator: &Option<Replicator>,
+    written: &Option<Replicator>,
+    scope: &Scope,
     next: Parent,
     faults: &mut Items<Fault>,
 ) -> Result<Line, AllocError>
-    ensures line { IfOk result (λ line. line ≡ (told_replicable word replicator.now next).line) }
-    ensures faults { OnOk result (faults.new ≡ faults.old ++ (told_replicable word replicator.now next).faults) }
+    ensures line { IfOk result (λ line. line ≡ (told_replicable scope.now word written.now next).line) }
+    ensures faults { OnOk result (faults.new ≡ faults.old ++ (told_replicable scope.now word written.now next).faults) }
 {
-    match replicator {
+    match written {
         None => {
-            tell_word(word, faults)?;
-            Ok(plain(alloc, under_word(word), word_form(word), next))
+            let under = with_role(role_of(word), &next);
+            Ok(plain(alloc, under, TypedForm::Block(block_of(word), None), next))
         }
-        Some(replicator) => {
-            tell(faults, Code::S1)?;
-            let index = one_entry(alloc, &replicator.name, Meaning::Faulty)?;
-            Ok(over(under_word(word), index, TypedForm::Unknown, next))
+        Some(written) => {
+            let construct = replicating_of(word);
+            let ReplicatorLine {
+                enters,
+                rounds,
+                tree,
+            } = replicator(alloc, written, construct, next.rounds, scope, faults)?;
+            let under = Parent {
+                role: role_of(word),
+                rounds,
+            };
+            Ok(over(under, enters, replicated_form(block_of(word), tree), next))
         }
     }
 }
 
 /// A `CASE` with this selector, before its first option.
-fn choosing(alloc: Global, selector: Kind) -> Parent
+fn choosing(alloc: Global, selector: Kind) -> Role
     ensures { result ≡ told_choosing selector }
 {
-    Parent::Selection(Choosing {
+    Role::Selection(Choosing {
         selector,
         numbers: BTreeSet::new(alloc),
         otherwise: false,
@@ -104,19 +114,21 @@ pub fn construct(
 {
     match construct {
         Construct::Replicable(word, replicator) => {
-            replicable(alloc, *word, replicator, next, faults)
+            replicable(alloc, *word, replicator, scope, next, faults)
         }
         Construct::While(expr) => {
             let tree = condition(alloc, expr, scope, faults)?;
-            Ok(plain(alloc, Parent::Process, while_form(tree), next))
+            Ok(main(alloc, while_form(tree), next))
         }
         Construct::Case(expr) => {
             let (kind, tree) = selector(alloc, expr, scope, faults)?;
-            Ok(plain(alloc, choosing(alloc, kind), selection_form(tree), next))
+            let under = with_role(choosing(alloc, kind), &next);
+            Ok(plain(alloc, under, selection_form(tree), next))
         }
-        Construct::CaseInput(_) => {
-            tell(faults, Code::S1)?;
-            Ok(plain(alloc, Parent::Process, TypedForm::Unknown, next))
+        Construct::CaseInput(channel) => {
+            let (input, tree) = case_input(alloc, channel, scope, faults)?;
+            let under = with_role(Role::Variants(input), &next);
+            Ok(plain(alloc, under, case_input_form(tree), next))
         }
     }
 }

@@ -15,8 +15,7 @@ use occ_expression_forms::Expr;
 use occ_names::{Entry, Meaning, Scope, one_entry};
 use occ_specification_forms::FunctionHead;
 use occ_typed::TypedExpr;
-use occ_typed_heads::{Heading, function_head};
-use occ_types::OccType;
+use occ_typed_heads::{Expected, Heading, function_head};
 use std::alloc::{AllocError, Global};
 
 /// The results of a FUNCTION of one line, under its formals: whether one of them has a fault, and their trees.
@@ -26,18 +25,18 @@ fn results_under(
     first: &Expr,
     more: &[Expr],
     formals: &[Entry],
-    types: &Option<Items<Shared<OccType>>>,
+    expected: &Expected,
     scope: &mut Scope,
     faults: &mut Items<Fault>,
 ) -> Result<(bool, Option<Items<Shared<TypedExpr>>>), AllocError>
     ensures faulty { IfOk result (λ r. r.0 ≡ is_any_faulty (with_all scope.old formals.now) (first.now ∷ more.now)) }
-    ensures trees { IfOk result (λ r. r.1 ≡ told_results_in (with_all scope.old formals.now) types.now (first.now ∷ more.now)) }
+    ensures trees { IfOk result (λ r. r.1 ≡ told_results_in (with_all scope.old formals.now) expected.now (first.now ∷ more.now)) }
     ensures scope { OnOk result (scope.new ≡ scope.old) }
-    ensures faults { OnOk result (faults.new ≡ faults.old ++ told_results (with_all scope.old formals.now) types.now (first.now ∷ more.now)) }
+    ensures faults { OnOk result (faults.new ≡ faults.old ++ told_results (with_all scope.old formals.now) expected.now (first.now ∷ more.now)) }
 {
     let count = scope.len();
     scope.enter_all(alloc, formals)?;
-    let found = results_of(alloc, first, more, types, scope, faults)?;
+    let found = results_of(alloc, first, more, expected, scope, faults)?;
     scope.leave_to(count);
     Ok(found)
 }

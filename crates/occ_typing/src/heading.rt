@@ -1,22 +1,22 @@
 #![tactic(auto, using(crate::proofs::Trees::tree_rules))]
 
-ghost use Rattle.occ_typed_specifications.specs.Recording.{recorded};
 ghost use Rattle.occ_tree.specs.Forest.{forest_of};
-ghost use Rattle.occ_typing.specs.Constructs.{faulty_name};
-ghost use Rattle.occ_typing.specs.Lines.{Judged as AJudged, beyond as told_beyond};
+ghost use Rattle.occ_typing.specs.Protocols.{protocol_of as told_protocol};
 ghost use Rattle.occ_typing.specs.Records.{record_of as told_record};
-ghost use Rattle.occ_typing.specs.Specifying.{headed as told_headed, heading as told_heading, named as told_named, record_head as told_record_head};
+ghost use Rattle.occ_typing.specs.Specifying.{heading as told_heading, named as told_named, protocol_head as told_protocol_head, record_head as told_record_head};
 ghost use Rattle.std.specs.Prelude.{◌≡◌, ◌++◌, [], Some, IfOk, OnOk};
 
-use super::line::specifying;
-use super::parent::{Line, Parent};
+use super::line::{body_of, specifying, with_role};
+use super::parent::{Line, Parent, Role};
+use super::protocol::protocol_of;
 use super::record::record_of;
 use super::tree::TypedForm;
-use occ_base::{Code, Diag, Fault, Items, Name, tell};
+use occ_base::{Diag, Fault, Items, Name};
 use occ_names::{Entry, Meaning, Scope, one_entry};
 use occ_specification_forms::Head;
 use occ_tree::Node;
 use occ_typed_heads::{function_head, procedure_head};
+use occ_typed_protocols::tagged_protocol;
 use occ_typed_specifications::record;
 use std::alloc::{AllocError, Global};
 
@@ -52,18 +52,47 @@ fn record_head(
 {
     let (packing, fields) = record_of(alloc, nodes, scope, found)?;
     let meaning = record(alloc, name, packing, fields, faults)?;
+    let under = with_role(Role::Members, &next);
     headed(
         alloc,
         name,
         meaning,
-        Parent::Record,
+        under,
         Items::new(alloc),
         TypedForm::RecordHead,
         next,
     )
 }
 
-/// The line of a head, under which these nodes stand, with what lines of fields among them tell.
+/// The head of a protocol, with what the lines of its tags tell.
+fn protocol_head(
+    alloc: Global,
+    name: &Name,
+    nodes: &[Node],
+    scope: &Scope,
+    next: Parent,
+    found: &mut Items<Diag>,
+    faults: &mut Items<Fault>,
+) -> Result<Line, AllocError>
+    ensures line { IfOk result (λ line. line ≡ (told_protocol_head name.now (told_protocol scope.now (forest_of nodes.now)) next).line) }
+    ensures found { OnOk result (found.new ≡ found.old ++ (told_protocol_head name.now (told_protocol scope.now (forest_of nodes.now)) next).beneath) }
+    ensures faults { OnOk result (faults.new ≡ faults.old ++ (told_protocol_head name.now (told_protocol scope.now (forest_of nodes.now)) next).faults) }
+{
+    let tags = protocol_of(alloc, nodes, scope, found)?;
+    let meaning = tagged_protocol(alloc, name, tags, faults)?;
+    let under = with_role(Role::Members, &next);
+    headed(
+        alloc,
+        name,
+        meaning,
+        under,
+        Items::new(alloc),
+        TypedForm::ProtocolHead,
+        next,
+    )
+}
+
+/// The line of a head, under which these nodes stand, with what lines of fields and of tags among them tell.
 pub fn heading(
     alloc: Global,
     head: &Head,
@@ -84,7 +113,7 @@ pub fn heading(
                 alloc,
                 name,
                 known.meaning,
-                Parent::Process,
+                body_of(Role::Process),
                 known.formals,
                 TypedForm::ProcedureHead,
                 next,
@@ -92,7 +121,7 @@ pub fn heading(
         }
         Head::Function(head) => {
             let known = function_head(alloc, head, scope, faults)?;
-            let under = Parent::Function(known.results);
+            let under = body_of(Role::Function(known.results));
             headed(
                 alloc,
                 &head.name,
@@ -103,18 +132,7 @@ pub fn heading(
                 next,
             )
         }
-        Head::Protocol(name) => {
-            tell(faults, Code::S1)?;
-            headed(
-                alloc,
-                name,
-                Meaning::Faulty,
-                Parent::Process,
-                Items::new(alloc),
-                TypedForm::Unknown,
-                next,
-            )
-        }
+        Head::Protocol(name) => protocol_head(alloc, name, nodes, scope, next, found, faults),
         Head::DataType(name) => record_head(alloc, name, nodes, scope, next, found, faults),
     }
 }

@@ -7,13 +7,14 @@ ghost use Rattle.std.specs.Prelude.{◌≡◌, ◌++◌, [], IfOk, OnOk};
 use super::action::action;
 use super::construct::construct;
 use super::heading::heading;
-use super::line::{line_of_one, main, plain};
-use super::parent::{Line, Parent};
+use super::line::{line_of_one, main, plain, with_role};
+use super::parent::{Line, Parent, Role};
 use super::part::{expressions, part};
 use super::specifying::one_line;
 use super::tree::TypedForm;
 use super::using::{Import, imported};
-use occ_base::{Code, Diag, Fault, Items, tell};
+use super::variant::tagged;
+use occ_base::{Diag, Fault, Items};
 use occ_forms::Form;
 use occ_names::Scope;
 use occ_project::ExpandedBody;
@@ -71,9 +72,8 @@ fn form_line(
         Form::Expressions(first, more) => {
             expressions(alloc, first, more.as_slice(), scope, parent, faults)
         }
-        Form::Tagged(_, _, _) => {
-            tell(faults, Code::S1)?;
-            Ok(main(alloc, TypedForm::Unknown, parent))
+        Form::Tagged(name, first, more) => {
+            tagged(alloc, name, first, more.as_slice(), scope, parent, faults)
         }
     }
 }
@@ -106,8 +106,8 @@ fn line(
     }
 }
 
-/// What a line with these nodes under it is for the lines round it, with what it tells, and what lines of fields under
-/// it tell.
+/// What a line with these nodes under it is for the lines round it, with what it tells, and what lines of fields
+/// and of tags under it tell.
 #[tactic(auto, unfolding(crate::specs::Units::judged))]
 pub fn judged(
     alloc: Global,
@@ -124,51 +124,16 @@ pub fn judged(
     ensures found { OnOk result (found.new ≡ found.old ++ (told_judged imports.now scope.old body.now (forest_of nodes.now) parent).beneath) }
     ensures faults { OnOk result (faults.new ≡ faults.old ++ (told_judged imports.now scope.old body.now (forest_of nodes.now) parent).faults) }
 {
-    match parent {
-        Parent::Record => Ok(plain(alloc, Parent::Record, TypedForm::Member, Parent::Record)),
-        Parent::Process => line(
-            alloc,
-            imports,
-            body,
-            nodes,
-            scope,
-            Parent::Process,
-            found,
-            faults,
-        ),
-        Parent::Conditional => line(
-            alloc,
-            imports,
-            body,
-            nodes,
-            scope,
-            Parent::Conditional,
-            found,
-            faults,
-        ),
-        Parent::Selection(choosing) => {
-            line(
-                alloc,
-                imports,
-                body,
-                nodes,
-                scope,
-                Parent::Selection(choosing),
-                found,
-                faults,
-            )
+    match &parent.role {
+        Role::Members => {
+            let under = with_role(Role::Members, &parent);
+            Ok(plain(alloc, under, TypedForm::Member, parent))
         }
-        Parent::Function(types) => {
-            line(
-                alloc,
-                imports,
-                body,
-                nodes,
-                scope,
-                Parent::Function(types),
-                found,
-                faults,
-            )
-        }
+        Role::Process
+        | Role::Conditional
+        | Role::Alternation
+        | Role::Selection(_)
+        | Role::Variants(_)
+        | Role::Function(_) => { line(alloc, imports, body, nodes, scope, parent, found, faults) }
     }
 }

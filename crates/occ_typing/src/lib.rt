@@ -5,6 +5,7 @@ mod action;
 mod construct;
 mod form;
 mod function;
+mod guard;
 mod heading;
 mod judge;
 mod laws;
@@ -12,19 +13,18 @@ mod line;
 mod parent;
 mod part;
 mod place;
+mod protocol;
 mod record;
 pub mod rows;
 mod specifying;
 mod tree;
 mod unit;
 mod using;
+mod variant;
 mod walk;
 
 pub use laws::{place_law, scope_law};
-pub use parent::{Choosing, Line, Parent};
-pub use tree::{
-    BlockKind, KnownReplicator, ProcessId, TypedForm, TypedGuard, TypedInput, TypedLine,
-    TypedOutput, TypedReplicator, TypedTarget,
-};
+pub use parent::{Choosing, Line, Parent, Role};
+pub use tree::{BlockKind, ProcessId, TypedForm, TypedGuard, TypedLine};
 pub use unit::{TypeFault, Typed, type_unit};
 pub use using::{Import, shared_formals, shared_types};

@@ -1,8 +1,9 @@
 use super::tree::TypedForm;
-use occ_base::{Items, Shared};
+use occ_base::Items;
 use occ_names::Entry;
 use occ_operands::Kind;
-use occ_types::OccType;
+use occ_typed_exchanges::CaseInput;
+use occ_typed_heads::Expected;
 use std::collections::BTreeSet;
 
 /// What is known of a `CASE` behind some of its options.
@@ -16,19 +17,31 @@ pub struct Choosing {
     pub otherwise: bool,
 }
 
-/// What a line says of those under it, which do not all say by their own words what they are.
+/// What lines are that do not all say so by their own words.
 #[derive(Drop)]
-pub enum Parent {
-    /// Nothing: processes, specifications, and lines that typing does not know yet.
+pub enum Role {
+    /// Of them nothing is said: processes, specifications, and lines that typing does not know yet.
     Process,
     /// The choices of an `IF`.
     Conditional,
+    /// The alternatives of an `ALT`.
+    Alternation,
     /// The options of a `CASE`.
     Selection(Choosing),
-    /// The body of a FUNCTION with results of these types; they are not known where its head has a fault or needs what has one.
-    Function(Option<Items<Shared<OccType>>>),
-    /// The lines of a record, which are told with its head.
-    Record,
+    /// The variants of a case input.
+    Variants(CaseInput),
+    /// The body of a FUNCTION, with the results that its head lets expect.
+    Function(Expected),
+    /// The lines of a record or of a protocol, which are told with its head.
+    Members,
+}
+
+/// What a line says of those under it.
+#[derive(Drop)]
+pub struct Parent {
+    pub role: Role,
+    /// How often they stand, by the known replicators round them in their PROC or FUNCTION; at most 4,096 times.
+    pub rounds: u32,
 }
 
 /// What a line makes known for the lines under it and behind it.

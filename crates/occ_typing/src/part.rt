@@ -3,16 +3,18 @@ ghost use Rattle.occ_typed_statements.specs.Statements.{is_any_faulty};
 ghost use Rattle.std.specs.Prelude.{◌≡◌, ◌∷◌, ◌++◌, [], IfOk, OnOk};
 
 use super::form::{condition_form, options_form, results_form};
+use super::guard::guarding;
 use super::line::{main, plain};
-use super::parent::{Choosing, Line, Parent};
+use super::parent::{Choosing, Line, Parent, Role};
 use super::tree::TypedForm;
+use super::variant::{of_role, variant_named};
 use occ_base::{Code, Fault, Items, Shared, tell};
 use occ_expression_forms::Expr;
 use occ_forms::Part;
 use occ_names::Scope;
 use occ_typed::TypedExpr;
-use occ_typed_statements::{condition, options, results, values};
-use occ_types::OccType;
+use occ_typed_heads::Expected;
+use occ_typed_statements::{condition, hidden_results, options, results};
 use std::alloc::{AllocError, Global};
 
 /// A line of options.
@@ -21,11 +23,12 @@ fn option(
     first: &Expr,
     more: &[Expr],
     mut choosing: Choosing,
+    rounds: u32,
     scope: &Scope,
     faults: &mut Items<Fault>,
 ) -> Result<Line, AllocError>
-    ensures line { IfOk result (λ line. line ≡ (told_option scope.now choosing (first.now ∷ more.now)).line) }
-    ensures faults { OnOk result (faults.new ≡ faults.old ++ (told_option scope.now choosing (first.now ∷ more.now)).faults) }
+    ensures line { IfOk result (λ line. line ≡ (told_option scope.now choosing rounds (first.now ∷ more.now)).line) }
+    ensures faults { OnOk result (faults.new ≡ faults.old ++ (told_option scope.now choosing rounds (first.now ∷ more.now)).faults) }
 {
     let trees = options(
         alloc,
@@ -36,7 +39,8 @@ fn option(
         scope,
         faults,
     )?;
-    Ok(main(alloc, options_form(trees), Parent::Selection(choosing)))
+    let next = of_role(rounds, Role::Selection(choosing));
+    Ok(main(alloc, options_form(trees), next))
 }
 
 /// T8 is told of a second `ELSE`.
@@ -53,10 +57,11 @@ fn tell_second(otherwise: bool, faults: &mut Items<Fault>) -> Result<(), AllocEr
 fn else_option(
     alloc: Global,
     choosing: Choosing,
+    rounds: u32,
     faults: &mut Items<Fault>,
 ) -> Result<Line, AllocError>
-    ensures line { IfOk result (λ line. line ≡ (told_else_option choosing).line) }
-    ensures faults { OnOk result (faults.new ≡ faults.old ++ (told_else_option choosing).faults) }
+    ensures line { IfOk result (λ line. line ≡ (told_else_option choosing rounds).line) }
+    ensures faults { OnOk result (faults.new ≡ faults.old ++ (told_else_option choosing rounds).faults) }
 {
     tell_second(choosing.otherwise, faults)?;
     let choosing = Choosing {
@@ -64,33 +69,34 @@ fn else_option(
         numbers: choosing.numbers,
         otherwise: true,
     };
-    Ok(main(alloc, TypedForm::Otherwise, Parent::Selection(choosing)))
+    let next = of_role(rounds, Role::Selection(choosing));
+    Ok(main(alloc, TypedForm::Otherwise, next))
 }
 
-/// The results of a FUNCTION, with which nothing is compared where its head has a fault: whether one of them has a fault,
-/// and their trees.
+/// The results of a FUNCTION, with which no types are compared where its head has a fault: whether one of them has a
+/// fault, and their trees.
 pub fn results_of(
     alloc: Global,
     first: &Expr,
     more: &[Expr],
-    types: &Option<Items<Shared<OccType>>>,
+    expected: &Expected,
     scope: &Scope,
     faults: &mut Items<Fault>,
 ) -> Result<(bool, Option<Items<Shared<TypedExpr>>>), AllocError>
     ensures faulty { IfOk result (λ r. r.0 ≡ is_any_faulty scope.now (first.now ∷ more.now)) }
-    ensures trees { IfOk result (λ r. r.1 ≡ told_results_in scope.now types.now (first.now ∷ more.now)) }
-    ensures faults { OnOk result (faults.new ≡ faults.old ++ told_results scope.now types.now (first.now ∷ more.now)) }
+    ensures trees { IfOk result (λ r. r.1 ≡ told_results_in scope.now expected.now (first.now ∷ more.now)) }
+    ensures faults { OnOk result (faults.new ≡ faults.old ++ told_results scope.now expected.now (first.now ∷ more.now)) }
 {
-    match types {
-        None => {
-            let faulty = values(alloc, first, more, scope, faults)?;
+    match expected {
+        Expected::Count(count) => {
+            let faulty = hidden_results(alloc, first, more, *count, scope, faults)?;
             Ok((faulty, None))
         }
-        Some(types) => results(alloc, first, more, types.as_slice(), scope, faults),
+        Expected::Types(types) => results(alloc, first, more, types.as_slice(), scope, faults),
     }
 }
 
-/// A line of expressions: a condition, options, or an instance of a procedure.
+/// A line of expressions: a condition, options, a variant without parts, or an instance of a procedure.
 pub fn expressions(
     alloc: Global,
     first: &Expr,
@@ -102,23 +108,18 @@ pub fn expressions(
     ensures line { IfOk result (λ line. line ≡ (told_expressing scope.now first.now more.now parent).line) }
     ensures faults { OnOk result (faults.new ≡ faults.old ++ (told_expressing scope.now first.now more.now parent).faults) }
 {
-    match parent {
-        Parent::Conditional => {
+    let Parent { role, rounds } = parent;
+    match role {
+        Role::Conditional => {
             let tree = condition(alloc, first, scope, faults)?;
-            Ok(main(alloc, condition_form(tree), Parent::Conditional))
+            let next = of_role(rounds, Role::Conditional);
+            Ok(main(alloc, condition_form(tree), next))
         }
-        Parent::Selection(choosing) => option(alloc, first, more, choosing, scope, faults),
-        Parent::Process => {
+        Role::Selection(choosing) => { option(alloc, first, more, choosing, rounds, scope, faults) }
+        Role::Variants(input) => variant_named(alloc, input, rounds, first, scope, faults),
+        role => {
             tell(faults, Code::S1)?;
-            Ok(main(alloc, TypedForm::Unknown, Parent::Process))
-        }
-        Parent::Function(types) => {
-            tell(faults, Code::S1)?;
-            Ok(main(alloc, TypedForm::Unknown, Parent::Function(types)))
-        }
-        Parent::Record => {
-            tell(faults, Code::S1)?;
-            Ok(main(alloc, TypedForm::Unknown, Parent::Record))
+            Ok(main(alloc, TypedForm::Unknown, of_role(rounds, role)))
         }
     }
 }
@@ -128,12 +129,10 @@ fn otherwise(alloc: Global, parent: Parent, faults: &mut Items<Fault>) -> Result
     ensures line { IfOk result (λ line. line ≡ (told_otherwise parent).line) }
     ensures faults { OnOk result (faults.new ≡ faults.old ++ (told_otherwise parent).faults) }
 {
-    match parent {
-        Parent::Selection(choosing) => else_option(alloc, choosing, faults),
-        Parent::Process => Ok(main(alloc, TypedForm::Otherwise, Parent::Process)),
-        Parent::Conditional => Ok(main(alloc, TypedForm::Otherwise, Parent::Conditional)),
-        Parent::Function(types) => Ok(main(alloc, TypedForm::Otherwise, Parent::Function(types))),
-        Parent::Record => Ok(main(alloc, TypedForm::Otherwise, Parent::Record)),
+    let Parent { role, rounds } = parent;
+    match role {
+        Role::Selection(choosing) => else_option(alloc, choosing, rounds, faults),
+        role => Ok(main(alloc, TypedForm::Otherwise, of_role(rounds, role))),
     }
 }
 
@@ -142,17 +141,18 @@ fn valued(alloc: Global, parent: Parent) -> Line
     ensures line { result ≡ (told_valued parent).line }
     ensures faults { (told_valued parent).faults ≡ [] }
 {
-    match parent {
-        Parent::Function(types) => plain(
-            alloc,
-            Parent::Function(types),
-            TypedForm::ValueOf,
-            Parent::Process,
-        ),
-        Parent::Process => main(alloc, TypedForm::ValueOf, Parent::Process),
-        Parent::Conditional => main(alloc, TypedForm::ValueOf, Parent::Conditional),
-        Parent::Selection(choosing) => main(alloc, TypedForm::ValueOf, Parent::Selection(choosing)),
-        Parent::Record => main(alloc, TypedForm::ValueOf, Parent::Record),
+    let Parent { role, rounds } = parent;
+    match role {
+        Role::Function(wanted) => {
+            let under = of_role(rounds, Role::Function(wanted));
+            plain(
+                alloc,
+                under,
+                TypedForm::ValueOf,
+                of_role(rounds, Role::Process),
+            )
+        }
+        role => main(alloc, TypedForm::ValueOf, of_role(rounds, role)),
     }
 }
 
@@ -168,19 +168,14 @@ fn resulting(
     ensures line { IfOk result (λ line. line ≡ (told_resulting scope.now (first.now ∷ more.now) parent).line) }
     ensures faults { OnOk result (faults.new ≡ faults.old ++ (told_resulting scope.now (first.now ∷ more.now) parent).faults) }
 {
-    match parent {
-        Parent::Function(types) => {
-            let (_, trees) = results_of(alloc, first, more, &types, scope, faults)?;
-            Ok(main(alloc, results_form(trees), Parent::Function(types)))
+    let Parent { role, rounds } = parent;
+    match role {
+        Role::Function(wanted) => {
+            let (_, trees) = results_of(alloc, first, more, &wanted, scope, faults)?;
+            let next = of_role(rounds, Role::Function(wanted));
+            Ok(main(alloc, results_form(trees), next))
         }
-        Parent::Process => Ok(main(alloc, TypedForm::Unknown, Parent::Process)),
-        Parent::Conditional => Ok(main(alloc, TypedForm::Unknown, Parent::Conditional)),
-        Parent::Selection(choosing) => Ok(main(
-            alloc,
-            TypedForm::Unknown,
-            Parent::Selection(choosing),
-        )),
-        Parent::Record => Ok(main(alloc, TypedForm::Unknown, Parent::Record)),
+        role => Ok(main(alloc, TypedForm::Unknown, of_role(rounds, role))),
     }
 }
 
@@ -207,9 +202,8 @@ pub fn part(
         }
         Part::Record => Ok(main(alloc, TypedForm::Member, parent)),
         Part::PackedRecord => Ok(main(alloc, TypedForm::Member, parent)),
-        Part::Guard(_, _) => {
-            tell(faults, Code::S1)?;
-            Ok(main(alloc, TypedForm::Unknown, parent))
+        Part::Guard(condition, behind) => {
+            guarding(alloc, condition, behind, scope, parent, faults)
         }
     }
 }

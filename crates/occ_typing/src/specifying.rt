@@ -2,10 +2,11 @@ ghost use Rattle.occ_typed_specifications.specs.Declaring.{declaration as told_d
 ghost use Rattle.occ_typed_specifications.specs.Defining.{data_type as told_data_type};
 ghost use Rattle.occ_typed_specifications.specs.Lines.{unknown as told_unknown};
 ghost use Rattle.occ_typed_specifications.specs.Valuing.{value as told_value, value_tree};
+ghost use Rattle.occ_typed_protocols.specs.Protocols.{protocol as told_protocol};
 ghost use Rattle.occ_typing.specs.Lines.{made};
 ghost use Rattle.occ_typing.specs.Specifying.{declared_line, one_line as told_one_line};
 ghost use Rattle.occ_typing.specs.declared.tree.TypedForm.TheVariants as t;
-ghost use Rattle.std.specs.Prelude.{◌≡◌, ◌++◌, IfOk, OnOk};
+ghost use Rattle.std.specs.Prelude.{◌≡◌, ◌∷◌, ◌++◌, IfOk, OnOk};
 
 use super::form::value_form;
 use super::function::function_line;
@@ -15,7 +16,8 @@ use super::tree::TypedForm;
 use occ_base::{Fault, Items, Name};
 use occ_expression_forms::{Expr, TypeForm};
 use occ_names::Scope;
-use occ_specification_forms::Specification;
+use occ_specification_forms::{ItemForm, Specification};
+use occ_typed_protocols::protocol;
 use occ_typed_specifications::{ValueLine, data_type, declaration, unknown, value};
 use std::alloc::{AllocError, Global};
 
@@ -83,6 +85,23 @@ fn data_type_line(
     Ok(line_of_one(alloc, adds, TypedForm::DataType, next))
 }
 
+/// A protocol of one line.
+fn protocol_line(
+    alloc: Global,
+    name: &Name,
+    first: &ItemForm,
+    more: &[ItemForm],
+    scope: &Scope,
+    next: Parent,
+    faults: &mut Items<Fault>,
+) -> Result<Line, AllocError>
+    ensures line { IfOk result (λ one. one ≡ (declared_line (told_protocol scope.now name.now (first.now ∷ more.now)) t.Protocol next).line) }
+    ensures faults { OnOk result (faults.new ≡ faults.old ++ (told_protocol scope.now name.now (first.now ∷ more.now)).faults) }
+{
+    let adds = protocol(alloc, name, first, more, scope, faults)?;
+    Ok(line_of_one(alloc, adds, TypedForm::Protocol, next))
+}
+
 /// A specification of one line.
 pub fn one_line(
     alloc: Global,
@@ -109,6 +128,8 @@ pub fn one_line(
         Specification::Abbreviation(_, name, _) => unknown_line(alloc, name, next, faults),
         Specification::Retyped(_, _, name, _) => unknown_line(alloc, name, next, faults),
         Specification::RetypedValue(_, _, name, _) => unknown_line(alloc, name, next, faults),
-        Specification::Protocol(name, _, _) => unknown_line(alloc, name, next, faults),
+        Specification::Protocol(name, first, more) => {
+            protocol_line(alloc, name, first, more.as_slice(), scope, next, faults)
+        }
     }
 }

@@ -1,7 +1,9 @@
 use occ_base::{Boxed, Items, Name, Shared};
 use occ_names::{Entry, Referent};
 use occ_project::Place;
+use occ_replicators::TypedReplicator;
 use occ_typed::{TypedActual, TypedElement, TypedExpr};
+use occ_typed_exchanges::{TypedInput, TypedOutput, TypedTarget};
 
 /// The number of a process of a unit, from 0, in the order of its listing.
 pub type ProcessId = usize;
@@ -19,53 +21,6 @@ pub enum BlockKind {
     Alternation,
 }
 
-/// `n = e FOR e`: its index is the one name that its line enters.
-#[derive(Drop)]
-pub struct TypedReplicator {
-    pub base: Shared<TypedExpr>,
-    pub count: Shared<TypedExpr>,
-    /// Its base and count, where it is known.
-    pub known: Option<KnownReplicator>,
-}
-
-/// The base and the count of a known replicator.
-#[derive(Clone, Copy)]
-pub struct KnownReplicator {
-    pub base: i32,
-    pub count: u32,
-}
-
-/// What an output sends as one.
-#[derive(Drop)]
-pub enum TypedOutput {
-    Value(Shared<TypedExpr>),
-    /// How many components, and the array.
-    Counted(Shared<TypedExpr>, Shared<TypedExpr>),
-    /// The tag at this place of its protocol, and its name.
-    Tag(usize, Name),
-}
-
-/// What an input receives as one.
-#[derive(Drop)]
-pub enum TypedTarget {
-    Single(TypedElement),
-    /// Where the number of components goes, and where they go.
-    Counted(TypedElement, TypedElement),
-}
-
-/// An input, as a process or as a guard.
-#[derive(Drop)]
-pub enum TypedInput {
-    /// `el ? i; ..` of a channel.
-    Plain(TypedElement, Items<TypedTarget>),
-    /// `el ? i` of a timer.
-    Time(TypedElement, TypedElement),
-    /// `el ? AFTER e`
-    After(TypedElement, Shared<TypedExpr>),
-    /// `el ? CASE n; i; ..`: the channel, the place of the tag in its protocol and its name, and the targets.
-    Tagged(TypedElement, usize, Name, Items<TypedTarget>),
-}
-
 /// What stands behind the `&` of a guard.
 #[derive(Drop)]
 pub enum TypedGuard {
@@ -76,8 +31,8 @@ pub enum TypedGuard {
     CaseInput(TypedElement),
 }
 
-/// What a line is, once its names and expressions are typed. Typing knows no channels, replicators, calls and
-/// abbreviations of elements yet, and makes no line of these.
+/// What a line is, once its names and expressions are typed. Typing knows no calls and no abbreviations of elements yet, and
+/// makes no line of these.
 #[derive(Drop)]
 pub enum TypedForm {
     /// `t n, ..:`

@@ -3,7 +3,8 @@ ghost use Rattle.occ_typing.specs.Typed.{IsTypedTree, Refuses};
 ghost use Rattle.occ_typing.specs.declared.unit.TypeFault.TheVariants.{Memory};
 ghost use Rattle.std.specs.Prelude.{◌≡◌, IfErr, IfOk};
 
-use super::parent::Parent;
+use super::line::body_of;
+use super::parent::Role;
 use super::tree::TypedLine;
 use super::using::Import;
 use super::walk::lines;
@@ -55,7 +56,7 @@ pub fn type_unit(alloc: Global, unit: &Unit, imports: &[Import]) -> Result<Typed
         alloc,
         imports,
         unit.roots.as_slice(),
-        Parent::Process,
+        body_of(Role::Process),
         &mut scope,
         &mut processes,
         &mut faults,

@@ -10,7 +10,7 @@ ghost use Rattle.occ_typing.specs.inside.Opening.{opened_at, with_children};
 ghost use Rattle.std.specs.Prelude.{◌≡◌, ◌+◌, ◌∷◌, ◌++◌, [], IfOk, OnErr, OnOk, length};
 
 use super::judge::judged;
-use super::parent::{Line, Parent};
+use super::parent::{Line, Parent, Role};
 use super::place::place;
 use super::tree::{ProcessId, TypedForm, TypedLine};
 use super::using::Import;
@@ -65,12 +65,14 @@ fn is_process_body(body: &ExpandedBody) -> bool
 fn is_process(parent: &Parent, body: &ExpandedBody) -> bool
     ensures { result ≡ counts parent.now body.now }
 {
-    match parent {
-        Parent::Process => is_process_body(body),
-        Parent::Function(_) => is_process_body(body),
-        Parent::Conditional => false,
-        Parent::Selection(_) => false,
-        Parent::Record => false,
+    match parent.role {
+        Role::Process => is_process_body(body),
+        Role::Function(_) => is_process_body(body),
+        Role::Conditional => false,
+        Role::Alternation => false,
+        Role::Selection(_) => false,
+        Role::Variants(_) => false,
+        Role::Members => false,
     }
 }
 

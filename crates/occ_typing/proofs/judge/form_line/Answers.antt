@@ -1,5 +1,5 @@
 use Rattle.occ_tree.specs.Forest.{forest_of}
-use Rattle.occ_typing.proofs.Beneath.{construct_found, expressions_found, part_found}
+use Rattle.occ_typing.proofs.Beneath.{construct_found, expressions_found, part_found, tagged_found}
 use Rattle.occ_typing.proofs.judge.form_line.Goals as goal
 
 pub returns-in-Construct-clause-found : goal.returns-in-Construct-clause-found
@@ -10,3 +10,6 @@ returns-in-Part-clause-found c = part_found c.part.result c.args.found.now c.arg
 
 pub returns-in-Expressions-clause-found : goal.returns-in-Expressions-clause-found
 returns-in-Expressions-clause-found c = expressions_found c.expressions.result c.args.found.now c.args.scope.now c.args.form.now _ _ (forest_of c.args.nodes.now) c.args.parent c.in-Expressions.is
+
+pub returns-in-Tagged-clause-found : goal.returns-in-Tagged-clause-found
+returns-in-Tagged-clause-found c = tagged_found c.tagged.result c.args.found.now c.args.scope.now c.args.form.now _ _ _ (forest_of c.args.nodes.now) c.args.parent c.in-Tagged.is

@@ -1,0 +1,3 @@
+pub mod Operands
+pub mod Times
+pub mod Both

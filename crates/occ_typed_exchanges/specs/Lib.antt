@@ -1,0 +1,5 @@
+pub mod Through
+pub mod Sending
+pub mod Receiving
+pub mod Inputs
+pub mod Variants

@@ -1,0 +1,30 @@
+-- What a line sends or receives through: an element, which has to be a channel or a timer.
+use Rattle.std.specs.Prelude.{ℕ, Option, Some, List}
+use Rattle.occ_names.specs.Visible.{visible}
+use Rattle.occ_names.specs.declared.meaning.Meaning.{Meaning}
+use Rattle.occ_names.specs.declared.meaning.Meaning.TheVariants as m
+use Rattle.occ_names.specs.declared.scope.Scope.{Scope}
+use Rattle.occ_operands.specs.Settling.{Told}
+use Rattle.occ_protocol.specs.Carrying.{Carrier, carrier}
+use Rattle.occ_typed.specs.declared.expr.TypedElement.{TypedElement}
+use Rattle.occ_expression_forms.specs.declared.tree.Element.{Element}
+use Rattle.occ_expr.specs.Views.{element_view}
+use Rattle.occ_typed_statements.specs.Targets.{root}
+
+abbrev pub through : Scope → Element → Told
+through s el = (element_view el).told s
+
+abbrev pub through_tree : Scope → Element → Option TypedElement
+through_tree s el = (element_view el).tree s
+
+abbrev pub carrier_of : Scope → Element → Carrier
+carrier_of s el = carrier (through s el).kind
+
+-- the name that is told of what this name stands for
+abbrev pub root_in : List ℕ → Option Meaning → List ℕ
+root_in name (Some (m.Element whole)) = whole.root
+root_in name meaning = name
+
+-- the name of the channel or timer, to which abbreviations are followed
+abbrev pub root_of : Scope → Element → List ℕ
+root_of s el = root_in (root el) (visible s (root el))

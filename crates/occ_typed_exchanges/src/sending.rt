@@ -1,0 +1,414 @@
+#![tactic(auto, using(occ_lists::proofs::Fronts::front_rules))]
+
+ghost use Rattle.std.specs.Prelude.{◌≡◌, ◌++◌, [], IfOk, OnOk};
+ghost use Rattle.occ_lists.specs.Lists.{joined};
+ghost use Rattle.occ_protocol.specs.Carrying.{carrier as carrier_in, name_seen};
+ghost use Rattle.occ_tables.specs.Terms.{judged};
+ghost use Rattle.occ_types.specs.View.{as_array};
+ghost use Rattle.occ_typed_exchanges.specs.Sending.{behind_tag as told_behind, count_want as told_count_want, counted_output as told_counted, givens as told_givens, item_faults as told_item_faults, item_read as told_item, item_sent as told_item_sent, items_behind as told_items_behind, items_faults as told_items_faults, items_read as told_items, items_sent as told_items_sent, name_sent as told_name_sent, operand_as as told_operand_as, operand_under as told_operand_under, output_faults as told_faults, output_tree as told_tree, outputs_behind as told_outputs, sending_of as told_sending, sent_faults as told_sent_faults, sent_through as told_sent_through, sent_trees as told_sent_trees, shape_of as told_shape, shapes_of as told_shapes, table_as as told_table_as, tag_at as told_tag_at, tag_of as told_tag, tag_tree as told_tag_tree, value_output as told_value_output, value_want as told_value_want};
+
+use super::through::root_of;
+use super::tree::TypedOutput;
+use occ_base::{Fault, Items, Name, Shared, one_item};
+use occ_expr::{Reading, element, expression, name_alone};
+use occ_expression_forms::Element;
+use occ_forms::OutputItem;
+use occ_lists::with_part;
+use occ_names::Scope;
+use occ_operands::{Kind, settled};
+use occ_protocol::{Given, Shape, Want, Wanted, exchanged, tag_place, takes_tag, wants};
+use occ_tables::{Term, alone, under};
+use occ_typed::{TypedElement, TypedExpr};
+use occ_typed_specifications::tree_of;
+use occ_types::{OccType, array_of};
+use std::alloc::{AllocError, Global};
+
+/// The name that an item is alone.
+fn name_sent(item: &OutputItem) -> Option<&Name>
+    ensures { name_seen result ≡ told_name_sent item.now }
+{
+    match item {
+        OutputItem::Plain(expr) => name_alone(expr),
+        OutputItem::Counted(_, _) => None,
+    }
+}
+
+/// The tag of an output, of which this is the first item.
+fn tag_of<'a>(channel: &Kind, first: &'a OutputItem) -> Option<&'a Name>
+    ensures { name_seen result ≡ told_tag (carrier_in channel.now) first.now }
+{
+    if takes_tag(channel) {
+        name_sent(first)
+    } else {
+        None
+    }
+}
+
+/// What is read of an item before a type is wanted of it.
+#[derive(Drop)]
+pub enum SentItem {
+    Plain(Reading),
+    Counted(Reading, Reading),
+}
+
+/// An item by itself.
+fn item_read(
+    alloc: Global,
+    item: &OutputItem,
+    scope: &Scope,
+    faults: &mut Items<Fault>,
+) -> Result<SentItem, AllocError>
+    ensures item { IfOk result (λ read. read ≡ told_item scope.now item.now) }
+    ensures faults { OnOk result (faults.new ≡ faults.old ++ told_item_faults scope.now item.now) }
+{
+    match item {
+        OutputItem::Plain(expr) => Ok(SentItem::Plain(expression(alloc, expr, scope, faults)?)),
+        OutputItem::Counted(count, array) => {
+            let count = expression(alloc, count, scope, faults)?;
+            let array = expression(alloc, array, scope, faults)?;
+            Ok(SentItem::Counted(count, array))
+        }
+    }
+}
+
+/// Items by themselves, behind others.
+fn items_read(
+    alloc: Global,
+    items: &[OutputItem],
+    scope: &Scope,
+    read: &mut Items<SentItem>,
+    faults: &mut Items<Fault>,
+) -> Result<(), AllocError>
+    ensures items { OnOk result (read.new ≡ read.old ++ told_items scope.now items.now) }
+    ensures faults { OnOk result (faults.new ≡ faults.old ++ told_items_faults scope.now items.now) }
+{
+    for item in items {
+        let item = item_read(alloc, item, scope, faults)?;
+        read.push(item)?;
+    }
+    Ok(())
+}
+
+/// The items behind a tag, or behind none, by themselves.
+fn items_behind(
+    alloc: Global,
+    tag: Option<&Name>,
+    first: &OutputItem,
+    more: &[OutputItem],
+    scope: &Scope,
+    faults: &mut Items<Fault>,
+) -> Result<Items<SentItem>, AllocError>
+    ensures items { IfOk result (λ read. read ≡ told_items scope.now (told_items_behind (name_seen tag.entry) first.now more.now)) }
+    ensures faults { OnOk result (faults.new ≡ faults.old ++ told_items_faults scope.now (told_items_behind (name_seen tag.entry) first.now more.now)) }
+{
+    let mut read = match tag {
+        Some(_) => Items::new(alloc),
+        None => one_item(alloc, item_read(alloc, first, scope, faults)?)?,
+    };
+    items_read(alloc, more, scope, &mut read, faults)?;
+    Ok(read)
+}
+
+/// How an item is written.
+fn shape_of(item: &SentItem) -> Shape
+    ensures { result ≡ told_shape item.now }
+{
+    match item {
+        SentItem::Plain(_) => Shape::Plain,
+        SentItem::Counted(_, _) => Shape::Counted,
+    }
+}
+
+/// How items are written.
+fn shapes_of(alloc: Global, items: &[SentItem]) -> Result<Items<Shape>, AllocError>
+    ensures { IfOk result (λ shapes. shapes ≡ told_shapes items.now) }
+{
+    let mut shapes = Items::new(alloc);
+    for item in items {
+        shapes.push(shape_of(item))?;
+    }
+    Ok(shapes)
+}
+
+/// A table, of which an array is wanted: it takes the components, as many as it has.
+fn table_as(
+    alloc: Global,
+    table: &Term,
+    of: &OccType,
+    faults: &mut Items<Fault>,
+) -> Result<Kind, AllocError>
+    ensures kind { IfOk result (λ kind. kind ≡ (told_table_as (judged table.now) (as_array of.now)).kind) }
+    ensures faults { OnOk result (faults.new ≡ faults.old ++ (told_table_as (judged table.now) (as_array of.now)).faults) }
+{
+    match array_of(of) {
+        None => alone(alloc, table, faults),
+        Some((_, component)) => {
+            let array = Shared::new(alloc, OccType::Array(None, component.share()?))?;
+            under(alloc, table, &array, faults)
+        }
+    }
+}
+
+/// An operand of which this type is wanted, which may be of another all the same.
+#[tactic(auto, using(crate::proofs::Operands::operand_rules))]
+fn operand_as(
+    alloc: Global,
+    of: &Shared<OccType>,
+    term: &Term,
+    faults: &mut Items<Fault>,
+) -> Result<Kind, AllocError>
+    ensures kind { IfOk result (λ kind. kind ≡ (told_operand_as of.now term.now).kind) }
+    ensures faults { OnOk result (faults.new ≡ faults.old ++ (told_operand_as of.now term.now).faults) }
+{
+    match term {
+        Term::Single(kind) => settled(alloc, of, kind, faults),
+        Term::Table(_) => table_as(alloc, term, of.get(), faults),
+    }
+}
+
+/// An operand, where this is wanted of it.
+fn operand_under(
+    alloc: Global,
+    want: &Want,
+    term: &Term,
+    faults: &mut Items<Fault>,
+) -> Result<Kind, AllocError>
+    ensures kind { IfOk result (λ kind. kind ≡ (told_operand_under want.now term.now).kind) }
+    ensures faults { OnOk result (faults.new ≡ faults.old ++ (told_operand_under want.now term.now).faults) }
+{
+    match want {
+        Want::Hidden => Ok(Kind::Faulty),
+        Want::Nothing => alone(alloc, term, faults),
+        Want::Of(of) => operand_as(alloc, of, term, faults),
+    }
+}
+
+/// What is wanted of a plain item, and of the array of a counted one.
+fn value_want(wanted: &Wanted) -> &Want
+    ensures { result.now ≡ told_value_want wanted.now }
+{
+    match wanted {
+        Wanted::Plain(want) => want,
+        Wanted::Counted(_, want) => want,
+    }
+}
+
+/// What is wanted of the count of an item.
+fn count_want(wanted: &Wanted) -> &Want
+    ensures { result.now ≡ told_count_want wanted.now }
+{
+    match wanted {
+        Wanted::Plain(want) => want,
+        Wanted::Counted(count, _) => count,
+    }
+}
+
+/// The tree of a plain item.
+fn value_output(tree: Option<Shared<TypedExpr>>) -> Option<TypedOutput>
+    ensures { result ≡ told_value_output tree }
+{
+    Some(TypedOutput::Value(tree?))
+}
+
+/// The tree of a counted item.
+fn counted_output(
+    count: Option<Shared<TypedExpr>>,
+    array: Option<Shared<TypedExpr>>,
+) -> Option<TypedOutput>
+    ensures { result ≡ told_counted count array }
+{
+    let count = count?;
+    Some(TypedOutput::Counted(count, array?))
+}
+
+/// An item that is sent: what is known of it, and its tree, if it has no fault.
+#[derive(Drop)]
+struct SentOne {
+    given: Given,
+    tree: Option<TypedOutput>,
+}
+
+/// An item of which this is wanted.
+fn item_sent(
+    alloc: Global,
+    wanted: &Wanted,
+    item: &SentItem,
+    faults: &mut Items<Fault>,
+) -> Result<SentOne, AllocError>
+    ensures given { IfOk result (λ one. one.given ≡ (told_item_sent wanted.now item.now).given) }
+    ensures tree { IfOk result (λ one. one.tree ≡ (told_item_sent wanted.now item.now).tree) }
+    ensures faults { OnOk result (faults.new ≡ faults.old ++ (told_item_sent wanted.now item.now).faults) }
+{
+    match item {
+        SentItem::Plain(value) => {
+            let kind = operand_under(alloc, value_want(wanted), &value.term, faults)?;
+            let tree = value_output(tree_of(alloc, &kind, &value.draft)?);
+            Ok(SentOne {
+                given: Given::Plain(kind),
+                tree,
+            })
+        }
+        SentItem::Counted(count, array) => {
+            let number = operand_under(alloc, count_want(wanted), &count.term, faults)?;
+            let kind = operand_under(alloc, value_want(wanted), &array.term, faults)?;
+            let counted = tree_of(alloc, &number, &count.draft)?;
+            let tree = counted_output(counted, tree_of(alloc, &kind, &array.draft)?);
+            Ok(SentOne {
+                given: Given::Counted(number, kind),
+                tree,
+            })
+        }
+    }
+}
+
+/// Items that are sent: what is known of each, and their trees, if none has a fault.
+#[derive(Drop)]
+struct SentAll {
+    givens: Items<Given>,
+    trees: Option<Items<TypedOutput>>,
+}
+
+/// Items of each of which this is wanted.
+fn items_sent(
+    alloc: Global,
+    wanted: &[Wanted],
+    items: &[SentItem],
+    faults: &mut Items<Fault>,
+) -> Result<SentAll, AllocError>
+    ensures givens { IfOk result (λ all. all.givens ≡ told_givens (told_items_sent wanted.now items.now)) }
+    ensures trees { IfOk result (λ all. all.trees ≡ told_sent_trees (told_items_sent wanted.now items.now)) }
+    ensures faults { OnOk result (faults.new ≡ faults.old ++ told_sent_faults (told_items_sent wanted.now items.now)) }
+{
+    let mut givens = Items::new(alloc);
+    let mut trees = Some(Items::new(alloc));
+    let mut items = items;
+    for want in wanted {
+        let Some((item, rest)) = items.split_first() else {
+            return Ok(SentAll { givens, trees });
+        };
+        let one = item_sent(alloc, want, item, faults)?;
+        givens.push(one.given)?;
+        trees = with_part(trees, one.tree)?;
+        items = rest;
+    }
+    Ok(SentAll { givens, trees })
+}
+
+/// Items that are sent through `channel` behind a tag or behind none, each with what is wanted of it.
+fn sent_through(
+    alloc: Global,
+    channel: &Kind,
+    tag: Option<&Name>,
+    items: &[SentItem],
+    faults: &mut Items<Fault>,
+) -> Result<SentAll, AllocError>
+    ensures givens { IfOk result (λ all. all.givens ≡ told_givens (told_sent_through (carrier_in channel.now) (name_seen tag.entry) items.now)) }
+    ensures trees { IfOk result (λ all. all.trees ≡ told_sent_trees (told_sent_through (carrier_in channel.now) (name_seen tag.entry) items.now)) }
+    ensures faults { OnOk result (faults.new ≡ faults.old ++ told_sent_faults (told_sent_through (carrier_in channel.now) (name_seen tag.entry) items.now)) }
+{
+    let shapes = shapes_of(alloc, items)?;
+    let wanted = wants(alloc, channel, tag, shapes.as_slice())?;
+    items_sent(alloc, wanted.as_slice(), items, faults)
+}
+
+/// A tag at its place in the protocol, if it is there.
+fn tag_at(
+    alloc: Global,
+    name: &Name,
+    place: Option<usize>,
+) -> Result<Option<Items<TypedOutput>>, AllocError>
+    ensures { IfOk result (λ tree. tree ≡ told_tag_at name.now place) }
+{
+    let Some(place) = place else {
+        return Ok(None);
+    };
+    let tag = TypedOutput::Tag(place, name.copied(alloc)?);
+    Ok(Some(one_item(alloc, tag)?))
+}
+
+/// The tree of a tag; no items without one.
+fn tag_tree(
+    alloc: Global,
+    channel: &Kind,
+    tag: Option<&Name>,
+) -> Result<Option<Items<TypedOutput>>, AllocError>
+    ensures { IfOk result (λ tree. tree ≡ told_tag_tree (carrier_in channel.now) (name_seen tag.entry)) }
+{
+    match tag {
+        None => Ok(Some(Items::new(alloc))),
+        Some(name) => tag_at(alloc, name, tag_place(channel, name)),
+    }
+}
+
+/// A tag and the items behind it, if all are there.
+fn with_outputs(
+    tag: Option<Items<TypedOutput>>,
+    items: Option<Items<TypedOutput>>,
+) -> Result<Option<Items<TypedOutput>>, AllocError>
+    ensures { IfOk result (λ all. all ≡ joined tag items) }
+{
+    let (Some(mut all), Some(items)) = (tag, items) else {
+        return Ok(None);
+    };
+    all.append(items)?;
+    Ok(Some(all))
+}
+
+/// What an output sends, behind a tag or behind none, with what is told of it; the trees, if nothing has a fault.
+fn behind_tag(
+    alloc: Global,
+    channel: &Kind,
+    root: &Name,
+    tag: Option<&Name>,
+    first: &OutputItem,
+    more: &[OutputItem],
+    scope: &Scope,
+    faults: &mut Items<Fault>,
+) -> Result<Option<Items<TypedOutput>>, AllocError>
+    ensures trees { IfOk result (λ trees. trees ≡ told_outputs scope.now (carrier_in channel.now) (name_seen tag.entry) (told_items_behind (name_seen tag.entry) first.now more.now)) }
+    ensures faults { OnOk result (faults.new ≡ faults.old ++ told_behind scope.now (carrier_in channel.now) root.now (name_seen tag.entry) (told_items_behind (name_seen tag.entry) first.now more.now)) }
+{
+    let items = items_behind(alloc, tag, first, more, scope, faults)?;
+    let sent = sent_through(alloc, channel, tag, items.as_slice(), faults)?;
+    exchanged(alloc, channel, root, tag, sent.givens.as_slice(), faults)?;
+    with_outputs(tag_tree(alloc, channel, tag)?, sent.trees)
+}
+
+/// An output: what it sends through, and what it sends, a tag first.
+#[derive(Drop)]
+pub struct TypedSending {
+    pub channel: TypedElement,
+    pub outputs: Items<TypedOutput>,
+}
+
+/// An output, if its channel and what it sends have trees.
+fn sending_of(
+    channel: Option<TypedElement>,
+    outputs: Option<Items<TypedOutput>>,
+) -> Option<TypedSending>
+    ensures { result ≡ told_sending channel outputs }
+{
+    let channel = channel?;
+    let outputs = outputs?;
+    Some(TypedSending { channel, outputs })
+}
+
+/// `el ! o; ..`
+#[tactic(auto, unfolding(crate::specs::Sending::output_faults, crate::specs::Sending::output_tree))]
+pub fn output(
+    alloc: Global,
+    channel: &Element,
+    first: &OutputItem,
+    more: &[OutputItem],
+    scope: &Scope,
+    faults: &mut Items<Fault>,
+) -> Result<Option<TypedSending>, AllocError>
+    ensures tree { IfOk result (λ tree. tree ≡ told_tree scope.now channel.now first.now more.now) }
+    ensures faults { OnOk result (faults.new ≡ faults.old ++ told_faults scope.now channel.now first.now more.now) }
+{
+    let read = element(alloc, channel, scope, faults)?;
+    let root = root_of(scope, channel);
+    let tag = tag_of(&read.kind, first);
+    let outputs = behind_tag(alloc, &read.kind, root, tag, first, more, scope, faults)?;
+    Ok(sending_of(read.tree, outputs))
+}

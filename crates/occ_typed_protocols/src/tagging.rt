@@ -1,0 +1,63 @@
+ghost use Rattle.std.specs.Prelude.{◌≡◌, ◌∷◌, ◌++◌, [], IfOk, OnOk};
+ghost use Rattle.occ_typed_protocols.specs.Tags.{tag_items as told_items, tag_line as told_line};
+ghost use Rattle.occ_types.specs.declared.types.Item.TheVariants as i;
+ghost use Rattle.occ_types.specs.declared.types.OccType.TheVariants as t;
+
+use super::detail::detail_items;
+use occ_base::{Fault, Items, Name, Shared, one_item};
+use occ_forms::Detail;
+use occ_names::Scope;
+use occ_scope::Scopes;
+use occ_type_rules::repeated;
+use occ_types::{Item, OccType, Tag};
+use std::alloc::{AllocError, Global};
+use std::slice;
+
+/// What stands for the items of a tag whose line has a fault.
+fn unknown(alloc: Global) -> Result<Items<Item>, AllocError>
+    ensures { IfOk result (λ items. items ≡ i.Value t.Unknown ∷ []) }
+{
+    one_item(alloc, Item::Value(Shared::new(alloc, OccType::Unknown)?))
+}
+
+/// The items of a tag, if its line told nothing and they are known.
+fn tag_items(
+    alloc: Global,
+    told: &Items<Fault>,
+    items: Option<Items<Item>>,
+) -> Result<Items<Item>, AllocError>
+    ensures { IfOk result (λ known. known ≡ told_items told.now items) }
+{
+    if !told.is_empty() {
+        return unknown(alloc);
+    }
+    match items {
+        Some(items) => Ok(items),
+        None => unknown(alloc),
+    }
+}
+
+/// `n` or `n; d; ..` in a protocol, of whose lines before `before` has the names: its tag, and its name is added to those.
+#[tactic(auto, using(crate::proofs::Both::both_rules, occ_lists::proofs::Fronts::front_rules), unfolding(crate::specs::Tags::tag_line))]
+pub fn tag(
+    alloc: Global,
+    name: &Name,
+    first: &[Detail],
+    more: &[Detail],
+    before: &mut Scopes,
+    scope: &Scope,
+    faults: &mut Items<Fault>,
+) -> Result<Tag, AllocError>
+    ensures tag { IfOk result (λ tag. tag ≡ (told_line scope.now before.old name.now (first.now ++ more.now)).tag) }
+    ensures names { OnOk result (before.new ≡ before.old ++ name.now ∷ []) }
+    ensures faults { OnOk result (faults.new ≡ faults.old ++ (told_line scope.now before.old name.now (first.now ++ more.now)).faults) }
+{
+    let mut told = Items::new(alloc);
+    let items = detail_items(alloc, first, Some(Items::new(alloc)), scope, &mut told)?;
+    let items = detail_items(alloc, more, items, scope, &mut told)?;
+    repeated(alloc, slice::from_ref(name), before, &mut told)?;
+    let items = tag_items(alloc, &told, items)?;
+    faults.append(told)?;
+    let name = name.copied(alloc)?;
+    Ok(Tag { name, items })
+}
