@@ -1,0 +1,3 @@
+pub mod Scopes
+pub mod Trees
+pub mod Beneath
