@@ -1,5 +1,5 @@
 -- What a line of a unit is for the lines round it, and what is told of it, by what stands in scope there.
-use Rattle.std.specs.Prelude.{List, []}
+use Rattle.std.specs.Prelude.{List, [], ◌∷◌}
 use Rattle.occ_forms.specs.declared.tree.Form.{Form}
 use Rattle.occ_forms.specs.declared.tree.Form.TheVariants as form
 use Rattle.occ_names.specs.declared.scope.Scope.{Scope}
