@@ -18,7 +18,7 @@ use Rattle.occ_typed_exchanges.specs.Variants.{begun}
 use Rattle.occ_typed_statements.specs.Statements.{condition, selector}
 use Rattle.occ_typed.specs.declared.expr.TypedExpr.{TypedExpr}
 use Rattle.occ_typed_statements.specs.StatementTrees.{condition_tree, selector_tree}
-use Rattle.occ_typed_lines.specs.Lines.{Judged, made, over, processes_in, with_role}
+use Rattle.occ_typed_lines.specs.Lines.{Own, made, over, processes_in, with_role}
 use Rattle.occ_typed_lines.specs.declared.tree.BlockKind.{BlockKind}
 use Rattle.occ_typed_lines.specs.declared.tree.BlockKind.TheVariants as block
 use Rattle.occ_typed_lines.specs.declared.tree.TypedForm.{TypedForm}
@@ -63,7 +63,7 @@ replicated kind r = t.Block kind (Some r)
 abbrev pub under_replicator : Scope → ConstructKind → Replicator → Parent → Parent
 under_replicator s w r next = record { role = role_of w; rounds = (counting s next.rounds r).rounds }
 
-abbrev pub replicable : Scope → ConstructKind → Option Replicator → Parent → Judged
+abbrev pub replicable : Scope → ConstructKind → Option Replicator → Parent → Own
 replicable s w None next = over [] (with_role (role_of w) next) [] (t.Block (block_of w) None) next
 replicable s w (Some r) next =
     over
@@ -79,10 +79,10 @@ replicable s w (Some r) next =
 abbrev pub choosing : Kind → Role
 choosing kind = role.Selection (record { selector = kind; numbers = record { keys = [] }; otherwise = false })
 
-abbrev pub selecting : Told → Option TypedExpr → Parent → Judged
+abbrev pub selecting : Told → Option TypedExpr → Parent → Own
 selecting x tree next = over x.faults (with_role (choosing x.kind) next) [] (made t.Selection tree) next
 
-abbrev pub constructing : Scope → Construct → Parent → Judged
+abbrev pub constructing : Scope → Construct → Parent → Own
 constructing s (construct.Replicable w r) next = replicable s w r next
 constructing s (construct.While e) next = over (condition s e) (processes_in next) [] (made t.While (condition_tree s e)) next
 constructing s (construct.Case e) next = selecting (selector s e) (selector_tree s e) next

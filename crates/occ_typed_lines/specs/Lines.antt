@@ -24,32 +24,39 @@ processes_in p = with_role role.Process p
 abbrev pub body_of : Role → Parent
 body_of r = record { role = r; rounds = 1 }
 
--- the faults of a line, the diagnostics of lines under it that are told with it, and what it is, for those round it too
+-- the faults of a line, and what it is, for those round it too
+pub record Own : Type 0 where
+  pub faults : List Fault
+  pub line : Line
+
+-- a main line, which says this of the lines under it
+abbrev pub over : List Fault → Parent → List Entry → TypedForm → Parent → Own
+over faults under enters form next =
+    record {
+      faults = faults;
+      line = record { parent = under; enters = enters; next = next; adds = None; form = form };
+    }
+
+abbrev pub main : List Fault → TypedForm → Parent → Own
+main faults form next = over faults (processes_in next) [] form next
+
+-- a specification over no lines that it has anything to say of: of one line, a close
+abbrev pub specifying : List Fault → List Entry → TypedForm → Parent → Own
+specifying faults adds form next =
+    record {
+      faults = faults;
+      line = record { parent = processes_in next; enters = []; next = next; adds = Some adds; form = form };
+    }
+
+-- what a line tells with the lines under it: the diagnostics of those that are told with it too
 pub record Judged : Type 0 where
   pub faults : List Fault
   pub beneath : List Diag
   pub line : Line
 
--- a main line, which says this of the lines under it
-abbrev pub over : List Fault → Parent → List Entry → TypedForm → Parent → Judged
-over faults under enters form next =
-    record {
-      faults = faults;
-      beneath = [];
-      line = record { parent = under; enters = enters; next = next; adds = None; form = form };
-    }
-
-abbrev pub main : List Fault → TypedForm → Parent → Judged
-main faults form next = over faults (processes_in next) [] form next
-
--- a specification over no lines that it has anything to say of: of one line, a close
-abbrev pub specifying : List Fault → List Entry → TypedForm → Parent → Judged
-specifying faults adds form next =
-    record {
-      faults = faults;
-      beneath = [];
-      line = record { parent = processes_in next; enters = []; next = next; adds = Some adds; form = form };
-    }
+-- nothing is told of lines under it
+abbrev pub alone : Own → Judged
+alone x = record { faults = x.faults; beneath = []; line = x.line }
 
 -- what a line is, if its trees are there
 abbrev pub made : {X : Type 0} → (X → TypedForm) → Option X → TypedForm

@@ -23,7 +23,7 @@ use Rattle.occ_typed_exchanges.specs.Through.{through_tree}
 use Rattle.occ_typed_exchanges.specs.Variants.{begun, variant_faults, variant_tree, with_tag}
 use Rattle.occ_typed_exchanges.specs.declared.variants.CaseInput.{CaseInput}
 use Rattle.occ_typed_exchanges.specs.declared.variants.TypedVariant.{TypedVariant}
-use Rattle.occ_typed_lines.specs.Lines.{Judged, beyond, made, main, over, with_role}
+use Rattle.occ_typed_lines.specs.Lines.{Own, beyond, made, main, over, with_role}
 use Rattle.occ_typed_lines.specs.declared.tree.TypedForm.{TypedForm}
 use Rattle.occ_typed_lines.specs.declared.tree.TypedForm.TheVariants as t
 use Rattle.occ_typed_lines.specs.declared.parent.Choosing.{Choosing}
@@ -39,17 +39,17 @@ use Rattle.occ_typed_lines.specs.declared.tree.TypedGuard.TheVariants as guard
 abbrev pub of_role : ℕ → Role → Parent
 of_role n r = record { role = r; rounds = n }
 
-abbrev pub chosen : Choosing → ℕ → Chosen → Option (List TypedExpr) → Judged
+abbrev pub chosen : Choosing → ℕ → Chosen → Option (List TypedExpr) → Own
 chosen c n x trees = main x.faults (made t.Options trees) (of_role n (role.Selection (record { selector = c.selector; numbers = x.numbers; otherwise = c.otherwise })))
 
-abbrev pub option : Scope → Choosing → ℕ → List Expr → Judged
+abbrev pub option : Scope → Choosing → ℕ → List Expr → Own
 option s c n es = chosen c n (options s c.selector c.numbers es) (options_trees s c.selector es)
 
 -- a second ELSE is an option that is there already
 abbrev pub second : Bool → List Fault
 second otherwise = if otherwise then nameless code.T8 ∷ [] else []
 
-abbrev pub else_option : Choosing → ℕ → Judged
+abbrev pub else_option : Choosing → ℕ → Own
 else_option c n = main (second c.otherwise) t.Otherwise (of_role n (role.Selection (record { selector = c.selector; numbers = c.numbers; otherwise = true })))
 
 -- ---- variants of a case input
@@ -57,11 +57,11 @@ else_option c n = main (second c.otherwise) t.Otherwise (of_role n (role.Selecti
 abbrev pub varied : TypedVariant → TypedForm
 varied x = t.Variant x.place x.tag x.targets
 
-abbrev pub variant : Scope → CaseInput → ℕ → List ℕ → List Detail → Judged
+abbrev pub variant : Scope → CaseInput → ℕ → List ℕ → List Detail → Own
 variant s x n tag ds = main (variant_faults s x tag ds) (made varied (variant_tree s x tag ds)) (of_role n (role.Variants (with_tag x tag)))
 
 -- of a name alone
-abbrev pub variant_named : Scope → CaseInput → ℕ → Option (List ℕ) → Judged
+abbrev pub variant_named : Scope → CaseInput → ℕ → Option (List ℕ) → Own
 variant_named s x n None = main beyond t.Unknown (of_role n (role.Variants x))
 variant_named s x n (Some tag) = variant s x n tag []
 
@@ -92,7 +92,7 @@ guarded_form (Some e) None = t.Unknown
 guarded_form (Some e) (Some g) = t.Guard e g
 
 -- `e & g`: the condition, and what stands behind it
-abbrev pub guarding : Scope → Expr → Guarded → Parent → Judged
+abbrev pub guarding : Scope → Expr → Guarded → Parent → Own
 guarding s e g next = over (condition s e ++ guard_faults s g) (with_role (guard_role s g) next) [] (guarded_form (condition_tree s e) (guard_tree s g)) next
 
 -- ---- results of a FUNCTION: no types are compared with them where its head has a fault
@@ -107,7 +107,7 @@ results_in s (expected.Types types) es = results_trees s types es
 
 -- ---- by the parent; what is not told here typing does not know yet, or it stands where no line of its kind may
 
-abbrev pub expressing_in : Scope → Expr → List Expr → ℕ → Role → Judged
+abbrev pub expressing_in : Scope → Expr → List Expr → ℕ → Role → Own
 expressing_in s e es n role.Process = main beyond t.Unknown (of_role n role.Process)
 expressing_in s e es n role.Conditional = main (condition s e) (made t.Condition (condition_tree s e)) (of_role n role.Conditional)
 expressing_in s e es n role.Alternation = main beyond t.Unknown (of_role n role.Alternation)
@@ -116,10 +116,10 @@ expressing_in s e es n (role.Variants x) = variant_named s x n (expr_view e).nam
 expressing_in s e es n (role.Function wanted) = main beyond t.Unknown (of_role n (role.Function wanted))
 expressing_in s e es n role.Members = main beyond t.Unknown (of_role n role.Members)
 
-abbrev pub expressing : Scope → Expr → List Expr → Parent → Judged
+abbrev pub expressing : Scope → Expr → List Expr → Parent → Own
 expressing s e es p = expressing_in s e es p.rounds p.role
 
-abbrev pub tagged_in : Scope → List ℕ → List Detail → ℕ → Role → Judged
+abbrev pub tagged_in : Scope → List ℕ → List Detail → ℕ → Role → Own
 tagged_in s name ds n role.Process = main beyond t.Unknown (of_role n role.Process)
 tagged_in s name ds n role.Conditional = main beyond t.Unknown (of_role n role.Conditional)
 tagged_in s name ds n role.Alternation = main beyond t.Unknown (of_role n role.Alternation)
@@ -128,10 +128,10 @@ tagged_in s name ds n (role.Variants x) = variant s x n name ds
 tagged_in s name ds n (role.Function wanted) = main beyond t.Unknown (of_role n (role.Function wanted))
 tagged_in s name ds n role.Members = main beyond t.Unknown (of_role n role.Members)
 
-abbrev pub tagged : Scope → List ℕ → List Detail → Parent → Judged
+abbrev pub tagged : Scope → List ℕ → List Detail → Parent → Own
 tagged s name ds p = tagged_in s name ds p.rounds p.role
 
-abbrev pub otherwise_in : ℕ → Role → Judged
+abbrev pub otherwise_in : ℕ → Role → Own
 otherwise_in n role.Process = main [] t.Otherwise (of_role n role.Process)
 otherwise_in n role.Conditional = main [] t.Otherwise (of_role n role.Conditional)
 otherwise_in n role.Alternation = main [] t.Otherwise (of_role n role.Alternation)
@@ -140,11 +140,11 @@ otherwise_in n (role.Variants x) = main [] t.Otherwise (of_role n (role.Variants
 otherwise_in n (role.Function wanted) = main [] t.Otherwise (of_role n (role.Function wanted))
 otherwise_in n role.Members = main [] t.Otherwise (of_role n role.Members)
 
-abbrev pub otherwise : Parent → Judged
+abbrev pub otherwise : Parent → Own
 otherwise p = otherwise_in p.rounds p.role
 
 -- the body of a FUNCTION goes on under VALOF
-abbrev pub valued_in : ℕ → Role → Judged
+abbrev pub valued_in : ℕ → Role → Own
 valued_in n role.Process = main [] t.ValueOf (of_role n role.Process)
 valued_in n role.Conditional = main [] t.ValueOf (of_role n role.Conditional)
 valued_in n role.Alternation = main [] t.ValueOf (of_role n role.Alternation)
@@ -153,10 +153,10 @@ valued_in n (role.Variants x) = main [] t.ValueOf (of_role n (role.Variants x))
 valued_in n (role.Function wanted) = over [] (of_role n (role.Function wanted)) [] t.ValueOf (of_role n role.Process)
 valued_in n role.Members = main [] t.ValueOf (of_role n role.Members)
 
-abbrev pub valued : Parent → Judged
+abbrev pub valued : Parent → Own
 valued p = valued_in p.rounds p.role
 
-abbrev pub resulting_in : Scope → List Expr → ℕ → Role → Judged
+abbrev pub resulting_in : Scope → List Expr → ℕ → Role → Own
 resulting_in s es n role.Process = main [] t.Unknown (of_role n role.Process)
 resulting_in s es n role.Conditional = main [] t.Unknown (of_role n role.Conditional)
 resulting_in s es n role.Alternation = main [] t.Unknown (of_role n role.Alternation)
@@ -165,10 +165,10 @@ resulting_in s es n (role.Variants x) = main [] t.Unknown (of_role n (role.Varia
 resulting_in s es n (role.Function wanted) = main (results_of s wanted es) (made t.Results (results_in s wanted es)) (of_role n (role.Function wanted))
 resulting_in s es n role.Members = main [] t.Unknown (of_role n role.Members)
 
-abbrev pub resulting : Scope → List Expr → Parent → Judged
+abbrev pub resulting : Scope → List Expr → Parent → Own
 resulting s es p = resulting_in s es p.rounds p.role
 
-abbrev pub parting : Scope → Part → Parent → Judged
+abbrev pub parting : Scope → Part → Parent → Own
 parting s part.Case next = main beyond t.Unknown next
 parting s part.Else next = otherwise next
 parting s part.ValueOf next = valued next

@@ -22,7 +22,7 @@ use Rattle.occ_specification_forms.specs.declared.tree.Specification.{Specificat
 use Rattle.occ_specification_forms.specs.declared.tree.Specification.TheVariants as specification
 use Rattle.occ_tree.specs.Forest.{Forest}
 use Rattle.occ_typed.specs.declared.expr.TypedExpr.{TypedExpr}
-use Rattle.occ_typed_lines.specs.Lines.{Judged, body_of, made, specifying, with_role}
+use Rattle.occ_typed_lines.specs.Lines.{Judged, Own, body_of, made, specifying, with_role}
 use Rattle.occ_typed_lines.specs.Protocols.{TagLines, protocol_of}
 use Rattle.occ_typed_lines.specs.Parts.{results_in, results_of}
 use Rattle.occ_typed_lines.specs.declared.tree.TypedForm.{TypedForm}
@@ -54,15 +54,15 @@ one_line_function formals ts = t.OneLineFunction formals ts
 unfoldable pub function_form : Scope → Headed → List Expr → TypedForm
 function_form s h es = made (one_line_function h.heading.formals) (results_in (with_all s h.heading.formals) h.heading.results es)
 
-abbrev pub function_line : Scope → FunctionHead → List Expr → Parent → Judged
+abbrev pub function_line : Scope → FunctionHead → List Expr → Parent → Own
 function_line s head es next =
     let h = function s head in
     specifying (function_faults s h es) (named head.name (function_meaning s h es)) (function_form s h es) next
 
-abbrev pub declared_line : Declared → TypedForm → Parent → Judged
+abbrev pub declared_line : Declared → TypedForm → Parent → Own
 declared_line x form next = specifying x.faults x.adds form next
 
-abbrev pub one_line : Scope → Specification → Parent → Judged
+abbrev pub one_line : Scope → Specification → Parent → Own
 one_line s (specification.Declaration of first more) next = declared_line (declaration s of first more) t.Declaration next
 one_line s (specification.Value of name e) next = declared_line (value s of name e) (made t.Value (value_tree s of e)) next
 one_line s (specification.DataType name of) next = declared_line (data_type s name of) t.DataType next

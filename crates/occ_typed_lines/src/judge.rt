@@ -1,7 +1,7 @@
 #![tactic(auto, using(crate::proofs::Trees::tree_rules))]
 
 ghost use Rattle.occ_tree.specs.Forest.{forest_of};
-ghost use Rattle.occ_typed_lines.specs.Judging.{form_line as told_form, judged as told_judged, line as told_line, specifying_line as told_specifying};
+ghost use Rattle.occ_typed_lines.specs.Judging.{form_line as told_form, is_told_with_head as told_with_head, judged as told_judged, line as told_line, member as told_member, specifying_line as told_specifying};
 ghost use Rattle.std.specs.Prelude.{◌≡◌, ◌++◌, [], IfOk, OnOk};
 
 use super::action::action;
@@ -106,6 +106,29 @@ fn line(
     }
 }
 
+/// Whether lines of which their parent says this are told with its head.
+fn is_told_with_head(role: &Role) -> bool
+    ensures { result ≡ told_with_head role.now }
+{
+    match role {
+        Role::Process => false,
+        Role::Conditional => false,
+        Role::Alternation => false,
+        Role::Selection(_) => false,
+        Role::Variants(_) => false,
+        Role::Function(_) => false,
+        Role::Members => true,
+    }
+}
+
+/// A line that is told with the head over it.
+fn member(alloc: Global, parent: Parent) -> Line
+    ensures { result ≡ (told_member parent).line }
+{
+    let under = with_role(Role::Members, &parent);
+    plain(alloc, under, TypedForm::Member, parent)
+}
+
 /// What a line with these nodes under it is for the lines round it, with what it tells, and what lines of fields
 /// and of tags under it tell.
 #[tactic(auto, unfolding(crate::specs::Judging::judged))]
@@ -124,16 +147,8 @@ pub fn judged(
     ensures found { OnOk result (found.new ≡ found.old ++ (told_judged imports.now scope.old body.now (forest_of nodes.now) parent).beneath) }
     ensures faults { OnOk result (faults.new ≡ faults.old ++ (told_judged imports.now scope.old body.now (forest_of nodes.now) parent).faults) }
 {
-    match &parent.role {
-        Role::Members => {
-            let under = with_role(Role::Members, &parent);
-            Ok(plain(alloc, under, TypedForm::Member, parent))
-        }
-        Role::Process
-        | Role::Conditional
-        | Role::Alternation
-        | Role::Selection(_)
-        | Role::Variants(_)
-        | Role::Function(_) => { line(alloc, imports, body, nodes, scope, parent, found, faults) }
+    if is_told_with_head(&parent.role) {
+        return Ok(member(alloc, parent));
     }
+    line(alloc, imports, body, nodes, scope, parent, found, faults)
 }
