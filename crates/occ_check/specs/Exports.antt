@@ -5,8 +5,8 @@ use Rattle.std.specs.Str.{bytes_eq}
 use Rattle.occ_names.specs.declared.meaning.Entry.{Entry}
 use Rattle.occ_names.specs.declared.meaning.Meaning.{Meaning}
 use Rattle.occ_names.specs.declared.meaning.Meaning.TheVariants as meaning
-use Rattle.occ_typing.specs.declared.tree.TypedForm.{TypedForm}
-use Rattle.occ_typing.specs.declared.tree.TypedForm.TheVariants as form
+use Rattle.occ_typed_lines.specs.declared.tree.TypedForm.{TypedForm}
+use Rattle.occ_typed_lines.specs.declared.tree.TypedForm.TheVariants as form
 use Rattle.occ_typing.specs.declared.tree.TypedLine.{TypedLine, out-TypedLine}
 use Rattle.occ_types.specs.declared.interface.Effect.TheVariants as effect
 use Rattle.occ_types.specs.declared.interface.Export.{Export}

@@ -17,7 +17,7 @@ use Rattle.occ_tree.specs.Faults.{shape_faults}
 use Rattle.occ_tree.specs.Forest.{nested}
 use Rattle.occ_typing.specs.TypedLines.{typed_unit}
 use Rattle.occ_typing.specs.Units.{type_faults}
-use Rattle.occ_typing.specs.declared.using.Import.{Import}
+use Rattle.occ_typed_lines.specs.declared.using.Import.{Import}
 
 -- these alone, if there are any, else what comes later
 abbrev pub behind : List Diag → Judgement → Judgement

@@ -5,7 +5,8 @@ ghost use Rattle.occ_typing.specs.declared.tree.TypedLine.{out-TypedLine};
 use occ_base::{Items, Name, Shared};
 use occ_names::{Entry, Meaning};
 use occ_types::{Effect, Export, ExportKind, Formal, Interface, OccType};
-use occ_typing::{TypedForm, TypedLine, shared_formals, shared_types};
+use occ_typed_lines::{TypedForm, shared_formals, shared_types};
+use occ_typing::TypedLine;
 use std::alloc::{AllocError, Global};
 
 /// An export, of which it is not known yet what its body does.

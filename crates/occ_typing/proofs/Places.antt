@@ -5,11 +5,11 @@ use Rattle.occ_base.specs.declared.diag.Diag.{Diag}
 use Rattle.occ_names.specs.declared.scope.Scope.{Scope}
 use Rattle.occ_project.specs.declared.expanded.ExpandedLine.{ExpandedLine}
 use Rattle.occ_tree.specs.Forest.{Forest, Empty, Tree}
-use Rattle.occ_typing.specs.Placed.{placed}
+use Rattle.occ_typed_lines.specs.Placed.{placed}
 use Rattle.occ_typing.specs.Places.{At, IsAmong, IsTold, IsToldIn, Stands, first, inner, inside, judged_at, later, told_at}
 use Rattle.occ_typing.specs.Units.{behind_line, lines, type_faults}
-use Rattle.occ_typing.specs.declared.parent.Parent.{Parent}
-use Rattle.occ_typing.specs.declared.using.Import.{Import}
+use Rattle.occ_typed_lines.specs.declared.parent.Parent.{Parent}
+use Rattle.occ_typed_lines.specs.declared.using.Import.{Import}
 
 among_front : (d : Diag) (xs ys : List Diag) → IsAmong d xs → IsAmong d (xs ++ ys)
 among_front d [] ys h = absurd h

@@ -7,8 +7,8 @@ use Rattle.occ_tree.specs.Forest.{Forest}
 use Rattle.occ_typing.specs.Places.{At, Stands, first, inner, inside, judged_at, later}
 use Rattle.occ_typing.specs.Rounds.{IsRound, item_behind, round}
 use Rattle.occ_typing.specs.Units.{behind_line}
-use Rattle.occ_typing.specs.declared.parent.Parent.{Parent}
-use Rattle.occ_typing.specs.declared.using.Import.{Import}
+use Rattle.occ_typed_lines.specs.declared.parent.Parent.{Parent}
+use Rattle.occ_typed_lines.specs.declared.using.Import.{Import}
 
 with_both : (s : Scope) (xs ys : List Entry) → with_all (with_all s xs) ys ≡ with_all s (xs ++ ys)
 with_both s [] ys = refl

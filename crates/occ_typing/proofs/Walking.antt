@@ -9,13 +9,14 @@ use Rattle.occ_names.specs.Visible.{back_to, with_all}
 use Rattle.occ_names.proofs.Leaving.{back_done, back_over, length_back, length_with_all}
 use Rattle.occ_tree.specs.declared.tree.Node.{Node, out-Node}
 use Rattle.occ_tree.specs.Forest.{forest_of}
-use Rattle.occ_typing.specs.declared.parent.Parent.{Parent}
+use Rattle.occ_typed_lines.specs.declared.parent.Parent.{Parent}
 use Rattle.occ_project.specs.declared.expanded.Place.{Place}
 use Rattle.occ_typing.specs.TypedLines.{line_processes, line_with, own_process, processes, typed_lines}
-use Rattle.occ_typing.specs.Units.{behind_line, judged, line_faults, lines}
+use Rattle.occ_typed_lines.specs.Judging.{judged}
+use Rattle.occ_typing.specs.Units.{behind_line, line_faults, lines}
 use Rattle.occ_typing.specs.declared.tree.TypedLine.{TypedLine}
-use Rattle.occ_typing.specs.declared.using.Import.{Import}
-use Rattle.occ_typing.proofs.Trees.{first_tree}
+use Rattle.occ_typed_lines.specs.declared.using.Import.{Import}
+use Rattle.occ_typed_lines.proofs.Trees.{first_tree}
 
 -- what stood in scope round the item stands there behind the line too
 pub stays : (count : ℕ) (s : Scope) (adds : Option (List Entry)) → count ≤ length s.meanings

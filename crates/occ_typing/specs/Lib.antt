@@ -1,15 +1,6 @@
-pub mod Placed
 pub mod Places
 pub mod Samples
-pub mod Lines
-pub mod Actions
-pub mod Constructs
-pub mod Parts
-pub mod Records
-pub mod Protocols
-pub mod Specifying
 pub mod Units
-pub mod Using
 pub mod TypedLines
 pub mod Typed
 pub mod inside

@@ -6,12 +6,13 @@ use Rattle.occ_names.specs.Visible.{nothing, with_all}
 use Rattle.occ_names.specs.declared.scope.Scope.{Scope}
 use Rattle.occ_project.specs.declared.expanded.ExpandedLine.{ExpandedLine}
 use Rattle.occ_tree.specs.Forest.{Forest, Tree}
-use Rattle.occ_typing.specs.Lines.{Judged, body_of}
-use Rattle.occ_typing.specs.Placed.{placed}
-use Rattle.occ_typing.specs.Units.{behind_line, judged}
-use Rattle.occ_typing.specs.declared.parent.Parent.{Parent}
-use Rattle.occ_typing.specs.declared.using.Import.{Import}
-use Rattle.occ_typing.specs.declared.parent.Role.TheVariants as role
+use Rattle.occ_typed_lines.specs.Lines.{Judged, body_of}
+use Rattle.occ_typed_lines.specs.Placed.{placed}
+use Rattle.occ_typed_lines.specs.Judging.{judged}
+use Rattle.occ_typing.specs.Units.{behind_line}
+use Rattle.occ_typed_lines.specs.declared.parent.Parent.{Parent}
+use Rattle.occ_typed_lines.specs.declared.using.Import.{Import}
+use Rattle.occ_typed_lines.specs.declared.parent.Role.TheVariants as role
 
 -- a line with those under it, what its parent says of it, and what stands in scope there
 pub record At : Type 0 where

@@ -5,12 +5,12 @@ use Rattle.occ_names.specs.Visible.{nothing, with_all}
 use Rattle.occ_names.specs.declared.meaning.Entry.{Entry}
 use Rattle.occ_names.specs.declared.scope.Scope.{Scope}
 use Rattle.occ_tree.specs.Forest.{Forest}
-use Rattle.occ_typing.specs.Lines.{body_of}
+use Rattle.occ_typed_lines.specs.Lines.{body_of}
 use Rattle.occ_typing.specs.Places.{At, Stands, first, inner, inside, judged_at, later}
 use Rattle.occ_typing.specs.Units.{behind_line}
-use Rattle.occ_typing.specs.declared.parent.Parent.{Parent}
-use Rattle.occ_typing.specs.declared.parent.Role.TheVariants as role
-use Rattle.occ_typing.specs.declared.using.Import.{Import}
+use Rattle.occ_typed_lines.specs.declared.parent.Parent.{Parent}
+use Rattle.occ_typed_lines.specs.declared.parent.Role.TheVariants as role
+use Rattle.occ_typed_lines.specs.declared.using.Import.{Import}
 
 -- what the lines of an item have added behind one more of its lines: a main line ends the item
 abbrev pub item_behind : List Entry → Option (List Entry) → List Entry

@@ -10,13 +10,14 @@ use Rattle.occ_project.specs.declared.expanded.ExpandedLine.{ExpandedLine}
 use Rattle.occ_project.specs.declared.expanded.Place.{Place}
 use Rattle.occ_project.specs.Places.{place_of}
 use Rattle.occ_tree.specs.Forest.{Forest, Empty, Tree}
-use Rattle.occ_typing.specs.Lines.{Judged, body_of}
-use Rattle.occ_typing.specs.Units.{behind_line, judged}
-use Rattle.occ_typing.specs.declared.parent.Parent.{Parent}
-use Rattle.occ_typing.specs.declared.parent.Role.{Role}
-use Rattle.occ_typing.specs.declared.parent.Role.TheVariants as role
+use Rattle.occ_typed_lines.specs.Lines.{Judged, body_of}
+use Rattle.occ_typed_lines.specs.Judging.{judged}
+use Rattle.occ_typing.specs.Units.{behind_line}
+use Rattle.occ_typed_lines.specs.declared.parent.Parent.{Parent}
+use Rattle.occ_typed_lines.specs.declared.parent.Role.{Role}
+use Rattle.occ_typed_lines.specs.declared.parent.Role.TheVariants as role
 use Rattle.occ_typing.specs.declared.tree.TypedLine.{TypedLine, roll-TypedLine}
-use Rattle.occ_typing.specs.declared.using.Import.{Import}
+use Rattle.occ_typed_lines.specs.declared.using.Import.{Import}
 
 -- ---- processes: actions, constructs and instances that stand where processes may. A choice under IF is none, though it may
 -- be an IF itself; no alternative of an ALT is one, though it may be an input or an ALT itself; and no option or variant is

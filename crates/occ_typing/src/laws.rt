@@ -4,7 +4,7 @@ ghost use Rattle.occ_tree.specs.Forest.{Forest};
 ghost use Rattle.occ_typing.specs.Places.{IsAmong, IsTold};
 ghost use Rattle.occ_typing.specs.Rounds.{IsRound};
 ghost use Rattle.occ_typing.specs.Units.{type_faults};
-ghost use Rattle.occ_typing.specs.declared.using.Import.{Import as AnImport};
+ghost use Rattle.occ_typed_lines.specs.declared.using.Import.{Import as AnImport};
 ghost use Rattle.std.specs.Prelude.{List, ◌↔◌};
 
 /// A diagnostic is one of the unit's exactly if it is told of one of its lines by what stands in scope there.

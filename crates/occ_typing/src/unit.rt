@@ -3,15 +3,13 @@ ghost use Rattle.occ_typing.specs.Typed.{IsTypedTree, Refuses};
 ghost use Rattle.occ_typing.specs.declared.unit.TypeFault.TheVariants.{Memory};
 ghost use Rattle.std.specs.Prelude.{◌≡◌, IfErr, IfOk};
 
-use super::line::body_of;
-use super::parent::Role;
 use super::tree::TypedLine;
-use super::using::Import;
 use super::walk::lines;
 use occ_base::{Diag, Items};
 use occ_names::Scope;
 use occ_project::Place;
 use occ_tree::Unit;
+use occ_typed_lines::{Import, Role, body_of};
 use std::alloc::{AllocError, Global};
 use thiserror::Error;
 

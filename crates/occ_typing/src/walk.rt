@@ -1,24 +1,22 @@
-#![tactic(auto, using(crate::proofs::Trees::tree_rules, crate::proofs::Scopes::scope_rules))]
+#![tactic(auto, using(occ_typed_lines::proofs::Trees::tree_rules, occ_typed_lines::proofs::Scopes::scope_rules))]
 
 ghost use Rattle.occ_names.specs.Visible.{back_to, with_all};
 ghost use Rattle.occ_tree.specs.Forest.{forest_of};
 ghost use Rattle.occ_tree.specs.declared.tree.Node.{out-Node};
-ghost use Rattle.occ_typing.specs.Placed.{placed};
+ghost use Rattle.occ_typed_lines.specs.Placed.{placed};
 ghost use Rattle.occ_typing.specs.TypedLines.{is_process as counts, is_process_body as counts_body, is_process_form as counts_form, line_processes, line_with, own_process, process_number, processes, typed_lines};
-ghost use Rattle.occ_typing.specs.Units.{behind_line as told_behind, judged as told_judged, line_faults, lines as told_lines};
+ghost use Rattle.occ_typed_lines.specs.Judging.{judged as told_judged};
+ghost use Rattle.occ_typing.specs.Units.{behind_line as told_behind, line_faults, lines as told_lines};
 ghost use Rattle.occ_typing.specs.inside.Opening.{opened_at, with_children};
 ghost use Rattle.std.specs.Prelude.{◌≡◌, ◌+◌, ◌∷◌, ◌++◌, [], IfOk, OnErr, OnOk, length};
 
-use super::judge::judged;
-use super::parent::{Line, Parent, Role};
-use super::place::place;
-use super::tree::{ProcessId, TypedForm, TypedLine};
-use super::using::Import;
+use super::tree::{ProcessId, TypedLine};
 use occ_base::{Boxed, Diag, Items};
 use occ_forms::Form;
 use occ_names::{Entry, Scope};
 use occ_project::{ExpandedBody, ExpandedLine, Place};
 use occ_tree::Node;
+use occ_typed_lines::{Import, Line, Parent, Role, TypedForm, judged, place};
 use std::alloc::{AllocError, Global};
 
 /// What stands in scope behind a line, where so many specifications stood in scope round its item.

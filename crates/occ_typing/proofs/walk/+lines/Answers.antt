@@ -2,7 +2,8 @@ use Rattle.std.proofs.Common.{◌≡◌, ◌∙◌, ◌+◌, ◌++◌, ◌∷◌
 use Rattle.occ_tree.specs.Forest.{forest_of}
 use Rattle.occ_tree.specs.declared.tree.Node.{out-Node}
 use Rattle.occ_typing.specs.TypedLines.{processes, typed_lines}
-use Rattle.occ_typing.specs.Units.{judged, lines}
+use Rattle.occ_typed_lines.specs.Judging.{judged}
+use Rattle.occ_typing.specs.Units.{lines}
 use Rattle.occ_typing.proofs.Walking.{split_at, stays_so, step, step_lines, step_processes}
 use Rattle.occ_typing.proofs.walk.+lines.Goals as goal
 

@@ -1,0 +1,10 @@
+pub mod Placed
+pub mod Lines
+pub mod Actions
+pub mod Constructs
+pub mod Parts
+pub mod Records
+pub mod Protocols
+pub mod Specifying
+pub mod Using
+pub mod Judging

@@ -1,0 +1,134 @@
+ghost use Rattle.occ_typed_lines.specs.Constructs.{block_of as told_block, choosing as told_choosing, constructing as told_constructing, replicable as told_replicable, replicating_of as told_replicating, role_of as told_role};
+ghost use Rattle.std.specs.Prelude.{◌≡◌, ◌++◌, IfOk, OnOk};
+
+use super::form::{case_input_form, replicated_form, selection_form, while_form};
+use super::line::{main, over, plain, with_role};
+use super::parent::{Choosing, Line, Parent, Role};
+use super::tree::{BlockKind, TypedForm};
+use occ_base::{Fault, Items};
+use occ_forms::{Construct, ConstructKind, Replicator};
+use occ_names::Scope;
+use occ_operands::Kind;
+use occ_replicators::{Replicating, ReplicatorLine, replicator};
+use occ_typed_exchanges::case_input;
+use occ_typed_statements::{condition, selector};
+use std::alloc::{AllocError, Global};
+use std::collections::BTreeSet;
+
+/// What a construct says of the lines under it.
+fn role_of(word: ConstructKind) -> Role
+    ensures { result ≡ told_role word }
+{
+    match word {
+        ConstructKind::Sequence => Role::Process,
+        ConstructKind::Parallel => Role::Process,
+        ConstructKind::PriParallel => Role::Process,
+        ConstructKind::Conditional => Role::Conditional,
+        ConstructKind::Alternation => Role::Alternation,
+        ConstructKind::PriAlternation => Role::Alternation,
+    }
+}
+
+/// What a construct does with the lines under it.
+fn block_of(word: ConstructKind) -> BlockKind
+    ensures { result ≡ told_block word }
+{
+    match word {
+        ConstructKind::Sequence => BlockKind::Sequence,
+        ConstructKind::Parallel => BlockKind::Parallel,
+        ConstructKind::PriParallel => BlockKind::Parallel,
+        ConstructKind::Conditional => BlockKind::Conditional,
+        ConstructKind::Alternation => BlockKind::Alternation,
+        ConstructKind::PriAlternation => BlockKind::Alternation,
+    }
+}
+
+/// What a construct asks of its replicator.
+fn replicating_of(word: ConstructKind) -> Replicating
+    ensures { result ≡ told_replicating word }
+{
+    match word {
+        ConstructKind::Sequence => Replicating::Other,
+        ConstructKind::Parallel => Replicating::Parallel,
+        ConstructKind::PriParallel => Replicating::Parallel,
+        ConstructKind::Conditional => Replicating::Other,
+        ConstructKind::Alternation => Replicating::Other,
+        ConstructKind::PriAlternation => Replicating::Other,
+    }
+}
+
+/// A construct of a word or two, and perhaps a replicator.
+fn replicable(
+    alloc: Global,
+    word: ConstructKind,
+    written: &Option<Replicator>,
+    scope: &Scope,
+    next: Parent,
+    faults: &mut Items<Fault>,
+) -> Result<Line, AllocError>
+    ensures line { IfOk result (λ line. line ≡ (told_replicable scope.now word written.now next).line) }
+    ensures faults { OnOk result (faults.new ≡ faults.old ++ (told_replicable scope.now word written.now next).faults) }
+{
+    match written {
+        None => {
+            let under = with_role(role_of(word), &next);
+            Ok(plain(alloc, under, TypedForm::Block(block_of(word), None), next))
+        }
+        Some(written) => {
+            let construct = replicating_of(word);
+            let ReplicatorLine {
+                enters,
+                rounds,
+                tree,
+            } = replicator(alloc, written, construct, next.rounds, scope, faults)?;
+            let under = Parent {
+                role: role_of(word),
+                rounds,
+            };
+            Ok(over(under, enters, replicated_form(block_of(word), tree), next))
+        }
+    }
+}
+
+/// A `CASE` with this selector, before its first option.
+fn choosing(alloc: Global, selector: Kind) -> Role
+    ensures { result ≡ told_choosing selector }
+{
+    Role::Selection(Choosing {
+        selector,
+        numbers: BTreeSet::new(alloc),
+        otherwise: false,
+    })
+}
+
+/// The line of a construct.
+pub fn construct(
+    alloc: Global,
+    construct: &Construct,
+    scope: &Scope,
+    next: Parent,
+    faults: &mut Items<Fault>,
+) -> Result<Line, AllocError>
+    ensures line { IfOk result (λ line. line ≡ (told_constructing scope.now construct.now next).line) }
+    ensures faults { OnOk result (faults.new ≡ faults.old ++ (told_constructing scope.now construct.now next).faults) }
+{
+    match construct {
+        Construct::Replicable(word, replicator) => {
+            replicable(alloc, *word, replicator, scope, next, faults)
+        }
+        Construct::While(expr) => {
+            let tree = condition(alloc, expr, scope, faults)?;
+            Ok(main(alloc, while_form(tree), next))
+        }
+        Construct::Case(expr) => {
+            let (kind, tree) = selector(alloc, expr, scope, faults)?;
+            let under = with_role(choosing(alloc, kind), &next);
+            Ok(plain(alloc, under, selection_form(tree), next))
+        }
+        Construct::CaseInput(channel) => {
+            let (input, tree) = case_input(alloc, channel, scope, faults)?;
+            let under = with_role(Role::Variants(input), &next);
+            Ok(plain(alloc, under, case_input_form(tree), next))
+        }
+    }
+}

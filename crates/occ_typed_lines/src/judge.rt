@@ -1,0 +1,154 @@
+#![tactic(auto, using(crate::proofs::Trees::tree_rules))]
+
+ghost use Rattle.occ_tree.specs.Forest.{forest_of};
+ghost use Rattle.occ_typed_lines.specs.Judging.{form_line as told_form, is_told_with_head as told_with_head, judged as told_judged, line as told_line, member as told_member, specifying_line as told_specifying};
+ghost use Rattle.std.specs.Prelude.{◌≡◌, ◌++◌, [], IfOk, OnOk};
+
+use super::action::action;
+use super::construct::construct;
+use super::heading::heading;
+use super::line::{line_of_one, main, plain, with_role};
+use super::parent::{Line, Parent, Role};
+use super::part::{expressions, part};
+use super::specifying::one_line;
+use super::tree::TypedForm;
+use super::using::{Import, imported};
+use super::variant::tagged;
+use occ_base::{Diag, Fault, Items};
+use occ_forms::Form;
+use occ_names::Scope;
+use occ_project::ExpandedBody;
+use occ_specification_forms::Specified;
+use occ_tree::Node;
+use std::alloc::{AllocError, Global};
+
+/// The line of a specification or of a head, with these nodes under it.
+fn specifying_line(
+    alloc: Global,
+    specified: &Specified,
+    nodes: &[Node],
+    scope: &mut Scope,
+    parent: Parent,
+    found: &mut Items<Diag>,
+    faults: &mut Items<Fault>,
+) -> Result<Line, AllocError>
+    ensures line { IfOk result (λ one. one ≡ (told_specifying scope.old specified.now (forest_of nodes.now) parent).line) }
+    ensures scope { OnOk result (scope.new ≡ scope.old) }
+    ensures found { OnOk result (found.new ≡ found.old ++ (told_specifying scope.old specified.now (forest_of nodes.now) parent).beneath) }
+    ensures faults { OnOk result (faults.new ≡ faults.old ++ (told_specifying scope.old specified.now (forest_of nodes.now) parent).faults) }
+{
+    match specified {
+        Specified::Line(line) => one_line(alloc, line, scope, parent, faults),
+        Specified::Head(head) => heading(alloc, head, nodes, scope, parent, found, faults),
+    }
+}
+
+/// The line of a form, with these nodes under it.
+fn form_line(
+    alloc: Global,
+    form: &Form,
+    nodes: &[Node],
+    scope: &mut Scope,
+    parent: Parent,
+    found: &mut Items<Diag>,
+    faults: &mut Items<Fault>,
+) -> Result<Line, AllocError>
+    ensures line { IfOk result (λ one. one ≡ (told_form scope.old form.now (forest_of nodes.now) parent).line) }
+    ensures scope { OnOk result (scope.new ≡ scope.old) }
+    ensures found { OnOk result (found.new ≡ found.old ++ (told_form scope.old form.now (forest_of nodes.now) parent).beneath) }
+    ensures faults { OnOk result (faults.new ≡ faults.old ++ (told_form scope.old form.now (forest_of nodes.now) parent).faults) }
+{
+    match form {
+        Form::Specified(specified) => {
+            specifying_line(alloc, specified, nodes, scope, parent, found, faults)
+        }
+        Form::Close => Ok(line_of_one(alloc, Items::new(alloc), TypedForm::Close, parent)),
+        Form::Action(behind) => {
+            let form = action(alloc, behind, scope, faults)?;
+            Ok(main(alloc, form, parent))
+        }
+        Form::Construct(behind) => construct(alloc, behind, scope, parent, faults),
+        Form::Part(behind) => part(alloc, behind, scope, parent, faults),
+        Form::Expressions(first, more) => {
+            expressions(alloc, first, more.as_slice(), scope, parent, faults)
+        }
+        Form::Tagged(name, first, more) => {
+            tagged(alloc, name, first, more.as_slice(), scope, parent, faults)
+        }
+    }
+}
+
+/// A line with these nodes under it, which its parent does not tell.
+fn line(
+    alloc: Global,
+    imports: &[Import],
+    body: &ExpandedBody,
+    nodes: &[Node],
+    scope: &mut Scope,
+    parent: Parent,
+    found: &mut Items<Diag>,
+    faults: &mut Items<Fault>,
+) -> Result<Line, AllocError>
+    ensures line { IfOk result (λ one. one ≡ (told_line imports.now scope.old body.now (forest_of nodes.now) parent).line) }
+    ensures scope { OnOk result (scope.new ≡ scope.old) }
+    ensures found { OnOk result (found.new ≡ found.old ++ (told_line imports.now scope.old body.now (forest_of nodes.now) parent).beneath) }
+    ensures faults { OnOk result (faults.new ≡ faults.old ++ (told_line imports.now scope.old body.now (forest_of nodes.now) parent).faults) }
+{
+    match body {
+        ExpandedBody::Form(form) => {
+            form_line(alloc, form.get(), nodes, scope, parent, found, faults)
+        }
+        ExpandedBody::Uses(units) => {
+            let adds = imported(alloc, imports, units.as_slice())?;
+            Ok(line_of_one(alloc, adds, TypedForm::Uses, parent))
+        }
+        ExpandedBody::Fault(_) => Ok(main(alloc, TypedForm::Unknown, parent)),
+    }
+}
+
+/// Whether lines of which their parent says this are told with its head.
+fn is_told_with_head(role: &Role) -> bool
+    ensures { result ≡ told_with_head role.now }
+{
+    match role {
+        Role::Process => false,
+        Role::Conditional => false,
+        Role::Alternation => false,
+        Role::Selection(_) => false,
+        Role::Variants(_) => false,
+        Role::Function(_) => false,
+        Role::Members => true,
+    }
+}
+
+/// A line that is told with the head over it.
+fn member(alloc: Global, parent: Parent) -> Line
+    ensures { result ≡ (told_member parent).line }
+{
+    let under = with_role(Role::Members, &parent);
+    plain(alloc, under, TypedForm::Member, parent)
+}
+
+/// What a line with these nodes under it is for the lines round it, with what it tells, and what lines of fields
+/// and of tags under it tell.
+#[tactic(auto, unfolding(crate::specs::Judging::judged))]
+pub fn judged(
+    alloc: Global,
+    imports: &[Import],
+    body: &ExpandedBody,
+    nodes: &[Node],
+    scope: &mut Scope,
+    parent: Parent,
+    found: &mut Items<Diag>,
+    faults: &mut Items<Fault>,
+) -> Result<Line, AllocError>
+    ensures line { IfOk result (λ one. one ≡ (told_judged imports.now scope.old body.now (forest_of nodes.now) parent).line) }
+    ensures scope { OnOk result (scope.new ≡ scope.old) }
+    ensures found { OnOk result (found.new ≡ found.old ++ (told_judged imports.now scope.old body.now (forest_of nodes.now) parent).beneath) }
+    ensures faults { OnOk result (faults.new ≡ faults.old ++ (told_judged imports.now scope.old body.now (forest_of nodes.now) parent).faults) }
+{
+    if is_told_with_head(&parent.role) {
+        return Ok(member(alloc, parent));
+    }
+    line(alloc, imports, body, nodes, scope, parent, found, faults)
+}

@@ -1,0 +1,86 @@
+ghost use Rattle.occ_typed_lines.specs.Lines.{body_of as told_body, main as told_main, over as told_over, processes_in as told_processes, specifying as told_specifying, with_role as told_role};
+ghost use Rattle.std.specs.Prelude.{◌≡◌, [], Some};
+
+use super::parent::{Line, Parent, Role};
+use super::tree::TypedForm;
+use occ_base::Items;
+use occ_names::Entry;
+use std::alloc::Global;
+
+/// Lines that stand as often as others do, of which this is said.
+pub fn with_role(role: Role, beside: &Parent) -> Parent
+    ensures { result ≡ told_role role beside.now }
+{
+    Parent {
+        role,
+        rounds: beside.rounds,
+    }
+}
+
+/// Lines that stand as often as others do, of which nothing more is said.
+fn processes_in(beside: &Parent) -> Parent
+    ensures { result ≡ told_processes beside.now }
+{
+    with_role(Role::Process, beside)
+}
+
+/// Lines of a body, which no replicator round it repeats.
+pub fn body_of(role: Role) -> Parent
+    ensures { result ≡ told_body role }
+{
+    Parent { role, rounds: 1 }
+}
+
+/// A main line, which says this of the lines under it.
+pub fn over(under: Parent, enters: Items<Entry>, form: TypedForm, next: Parent) -> Line
+    ensures { result ≡ (told_over [] under enters form next).line }
+{
+    Line {
+        parent: under,
+        enters,
+        next,
+        adds: None,
+        form,
+    }
+}
+
+/// A main line without names of its own, which says this of the lines under it.
+pub fn plain(alloc: Global, under: Parent, form: TypedForm, next: Parent) -> Line
+    ensures { result ≡ (told_over [] under [] form next).line }
+{
+    over(under, Items::new(alloc), form, next)
+}
+
+/// A main line over processes, if over anything.
+pub fn main(alloc: Global, form: TypedForm, next: Parent) -> Line
+    ensures { result ≡ (told_main [] form next).line }
+{
+    plain(alloc, processes_in(&next), form, next)
+}
+
+/// A specification, which says this of the lines under it.
+pub fn specifying(
+    under: Parent,
+    enters: Items<Entry>,
+    adds: Items<Entry>,
+    form: TypedForm,
+    next: Parent,
+) -> Line
+    ensures { result ≡ record { parent = under; enters = enters; next = next; adds = Some adds; form = form } }
+{
+    Line {
+        parent: under,
+        enters,
+        next,
+        adds: Some(adds),
+        form,
+    }
+}
+
+/// A specification of one line.
+pub fn line_of_one(alloc: Global, adds: Items<Entry>, form: TypedForm, next: Parent) -> Line
+    ensures { result ≡ (told_specifying [] adds form next).line }
+{
+    let under = processes_in(&next);
+    specifying(under, Items::new(alloc), adds, form, next)
+}

@@ -1,0 +1,209 @@
+ghost use Rattle.occ_typed_lines.specs.Parts.{else_option as told_else_option, expressing as told_expressing, option as told_option, otherwise as told_otherwise, parting as told_parting, resulting as told_resulting, results_in as told_results_in, results_of as told_results, second as told_second, valued as told_valued};
+ghost use Rattle.occ_typed_statements.specs.Statements.{is_any_faulty};
+ghost use Rattle.std.specs.Prelude.{◌≡◌, ◌∷◌, ◌++◌, [], IfOk, OnOk};
+
+use super::form::{condition_form, options_form, results_form};
+use super::guard::guarding;
+use super::line::{main, plain};
+use super::parent::{Choosing, Line, Parent, Role};
+use super::tree::TypedForm;
+use super::variant::{of_role, variant_named};
+use occ_base::{Code, Fault, Items, Shared, tell};
+use occ_expression_forms::Expr;
+use occ_forms::Part;
+use occ_names::Scope;
+use occ_typed::TypedExpr;
+use occ_typed_heads::Expected;
+use occ_typed_statements::{condition, hidden_results, options, results};
+use std::alloc::{AllocError, Global};
+
+/// A line of options.
+fn option(
+    alloc: Global,
+    first: &Expr,
+    more: &[Expr],
+    mut choosing: Choosing,
+    rounds: u32,
+    scope: &Scope,
+    faults: &mut Items<Fault>,
+) -> Result<Line, AllocError>
+    ensures line { IfOk result (λ line. line ≡ (told_option scope.now choosing rounds (first.now ∷ more.now)).line) }
+    ensures faults { OnOk result (faults.new ≡ faults.old ++ (told_option scope.now choosing rounds (first.now ∷ more.now)).faults) }
+{
+    let trees = options(
+        alloc,
+        first,
+        more,
+        &choosing.selector,
+        &mut choosing.numbers,
+        scope,
+        faults,
+    )?;
+    let next = of_role(rounds, Role::Selection(choosing));
+    Ok(main(alloc, options_form(trees), next))
+}
+
+/// T8 is told of a second `ELSE`.
+fn tell_second(otherwise: bool, faults: &mut Items<Fault>) -> Result<(), AllocError>
+    ensures { OnOk result (faults.new ≡ faults.old ++ told_second otherwise) }
+{
+    if otherwise {
+        tell(faults, Code::T8)?;
+    }
+    Ok(())
+}
+
+/// The `ELSE` of a `CASE`.
+fn else_option(
+    alloc: Global,
+    choosing: Choosing,
+    rounds: u32,
+    faults: &mut Items<Fault>,
+) -> Result<Line, AllocError>
+    ensures line { IfOk result (λ line. line ≡ (told_else_option choosing rounds).line) }
+    ensures faults { OnOk result (faults.new ≡ faults.old ++ (told_else_option choosing rounds).faults) }
+{
+    tell_second(choosing.otherwise, faults)?;
+    let choosing = Choosing {
+        selector: choosing.selector,
+        numbers: choosing.numbers,
+        otherwise: true,
+    };
+    let next = of_role(rounds, Role::Selection(choosing));
+    Ok(main(alloc, TypedForm::Otherwise, next))
+}
+
+/// The results of a FUNCTION, with which no types are compared where its head has a fault: whether one of them has a
+/// fault, and their trees.
+pub fn results_of(
+    alloc: Global,
+    first: &Expr,
+    more: &[Expr],
+    expected: &Expected,
+    scope: &Scope,
+    faults: &mut Items<Fault>,
+) -> Result<(bool, Option<Items<Shared<TypedExpr>>>), AllocError>
+    ensures faulty { IfOk result (λ r. r.0 ≡ is_any_faulty scope.now (first.now ∷ more.now)) }
+    ensures trees { IfOk result (λ r. r.1 ≡ told_results_in scope.now expected.now (first.now ∷ more.now)) }
+    ensures faults { OnOk result (faults.new ≡ faults.old ++ told_results scope.now expected.now (first.now ∷ more.now)) }
+{
+    match expected {
+        Expected::Count(count) => {
+            let faulty = hidden_results(alloc, first, more, *count, scope, faults)?;
+            Ok((faulty, None))
+        }
+        Expected::Types(types) => results(alloc, first, more, types.as_slice(), scope, faults),
+    }
+}
+
+/// A line of expressions: a condition, options, a variant without parts, or an instance of a procedure.
+pub fn expressions(
+    alloc: Global,
+    first: &Expr,
+    more: &[Expr],
+    scope: &Scope,
+    parent: Parent,
+    faults: &mut Items<Fault>,
+) -> Result<Line, AllocError>
+    ensures line { IfOk result (λ line. line ≡ (told_expressing scope.now first.now more.now parent).line) }
+    ensures faults { OnOk result (faults.new ≡ faults.old ++ (told_expressing scope.now first.now more.now parent).faults) }
+{
+    let Parent { role, rounds } = parent;
+    match role {
+        Role::Conditional => {
+            let tree = condition(alloc, first, scope, faults)?;
+            let next = of_role(rounds, Role::Conditional);
+            Ok(main(alloc, condition_form(tree), next))
+        }
+        Role::Selection(choosing) => { option(alloc, first, more, choosing, rounds, scope, faults) }
+        Role::Variants(input) => variant_named(alloc, input, rounds, first, scope, faults),
+        role => {
+            tell(faults, Code::S1)?;
+            Ok(main(alloc, TypedForm::Unknown, of_role(rounds, role)))
+        }
+    }
+}
+
+/// An `ELSE`.
+fn otherwise(alloc: Global, parent: Parent, faults: &mut Items<Fault>) -> Result<Line, AllocError>
+    ensures line { IfOk result (λ line. line ≡ (told_otherwise parent).line) }
+    ensures faults { OnOk result (faults.new ≡ faults.old ++ (told_otherwise parent).faults) }
+{
+    let Parent { role, rounds } = parent;
+    match role {
+        Role::Selection(choosing) => else_option(alloc, choosing, rounds, faults),
+        role => Ok(main(alloc, TypedForm::Otherwise, of_role(rounds, role))),
+    }
+}
+
+/// A `VALOF`.
+fn valued(alloc: Global, parent: Parent) -> Line
+    ensures line { result ≡ (told_valued parent).line }
+    ensures faults { (told_valued parent).faults ≡ [] }
+{
+    let Parent { role, rounds } = parent;
+    match role {
+        Role::Function(wanted) => {
+            let under = of_role(rounds, Role::Function(wanted));
+            plain(
+                alloc,
+                under,
+                TypedForm::ValueOf,
+                of_role(rounds, Role::Process),
+            )
+        }
+        role => main(alloc, TypedForm::ValueOf, of_role(rounds, role)),
+    }
+}
+
+/// A `RESULT`.
+fn resulting(
+    alloc: Global,
+    first: &Expr,
+    more: &[Expr],
+    scope: &Scope,
+    parent: Parent,
+    faults: &mut Items<Fault>,
+) -> Result<Line, AllocError>
+    ensures line { IfOk result (λ line. line ≡ (told_resulting scope.now (first.now ∷ more.now) parent).line) }
+    ensures faults { OnOk result (faults.new ≡ faults.old ++ (told_resulting scope.now (first.now ∷ more.now) parent).faults) }
+{
+    let Parent { role, rounds } = parent;
+    match role {
+        Role::Function(wanted) => {
+            let (_, trees) = results_of(alloc, first, more, &wanted, scope, faults)?;
+            let next = of_role(rounds, Role::Function(wanted));
+            Ok(main(alloc, results_form(trees), next))
+        }
+        role => Ok(main(alloc, TypedForm::Unknown, of_role(rounds, role))),
+    }
+}
+
+/// A line that is a part of what stands round it.
+pub fn part(
+    alloc: Global,
+    part: &Part,
+    scope: &Scope,
+    parent: Parent,
+    faults: &mut Items<Fault>,
+) -> Result<Line, AllocError>
+    ensures line { IfOk result (λ line. line ≡ (told_parting scope.now part.now parent).line) }
+    ensures faults { OnOk result (faults.new ≡ faults.old ++ (told_parting scope.now part.now parent).faults) }
+{
+    match part {
+        Part::Case => {
+            tell(faults, Code::S1)?;
+            Ok(main(alloc, TypedForm::Unknown, parent))
+        }
+        Part::Else => otherwise(alloc, parent, faults),
+        Part::ValueOf => Ok(valued(alloc, parent)),
+        Part::Result(first, more) => {
+            resulting(alloc, first, more.as_slice(), scope, parent, faults)
+        }
+        Part::Record => Ok(main(alloc, TypedForm::Member, parent)),
+        Part::PackedRecord => Ok(main(alloc, TypedForm::Member, parent)),
+        Part::Guard(condition, behind) => {
+            guarding(alloc, condition, behind, scope, parent, faults)
+        }
+    }
+}

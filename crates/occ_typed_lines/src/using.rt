@@ -1,0 +1,108 @@
+ghost use Rattle.occ_typed_lines.specs.Using.{entry_of, entries_of, exports_of as told_exports, imported as told_imported, meaning_of as told_meaning};
+ghost use Rattle.std.specs.Prelude.{◌≡◌, ◌++◌, ◌∷◌, [], IfOk, OnOk};
+
+use occ_base::{FileName, Items, Shared};
+use occ_names::{Entry, Meaning};
+use occ_types::{Export, ExportKind, Formal, Interface, OccType};
+use std::alloc::{AllocError, Global};
+
+/// A unit that another uses: its file, and what it exports.
+#[derive(Drop)]
+pub struct Import {
+    pub unit: FileName,
+    pub interface: Shared<Interface>,
+}
+
+/// Formals once more, which share their types.
+pub fn shared_formals(alloc: Global, formals: &[Formal]) -> Result<Items<Formal>, AllocError>
+    ensures { IfOk result (λ shared. shared ≡ formals.now) }
+{
+    let mut shared = Items::new(alloc);
+    for formal in formals {
+        let of = formal.of.share()?;
+        shared.push(Formal {
+            of,
+            passing: formal.passing,
+        })?;
+    }
+    Ok(shared)
+}
+
+/// Types once more, shared.
+pub fn shared_types(
+    alloc: Global,
+    types: &[Shared<OccType>],
+) -> Result<Items<Shared<OccType>>, AllocError>
+    ensures { IfOk result (λ shared. shared ≡ types.now) }
+{
+    let mut shared = Items::new(alloc);
+    for of in types {
+        shared.push(of.share()?)?;
+    }
+    Ok(shared)
+}
+
+/// What the name of an export stands for.
+fn meaning_of(alloc: Global, export: &Export) -> Result<Meaning, AllocError>
+    ensures { IfOk result (λ meaning. meaning ≡ told_meaning export.now.kind export.now.formals export.now.results) }
+{
+    let formals = shared_formals(alloc, export.formals.as_slice())?;
+    match export.kind {
+        ExportKind::Process => Ok(Meaning::Procedure(formals)),
+        ExportKind::Function => {
+            let results = shared_types(alloc, export.results.as_slice())?;
+            Ok(Meaning::Function(formals, results))
+        }
+    }
+}
+
+/// An export as it comes into scope.
+fn entry(alloc: Global, export: &Export) -> Result<Entry, AllocError>
+    ensures { IfOk result (λ entry. entry ≡ entry_of export.now) }
+{
+    let name = export.name.copied(alloc)?;
+    let meaning = Shared::new(alloc, meaning_of(alloc, export)?)?;
+    Ok(Entry { name, meaning })
+}
+
+/// Exports as they come into scope, behind others.
+fn push_exports(
+    alloc: Global,
+    exports: &[Export],
+    entries: &mut Items<Entry>,
+) -> Result<(), AllocError>
+    ensures { OnOk result (entries.new ≡ entries.old ++ entries_of exports.now) }
+{
+    for export in exports {
+        let entry = entry(alloc, export)?;
+        entries.push(entry)?;
+    }
+    Ok(())
+}
+
+/// The exports of a unit.
+fn exports_of<'a>(unit: &FileName, imports: &'a [Import]) -> &'a [Export]
+    ensures { result.now ≡ told_exports unit.now imports.now }
+{
+    for import in imports {
+        if import.unit == *unit {
+            return import.interface.get().exports.as_slice();
+        }
+    }
+    &[]
+}
+
+/// What comes into scope behind a line that uses units.
+pub fn imported(
+    alloc: Global,
+    imports: &[Import],
+    units: &[FileName],
+) -> Result<Items<Entry>, AllocError>
+    ensures { IfOk result (λ entries. entries ≡ told_imported imports.now units.now) }
+{
+    let mut entries = Items::new(alloc);
+    for unit in units {
+        push_exports(alloc, exports_of(unit, imports), &mut entries)?;
+    }
+    Ok(entries)
+}

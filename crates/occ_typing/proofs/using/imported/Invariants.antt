@@ -1,6 +1,0 @@
-use Rattle.std.proofs.Common.{◌≡◌, ◌++◌, drop}
-use Rattle.occ_typing.specs.Using.{imported as told_imported}
-use Rattle.occ_typing.proofs.using.imported.Given as goal
-
-abbrev pub invariant-loop-unit : goal.invariant-loop-unit
-invariant-loop-unit l = l.entries ++ told_imported l.imports (drop l.unit-index l.units) ≡ told_imported l.imports l.units
