@@ -33,7 +33,7 @@ use Rattle.occ_types.specs.declared.constant.Operator.{Operator}
 use Rattle.occ_types.specs.declared.types.OccType.{OccType}
 use Rattle.occ_types.specs.declared.value.Primitive.{Primitive}
 use Rattle.occ_expr.specs.Operations.{applied, converted, extreme_of, operation, pair, run_operator}
-use Rattle.occ_expr.specs.Parts.{in_scope, own_faults, segment_of, subscripts, table_as, table_item, table_items, terms}
+use Rattle.occ_expr.specs.Parts.{in_scope, own_faults, segment_of, subscripts, table_as, terms}
 use Rattle.occ_typed.specs.declared.expr.Selector.{Selector}
 use Rattle.occ_typed.specs.declared.expr.TypedElement.{TypedElement}
 use Rattle.occ_expr.specs.Elements.{selectors, with_selectors}
@@ -104,8 +104,8 @@ named_conversion_faults r x name o s to term old m n e is h f i g told =
 
 pub table_faults : (x : Operand) (a : Expr) (es : List Expr) (s : Scope) (old m e : List Fault)
     → x ≡ ov.Table a es
-    → m ≡ old ++ (table_item ((expr_view a).said s)).faults
-    → e ≡ m ++ own_faults (table_items (in_scope s (expr_views es)))
+    → m ≡ old ++ ((expr_view a).said s).faults
+    → e ≡ m ++ own_faults (in_scope s (expr_views es))
     → e ≡ old ++ ((operand_view x).said s).faults
 table_faults x a es s old m e is h k =
     subst (λ (y : Operand). e ≡ old ++ ((operand_view y).said s).faults) (sym is)
@@ -113,9 +113,9 @@ table_faults x a es s old m e is h k =
 
 pub named_table_faults : (x : NamedOperand) (a b : Expr) (es : List Expr) (s : Scope) (old m n e : List Fault)
     → x ≡ nv.Table a b es
-    → m ≡ old ++ (table_item ((expr_view a).said s)).faults
-    → n ≡ m ++ (table_item ((expr_view b).said s)).faults
-    → e ≡ n ++ own_faults (table_items (in_scope s (expr_views es)))
+    → m ≡ old ++ ((expr_view a).said s).faults
+    → n ≡ m ++ ((expr_view b).said s).faults
+    → e ≡ n ++ own_faults (in_scope s (expr_views es))
     → e ≡ old ++ ((named_operand_view x).said s).faults
 named_table_faults x a b es s old m n e is h i k =
     subst (λ (y : NamedOperand). e ≡ old ++ ((named_operand_view y).said s).faults) (sym is)
@@ -123,10 +123,10 @@ named_table_faults x a b es s old m n e is h i k =
 
 pub decorated_table_faults : {T E : Type 0} (r : Result T E) (x : Operand) (a : Expr) (es : List Expr) (ty : TypeForm) (s : Scope) (to : Option OccType) (term : Term) (its : List Term) (old m n p e : List Fault)
     → x ≡ ov.DecoratedTable a es ty
-    → m ≡ old ++ (table_item ((expr_view a).said s)).faults
-    → term ≡ (table_item ((expr_view a).said s)).term
-    → n ≡ m ++ own_faults (table_items (in_scope s (expr_views es)))
-    → its ≡ (term ∷ []) ++ terms (table_items (in_scope s (expr_views es)))
+    → m ≡ old ++ ((expr_view a).said s).faults
+    → term ≡ ((expr_view a).said s).term
+    → n ≡ m ++ own_faults (in_scope s (expr_views es))
+    → its ≡ (term ∷ []) ++ terms (in_scope s (expr_views es))
     → p ≡ n ++ (type_form_view ty opening.Refused s).faults
     → to ≡ (type_form_view ty opening.Refused s).found
     → OnOk r (e ≡ p ++ (table_as to its).faults)
@@ -134,14 +134,14 @@ pub decorated_table_faults : {T E : Type 0} (r : Result T E) (x : Operand) (a : 
 decorated_table_faults r x a es ty s to term its old m n p e is h t i g j f told =
     on_ok_weaker r (λ k.
     subst (λ (y : Operand). e ≡ old ++ ((operand_view y).said s).faults) (sym is)
-    (three _ _ _ _ _ _ _ (two _ _ _ _ _ h i) j (k ∙ ap (λ (z : Option OccType). p ++ (table_as z its).faults) f ∙ ap (λ (z : List Term). p ++ (table_as (type_form_view ty opening.Refused s).found z).faults) (g ∙ ap (λ (z : Term). z ∷ terms (table_items (in_scope s (expr_views es)))) t)) ∙ ap (λ z. old ++ z.faults) (sym (views.operand_decorated_table_said a es ty s)))) told
+    (three _ _ _ _ _ _ _ (two _ _ _ _ _ h i) j (k ∙ ap (λ (z : Option OccType). p ++ (table_as z its).faults) f ∙ ap (λ (z : List Term). p ++ (table_as (type_form_view ty opening.Refused s).found z).faults) (g ∙ ap (λ (z : Term). z ∷ terms (in_scope s (expr_views es))) t)) ∙ ap (λ z. old ++ z.faults) (sym (views.operand_decorated_table_said a es ty s)))) told
 
 pub named_decorated_table_faults : {T E : Type 0} (r : Result T E) (x : NamedOperand) (a : Expr) (es : List Expr) (ty : TypeForm) (s : Scope) (to : Option OccType) (term : Term) (its : List Term) (old m n p e : List Fault)
     → x ≡ nv.DecoratedTable a es ty
-    → m ≡ old ++ (table_item ((expr_view a).said s)).faults
-    → term ≡ (table_item ((expr_view a).said s)).term
-    → n ≡ m ++ own_faults (table_items (in_scope s (expr_views es)))
-    → its ≡ (term ∷ []) ++ terms (table_items (in_scope s (expr_views es)))
+    → m ≡ old ++ ((expr_view a).said s).faults
+    → term ≡ ((expr_view a).said s).term
+    → n ≡ m ++ own_faults (in_scope s (expr_views es))
+    → its ≡ (term ∷ []) ++ terms (in_scope s (expr_views es))
     → p ≡ n ++ (type_form_view ty opening.Refused s).faults
     → to ≡ (type_form_view ty opening.Refused s).found
     → OnOk r (e ≡ p ++ (table_as to its).faults)
@@ -149,7 +149,7 @@ pub named_decorated_table_faults : {T E : Type 0} (r : Result T E) (x : NamedOpe
 named_decorated_table_faults r x a es ty s to term its old m n p e is h t i g j f told =
     on_ok_weaker r (λ k.
     subst (λ (y : NamedOperand). e ≡ old ++ ((named_operand_view y).said s).faults) (sym is)
-    (three _ _ _ _ _ _ _ (two _ _ _ _ _ h i) j (k ∙ ap (λ (z : Option OccType). p ++ (table_as z its).faults) f ∙ ap (λ (z : List Term). p ++ (table_as (type_form_view ty opening.Refused s).found z).faults) (g ∙ ap (λ (z : Term). z ∷ terms (table_items (in_scope s (expr_views es)))) t)) ∙ ap (λ z. old ++ z.faults) (sym (views.named_operand_decorated_table_said a es ty s)))) told
+    (three _ _ _ _ _ _ _ (two _ _ _ _ _ h i) j (k ∙ ap (λ (z : Option OccType). p ++ (table_as z its).faults) f ∙ ap (λ (z : List Term). p ++ (table_as (type_form_view ty opening.Refused s).found z).faults) (g ∙ ap (λ (z : Term). z ∷ terms (in_scope s (expr_views es))) t)) ∙ ap (λ z. old ++ z.faults) (sym (views.named_operand_decorated_table_said a es ty s)))) told
 
 pub conversion_faults : {T E : Type 0} (r : Result T E) (x : Expr) (ds : List Dimension) (w : Builtin) (o : Operand) (s : Scope) (of to : Option OccType) (front : List Extent) (term : Term) (old m n p e : List Fault)
     → x ≡ xv.Converted ds w o

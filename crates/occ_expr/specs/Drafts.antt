@@ -1,13 +1,12 @@
 -- The drafts of expressions from those of their parts. A draft has the parts of an expression in their order, without its
 -- parentheses; what is known of the whole decides whether it is typed already, still free, or faulty.
-use Rattle.std.specs.Prelude.{ℕ, Option, Some, None, List, [], ◌∷◌, if◌then◌else◌}
+use Rattle.std.specs.Prelude.{ℕ, Option, Some, None, List, [], ◌∷◌}
 use Rattle.occ_operands.specs.Settling.{int}
 use Rattle.occ_operands.specs.declared.kind.Free.{Free}
 use Rattle.occ_operands.specs.declared.kind.Kind.{Kind}
 use Rattle.occ_operands.specs.declared.kind.Kind.TheVariants as k
 use Rattle.occ_operands.specs.declared.kind.Known.{Known}
-use Rattle.occ_tables.specs.Terms.{Judged, is_no_item}
-use Rattle.occ_tables.specs.declared.term.Term.{Term}
+use Rattle.occ_tables.specs.Terms.{Judged}
 use Rattle.occ_typed.specs.Placing.{all_placed, applied_of, each_placed, known_of, operation_of, placed, shifted_of, table_of}
 use Rattle.occ_typed.specs.declared.draft.Draft.{Draft, out-Draft}
 use Rattle.occ_typed.specs.declared.draft.Draft.TheOpen.{Draft-F}
@@ -135,10 +134,6 @@ unfoldable pub conversion_draft : Option OccType → Judged → Draft → Draft
 conversion_draft to operand x = converted_to (converted to operand).kind (plain operand).kind x
 
 -- ---- tables
-
--- an item that is a channel, a timer or an array of them is faulty
-unfoldable pub item_draft : Term → Draft → Draft
-item_draft term x = if is_no_item term then d.Faulty else x
 
 abbrev pub types_of : List Field → List OccType
 types_of [] = []

@@ -19,7 +19,7 @@ use Rattle.occ_names.specs.declared.meaning.Whole.{Whole}
 use Rattle.occ_names.specs.declared.scope.Scope.{Scope}
 use Rattle.occ_tables.specs.Decorating.{decorated_table}
 use Rattle.occ_tables.specs.Segments.{segment}
-use Rattle.occ_tables.specs.Terms.{and_then, item, judged, judged_all}
+use Rattle.occ_tables.specs.Terms.{and_then, judged, judged_all}
 use Rattle.occ_tables.specs.declared.selection.BoundTerms.{BoundTerms}
 use Rattle.occ_tables.specs.declared.selection.BoundTerms.TheVariants as bounds
 use Rattle.occ_tables.specs.declared.term.Term.{Term}
@@ -61,17 +61,10 @@ only [] = None
 only (x ∷ []) = Some x
 only (x ∷ y ∷ xs) = None
 
--- ---- items of tables
-
-unfoldable pub table_item : Said → Said
-table_item x = let i = item x.term in record { faults = x.faults ++ i.faults; term = i.term }
-
-abbrev pub table_items : List Said → List Said
-table_items [] = []
-table_items (x ∷ xs) = table_item x ∷ table_items xs
+-- ---- tables
 
 abbrev pub table : List Said → Said
-table xs = let ys = table_items xs in record { faults = own_faults ys; term = v.Table (terms ys) }
+table xs = record { faults = own_faults xs; term = v.Table (terms xs) }
 
 -- nothing is asked of the items where the type is not known
 unfoldable pub table_as : Option OccType → List Term → Told
@@ -79,7 +72,7 @@ table_as None xs = silent
 table_as (Some to) xs = decorated_table to (judged_all xs)
 
 abbrev pub table_with_type : List Said → Found OccType → Told
-table_with_type xs of = let ys = table_items xs in after (own_faults ys ++ of.faults) (table_as of.found (terms ys))
+table_with_type xs of = after (own_faults xs ++ of.faults) (table_as of.found (terms xs))
 
 -- ---- elements
 

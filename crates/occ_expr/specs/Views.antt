@@ -38,7 +38,7 @@ use Rattle.occ_expression_forms.specs.declared.tree.RunOperator.{RunOperator}
 use Rattle.occ_expression_forms.specs.declared.tree.TypeForm.{TypeForm}
 use Rattle.occ_expr.specs.Literals.{decorated_literal, literal, truth}
 use Rattle.occ_expr.specs.Operations.{applied, converted, extreme_of, operation, pair, run_operator}
-use Rattle.occ_expr.specs.Drafts.{applied_draft, conversion_draft, decorated_draft, item_draft, literal_draft, operation_draft, pair_draft}
+use Rattle.occ_expr.specs.Drafts.{applied_draft, conversion_draft, decorated_draft, literal_draft, operation_draft, pair_draft}
 use Rattle.occ_expr.specs.Elements.{element_draft, element_of, one_selector, place_tree, selectors, with_selectors}
 use Rattle.occ_expr.specs.Parts.{ExprView, Said, SaidBounds, after, call, in_scope, named, named_element, only, own_faults, segment_element, segment_within, single, table, table_with_type, terms, whole_element}
 use Rattle.occ_expr.specs.Written.{Spanning, Written, array_over, array_over_more, channel, data_form, counted_channel, extent_of, open_dimension, primitive_of}
@@ -167,12 +167,9 @@ segment_tree s el b es =
     part_of (segment_element s whole (b.said s) es).kind (el.tree s) (b.tree s (components_of whole.kind)) (selectors s es (segment_within (b.said s) whole.kind).kind)
 
 -- `n[e]` as a whole expression: the conversion of a table of one item, if n is a data type
-abbrev pub item_of_one : Said → Draft → Draft
-item_of_one x a = d.Table (item_draft x.term a ∷ [])
-
 abbrev pub converted_element : Scope → Option OccType → Option ExprView → Draft → Draft
 converted_element s to None as_element = as_element
-converted_element s to (Some e) as_element = conversion_draft to (judged (table (e.said s ∷ [])).term) (item_of_one (e.said s) (e.draft s))
+converted_element s to (Some e) as_element = conversion_draft to (judged (table (e.said s ∷ [])).term) (d.Table (e.draft s ∷ []))
 
 abbrev pub whole_draft_of : Scope → List ExprView → Option Meaning → Draft → Draft
 whole_draft_of s es (Some (meaning.Type to)) as_element = converted_element s to (only es) as_element
@@ -220,7 +217,7 @@ literal_operand told = either_way (λ s. single (told s)) (λ s. literal_draft (
 
 abbrev pub item_drafts : Scope → List ExprView → List Draft
 item_drafts s [] = []
-item_drafts s (e ∷ es) = item_draft (e.said s).term (e.draft s) ∷ item_drafts s es
+item_drafts s (e ∷ es) = e.draft s ∷ item_drafts s es
 
 -- `n (e, ..)`: calls of functions are not typed yet
 abbrev pub converted_call : Scope → Option OccType → Option ExprView → Draft

@@ -287,13 +287,6 @@ fn items_placed(
     }
 }
 
-/// An item of a table: a channel, a timer or an array of them is faulty.
-pub fn item_draft(is_no_item: bool, draft: Draft) -> Draft
-    ensures { result ≡ (if is_no_item then d.Faulty else draft) }
-{
-    if is_no_item { Draft::Faulty } else { draft }
-}
-
 /// A table with its type, of whose whole this is known.
 #[tactic(auto, unfolding(crate::specs::Drafts::decorated_draft))]
 pub fn decorated_draft(alloc: Global, whole: &Kind, items: &[Draft]) -> Result<Draft, AllocError>

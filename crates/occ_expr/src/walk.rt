@@ -4,15 +4,15 @@ ghost use Rattle.occ_names.specs.Lookup.{data_type as data_type_named};
 ghost use Rattle.occ_names.specs.Visible.{visible};
 ghost use Rattle.occ_types.specs.Fits.{unnamed as no_names};
 ghost use Rattle.occ_types.specs.View.{fields_in};
-ghost use Rattle.occ_expr.specs.Parts.{call as told_call, table_as as told_table, component as told_component, behind_a_fault as told_behind_a_fault, function_call as told_function_call, in_scope, named_element as told_named_element, own_faults, part as told_part, subscript as told_subscript, subscripts as told_subscripts, table_item as said_item, table_items as said_items, terms as terms_of, whole_element as told_whole_element};
-ghost use Rattle.occ_expr.specs.Drafts.{decorated_draft as drafted_table, item_draft as drafted_item};
+ghost use Rattle.occ_expr.specs.Parts.{call as told_call, table_as as told_table, component as told_component, behind_a_fault as told_behind_a_fault, function_call as told_function_call, in_scope, named_element as told_named_element, own_faults, part as told_part, subscript as told_subscript, subscripts as told_subscripts, terms as terms_of, whole_element as told_whole_element};
+ghost use Rattle.occ_expr.specs.Drafts.{decorated_draft as drafted_table};
 ghost use Rattle.occ_tables.specs.declared.term.Term.TheVariants as v;
 ghost use Rattle.occ_typed.specs.declared.draft.Draft.TheVariants as d;
 ghost use Rattle.occ_expr.specs.Elements.{component_at as selected_component, place_tree as the_place, selector as the_selector, selector_in, selectors as the_selectors, with_selectors};
 ghost use Rattle.occ_expr.specs.Views.{bounds_view, call_draft as drafted_call, item_drafts as drafted_items, named_tree as the_named_tree, operand_drafts as drafted_operands, whole_element_draft as drafted_whole, builtin_view, dimension_view, dimension_views, each, element_view, expr_view, expr_views, named_operand_view, operand_view, operand_views, operands as said_operands, type_form_view};
 ghost use Rattle.occ_expr.specs.Written.{all_spanning_faults, array_behind as written_behind, array_over as written_over, array_over_more as written_over_more, channel as written_channel, data_form as written_data, extents as the_extents};
 
-use super::drafting::{decorated_draft, item_draft};
+use super::drafting::decorated_draft;
 use super::literals::{decorated_literal, literal, truth};
 use super::operation::{applied, converted, extreme_of, operation_of, pair, plain, run_operator};
 use super::parts::{
@@ -34,7 +34,7 @@ use occ_expression_forms::{
 };
 use occ_names::{Meaning, Scope, carries, data_type};
 use occ_operands::{Kind, field, subscripted};
-use occ_tables::{BoundTerms, Term, alone, is_no_item, item, size};
+use occ_tables::{BoundTerms, Term, alone, size};
 use occ_typed::{Draft, Selector};
 use occ_types::{OccType, Protocol, fields_of, unnamed};
 use std::alloc::{AllocError, Global};
@@ -147,13 +147,13 @@ fn operand(
         }
         Operand::Parens(expr) => expression(alloc, expr.get(), scope, faults),
         Operand::Table(first, more) => {
-            let first = table_item(alloc, first.get(), scope, faults)?;
+            let first = expression(alloc, first.get(), scope, faults)?;
             let mut items = Readings::one(alloc, first)?;
             more_items(alloc, more.as_slice(), scope, &mut items, faults)?;
             Ok(table_reading(items))
         }
         Operand::DecoratedTable(first, more, of) => {
-            let first = table_item(alloc, first.get(), scope, faults)?;
+            let first = expression(alloc, first.get(), scope, faults)?;
             let mut items = Readings::one(alloc, first)?;
             more_items(alloc, more.as_slice(), scope, &mut items, faults)?;
             let to = type_form(alloc, of.get(), Opening::Refused, scope, faults)?;
@@ -240,15 +240,15 @@ fn named_operand(
             literal_reading(alloc, kind)
         }
         NamedOperand::Table(first, second, more) => {
-            let first = table_item(alloc, first.get(), scope, faults)?;
+            let first = expression(alloc, first.get(), scope, faults)?;
             let mut items = Readings::one(alloc, first)?;
-            let second = table_item(alloc, second.get(), scope, faults)?;
+            let second = expression(alloc, second.get(), scope, faults)?;
             items.push(second)?;
             more_items(alloc, more.as_slice(), scope, &mut items, faults)?;
             Ok(table_reading(items))
         }
         NamedOperand::DecoratedTable(first, more, of) => {
-            let first = table_item(alloc, first.get(), scope, faults)?;
+            let first = expression(alloc, first.get(), scope, faults)?;
             let mut items = Readings::one(alloc, first)?;
             more_items(alloc, more.as_slice(), scope, &mut items, faults)?;
             let to = type_form(alloc, of.get(), Opening::Refused, scope, faults)?;
@@ -290,25 +290,6 @@ fn decorated_reading(
     })
 }
 
-/// An expression as an item of a table.
-#[tactic(auto, unfolding(crate::specs::Parts::table_item, crate::specs::Drafts::item_draft))]
-#[cycle(walk)]
-fn table_item(
-    alloc: Global,
-    expr: &Expr,
-    scope: &Scope,
-    faults: &mut Items<Fault>,
-) -> Result<Reading, AllocError>
-    ensures term { IfOk result (λ whole. whole.term ≡ (said_item ((expr_view expr.now).said scope.now)).term) }
-    ensures draft { IfOk result (λ whole. whole.draft ≡ drafted_item ((expr_view expr.now).said scope.now).term ((expr_view expr.now).draft scope.now)) }
-    ensures faults { OnOk result (faults.new ≡ faults.old ++ (said_item ((expr_view expr.now).said scope.now)).faults) }
-{
-    let read = expression(alloc, expr, scope, faults)?;
-    let draft = item_draft(is_no_item(&read.term), read.draft);
-    let term = item(read.term, faults)?;
-    Ok(Reading { term, draft })
-}
-
 /// More items of a table.
 #[cycle(walk)]
 fn more_items(
@@ -318,12 +299,12 @@ fn more_items(
     items: &mut Readings,
     faults: &mut Items<Fault>,
 ) -> Result<(), AllocError>
-    ensures terms { OnOk result (items.new.terms ≡ items.old.terms ++ terms_of (said_items (in_scope scope.now (expr_views exprs.now)))) }
+    ensures terms { OnOk result (items.new.terms ≡ items.old.terms ++ terms_of (in_scope scope.now (expr_views exprs.now))) }
     ensures drafts { OnOk result (items.new.drafts ≡ items.old.drafts ++ drafted_items scope.now (expr_views exprs.now)) }
-    ensures faults { OnOk result (faults.new ≡ faults.old ++ own_faults (said_items (in_scope scope.now (expr_views exprs.now)))) }
+    ensures faults { OnOk result (faults.new ≡ faults.old ++ own_faults (in_scope scope.now (expr_views exprs.now))) }
 {
     for expr in exprs {
-        let item = table_item(alloc, expr, scope, faults)?;
+        let item = expression(alloc, expr, scope, faults)?;
         items.push(item)?;
     }
     Ok(())
@@ -443,7 +424,7 @@ fn whole_element(
 }
 
 /// The same of a name with subscripts.
-#[tactic(auto, unfolding(crate::specs::Parts::whole_element, crate::specs::Parts::table_item, crate::specs::Views::whole_element_draft))]
+#[tactic(auto, unfolding(crate::specs::Parts::whole_element, crate::specs::Views::whole_element_draft))]
 #[cycle(walk)]
 fn whole_named_element(
     alloc: Global,
@@ -460,7 +441,7 @@ fn whole_named_element(
         let read = named_element(alloc, name, exprs, scope, faults)?;
         return element_reading(alloc, read);
     };
-    let item = table_item(alloc, expr, scope, faults)?;
+    let item = expression(alloc, expr, scope, faults)?;
     converted_table(alloc, item, shared_type(to)?, faults)
 }
 

@@ -1,5 +1,5 @@
 -- Tables, characters and strings with their type behind them.
-use Rattle.std.specs.Prelude.{ℕ, ◌==◌, Bool, Option, Some, None, List, [], ◌∷◌, ◌++◌, length, map, if◌then◌else◌}
+use Rattle.std.specs.Prelude.{ℕ, ◌==◌, Option, Some, None, List, [], ◌∷◌, length, map, if◌then◌else◌}
 use Rattle.occ_base.specs.declared.code.Code.TheVariants as code
 use Rattle.occ_types.specs.Fits.{alike, counts_fit, unnamed}
 use Rattle.occ_types.specs.View.{as_array, fields_in, is_unknown}

@@ -1,6 +1,6 @@
 -- What is told of an operand where a type is wanted of it or none is, and what is known of it then. A table takes its
 -- type item by item.
-use Rattle.std.specs.Prelude.{ℕ, nat_le, Bool, true, false, not, ◌||◌, Option, Some, None, List, [], ◌∷◌, ◌++◌, length, map, if◌then◌else◌}
+use Rattle.std.specs.Prelude.{ℕ, nat_le, Bool, true, false, ◌||◌, Option, Some, None, List, [], ◌∷◌, ◌++◌, length, map, if◌then◌else◌}
 use Rattle.std.specs.List.{list_any}
 use Rattle.occ_base.specs.declared.code.Code.TheVariants as code
 use Rattle.occ_types.specs.Fits.{is_data}
@@ -8,7 +8,6 @@ use Rattle.occ_types.specs.View.{as_array}
 use Rattle.occ_types.specs.declared.types.OccType.{OccType}
 use Rattle.occ_operands.specs.Operators.{all_faults, is_faulty, kinds, needs_faulty}
 use Rattle.occ_operands.specs.Settling.{Told, fault_of, int, known, settled, silent}
-use Rattle.occ_base.specs.Telling.{nameless}
 use Rattle.occ_operands.specs.Wanting.{fitted, wanted}
 use Rattle.occ_base.specs.declared.fault.Fault.{Fault}
 use Rattle.occ_operands.specs.declared.kind.Kind.{Kind}
@@ -16,10 +15,9 @@ use Rattle.occ_operands.specs.declared.kind.Kind.TheVariants as k
 use Rattle.occ_tables.specs.Extents.{arrayed}
 use Rattle.occ_tables.specs.Merging.{merged}
 use Rattle.occ_tables.specs.declared.table.Settled.{Settled}
-use Rattle.occ_tables.specs.declared.term.Term.{Term, out-Term}
+use Rattle.occ_tables.specs.declared.term.Term.{Term}
 use Rattle.occ_tables.specs.declared.term.Term.TheFolds.{fold-Term}
 use Rattle.occ_tables.specs.declared.term.Term.TheOpen.{Term-F}
-use Rattle.occ_tables.specs.declared.term.Term.TheVariants as v
 
 -- what is told first, and then of what is known
 abbrev pub and_then : Told → (Kind → Told) → Told
@@ -43,9 +41,13 @@ abbrev pub merged_all : Option OccType → List Kind → Option OccType
 merged_all of [] = of
 merged_all of (k ∷ ks) = merged_all (merged_next of k) ks
 
+abbrev pub so_many : ℕ → OccType → Told
+so_many n of = if nat_le n 4294967295 then arrayed (Some n) of else fault_of code.T9
+
+-- items are data: no channels, no timers and no arrays of them
 abbrev pub table_type : ℕ → Option OccType → Told
 table_type n None = fault_of code.T2
-table_type n (Some of) = if nat_le n 4294967295 then arrayed (Some n) of else fault_of code.T9
+table_type n (Some of) = if is_data of then so_many n of else fault_of code.T2
 
 -- nothing more is told of a whole with a faulty item
 abbrev pub unless_faulty : List Kind → Told → Told
@@ -187,25 +189,3 @@ judged = fold-Term Judged term_step
 abbrev pub judged_all : List Term → List Judged
 judged_all [] = []
 judged_all (x ∷ xs) = judged x ∷ judged_all xs
-
--- ---- an operand as an item of a table: no channel, no timer and no array of them
-
-abbrev pub is_no_data : Kind → Bool
-is_no_data k.Faulty = false
-is_no_data (k.Free f) = false
-is_no_data (k.Known x) = not (is_data x.of)
-
-abbrev pub no_item_layer : Term-F Term → Bool
-no_item_layer (Term-F.Single k) = is_no_data k
-no_item_layer (Term-F.Table xs) = false
-
-unfoldable pub is_no_item : Term → Bool
-is_no_item x = no_item_layer (out-Term x)
-
--- the faults of an item, and what it then is
-pub record Item : Type 0 where
-  pub faults : List Fault
-  pub term : Term
-
-abbrev pub item : Term → Item
-item x = if is_no_item x then record { faults = nameless code.T2 ∷ []; term = v.Single k.Faulty } else record { faults = []; term = x }

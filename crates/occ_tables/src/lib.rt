@@ -19,7 +19,7 @@ pub use dimension::size;
 pub use extent::is_too_large;
 pub use measure::{Limit, most, sized};
 pub use merge::merged;
-pub use placing::{any_has_fault, has_fault, is_no_item, item};
+pub use placing::{any_has_fault, has_fault};
 pub use selection::{BoundTerms, segment};
 pub use table::{alone, each_alone, table_type, under};
 pub use term::Term;

@@ -4,14 +4,14 @@ ghost use Rattle.std.specs.Prelude.{◌≡◌, ◌++◌, ◌∷◌, [], IfOk, On
 ghost use Rattle.std.specs.List.{list_any};
 ghost use Rattle.occ_operands.specs.Settling.{settled as kind_settled};
 ghost use Rattle.occ_operands.specs.Operators.{all_faults, is_faulty as faulty, kinds as kinds_of};
-ghost use Rattle.occ_tables.specs.Terms.{after_first as told_after_first, all_settled as told_all_settled, all_under as told_all_under, alone as told_alone, each_own_or_alone as told_each_own_or_alone, each_under as told_each_under, first_settled as told_first, fitted_or_alone as told_fitted_or_alone, fitted_to as told_fitted, is_faulty_settled, others_faults, own_or_alone as told_own_or_alone, settled_itself as told_itself, settled_under as told_settled, first_type as type_of_first, items_type as told_items_type, judged, judged_all, merged_all as merging_all, merged_next as merging_next, table_alone as told_table_alone, table_settled as told_table_settled, table_type as told_type, table_under as told_table_under, under as told_under, unless_faulty};
+ghost use Rattle.occ_tables.specs.Terms.{after_first as told_after_first, all_settled as told_all_settled, all_under as told_all_under, alone as told_alone, each_own_or_alone as told_each_own_or_alone, each_under as told_each_under, first_settled as told_first, fitted_or_alone as told_fitted_or_alone, fitted_to as told_fitted, is_faulty_settled, others_faults, own_or_alone as told_own_or_alone, settled_itself as told_itself, settled_under as told_settled, first_type as type_of_first, items_type as told_items_type, judged, judged_all, merged_all as merging_all, merged_next as merging_next, so_many as told_so_many, table_alone as told_table_alone, table_settled as told_table_settled, table_type as told_type, table_under as told_table_under, under as told_under, unless_faulty};
 
 use super::extent::arrayed;
 use super::merge::merged;
 use super::term::Term;
 use occ_base::{Code, Fault, Items, Name, Shared, tell};
 use occ_operands::{Kind, fitted, int, is_faulty, known, settled, wanted};
-use occ_types::{OccType, array_of};
+use occ_types::{OccType, array_of, is_data};
 use std::alloc::{AllocError, Global};
 
 /// The one type of the items so far, with one item more.
@@ -43,7 +43,24 @@ fn merged_all(
     Ok(found)
 }
 
-/// A table of so many items of one type, if they have one.
+/// A table of so many items of this type.
+fn so_many(
+    alloc: Global,
+    count: usize,
+    of: &Shared<OccType>,
+    faults: &mut Items<Fault>,
+) -> Result<Kind, AllocError>
+    ensures kind { IfOk result (λ kind. kind ≡ (told_so_many count of.now).kind) }
+    ensures faults { OnOk result (faults.new ≡ faults.old ++ (told_so_many count of.now).faults) }
+{
+    let Ok(count) = u32::try_from(count) else {
+        tell(faults, Code::T9)?;
+        return Ok(Kind::Faulty);
+    };
+    arrayed(alloc, Some(count), of, faults)
+}
+
+/// A table of so many items of one type, if they have one and it is one of data.
 pub fn table_type(
     alloc: Global,
     count: usize,
@@ -57,11 +74,11 @@ pub fn table_type(
         tell(faults, Code::T2)?;
         return Ok(Kind::Faulty);
     };
-    let Ok(count) = u32::try_from(count) else {
-        tell(faults, Code::T9)?;
+    if !is_data(of.get()) {
+        tell(faults, Code::T2)?;
         return Ok(Kind::Faulty);
-    };
-    arrayed(alloc, Some(count), &of, faults)
+    }
+    so_many(alloc, count, &of, faults)
 }
 
 /// The type of the first item; this one, if there is none.

@@ -12,8 +12,9 @@ use Rattle.occ_operands.specs.declared.kind.Known.{Known}
 use Rattle.occ_names.specs.declared.meaning.Access.{Access}
 use Rattle.occ_names.specs.declared.meaning.Access.TheVariants as access
 use Rattle.occ_names.specs.declared.meaning.Whole.{Whole}
-use Rattle.occ_tables.specs.Terms.{Judged}
-use Rattle.occ_type_rules.specs.Abbreviating.{abbreviated, for_no_data, holding}
+use Rattle.occ_base.specs.Telling.{nameless}
+use Rattle.occ_tables.specs.Terms.{Judged, alone}
+use Rattle.occ_type_rules.specs.Abbreviating.{holding}
 use Rattle.occ_type_rules.specs.Numbering.{any_faulty, of_another_number}
 
 -- ---- targets
@@ -35,9 +36,9 @@ target whole (k.Known x) = reached whole.access whole.root x
 
 -- ---- values, each for its target
 
--- no value is for a target that holds no data
+-- a target that holds no data is told whatever the value is, of which nothing is asked
 abbrev pub value_for : OccType → Judged → List Fault
-value_for of x = if is_data of then (x.under of).faults else (for_no_data x).faults
+value_for of x = if is_data of then (x.under of).faults else nameless code.T2 ∷ []
 
 -- nothing is asked of the value for a faulty target
 abbrev pub pair : Kind → Judged → List Fault
@@ -50,11 +51,11 @@ pairs [] xs = []
 pairs (target ∷ targets) [] = []
 pairs (target ∷ targets) (x ∷ xs) = pair target x ++ pairs targets xs
 
--- another number of values than of targets: each has to be data, and no type is wanted of the values
+-- another number of values than of targets: each target has to be data, and no type is wanted of the values
 abbrev pub unpaired : List Kind → List Judged → List Fault
 unpaired targets xs =
     let ts = map holding targets in
-    all_faults ts ++ of_another_number (any_faulty ts) (map abbreviated xs)
+    all_faults ts ++ of_another_number (any_faulty ts) (map alone xs)
 
 abbrev pub assigned : List Kind → List Judged → List Fault
 assigned targets xs = if length targets == length xs then pairs targets xs else unpaired targets xs

@@ -8,7 +8,6 @@ use Rattle.occ_base.specs.declared.fault.Fault.{Fault}
 use Rattle.occ_names.specs.Lookup.{Found, good}
 use Rattle.occ_operands.specs.Operators.{all_faults}
 use Rattle.occ_tables.specs.Terms.{Judged, alone}
-use Rattle.occ_type_rules.specs.Abbreviating.{abbreviated}
 use Rattle.occ_type_rules.specs.Numbering.{of_another_number}
 
 -- a type of data: of no channel, no timer and no array of them
@@ -21,9 +20,9 @@ each_under [] xs = []
 each_under (of ∷ types) [] = []
 each_under (of ∷ types) (x ∷ xs) = (x.under of).faults ++ each_under types xs
 
--- more or fewer results than types: each has to be data, and no type is wanted of it
+-- of more or fewer results than types no type is wanted
 abbrev pub results : List OccType → List Judged → List Fault
-results types xs = if length types == length xs then each_under types xs else of_another_number false (map abbreviated xs)
+results types xs = if length types == length xs then each_under types xs else of_another_number false (map alone xs)
 
 -- results of a head with a fault, which wants so many: nothing is compared, but of more or fewer no type is wanted
 abbrev pub hidden_results : ℕ → List Judged → List Fault

@@ -4,9 +4,8 @@ ghost use Rattle.std.specs.Prelude.{◌≡◌, ◌++◌, IfOk, OnOk};
 ghost use Rattle.occ_type_rules.specs.Assigning.{assigned as told_assigned, pair as told_pair, pairs as told_pairs, target as told_target, unpaired as told_unpaired, unwritten as told_unwritten, value_for as told_value_for};
 ghost use Rattle.occ_tables.specs.Terms.{judged, judged_all};
 
-use super::abbreviate::for_no_data;
 use super::count::{of_another_number, targets_held};
-use occ_base::{Code, Fault, Items, Name, Shared};
+use occ_base::{Code, Fault, Items, Name, Shared, tell};
 use occ_names::{Access, Whole};
 use occ_operands::Kind;
 use occ_tables::{Term, under};
@@ -47,7 +46,7 @@ pub fn target(
     }
 }
 
-/// The value for a target of this type.
+/// The value for a target of this type: T2 is told of a target that is no data, and then nothing of the value.
 fn value_for(
     alloc: Global,
     of: &Shared<OccType>,
@@ -60,8 +59,7 @@ fn value_for(
         under(alloc, value, of, faults)?;
         return Ok(());
     }
-    for_no_data(alloc, value, faults)?;
-    Ok(())
+    tell(faults, Code::T2)
 }
 
 /// A target and the value for it.

@@ -1,13 +1,12 @@
 ghost use Rattle.std.specs.Prelude.{◌≡◌, ◌++◌, IfOk, OnOk, map};
 ghost use Rattle.occ_operands.specs.Operators.{all_faults, is_faulty as faulty};
-ghost use Rattle.occ_type_rules.specs.Abbreviating.{abbreviated as told_abbreviated, holding as told_holding};
+ghost use Rattle.occ_type_rules.specs.Abbreviating.{holding as told_holding};
 ghost use Rattle.occ_type_rules.specs.Numbering.{any_faulty, of_another_number as told_of_another_number};
-ghost use Rattle.occ_tables.specs.Terms.{judged_all};
+ghost use Rattle.occ_tables.specs.Terms.{alone as told_alone, judged_all};
 
-use super::abbreviate::abbreviated;
 use occ_base::{Code, Fault, Items, tell};
 use occ_operands::{Kind, is_faulty};
-use occ_tables::Term;
+use occ_tables::{Term, alone};
 use occ_types::is_data;
 use std::alloc::{AllocError, Global};
 
@@ -41,12 +40,12 @@ pub(super) fn targets_held(targets: &[Kind], faults: &mut Items<Fault>) -> Resul
 
 /// Each value, of which no type is wanted, and whether one of them is faulty.
 fn values_held(alloc: Global, terms: &[Term], faults: &mut Items<Fault>) -> Result<bool, AllocError>
-    ensures any { IfOk result (λ found. found ≡ any_faulty (map told_abbreviated (judged_all terms.now))) }
-    ensures faults { OnOk result (faults.new ≡ faults.old ++ all_faults (map told_abbreviated (judged_all terms.now))) }
+    ensures any { IfOk result (λ found. found ≡ any_faulty (map told_alone (judged_all terms.now))) }
+    ensures faults { OnOk result (faults.new ≡ faults.old ++ all_faults (map told_alone (judged_all terms.now))) }
 {
     let mut found = false;
     for term in terms {
-        let kind = abbreviated(alloc, term, faults)?;
+        let kind = alone(alloc, term, faults)?;
         found = found || is_faulty(&kind);
     }
     Ok(found)
@@ -59,7 +58,7 @@ pub(super) fn of_another_number(
     place_is_faulty: bool,
     faults: &mut Items<Fault>,
 ) -> Result<(), AllocError>
-    ensures { OnOk result (faults.new ≡ faults.old ++ told_of_another_number place_is_faulty (map told_abbreviated (judged_all terms.now))) }
+    ensures { OnOk result (faults.new ≡ faults.old ++ told_of_another_number place_is_faulty (map told_alone (judged_all terms.now))) }
 {
     let value_is_faulty = values_held(alloc, terms, faults)?;
     if place_is_faulty || value_is_faulty {

@@ -8,7 +8,6 @@ use Rattle.occ_types.specs.declared.types.Tag.{Tag}
 use Rattle.occ_names.specs.Lookup.{Found, data_type}
 use Rattle.occ_names.specs.Visible.{visible}
 use Rattle.occ_names.specs.declared.scope.Scope.{Scope}
-use Rattle.occ_expression_forms.specs.declared.tree.Element.{Element}
 use Rattle.occ_forms.specs.declared.tree.Detail.{Detail}
 use Rattle.occ_forms.specs.declared.tree.Detail.TheVariants as detail
 use Rattle.occ_expr.specs.Views.{builtin_view, dimension_view, dimension_views, each, element_view}

@@ -5,9 +5,7 @@ use Rattle.occ_expression_forms.specs.declared.tree.Expr.TheVariants as xv
 use Rattle.occ_expression_forms.specs.declared.tree.NamedOperand.TheVariants as nv
 use Rattle.occ_expression_forms.specs.declared.tree.Operand.TheVariants as ov
 use Rattle.occ_expression_forms.specs.declared.tree.TypeForm.TheVariants as tv
-use Rattle.occ_tables.specs.Terms.{judged_all}
-use Rattle.occ_expr.specs.Operations.{operation}
-use Rattle.occ_expr.specs.Parts.{in_scope, table_items, terms}
+use Rattle.occ_expr.specs.Parts.{in_scope, terms}
 use Rattle.occ_expr.specs.Views.{expr_views, operand_view, operand_views, operands}
 use Rattle.occ_expr.proofs.Walking as step
 use Rattle.occ_expr.proofs.walk.+walk.Goals as goal
@@ -74,11 +72,11 @@ expression-returns-in_ok-operands-in-Run-clause-faults t c =
 
 pub operand-returns-in_ok-to-in-DecoratedTable-clause-faults : goal.operand-returns-in_ok-to-in-DecoratedTable-clause-faults
 operand-returns-in_ok-to-in-DecoratedTable-clause-faults t c =
-    step.decorated_table_faults c.decorated_reading.result _ _ _ _ _ _ _ _ _ _ _ _ _ (c.in-DecoratedTable.is ∙ ap (λ z. ov.DecoratedTable z c.in-DecoratedTable.more c.in-DecoratedTable.of) (sym c.get-in-DecoratedTable.ensures) ∙ ap (λ z. ov.DecoratedTable c.get-in-DecoratedTable.result.now z c.in-DecoratedTable.of) (sym c.as_slice-in-DecoratedTable.ensures) ∙ ap (λ z. ov.DecoratedTable c.get-in-DecoratedTable.result.now c.as_slice-in-DecoratedTable.result.now z) (sym c.get-in-DecoratedTable-2.ensures)) c.in_ok-first-in-DecoratedTable.ensures.faults c.in_ok-first-in-DecoratedTable.ensures.term c.in_ok-more_items-in-DecoratedTable.ensures.faults (c.in_ok-more_items-in-DecoratedTable.ensures.terms ∙ ap (λ z. z ++ terms (table_items (in_scope c.args.scope.now (expr_views c.as_slice-in-DecoratedTable.result.now)))) c.in_ok-items-in-DecoratedTable.ensures.terms) c.in_ok-to-in-DecoratedTable.ensures.faults c.in_ok-to-in-DecoratedTable.ensures.found c.decorated_reading.ensures.faults
+    step.decorated_table_faults c.decorated_reading.result _ _ _ _ _ _ _ _ _ _ _ _ _ (c.in-DecoratedTable.is ∙ ap (λ z. ov.DecoratedTable z c.in-DecoratedTable.more c.in-DecoratedTable.of) (sym c.get-in-DecoratedTable.ensures) ∙ ap (λ z. ov.DecoratedTable c.get-in-DecoratedTable.result.now z c.in-DecoratedTable.of) (sym c.as_slice-in-DecoratedTable.ensures) ∙ ap (λ z. ov.DecoratedTable c.get-in-DecoratedTable.result.now c.as_slice-in-DecoratedTable.result.now z) (sym c.get-in-DecoratedTable-2.ensures)) c.in_ok-first-in-DecoratedTable.ensures.faults c.in_ok-first-in-DecoratedTable.ensures.term c.in_ok-more_items-in-DecoratedTable.ensures.faults (c.in_ok-more_items-in-DecoratedTable.ensures.terms ∙ ap (λ z. z ++ terms (in_scope c.args.scope.now (expr_views c.as_slice-in-DecoratedTable.result.now))) c.in_ok-items-in-DecoratedTable.ensures.terms) c.in_ok-to-in-DecoratedTable.ensures.faults c.in_ok-to-in-DecoratedTable.ensures.found c.decorated_reading.ensures.faults
 
 pub named_operand-returns-in_ok-to-in-DecoratedTable-clause-faults : goal.named_operand-returns-in_ok-to-in-DecoratedTable-clause-faults
 named_operand-returns-in_ok-to-in-DecoratedTable-clause-faults t c =
-    step.named_decorated_table_faults c.decorated_reading.result _ _ _ _ _ _ _ _ _ _ _ _ _ (c.in-DecoratedTable.is ∙ ap (λ z. nv.DecoratedTable z c.in-DecoratedTable.more c.in-DecoratedTable.of) (sym c.get-in-DecoratedTable.ensures) ∙ ap (λ z. nv.DecoratedTable c.get-in-DecoratedTable.result.now z c.in-DecoratedTable.of) (sym c.as_slice-in-DecoratedTable.ensures) ∙ ap (λ z. nv.DecoratedTable c.get-in-DecoratedTable.result.now c.as_slice-in-DecoratedTable.result.now z) (sym c.get-in-DecoratedTable-2.ensures)) c.in_ok-first-in-DecoratedTable.ensures.faults c.in_ok-first-in-DecoratedTable.ensures.term c.in_ok-more_items-in-DecoratedTable.ensures.faults (c.in_ok-more_items-in-DecoratedTable.ensures.terms ∙ ap (λ z. z ++ terms (table_items (in_scope c.args.scope.now (expr_views c.as_slice-in-DecoratedTable.result.now)))) c.in_ok-items-in-DecoratedTable.ensures.terms) c.in_ok-to-in-DecoratedTable.ensures.faults c.in_ok-to-in-DecoratedTable.ensures.found c.decorated_reading.ensures.faults
+    step.named_decorated_table_faults c.decorated_reading.result _ _ _ _ _ _ _ _ _ _ _ _ _ (c.in-DecoratedTable.is ∙ ap (λ z. nv.DecoratedTable z c.in-DecoratedTable.more c.in-DecoratedTable.of) (sym c.get-in-DecoratedTable.ensures) ∙ ap (λ z. nv.DecoratedTable c.get-in-DecoratedTable.result.now z c.in-DecoratedTable.of) (sym c.as_slice-in-DecoratedTable.ensures) ∙ ap (λ z. nv.DecoratedTable c.get-in-DecoratedTable.result.now c.as_slice-in-DecoratedTable.result.now z) (sym c.get-in-DecoratedTable-2.ensures)) c.in_ok-first-in-DecoratedTable.ensures.faults c.in_ok-first-in-DecoratedTable.ensures.term c.in_ok-more_items-in-DecoratedTable.ensures.faults (c.in_ok-more_items-in-DecoratedTable.ensures.terms ∙ ap (λ z. z ++ terms (in_scope c.args.scope.now (expr_views c.as_slice-in-DecoratedTable.result.now))) c.in_ok-items-in-DecoratedTable.ensures.terms) c.in_ok-to-in-DecoratedTable.ensures.faults c.in_ok-to-in-DecoratedTable.ensures.found c.decorated_reading.ensures.faults
 
 pub element-returns-in_ok-tree-in-Segment-clause-faults : goal.element-returns-in_ok-tree-in-Segment-clause-faults
 element-returns-in_ok-tree-in-Segment-clause-faults t c =

@@ -1,6 +1,6 @@
 use Rattle.std.proofs.Common.{◌≡◌, ◌++◌, drop}
 use Rattle.occ_expr.specs.Elements.{selectors as told_selectors, with_selectors}
-use Rattle.occ_expr.specs.Parts.{in_scope, own_faults, subscripts as told_subscripts, table_items, terms}
+use Rattle.occ_expr.specs.Parts.{in_scope, own_faults, subscripts as told_subscripts, terms}
 use Rattle.occ_expr.specs.Views.{dimension_views, each, expr_views, item_drafts, operand_drafts, operand_views, operands as said_operands}
 use Rattle.occ_expr.specs.Written.{all_spanning_faults, extents as the_extents}
 use Rattle.occ_expr.proofs.walk.+walk.Given as goal
@@ -13,9 +13,9 @@ invariant-operands-loop-one l =
 
 abbrev pub invariant-more_items-loop-expr : goal.invariant-more_items-loop-expr
 invariant-more_items-loop-expr l =
-    (l.items.terms ++ terms (table_items (in_scope l.scope (expr_views (drop l.expr-index l.exprs)))) ≡ l.initial.items.terms ++ terms (table_items (in_scope l.scope (expr_views l.exprs))))
+    (l.items.terms ++ terms (in_scope l.scope (expr_views (drop l.expr-index l.exprs))) ≡ l.initial.items.terms ++ terms (in_scope l.scope (expr_views l.exprs)))
     × (l.items.drafts ++ item_drafts l.scope (expr_views (drop l.expr-index l.exprs)) ≡ l.initial.items.drafts ++ item_drafts l.scope (expr_views l.exprs))
-    × (l.faults ++ own_faults (table_items (in_scope l.scope (expr_views (drop l.expr-index l.exprs)))) ≡ l.initial.faults ++ own_faults (table_items (in_scope l.scope (expr_views l.exprs))))
+    × (l.faults ++ own_faults (in_scope l.scope (expr_views (drop l.expr-index l.exprs))) ≡ l.initial.faults ++ own_faults (in_scope l.scope (expr_views l.exprs)))
 
 abbrev pub invariant-arguments-loop-expr : goal.invariant-arguments-loop-expr
 invariant-arguments-loop-expr l =
