@@ -5,6 +5,8 @@ use Rattle.occ_expression_forms.specs.declared.tree.Expr.TheVariants as xv
 use Rattle.occ_expression_forms.specs.declared.tree.NamedOperand.TheVariants as nv
 use Rattle.occ_expression_forms.specs.declared.tree.Operand.TheVariants as ov
 use Rattle.occ_expression_forms.specs.declared.tree.TypeForm.TheVariants as tv
+use Rattle.occ_tables.specs.Terms.{judged_all}
+use Rattle.occ_expr.specs.Operations.{operation}
 use Rattle.occ_expr.specs.Parts.{in_scope, terms}
 use Rattle.occ_expr.specs.Views.{expr_views, operand_view, operand_views, operands}
 use Rattle.occ_expr.proofs.Walking as step
