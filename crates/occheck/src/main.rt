@@ -3,6 +3,7 @@
 
 use occ_script::{Status, StdIn, StdOut, run_script};
 use occ_words::{Mode, WordsFault, read_words};
+use std::alloc::AllocError;
 use std::env::{self, Env};
 use std::process::ExitCode;
 use std::{fs, io};
