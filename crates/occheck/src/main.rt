@@ -5,8 +5,9 @@ use occ_script::{Status, StdIn, StdOut, run_script};
 use occ_words::{Mode, WordsFault, read_words};
 use std::alloc::AllocError;
 use std::env::{self, Env};
+use std::fs;
+use std::io::{self, ErrorKind};
 use std::process::ExitCode;
-use std::{fs, io};
 
 /// The exit status where the words ask for nothing that there is.
 const REFUSED: u8 = 64;
