@@ -3,9 +3,11 @@
 
 use occ_script::{Status, StdIn, StdOut, run_script};
 use occ_words::{Mode, WordsFault, read_words};
+use std::alloc::AllocError;
 use std::env::{self, Env};
+use std::fs;
+use std::io::{self, ErrorKind};
 use std::process::ExitCode;
-use std::{fs, io};
 
 /// The exit status where the words ask for nothing that there is.
 const REFUSED: u8 = 64;
@@ -32,14 +34,24 @@ fn refuse(rt: &HostRuntime, text: &str) -> ExitCode {
 
 /// What the words after the program's name ask for.
 fn asked(rt: &HostRuntime) -> Result<Mode, WordsFault> {
-    let Ok(words) = words(rt) else {
-        return Err(WordsFault::Memory);
+    let words = match words(rt) {
+        Ok(words) => words,
+        Err(error) => return Err(unread(rt, error.kind())?),
     };
     let mut texts = Vec::new(rt.alloc());
     for word in words.as_slice() {
         texts.push(word.as_str())?;
     }
     read_words(rt.alloc(), texts.as_slice())
+}
+
+/// Words that cannot be read.
+fn unread(rt: &HostRuntime, kind: ErrorKind) -> Result<WordsFault, AllocError> {
+    if kind == ErrorKind::OutOfMemory {
+        return Ok(WordsFault::Memory);
+    }
+    let text = String::from_str(rt.alloc(), "error: a word is no text in UTF-8\n")?;
+    Ok(WordsFault::Refused(text))
 }
 
 /// The words after the program's name.
