@@ -4,8 +4,8 @@ ghost use Rattle.occ_typing.specs.declared.tree.TypedLine.{out-TypedLine};
 
 use occ_base::{Items, Name, Shared};
 use occ_names::{Entry, Meaning};
-use occ_types::{Effect, Export, ExportKind, Formal, Interface, OccType};
 use occ_typed_lines::{TypedForm, shared_formals, shared_types};
+use occ_types::{Effect, Export, ExportKind, Formal, Interface, OccType};
 use occ_typing::TypedLine;
 use std::alloc::{AllocError, Global};
 

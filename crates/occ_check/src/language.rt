@@ -13,8 +13,8 @@ use occ_base::{Diag, Items};
 use occ_first::{Line, find_known_faults, lines_view};
 use occ_project::{ExpandedBody, ExpandedLine};
 use occ_tree::{ShapeFault, Unit, shape};
-use occ_types::Interface;
 use occ_typed_lines::Import;
+use occ_types::Interface;
 use occ_typing::{TypeFault, type_unit};
 use std::alloc::{AllocError, Global};
 
