@@ -14,3 +14,5 @@ mod form;
 mod scope;
 #[cfg(test)]
 mod types;
+#[cfg(test)]
+mod units;
