@@ -2,3 +2,4 @@ pub mod Views
 pub mod Fields
 pub mod Walking
 pub mod DraftTypes
+pub mod Layers

@@ -1,6 +1,7 @@
 -- The drafts of expressions from those of their parts. A draft has the parts of an expression in their order, without its
 -- parentheses; what is known of the whole decides whether it is typed already, still free, or faulty.
-use Rattle.std.specs.Prelude.{ℕ, Option, Some, None, List, [], ◌∷◌}
+use Rattle.std.specs.Prelude.{ℕ, Option, Some, None, List, [], ◌∷◌, if◌then◌else◌}
+use Rattle.occ_names.specs.declared.meaning.Referent.{Referent}
 use Rattle.occ_operands.specs.Settling.{int}
 use Rattle.occ_operands.specs.declared.kind.Free.{Free}
 use Rattle.occ_operands.specs.declared.kind.Kind.{Kind}
@@ -11,6 +12,8 @@ use Rattle.occ_typed.specs.Placing.{all_placed, applied_of, each_placed, known_o
 use Rattle.occ_typed.specs.declared.draft.Draft.{Draft, out-Draft}
 use Rattle.occ_typed.specs.declared.draft.Draft.TheOpen.{Draft-F}
 use Rattle.occ_typed.specs.declared.draft.Draft.TheVariants as d
+use Rattle.occ_typed.specs.declared.expr.TypedActual.{TypedActual}
+use Rattle.occ_typed.specs.declared.expr.TypedActual.TheVariants as actual
 use Rattle.occ_typed.specs.declared.expr.TypedExpr.{TypedExpr}
 use Rattle.occ_typed.specs.declared.expr.TypedExpr.TheVariants as typed
 use Rattle.occ_types.specs.Fits.{unnamed}
@@ -19,6 +22,7 @@ use Rattle.occ_types.specs.declared.constant.Monadic.{Monadic}
 use Rattle.occ_types.specs.declared.constant.Monadic.TheVariants as m
 use Rattle.occ_types.specs.declared.constant.Operator.{Operator}
 use Rattle.occ_types.specs.declared.constant.Operator.TheVariants as op
+use Rattle.occ_types.specs.declared.interface.Formal.{Formal}
 use Rattle.occ_types.specs.declared.types.Field.{Field}
 use Rattle.occ_types.specs.declared.types.OccType.{OccType}
 use Rattle.occ_expression_forms.specs.declared.tree.MonadicOperator.{MonadicOperator}
@@ -156,3 +160,28 @@ unfoldable pub decorated_draft : Kind → List Draft → Draft
 decorated_draft k.Faulty xs = d.Faulty
 decorated_draft (k.Free f) xs = d.Faulty
 decorated_draft (k.Known x) xs = drafted (table_of x (items_placed xs x.of))
+
+-- ---- calls of functions
+
+abbrev pub formal_types : List Formal → List OccType
+formal_types [] = []
+formal_types (f ∷ fs) = f.of ∷ formal_types fs
+
+abbrev pub by_value : List TypedExpr → List TypedActual
+by_value [] = []
+by_value (t ∷ ts) = actual.Value t ∷ by_value ts
+
+abbrev pub typed_call : Known → Option Referent → Option (List TypedExpr) → Option TypedExpr
+typed_call x None ts = None
+typed_call x (Some r) None = None
+typed_call x (Some r) (Some ts) = Some (typed.Call x r (by_value ts))
+
+-- a call of this specification, whose first result is of this type: each actual is of the type of its formal
+unfoldable pub called_tree : OccType → Option Referent → List Formal → List Draft → Option TypedExpr
+called_tree of r formals xs = typed_call (record { of = of; value = None }) r (each_placed xs (formal_types formals))
+
+-- the call as an operand, of whose whole this is known
+abbrev pub operand_call : Kind → Option Referent → List Formal → List Draft → Draft
+operand_call k.Faulty r formals xs = d.Faulty
+operand_call (k.Free f) r formals xs = d.Faulty
+operand_call (k.Known x) r formals xs = drafted (called_tree x.of r formals xs)

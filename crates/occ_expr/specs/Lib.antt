@@ -5,3 +5,4 @@ pub mod Parts
 pub mod Drafts
 pub mod Elements
 pub mod Views
+pub mod Sides

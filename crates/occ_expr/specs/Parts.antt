@@ -1,13 +1,12 @@
 -- What is said of expressions and elements from what is said of their parts.
-use Rattle.std.specs.Prelude.{ℕ, Option, Some, None, List, [], ◌∷◌, ◌++◌}
+use Rattle.std.specs.Prelude.{ℕ, Option, Some, None, List, [], ◌∷◌, ◌++◌, if◌then◌else◌}
 use Rattle.occ_base.specs.declared.code.Code.TheVariants as code
 use Rattle.occ_types.specs.Fits.{unnamed}
 use Rattle.occ_types.specs.View.{fields_in}
 use Rattle.occ_types.specs.declared.types.Field.{Field}
 use Rattle.occ_types.specs.declared.types.OccType.{OccType}
 use Rattle.occ_operands.specs.Parts.{field, subscripted}
-use Rattle.occ_operands.specs.Settling.{Told, known, silent}
-use Rattle.occ_base.specs.Telling.{nameless}
+use Rattle.occ_operands.specs.Settling.{Told, fault_of, known, silent}
 use Rattle.occ_base.specs.declared.fault.Fault.{Fault}
 use Rattle.occ_operands.specs.declared.kind.Kind.{Kind}
 use Rattle.occ_operands.specs.declared.kind.Kind.TheVariants as k
@@ -24,7 +23,9 @@ use Rattle.occ_tables.specs.declared.selection.BoundTerms.{BoundTerms}
 use Rattle.occ_tables.specs.declared.selection.BoundTerms.TheVariants as bounds
 use Rattle.occ_tables.specs.declared.term.Term.{Term}
 use Rattle.occ_tables.specs.declared.term.Term.TheVariants as v
+use Rattle.occ_type_rules.specs.Calling.{Matched, matched}
 use Rattle.occ_typed.specs.declared.draft.Draft.{Draft}
+use Rattle.occ_types.specs.declared.interface.Formal.{Formal}
 use Rattle.occ_expr.specs.Operations.{converted, plain}
 
 -- what is said of an expression: its faults, and what it is before a type is wanted of it
@@ -145,34 +146,55 @@ segment_element s x b es = and_then (and_then x (segment_within b)) (subscripts 
 
 -- ---- calls, and what has the form of a call or of an element and is a conversion
 
--- calls of functions are not typed yet
-abbrev pub call_faults : List ℕ → Option Meaning → List Fault
-call_faults name None = (record { code = code.N1; name = Some name }) ∷ []
-call_faults name (Some m.Faulty) = []
-call_faults name (Some (m.Type None)) = []
-call_faults name (Some (m.Type (Some of))) = (record { code = code.N2; name = Some name }) ∷ []
-call_faults name (Some (m.Protocol p)) = (record { code = code.N2; name = Some name }) ∷ []
-call_faults name (Some (m.Procedure formals)) = (record { code = code.N2; name = Some name }) ∷ []
-call_faults name (Some (m.Function formals results)) = nameless code.S1 ∷ []
-call_faults name (Some (m.Element whole)) = (record { code = code.N2; name = Some name }) ∷ []
+-- what is told of a name that is called and stands for no function
+abbrev pub no_function : List ℕ → Option Meaning → List Fault
+no_function name None = (record { code = code.N1; name = Some name }) ∷ []
+no_function name (Some m.Faulty) = []
+no_function name (Some (m.Type None)) = []
+no_function name (Some (m.Type (Some of))) = (record { code = code.N2; name = Some name }) ∷ []
+no_function name (Some (m.Protocol p)) = (record { code = code.N2; name = Some name }) ∷ []
+no_function name (Some (m.Procedure formals)) = (record { code = code.N2; name = Some name }) ∷ []
+no_function name (Some (m.Function formals results)) = []
+no_function name (Some (m.Element whole)) = (record { code = code.N2; name = Some name }) ∷ []
 
 -- no types are wanted of the arguments
-unfoldable pub function_call : Scope → List ℕ → List ExprView → Told
-function_call s name es = record { faults = call_faults name (visible s name) ++ own_faults (in_scope s es); kind = k.Faulty }
+unfoldable pub no_call : Scope → List ℕ → List ExprView → Told
+no_call s name es = record { faults = no_function name (visible s name) ++ own_faults (in_scope s es); kind = k.Faulty }
+
+-- the one result of a function, which is no constant; of more or fewer T4 is told
+abbrev pub one_result : List OccType → Told
+one_result [] = fault_of code.T4
+one_result (of ∷ []) = record { faults = []; kind = known of None }
+one_result (of ∷ q ∷ qs) = fault_of code.T4
+
+-- a call with a faulty actual is faulty, and nothing more is told of it
+abbrev pub result_after : List OccType → Matched → Told
+result_after results x = after x.faults (if x.is_faulty then silent else one_result results)
+
+-- what is told of actuals: of each by itself, and for its formal
+abbrev pub actuals : List Formal → List Said → Matched
+actuals formals xs =
+    let x = matched formals (judged_all (terms xs)) in
+    record { faults = own_faults xs ++ x.faults; is_faulty = x.is_faulty }
+
+-- a call of a function with these formals and results, as an operand
+unfoldable pub function_call : List Formal → List OccType → List Said → Told
+function_call formals results xs = result_after results (actuals formals xs)
 
 -- a type that has a fault is not known, and what is converted to it is judged all the same
 abbrev pub argument_as : Option OccType → Said → Told
 argument_as to x = after x.faults (converted to (judged x.term))
 
 abbrev pub call_of_type : Scope → List ℕ → List ExprView → Option OccType → Option ExprView → Told
-call_of_type s name es to None = function_call s name es
+call_of_type s name es to None = no_call s name es
 call_of_type s name es to (Some e) = argument_as to (e.said s)
 
 abbrev pub call_of : Scope → List ℕ → List ExprView → Option Meaning → Told
 call_of s name es (Some (m.Type to)) = call_of_type s name es to (only es)
-call_of s name es meaning = function_call s name es
+call_of s name es (Some (m.Function formals results)) = function_call formals results (in_scope s es)
+call_of s name es meaning = no_call s name es
 
--- `n (e, ..)`: a conversion, if n is a data type and has one argument
+-- `n (e, ..)`: a call of a function, or a conversion, if n is a data type and has one argument
 unfoldable pub call : Scope → List ℕ → List ExprView → Told
 call s name es = call_of s name es (visible s name)
 

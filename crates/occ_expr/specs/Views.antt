@@ -38,9 +38,9 @@ use Rattle.occ_expression_forms.specs.declared.tree.RunOperator.{RunOperator}
 use Rattle.occ_expression_forms.specs.declared.tree.TypeForm.{TypeForm}
 use Rattle.occ_expr.specs.Literals.{decorated_literal, literal, truth}
 use Rattle.occ_expr.specs.Operations.{applied, converted, extreme_of, operation, pair, run_operator}
-use Rattle.occ_expr.specs.Drafts.{applied_draft, conversion_draft, decorated_draft, literal_draft, operation_draft, pair_draft}
+use Rattle.occ_expr.specs.Drafts.{applied_draft, conversion_draft, decorated_draft, literal_draft, operand_call, operation_draft, pair_draft}
 use Rattle.occ_expr.specs.Elements.{element_draft, element_of, one_selector, place_tree, selectors, with_selectors}
-use Rattle.occ_expr.specs.Parts.{ExprView, Said, SaidBounds, after, call, in_scope, named, named_element, only, own_faults, segment_element, segment_within, single, table, table_with_type, terms, whole_element}
+use Rattle.occ_expr.specs.Parts.{ExprView, Said, SaidBounds, after, call, function_call, in_scope, named, named_element, only, own_faults, segment_element, segment_within, single, table, table_with_type, terms, whole_element}
 use Rattle.occ_expr.specs.Written.{Spanning, Written, array_over, array_over_more, channel, data_form, counted_channel, extent_of, open_dimension, primitive_of}
 use Rattle.occ_expr.specs.declared.written.Opening.{Opening}
 use Rattle.occ_expr.specs.declared.written.Opening.TheVariants as opening
@@ -219,17 +219,19 @@ abbrev pub item_drafts : Scope → List ExprView → List Draft
 item_drafts s [] = []
 item_drafts s (e ∷ es) = e.draft s ∷ item_drafts s es
 
--- `n (e, ..)`: calls of functions are not typed yet
+-- `n (e, ..)`
 abbrev pub converted_call : Scope → Option OccType → Option ExprView → Draft
 converted_call s to None = d.Faulty
 converted_call s to (Some e) = conversion_draft to (judged (e.said s).term) (e.draft s)
 
-abbrev pub call_draft_of : Scope → List ExprView → Option Meaning → Draft
-call_draft_of s es (Some (meaning.Type to)) = converted_call s to (only es)
-call_draft_of s es found = d.Faulty
+abbrev pub call_draft_of : Scope → List ℕ → List ExprView → Option Meaning → Draft
+call_draft_of s name es (Some (meaning.Type to)) = converted_call s to (only es)
+call_draft_of s name es (Some (meaning.Function formals results)) =
+    operand_call (function_call formals results (in_scope s es)).kind (referent s name) formals (item_drafts s es)
+call_draft_of s name es found = d.Faulty
 
 unfoldable pub call_draft : Scope → List ℕ → List ExprView → Draft
-call_draft s name es = call_draft_of s es (visible s name)
+call_draft s name es = call_draft_of s name es (visible s name)
 
 -- a table with its type
 abbrev pub decorated_table : Scope → List ExprView → TypeFormView → Told

@@ -4,7 +4,7 @@ ghost use Rattle.std.specs.Prelude.{◌≡◌, ◌∷◌, ◌++◌, [], IfOk, If
 ghost use Rattle.occ_expr.specs.Operations.{converted as told_converted};
 ghost use Rattle.occ_expr.specs.Drafts.{conversion_draft};
 ghost use Rattle.occ_typed.specs.declared.draft.Draft.TheVariants as d;
-ghost use Rattle.occ_expr.specs.Parts.{bounds_alone as told_bounds, call_faults as told_call_faults, named as told_named, only as only_one, segment_of as told_segment, table_as as told_table};
+ghost use Rattle.occ_expr.specs.Parts.{bounds_alone as told_bounds, named as told_named, no_function as told_no_function, only as only_one, segment_of as told_segment, table_as as told_table};
 ghost use Rattle.occ_expr.specs.Views.{digits_of as digits, element_view, expr_view, expr_views, operand_view};
 ghost use Rattle.occ_names.specs.Lookup.{element as told_element};
 ghost use Rattle.occ_names.specs.Visible.{visible};
@@ -13,7 +13,7 @@ ghost use Rattle.occ_tables.specs.declared.term.Term.TheVariants as v;
 
 use super::operation::converted;
 use super::reading::{Reading, Readings};
-use occ_base::{Code, Fault, Items, Name, Shared, tell};
+use occ_base::{Code, Fault, Items, Name, Shared};
 use occ_expression_forms::{Element, Expr, Literal, Operand};
 use occ_names::{Meaning, Scope, element};
 use occ_operands::{Kind, known};
@@ -107,19 +107,18 @@ fn digits_in(literal: &Literal) -> Option<u64>
     }
 }
 
-/// What is told of a name that is called in an expression.
-pub fn tell_call(
+/// What is told of a name that is called in an expression and stands for no function.
+pub fn tell_no_function(
     alloc: Global,
     scope: &Scope,
     name: &Name,
     faults: &mut Items<Fault>,
 ) -> Result<(), AllocError>
-    ensures { OnOk result (faults.new ≡ faults.old ++ told_call_faults name.now (visible scope.now name.now)) }
+    ensures { OnOk result (faults.new ≡ faults.old ++ told_no_function name.now (visible scope.now name.now)) }
 {
     let code = match scope.find(name) {
         None => Code::N1,
-        Some(Meaning::Faulty | Meaning::Type(None)) => return Ok(()),
-        Some(Meaning::Function(_, _)) => return tell(faults, Code::S1),
+        Some(Meaning::Faulty | Meaning::Type(None) | Meaning::Function(_, _)) => return Ok(()),
         Some(_) => Code::N2,
     };
     let name = Some(name.copied(alloc)?);

@@ -1,23 +1,24 @@
 ghost use Rattle.std.specs.Prelude.{◌≡◌, ◌++◌, [], IfOk, OnOk};
 ghost use Rattle.occ_expr.specs.declared.written.Opening.TheVariants as opened;
 ghost use Rattle.occ_names.specs.Lookup.{data_type as data_type_named};
-ghost use Rattle.occ_names.specs.Visible.{visible};
+ghost use Rattle.occ_names.specs.Visible.{referent, visible};
 ghost use Rattle.occ_types.specs.Fits.{unnamed as no_names};
 ghost use Rattle.occ_types.specs.View.{fields_in};
-ghost use Rattle.occ_expr.specs.Parts.{call as told_call, table_as as told_table, component as told_component, behind_a_fault as told_behind_a_fault, function_call as told_function_call, in_scope, named_element as told_named_element, own_faults, part as told_part, subscript as told_subscript, subscripts as told_subscripts, terms as terms_of, whole_element as told_whole_element};
-ghost use Rattle.occ_expr.specs.Drafts.{decorated_draft as drafted_table};
+ghost use Rattle.occ_expr.specs.Parts.{actuals as told_actuals, call as told_call, call_of_type as told_call_of_type, table_as as told_table, component as told_component, behind_a_fault as told_behind_a_fault, function_call as told_function_call, in_scope, named_element as told_named_element, no_call as told_no_call, only as only_one, own_faults, part as told_part, subscript as told_subscript, subscripts as told_subscripts, terms as terms_of, whole_element as told_whole_element};
+ghost use Rattle.occ_expr.specs.Drafts.{decorated_draft as drafted_table, operand_call as operand_drafted};
 ghost use Rattle.occ_tables.specs.declared.term.Term.TheVariants as v;
 ghost use Rattle.occ_typed.specs.declared.draft.Draft.TheVariants as d;
 ghost use Rattle.occ_expr.specs.Elements.{component_at as selected_component, place_tree as the_place, selector as the_selector, selector_in, selectors as the_selectors, with_selectors};
-ghost use Rattle.occ_expr.specs.Views.{bounds_view, call_draft as drafted_call, item_drafts as drafted_items, named_tree as the_named_tree, operand_drafts as drafted_operands, whole_element_draft as drafted_whole, builtin_view, dimension_view, dimension_views, each, element_view, expr_view, expr_views, named_operand_view, operand_view, operand_views, operands as said_operands, type_form_view};
+ghost use Rattle.occ_expr.specs.Views.{bounds_view, call_draft as drafted_call, converted_call, item_drafts as drafted_items, named_tree as the_named_tree, operand_drafts as drafted_operands, whole_element_draft as drafted_whole, builtin_view, dimension_view, dimension_views, each, element_view, expr_view, expr_views, named_operand_view, operand_view, operand_views, operands as said_operands, type_form_view};
 ghost use Rattle.occ_expr.specs.Written.{all_spanning_faults, array_behind as written_behind, array_over as written_over, array_over_more as written_over_more, channel as written_channel, data_form as written_data, extents as the_extents};
 
+use super::calling::{one_result, operand_call};
 use super::drafting::decorated_draft;
 use super::literals::{decorated_literal, literal, truth};
 use super::operation::{applied, converted, extreme_of, operation_of, pair, plain, run_operator};
 use super::parts::{
     converted_table, digits_of, name_alone, named, only, segment_of, shared_type, table_as,
-    tell_call,
+    tell_no_function,
 };
 use super::reading::{Reading, Readings, faulty_reading, literal_reading};
 use super::selecting::{
@@ -35,8 +36,9 @@ use occ_expression_forms::{
 use occ_names::{Meaning, Scope, carries, data_type};
 use occ_operands::{Kind, field, subscripted};
 use occ_tables::{BoundTerms, Term, alone, size};
+use occ_type_rules::matched;
 use occ_typed::{Draft, Selector};
-use occ_types::{OccType, Protocol, fields_of, unnamed};
+use occ_types::{Formal, OccType, Protocol, fields_of, unnamed};
 use std::alloc::{AllocError, Global};
 
 /// What is read of an expression before a type is wanted of it.
@@ -292,7 +294,7 @@ fn decorated_reading(
 
 /// More items of a table.
 #[cycle(walk)]
-fn more_items(
+pub fn more_items(
     alloc: Global,
     exprs: &[Expr],
     scope: &Scope,
@@ -326,24 +328,95 @@ fn arguments(
     Ok(())
 }
 
-/// What is told of a call that converts nothing.
-#[tactic(auto, unfolding(crate::specs::Parts::function_call))]
+/// What is told of a call of what is no function, and converts nothing.
+#[tactic(auto, unfolding(crate::specs::Parts::no_call))]
 #[cycle(walk)]
-fn function_call(
+fn no_call(
     alloc: Global,
     name: &Name,
     exprs: &[Expr],
     scope: &Scope,
     faults: &mut Items<Fault>,
 ) -> Result<(), AllocError>
-    ensures { OnOk result (faults.new ≡ faults.old ++ (told_function_call scope.now name.now (expr_views exprs.now)).faults) }
+    ensures { OnOk result (faults.new ≡ faults.old ++ (told_no_call scope.now name.now (expr_views exprs.now)).faults) }
 {
-    tell_call(alloc, scope, name, faults)?;
+    tell_no_function(alloc, scope, name, faults)?;
     arguments(alloc, exprs, scope, faults)
 }
 
-/// What is read of a call: it is a conversion, if it names a data type and has one argument.
-#[tactic(auto, unfolding(crate::specs::Parts::call, crate::specs::Parts::function_call, crate::specs::Views::call_draft))]
+/// The actuals of a call of a function with these formals: whether one of them is faulty, or their number, and their
+/// drafts.
+#[cycle(walk)]
+pub fn actuals(
+    alloc: Global,
+    exprs: &[Expr],
+    formals: &[Formal],
+    scope: &Scope,
+    faults: &mut Items<Fault>,
+) -> Result<(bool, Items<Draft>), AllocError>
+    ensures is_faulty { IfOk result (λ r. r.0 ≡ (told_actuals formals.now (in_scope scope.now (expr_views exprs.now))).is_faulty) }
+    ensures drafts { IfOk result (λ r. r.1 ≡ drafted_items scope.now (expr_views exprs.now)) }
+    ensures faults { OnOk result (faults.new ≡ faults.old ++ (told_actuals formals.now (in_scope scope.now (expr_views exprs.now))).faults) }
+{
+    let mut readings = Readings::new(alloc);
+    more_items(alloc, exprs, scope, &mut readings, faults)?;
+    let is_faulty = matched(alloc, formals, readings.terms.as_slice(), faults)?;
+    Ok((is_faulty, readings.drafts))
+}
+
+/// What is read of a call of a function as an operand.
+#[tactic(auto, unfolding(crate::specs::Parts::function_call))]
+#[cycle(walk)]
+fn function_call(
+    alloc: Global,
+    name: &Name,
+    exprs: &[Expr],
+    formals: &[Formal],
+    results: &[Shared<OccType>],
+    scope: &Scope,
+    faults: &mut Items<Fault>,
+) -> Result<Reading, AllocError>
+    ensures term { IfOk result (λ whole. whole.term ≡ v.Single (told_function_call formals.now results.now (in_scope scope.now (expr_views exprs.now))).kind) }
+    ensures draft { IfOk result (λ whole. whole.draft ≡ operand_drafted (told_function_call formals.now results.now (in_scope scope.now (expr_views exprs.now))).kind (referent scope.now name.now) formals.now (drafted_items scope.now (expr_views exprs.now))) }
+    ensures faults { OnOk result (faults.new ≡ faults.old ++ (told_function_call formals.now results.now (in_scope scope.now (expr_views exprs.now))).faults) }
+{
+    let (is_faulty, drafts) = actuals(alloc, exprs, formals, scope, faults)?;
+    if is_faulty {
+        return Ok(faulty_reading());
+    }
+    let kind = one_result(results, faults)?;
+    let draft = operand_call(alloc, scope, name, &kind, formals, drafts.as_slice())?;
+    Ok(Reading {
+        term: Term::Single(kind),
+        draft,
+    })
+}
+
+/// What is read of a call whose name stands for a type: it is a conversion, if it has one argument.
+#[tactic(auto, unfolding(crate::specs::Parts::no_call))]
+#[cycle(walk)]
+fn call_of_type(
+    alloc: Global,
+    name: &Name,
+    exprs: &[Expr],
+    to: &Option<Shared<OccType>>,
+    scope: &Scope,
+    faults: &mut Items<Fault>,
+) -> Result<Reading, AllocError>
+    ensures term { IfOk result (λ whole. whole.term ≡ v.Single (told_call_of_type scope.now name.now (expr_views exprs.now) to.now (only_one (expr_views exprs.now))).kind) }
+    ensures draft { IfOk result (λ whole. whole.draft ≡ converted_call scope.now to.now (only_one (expr_views exprs.now))) }
+    ensures faults { OnOk result (faults.new ≡ faults.old ++ (told_call_of_type scope.now name.now (expr_views exprs.now) to.now (only_one (expr_views exprs.now))).faults) }
+{
+    let Some(expr) = only(exprs) else {
+        no_call(alloc, name, exprs, scope, faults)?;
+        return Ok(faulty_reading());
+    };
+    let read = expression(alloc, expr, scope, faults)?;
+    converted(alloc, read, shared_type(to)?, faults)
+}
+
+/// What is read of a call: of a function, or a conversion, if it names a data type and has one argument.
+#[tactic(auto, unfolding(crate::specs::Parts::call, crate::specs::Parts::no_call, crate::specs::Views::call_draft))]
 #[cycle(walk)]
 fn call(
     alloc: Global,
@@ -356,12 +429,22 @@ fn call(
     ensures draft { IfOk result (λ whole. whole.draft ≡ drafted_call scope.now name.now (expr_views exprs.now)) }
     ensures faults { OnOk result (faults.new ≡ faults.old ++ (told_call scope.now name.now (expr_views exprs.now)).faults) }
 {
-    let (Some(Meaning::Type(to)), Some(expr)) = (scope.find(name), only(exprs)) else {
-        function_call(alloc, name, exprs, scope, faults)?;
-        return Ok(faulty_reading());
-    };
-    let read = expression(alloc, expr, scope, faults)?;
-    converted(alloc, read, shared_type(to)?, faults)
+    match scope.find(name) {
+        Some(Meaning::Type(to)) => call_of_type(alloc, name, exprs, to, scope, faults),
+        Some(Meaning::Function(formals, results)) => function_call(
+            alloc,
+            name,
+            exprs,
+            formals.as_slice(),
+            results.as_slice(),
+            scope,
+            faults,
+        ),
+        _ => {
+            no_call(alloc, name, exprs, scope, faults)?;
+            Ok(faulty_reading())
+        }
+    }
 }
 
 /// What is read of an element.

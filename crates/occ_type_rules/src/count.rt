@@ -52,7 +52,7 @@ fn values_held(alloc: Global, terms: &[Term], faults: &mut Items<Fault>) -> Resu
 }
 
 /// More or fewer values than places for them, of which perhaps one is faulty.
-pub(super) fn of_another_number(
+pub fn of_another_number(
     alloc: Global,
     terms: &[Term],
     place_is_faulty: bool,

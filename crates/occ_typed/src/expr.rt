@@ -22,7 +22,8 @@ pub enum TypedExpr {
     Converted(Known, Shared<TypedExpr>),
     /// The items of a table, or the values of the fields of a record in their order.
     Table(Known, Items<Shared<TypedExpr>>),
-    /// A call of a function that has one result: its specification, and the actuals. Typing makes none yet.
+    /// A call of a function: what is known of its first result, its specification, and the actuals. A call with several
+    /// results is a whole right side: there it stands once for each of them, at its place.
     Call(Known, Referent, Items<TypedActual>),
 }
 

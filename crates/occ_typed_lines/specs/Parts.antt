@@ -23,6 +23,8 @@ use Rattle.occ_typed_exchanges.specs.Through.{through_tree}
 use Rattle.occ_typed_exchanges.specs.Variants.{begun, variant_faults, variant_tree, with_tag}
 use Rattle.occ_typed_exchanges.specs.declared.variants.CaseInput.{CaseInput}
 use Rattle.occ_typed_exchanges.specs.declared.variants.TypedVariant.{TypedVariant}
+use Rattle.occ_typed_calls.specs.Instances.{instance_faults, instance_tree}
+use Rattle.occ_typed_calls.specs.declared.instances.TypedInstance.{TypedInstance}
 use Rattle.occ_typed_lines.specs.Lines.{Own, beyond, made, main, over, with_role}
 use Rattle.occ_typed_lines.specs.declared.tree.TypedForm.{TypedForm}
 use Rattle.occ_typed_lines.specs.declared.tree.TypedForm.TheVariants as t
@@ -107,8 +109,11 @@ results_in s (expected.Types types) es = results_trees s types es
 
 -- ---- by the parent; what is not told here typing does not know yet, or it stands where no line of its kind may
 
+abbrev pub instance_form : TypedInstance → TypedForm
+instance_form x = t.Instance x.callee x.actuals
+
 abbrev pub expressing_in : Scope → Expr → List Expr → ℕ → Role → Own
-expressing_in s e es n role.Process = main beyond t.Unknown (of_role n role.Process)
+expressing_in s e es n role.Process = main (instance_faults s (e ∷ es)) (made instance_form (instance_tree s (e ∷ es))) (of_role n role.Process)
 expressing_in s e es n role.Conditional = main (condition s e) (made t.Condition (condition_tree s e)) (of_role n role.Conditional)
 expressing_in s e es n role.Alternation = main beyond t.Unknown (of_role n role.Alternation)
 expressing_in s e es n (role.Selection c) = option s c n (e ∷ es)

@@ -3,7 +3,9 @@ use Rattle.std.specs.Prelude.{ℕ, Bool, true, false, Some, List, [], ◌∷◌,
 use Rattle.occ_typed_specifications.specs.Declaring.{declaration}
 use Rattle.occ_typed_specifications.specs.Defining.{data_type}
 use Rattle.occ_typed_specifications.specs.Entering.{Declared}
-use Rattle.occ_typed_specifications.specs.Lines.{unknown}
+use Rattle.occ_abbreviations.specs.Abbreviating.{abbreviation}
+use Rattle.occ_abbreviations.specs.Recasting.{recast_element, recast_value, source_tree}
+use Rattle.occ_expr.specs.Views.{element_view}
 use Rattle.occ_typed_specifications.specs.Recording.{recorded}
 use Rattle.occ_typed_specifications.specs.Valuing.{value, value_tree}
 use Rattle.occ_expression_forms.specs.declared.tree.Expr.{Expr}
@@ -67,9 +69,9 @@ one_line s (specification.Declaration of first more) next = declared_line (decla
 one_line s (specification.Value of name e) next = declared_line (value s of name e) (made t.Value (value_tree s of e)) next
 one_line s (specification.DataType name of) next = declared_line (data_type s name of) t.DataType next
 one_line s (specification.Function head e es) next = function_line s head (e ∷ es) next
-one_line s (specification.Abbreviation of name el) next = declared_line (unknown name) t.Unknown next
-one_line s (specification.Retyped recast of name el) next = declared_line (unknown name) t.Unknown next
-one_line s (specification.RetypedValue recast of name e) next = declared_line (unknown name) t.Unknown next
+one_line s (specification.Abbreviation of name el) next = declared_line (abbreviation s of name el) (made t.Abbreviation ((element_view el).tree s)) next
+one_line s (specification.Retyped how of name el) next = declared_line (recast_element s how of name el) (made t.Retyped ((element_view el).tree s)) next
+one_line s (specification.RetypedValue how of name e) next = declared_line (recast_value s how of name e) (made t.RetypedValue (source_tree s e)) next
 one_line s (specification.Protocol name item items) next = declared_line (protocol s name (item ∷ items)) t.Protocol next
 
 -- a PROC or a FUNCTION, which says this of the lines of its body

@@ -1,7 +1,7 @@
 ghost use Rattle.occ_typed_lines.specs.Actions.{assigning, sending};
 ghost use Rattle.occ_typed_lines.specs.Constructs.{replicated};
 ghost use Rattle.occ_typed_lines.specs.Lines.{made};
-ghost use Rattle.occ_typed_lines.specs.Parts.{varied};
+ghost use Rattle.occ_typed_lines.specs.Parts.{instance_form as told_instance, varied};
 ghost use Rattle.occ_typed_lines.specs.declared.tree.TypedForm.TheVariants as t;
 ghost use Rattle.std.specs.Prelude.{◌≡◌};
 
@@ -9,6 +9,7 @@ use super::tree::{BlockKind, TypedForm};
 use occ_base::{Items, Shared};
 use occ_replicators::TypedReplicator;
 use occ_typed::{TypedElement, TypedExpr};
+use occ_typed_calls::TypedInstance;
 use occ_typed_exchanges::{TypedInput, TypedSending, TypedVariant};
 use occ_typed_statements::TypedAssignment;
 
@@ -20,6 +21,16 @@ pub fn assignment_form(tree: Option<TypedAssignment>) -> TypedForm
         return TypedForm::Unknown;
     };
     TypedForm::Assignment(targets, values)
+}
+
+/// An instance of a PROC, if its trees are there.
+pub fn instance_form(tree: Option<TypedInstance>) -> TypedForm
+    ensures { result ≡ made told_instance tree }
+{
+    let Some(TypedInstance { callee, actuals }) = tree else {
+        return TypedForm::Unknown;
+    };
+    TypedForm::Instance(callee, actuals)
 }
 
 /// An output, if its trees are there.
@@ -135,6 +146,36 @@ pub fn results_form(trees: Option<Items<Shared<TypedExpr>>>) -> TypedForm
 {
     match trees {
         Some(trees) => TypedForm::Results(trees),
+        None => TypedForm::Unknown,
+    }
+}
+
+/// A name for an element, if that has a tree.
+pub fn abbreviation_form(tree: Option<TypedElement>) -> TypedForm
+    ensures { result ≡ made t.Abbreviation tree }
+{
+    match tree {
+        Some(tree) => TypedForm::Abbreviation(tree),
+        None => TypedForm::Unknown,
+    }
+}
+
+/// A name for an element as of another type, if the element has a tree.
+pub fn retyped_form(tree: Option<TypedElement>) -> TypedForm
+    ensures { result ≡ made t.Retyped tree }
+{
+    match tree {
+        Some(tree) => TypedForm::Retyped(tree),
+        None => TypedForm::Unknown,
+    }
+}
+
+/// A name for a value as of another type, if the value has a tree.
+pub fn retyped_value_form(tree: Option<Shared<TypedExpr>>) -> TypedForm
+    ensures { result ≡ made t.RetypedValue tree }
+{
+    match tree {
+        Some(tree) => TypedForm::RetypedValue(tree),
         None => TypedForm::Unknown,
     }
 }

@@ -2,7 +2,7 @@ ghost use Rattle.occ_typed_lines.specs.Parts.{else_option as told_else_option, e
 ghost use Rattle.occ_typed_statements.specs.Statements.{is_any_faulty};
 ghost use Rattle.std.specs.Prelude.{◌≡◌, ◌∷◌, ◌++◌, [], IfOk, OnOk};
 
-use super::form::{condition_form, options_form, results_form};
+use super::form::{condition_form, instance_form, options_form, results_form};
 use super::guard::guarding;
 use super::line::{main, plain};
 use super::parent::{Choosing, Line, Parent, Role};
@@ -13,6 +13,7 @@ use occ_expression_forms::Expr;
 use occ_forms::Part;
 use occ_names::Scope;
 use occ_typed::TypedExpr;
+use occ_typed_calls::instance;
 use occ_typed_heads::Expected;
 use occ_typed_statements::{condition, hidden_results, options, results};
 use std::alloc::{AllocError, Global};
@@ -110,6 +111,11 @@ pub fn expressions(
 {
     let Parent { role, rounds } = parent;
     match role {
+        Role::Process => {
+            let tree = instance(alloc, first, more, scope, faults)?;
+            let next = of_role(rounds, Role::Process);
+            Ok(main(alloc, instance_form(tree), next))
+        }
         Role::Conditional => {
             let tree = condition(alloc, first, scope, faults)?;
             let next = of_role(rounds, Role::Conditional);

@@ -1,6 +1,8 @@
 ghost use Rattle.occ_typed_specifications.specs.Declaring.{declaration as told_declaration};
 ghost use Rattle.occ_typed_specifications.specs.Defining.{data_type as told_data_type};
-ghost use Rattle.occ_typed_specifications.specs.Lines.{unknown as told_unknown};
+ghost use Rattle.occ_abbreviations.specs.Abbreviating.{abbreviation as told_abbreviation};
+ghost use Rattle.occ_abbreviations.specs.Recasting.{recast_element as told_recast_element, recast_value as told_recast_value, source_tree};
+ghost use Rattle.occ_expr.specs.Views.{element_view};
 ghost use Rattle.occ_typed_specifications.specs.Valuing.{value as told_value, value_tree};
 ghost use Rattle.occ_typed_protocols.specs.Protocols.{protocol as told_protocol};
 ghost use Rattle.occ_typed_lines.specs.Lines.{made};
@@ -8,31 +10,71 @@ ghost use Rattle.occ_typed_lines.specs.Specifying.{declared_line, one_line as to
 ghost use Rattle.occ_typed_lines.specs.declared.tree.TypedForm.TheVariants as t;
 ghost use Rattle.std.specs.Prelude.{◌≡◌, ◌∷◌, ◌++◌, IfOk, OnOk};
 
-use super::form::value_form;
+use super::form::{abbreviation_form, retyped_form, retyped_value_form, value_form};
 use super::function::function_line;
 use super::line::line_of_one;
 use super::parent::{Line, Parent};
 use super::tree::TypedForm;
+use occ_abbreviations::{ElementLine, abbreviation, recast_element, recast_value};
 use occ_base::{Fault, Items, Name};
-use occ_expression_forms::{Expr, TypeForm};
+use occ_expression_forms::{Element, Expr, TypeForm};
 use occ_names::Scope;
-use occ_specification_forms::{ItemForm, Specification};
+use occ_specification_forms::{ItemForm, Recast, Specification};
 use occ_typed_protocols::protocol;
-use occ_typed_specifications::{ValueLine, data_type, declaration, unknown, value};
+use occ_typed_specifications::{ValueLine, data_type, declaration, value};
 use std::alloc::{AllocError, Global};
 
-/// A specification of one line that typing does not know yet.
-fn unknown_line(
+/// A name for an element.
+fn abbreviation_line(
     alloc: Global,
+    of: &Option<TypeForm>,
     name: &Name,
+    element: &Element,
+    scope: &Scope,
     next: Parent,
     faults: &mut Items<Fault>,
 ) -> Result<Line, AllocError>
-    ensures line { IfOk result (λ one. one ≡ (declared_line (told_unknown name.now) t.Unknown next).line) }
-    ensures faults { OnOk result (faults.new ≡ faults.old ++ (told_unknown name.now).faults) }
+    ensures line { IfOk result (λ one. one ≡ (declared_line (told_abbreviation scope.now of.now name.now element.now) (made t.Abbreviation ((element_view element.now).tree scope.now)) next).line) }
+    ensures faults { OnOk result (faults.new ≡ faults.old ++ (told_abbreviation scope.now of.now name.now element.now).faults) }
 {
-    let adds = unknown(alloc, name, faults)?;
-    Ok(line_of_one(alloc, adds, TypedForm::Unknown, next))
+    let ElementLine { adds, tree } = abbreviation(alloc, of, name, element, scope, faults)?;
+    Ok(line_of_one(alloc, adds, abbreviation_form(tree), next))
+}
+
+/// A name for an element, of another type.
+fn recast_element_line(
+    alloc: Global,
+    how: Recast,
+    of: &TypeForm,
+    name: &Name,
+    element: &Element,
+    scope: &Scope,
+    next: Parent,
+    faults: &mut Items<Fault>,
+) -> Result<Line, AllocError>
+    ensures line { IfOk result (λ one. one ≡ (declared_line (told_recast_element scope.now how of.now name.now element.now) (made t.Retyped ((element_view element.now).tree scope.now)) next).line) }
+    ensures faults { OnOk result (faults.new ≡ faults.old ++ (told_recast_element scope.now how of.now name.now element.now).faults) }
+{
+    let ElementLine { adds, tree } = recast_element(alloc, how, of, name, element, scope, faults)?;
+    Ok(line_of_one(alloc, adds, retyped_form(tree), next))
+}
+
+/// A name for a value, of another type.
+fn recast_value_line(
+    alloc: Global,
+    how: Recast,
+    of: &TypeForm,
+    name: &Name,
+    expr: &Expr,
+    scope: &Scope,
+    next: Parent,
+    faults: &mut Items<Fault>,
+) -> Result<Line, AllocError>
+    ensures line { IfOk result (λ one. one ≡ (declared_line (told_recast_value scope.now how of.now name.now expr.now) (made t.RetypedValue (source_tree scope.now expr.now)) next).line) }
+    ensures faults { OnOk result (faults.new ≡ faults.old ++ (told_recast_value scope.now how of.now name.now expr.now).faults) }
+{
+    let ValueLine { adds, tree } = recast_value(alloc, how, of, name, expr, scope, faults)?;
+    Ok(line_of_one(alloc, adds, retyped_value_form(tree), next))
 }
 
 /// A declaration.
@@ -125,9 +167,15 @@ pub fn one_line(
         Specification::Function(head, first, more) => {
             function_line(alloc, head, first, more.as_slice(), scope, next, faults)
         }
-        Specification::Abbreviation(_, name, _) => unknown_line(alloc, name, next, faults),
-        Specification::Retyped(_, _, name, _) => unknown_line(alloc, name, next, faults),
-        Specification::RetypedValue(_, _, name, _) => unknown_line(alloc, name, next, faults),
+        Specification::Abbreviation(of, name, element) => {
+            abbreviation_line(alloc, of, name, element, scope, next, faults)
+        }
+        Specification::Retyped(how, of, name, element) => {
+            recast_element_line(alloc, *how, of, name, element, scope, next, faults)
+        }
+        Specification::RetypedValue(how, of, name, expr) => {
+            recast_value_line(alloc, *how, of, name, expr, scope, next, faults)
+        }
         Specification::Protocol(name, first, more) => {
             protocol_line(alloc, name, first, more.as_slice(), scope, next, faults)
         }

@@ -27,8 +27,7 @@ pub enum TypedGuard {
     CaseInput(TypedElement),
 }
 
-/// What a line is, once its names and expressions are typed. Typing knows no calls and no abbreviations of elements yet, and
-/// makes no line of these.
+/// What a line is, once its names and expressions are typed.
 #[derive(Drop)]
 pub enum TypedForm {
     /// `t n, ..:`

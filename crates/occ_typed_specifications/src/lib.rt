@@ -15,4 +15,4 @@ pub use defining::{data_form_type, data_of, data_type};
 pub use field::{fields, repeated_all};
 pub use line::unknown;
 pub use recording::record;
-pub use valuing::{ValueLine, tree_of, value};
+pub use valuing::{ValueLine, kind_unless_told, tree_of, value, value_name};

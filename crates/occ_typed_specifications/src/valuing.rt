@@ -111,14 +111,14 @@ fn value_read(
 }
 
 /// What is known of the value, if the line told nothing.
-fn unless_told(told: &Items<Fault>, kind: Kind) -> Kind
+pub fn kind_unless_told(told: &Items<Fault>, kind: Kind) -> Kind
     ensures { result ≡ known_unless_told told.now kind }
 {
     if told.is_empty() { kind } else { Kind::Faulty }
 }
 
 /// The name of a value of which this is known.
-fn value_name(alloc: Global, kind: Kind, name: &Name) -> Result<Meaning, AllocError>
+pub fn value_name(alloc: Global, kind: Kind, name: &Name) -> Result<Meaning, AllocError>
     ensures { IfOk result (λ meaning. meaning ≡ told_name kind name.now) }
 {
     match kind {
@@ -156,7 +156,7 @@ pub fn value(
 {
     let mut told = Items::new(alloc);
     let Valued { kind, tree } = value_read(alloc, of, expr, scope, &mut told)?;
-    let kind = unless_told(&told, kind);
+    let kind = kind_unless_told(&told, kind);
     faults.append(told)?;
     let meaning = value_name(alloc, kind, name)?;
     let adds = one_entry(alloc, name, meaning)?;

@@ -1,5 +1,6 @@
 -- The typed trees of a line of a process: of each expression the type at its place is wanted.
 use Rattle.std.specs.Prelude.{Option, Some, None, List, [], ◌∷◌, ◌++◌}
+use Rattle.occ_expr.specs.Sides.{side}
 use Rattle.occ_expr.specs.Views.{element_view, expr_view}
 use Rattle.occ_expression_forms.specs.declared.tree.Element.{Element}
 use Rattle.occ_expression_forms.specs.declared.tree.Expr.{Expr}
@@ -20,7 +21,7 @@ abbrev pub drafts : Scope → List Expr → List Draft
 drafts s [] = []
 drafts s (e ∷ es) = (expr_view e).draft s ∷ drafts s es
 
--- ---- assignments: each value is of the type of its target
+-- ---- assignments: each value is of the type of its target; one call stands for each of its results
 
 abbrev pub with_elements : Option (List TypedElement) → Option (List TypedElement) → Option (List TypedElement)
 with_elements None ys = None
@@ -48,7 +49,7 @@ assigned None xs = None
 assigned (Some els) xs = assigned_values els (each_placed xs (types_of els))
 
 abbrev pub assignment_tree : Scope → List Element → List Expr → Option TypedAssignment
-assignment_tree s els es = assigned (target_trees s els) (drafts s es)
+assignment_tree s els es = assigned (target_trees s els) (side s es).drafts
 
 -- ---- conditions are BOOL, a selector is an integer or a BYTE, and its options are of its type
 
@@ -66,4 +67,4 @@ options_trees s (k.Known x) es = all_placed (drafts s es) x.of
 -- ---- results of a FUNCTION, each of the type at its place
 
 abbrev pub results_trees : Scope → List OccType → List Expr → Option (List TypedExpr)
-results_trees s types es = each_placed (drafts s es) types
+results_trees s types es = each_placed (side s es).drafts types

@@ -13,6 +13,7 @@ use Rattle.occ_tables.specs.Terms.{has_fault, judged, judged_all}
 use Rattle.occ_expression_forms.specs.declared.tree.Element.{Element}
 use Rattle.occ_expression_forms.specs.declared.tree.Expr.{Expr}
 use Rattle.occ_expr.specs.Parts.{Said, after, in_scope, own_faults, terms}
+use Rattle.occ_expr.specs.Sides.{Side, side}
 use Rattle.occ_expr.specs.Views.{expr_view, expr_views}
 use Rattle.occ_type_rules.specs.Assigning.{assigned}
 use Rattle.occ_type_rules.specs.Choosing.{Chosen, condition as no_condition, options as chosen, selector as selecting}
@@ -24,14 +25,14 @@ said s es = in_scope s (expr_views es)
 
 -- one of them is faulty by itself, whether that was told or is told elsewhere
 abbrev pub is_any_faulty : Scope → List Expr → Bool
-is_any_faulty s es = list_any has_fault (judged_all (terms (said s es)))
+is_any_faulty s es = list_any has_fault (judged_all (side s es).terms)
 
 -- the targets, the values by themselves, and then one for the other
-abbrev pub assigned_to : List Told → List Said → List Fault
-assigned_to ts xs = all_faults ts ++ (own_faults xs ++ assigned (kinds ts) (judged_all (terms xs)))
+abbrev pub assigned_to : List Told → Side → List Fault
+assigned_to ts x = all_faults ts ++ (x.faults ++ assigned (kinds ts) (judged_all x.terms))
 
 abbrev pub assignment : Scope → List Element → List Expr → List Fault
-assignment s els es = assigned_to (targets s els) (said s es)
+assignment s els es = assigned_to (targets s els) (side s es)
 
 abbrev pub condition_by : Said → List Fault
 condition_by x = x.faults ++ no_condition (judged x.term)
@@ -57,16 +58,16 @@ options_by kind before xs = let y = options_under kind before xs in record { fau
 abbrev pub options : Scope → Kind → BTreeSet ℤ → List Expr → Chosen
 options s kind before es = options_by kind before (said s es)
 
-abbrev pub results_by : List OccType → List Said → List Fault
-results_by types xs = own_faults xs ++ resulting types (judged_all (terms xs))
+abbrev pub results_by : List OccType → Side → List Fault
+results_by types x = x.faults ++ resulting types (judged_all x.terms)
 
 -- the results of a FUNCTION whose head has no fault
 abbrev pub results : Scope → List OccType → List Expr → List Fault
-results s types es = results_by types (said s es)
+results s types es = results_by types (side s es)
 
-abbrev pub hidden_results_by : ℕ → List Said → List Fault
-hidden_results_by n xs = own_faults xs ++ hiding n (judged_all (terms xs))
+abbrev pub hidden_results_by : ℕ → Side → List Fault
+hidden_results_by n x = x.faults ++ hiding n (judged_all x.terms)
 
 -- the results of a FUNCTION whose head has a fault
 abbrev pub hidden_results : Scope → ℕ → List Expr → List Fault
-hidden_results s n es = hidden_results_by n (said s es)
+hidden_results s n es = hidden_results_by n (side s es)

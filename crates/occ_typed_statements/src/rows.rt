@@ -21,7 +21,7 @@ pub fn condition_rows()
 {}
 
 /// `v := 255` of a VAL name `v`, which is 118: T3 with its name.
-#[tactic(auto, using(occ_expr::proofs::Views::expr_rules, occ_expr::proofs::Views::operand_rules, occ_expr::proofs::Views::element_rules, occ_tables::proofs::Judging::judging_rules, crate::proofs::Roots::root_rules), unfolding(occ_expr::specs::Literals::literal, occ_expr::specs::Parts::named_element, crate::specs::Targets::target_of))]
+#[tactic(auto, using(occ_expr::proofs::Views::expr_rules, occ_expr::proofs::Views::operand_rules, occ_expr::proofs::Views::element_rules, occ_expr::proofs::Layers::layer_rules, occ_tables::proofs::Judging::judging_rules, crate::proofs::Roots::root_rules), unfolding(occ_expr::specs::Sides::side, occ_expr::specs::Literals::literal, occ_expr::specs::Parts::named_element, crate::specs::Targets::target_of))]
 pub fn assignment_rows()
     ensures { assignment (entered nothing (118 ∷ []) (m.Element (record { of = t.Primitive p.Byte; access = access.Value; value = None; root = 118 ∷ [] }))) (el.Named (118 ∷ []) [] ∷ []) (x.Alone (o.Literal (l.Decimal 255)) ∷ []) ≡ (record { code = code.T3; name = Some (118 ∷ []) }) ∷ [] }
 {}

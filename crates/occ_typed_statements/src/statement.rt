@@ -5,7 +5,7 @@ ghost use Rattle.occ_typed_statements.specs.Statements.{assignment as told_assig
 
 use super::target::all_targets;
 use occ_base::{Fault, Items, Shared};
-use occ_expr::{Readings, expression};
+use occ_expr::{Readings, expression, side};
 use occ_expression_forms::{Element, Expr};
 use occ_names::Scope;
 use occ_operands::{Kind, int};
@@ -19,7 +19,7 @@ use occ_types::{OccType, Primitive};
 use std::alloc::{AllocError, Global};
 use std::collections::BTreeSet;
 
-/// An assignment: its targets, and the value for each.
+/// An assignment: its targets, and the value for each. Of a call with several results each value is the call.
 #[derive(Drop)]
 pub struct TypedAssignment {
     pub targets: Items<TypedElement>,
@@ -107,7 +107,7 @@ pub fn assignment(
     ensures faults { OnOk result (faults.new ≡ faults.old ++ told_assignment scope.now (first_target.now ∷ more_targets.now) (first_value.now ∷ more_values.now)) }
 {
     let targets = all_targets(alloc, first_target, more_targets, scope, faults)?;
-    let values = expressions(alloc, first_value, more_values, scope, faults)?;
+    let values = side(alloc, first_value, more_values, scope, faults)?;
     assigned(
         alloc,
         targets.kinds.as_slice(),
@@ -189,7 +189,7 @@ pub fn results(
     ensures trees { IfOk result (λ r. r.1 ≡ told_results_trees scope.now types.now (first.now ∷ more.now)) }
     ensures faults { OnOk result (faults.new ≡ faults.old ++ told_results scope.now types.now (first.now ∷ more.now)) }
 {
-    let read = expressions(alloc, first, more, scope, faults)?;
+    let read = side(alloc, first, more, scope, faults)?;
     compare(alloc, types, read.terms.as_slice(), faults)?;
     let trees = each_placed(alloc, read.drafts.as_slice(), types)?;
     Ok((any_has_fault(read.terms.as_slice()), trees))
@@ -207,7 +207,7 @@ pub fn hidden_results(
     ensures faulty { IfOk result (λ faulty. faulty ≡ is_any_faulty scope.now (first.now ∷ more.now)) }
     ensures faults { OnOk result (faults.new ≡ faults.old ++ told_hidden_results scope.now count (first.now ∷ more.now)) }
 {
-    let read = expressions(alloc, first, more, scope, faults)?;
+    let read = side(alloc, first, more, scope, faults)?;
     count_results(alloc, count, read.terms.as_slice(), faults)?;
     Ok(any_has_fault(read.terms.as_slice()))
 }

@@ -1,0 +1,2 @@
+pub mod Abbreviating
+pub mod Recasting

@@ -1,0 +1,181 @@
+ghost use Rattle.std.specs.Prelude.{◌≡◌, ◌++◌, IfOk, OnOk};
+ghost use Rattle.occ_expr.specs.Views.{element_view, expr_view};
+ghost use Rattle.occ_abbreviations.specs.Recasting.{element_told as told_element, of_found as told_found, recast as told_recast, recast_as as told_as, recast_element as told_recast_element, recast_value as told_recast_value, source as told_source, source_tree as told_source_tree, value_told as told_value};
+
+use super::abbreviating::{ElementLine, named};
+use occ_base::{Fault, Items, Name, Shared};
+use occ_expr::{ElementReading, Opening, expression, type_form};
+use occ_expression_forms::{Element, Expr, TypeForm};
+use occ_names::{Scope, one_entry};
+use occ_operands::{Kind, known};
+use occ_recasts::{reshaped, retyped};
+use occ_specification_forms::Recast;
+use occ_type_rules::abbreviated;
+use occ_typed::TypedExpr;
+use occ_typed_specifications::{ValueLine, kind_unless_told, tree_of, value_name};
+use occ_typed_statements::target_of;
+use occ_types::OccType;
+use std::alloc::{AllocError, Global};
+
+/// The type of a name for what is of another type, if the one may stand for the other.
+fn recast(
+    alloc: Global,
+    how: Recast,
+    to: &Shared<OccType>,
+    from: &OccType,
+    faults: &mut Items<Fault>,
+) -> Result<Option<Shared<OccType>>, AllocError>
+    ensures found { IfOk result (λ found. found ≡ (told_recast how to.now from.now).found) }
+    ensures faults { OnOk result (faults.new ≡ faults.old ++ (told_recast how to.now from.now).faults) }
+{
+    match how {
+        Recast::Retypes => retyped(alloc, to, from, faults),
+        Recast::Reshapes => reshaped(alloc, to, from, faults),
+    }
+}
+
+/// What is known of a name of this type, if it has one.
+fn of_found(of: Option<Shared<OccType>>) -> Result<Kind, AllocError>
+    ensures { IfOk result (λ kind. kind ≡ told_found of) }
+{
+    match of {
+        Some(of) => known(&of, None),
+        None => Ok(Kind::Faulty),
+    }
+}
+
+/// What is known of a name of this type, if the type is known, for what this is known of.
+fn recast_as(
+    alloc: Global,
+    how: Recast,
+    to: &Option<Shared<OccType>>,
+    kind: &Kind,
+    faults: &mut Items<Fault>,
+) -> Result<Kind, AllocError>
+    ensures kind { IfOk result (λ named. named ≡ (told_as how to.now kind.now).kind) }
+    ensures faults { OnOk result (faults.new ≡ faults.old ++ (told_as how to.now kind.now).faults) }
+{
+    match (to, kind) {
+        (Some(to), Kind::Known(found)) => {
+            of_found(recast(alloc, how, to, found.of.get(), faults)?)
+        }
+        _ => Ok(Kind::Faulty),
+    }
+}
+
+/// The element of `t n RETYPES el`.
+#[tactic(auto, unfolding(crate::specs::Recasting::element_told))]
+fn element_read(
+    alloc: Global,
+    how: Recast,
+    of: &TypeForm,
+    element: &Element,
+    scope: &Scope,
+    faults: &mut Items<Fault>,
+) -> Result<ElementReading, AllocError>
+    ensures kind { IfOk result (λ read. read.kind ≡ (told_element scope.now how of.now element.now).kind) }
+    ensures tree { IfOk result (λ read. read.tree ≡ (element_view element.now).tree scope.now) }
+    ensures faults { OnOk result (faults.new ≡ faults.old ++ (told_element scope.now how of.now element.now).faults) }
+{
+    let to = type_form(alloc, of, Opening::Allowed, scope, faults)?;
+    let read = target_of(alloc, element, scope, faults)?;
+    let kind = recast_as(alloc, how, &to, &read.kind, faults)?;
+    Ok(ElementReading {
+        kind,
+        tree: read.tree,
+    })
+}
+
+/// `t n RETYPES el:` or `t n RESHAPES el:`
+#[tactic(auto, unfolding(crate::specs::Recasting::recast_element))]
+pub fn recast_element(
+    alloc: Global,
+    how: Recast,
+    of: &TypeForm,
+    name: &Name,
+    element: &Element,
+    scope: &Scope,
+    faults: &mut Items<Fault>,
+) -> Result<ElementLine, AllocError>
+    ensures adds { IfOk result (λ line. line.adds ≡ (told_recast_element scope.now how of.now name.now element.now).adds) }
+    ensures tree { IfOk result (λ line. line.tree ≡ (element_view element.now).tree scope.now) }
+    ensures faults { OnOk result (faults.new ≡ faults.old ++ (told_recast_element scope.now how of.now name.now element.now).faults) }
+{
+    let mut told = Items::new(alloc);
+    let ElementReading { kind, tree } =
+        element_read(alloc, how, of, element, scope, &mut told)?;
+    let adds = named(alloc, name, element, kind, told, scope, faults)?;
+    Ok(ElementLine { adds, tree })
+}
+
+/// What is read of a value: what is known of it, and its tree, if it has no fault.
+#[derive(Drop)]
+struct Source {
+    kind: Kind,
+    tree: Option<Shared<TypedExpr>>,
+}
+
+/// The value of `VAL t n RETYPES e`, in its own type.
+#[tactic(auto, unfolding(crate::specs::Recasting::source, crate::specs::Recasting::source_tree))]
+fn source_read(
+    alloc: Global,
+    expr: &Expr,
+    scope: &Scope,
+    faults: &mut Items<Fault>,
+) -> Result<Source, AllocError>
+    ensures kind { IfOk result (λ value. value.kind ≡ (told_source scope.now expr.now).kind) }
+    ensures tree { IfOk result (λ value. value.tree ≡ told_source_tree scope.now expr.now) }
+    ensures faults { OnOk result (faults.new ≡ faults.old ++ (told_source scope.now expr.now).faults) }
+{
+    let read = expression(alloc, expr, scope, faults)?;
+    let kind = abbreviated(alloc, &read.term, faults)?;
+    let tree = tree_of(alloc, &kind, &read.draft)?;
+    Ok(Source { kind, tree })
+}
+
+/// What is known of the name of `VAL t n RETYPES e`, and the tree of the value.
+#[tactic(auto, unfolding(crate::specs::Recasting::value_told))]
+fn value_read(
+    alloc: Global,
+    how: Recast,
+    of: &TypeForm,
+    expr: &Expr,
+    scope: &Scope,
+    faults: &mut Items<Fault>,
+) -> Result<Source, AllocError>
+    ensures kind { IfOk result (λ value. value.kind ≡ (told_value scope.now how of.now expr.now).kind) }
+    ensures tree { IfOk result (λ value. value.tree ≡ told_source_tree scope.now expr.now) }
+    ensures faults { OnOk result (faults.new ≡ faults.old ++ (told_value scope.now how of.now expr.now).faults) }
+{
+    let to = type_form(alloc, of, Opening::Allowed, scope, faults)?;
+    let read = source_read(alloc, expr, scope, faults)?;
+    let kind = recast_as(alloc, how, &to, &read.kind, faults)?;
+    Ok(Source {
+        kind,
+        tree: read.tree,
+    })
+}
+
+/// `VAL t n RETYPES e:` or `VAL t n RESHAPES e:`
+#[tactic(auto, unfolding(crate::specs::Recasting::recast_value))]
+pub fn recast_value(
+    alloc: Global,
+    how: Recast,
+    of: &TypeForm,
+    name: &Name,
+    expr: &Expr,
+    scope: &Scope,
+    faults: &mut Items<Fault>,
+) -> Result<ValueLine, AllocError>
+    ensures adds { IfOk result (λ line. line.adds ≡ (told_recast_value scope.now how of.now name.now expr.now).adds) }
+    ensures tree { IfOk result (λ line. line.tree ≡ told_source_tree scope.now expr.now) }
+    ensures faults { OnOk result (faults.new ≡ faults.old ++ (told_recast_value scope.now how of.now name.now expr.now).faults) }
+{
+    let mut told = Items::new(alloc);
+    let Source { kind, tree } = value_read(alloc, how, of, expr, scope, &mut told)?;
+    let kind = kind_unless_told(&told, kind);
+    faults.append(told)?;
+    let meaning = value_name(alloc, kind, name)?;
+    let adds = one_entry(alloc, name, meaning)?;
+    Ok(ValueLine { adds, tree })
+}

@@ -1,0 +1,207 @@
+#![tactic(auto, using(crate::proofs::Layers::layer_rules))]
+
+ghost use Rattle.std.specs.Prelude.{◌≡◌, ◌∷◌, ◌++◌, IfOk, MatchOption, None, OnOk, Some};
+ghost use Rattle.occ_expr.specs.Drafts.{by_value as each_by_value, called_tree as told_tree, drafted as the_draft, formal_types as types_of_formals, operand_call as drafted_operand};
+ghost use Rattle.occ_expr.specs.Parts.{one_result as told_result};
+ghost use Rattle.occ_expr.specs.Sides.{call_in as told_call, call_of_first, one_call as told_one_call, operand_layer, result_drafts as drafts_of_results, result_terms as terms_of_results};
+ghost use Rattle.occ_expression_forms.specs.declared.tree.Operand.{out-Operand};
+ghost use Rattle.occ_names.specs.Visible.{referent};
+
+use super::reading::{Reading, Readings};
+use occ_base::{Code, Fault, Items, Name, Shared, tell};
+use occ_expression_forms::{Expr, Operand};
+use occ_names::Scope;
+use occ_operands::{Kind, Known, known};
+use occ_tables::Term;
+use occ_typed::{Draft, TypedActual, TypedExpr, each_placed};
+use occ_types::{Formal, OccType};
+use std::alloc::{AllocError, Global};
+
+/// The call that an operand is: the name, and what stands in its parentheses.
+fn call_in_operand(operand: &Operand) -> Option<(&Name, &[Expr])>
+    ensures { MatchOption result (operand_layer (out-Operand operand.now) ≡ None) (λ call. operand_layer (out-Operand operand.now) ≡ Some (call.0.now, call.1.now)) }
+{
+    match operand {
+        Operand::Call(name, arguments) => Some((name, arguments.as_slice())),
+        Operand::Element(_) => None,
+        Operand::Literal(_) => None,
+        Operand::Decorated(_, _) => None,
+        Operand::Truth(_) => None,
+        Operand::Parens(_) => None,
+        Operand::Table(_, _) => None,
+        Operand::DecoratedTable(_, _, _) => None,
+    }
+}
+
+/// The call that an expression is, if it is one, not in parentheses: the name, and what stands in its parentheses.
+pub fn call_in(expr: &Expr) -> Option<(&Name, &[Expr])>
+    ensures { MatchOption result (told_call expr.now ≡ None) (λ call. told_call expr.now ≡ Some (call.0.now, call.1.now)) }
+{
+    match expr {
+        Expr::Alone(operand) => call_in_operand(operand.get()),
+        Expr::Run(_, _, _, _) => None,
+        Expr::Pair(_, _, _) => None,
+        Expr::Applied(_, _) => None,
+        Expr::Converted(_, _, _) => None,
+        Expr::ArrayConverted(_, _, _, _) => None,
+        Expr::Named(_, _) => None,
+        Expr::Most(_, _) => None,
+    }
+}
+
+/// The call that a list of expressions is.
+pub fn one_call<'a>(first: &'a Expr, more: &'a [Expr]) -> Option<(&'a Name, &'a [Expr])>
+    ensures { MatchOption result (told_one_call (first.now ∷ more.now) ≡ None) (λ call. told_one_call (first.now ∷ more.now) ≡ Some (call.0.now, call.1.now)) }
+{
+    match more.split_first() {
+        None => call_in(first),
+        Some(_) => None,
+    }
+}
+
+/// What is known of the one result of a function: of more or fewer T4 is told.
+pub fn one_result(
+    results: &[Shared<OccType>],
+    faults: &mut Items<Fault>,
+) -> Result<Kind, AllocError>
+    ensures kind { IfOk result (λ kind. kind ≡ (told_result results.now).kind) }
+    ensures faults { OnOk result (faults.new ≡ faults.old ++ (told_result results.now).faults) }
+{
+    if let Some((of, more)) = results.split_first() {
+        if more.split_first().is_none() {
+            return known(of, None);
+        }
+    }
+    tell(faults, Code::T4)?;
+    Ok(Kind::Faulty)
+}
+
+/// The types of formals.
+fn formal_types(alloc: Global, formals: &[Formal]) -> Result<Items<Shared<OccType>>, AllocError>
+    ensures { IfOk result (λ types. types ≡ types_of_formals formals.now) }
+{
+    let mut types = Items::new(alloc);
+    for formal in formals {
+        types.push(formal.of.share()?)?;
+    }
+    Ok(types)
+}
+
+/// Values as actuals.
+fn by_value(alloc: Global, values: &[Shared<TypedExpr>]) -> Result<Items<TypedActual>, AllocError>
+    ensures { IfOk result (λ actuals. actuals ≡ each_by_value values.now) }
+{
+    let mut actuals = Items::new(alloc);
+    for value in values {
+        actuals.push(TypedActual::Value(value.share()?))?;
+    }
+    Ok(actuals)
+}
+
+/// A call of what a name stands for, whose first result is of this type.
+#[tactic(auto, unfolding(crate::specs::Drafts::called_tree))]
+fn called_tree(
+    alloc: Global,
+    scope: &Scope,
+    name: &Name,
+    of: &Shared<OccType>,
+    formals: &[Formal],
+    actuals: &[Draft],
+) -> Result<Option<Shared<TypedExpr>>, AllocError>
+    ensures { IfOk result (λ tree. tree ≡ told_tree of.now (referent scope.now name.now) formals.now actuals.now) }
+{
+    let callee = scope.referent(name)?;
+    let types = formal_types(alloc, formals)?;
+    let values = each_placed(alloc, actuals, types.as_slice())?;
+    let (Some(callee), Some(values)) = (callee, values) else {
+        return Ok(None);
+    };
+    let actuals = by_value(alloc, values.as_slice())?;
+    let known = Known {
+        of: of.share()?,
+        value: None,
+    };
+    let tree = TypedExpr::Call(known, callee, actuals);
+    Ok(Some(Shared::new(alloc, tree)?))
+}
+
+/// The draft of what is typed already, if it is there.
+fn drafted(tree: &Option<Shared<TypedExpr>>) -> Result<Draft, AllocError>
+    ensures { IfOk result (λ draft. draft ≡ the_draft tree.now) }
+{
+    match tree {
+        Some(tree) => Ok(Draft::Typed(tree.share()?)),
+        None => Ok(Draft::Faulty),
+    }
+}
+
+/// A call as an operand, of whose whole this is known.
+pub fn operand_call(
+    alloc: Global,
+    scope: &Scope,
+    name: &Name,
+    whole: &Kind,
+    formals: &[Formal],
+    actuals: &[Draft],
+) -> Result<Draft, AllocError>
+    ensures { IfOk result (λ draft. draft ≡ drafted_operand whole.now (referent scope.now name.now) formals.now actuals.now) }
+{
+    match whole {
+        Kind::Known(known) => drafted(&called_tree(
+            alloc, scope, name, &known.of, formals, actuals,
+        )?),
+        Kind::Faulty => Ok(Draft::Faulty),
+        Kind::Free(_) => Ok(Draft::Faulty),
+    }
+}
+
+/// A call of what a name stands for, with these results.
+fn call_of_results(
+    alloc: Global,
+    scope: &Scope,
+    name: &Name,
+    results: &[Shared<OccType>],
+    formals: &[Formal],
+    actuals: &[Draft],
+) -> Result<Option<Shared<TypedExpr>>, AllocError>
+    ensures { IfOk result (λ tree. tree ≡ call_of_first results.now (referent scope.now name.now) formals.now actuals.now) }
+{
+    match results.split_first() {
+        Some((of, _)) => called_tree(alloc, scope, name, of, formals, actuals),
+        None => Ok(None),
+    }
+}
+
+/// What is read of a call that stands for each of these results.
+fn each_result(
+    alloc: Global,
+    results: &[Shared<OccType>],
+    call: &Option<Shared<TypedExpr>>,
+) -> Result<Readings, AllocError>
+    ensures terms { IfOk result (λ all. all.terms ≡ terms_of_results results.now) }
+    ensures drafts { IfOk result (λ all. all.drafts ≡ drafts_of_results call.now results.now) }
+{
+    let mut all = Readings::new(alloc);
+    for of in results {
+        let term = Term::Single(known(of, None)?);
+        let draft = drafted(call)?;
+        all.push(Reading { term, draft })?;
+    }
+    Ok(all)
+}
+
+/// What is read of a call without a faulty actual that is a whole right side.
+pub fn all_results(
+    alloc: Global,
+    scope: &Scope,
+    name: &Name,
+    results: &[Shared<OccType>],
+    formals: &[Formal],
+    actuals: &[Draft],
+) -> Result<Readings, AllocError>
+    ensures terms { IfOk result (λ all. all.terms ≡ terms_of_results results.now) }
+    ensures drafts { IfOk result (λ all. all.drafts ≡ drafts_of_results (call_of_first results.now (referent scope.now name.now) formals.now actuals.now) results.now) }
+{
+    let call = call_of_results(alloc, scope, name, results, formals, actuals)?;
+    each_result(alloc, results, &call)
+}

@@ -1,0 +1,100 @@
+#![tactic(auto, using(crate::proofs::Views::expr_rules))]
+
+ghost use Rattle.std.specs.Prelude.{◌≡◌, ◌∷◌, ◌++◌, IfOk, OnOk};
+ghost use Rattle.occ_expr.specs.Sides.{each_one as told_each, results_side as told_results_side, side as told_side};
+
+use super::calling::{all_results, one_call};
+use super::reading::{Readings, faulty_reading};
+use super::walk::{actuals, expression, more_items};
+use occ_base::{Fault, Items, Name, Shared};
+use occ_expression_forms::Expr;
+use occ_names::{Meaning, Scope};
+use occ_types::{Formal, OccType};
+use std::alloc::{AllocError, Global};
+
+/// What is read of a call of a function that is a whole right side.
+#[tactic(auto, unfolding(crate::specs::Sides::results_side))]
+fn results_side(
+    alloc: Global,
+    name: &Name,
+    exprs: &[Expr],
+    formals: &[Formal],
+    results: &[Shared<OccType>],
+    scope: &Scope,
+    faults: &mut Items<Fault>,
+) -> Result<Readings, AllocError>
+    ensures terms { IfOk result (λ all. all.terms ≡ (told_results_side scope.now name.now exprs.now formals.now results.now).terms) }
+    ensures drafts { IfOk result (λ all. all.drafts ≡ (told_results_side scope.now name.now exprs.now formals.now results.now).drafts) }
+    ensures faults { OnOk result (faults.new ≡ faults.old ++ (told_results_side scope.now name.now exprs.now formals.now results.now).faults) }
+{
+    let (is_faulty, drafts) = actuals(alloc, exprs, formals, scope, faults)?;
+    if is_faulty {
+        return Readings::one(alloc, faulty_reading());
+    }
+    all_results(alloc, scope, name, results, formals, drafts.as_slice())
+}
+
+/// What is read of each expression of a list.
+pub fn each_one(
+    alloc: Global,
+    exprs: &[Expr],
+    scope: &Scope,
+    faults: &mut Items<Fault>,
+) -> Result<Readings, AllocError>
+    ensures terms { IfOk result (λ all. all.terms ≡ (told_each scope.now exprs.now).terms) }
+    ensures drafts { IfOk result (λ all. all.drafts ≡ (told_each scope.now exprs.now).drafts) }
+    ensures faults { OnOk result (faults.new ≡ faults.old ++ (told_each scope.now exprs.now).faults) }
+{
+    let mut all = Readings::new(alloc);
+    more_items(alloc, exprs, scope, &mut all, faults)?;
+    Ok(all)
+}
+
+/// What is read of the first expression of a list and of those behind it.
+fn first_and_more(
+    alloc: Global,
+    first: &Expr,
+    more: &[Expr],
+    scope: &Scope,
+    faults: &mut Items<Fault>,
+) -> Result<Readings, AllocError>
+    ensures terms { IfOk result (λ all. all.terms ≡ (told_each scope.now (first.now ∷ more.now)).terms) }
+    ensures drafts { IfOk result (λ all. all.drafts ≡ (told_each scope.now (first.now ∷ more.now)).drafts) }
+    ensures faults { OnOk result (faults.new ≡ faults.old ++ (told_each scope.now (first.now ∷ more.now)).faults) }
+{
+    let first = expression(alloc, first, scope, faults)?;
+    let mut all = Readings::one(alloc, first)?;
+    more_items(alloc, more, scope, &mut all, faults)?;
+    Ok(all)
+}
+
+/// What is read of a whole right side: of an assignment, or of what gives a FUNCTION its results. One call of a function
+/// counts there as all of its results.
+#[tactic(auto, unfolding(crate::specs::Sides::side))]
+pub fn side(
+    alloc: Global,
+    first: &Expr,
+    more: &[Expr],
+    scope: &Scope,
+    faults: &mut Items<Fault>,
+) -> Result<Readings, AllocError>
+    ensures terms { IfOk result (λ all. all.terms ≡ (told_side scope.now (first.now ∷ more.now)).terms) }
+    ensures drafts { IfOk result (λ all. all.drafts ≡ (told_side scope.now (first.now ∷ more.now)).drafts) }
+    ensures faults { OnOk result (faults.new ≡ faults.old ++ (told_side scope.now (first.now ∷ more.now)).faults) }
+{
+    let Some((name, exprs)) = one_call(first, more) else {
+        return first_and_more(alloc, first, more, scope, faults);
+    };
+    match scope.find(name) {
+        Some(Meaning::Function(formals, results)) => results_side(
+            alloc,
+            name,
+            exprs,
+            formals.as_slice(),
+            results.as_slice(),
+            scope,
+            faults,
+        ),
+        _ => first_and_more(alloc, first, more, scope, faults),
+    }
+}

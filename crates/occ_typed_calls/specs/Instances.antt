@@ -1,0 +1,57 @@
+-- Instances of PROCs: lines of one call where a process stands.
+use Rattle.std.specs.Prelude.{ℕ, Option, Some, None, List, [], ◌∷◌, ◌++◌}
+use Rattle.occ_base.specs.declared.code.Code.TheVariants as code
+use Rattle.occ_base.specs.declared.fault.Fault.{Fault}
+use Rattle.occ_expr.specs.Sides.{Called, each_one, one_call}
+use Rattle.occ_expression_forms.specs.declared.tree.Expr.{Expr}
+use Rattle.occ_names.specs.Visible.{referent, visible}
+use Rattle.occ_names.specs.declared.meaning.Meaning.{Meaning}
+use Rattle.occ_names.specs.declared.meaning.Meaning.TheVariants as m
+use Rattle.occ_names.specs.declared.meaning.Referent.{Referent}
+use Rattle.occ_names.specs.declared.scope.Scope.{Scope}
+use Rattle.occ_typed.specs.declared.expr.TypedActual.{TypedActual}
+use Rattle.occ_typed_calls.specs.Actuals.{actuals_faults, actuals_tree}
+use Rattle.occ_typed_calls.specs.declared.instances.TypedInstance.{TypedInstance}
+
+-- what is told of a name that is called and stands for no procedure
+abbrev pub no_procedure : List ℕ → Option Meaning → List Fault
+no_procedure name None = (record { code = code.N1; name = Some name }) ∷ []
+no_procedure name (Some m.Faulty) = []
+no_procedure name (Some (m.Type None)) = []
+no_procedure name (Some (m.Type (Some of))) = (record { code = code.N2; name = Some name }) ∷ []
+no_procedure name (Some (m.Protocol p)) = (record { code = code.N2; name = Some name }) ∷ []
+no_procedure name (Some (m.Procedure formals)) = []
+no_procedure name (Some (m.Function formals results)) = (record { code = code.N2; name = Some name }) ∷ []
+no_procedure name (Some (m.Element whole)) = (record { code = code.N2; name = Some name }) ∷ []
+
+-- no types are wanted of its arguments
+abbrev pub no_instance : Scope → List ℕ → List Expr → List Fault
+no_instance s name es = no_procedure name (visible s name) ++ (each_one s es).faults
+
+abbrev pub call_faults : Scope → List ℕ → List Expr → Option Meaning → List Fault
+call_faults s name es (Some (m.Procedure formals)) = actuals_faults s formals es
+call_faults s name es found = no_instance s name es
+
+abbrev pub faults_by : Scope → Option Called → List Fault
+faults_by s None = []
+faults_by s (Some call) = call_faults s call.0 call.1 (visible s call.0)
+
+-- what a line of these expressions tells; where it is no call it stands where no line of its kind may
+unfoldable pub instance_faults : Scope → List Expr → List Fault
+instance_faults s es = faults_by s (one_call es)
+
+abbrev pub with_callee : Option Referent → Option (List TypedActual) → Option TypedInstance
+with_callee None actuals = None
+with_callee (Some r) None = None
+with_callee (Some r) (Some actuals) = Some (record { callee = r; actuals = actuals })
+
+abbrev pub call_tree : Scope → List ℕ → List Expr → Option Meaning → Option TypedInstance
+call_tree s name es (Some (m.Procedure formals)) = with_callee (referent s name) (actuals_tree s formals es)
+call_tree s name es found = None
+
+abbrev pub tree_by : Scope → Option Called → Option TypedInstance
+tree_by s None = None
+tree_by s (Some call) = call_tree s call.0 call.1 (visible s call.0)
+
+unfoldable pub instance_tree : Scope → List Expr → Option TypedInstance
+instance_tree s es = tree_by s (one_call es)
