@@ -18,7 +18,7 @@ use Rattle.occ_names.specs.declared.meaning.Whole.{Whole}
 use Rattle.occ_names.specs.declared.scope.Scope.{Scope}
 use Rattle.occ_tables.specs.Decorating.{decorated_table}
 use Rattle.occ_tables.specs.Segments.{segment}
-use Rattle.occ_tables.specs.Terms.{and_then, judged, judged_all}
+use Rattle.occ_tables.specs.Terms.{and_then, hidden_faults, judged, judged_all}
 use Rattle.occ_tables.specs.declared.selection.BoundTerms.{BoundTerms}
 use Rattle.occ_tables.specs.declared.selection.BoundTerms.TheVariants as bounds
 use Rattle.occ_tables.specs.declared.term.Term.{Term}
@@ -67,9 +67,9 @@ only (x ∷ y ∷ xs) = None
 abbrev pub table : List Said → Said
 table xs = record { faults = own_faults xs; term = v.Table (terms xs) }
 
--- nothing is asked of the items where the type is not known
+-- a type that is not known hides what is wanted of the items
 unfoldable pub table_as : Option OccType → List Term → Told
-table_as None xs = silent
+table_as None xs = record { faults = hidden_faults (judged_all xs); kind = k.Faulty }
 table_as (Some to) xs = decorated_table to (judged_all xs)
 
 abbrev pub table_with_type : List Said → Found OccType → Told
@@ -157,9 +157,11 @@ no_function name (Some (m.Procedure formals)) = (record { code = code.N2; name =
 no_function name (Some (m.Function formals results)) = []
 no_function name (Some (m.Element whole)) = (record { code = code.N2; name = Some name }) ∷ []
 
--- no types are wanted of the arguments
+-- it is hidden what is wanted of the arguments
 unfoldable pub no_call : Scope → List ℕ → List ExprView → Told
-no_call s name es = record { faults = no_function name (visible s name) ++ own_faults (in_scope s es); kind = k.Faulty }
+no_call s name es =
+    let xs = in_scope s es in
+    record { faults = no_function name (visible s name) ++ (own_faults xs ++ hidden_faults (judged_all (terms xs))); kind = k.Faulty }
 
 -- the one result of a function, which is no constant; of more or fewer T4 is told
 abbrev pub one_result : List OccType → Told

@@ -17,7 +17,7 @@ use occ_base::{Code, Fault, Items, Name, Shared};
 use occ_expression_forms::{Element, Expr, Literal, Operand};
 use occ_names::{Meaning, Scope, element};
 use occ_operands::{Kind, known};
-use occ_tables::{BoundTerms, Term, alone, decorated_table, segment};
+use occ_tables::{BoundTerms, Term, alone, decorated_table, segment, tell_hidden};
 use occ_typed::Draft;
 use occ_types::OccType;
 use std::alloc::{AllocError, Global};
@@ -203,7 +203,10 @@ pub fn table_as(
 {
     match to {
         Some(to) => decorated_table(alloc, items, &to, faults),
-        None => Ok(Kind::Faulty),
+        None => {
+            tell_hidden(alloc, items, faults)?;
+            Ok(Kind::Faulty)
+        }
     }
 }
 

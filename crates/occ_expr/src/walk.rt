@@ -6,6 +6,7 @@ ghost use Rattle.occ_types.specs.Fits.{unnamed as no_names};
 ghost use Rattle.occ_types.specs.View.{fields_in};
 ghost use Rattle.occ_expr.specs.Parts.{actuals as told_actuals, call as told_call, call_of_type as told_call_of_type, table_as as told_table, component as told_component, behind_a_fault as told_behind_a_fault, function_call as told_function_call, in_scope, named_element as told_named_element, no_call as told_no_call, only as only_one, own_faults, part as told_part, subscript as told_subscript, subscripts as told_subscripts, terms as terms_of, whole_element as told_whole_element};
 ghost use Rattle.occ_expr.specs.Drafts.{decorated_draft as drafted_table, operand_call as operand_drafted};
+ghost use Rattle.occ_tables.specs.Terms.{hidden_faults, judged_all};
 ghost use Rattle.occ_tables.specs.declared.term.Term.TheVariants as v;
 ghost use Rattle.occ_typed.specs.declared.draft.Draft.TheVariants as d;
 ghost use Rattle.occ_expr.specs.Elements.{component_at as selected_component, place_tree as the_place, selector as the_selector, selector_in, selectors as the_selectors, with_selectors};
@@ -35,7 +36,7 @@ use occ_expression_forms::{
 };
 use occ_names::{Meaning, Scope, carries, data_type};
 use occ_operands::{Kind, field, subscripted};
-use occ_tables::{BoundTerms, Term, alone, size};
+use occ_tables::{BoundTerms, Term, alone, size, tell_hidden};
 use occ_type_rules::matched;
 use occ_typed::{Draft, Selector};
 use occ_types::{Formal, OccType, Protocol, fields_of, unnamed};
@@ -312,7 +313,7 @@ pub fn more_items(
     Ok(())
 }
 
-/// What is told of each argument of a call by itself.
+/// What is told of each argument of a call of which it is hidden what is wanted.
 #[cycle(walk)]
 fn arguments(
     alloc: Global,
@@ -320,12 +321,11 @@ fn arguments(
     scope: &Scope,
     faults: &mut Items<Fault>,
 ) -> Result<(), AllocError>
-    ensures { OnOk result (faults.new ≡ faults.old ++ own_faults (in_scope scope.now (expr_views exprs.now))) }
+    ensures { OnOk result (faults.new ≡ faults.old ++ (own_faults (in_scope scope.now (expr_views exprs.now)) ++ hidden_faults (judged_all (terms_of (in_scope scope.now (expr_views exprs.now)))))) }
 {
-    for expr in exprs {
-        expression(alloc, expr, scope, faults)?;
-    }
-    Ok(())
+    let mut readings = Readings::new(alloc);
+    more_items(alloc, exprs, scope, &mut readings, faults)?;
+    tell_hidden(alloc, readings.terms.as_slice(), faults)
 }
 
 /// What is told of a call of what is no function, and converts nothing.

@@ -27,9 +27,9 @@ of_count to n items = if counts_fit n (Some items) then whole to else fault_of c
 abbrev pub of_array : OccType → Option ℕ → OccType → List Judged → Told
 of_array to n of xs = let ys = each_under of xs in with_items ys (of_count to n (length (kinds ys)))
 
--- of a field whose line has a fault it is not known what it holds: nothing is wanted of its value, and the table is faulty
+-- of a field whose line has a fault it is not known what it holds, and the table is faulty
 abbrev pub field_value : Field → Judged → Told
-field_value f x = if is_unknown f.of then silent else x.under f.of
+field_value f x = if is_unknown f.of then record { faults = x.hidden.faults; kind = k.Faulty } else x.under f.of
 
 abbrev pub field_values : List Field → List Judged → List Told
 field_values [] xs = []

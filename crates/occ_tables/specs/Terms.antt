@@ -71,16 +71,43 @@ items_type of ks = table_type (length ks) (merged_all (Some (first_type of ks)) 
 abbrev pub joined : OccType → List Told → Told
 joined of xs = with_items xs (items_type of (kinds xs))
 
+-- ---- where a fault hides what is wanted
+
+abbrev pub first_known : List Kind → Option OccType
+first_known [] = None
+first_known (k.Faulty ∷ ks) = first_known ks
+first_known (k.Free f ∷ ks) = first_known ks
+first_known (k.Known x ∷ ks) = Some x.of
+
+abbrev pub first_free : List Kind → Kind
+first_free [] = k.Faulty
+first_free (k.Faulty ∷ ks) = first_free ks
+first_free (k.Free f ∷ ks) = k.Free f
+first_free (k.Known x ∷ ks) = first_free ks
+
+abbrev pub as_it_is : Kind → Told
+as_it_is k = record { faults = []; kind = k }
+
+-- a table of free items alone is as free as they; all other items agree with one another, whatever is wanted of them
+abbrev pub hidden_type : List Kind → Option OccType → Told
+hidden_type ks None = as_it_is (first_free ks)
+hidden_type ks (Some of) = table_type (length ks) (merged_all (Some of) ks)
+
+abbrev pub all_hidden : List Told → Told
+all_hidden xs = with_items xs (hidden_type (kinds xs) (first_known (kinds xs)))
+
 -- ---- operands, tables among them
 
 -- an operand: whether it is free, whether something in it is faulty, what is told of it where no type is wanted, where one
--- is, before it is compared with it and then, and beside other operands, of which one has a fault or none has
+-- is, before it is compared with it and then, where a fault hides what is wanted, and beside other operands, of which one
+-- has a fault or none has
 pub record Judged : Type 0 where
   pub is_free : Bool
   pub is_faulty : Bool
   pub alone : Told
   pub settled : OccType → Settled
   pub under : OccType → Told
+  pub hidden : Told
   pub beside : Bool → Told
 
 -- something in it is faulty once types are settled, not for being of another type than the one that is wanted
@@ -105,6 +132,13 @@ under of x = x.under of
 
 abbrev pub alone : Judged → Told
 alone x = x.alone
+
+abbrev pub hidden : Judged → Told
+hidden x = x.hidden
+
+-- where a fault hides what is wanted of them
+abbrev pub hidden_faults : List Judged → List Fault
+hidden_faults xs = all_faults (map hidden xs)
 
 -- what is settled must be of the type
 abbrev pub fitted_to : OccType → Settled → Told
@@ -170,18 +204,16 @@ table_under xs of = fitted_to of (table_settled xs of)
 abbrev pub has_fault : Judged → Bool
 has_fault x = x.is_faulty
 
-abbrev pub as_it_is : Kind → Told
-as_it_is k = record { faults = []; kind = k }
-
--- no type is wanted of a table beside other operands; beside one with a fault nothing is told of it
+-- no type is wanted of a table beside other operands; one with a fault hides what is
 abbrev pub table_beside : List Judged → Bool → Told
-table_beside xs other_has_fault = if other_has_fault then as_it_is (table_alone xs).kind else table_alone xs
+table_beside xs other_has_fault =
+    if other_has_fault then record { faults = (all_hidden (map hidden xs)).faults; kind = (table_alone xs).kind } else table_alone xs
 
 abbrev pub term_step : Term-F Judged → Judged
 term_step (Term-F.Single k) =
-    record { is_free = is_free_kind k; is_faulty = needs_faulty k; alone = settled int k; settled = λ of. settled_itself (settled of k); under = λ of. wanted of k; beside = λ other_has_fault. as_it_is k }
+    record { is_free = is_free_kind k; is_faulty = needs_faulty k; alone = settled int k; settled = λ of. settled_itself (settled of k); under = λ of. wanted of k; hidden = as_it_is k; beside = λ other_has_fault. as_it_is k }
 term_step (Term-F.Table xs) =
-    record { is_free = false; is_faulty = list_any has_fault xs; alone = table_alone xs; settled = table_settled xs; under = table_under xs; beside = table_beside xs }
+    record { is_free = false; is_faulty = list_any has_fault xs; alone = table_alone xs; settled = table_settled xs; under = table_under xs; hidden = all_hidden (map hidden xs); beside = table_beside xs }
 
 abbrev pub judged : Term → Judged
 judged = fold-Term Judged term_step

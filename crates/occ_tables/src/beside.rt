@@ -3,22 +3,12 @@
 ghost use Rattle.std.specs.Prelude.{◌≡◌, ◌++◌, IfOk, OnOk};
 ghost use Rattle.occ_tables.specs.Terms.{judged, judged_all, table_alone as told_table_alone};
 
+use super::hiding::{shared, table_hidden};
 use super::table::table_alone;
 use super::term::Term;
 use occ_base::{Fault, Items};
-use occ_operands::{Kind, known};
+use occ_operands::Kind;
 use std::alloc::{AllocError, Global};
-
-/// The same once more.
-fn shared(kind: &Kind) -> Result<Kind, AllocError>
-    ensures { IfOk result (λ shared. shared ≡ kind.now) }
-{
-    match kind {
-        Kind::Faulty => Ok(Kind::Faulty),
-        Kind::Free(free) => Ok(Kind::Free(*free)),
-        Kind::Known(found) => known(&found.of, found.value),
-    }
-}
 
 /// What is known of a table of which no type is wanted, without a word of its faults.
 fn silent_table(alloc: Global, items: &[Term]) -> Result<Kind, AllocError>
@@ -28,8 +18,8 @@ fn silent_table(alloc: Global, items: &[Term]) -> Result<Kind, AllocError>
     table_alone(alloc, items, &mut unheard)
 }
 
-/// An operand beside others, of which perhaps one has a fault. No type is wanted of a table there, and beside a fault
-/// nothing is told of it.
+/// An operand beside others, of which perhaps one has a fault. No type is wanted of a table there, and a fault hides what
+/// is.
 pub fn operand(
     alloc: Global,
     term: &Term,
@@ -41,7 +31,10 @@ pub fn operand(
 {
     match term {
         Term::Single(kind) => shared(kind),
-        Term::Table(items) if other_has_fault => silent_table(alloc, items.as_slice()),
+        Term::Table(items) if other_has_fault => {
+            table_hidden(alloc, items.as_slice(), faults)?;
+            silent_table(alloc, items.as_slice())
+        }
         Term::Table(items) => table_alone(alloc, items.as_slice(), faults),
     }
 }

@@ -7,6 +7,7 @@ ghost use Rattle.occ_tables.specs.Terms.{judged, judged_all};
 ghost use Rattle.occ_types.specs.Fits.{counts_fit, unnamed as without_name};
 ghost use Rattle.occ_types.specs.View.{fields_in};
 
+use super::hiding::hidden;
 use super::table::{any_faulty, each_alone, each_under, table_alone, under};
 use super::term::Term;
 use occ_base::{Code, Fault, Items, Shared, tell};
@@ -88,6 +89,7 @@ fn field_value(
     ensures faults { OnOk result (faults.new ≡ faults.old ++ (told_field_value field.now (judged item.now)).faults) }
 {
     if is_unknown(field.of.get()) {
+        hidden(alloc, item, faults)?;
         return Ok(Kind::Faulty);
     }
     under(alloc, item, &field.of, faults)

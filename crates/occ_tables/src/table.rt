@@ -29,7 +29,7 @@ fn merged_next(
 }
 
 /// The one type of the items and of the one that was wanted of them, if they agree.
-fn merged_all(
+pub(super) fn merged_all(
     alloc: Global,
     of: &Shared<OccType>,
     kinds: &[Kind],

@@ -40,10 +40,10 @@ target whole (k.Known x) = reached whole.access whole.root x
 abbrev pub value_for : OccType → Judged → List Fault
 value_for of x = if is_data of then (x.under of).faults else nameless code.T2 ∷ []
 
--- nothing is asked of the value for a faulty target
+-- a faulty target hides what is wanted of its value
 abbrev pub pair : Kind → Judged → List Fault
-pair k.Faulty x = []
-pair (k.Free f) x = []
+pair k.Faulty x = x.hidden.faults
+pair (k.Free f) x = x.hidden.faults
 pair (k.Known target) x = value_for target.of x
 
 abbrev pub pairs : List Kind → List Judged → List Fault

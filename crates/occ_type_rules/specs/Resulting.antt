@@ -7,7 +7,7 @@ use Rattle.occ_base.specs.Telling.{nameless}
 use Rattle.occ_base.specs.declared.fault.Fault.{Fault}
 use Rattle.occ_names.specs.Lookup.{Found, good}
 use Rattle.occ_operands.specs.Operators.{all_faults}
-use Rattle.occ_tables.specs.Terms.{Judged, alone}
+use Rattle.occ_tables.specs.Terms.{Judged, alone, hidden_faults}
 use Rattle.occ_type_rules.specs.Numbering.{of_another_number}
 
 -- a type of data: of no channel, no timer and no array of them
@@ -24,6 +24,6 @@ each_under (of ∷ types) (x ∷ xs) = (x.under of).faults ++ each_under types x
 abbrev pub results : List OccType → List Judged → List Fault
 results types xs = if length types == length xs then each_under types xs else of_another_number false (map alone xs)
 
--- results of a head with a fault, which wants so many: nothing is compared, but of more or fewer no type is wanted
+-- results of a head with a fault, which wants so many: it hides what is wanted of each, but of more or fewer no type is
 abbrev pub hidden_results : ℕ → List Judged → List Fault
-hidden_results n xs = if n == length xs then [] else all_faults (map alone xs)
+hidden_results n xs = if n == length xs then hidden_faults xs else all_faults (map alone xs)

@@ -8,7 +8,7 @@ use super::count::{of_another_number, targets_held};
 use occ_base::{Code, Fault, Items, Name, Shared, tell};
 use occ_names::{Access, Whole};
 use occ_operands::Kind;
-use occ_tables::{Term, under};
+use occ_tables::{Term, hidden, under};
 use occ_types::{OccType, is_data};
 use std::alloc::{AllocError, Global};
 
@@ -73,7 +73,10 @@ fn pair(
 {
     match target {
         Kind::Known(known) => value_for(alloc, &known.of, value, faults),
-        _ => Ok(()),
+        Kind::Faulty | Kind::Free(_) => {
+            hidden(alloc, value, faults)?;
+            Ok(())
+        }
     }
 }
 

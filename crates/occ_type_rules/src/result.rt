@@ -6,7 +6,7 @@ ghost use Rattle.occ_tables.specs.Terms.{judged_all};
 
 use super::count::of_another_number;
 use occ_base::{Code, Fault, Items, Shared, tell};
-use occ_tables::{Term, each_alone, under};
+use occ_tables::{Term, each_alone, tell_hidden, under};
 use occ_types::{OccType, is_data};
 use std::alloc::{AllocError, Global};
 
@@ -70,7 +70,7 @@ pub fn hidden_results(
     ensures { OnOk result (faults.new ≡ faults.old ++ told_hidden count (judged_all terms.now)) }
 {
     if count == terms.len() {
-        return Ok(());
+        return tell_hidden(alloc, terms, faults);
     }
     each_alone(alloc, terms, faults)?;
     Ok(())

@@ -2,13 +2,14 @@
 use Rattle.std.specs.Prelude.{ℕ, Option, Some, None, List, [], ◌∷◌, ◌++◌}
 use Rattle.occ_base.specs.declared.code.Code.TheVariants as code
 use Rattle.occ_base.specs.declared.fault.Fault.{Fault}
-use Rattle.occ_expr.specs.Sides.{Called, each_one, one_call}
+use Rattle.occ_expr.specs.Sides.{Called, Side, each_one, one_call}
 use Rattle.occ_expression_forms.specs.declared.tree.Expr.{Expr}
 use Rattle.occ_names.specs.Visible.{referent, visible}
 use Rattle.occ_names.specs.declared.meaning.Meaning.{Meaning}
 use Rattle.occ_names.specs.declared.meaning.Meaning.TheVariants as m
 use Rattle.occ_names.specs.declared.meaning.Referent.{Referent}
 use Rattle.occ_names.specs.declared.scope.Scope.{Scope}
+use Rattle.occ_tables.specs.Terms.{hidden_faults, judged_all}
 use Rattle.occ_typed.specs.declared.expr.TypedActual.{TypedActual}
 use Rattle.occ_typed_calls.specs.Actuals.{actuals_faults, actuals_tree}
 use Rattle.occ_typed_calls.specs.declared.instances.TypedInstance.{TypedInstance}
@@ -24,9 +25,12 @@ no_procedure name (Some (m.Procedure formals)) = []
 no_procedure name (Some (m.Function formals results)) = (record { code = code.N2; name = Some name }) ∷ []
 no_procedure name (Some (m.Element whole)) = (record { code = code.N2; name = Some name }) ∷ []
 
--- no types are wanted of its arguments
+-- it is hidden what is wanted of its arguments
+abbrev pub hidden_arguments : Side → List Fault
+hidden_arguments x = x.faults ++ hidden_faults (judged_all x.terms)
+
 abbrev pub no_instance : Scope → List ℕ → List Expr → List Fault
-no_instance s name es = no_procedure name (visible s name) ++ (each_one s es).faults
+no_instance s name es = no_procedure name (visible s name) ++ hidden_arguments (each_one s es)
 
 abbrev pub call_faults : Scope → List ℕ → List Expr → Option Meaning → List Fault
 call_faults s name es (Some (m.Procedure formals)) = actuals_faults s formals es

@@ -7,6 +7,7 @@ use occ_base::{Code, Fault, Items, Name};
 use occ_expr::{each_one, one_call};
 use occ_expression_forms::Expr;
 use occ_names::{Meaning, Referent, Scope};
+use occ_tables::tell_hidden;
 use occ_typed::TypedActual;
 use std::alloc::{AllocError, Global};
 
@@ -46,8 +47,8 @@ fn no_instance(
     ensures { OnOk result (faults.new ≡ faults.old ++ told_no_instance scope.now name.now exprs.now) }
 {
     tell_no_procedure(alloc, scope, name, faults)?;
-    each_one(alloc, exprs, scope, faults)?;
-    Ok(())
+    let read = each_one(alloc, exprs, scope, faults)?;
+    tell_hidden(alloc, read.terms.as_slice(), faults)
 }
 
 /// An instance of this specification, if all is there.

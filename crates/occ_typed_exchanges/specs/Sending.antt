@@ -102,7 +102,7 @@ unfoldable pub operand_as : OccType → Term → Told
 operand_as of x = as_layer of (out-Term x)
 
 abbrev pub operand_under : Want → Term → Told
-operand_under w.Hidden x = silent
+operand_under w.Hidden x = record { faults = (judged x).hidden.faults; kind = k.Faulty }
 operand_under w.Nothing x = (judged x).alone
 operand_under (w.Of of) x = operand_as of x
 

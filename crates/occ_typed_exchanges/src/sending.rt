@@ -17,7 +17,7 @@ use occ_lists::with_part;
 use occ_names::Scope;
 use occ_operands::{Kind, settled};
 use occ_protocol::{Given, Shape, Want, Wanted, exchanged, tag_place, takes_tag, wants};
-use occ_tables::{Term, alone, under};
+use occ_tables::{Term, alone, hidden, under};
 use occ_typed::{TypedElement, TypedExpr};
 use occ_typed_specifications::tree_of;
 use occ_types::{OccType, array_of};
@@ -177,7 +177,10 @@ fn operand_under(
     ensures faults { OnOk result (faults.new ≡ faults.old ++ (told_operand_under want.now term.now).faults) }
 {
     match want {
-        Want::Hidden => Ok(Kind::Faulty),
+        Want::Hidden => {
+            hidden(alloc, term, faults)?;
+            Ok(Kind::Faulty)
+        }
         Want::Nothing => alone(alloc, term, faults),
         Want::Of(of) => operand_as(alloc, of, term, faults),
     }

@@ -9,7 +9,7 @@ use Rattle.occ_base.specs.declared.fault.Fault.{Fault}
 use Rattle.occ_operands.specs.declared.kind.Kind.{Kind}
 use Rattle.occ_operands.specs.declared.kind.Kind.TheVariants as k
 use Rattle.occ_names.specs.declared.scope.Scope.{Scope}
-use Rattle.occ_tables.specs.Terms.{has_fault, judged, judged_all}
+use Rattle.occ_tables.specs.Terms.{has_fault, hidden_faults, judged, judged_all}
 use Rattle.occ_expression_forms.specs.declared.tree.Element.{Element}
 use Rattle.occ_expression_forms.specs.declared.tree.Expr.{Expr}
 use Rattle.occ_expr.specs.Parts.{Said, after, in_scope, own_faults, terms}
@@ -46,10 +46,13 @@ selector_by x = after x.faults (selecting (judged x.term))
 abbrev pub selector : Scope → Expr → Told
 selector s e = selector_by ((expr_view e).said s)
 
--- behind a faulty selector each option is judged by itself alone
+-- a faulty selector hides what is wanted of its options
+abbrev pub options_hidden : BTreeSet ℤ → List Said → Chosen
+options_hidden before xs = record { faults = hidden_faults (judged_all (terms xs)); numbers = before }
+
 abbrev pub options_under : Kind → BTreeSet ℤ → List Said → Chosen
-options_under k.Faulty before xs = record { faults = []; numbers = before }
-options_under (k.Free f) before xs = record { faults = []; numbers = before }
+options_under k.Faulty before xs = options_hidden before xs
+options_under (k.Free f) before xs = options_hidden before xs
 options_under (k.Known x) before xs = chosen x.of before (judged_all (terms xs))
 
 abbrev pub options_by : Kind → BTreeSet ℤ → List Said → Chosen

@@ -9,7 +9,7 @@ use occ_expr::{Readings, expression, side};
 use occ_expression_forms::{Element, Expr};
 use occ_names::Scope;
 use occ_operands::{Kind, int};
-use occ_tables::any_has_fault;
+use occ_tables::{any_has_fault, tell_hidden};
 use occ_type_rules::{
     assigned, condition as judge_condition, hidden_results as count_results, options as choose,
     results as compare, selector as select,
@@ -170,8 +170,10 @@ pub fn options(
             choose(alloc, &known.of, read.terms.as_slice(), before, faults)?;
             all_placed(alloc, read.drafts.as_slice(), &known.of)
         }
-        Kind::Faulty => Ok(None),
-        Kind::Free(_) => Ok(None),
+        Kind::Faulty | Kind::Free(_) => {
+            tell_hidden(alloc, read.terms.as_slice(), faults)?;
+            Ok(None)
+        }
     }
 }
 

@@ -17,10 +17,6 @@ invariant-more_items-loop-expr l =
     × (l.items.drafts ++ item_drafts l.scope (expr_views (drop l.expr-index l.exprs)) ≡ l.initial.items.drafts ++ item_drafts l.scope (expr_views l.exprs))
     × (l.faults ++ own_faults (in_scope l.scope (expr_views (drop l.expr-index l.exprs))) ≡ l.initial.faults ++ own_faults (in_scope l.scope (expr_views l.exprs)))
 
-abbrev pub invariant-arguments-loop-expr : goal.invariant-arguments-loop-expr
-invariant-arguments-loop-expr l =
-    l.faults ++ own_faults (in_scope l.scope (expr_views (drop l.expr-index l.exprs))) ≡ l.initial.faults ++ own_faults (in_scope l.scope (expr_views l.exprs))
-
 abbrev pub invariant-subscripts-loop-expr : goal.invariant-subscripts-loop-expr
 invariant-subscripts-loop-expr l =
     ((told_subscripts l.scope (expr_views (drop l.expr-index l.exprs)) l.kind).kind ≡ (told_subscripts l.scope (expr_views l.exprs) l.initial.kind).kind)
