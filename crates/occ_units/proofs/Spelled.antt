@@ -45,15 +45,15 @@ use Rattle.occ_units.specs.Units.{Uses, in_order, used_units}
 use Rattle.occ_units.proofs.Narrowed.{file_lines}
 
 -- lists of what all have something
-all_front : {X : Type 0} (P : X → Type 0) (xs ys : List X) → AllByRecursion P xs → AllByRecursion P ys → AllByRecursion P (xs ++ ys)
+pub all_front : {X : Type 0} (P : X → Type 0) (xs ys : List X) → AllByRecursion P xs → AllByRecursion P ys → AllByRecursion P (xs ++ ys)
 all_front P [] ys h k = k
 all_front P (x ∷ xs) ys h k = (h.0, all_front P xs ys h.1 k)
 
-all_flat : {X Y : Type 0} (P : X → Type 0) (Q : Y → Type 0) (f : X → List Y) (xs : List X) → ((x : X) → P x → AllByRecursion Q (f x)) → AllByRecursion P xs → AllByRecursion Q (flat_map f xs)
+pub all_flat : {X Y : Type 0} (P : X → Type 0) (Q : Y → Type 0) (f : X → List Y) (xs : List X) → ((x : X) → P x → AllByRecursion Q (f x)) → AllByRecursion P xs → AllByRecursion Q (flat_map f xs)
 all_flat P Q f [] h k = tt
 all_flat P Q f (x ∷ xs) h k = all_front Q (f x) (flat_map f xs) (h x k.0) (all_flat P Q f xs h k.1)
 
-all_taken : {X : Type 0} (P : X → Type 0) (n : ℕ) (xs : List X) → AllByRecursion P xs → AllByRecursion P (take n xs)
+pub all_taken : {X : Type 0} (P : X → Type 0) (n : ℕ) (xs : List X) → AllByRecursion P xs → AllByRecursion P (take n xs)
 all_taken P zero xs h = tt
 all_taken P (suc n) [] h = tt
 all_taken P (suc n) (x ∷ xs) h = (h.0, all_taken P n xs h.1)
