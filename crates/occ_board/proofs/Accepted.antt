@@ -72,7 +72,7 @@ fewer_than p q (v ∷ vs) u h a k l = either_true (bytes_eq v u) (is_among vs u)
     (λ b. fewer_on (q v) (p v) v (filter q vs) (filter p vs) (h v) (fewer_than p q vs u h b k l))
 
 -- an open unit is among the open units
-open_among : (files : List Read) (u : List ℕ) → is_unit u ≡ true → is_open files u ≡ true → is_among (open_units files) u ≡ true
+pub open_among : (files : List Read) (u : List ℕ) → is_unit u ≡ true → is_open files u ≡ true → is_among (open_units files) u ≡ true
 open_among [] u h o = absurd cc
 open_among (file ∷ files) u h o = by (bytes_eq file.name u) refl (open_among files u h) o where
   more : (c : Bool) → is_among (open_units files) u ≡ true → is_among (map (λ f. f.name) (cond c (file ∷ filter is_open_unit files) (filter is_open_unit files))) u ≡ true

@@ -37,12 +37,12 @@ among_fewer : (b : Bool) (w v : List ℕ) (vs ws : List (List ℕ)) → is_among
 among_fewer true w v vs ws h f = either_true (bytes_eq w v) (is_among vs v) h (λ e. or_left (bytes_eq w v) (is_among ws v) e) (λ k. or_right (bytes_eq w v) (is_among ws v) (f k))
 among_fewer false w v vs ws h f = or_right (bytes_eq w v) (is_among ws v) (f h)
 
-among_all : (p : List ℕ → Bool) (vs : List (List ℕ)) (v : List ℕ) → is_among (filter p vs) v ≡ true → is_among vs v ≡ true
+pub among_all : (p : List ℕ → Bool) (vs : List (List ℕ)) (v : List ℕ) → is_among (filter p vs) v ≡ true → is_among vs v ≡ true
 among_all p [] v h = h
 among_all p (w ∷ vs) v h = among_fewer (p w) w v (filter p vs) vs h (among_all p vs v)
 
 -- what passes a test is among those that pass it
-kept_among : (p : List ℕ → Bool) (vs : List (List ℕ)) (v : List ℕ) → p v ≡ true → is_among vs v ≡ true → is_among (filter p vs) v ≡ true
+pub kept_among : (p : List ℕ → Bool) (vs : List (List ℕ)) (v : List ℕ) → p v ≡ true → is_among vs v ≡ true → is_among (filter p vs) v ≡ true
 kept_among p [] v h a = absurd cc
 kept_among p (w ∷ vs) v h a = either_true (bytes_eq w v) (is_among vs v) a
     (λ e. ap (λ (c : Bool). is_among (cond c (w ∷ filter p vs) (filter p vs)) v) (ap p ((bytes_eq-Decides w v).0 e) ∙ h) ∙ or_left (bytes_eq w v) (is_among (filter p vs) v) e)

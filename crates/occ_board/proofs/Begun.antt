@@ -12,9 +12,10 @@ use Rattle.occ_check.specs.Input.{Input}
 use Rattle.occ_forms.specs.Prepared.{Prepared}
 use Rattle.occ_project.specs.declared.reads.Read.{Read}
 use Rattle.occ_units.specs.Project.{IsProject, put}
+use Rattle.occ_units.specs.Spelled.{AreSpelled, IsSpelled}
 
 none : ((files : List Read) (kept : List Input) (u : List ℕ) → IsProject files → done files kept u ≡ done_step files kept u (done files kept)) → IsBoard [] [] [] []
-none law = record { few = omega arith; legal = tt; files_are = refl; len = refl; flags_are = λ u. sym (law [] [] u none_is_project) }
+none law = record { few = omega arith; legal = tt; files_are = refl; spelled = λ name. tt; len = refl; flags_are = λ u. sym (law [] [] u none_is_project) }
 
 pub begins : (journal : List Entry) (kept : List Input) (files : List Read) (flags : List Bool) → journal ≡ [] → kept ≡ [] → files ≡ [] → flags ≡ []
     → ((files : List Read) (kept : List Input) (u : List ℕ) → IsProject files → done files kept u ≡ done_step files kept u (done files kept)) → IsBoard journal kept files flags
@@ -25,8 +26,8 @@ begins journal kept files flags j k f g law =
 -- and one behind one more edit
 pub accepts : (journal next : List Entry) (kept : List Input) (files later : List Read) (flags now : List Bool) (n session : ℕ) (e : Edit) (name : List ℕ) (source : Option Prepared) → IsBoard journal kept files flags → refusal journal e ≡ None
     → later ≡ put files (record { name = name; revision = n; source = source }) → n ≡ length journal + 1 → name ≡ (edited 0 e).name → source ≡ (edited 0 e).source → next ≡ journal ++ (record { session = session; edit = e }) ∷ []
-    → length now ≡ length later → AreFlags later kept now → IsBoard next kept later now
-accepts journal next kept files later flags now n session e name source board fine put_is number named with_text more len are =
+    → ((files : List Read) (file : Read) → AreSpelled files → IsSpelled file.source → AreSpelled (put files file)) → IsSpelled source → length now ≡ length later → AreFlags later kept now → IsBoard next kept later now
+accepts journal next kept files later flags now n session e name source board fine put_is number named with_text more spelled told len are =
     let entry : Entry = record { session = session; edit = e } in
     let under : length journal < 10000 = room (replay journal) (length journal) e fine in
     let longer : length next ≡ length journal + 1 = ap (length {A = Entry}) more ∙ length-append journal (entry ∷ []) in
@@ -45,6 +46,7 @@ accepts journal next kept files later flags now n session e name source board fi
           ∙ ap (put (replay journal)) (sym whole)
           ∙ sym (replay_more journal entry)
           ∙ ap replay (sym more);
+      spelled = subst AreSpelled (sym put_is) (spelled files (record { name = name; revision = n; source = source }) board.spelled told);
       len = len;
       flags_are = are;
     }

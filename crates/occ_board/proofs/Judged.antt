@@ -44,7 +44,7 @@ open_by file = by file.source where
   by (Some s) = refl
 
 -- reads that are all of the files of their names as they are
-abbrev now_of : List Read → Read → Read
+abbrev pub now_of : List Read → Read → Read
 now_of files r = file_of files r.name
 
 open_same : (files rs : List Read) → rs ≡ map (now_of files) rs → (name : List ℕ) → is_among (map (λ r. r.name) rs) name ≡ true → open_lines files name ≡ open_lines rs name

@@ -21,3 +21,5 @@ pub mod Edited
 pub mod Begun
 pub mod Taken
 pub mod Adopted
+pub mod Least
+pub mod Working

@@ -1,10 +1,11 @@
 -- Which units are done: those whose present input is kept, and that rest on units that are done.
-use Rattle.std.specs.Prelude.{ℕ, Bool, false, ◌&&◌, not, List, Option, Some, None}
+use Rattle.std.specs.Prelude.{◌≡◌, ℕ, Bool, true, false, ◌&&◌, not, List, Option, Some, None}
 use Rattle.std.specs.List.{filter, find, list_all, list_any}
 use Rattle.std.specs.Str.{bytes_eq}
 use Rattle.occ_board.specs.Journal.{is_open}
 use Rattle.occ_board.specs.Same.{same_input}
 use Rattle.occ_check.specs.Input.{Input}
+use Rattle.occ_project.specs.Entries.{is_among}
 use Rattle.occ_project.specs.declared.reads.Read.{Read}
 use Rattle.occ_report.specs.Checks.{input}
 use Rattle.occ_report.specs.Report.{open_units}
@@ -41,3 +42,7 @@ pending_units files kept = filter (λ u. not (done files kept u)) (open_units fi
 -- those that rest on units that are done
 abbrev pub ready_units : List Read → List Input → List (List ℕ)
 ready_units files kept = filter (λ u. list_all (done files kept) (rest_units files u)) (pending_units files kept)
+
+-- no unit that is pending is handed out with its present input
+abbrev pub NoneIsHanded : List Read → List Input → List Input → Type 0
+NoneIsHanded files kept handed = (u : List ℕ) → is_among (pending_units files kept) u ≡ true → is_input_among handed (input files u) ≡ false

@@ -1,7 +1,7 @@
 -- The machine: what is at a moment, and what each event answers and leaves. No diagnostics are in its state: a report takes
 -- them from the texts.
-use Rattle.std.specs.Prelude.{ℕ, ◌+◌, not, List, [], ◌∷◌, ◌++◌, length, map, if◌then◌else◌, Option, Some, None}
-use Rattle.std.specs.List.{filter, find}
+use Rattle.std.specs.Prelude.{ℕ, ◌+◌, Bool, true, false, not, List, [], ◌∷◌, ◌++◌, length, map, if◌then◌else◌, Option, Some, None}
+use Rattle.std.specs.List.{AllByRecursion, filter, find}
 use Rattle.std.specs.Str.{bytes_eq}
 use Rattle.occ_board.specs.Done.{done, is_input_among, pending_units, ready_units}
 use Rattle.occ_board.specs.Journal.{refusal, replay}
@@ -14,10 +14,11 @@ use Rattle.occ_board.specs.declared.report.Row.{Row}
 use Rattle.occ_board.specs.declared.report.Shown.TheVariants as shown
 use Rattle.occ_board.specs.declared.verdict.Verdict.{Verdict}
 use Rattle.occ_board.specs.declared.verdict.Verdict.TheVariants as verdict
-use Rattle.occ_check.specs.Input.{Input}
+use Rattle.occ_check.specs.Input.{Input, IsInput}
 use Rattle.occ_project.specs.declared.reads.Read.{Read}
 use Rattle.occ_report.specs.Checks.{diags, input}
 use Rattle.occ_report.specs.Report.{open_units}
+use Rattle.occ_units.specs.Spelled.{IsSpelled}
 
 -- the edits that were accepted; the inputs of the outcomes that are kept, one for each unit at most; those handed out
 pub record State : Type 0 where
@@ -147,3 +148,26 @@ after s Event.Pending = s
 abbrev pub after_all : State → List Event → State
 after_all s [] = s
 after_all s (e ∷ es) = after_all (after s e) es
+
+-- there is a check of it, and each file that it looks at has the lines that its text spells
+abbrev pub IsChecked : Input → Type 0
+IsChecked i = IsInput i × AllByRecursion (λ read. IsSpelled read.source) i.reads
+
+-- work alone: no edit, and each outcome is that of a check
+abbrev pub IsWork : Event → Type 0
+IsWork (Event.Edited session e) = ⊥
+IsWork Event.Take = Unit {0}
+IsWork (Event.Finish i) = IsChecked i
+IsWork (Event.Abandon i) = Unit {0}
+IsWork Event.Report = Unit {0}
+IsWork Event.Pending = Unit {0}
+
+-- whether the event is an outcome that is accepted
+abbrev pub is_acceptance : Answer → Bool
+is_acceptance (Answer.Judged verdict.Accepted) = true
+is_acceptance other = false
+
+-- how many of the outcomes of these events are accepted
+abbrev pub accepted_number : State → List Event → ℕ
+accepted_number s [] = 0
+accepted_number s (e ∷ es) = (if is_acceptance (answer s e) then 1 else 0) + accepted_number (after s e) es

@@ -1,3 +1,4 @@
+ghost use Rattle.occ_board.specs.Done.{NoneIsHanded};
 ghost use Rattle.occ_board.specs.Journal.{IsLegal, refusal as why_refused};
 ghost use Rattle.occ_board.specs.Machine.{Answer, Event, after, answer, edit_number, files_of, finish_answer, pending_answer, report_answer, start, take_answer, unhanded, with_kept};
 ghost use Rattle.occ_board.specs.declared.entry.Edit.TheVariants as an_edit;
@@ -6,14 +7,15 @@ ghost use Rattle.occ_board.specs.declared.entry.EditFault.{EditFault as AFault};
 ghost use Rattle.occ_board.specs.declared.verdict.Verdict.TheVariants as verdicts;
 ghost use Rattle.occ_board.specs.inside.Ready.{HasJob, IsAcceptable};
 ghost use Rattle.occ_report.specs.Checks.{input};
-ghost use Rattle.std.specs.Option.{option_map};
-ghost use Rattle.std.specs.Prelude.{◌≡◌, ◌<◌, ◌⊎◌, Err, IfErr, IfOk, IfSome, None, OnErr, OnOk};
+ghost use Rattle.occ_units.specs.Spelled.{AreSpelled};
+ghost use Rattle.std.specs.Option.{is_some, option_map};
+ghost use Rattle.std.specs.Prelude.{◌≡◌, ◌<◌, ◌⊎◌, Err, IfErr, IfOk, IfSome, None, OnErr, OnOk, true};
 
 use super::flags::{no_flags, settle};
 use super::journal::refusal;
 use super::judging::judge;
 use super::keeping::{keep, unhand};
-use super::laws::{done_law, height_law};
+use super::laws::{done_law, height_law, ready_law};
 use super::report::{count_pending, rows};
 use super::taking::{job_now, next_unit};
 use super::{Edit, EditFault, Entry, Row, Verdict};
@@ -21,6 +23,7 @@ use occ_base::{FileName, Items, Shared};
 use occ_check::{Job, Outcome};
 use occ_forms::Source;
 use occ_units::Graph;
+use occ_units::laws::put_law;
 use std::alloc::{AllocError, Global};
 use std::marker::Model;
 
@@ -145,6 +148,7 @@ impl Board {
         ensures after { OnOk result (self.new ≡ after self.old (Event.Edited session edit)) }
         ensures err { OnErr result (self.new ≡ self.old) }
     {
+        put_law();
         let number = self.journal.len() as u32 + 1;
         let graph = self.graph.with(alloc, edit.name(), number, edit.shared()?)?;
         let mut flags = no_flags(alloc, graph.project().files().len())?;
@@ -155,12 +159,15 @@ impl Board {
         Ok(number)
     }
 
-    /// Hands out the job of the least unit that is ready and whose present job is not handed out, if there is one.
+    /// Hands out the job of the least unit that is ready and whose present job is not handed out, if there is one. There is
+    /// one where a unit is pending and no unit that is pending is handed out with its present job.
     pub fn take(&mut self, alloc: Global) -> Result<Option<Job>, AllocError>
         ensures answered { IfOk result (λ job. Answer.Job job ≡ answer self.old Event.Take) }
         ensures after { OnOk result (self.new ≡ after self.old Event.Take) }
+        ensures given { IfOk result (λ job. 0 < pending_answer self.old → NoneIsHanded (files_of self.old) self.old.kept self.old.handed → is_some job ≡ true) }
         ensures err { OnErr result (self.new ≡ self.old) }
     {
+        ready_law();
         let Some(unit) = self.next_unit() else {
             return Ok(None);
         };
@@ -263,10 +270,12 @@ impl Board {
         count_pending(&self.graph, self.kept.as_slice(), self.flags.as_slice())
     }
 
-    /// The edits that were accepted, in order. The first has number 1.
+    /// The edits that were accepted, in order. The first has number 1. The files that they make have the lines that their
+    /// texts spell.
     pub fn entries(&self) -> &[Entry]
         ensures entries { result.now ≡ self.now.journal }
         ensures legal { IsLegal self.now.journal }
+        ensures spelled { AreSpelled (files_of self.now) }
     {
         self.journal.as_slice()
     }

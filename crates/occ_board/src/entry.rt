@@ -1,5 +1,6 @@
 ghost use Rattle.occ_board.specs.Journal.{edited};
 ghost use Rattle.occ_board.specs.declared.entry.EditFault.TheVariants as fault;
+ghost use Rattle.occ_units.specs.Spelled.{IsSpelled};
 ghost use Rattle.std.specs.Option.{option_copied};
 ghost use Rattle.std.specs.Prelude.{◌≡◌, IfOk};
 
@@ -38,12 +39,16 @@ impl Edit {
         }
     }
 
-    /// That text, with one more owner.
+    /// That text, with one more owner. Its lines are those that it spells.
     pub(crate) fn shared(&self) -> Result<Option<Shared<Source>>, AllocError>
-        ensures { IfOk result (λ source. source ≡ (edited 0 self.now).source) }
+        ensures value { IfOk result (λ source. source ≡ (edited 0 self.now).source) }
+        ensures spelled { IfOk result (λ source. IsSpelled source) }
     {
         match self.source() {
-            Some(source) => Ok(Some(source.share()?)),
+            Some(source) => {
+                let _lines = source.get().lines();
+                Ok(Some(source.share()?))
+            }
             None => Ok(None),
         }
     }

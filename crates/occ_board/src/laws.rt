@@ -1,8 +1,8 @@
 //! Laws of the machine.
-ghost use Rattle.occ_board.specs.Done.{done, done_step, kept_of};
+ghost use Rattle.occ_board.specs.Done.{NoneIsHanded, done, done_step, kept_of};
 ghost use Rattle.occ_board.specs.Edits.{IsApart};
 ghost use Rattle.occ_board.specs.Journal.{edited, replay};
-ghost use Rattle.occ_board.specs.Machine.{Event, State, after, files_of, finish_answer, pending_answer, report_answer, take_answer};
+ghost use Rattle.occ_board.specs.Machine.{Event, IsWork, State, accepted_number, after, after_all, files_of, finish_answer, pending_answer, report_answer, take_answer};
 ghost use Rattle.occ_board.specs.Same.{same_input, same_used};
 ghost use Rattle.occ_board.specs.declared.entry.Edit.{Edit as AnEdit};
 ghost use Rattle.occ_board.specs.declared.entry.Entry.{Entry as AnEntry};
@@ -16,10 +16,14 @@ ghost use Rattle.occ_report.specs.Checks.{input};
 ghost use Rattle.occ_report.specs.Report.{whole_report};
 ghost use Rattle.occ_units.specs.Places.{rest_units};
 ghost use Rattle.occ_units.specs.Project.{IsProject};
-ghost use Rattle.std.specs.Prelude.{◌≡◌, ◌<◌, ◌↔◌, ℕ, List, None, Some, map, true};
+ghost use Rattle.occ_units.specs.Spelled.{AreSpelled};
+ghost use Rattle.std.specs.List.{AllByRecursion};
+ghost use Rattle.std.specs.Option.{is_some};
+ghost use Rattle.std.specs.Prelude.{◌≡◌, ◌<◌, ◌≤◌, ◌+◌, ◌↔◌, ℕ, List, None, Some, map, true};
 
+use super::sources::source_law;
 use occ_report::Checked;
-use occ_units::laws::{along_law, circle_law, put_law, reads_law};
+use occ_units::laws::{along_law, circle_law, names_law, put_law, reads_law};
 
 /// The tests for inputs and for used units tell exactly whether two are one.
 #[tactic(auto, using(crate::proofs::Trees::inputs_are_one, crate::proofs::Trees::used_are_one))]
@@ -80,6 +84,27 @@ pub fn pending_law()
     ensures report { (s : State) → pending_answer (after s Event.Report) ≡ pending_answer s }
     ensures pending { (s : State) → pending_answer (after s Event.Pending) ≡ pending_answer s }
 {}
+
+/// Behind work alone so many units fewer are pending as outcomes were accepted, at least. So there are no more accepted
+/// outcomes than units were pending, and with as many none is pending any more.
+pub fn work_law()
+    ensures { (s : State) (es : List Event) → AreSpelled (files_of s) → AllByRecursion IsWork es → pending_answer (after_all s es) + accepted_number s es ≤ pending_answer s }
+{
+    source_law();
+    reads_law();
+    done_law();
+    height_law();
+}
+
+/// Where a unit is pending, and no unit that is pending is handed out with its present input, there is a job: of the units
+/// that are pending one rests on none that is. The files have the lines that their texts spell, as those of a board have.
+pub fn ready_law()
+    ensures { (s : State) → AreSpelled (files_of s) → 0 < pending_answer s → NoneIsHanded (files_of s) s.kept s.handed → is_some (take_answer s) ≡ true }
+{
+    names_law();
+    done_law();
+    height_law();
+}
 
 /// A job that is taken and finished at once is accepted, and the number of pending units falls. With none pending there is
 /// no job.

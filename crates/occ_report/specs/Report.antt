@@ -1,8 +1,9 @@
 -- The report of a project, from nothing but its texts.
-use Rattle.std.specs.Prelude.{ℕ, Bool, ◌&&◌, List, map}
+use Rattle.std.specs.Prelude.{◌≡◌, ◌⊎◌, ℕ, Bool, ◌&&◌, List, [], ◌∷◌, map, Some}
 use Rattle.std.specs.List.{filter}
 use Rattle.std.specs.Option.{is_some}
 use Rattle.occ_base.specs.FileName.{is_unit}
+use Rattle.occ_base.specs.declared.code.Code.{Code}
 use Rattle.occ_base.specs.declared.diag.Diag.{Diag}
 use Rattle.occ_project.specs.declared.reads.Read.{Read}
 use Rattle.occ_report.specs.Checks.{diags}
@@ -17,3 +18,8 @@ open_units files = map (λ file. file.name) (filter is_open_unit files)
 -- each open unit with its diagnostics in order
 abbrev pub whole_report : List Read → List (List ℕ × List Diag)
 whole_report files = map (λ u. (u, diags files u)) (open_units files)
+
+-- a diagnostic of that code with that name stands among these
+abbrev pub Tells : List Diag → Code → List ℕ → Type 0
+Tells [] code name = ⊥
+Tells (d ∷ ds) code name = ((d.code ≡ code) × (d.name ≡ Some name)) ⊎ Tells ds code name

@@ -7,3 +7,4 @@ pub mod Edges
 pub mod Kept
 pub mod Rounds
 pub mod Below
+pub mod Spelled

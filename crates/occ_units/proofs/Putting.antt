@@ -15,6 +15,7 @@ use Rattle.occ_units.specs.Project.{IsProject, file_of, put}
 use Rattle.occ_units.specs.inside.Finding.{IsGap}
 use Rattle.occ_units.proofs.Looks.{same_bytes}
 use Rattle.occ_units.proofs.Rising.{apart, equal_names, insert_rising, test_equal, turned}
+use Rattle.occ_units.specs.Spelled.{AreSpelled, IsSpelled}
 
 -- the name that is put comes to its place among the names
 names_by : (file x : Read) (files : List Read) (o : Ordering) → name_cmp file.name x.name ≡ o → map (λ f. f.name) (put files file) ≡ insert_key name_cmp (map (λ f. f.name) files) file.name
@@ -107,3 +108,10 @@ put_between (x ∷ files) file (suc k) within before after =
 
 pub put_gap : (files : List Read) (file : Read) (at : ℕ) → IsGap file.name files at → insert files at file ≡ put files file
 put_gap files file at gap = put_between files file at gap.within gap.before gap.after
+
+-- texts and their lines
+pub spelled_put : (files : List Read) (file : Read) → AreSpelled files → IsSpelled file.source → AreSpelled (put files file)
+spelled_put files file h k name = by (bytes_eq file.name name) (file_put files file name) where
+  by : (b : Bool) → file_of (put files file) name ≡ cond b file (file_of files name) → IsSpelled (file_of (put files file) name).source
+  by true e = subst (λ (f : Read). IsSpelled f.source) (sym e) k
+  by false e = subst (λ (f : Read). IsSpelled f.source) (sym e) (h name)

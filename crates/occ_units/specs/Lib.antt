@@ -1,4 +1,5 @@
 pub mod Project
+pub mod Spelled
 pub mod Units
 pub mod Places
 pub mod Along

@@ -6,7 +6,8 @@ ghost use Rattle.occ_project.specs.declared.reads.Read.{Read};
 ghost use Rattle.occ_units.specs.Along.{IsLocal, along};
 ghost use Rattle.occ_units.specs.Places.{is_circular};
 ghost use Rattle.occ_units.specs.Project.{IsProject, file_of, put};
-ghost use Rattle.occ_units.specs.Units.{IsCircular, unit_reads};
+ghost use Rattle.occ_units.specs.Spelled.{AreSpelled, IsSpelled};
+ghost use Rattle.occ_units.specs.Units.{IsCircular, Uses, unit_reads};
 ghost use Rattle.std.specs.Prelude.{List, None, ℕ, cond, true, ◌≡◌, ◌↔◌};
 ghost use Rattle.std.specs.Str.{bytes_eq};
 
@@ -22,10 +23,16 @@ pub fn reads_law()
 {}
 
 /// A file that is put into a project is the file of its name from then on, and those of other names stay. The names stay in
-/// order.
+/// order. If the files had the lines that their texts spell, and this one has, so it is then.
 pub fn put_law()
     ensures in_order { (files : List Read) (file : Read) → IsProject files → IsProject (put files file) }
     ensures files { (files : List Read) (file : Read) (name : List ℕ) → file_of (put files file) name ≡ cond (bytes_eq file.name name) file (file_of files name) }
+    ensures spelled { (files : List Read) (file : Read) → AreSpelled files → IsSpelled file.source → AreSpelled (put files file) }
+{}
+
+/// What a unit uses has the name of a unit, where the files have the lines that their texts spell.
+pub fn names_law()
+    ensures { (files : List Read) (u v : List ℕ) → AreSpelled files → Uses files u v → is_unit v ≡ true }
 {}
 
 /// The test for a circle tells whether a unit uses another in one.

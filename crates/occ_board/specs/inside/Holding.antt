@@ -8,11 +8,13 @@ use Rattle.occ_board.specs.declared.entry.Entry.{Entry}
 use Rattle.occ_board.specs.inside.Flagged.{AreFlags}
 use Rattle.occ_check.specs.Input.{Input}
 use Rattle.occ_project.specs.declared.reads.Read.{Read}
+use Rattle.occ_units.specs.Spelled.{AreSpelled}
 
 pub record IsBoard (journal : List Entry) (kept : List Input) (files : List Read) (flags : List Bool) : Type 0 where
   pub few : length journal ≤ 10000
   pub legal : IsLegal journal
   pub files_are : files ≡ replay journal
+  pub spelled : AreSpelled files
   pub len : length flags ≡ length files
   pub flags_are : AreFlags files kept flags
 
