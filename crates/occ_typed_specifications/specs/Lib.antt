@@ -2,6 +2,5 @@ pub mod Entering
 pub mod Declaring
 pub mod Valuing
 pub mod Defining
-pub mod Lines
 pub mod Fields
 pub mod Recording

@@ -4,7 +4,6 @@
 mod declaring;
 mod defining;
 mod field;
-mod line;
 mod recording;
 pub mod rows;
 mod told;
@@ -13,6 +12,5 @@ mod valuing;
 pub use declaring::declaration;
 pub use defining::{data_form_type, data_of, data_type};
 pub use field::{fields, repeated_all};
-pub use line::unknown;
 pub use recording::record;
 pub use valuing::{ValueLine, kind_unless_told, tree_of, value, value_name};
