@@ -102,8 +102,7 @@ pub fn recast_element(
     ensures faults { OnOk result (faults.new ≡ faults.old ++ (told_recast_element scope.now how of.now name.now element.now).faults) }
 {
     let mut told = Items::new(alloc);
-    let ElementReading { kind, tree } =
-        element_read(alloc, how, of, element, scope, &mut told)?;
+    let ElementReading { kind, tree } = element_read(alloc, how, of, element, scope, &mut told)?;
     let adds = named(alloc, name, element, kind, told, scope, faults)?;
     Ok(ElementLine { adds, tree })
 }

@@ -15,13 +15,13 @@ ghost use Rattle.occ_types.specs.declared.types.OccType.TheVariants as t;
 ghost use Rattle.occ_types.specs.declared.value.Primitive.TheVariants as p;
 ghost use Rattle.occ_types.specs.declared.value.Value.TheVariants as v;
 
-/// Targets of the names `v`, which is a VAL name, and `n`, which is a variable. Nothing is asked of the value for a
-/// faulty target, and numbers that differ are not told beside one.
+/// Targets of the names `v`, which is a VAL name, and `n`, which is a variable. A faulty
+/// target hides what is wanted of its value, and numbers that differ are not told beside one.
 pub fn assignment_rows()
     ensures value { target (record { of = int; access = access.Value; value = None; root = 118 ∷ [] }) (known int None) ≡ record { faults = (record { code = code.T3; name = Some (118 ∷ []) }) ∷ []; kind = k.Faulty } }
     ensures variable { target (record { of = int; access = access.Variable; value = None; root = 110 ∷ [] }) (known int None) ≡ record { faults = []; kind = known int None } }
     ensures faulty { target (record { of = int; access = access.Value; value = None; root = 118 ∷ [] }) k.Faulty ≡ silent }
-    ensures pair { (x : Judged) → pair k.Faulty x ≡ [] }
+    ensures pair { (x : Judged) → pair k.Faulty x ≡ x.hidden.faults }
     ensures fewer { of_another_number false (record { faults = []; kind = known int None } ∷ []) ≡ nameless code.T4 ∷ [] }
     ensures fewer_faulty { assigned (k.Faulty ∷ []) [] ≡ [] }
 {}

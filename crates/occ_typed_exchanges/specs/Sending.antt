@@ -4,7 +4,8 @@ use Rattle.occ_base.specs.declared.fault.Fault.{Fault}
 use Rattle.occ_types.specs.View.{as_array}
 use Rattle.occ_types.specs.declared.types.OccType.{OccType}
 use Rattle.occ_types.specs.declared.types.OccType.TheVariants as t
-use Rattle.occ_operands.specs.Settling.{Told, settled, silent}
+use Rattle.occ_operands.specs.Settling.{Told, settled}
+use Rattle.occ_operands.specs.declared.kind.Kind.TheVariants as k
 use Rattle.occ_names.specs.declared.scope.Scope.{Scope}
 use Rattle.occ_tables.specs.Terms.{Judged, judged}
 use Rattle.occ_tables.specs.declared.term.Term.{Term, out-Term}

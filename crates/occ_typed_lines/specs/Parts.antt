@@ -112,13 +112,17 @@ results_in s (expected.Types types) es = results_trees s types es
 abbrev pub instance_form : TypedInstance → TypedForm
 instance_form x = t.Instance x.callee x.actuals
 
+-- where a process stands: under VALOF too
+abbrev pub instance_line : Scope → List Expr → Parent → Own
+instance_line s es next = main (instance_faults s es) (made instance_form (instance_tree s es)) next
+
 abbrev pub expressing_in : Scope → Expr → List Expr → ℕ → Role → Own
-expressing_in s e es n role.Process = main (instance_faults s (e ∷ es)) (made instance_form (instance_tree s (e ∷ es))) (of_role n role.Process)
+expressing_in s e es n role.Process = instance_line s (e ∷ es) (of_role n role.Process)
 expressing_in s e es n role.Conditional = main (condition s e) (made t.Condition (condition_tree s e)) (of_role n role.Conditional)
 expressing_in s e es n role.Alternation = main beyond t.Unknown (of_role n role.Alternation)
 expressing_in s e es n (role.Selection c) = option s c n (e ∷ es)
 expressing_in s e es n (role.Variants x) = variant_named s x n (expr_view e).name
-expressing_in s e es n (role.Function wanted) = main beyond t.Unknown (of_role n (role.Function wanted))
+expressing_in s e es n (role.Function wanted) = instance_line s (e ∷ es) (of_role n (role.Function wanted))
 expressing_in s e es n role.Members = main beyond t.Unknown (of_role n role.Members)
 
 abbrev pub expressing : Scope → Expr → List Expr → Parent → Own

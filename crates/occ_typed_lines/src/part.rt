@@ -1,4 +1,4 @@
-ghost use Rattle.occ_typed_lines.specs.Parts.{else_option as told_else_option, expressing as told_expressing, option as told_option, otherwise as told_otherwise, parting as told_parting, resulting as told_resulting, results_in as told_results_in, results_of as told_results, second as told_second, valued as told_valued};
+ghost use Rattle.occ_typed_lines.specs.Parts.{else_option as told_else_option, expressing as told_expressing, instance_line as told_instance_line, option as told_option, otherwise as told_otherwise, parting as told_parting, resulting as told_resulting, results_in as told_results_in, results_of as told_results, second as told_second, valued as told_valued};
 ghost use Rattle.occ_typed_statements.specs.Statements.{is_any_faulty};
 ghost use Rattle.std.specs.Prelude.{◌≡◌, ◌∷◌, ◌++◌, [], IfOk, OnOk};
 
@@ -97,6 +97,22 @@ pub fn results_of(
     }
 }
 
+/// A line of expressions where a process stands: an instance of a procedure.
+fn instance_line(
+    alloc: Global,
+    first: &Expr,
+    more: &[Expr],
+    scope: &Scope,
+    next: Parent,
+    faults: &mut Items<Fault>,
+) -> Result<Line, AllocError>
+    ensures line { IfOk result (λ line. line ≡ (told_instance_line scope.now (first.now ∷ more.now) next).line) }
+    ensures faults { OnOk result (faults.new ≡ faults.old ++ (told_instance_line scope.now (first.now ∷ more.now) next).faults) }
+{
+    let tree = instance(alloc, first, more, scope, faults)?;
+    Ok(main(alloc, instance_form(tree), next))
+}
+
 /// A line of expressions: a condition, options, a variant without parts, or an instance of a procedure.
 pub fn expressions(
     alloc: Global,
@@ -112,9 +128,12 @@ pub fn expressions(
     let Parent { role, rounds } = parent;
     match role {
         Role::Process => {
-            let tree = instance(alloc, first, more, scope, faults)?;
             let next = of_role(rounds, Role::Process);
-            Ok(main(alloc, instance_form(tree), next))
+            instance_line(alloc, first, more, scope, next, faults)
+        }
+        Role::Function(wanted) => {
+            let next = of_role(rounds, Role::Function(wanted));
+            instance_line(alloc, first, more, scope, next, faults)
         }
         Role::Conditional => {
             let tree = condition(alloc, first, scope, faults)?;
