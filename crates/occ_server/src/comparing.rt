@@ -42,7 +42,7 @@ fn is_same_edit(a: &Edit, b: &Edit) -> bool
 }
 
 /// Whether two entries are one.
-fn is_same(a: &Entry, b: &Entry) -> bool
+pub fn is_same_entry(a: &Entry, b: &Entry) -> bool
     ensures { IsTrue result ↔ (a.now ≡ b.now) }
 {
     a.session == b.session && is_same_edit(&a.edit, &b.edit)
@@ -53,7 +53,7 @@ pub fn is_found(found: Option<&Entry>, entry: &Entry) -> bool
     ensures { IsTrue result ↔ (option_copied found.entry ≡ Some entry.now) }
 {
     match found {
-        Some(found) => is_same(found, entry),
+        Some(found) => is_same_entry(found, entry),
         None => false,
     }
 }
@@ -72,7 +72,7 @@ pub fn entry_of(entries: &[Entry], number: u32) -> Option<&Entry>
 fn is_of(receipt: &Receipt, number: usize, entry: &Entry) -> bool
     ensures { IsTrue result ↔ (receipt.now ≡ record { number = number; entry = entry.now }) }
 {
-    receipt.number() as usize == number && is_same(receipt.entry(), entry)
+    receipt.number() as usize == number && is_same_entry(receipt.entry(), entry)
 }
 
 /// Whether the numbers go up, each greater than the one before.

@@ -1,0 +1,4 @@
+pub mod Few
+pub mod Numbers
+pub mod Offs
+pub mod Shows
