@@ -32,4 +32,4 @@ few_behind before (e ∷ es) legal small =
     omega (arith, longer, rest)
 
 pub few : (es : List Entry) → IsLegal es → length es ≤ 10000
-few es legal = few_behind [] es legal (omega arith)
+few es legal = let h = few_behind [] es legal (omega arith) in omega (arith, h)

@@ -2,3 +2,4 @@ pub mod Few
 pub mod Numbers
 pub mod Offs
 pub mod Shows
+pub mod Sources

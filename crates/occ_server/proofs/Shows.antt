@@ -1,10 +1,10 @@
 -- What a report shows.
-use Rattle.std.proofs.Common.{◌≡◌, ◌⊎◌, ◌∙◌, Bool, true, false, ℕ, List, [], ◌∷◌, All, map, if◌then◌else◌, refl, ap, inl, inr}
+use Rattle.std.proofs.Common.{◌≡◌, ◌⊎◌, ◌∙◌, Bool, true, false, ℕ, List, [], ◌∷◌, All, map, if◌then◌else◌, refl, sym, ap, subst, inl, inr}
 use Rattle.std.proofs.lemmas.List.Elements.{All-map}
 use Rattle.std.specs.List.{slice_index_or}
 use Rattle.occ_board.specs.Done.{done}
 use Rattle.occ_board.specs.Journal.{IsLegal, replay}
-use Rattle.occ_board.specs.Machine.{row_of, rows_of}
+use Rattle.occ_board.specs.Machine.{State, report_answer, row_of, rows_of}
 use Rattle.occ_board.specs.declared.entry.Entry.{Entry}
 use Rattle.occ_board.specs.declared.report.Row.{Row}
 use Rattle.occ_board.specs.declared.report.Shown.TheVariants as shown
@@ -28,3 +28,7 @@ is_snapshot es kept legal = record {
   units = units_are (replay es) kept (open_units (replay es));
   shown = All-map (IsShown (replay es)) (row_of (replay es) kept) (open_units (replay es)) (λ k d h. row_by (replay es) (slice_index_or (open_units (replay es)) k d) (done (replay es) kept (slice_index_or (open_units (replay es)) k d)));
 }
+
+pub snapshot_of : (s : State) (es : List Entry) (rows : List Row) → IsLegal s.journal → es ≡ s.journal → rows ≡ report_answer s → IsSnapshot es rows
+snapshot_of s es rows legal same shows =
+    subst (λ (xs : List Entry). IsSnapshot xs rows) (sym same) (subst (λ (rs : List Row). IsSnapshot s.journal rs) (sym shows) (is_snapshot s.journal s.kept legal))

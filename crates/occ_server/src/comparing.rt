@@ -1,21 +1,11 @@
-ghost use Rattle.occ_forms.specs.Prepared.{IsPrepared};
-ghost use Rattle.occ_forms.specs.declared.source.SourceLine.{SourceLine as ASourceLine};
 ghost use Rattle.occ_server.specs.Receipts.{IsLeastOff, ascends as do_ascend, entry_at, receipts_of};
 ghost use Rattle.std.specs.Option.{option_copied};
-ghost use Rattle.std.specs.Prelude.{◌≡◌, ◌≤◌, ◌↔◌, ◌+◌, ℕ, IfNone, IfSome, IsTrue, List, Some, length, true};
+ghost use Rattle.std.specs.Prelude.{◌≡◌, ◌≤◌, ◌↔◌, ◌+◌, IfNone, IfSome, IsTrue, Some, length, true};
 
 use super::Receipt;
+use super::laws::source_law;
 use occ_board::{Edit, Entry};
-use occ_forms::{Source, one_form_law};
-use occ_lines::lines_law;
-
-/// A text has one list of lines, and no other.
-fn source_law()
-    ensures { (text : List ℕ) (lines others : List ASourceLine) → IsPrepared text lines → IsPrepared text others → lines ≡ others }
-{
-    lines_law();
-    one_form_law();
-}
+use occ_forms::Source;
 
 /// Whether two sources are one, which they are if their texts are.
 fn is_same_source(a: &Source, b: &Source) -> bool

@@ -63,6 +63,7 @@ impl Locked {
     }
 
     /// The number of the edit.
+    #[tactic(auto, using(crate::proofs::Numbers::number_is))]
     fn accept(&mut self, alloc: Global, session: u32, edit: Edit) -> Result<u32, EditFault>
         ensures number { IfOk result (λ number. number ≡ edit_number self.old.board) }
         ensures after { OnOk result (self.new.board ≡ after self.old.board (Event.Edited session edit)) }

@@ -18,6 +18,7 @@ impl Model for Receipt {
     ghost use Rattle.occ_expression_forms.specs.contracts.tree.TypeForm as types;
     ghost use Rattle.occ_server.specs.Receipts.{Numbered};
     ghost use Rattle.std.specs.Coded.{codes};
+    ghost use Rattle.std.specs.Prelude.{◌<◌};
 
     ghost Value = { Numbered };
 
