@@ -5,8 +5,6 @@
 
 mod devices;
 mod row;
-#[cfg(test)]
-mod sessions;
 mod tally;
 
 ghost use Rattle.std.specs.List.{All};

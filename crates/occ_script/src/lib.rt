@@ -18,11 +18,6 @@ mod settling;
 mod status;
 mod written;
 
-pub use answer::{line, line_naming};
 pub use devices::{ByteIn, ByteOut, Failed, StdIn, StdOut};
-pub use edit::{board_word, wrong_edit};
-pub use input::{ReadFault, read_script};
-pub use report::{report_lines, tells_errors};
 pub use run::run_script;
 pub use status::Status;
-pub use written::write_all;

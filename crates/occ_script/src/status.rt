@@ -14,8 +14,6 @@ pub enum Status {
     DeviceFault,
     /// Memory was refused.
     NoMemory,
-    /// What sessions were told does not agree with the edits that were made. The run of one script does not end so.
-    Disagree,
 }
 
 impl Status {
@@ -29,7 +27,6 @@ impl Status {
             Status::ScriptFault => 2,
             Status::DeviceFault => 3,
             Status::NoMemory => 4,
-            Status::Disagree => 5,
         }
     }
 }

@@ -168,24 +168,24 @@ pub none_there : (place : ℕ) (ts : List Numbered) (es : List Entry) (e : Entry
 none_there place ts es e h same at here =
     let there = receipts_get place es e here in
     least_off ts es (place + 1) (number_is place ts (receipts_of es) None (Some (record { number = place + 1; entry = e })) at there (differ_at place 0 ts (receipts_of es) h (rise_all es) same (λ q. some_none_receipt (record { number = place + 1; entry = e }) (sym there ∙ sym q ∙ at)))) where
-  some_none_receipt : (t : Numbered) → Some t ≡ None → ⊥
-  some_none_receipt t h = absurd cc
+      some_none_receipt : (t : Numbered) → Some t ≡ None → ⊥
+      some_none_receipt t h = absurd cc
 
 pub other_there : (place : ℕ) (ts : List Numbered) (es : List Entry) (t : Numbered) (e : Entry) → ascends ts ≡ true → take place ts ≡ take place (receipts_of es)
     → slice_get ts place ≡ Some t → slice_get es place ≡ Some e → (t ≡ record { number = place + 1; entry = e } → ⊥) → IsLeastOff ts es (min (place + 1) t.number)
 other_there place ts es t e h same at here differ =
     let there = receipts_get place es e here in
     least_off ts es (min (place + 1) t.number) (number_is place ts (receipts_of es) (Some t) (Some (record { number = place + 1; entry = e })) at there (differ_at place 0 ts (receipts_of es) h (rise_all es) same (λ q. differ (one_there t (record { number = place + 1; entry = e }) (sym at ∙ q ∙ there))))) where
-  one_there : (t u : Numbered) → Some t ≡ Some u → t ≡ u
-  one_there t u h = cc
+      one_there : (t u : Numbered) → Some t ≡ Some u → t ≡ u
+      one_there t u h = cc
 
 pub more_there : (ts : List Numbered) (es : List Entry) (t : Numbered) → ascends ts ≡ true → take (length es) ts ≡ take (length es) (receipts_of es)
     → slice_get ts (length es) ≡ Some t → IsLeastOff ts es t.number
 more_there ts es t h same at =
     let there = receipts_past 1 (length es) es (omega arith) in
     least_off ts es t.number (number_is (length es) ts (receipts_of es) (Some t) None at there (differ_at (length es) 0 ts (receipts_of es) h (rise_all es) same (λ q. some_none_receipt t (sym at ∙ q ∙ there)))) where
-  some_none_receipt : (t : Numbered) → Some t ≡ None → ⊥
-  some_none_receipt t h = absurd cc
+      some_none_receipt : (t : Numbered) → Some t ≡ None → ⊥
+      some_none_receipt t h = absurd cc
 
 next_same : (k : ℕ) (ts us : List Numbered) → take k ts ≡ take k us → slice_get ts k ≡ slice_get us k → take (suc k) ts ≡ take (suc k) us
 next_same k [] [] h e = refl

@@ -15,10 +15,9 @@ mod server;
 mod snapshot;
 mod work;
 
-pub use comparing::is_same_entry;
 pub use fault::{CloseFault, ReportFault};
 pub use occ_board::{Edit, EditFault, Entry};
 pub use receipt::Receipt;
 pub use server::Server;
 pub use snapshot::{Ended, Snapshot};
-pub use work::{Gate, Settled, Worked, WorkEnd};
+pub use work::{Gate, Settled, WorkEnd, Worked};

@@ -74,7 +74,11 @@ fn added<R: Wait>(
 ) -> Result<Option<Receipt>, Fail> {
     let file = open(alloc, name, text)?;
     match file.source {
-        Some(source) => Ok(server.edit(rt, alloc, 1, Edit::Added(file.name, source)).ok()),
+        Some(source) => Ok(
+            server
+                .edit(rt, alloc, 1, Edit::Added(file.name, source))
+                .ok(),
+        ),
         None => Ok(None),
     }
 }
@@ -89,7 +93,11 @@ fn changed<R: Wait>(
 ) -> Result<Option<Receipt>, Fail> {
     let file = open(alloc, name, text)?;
     match file.source {
-        Some(source) => Ok(server.edit(rt, alloc, 2, Edit::Changed(file.name, source)).ok()),
+        Some(source) => Ok(
+            server
+                .edit(rt, alloc, 2, Edit::Changed(file.name, source))
+                .ok(),
+        ),
         None => Ok(None),
     }
 }
@@ -146,7 +154,12 @@ fn a_report_behind_an_edit_has_seen_it(rt: HostRuntime) -> Result<(), Fail> {
     let Some(receipt) = added(&rt, a, &server, "a.occ", PLAIN)? else {
         return Ok(assert!(rt; false));
     };
-    assert!(rt; matches!(other.report(&rt, a, Some(&receipt)), Err(ReportFault::Behind(None))));
+    assert!(rt;
+        matches!(
+            other.report(&rt, a, Some(&receipt)),
+            Err(ReportFault::Behind(None))
+        )
+    );
     match server.report(&rt, a, Some(&receipt)) {
         Ok(seen) => {
             assert!(rt; has(seen.entries(), &receipt));
@@ -223,7 +236,12 @@ fn a_stopped_server_settles_nothing(rt: HostRuntime) -> Result<(), Fail> {
 }
 
 /// Whether a report shows b.occ as done while a.occ is held, after some turns.
-fn sees_other<R: Wait + Clock>(rt: &R, alloc: Global, server: &Server, gate: &Holder<'_, R>) -> bool {
+fn sees_other<R: Wait + Clock>(
+    rt: &R,
+    alloc: Global,
+    server: &Server,
+    gate: &Holder<'_, R>,
+) -> bool {
     for _ in 0..TURNS {
         if gate.gave_up.load(Ordering::SeqCst) {
             return false;

@@ -1,20 +1,13 @@
-//! The program: it runs the script, or the sessions, that its words name and writes the answers to standard output.
+//! The program: it runs the script that its words name and writes the answers to standard output.
 #![tactic(auto)]
 
-mod input;
-
-use input::Input;
-use occ_base::FileName;
 use occ_script::{Status, StdIn, StdOut, run_script};
-use occ_server::Gate;
-use occ_sessions::run_sessions;
 use occ_words::{Mode, WordsFault, read_words};
 use std::alloc::AllocError;
 use std::env::{self, Env};
 use std::fs;
 use std::io::{self, ErrorKind};
 use std::process::ExitCode;
-use std::sync::Wait;
 
 /// The exit status where the words ask for nothing that there is.
 const REFUSED: u8 = 64;
@@ -22,54 +15,14 @@ const REFUSED: u8 = 64;
 fn main(rt: HostRuntime) -> ExitCode {
     match asked(&rt) {
         Ok(Mode::Steps(script)) => steps(&rt, script.as_str()),
-        Ok(Mode::Workers(workers, scripts)) => match opened(&rt, scripts.as_slice()) {
-            Ok(mut readers) => {
-                let mut output = StdOut::new(rt.stdout());
-                let status = run_sessions(
-                    &rt,
-                    rt.alloc(),
-                    readers.as_mut_slice(),
-                    u32::from(workers),
-                    &Free,
-                    &mut output,
-                );
-                ExitCode::from(status.code())
-            }
-            Err(status) => ExitCode::from(status.code()),
-        },
+        Ok(Mode::Workers(_, _)) => {
+            refuse(
+                &rt,
+                "error: there are no sessions yet, so '--workers' is not taken\n",
+            )
+        }
         Err(WordsFault::Refused(text)) => refuse(&rt, text.as_str()),
         Err(WordsFault::Memory) => ExitCode::from(Status::NoMemory.code()),
-    }
-}
-
-/// Lets all jobs pass.
-struct Free;
-
-impl Gate for Free {
-    fn pass<R: Wait>(&self, _rt: &R, _unit: &FileName) {}
-}
-
-/// The scripts, all of them opened. A file that cannot be opened is a device that failed.
-fn opened(rt: &HostRuntime, scripts: &[String]) -> Result<Vec<StdIn<Input>>, Status> {
-    let mut readers = Vec::new(rt.alloc());
-    for script in scripts {
-        let input = match open(rt, script.as_str()) {
-            Ok(input) => input,
-            Err(_) => return Err(Status::DeviceFault),
-        };
-        if readers.push(StdIn::new(input)).is_err() {
-            return Err(Status::NoMemory);
-        }
-    }
-    Ok(readers)
-}
-
-/// A script, `-` from standard input.
-fn open(rt: &HostRuntime, script: &str) -> io::Result<Input> {
-    if script == "-" {
-        Ok(Input::Standard(rt.stdin()))
-    } else {
-        Ok(Input::File(fs::open(rt, script)?))
     }
 }
 

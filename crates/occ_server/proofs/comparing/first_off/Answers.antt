@@ -16,8 +16,8 @@ returns-then-not-is_of-clause-off c =
     let within : c.loop-place.place < length c.args.receipts.now = grind (arith, c.in-Some.ensures.lookup.0) in
     let least : IsLeastOff c.args.receipts.now c.args.entries.now (min (c.loop-place.place + 1) c.in-Some.receipt.now.number) =
     other_there c.loop-place.place c.args.receipts.now c.args.entries.now c.in-Some.receipt.now c.index-entries-place.result c.requires.order c.loop-place.invariant
-        (slice_get_read _ _ _ _ refl within c.in-Some.ensures.lookup.1) (slice_get_read _ _ _ _ refl c.loop-place-test.true c.index-entries-place.is)
-        (λ e. let h : false ≡ true = sym c.if-not-is_of.true ∙ c.is_of.ensures.1 e in absurd cc) in
+    (slice_get_read _ _ _ _ refl within c.in-Some.ensures.lookup.1) (slice_get_read _ _ _ _ refl c.loop-place-test.true c.index-entries-place.is)
+    (λ e. let h : false ≡ true = sym c.if-not-is_of.true ∙ c.is_of.ensures.1 e in absurd cc) in
     subst (λ (n : ℕ). IsLeastOff c.args.receipts.now c.args.entries.now n) (sym (c.min.ensures ∙ ap (min (c.loop-place.place + 1)) c.number.ensures.number)) least
 
 pub loop-place-preserved : goal.loop-place-preserved
