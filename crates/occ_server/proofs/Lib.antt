@@ -1,0 +1,5 @@
+pub mod Few
+pub mod Numbers
+pub mod Offs
+pub mod Shows
+pub mod Sources

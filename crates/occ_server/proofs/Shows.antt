@@ -1,0 +1,34 @@
+-- What a report shows.
+use Rattle.std.proofs.Common.{◌≡◌, ◌⊎◌, ◌∙◌, Bool, true, false, ℕ, List, [], ◌∷◌, All, map, if◌then◌else◌, refl, sym, ap, subst, inl, inr}
+use Rattle.std.proofs.lemmas.List.Elements.{All-map}
+use Rattle.std.specs.List.{slice_index_or}
+use Rattle.occ_board.specs.Done.{done}
+use Rattle.occ_board.specs.Journal.{IsLegal, replay}
+use Rattle.occ_board.specs.Machine.{State, report_answer, row_of, rows_of}
+use Rattle.occ_board.specs.declared.entry.Entry.{Entry}
+use Rattle.occ_board.specs.declared.report.Row.{Row}
+use Rattle.occ_board.specs.declared.report.Shown.TheVariants as shown
+use Rattle.occ_check.specs.Input.{Input}
+use Rattle.occ_project.specs.declared.reads.Read.{Read}
+use Rattle.occ_report.specs.Checks.{diags}
+use Rattle.occ_report.specs.Report.{open_units}
+use Rattle.occ_server.specs.Snapshots.{IsShown, IsSnapshot}
+
+units_are : (files : List Read) (kept : List Input) (us : List (List ℕ)) → map (λ (row : Row). row.unit) (map (row_of files kept) us) ≡ us
+units_are files kept [] = refl
+units_are files kept (u ∷ us) = ap (λ (names : List (List ℕ)). u ∷ names) (units_are files kept us)
+
+row_by : (files : List Read) (u : List ℕ) (b : Bool) → IsShown files (record { unit = u; shown = if b then shown.Done (diags files u) else shown.Pending })
+row_by files u true = inr refl
+row_by files u false = inl refl
+
+pub is_snapshot : (es : List Entry) (kept : List Input) → IsLegal es → IsSnapshot es (rows_of (replay es) kept)
+is_snapshot es kept legal = record {
+  legal = legal;
+  units = units_are (replay es) kept (open_units (replay es));
+  shown = All-map (IsShown (replay es)) (row_of (replay es) kept) (open_units (replay es)) (λ k d h. row_by (replay es) (slice_index_or (open_units (replay es)) k d) (done (replay es) kept (slice_index_or (open_units (replay es)) k d)));
+}
+
+pub snapshot_of : (s : State) (es : List Entry) (rows : List Row) → IsLegal s.journal → es ≡ s.journal → rows ≡ report_answer s → IsSnapshot es rows
+snapshot_of s es rows legal same shows =
+    subst (λ (xs : List Entry). IsSnapshot xs rows) (sym same) (subst (λ (rs : List Row). IsSnapshot s.journal rs) (sym shows) (is_snapshot s.journal s.kept legal))

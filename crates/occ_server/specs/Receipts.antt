@@ -1,0 +1,40 @@
+-- Receipts of edits, and how they agree with a journal. Edits are numbered from 1.
+use Rattle.std.specs.Prelude.{◌≡◌, ◌<◌, ◌==◌, ◌+◌, ◌&&◌, nat_lt, ℕ, zero, suc, Bool, true, List, [], ◌∷◌, if◌then◌else◌, Option, Some, None, slice_get}
+use Rattle.occ_board.specs.declared.entry.Entry.{Entry}
+
+-- an edit that was accepted with its session, and its number
+pub record Numbered : Type 0 where
+  pub number : ℕ
+  pub entry : Entry
+
+-- what a journal has at a number
+abbrev pub entry_at : List Entry → ℕ → Option Entry
+entry_at es zero = None
+entry_at es (suc n) = slice_get es n
+
+-- what receipts have at a number
+abbrev pub told_at : List Numbered → ℕ → Option Entry
+told_at [] n = None
+told_at (t ∷ ts) n = if t.number == n then Some t.entry else told_at ts n
+
+-- the receipts of these edits, the first of which has number n
+abbrev pub receipts_from : ℕ → List Entry → List Numbered
+receipts_from n [] = []
+receipts_from n (e ∷ es) = (record { number = n; entry = e }) ∷ receipts_from (n + 1) es
+
+-- the receipts of all edits of a journal, in order
+abbrev pub receipts_of : List Entry → List Numbered
+receipts_of es = receipts_from 1 es
+
+-- each number is greater than the one before, and the first than this
+abbrev pub ascends_behind : ℕ → List Numbered → Bool
+ascends_behind n [] = true
+ascends_behind n (t ∷ ts) = nat_lt n t.number && ascends_behind t.number ts
+
+abbrev pub ascends : List Numbered → Bool
+ascends ts = ascends_behind 0 ts
+
+-- the least number at which receipts and journal do not have the same
+pub record IsLeastOff (ts : List Numbered) (es : List Entry) (n : ℕ) : Type 0 where
+  pub off : told_at ts n ≡ entry_at es n → ⊥
+  pub below : (m : ℕ) → m < n → told_at ts m ≡ entry_at es m

@@ -1,0 +1,169 @@
+ghost use Rattle.occ_server.specs.Receipts.{receipts_of};
+ghost use Rattle.occ_server.specs.Snapshots.{IsBehind, Stands};
+ghost use Rattle.std.specs.Option.{option_copied};
+ghost use Rattle.std.specs.Prelude.{◌≡◌, IfErr, IfOk};
+
+use super::copying::copied_edit;
+use super::locked::Locked;
+use super::{
+    CloseFault, Edit, EditFault, Ended, Gate, Receipt, ReportFault, Settled, Snapshot, WorkEnd,
+    Worked,
+};
+use occ_board::Verdict;
+use occ_check::{Job, Outcome, check};
+use std::alloc::{AllocError, Global};
+use std::sync::{Condvar, Mutex, Wait};
+
+/// A board that threads share. All calls but `new` and `close` may wait for the lock.
+#[derive(Drop)]
+pub struct Server {
+    locked: Mutex<Locked>,
+    /// Told of each change that a thread may wait for.
+    changed: Condvar,
+}
+
+impl Server {
+    /// No file is open, and no edit was made.
+    pub fn new(alloc: Global) -> Server {
+        Server {
+            locked: Mutex::new(Locked::new(alloc)),
+            changed: Condvar::new(),
+        }
+    }
+
+    /// A session makes an edit, also where the server is stopped.
+    pub fn edit<R: Wait>(
+        &self,
+        rt: &R,
+        alloc: Global,
+        session: u32,
+        edit: Edit,
+    ) -> Result<Receipt, EditFault>
+        ensures { IfOk result (λ r. r.entry ≡ record { session = session; edit = edit }) }
+    {
+        let copy = copied_edit(&edit)?;
+        let receipt = self.locked.lock(rt).edit(alloc, session, edit, copy)?;
+        self.changed.notify_all();
+        Ok(receipt)
+    }
+
+    /// Takes jobs, lets each pass the gate, checks and finishes it; waits while there is none to take, and ends once the
+    /// server is stopped. Where memory is refused the job is abandoned and the server stopped.
+    pub fn work<R: Wait, G: Gate>(&self, rt: &R, alloc: Global, gate: &G) -> Worked {
+        let mut worked = Worked::new();
+        for _ in rt.forever() {
+            match self.work_once(rt, alloc, gate) {
+                Ok(Some(verdict)) => worked.count(verdict),
+                Ok(None) => return worked,
+                Err(_refused) => {
+                    self.stop(rt);
+                    worked.end = WorkEnd::Memory;
+                    return worked;
+                }
+            }
+        }
+        unreachable!()
+    }
+
+    /// Works at one job. None once the server is stopped.
+    fn work_once<R: Wait, G: Gate>(
+        &self,
+        rt: &R,
+        alloc: Global,
+        gate: &G,
+    ) -> Result<Option<Verdict>, AllocError> {
+        let Some(job) = self.next(rt, alloc)? else {
+            return Ok(None);
+        };
+        gate.pass(rt, &job.unit());
+        match check(alloc, job) {
+            Ok(outcome) => Ok(Some(self.finish(rt, outcome)?)),
+            Err((job, refused)) => {
+                self.abandon(rt, &job);
+                Err(refused)
+            }
+        }
+    }
+
+    /// Waits for a job. None once the server is stopped.
+    fn next<R: Wait>(&self, rt: &R, alloc: Global) -> Result<Option<Job>, AllocError> {
+        let mut locked = self.locked.lock(rt);
+        for _ in rt.forever() {
+            if locked.stopped {
+                return Ok(None);
+            }
+            if let Some(job) = locked.take(alloc)? {
+                return Ok(Some(job));
+            }
+            locked = self.changed.wait(rt, locked);
+        }
+        unreachable!()
+    }
+
+    /// Finishes an outcome. Where memory is refused its job is abandoned.
+    fn finish<R: Wait>(&self, rt: &R, outcome: Outcome) -> Result<Verdict, AllocError> {
+        match self.judge(rt, outcome) {
+            Ok(verdict) => {
+                self.changed.notify_all();
+                Ok(verdict)
+            }
+            Err((outcome, refused)) => {
+                self.abandon(rt, outcome.job());
+                Err(refused)
+            }
+        }
+    }
+
+    fn judge<R: Wait>(&self, rt: &R, outcome: Outcome) -> Result<Verdict, (Outcome, AllocError)> {
+        self.locked.lock(rt).finish(outcome)
+    }
+
+    fn abandon<R: Wait>(&self, rt: &R, job: &Job) {
+        self.locked.lock(rt).abandon(job);
+        self.changed.notify_all();
+    }
+
+    /// Waits until no unit is pending, or the server is stopped.
+    pub fn settle<R: Wait>(&self, rt: &R) -> Settled {
+        let locked = self
+            .changed
+            .wait_while(rt, self.locked.lock(rt), |locked| locked.is_waiting());
+        locked.settled()
+    }
+
+    /// The report, with the edits that were accepted until then. With a receipt, one that has seen its edit.
+    pub fn report<R: Wait>(
+        &self,
+        rt: &R,
+        alloc: Global,
+        seen: Option<&Receipt>,
+    ) -> Result<Snapshot, ReportFault>
+        ensures stands { IfOk result (λ s. Stands (option_copied seen.entry) s.entries) }
+        ensures behind { IfErr result (λ f. IsBehind (option_copied seen.entry) f) }
+    {
+        let snapshot = self.locked.lock(rt).report(alloc, seen)?;
+        Ok(snapshot)
+    }
+
+    /// From now on workers end, and `settle` waits no more. Edits are still taken.
+    pub fn stop<R: Wait>(&self, rt: &R) {
+        self.locked.lock(rt).stop();
+        self.changed.notify_all();
+    }
+
+    /// Ends with the report from nothing, if these are the receipts of all edits, in order, and no unit is pending. Else
+    /// the server comes back.
+    pub fn close(self, alloc: Global, receipts: &[Receipt]) -> Result<Ended, (Server, CloseFault)>
+        ensures { IfOk result (λ e. receipts.now ≡ receipts_of e.entries) }
+    {
+        let Server { locked, changed } = self;
+        let inner = locked.into_inner();
+        match inner.end(alloc, receipts) {
+            Ok(ended) => Ok(ended),
+            Err(fault) => {
+                let locked = Mutex::new(inner);
+                Err((Server { locked, changed }, fault))
+            }
+        }
+    }
+}

@@ -1,0 +1,351 @@
+use super::expansion::open;
+use occ_base::FileName;
+use occ_board::{Row, Shown};
+use occ_server::{
+    CloseFault, Edit, Entry, Gate, Receipt, ReportFault, Server, Settled, Snapshot, WorkEnd,
+};
+use std::alloc::Global;
+use std::sync::Wait;
+use std::sync::atomic::{AtomicBool, AtomicUsize, Ordering};
+use std::test::Fail;
+use std::thread::{self, Threads};
+use std::time::{Clock, Duration};
+
+/// A unit that declares a procedure and uses no other.
+const PLAIN: &str = "PROC p ()\n  SKIP\n:\n";
+
+/// More turns than any wait takes; each is a millisecond.
+const TURNS: u32 = 10_000;
+
+/// Lets all pass.
+struct Free;
+
+impl Gate for Free {
+    fn pass<R: Wait>(&self, _rt: &R, _unit: &FileName) {}
+}
+
+/// Counts what passes.
+#[derive(Drop)]
+struct Counter {
+    passed: AtomicUsize,
+}
+
+impl Gate for Counter {
+    fn pass<R: Wait>(&self, _rt: &R, _unit: &FileName) {
+        self.passed.fetch_add(1, Ordering::SeqCst);
+    }
+}
+
+/// Holds a.occ until it is told to let it pass, for some time.
+#[derive(Drop)]
+struct Holder<'a, C: Clock> {
+    clock: &'a C,
+    lets_pass: AtomicBool,
+    gave_up: AtomicBool,
+}
+
+impl<C: Clock> Holder<'_, C> {
+    fn hold(&self) {
+        for _ in 0..TURNS {
+            if self.lets_pass.load(Ordering::SeqCst) {
+                return;
+            }
+            thread::sleep(self.clock, Duration::from_millis(1));
+        }
+        self.gave_up.store(true, Ordering::SeqCst);
+    }
+}
+
+impl<C: Clock> Gate for Holder<'_, C> {
+    fn pass<R: Wait>(&self, _rt: &R, unit: &FileName) {
+        if unit.as_bytes() == b"a.occ".as_slice() {
+            self.hold();
+        }
+    }
+}
+
+/// A session opens a file.
+fn added<R: Wait>(
+    rt: &R,
+    alloc: Global,
+    server: &Server,
+    name: &str,
+    text: &str,
+) -> Result<Option<Receipt>, Fail> {
+    let file = open(alloc, name, text)?;
+    match file.source {
+        Some(source) => Ok(
+            server
+                .edit(rt, alloc, 1, Edit::Added(file.name, source))
+                .ok(),
+        ),
+        None => Ok(None),
+    }
+}
+
+/// A session gives an open file another text.
+fn changed<R: Wait>(
+    rt: &R,
+    alloc: Global,
+    server: &Server,
+    name: &str,
+    text: &str,
+) -> Result<Option<Receipt>, Fail> {
+    let file = open(alloc, name, text)?;
+    match file.source {
+        Some(source) => Ok(
+            server
+                .edit(rt, alloc, 2, Edit::Changed(file.name, source))
+                .ok(),
+        ),
+        None => Ok(None),
+    }
+}
+
+/// Whether the row shows its unit as pending.
+fn is_pending(row: &Row) -> bool {
+    matches!(&row.shown, Shown::Pending)
+}
+
+/// Whether a report shows the unit, and not as pending.
+fn is_done(snapshot: &Snapshot, unit: &[u8]) -> bool {
+    snapshot
+        .report()
+        .iter()
+        .any(|row| row.unit.as_bytes() == unit && !is_pending(row))
+}
+
+/// Whether a journal has the edit of a receipt at its number.
+fn has(entries: &[Entry], receipt: &Receipt) -> bool {
+    match entries.get(receipt.number() as usize - 1) {
+        Some(entry) => {
+            entry.session == receipt.session() && entry.edit.name() == receipt.edit().name()
+        }
+        None => false,
+    }
+}
+
+/// Starts workers beside the call, and stops them behind it. Whether they could be started, and the call held.
+fn beside<R: Threads + Wait + Sync, G: Gate + Sync>(
+    rt: &R,
+    alloc: Global,
+    server: &Server,
+    gate: &G,
+    workers: u32,
+) -> bool {
+    thread::scope(thread::scope_env(), rt, |scope| {
+        let mut started = true;
+        for _ in 0..workers {
+            if scope.spawn(|| server.work(rt, alloc, gate)).is_err() {
+                started = false;
+            }
+        }
+        let clear = started && server.settle(rt) == Settled::Clear;
+        server.stop(rt);
+        clear
+    })
+}
+
+#[test]
+fn a_report_behind_an_edit_has_seen_it(rt: HostRuntime) -> Result<(), Fail> {
+    let a = rt.alloc();
+    let server = Server::new(a);
+    let other = Server::new(a);
+    let Some(receipt) = added(&rt, a, &server, "a.occ", PLAIN)? else {
+        return Ok(assert!(rt; false));
+    };
+    assert!(rt;
+        matches!(
+            other.report(&rt, a, Some(&receipt)),
+            Err(ReportFault::Behind(None))
+        )
+    );
+    match server.report(&rt, a, Some(&receipt)) {
+        Ok(seen) => {
+            assert!(rt; has(seen.entries(), &receipt));
+            assert!(rt; !is_done(&seen, b"a.occ"));
+        }
+        Err(_) => assert!(rt; false),
+    }
+    assert!(rt; beside(&rt, a, &server, &Free, 1));
+    match server.report(&rt, a, Some(&receipt)) {
+        Ok(seen) => assert!(rt; is_done(&seen, b"a.occ")),
+        Err(_) => assert!(rt; false),
+    }
+    Ok(())
+}
+
+/// The server that comes back where it is not closed, and why it is not.
+fn refused(
+    alloc: Global,
+    server: Server,
+    receipts: &[Receipt],
+) -> Result<(Server, CloseFault), Fail> {
+    match server.close(alloc, receipts) {
+        Ok(_ended) => Ok((Server::new(alloc), CloseFault::Memory)),
+        Err(refused) => Ok(refused),
+    }
+}
+
+#[test]
+fn a_server_is_closed_with_all_receipts_in_order(rt: HostRuntime) -> Result<(), Fail> {
+    let a = rt.alloc();
+    let server = Server::new(a);
+    let mut receipts = Vec::new(a);
+    if let Some(receipt) = changed(&rt, a, &server, "a.occ", PLAIN)? {
+        receipts.push(receipt)?;
+    }
+    assert_eq!(rt; receipts.len(), 0);
+    if let Some(receipt) = added(&rt, a, &server, "a.occ", PLAIN)? {
+        receipts.push(receipt)?;
+    }
+    if let Some(receipt) = changed(&rt, a, &server, "a.occ", "SKIP\n")? {
+        receipts.push(receipt)?;
+    }
+    assert_eq!(rt; receipts.len(), 2);
+    receipts.as_mut_slice().swap(0, 1);
+    let (server, fault) = refused(a, server, receipts.as_slice())?;
+    assert!(rt; matches!(fault, CloseFault::OutOfOrder));
+    receipts.as_mut_slice().swap(0, 1);
+    let (server, fault) = refused(a, server, receipts.as_slice().split_at(1).0)?;
+    assert!(rt; matches!(fault, CloseFault::Mismatch(2)));
+    let (server, fault) = refused(a, server, receipts.as_slice())?;
+    assert!(rt; matches!(fault, CloseFault::Pending));
+    assert!(rt; beside(&rt, a, &server, &Free, 1));
+    match server.close(a, receipts.as_slice()) {
+        Ok(ended) => {
+            assert_eq!(rt; ended.entries().len(), 2);
+            assert_eq!(rt; ended.report().len(), 1);
+        }
+        Err(_) => assert!(rt; false),
+    }
+    Ok(())
+}
+
+#[test]
+fn a_stopped_server_settles_nothing(rt: HostRuntime) -> Result<(), Fail> {
+    let a = rt.alloc();
+    let server = Server::new(a);
+    assert!(rt; server.settle(&rt) == Settled::Clear);
+    assert!(rt; added(&rt, a, &server, "a.occ", PLAIN)?.is_some());
+    server.stop(&rt);
+    assert!(rt; server.settle(&rt) == Settled::Stopped);
+    assert!(rt; server.work(&rt, a, &Free).end == WorkEnd::Stopped);
+    assert!(rt; changed(&rt, a, &server, "a.occ", "SKIP\n")?.is_some());
+    Ok(())
+}
+
+/// Whether a report shows b.occ as done while a.occ is held, after some turns.
+fn sees_other<R: Wait + Clock>(
+    rt: &R,
+    alloc: Global,
+    server: &Server,
+    gate: &Holder<'_, R>,
+) -> bool {
+    for _ in 0..TURNS {
+        if gate.gave_up.load(Ordering::SeqCst) {
+            return false;
+        }
+        match server.report(rt, alloc, None) {
+            Ok(snapshot) => {
+                if is_done(&snapshot, b"b.occ") {
+                    return !is_done(&snapshot, b"a.occ");
+                }
+            }
+            Err(_) => return false,
+        }
+        thread::sleep(rt, Duration::from_millis(1));
+    }
+    false
+}
+
+/// Whether a worker checks b.occ while another is held before a.occ.
+fn checks_beside<R: Threads + Wait + Clock + Sync>(rt: &R, alloc: Global, server: &Server) -> bool {
+    let gate = Holder {
+        clock: rt,
+        lets_pass: AtomicBool::new(false),
+        gave_up: AtomicBool::new(false),
+    };
+    let holder = &gate;
+    let seen = thread::scope(thread::scope_env(), rt, |scope| {
+        let mut started = true;
+        for _ in 0..2 {
+            if scope.spawn(|| server.work(rt, alloc, holder)).is_err() {
+                started = false;
+            }
+        }
+        let seen = started && sees_other(rt, alloc, server, holder);
+        holder.lets_pass.store(true, Ordering::SeqCst);
+        let clear = started && server.settle(rt) == Settled::Clear;
+        server.stop(rt);
+        seen && clear
+    });
+    seen && !gate.gave_up.load(Ordering::SeqCst)
+}
+
+#[test]
+fn a_worker_checks_while_another_is_held(rt: HostRuntime) -> Result<(), Fail> {
+    let a = rt.alloc();
+    let server = Server::new(a);
+    assert!(rt; added(&rt, a, &server, "a.occ", PLAIN)?.is_some());
+    assert!(rt; added(&rt, a, &server, "b.occ", PLAIN)?.is_some());
+    assert!(rt; checks_beside(&rt, a, &server));
+    Ok(())
+}
+
+/// The names of the users.
+const USERS: [&str; 20] = [
+    "a.occ", "b.occ", "c.occ", "d.occ", "e.occ", "f.occ", "g.occ", "h.occ", "i.occ", "j.occ",
+    "k.occ", "l.occ", "m.occ", "n.occ", "o.occ", "p.occ", "q.occ", "r.occ", "s.occ", "t.occ",
+];
+
+/// Checks all that is pending, makes an edit, and checks what is pending then. How many units passed the gate
+/// behind the edit, if all was checked.
+fn passed_behind<R: Threads + Wait + Sync>(
+    rt: &R,
+    alloc: Global,
+    server: &Server,
+    edit: Edit,
+) -> Option<usize> {
+    let gate = Counter {
+        passed: AtomicUsize::new(0),
+    };
+    let counter = &gate;
+    thread::scope(thread::scope_env(), rt, |scope| {
+        let mut clear = true;
+        for _ in 0..2 {
+            if scope.spawn(|| server.work(rt, alloc, counter)).is_err() {
+                clear = false;
+            }
+        }
+        clear = clear && server.settle(rt) == Settled::Clear;
+        let before = counter.passed.load(Ordering::SeqCst);
+        clear = clear && before == 21;
+        let edited = server.edit(rt, alloc, 2, edit).is_ok();
+        clear = clear && edited;
+        clear = clear && server.settle(rt) == Settled::Clear;
+        server.stop(rt);
+        if clear {
+            counter.passed.load(Ordering::SeqCst).checked_sub(before)
+        } else {
+            None
+        }
+    })
+}
+
+#[test]
+fn a_changed_comment_is_checked_once(rt: HostRuntime) -> Result<(), Fail> {
+    let a = rt.alloc();
+    let server = Server::new(a);
+    assert!(rt; added(&rt, a, &server, "z.occ", "-- one\nPROC z ()\n  SKIP\n:\n")?.is_some());
+    for user in USERS {
+        assert!(rt; added(&rt, a, &server, user, "#USE \"z\"\n")?.is_some());
+    }
+    let file = open(a, "z.occ", "-- another\nPROC z ()\n  SKIP\n:\n")?;
+    let Some(source) = file.source else {
+        return Ok(assert!(rt; false));
+    };
+    let edit = Edit::Changed(file.name, source);
+    assert!(rt; matches!(passed_behind(&rt, a, &server, edit), Some(1)));
+    Ok(())
+}
