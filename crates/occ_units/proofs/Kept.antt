@@ -13,7 +13,7 @@ use Rattle.occ_project.specs.Reads.{place}
 use Rattle.occ_units.specs.declared.facts.Facts.{Facts}
 use Rattle.occ_units.specs.Places.{circular_at, graph_of, is_circular, places_of}
 use Rattle.occ_units.specs.Units.{read_names, used_units}
-use Rattle.occ_units.specs.inside.Keeping.{IsGraph, facts_of}
+use Rattle.occ_units.specs.inside.Keeping.{facts_of}
 use Rattle.occ_units.proofs.Edges.{edge, file_at, no_edge, read_alone, unused, whole}
 
 -- the edges
@@ -28,7 +28,7 @@ pub edges_whole : (files : List Read) (facts : List Facts) (edges : Graph) → f
 edges_whole files facts edges f e = subst IsWhole (sym (edges_are files facts edges f e)) (whole files)
 
 -- what is known at a place
-map_at : {X Y : Type 0} (f : X → Y) (xs : List X) (p : ℕ) (x : X) → slice_get xs p ≡ Some x → slice_get (map f xs) p ≡ Some (f x)
+pub map_at : {X Y : Type 0} (f : X → Y) (xs : List X) (p : ℕ) (x : X) → slice_get xs p ≡ Some x → slice_get (map f xs) p ≡ Some (f x)
 map_at f [] p x e = cc
 map_at f (y ∷ xs) zero x e = let is : y ≡ x = cc in cc
 map_at f (y ∷ xs) (suc p) x e = map_at f xs p x e
@@ -136,8 +136,3 @@ pub used_in_circle : (files : List Read) (u v : List ℕ) (p q : ℕ) (among : B
     → among ≡ graph.is_among (rests (graph_of files) p) q → not among ≡ is_circular files u v
 used_in_circle files u v p q among e f h a =
     ap not a ∙ ap (λ (b : Bool). b && not (graph.is_among (rests (graph_of files) p) q)) (sym h) ∙ in_circle files u v p q e f
-
-pub all_kept : (files same : List Read) (facts lent : List Facts) (edges : Graph) (found : List (List ℕ)) → same ≡ files → facts ≡ map (λ (file : Read). facts_of files file.name) files → lent ≡ facts
-    → edges ≡ map (λ (f : Facts). places_of files f.uses) lent → found ≡ all_rests edges → IsGraph same facts found
-all_kept files same facts lent edges found s f l e r =
-    subst (λ (fs : List Read). IsGraph fs facts found) (sym s) (record { facts_are = f; rests_are = r ∙ ap all_rests (edges_are files lent edges (l ∙ f) e) })

@@ -8,3 +8,4 @@ pub mod Kept
 pub mod Rounds
 pub mod Below
 pub mod Spelled
+pub mod Sharing

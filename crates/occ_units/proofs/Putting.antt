@@ -64,7 +64,7 @@ file_put files file name = ap (λ (m : Option Read). unwrap_or m (record { name 
   by false = refl
 
 -- the name of a file that has a place is greater than one that is below all
-below_found : (low name : List ℕ) (files : List Read) (at : ℕ) → AllByRecursion (λ n. name_cmp low n ≡ Less) (map (λ (f : Read). f.name) files) → place name files ≡ Some at → name_cmp low name ≡ Less
+pub below_found : (low name : List ℕ) (files : List Read) (at : ℕ) → AllByRecursion (λ n. name_cmp low n ≡ Less) (map (λ (f : Read). f.name) files) → place name files ≡ Some at → name_cmp low name ≡ Less
 below_found low name [] at h e = cc
 below_found low name (x ∷ files) at h e = by (bytes_eq x.name name) (place name files) refl (λ k. below_found low name files k h.1) e where
   by : (b : Bool) (o : Option ℕ) → bytes_eq x.name name ≡ b → ((k : ℕ) → o ≡ Some k → name_cmp low name ≡ Less) → cond b (Some 0) (option_map suc o) ≡ Some at → name_cmp low name ≡ Less

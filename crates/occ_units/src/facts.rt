@@ -1,5 +1,6 @@
 ghost use Rattle.occ_units.specs.Places.{places_of as the_places_of};
-ghost use Rattle.occ_units.specs.inside.Keeping.{facts_of as the_facts_of};
+ghost use Rattle.occ_project.specs.Entries.{is_among};
+ghost use Rattle.occ_units.specs.inside.Keeping.{facts_of as the_facts_of, reads_in};
 ghost use Rattle.std.specs.Prelude.{[], map, IfOk, OnOk, ◌++◌, ◌∷◌, ◌≡◌};
 
 use super::Project;
@@ -8,6 +9,13 @@ use super::uses::used_units;
 use occ_base::{FileName, Items, Shared};
 use occ_project::Expanded;
 use std::alloc::{AllocError, Global};
+
+/// Whether the name is one of these.
+pub fn is_name_among(names: &[FileName], name: FileName) -> bool
+    ensures { result ≡ is_among names.now name }
+{
+    names.iter().any(|other| *other == name)
+}
 
 /// What is known of a file of a project.
 #[derive(Drop)]
@@ -18,8 +26,25 @@ pub struct Facts {
     pub uses: Items<FileName>,
 }
 
+/// The names that the expansion of a file looks up, if it has one.
+fn reads(facts: &Facts) -> &[FileName]
+    ensures { result.now ≡ reads_in facts.now.expanded }
+{
+    match &facts.expanded {
+        Some(expanded) => expanded.get().reads(),
+        None => &[],
+    }
+}
+
+/// Whether a file reads that one.
+pub fn does_read(facts: &Facts, name: FileName) -> bool
+    ensures { result ≡ is_among (reads_in facts.now.expanded) name }
+{
+    is_name_among(reads(facts), name)
+}
+
 /// What is known of the file of that name.
-fn facts_of(alloc: Global, project: &Project, name: FileName) -> Result<Facts, AllocError>
+pub fn facts_of(alloc: Global, project: &Project, name: FileName) -> Result<Facts, AllocError>
     ensures { IfOk result (λ facts. facts ≡ the_facts_of project.now name) }
 {
     if !name.is_unit() {
@@ -37,12 +62,12 @@ fn facts_of(alloc: Global, project: &Project, name: FileName) -> Result<Facts, A
 }
 
 /// What is known of each file.
-pub fn all_facts(alloc: Global, project: &Project) -> Result<Items<Facts>, AllocError>
+pub fn all_facts(alloc: Global, project: &Project) -> Result<Items<Shared<Facts>>, AllocError>
     ensures { IfOk result (λ all. all ≡ map (λ file. the_facts_of project.now file.name) project.now) }
 {
     let mut all = Items::new(alloc);
     for file in project.files() {
-        all.push(facts_of(alloc, project, file.name)?)?;
+        all.push(Shared::new(alloc, facts_of(alloc, project, file.name)?)?)?;
     }
     Ok(all)
 }
@@ -76,13 +101,13 @@ fn places_of(
 pub fn edges(
     alloc: Global,
     project: &Project,
-    all: &[Facts],
+    all: &[Shared<Facts>],
 ) -> Result<Items<Items<usize>>, AllocError>
     ensures { IfOk result (λ edges. edges ≡ map (λ facts. the_places_of project.now facts.uses) all.now) }
 {
     let mut edges = Items::new(alloc);
     for facts in all {
-        edges.push(places_of(alloc, project, facts.uses.as_slice())?)?;
+        edges.push(places_of(alloc, project, facts.get().uses.as_slice())?)?;
     }
     Ok(edges)
 }

@@ -1,20 +1,19 @@
-ghost use Rattle.occ_graph.specs.Graph.{is_among as is_place, rests as rests_in};
-ghost use Rattle.occ_project.specs.Entries.{is_among};
+ghost use Rattle.occ_graph.specs.Graph.{all_rests, is_among as is_place, rests as rests_in};
 ghost use Rattle.occ_project.specs.Reads.{place};
 ghost use Rattle.occ_units.specs.Places.{graph_of, is_circular as uses_in_circle, standing_of};
 ghost use Rattle.occ_units.specs.Project.{put};
 ghost use Rattle.occ_units.specs.Units.{read_names, used_units};
-ghost use Rattle.occ_units.specs.inside.Keeping.{facts_of as the_facts_of};
-ghost use Rattle.std.specs.Option.{option_and_then, option_copied, option_map};
-ghost use Rattle.std.specs.Prelude.{[], get_or, IfOk, ◌≡◌};
+ghost use Rattle.occ_units.specs.inside.Keeping.{all_facts as all_facts_of, facts_of as the_facts_of};
+ghost use Rattle.std.specs.Option.{is_some, option_and_then, option_copied, option_map};
+ghost use Rattle.std.specs.Prelude.{[], get_or, IfOk, List, slice_get, true, ℕ, ◌≡◌};
 
-use super::facts::{Facts, all_facts, edges};
+use super::behind::{all_facts_behind, use_same};
+use super::facts::{Facts, all_facts, edges, is_name_among};
 use super::{Project, Standing};
 use occ_base::{FileName, Items, Shared};
 use occ_forms::Source;
 use occ_graph::find_rests;
 use occ_project::Expanded;
-use sqlite_items::at;
 use std::alloc::{AllocError, Global};
 use std::marker::Model;
 use std::slice;
@@ -29,11 +28,14 @@ fn row(rows: &[Items<usize>], place: usize) -> &[usize]
     }
 }
 
-/// Whether the name is one of these.
-fn is_name_among(names: &[FileName], name: FileName) -> bool
-    ensures { result ≡ is_among names.now name }
+/// What is known of the file at a place, if there is one.
+fn facts_at(all: &[Shared<Facts>], place: usize) -> Option<&Facts>
+    ensures { option_copied result ≡ slice_get all.now place }
 {
-    names.iter().any(|other| *other == name)
+    match all.get(place) {
+        Some(facts) => Some(facts.get()),
+        None => None,
+    }
 }
 
 /// Whether the place is one of these.
@@ -49,9 +51,9 @@ fn is_place_among(places: &[usize], place: usize) -> bool
 pub struct Graph {
     project: Project,
     /// What is known of each file, in order of name.
-    facts: Items<Facts>,
-    /// Of each file the places of those that it rests on.
-    rests: Items<Items<usize>>,
+    facts: Items<Shared<Facts>>,
+    /// Of each file the places of those that it rests on; nothing where there are no files.
+    rests: Option<Shared<Items<Items<usize>>>>,
 }
 
 impl Model for Graph {
@@ -79,13 +81,25 @@ fn keep(alloc: Global, project: Project) -> Result<Graph, AllocError>
     ensures { IfOk result (λ graph. graph ≡ project) }
 {
     let facts = all_facts(alloc, &project)?;
-    let edges = edges(alloc, &project, facts.as_slice())?;
-    let rests = find_rests(alloc, edges.as_slice())?;
+    let rests = Some(rests_of(alloc, &project, facts.as_slice())?);
     Ok(Graph {
         project,
         facts,
         rests,
     })
+}
+
+/// Of each file the places of those that it rests on.
+fn rests_of(
+    alloc: Global,
+    project: &Project,
+    facts: &[Shared<Facts>],
+) -> Result<Shared<Items<Items<usize>>>, AllocError>
+    requires { facts.now ≡ all_facts_of project.now }
+    ensures { IfOk result (λ rests. rests ≡ all_rests (graph_of project.now)) }
+{
+    let edges = edges(alloc, project, facts)?;
+    Shared::new(alloc, find_rests(alloc, edges.as_slice())?)
 }
 
 impl Graph {
@@ -96,7 +110,7 @@ impl Graph {
         Graph {
             project: Project::new(alloc),
             facts: Items::new(alloc),
-            rests: Items::new(alloc),
+            rests: None,
         }
     }
 
@@ -119,7 +133,41 @@ impl Graph {
     {
         let mut project = self.project.share(alloc)?;
         project.set(name, revision, source)?;
-        keep(alloc, project)
+        let facts = all_facts_behind(
+            alloc,
+            self.project.files(),
+            self.facts.as_slice(),
+            &project,
+            name,
+        )?;
+        let rests = Some(self.rests_behind(alloc, &project, facts.as_slice(), name)?);
+        Ok(Graph {
+            project,
+            facts,
+            rests,
+        })
+    }
+
+    /// Of each file the places of those that it rests on, behind the edit of one: the same as before, if no file is new and
+    /// each uses the same units.
+    fn rests_behind(
+        &self,
+        alloc: Global,
+        project: &Project,
+        facts: &[Shared<Facts>],
+        edited: FileName,
+    ) -> Result<Shared<Items<Items<usize>>>, AllocError>
+        requires facts { facts.now ≡ all_facts_of project.now }
+        requires places { is_some (place edited self.now) ≡ true → (name : List ℕ) → place name project.now ≡ place name self.now }
+        ensures { IfOk result (λ rests. rests ≡ all_rests (graph_of project.now)) }
+    {
+        if self.project.place(edited).is_none() || !use_same(self.facts.as_slice(), facts) {
+            return rests_of(alloc, project, facts);
+        }
+        match &self.rests {
+            Some(rests) => rests.share(),
+            None => rests_of(alloc, project, facts),
+        }
     }
 
     /// The project that it is of.
@@ -134,7 +182,7 @@ impl Graph {
         ensures { option_copied result ≡ option_map (λ at. the_facts_of self.now name) (place name self.now) }
     {
         match self.project.place(name) {
-            Some(place) => at(self.facts.as_slice(), place),
+            Some(place) => facts_at(self.facts.as_slice(), place),
             None => None,
         }
     }
@@ -172,11 +220,21 @@ impl Graph {
         }
     }
 
+    /// Of each file the places of those that it rests on.
+    fn all_rests(&self) -> &[Items<usize>]
+        ensures { result.now ≡ all_rests (graph_of self.now) }
+    {
+        match &self.rests {
+            Some(rests) => rests.get().as_slice(),
+            None => &[],
+        }
+    }
+
     /// The places of the units that the unit at a place rests on.
     pub fn rests(&self, place: usize) -> &[usize]
         ensures { result.now ≡ rests_in (graph_of self.now) place }
     {
-        row(self.rests.as_slice(), place)
+        row(self.all_rests(), place)
     }
 
     /// Whether the one unit uses the other, which is the same or reaches it by units that each use the next.

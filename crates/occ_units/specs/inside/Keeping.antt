@@ -1,17 +1,33 @@
 -- What a graph keeps.
-use Rattle.std.specs.Prelude.{◌≡◌, ℕ, List, cond, map, Some, None}
+use Rattle.std.specs.Prelude.{◌≡◌, ℕ, false, List, [], cond, map, Option, Some, None}
+use Rattle.std.specs.Option.{unwrap_or}
+use Rattle.std.specs.Str.{bytes_eq}
 use Rattle.occ_base.specs.FileName.{is_unit}
 use Rattle.occ_graph.specs.Graph.{all_rests}
 use Rattle.occ_project.specs.declared.reads.Read.{Read}
-use Rattle.occ_project.specs.Expansion.{expansion}
+use Rattle.occ_project.specs.Expansion.{Expansion, expansion}
 use Rattle.occ_units.specs.declared.facts.Facts.{Facts}
 use Rattle.occ_units.specs.Places.{graph_of}
+use Rattle.occ_units.specs.Project.{file_of}
 use Rattle.occ_units.specs.Units.{used_units}
 
 -- what is known of a file
 abbrev pub facts_of : List Read → List ℕ → Facts
 facts_of files name = record { expanded = cond (is_unit name) (Some (expansion files name)) None; uses = used_units files name }
 
-pub record IsGraph (files : List Read) (facts : List Facts) (rests : List (List ℕ)) : Type 0 where
-  pub facts_are : facts ≡ map (λ file. facts_of files file.name) files
-  pub rests_are : rests ≡ all_rests (graph_of files)
+abbrev pub all_facts : List Read → List Facts
+all_facts files = map (λ file. facts_of files file.name) files
+
+-- what an expansion looks up, if there is one
+abbrev pub reads_in : Option Expansion → List (List ℕ)
+reads_in None = []
+reads_in (Some expansion) = expansion.reads
+
+-- all files but the one of that name are as they were
+abbrev pub AreOthers : List ℕ → List Read → List Read → Type 0
+AreOthers name files later = (other : List ℕ) → bytes_eq name other ≡ false → file_of later other ≡ file_of files other
+
+-- without files there are no rests
+pub record IsGraph (files : List Read) (facts : List Facts) (rests : Option (List (List ℕ))) : Type 0 where
+  pub facts_are : facts ≡ all_facts files
+  pub rests_are : unwrap_or rests [] ≡ all_rests (graph_of files)

@@ -1,0 +1,138 @@
+ghost use Rattle.occ_project.specs.Entries.{is_among};
+ghost use Rattle.occ_units.specs.inside.Keeping.{AreOthers, all_facts, facts_of as the_facts_of, reads_in};
+ghost use Rattle.std.specs.Option.{option_copied};
+ghost use Rattle.std.specs.Prelude.{IfOk, IfSome, IsTrue, false, map, ◌≡◌};
+
+use super::Project;
+use super::facts::{Facts, does_read, facts_of};
+use occ_base::{FileName, Items, Shared};
+use occ_project::Read;
+use sqlite_items::at;
+use std::alloc::{AllocError, Global};
+
+/// What was known of the file of that name, if it stood at this place.
+fn known_at<'a>(
+    files: &[Read],
+    facts: &'a [Shared<Facts>],
+    place: usize,
+    name: FileName,
+) -> Option<&'a Shared<Facts>>
+    requires { facts.now ≡ all_facts files.now }
+    ensures { IfSome (option_copied result) (λ known. known ≡ the_facts_of files.now name) }
+{
+    if at(files, place)?.name != name {
+        return None;
+    }
+    at(facts, place)
+}
+
+/// What was known of the file of that name, if it stood at this place or at the one before it.
+fn known_near<'a>(
+    files: &[Read],
+    facts: &'a [Shared<Facts>],
+    place: usize,
+    name: FileName,
+) -> Option<&'a Shared<Facts>>
+    requires { facts.now ≡ all_facts files.now }
+    ensures { IfSome (option_copied result) (λ known. known ≡ the_facts_of files.now name) }
+{
+    match known_at(files, facts, place, name) {
+        Some(known) => Some(known),
+        None => known_at(files, facts, place.checked_sub(1)?, name),
+    }
+}
+
+/// The same, if the file does not read the one that is edited.
+fn still_known<'a>(
+    files: &[Read],
+    facts: &'a [Shared<Facts>],
+    place: usize,
+    name: FileName,
+    edited: FileName,
+) -> Option<&'a Shared<Facts>>
+    requires { facts.now ≡ all_facts files.now }
+    ensures known { IfSome (option_copied result) (λ known. known ≡ the_facts_of files.now name) }
+    ensures apart { IfSome (option_copied result) (λ known. is_among (reads_in known.expanded) edited ≡ false) }
+{
+    let known = known_near(files, facts, place, name)?;
+    if does_read(known.get(), edited) {
+        return None;
+    }
+    Some(known)
+}
+
+/// What is known of a file behind the edit of one: what was known before, if it does not read that.
+fn facts_behind(
+    alloc: Global,
+    files: &[Read],
+    facts: &[Shared<Facts>],
+    project: &Project,
+    place: usize,
+    name: FileName,
+    edited: FileName,
+) -> Result<Shared<Facts>, AllocError>
+    requires facts { facts.now ≡ all_facts files.now }
+    requires others { AreOthers edited files.now project.now }
+    ensures { IfOk result (λ found. found ≡ the_facts_of project.now name) }
+{
+    match still_known(files, facts, place, name, edited) {
+        Some(known) => known.share(),
+        None => Shared::new(alloc, facts_of(alloc, project, name)?),
+    }
+}
+
+/// What is known of each file behind the edit of one. Only those that read it are expanded anew.
+pub fn all_facts_behind(
+    alloc: Global,
+    files: &[Read],
+    facts: &[Shared<Facts>],
+    project: &Project,
+    edited: FileName,
+) -> Result<Items<Shared<Facts>>, AllocError>
+    requires facts { facts.now ≡ all_facts files.now }
+    requires others { AreOthers edited files.now project.now }
+    ensures { IfOk result (λ all. all ≡ all_facts project.now) }
+{
+    let mut all = Items::new(alloc);
+    for (place, file) in project.files().iter().enumerate() {
+        all.push(facts_behind(alloc, files, facts, project, place, file.name, edited)?)?;
+    }
+    Ok(all)
+}
+
+/// Whether two names are one.
+fn is_same_name(a: FileName, b: FileName) -> bool
+    ensures { IsTrue result → a ≡ b }
+{
+    a == b
+}
+
+/// Whether two lists of names are one.
+fn are_same_names(a: &[FileName], b: &[FileName]) -> bool
+    ensures { IsTrue result → a.now ≡ b.now }
+{
+    if a.len() != b.len() {
+        return false;
+    }
+    for i in 0..a.len() {
+        if !is_same_name(a[i], b[i]) {
+            return false;
+        }
+    }
+    true
+}
+
+/// Whether each file uses the same units as the one at its place among others.
+pub fn use_same(a: &[Shared<Facts>], b: &[Shared<Facts>]) -> bool
+    ensures { IsTrue result → map (λ facts. facts.uses) a.now ≡ map (λ facts. facts.uses) b.now }
+{
+    if a.len() != b.len() {
+        return false;
+    }
+    for i in 0..a.len() {
+        if !are_same_names(a[i].get().uses.as_slice(), b[i].get().uses.as_slice()) {
+            return false;
+        }
+    }
+    true
+}
