@@ -1,4 +1,4 @@
-ghost use Rattle.std.specs.Prelude.{[], ◌∷◌, ◌≡◌, None, Some, true};
+ghost use Rattle.std.specs.Prelude.{[], ◌∷◌, ◌≡◌, None, Some, pos, true};
 ghost use Rattle.occ_base.specs.declared.code.Code.TheVariants as code;
 ghost use Rattle.occ_expression_forms.specs.declared.tree.Element.TheVariants as el;
 ghost use Rattle.occ_expression_forms.specs.declared.tree.Expr.TheVariants as x;
@@ -9,7 +9,13 @@ ghost use Rattle.occ_names.specs.declared.meaning.Access.TheVariants as access;
 ghost use Rattle.occ_names.specs.declared.meaning.Meaning.TheVariants as m;
 ghost use Rattle.occ_names.specs.declared.scope.Scope.{Scope};
 ghost use Rattle.occ_base.specs.Telling.{nameless};
-ghost use Rattle.occ_typed_statements.specs.Statements.{assignment, condition};
+ghost use Rattle.occ_operands.specs.Outcomes.{decimal};
+ghost use Rattle.occ_operands.specs.declared.kind.Kind.TheVariants as k;
+ghost use Rattle.occ_tables.specs.Terms.{judged_all};
+ghost use Rattle.occ_tables.specs.declared.term.Term.TheVariants as v;
+ghost use Rattle.occ_type_rules.specs.Assigning.{assigned};
+ghost use Rattle.occ_typed_statements.specs.Statements.{condition};
+ghost use Rattle.occ_typed_statements.specs.Targets.{targets};
 ghost use Rattle.occ_types.specs.declared.types.OccType.TheVariants as t;
 ghost use Rattle.occ_types.specs.declared.value.Primitive.TheVariants as p;
 
@@ -20,8 +26,9 @@ pub fn condition_rows()
     ensures number { (s : Scope) → condition s (x.Alone (o.Literal (l.Decimal 1))) ≡ nameless code.T7 ∷ [] }
 {}
 
-/// `v := 255` of a VAL name `v`, which is 118: T3 with its name.
-#[tactic(auto, using(occ_expr::proofs::Views::expr_rules, occ_expr::proofs::Views::operand_rules, occ_expr::proofs::Views::element_rules, occ_expr::proofs::Layers::layer_rules, occ_tables::proofs::Judging::judging_rules, crate::proofs::Roots::root_rules), unfolding(occ_expr::specs::Sides::side, occ_expr::specs::Literals::literal, occ_expr::specs::Parts::named_element, crate::specs::Targets::target_of))]
+/// `v := 255` of a VAL name `v`, which is 118: the target tells T3 with its name, and its value tells nothing then.
+#[tactic(auto, using(occ_expr::proofs::Views::element_rules, occ_tables::proofs::Judging::judging_rules, crate::proofs::Roots::root_rules), unfolding(occ_expr::specs::Parts::named_element, crate::specs::Targets::target_of))]
 pub fn assignment_rows()
-    ensures { assignment (entered nothing (118 ∷ []) (m.Element (record { of = t.Primitive p.Byte; access = access.Value; value = None; root = 118 ∷ [] }))) (el.Named (118 ∷ []) [] ∷ []) (x.Alone (o.Literal (l.Decimal 255)) ∷ []) ≡ (record { code = code.T3; name = Some (118 ∷ []) }) ∷ [] }
+    ensures target { targets (entered nothing (118 ∷ []) (m.Element (record { of = t.Primitive p.Byte; access = access.Value; value = None; root = 118 ∷ [] }))) (el.Named (118 ∷ []) [] ∷ []) ≡ (record { faults = (record { code = code.T3; name = Some (118 ∷ []) }) ∷ []; kind = k.Faulty }) ∷ [] }
+    ensures value { assigned (k.Faulty ∷ []) (judged_all (v.Single (k.Free (decimal (pos 255))) ∷ [])) ≡ [] }
 {}
