@@ -1,6 +1,7 @@
 use super::expansion::open;
 use occ_base::FileName;
 use occ_board::{Row, Shown};
+use occ_project::Read;
 use occ_server::{
     CloseFault, Edit, Entry, Gate, Receipt, ReportFault, Server, Settled, Snapshot, WorkEnd,
 };
@@ -72,13 +73,9 @@ fn added<R: Wait>(
     name: &str,
     text: &str,
 ) -> Result<Option<Receipt>, Fail> {
-    let file = open(alloc, name, text)?;
-    match file.source {
-        Some(source) => Ok(
-            server
-                .edit(rt, alloc, 1, Edit::Added(file.name, source))
-                .ok(),
-        ),
+    let Read { name, source, .. } = open(alloc, name, text)?;
+    match source {
+        Some(source) => Ok(server.edit(rt, alloc, 1, Edit::Added(name, source)).ok()),
         None => Ok(None),
     }
 }
@@ -91,13 +88,9 @@ fn changed<R: Wait>(
     name: &str,
     text: &str,
 ) -> Result<Option<Receipt>, Fail> {
-    let file = open(alloc, name, text)?;
-    match file.source {
-        Some(source) => Ok(
-            server
-                .edit(rt, alloc, 2, Edit::Changed(file.name, source))
-                .ok(),
-        ),
+    let Read { name, source, .. } = open(alloc, name, text)?;
+    match source {
+        Some(source) => Ok(server.edit(rt, alloc, 2, Edit::Changed(name, source)).ok()),
         None => Ok(None),
     }
 }
@@ -341,11 +334,11 @@ fn a_changed_comment_is_checked_once(rt: HostRuntime) -> Result<(), Fail> {
     for user in USERS {
         assert!(rt; added(&rt, a, &server, user, "#USE \"z\"\n")?.is_some());
     }
-    let file = open(a, "z.occ", "-- another\nPROC z ()\n  SKIP\n:\n")?;
-    let Some(source) = file.source else {
+    let Read { name, source, .. } = open(a, "z.occ", "-- another\nPROC z ()\n  SKIP\n:\n")?;
+    let Some(source) = source else {
         return Ok(assert!(rt; false));
     };
-    let edit = Edit::Changed(file.name, source);
+    let edit = Edit::Changed(name, source);
     assert!(rt; matches!(passed_behind(&rt, a, &server, edit), Some(1)));
     Ok(())
 }
