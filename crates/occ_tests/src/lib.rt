@@ -13,8 +13,6 @@ mod form;
 #[cfg(test)]
 mod scope;
 #[cfg(test)]
-mod server;
-#[cfg(test)]
 mod types;
 #[cfg(test)]
 mod units;
