@@ -1,6 +1,6 @@
 -- What the language says of a unit none of whose lines has a fault. All else of a check asks it by `lines_judged` alone,
 -- whatever the language is.
-use Rattle.std.specs.Prelude.{ℕ, List, [], ◌∷◌, Some, None}
+use Rattle.std.specs.Prelude.{ℕ, List, [], ◌∷◌, ◌++◌, Some, None}
 use Rattle.std.specs.List.{flat_map}
 use Rattle.occ_base.specs.declared.diag.Diag.{Diag}
 use Rattle.occ_check.specs.Exports.{interface_in}
@@ -8,16 +8,15 @@ use Rattle.occ_check.specs.declared.language.Judgement.{Judgement}
 use Rattle.occ_check.specs.declared.used.Used.{Used}
 use Rattle.occ_check.specs.declared.used.Used.TheVariants as how
 use Rattle.occ_check.specs.declared.used.UsedUnit.{UsedUnit}
-use Rattle.occ_first.specs.Diagnostics.{known_faults}
-use Rattle.occ_first.specs.View.{lines_of}
-use Rattle.occ_project.specs.declared.expanded.ExpandedBody.{ExpandedBody}
-use Rattle.occ_project.specs.declared.expanded.ExpandedBody.TheVariants as body
 use Rattle.occ_project.specs.declared.expanded.ExpandedLine.{ExpandedLine}
 use Rattle.occ_tree.specs.Faults.{shape_faults}
 use Rattle.occ_tree.specs.Forest.{nested}
 use Rattle.occ_typing.specs.TypedLines.{typed_unit}
 use Rattle.occ_typing.specs.Units.{type_faults}
 use Rattle.occ_typed_lines.specs.declared.using.Import.{Import}
+use Rattle.occ_typing.specs.declared.tree.TypedLine.{TypedLine}
+use Rattle.occ_usage.specs.FunctionRule.{function_faults}
+use Rattle.occ_usage.specs.Lines.{parallel_faults}
 
 -- these alone, if there are any, else what comes later
 abbrev pub behind : List Diag → Judgement → Judgement
@@ -38,22 +37,13 @@ shown_by u = shown u.unit u.used
 abbrev pub imports : List UsedUnit → List Import
 imports = flat_map shown_by
 
--- a line, unless it is a `#USE`: the first sublanguage has none, and uses of variables ask nothing of them
-abbrev pub other_line : ExpandedLine → ExpandedBody → List ExpandedLine
-other_line l (body.Form form) = l ∷ []
-other_line l (body.Uses units) = []
-other_line l (body.Fault code) = l ∷ []
+-- of uses: of parallel components, and of functions
+abbrev pub use_faults : List TypedLine → List Diag
+use_faults ls = parallel_faults ls ++ function_faults ls
 
-abbrev pub other_lines : List ExpandedLine → List ExpandedLine
-other_lines = flat_map (λ l. other_line l l.body)
-
--- of lines that are not known yet, and of uses
-abbrev pub uses_told : List ExpandedLine → List Diag
-uses_told ls = known_faults (lines_of (other_lines ls))
-
--- of names and types; else of lines that are not known yet and of uses
+-- of names and types; else of uses
 abbrev pub lines_typed : List ExpandedLine → List Import → Judgement
-lines_typed ls shows = behind (type_faults shows (nested ls)) (record { faults = uses_told ls; interface = Some (interface_in (typed_unit shows (nested ls))) })
+lines_typed ls shows = behind (type_faults shows (nested ls)) (record { faults = use_faults (typed_unit shows (nested ls)); interface = Some (interface_in (typed_unit shows (nested ls))) })
 
 -- of the lines of a unit that uses these: first what is wrong with their shape, else what they mean
 unfoldable pub lines_judged : List ExpandedLine → List UsedUnit → Judgement

@@ -1,0 +1,6 @@
+pub mod Uses
+pub mod Bounds
+pub mod Timers
+pub mod Values
+pub mod Calls
+pub mod Views

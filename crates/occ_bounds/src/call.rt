@@ -1,0 +1,104 @@
+ghost use Rattle.std.specs.Prelude.{◌≡◌, ◌++◌, ◌-◌, IfOk, OnOk, slice_get};
+ghost use Rattle.occ_bounds.specs.Calls.{called as told_called, called_all as told_called_all, made as told_made, named_by as told_named_by, of_actual as told_of_actual};
+
+use super::uses::Use;
+use occ_base::Items;
+use occ_parts::Place;
+use occ_project::Place as Line;
+use occ_types::UseKind;
+use std::alloc::{AllocError, Global};
+
+/// A call that is evaluated.
+#[derive(Drop)]
+pub struct Call {
+    /// The number of the specification that is called.
+    pub callee: usize,
+    /// What each actual is: nothing that is used, where its formal is VAL, or where it is a timer.
+    pub places: Items<Option<Place>>,
+    /// What the values and the subscripts of its actuals use.
+    pub reads: Items<Use>,
+    /// What its body uses.
+    pub uses: Items<Use>,
+}
+
+/// A use of a place, if it is one that is used.
+pub(crate) fn push_made(
+    alloc: Global,
+    kind: UseKind,
+    line: &Line,
+    place: Option<Place>,
+    uses: &mut Items<Use>,
+) -> Result<(), AllocError>
+    ensures { OnOk result (uses.new ≡ uses.old ++ told_made line.now kind place) }
+{
+    let Some(place) = place else {
+        return Ok(());
+    };
+    let chain = Items::from_slice(alloc, place.chain.as_slice())?;
+    let part = place.into_part()?;
+    uses.push(Use {
+        part,
+        kind,
+        line: *line,
+        chain,
+    })
+}
+
+/// A use of a part of a formal, of which this is the actual.
+fn push_of_actual(
+    alloc: Global,
+    line: &Line,
+    found: &Use,
+    place: Option<&Option<Place>>,
+    uses: &mut Items<Use>,
+) -> Result<(), AllocError>
+    ensures { OnOk result (uses.new ≡ uses.old ++ told_of_actual line.now found.now (told_named_by place)) }
+{
+    let Some(Some(place)) = place else {
+        return Ok(());
+    };
+    let part = place.followed_by(alloc, found.part.selectors.as_slice())?;
+    let chain = Items::from_slice(alloc, place.chain.as_slice())?;
+    uses.push(Use {
+        part,
+        kind: found.kind,
+        line: *line,
+        chain,
+    })
+}
+
+/// What a call of a specification with this number does by a use in its body.
+fn push_called(
+    alloc: Global,
+    line: &Line,
+    callee: usize,
+    places: &[Option<Place>],
+    found: &Use,
+    uses: &mut Items<Use>,
+) -> Result<(), AllocError>
+    ensures { OnOk result (uses.new ≡ uses.old ++ told_called line.now callee places.now found.now) }
+{
+    if found.part.root < callee {
+        uses.push(found.at_line(alloc, line)?)
+    } else {
+        let place = places.get(found.part.root - callee);
+        push_of_actual(alloc, line, found, place, uses)
+    }
+}
+
+/// What a call of a specification with this number and these actuals does by the uses of its body.
+pub fn called(
+    alloc: Global,
+    line: &Line,
+    callee: usize,
+    places: &[Option<Place>],
+    body: &[Use],
+    uses: &mut Items<Use>,
+) -> Result<(), AllocError>
+    ensures { OnOk result (uses.new ≡ uses.old ++ told_called_all line.now callee places.now body.now) }
+{
+    for found in body {
+        push_called(alloc, line, callee, places, found, uses)?;
+    }
+    Ok(())
+}

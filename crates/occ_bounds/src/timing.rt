@@ -1,0 +1,15 @@
+ghost use Rattle.std.specs.Prelude.{◌≡◌};
+ghost use Rattle.occ_bounds.specs.Timers.{is_timer as told_timer};
+
+use occ_types::OccType;
+
+/// Whether a type is that of a timer, or of an array of timers.
+pub fn is_timer(of: &OccType) -> bool
+    ensures { result ≡ told_timer of.now }
+{
+    match of {
+        OccType::Array(_, inner) => is_timer(inner.get()),
+        OccType::Timer => true,
+        _ => false,
+    }
+}

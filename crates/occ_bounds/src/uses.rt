@@ -1,0 +1,36 @@
+ghost use Rattle.std.specs.Prelude.{◌≡◌, IfOk};
+ghost use Rattle.occ_bounds.specs.Uses.{at_line};
+
+use occ_base::Items;
+use occ_parts::{Part, copies};
+use occ_project::Place as Line;
+use occ_types::UseKind;
+use std::alloc::{AllocError, Global};
+
+/// A use of a part of a variable, a channel or a formal.
+#[derive(Drop)]
+pub struct Use {
+    pub part: Part,
+    pub kind: UseKind,
+    /// The line at which it stands.
+    pub line: Line,
+    /// The abbreviations by whose names it is made, by the numbers of their specifications.
+    pub chain: Items<usize>,
+}
+
+impl Use {
+    /// The same use, at another line.
+    pub fn at_line(&self, alloc: Global, line: &Line) -> Result<Use, AllocError>
+        ensures { IfOk result (λ moved. moved ≡ at_line self.now line.now) }
+    {
+        Ok(Use {
+            part: Part {
+                root: self.part.root,
+                selectors: copies(alloc, self.part.selectors.as_slice())?,
+            },
+            kind: self.kind,
+            line: *line,
+            chain: Items::from_slice(alloc, self.chain.as_slice())?,
+        })
+    }
+}

@@ -1,0 +1,201 @@
+#![tactic(auto, using(crate::proofs::Views::view_rules))]
+
+ghost use Rattle.std.specs.Prelude.{◌≡◌};
+ghost use Rattle.occ_bounds.specs.Values.{both as told_both, converted_to, count_of as told_count, folded_all, int_of as told_int, known_or, less as told_less, one as told_one, size_number as told_size_number, size_value as told_size_value, whole as told_whole};
+ghost use Rattle.occ_bounds.specs.Views.{element_view, expr_view, expr_views, selector_view, sized};
+
+use super::bound::{Bound, size_at, value_at};
+use occ_base::Shared;
+use occ_typed::{Selector, TypedElement, TypedExpr};
+use occ_types::{Monadic, OccType, Operator, Value, base_of, convert, fold, fold_one};
+
+/// What an operator gives on two values, if they are known and it has one.
+fn both(operator: Operator, a: Option<Value>, b: Option<Value>) -> Option<Value>
+    ensures { result ≡ told_both operator a b }
+{
+    match (a, b) {
+        (Some(a), Some(b)) => fold(operator, a, b).ok(),
+        _ => None,
+    }
+}
+
+/// What an operator gives on a value, if it is known and has one.
+fn one(operator: Monadic, a: Option<Value>) -> Option<Value>
+    ensures { result ≡ told_one operator a }
+{
+    match a {
+        Some(a) => fold_one(operator, a).ok(),
+        None => None,
+    }
+}
+
+/// A value in another type, if it is known and has one there.
+fn converted(of: &OccType, value: Option<Value>) -> Option<Value>
+    ensures { result ≡ converted_to of.now value }
+{
+    match (base_of(of), value) {
+        (Some(base), Some(value)) => convert(base, value).ok(),
+        _ => None,
+    }
+}
+
+/// The number that a value of INT is.
+pub(crate) fn int(value: Option<Value>) -> Option<i32>
+    ensures { result ≡ told_int value }
+{
+    match value {
+        Some(Value::Int(n)) => Some(n),
+        _ => None,
+    }
+}
+
+/// A number of components as a value.
+fn size_value(size: Option<u32>) -> Option<Value>
+    ensures { result ≡ told_size_value size }
+{
+    match size {
+        Some(size) => match i32::try_from(size) {
+            Ok(size) => Some(Value::Int(size)),
+            Err(_) => None,
+        },
+        None => None,
+    }
+}
+
+/// A number as one of components, if it can be one.
+fn size_number(count: Option<i64>) -> Option<u32>
+    ensures { result ≡ told_size_number count }
+{
+    match count {
+        Some(count) => u32::try_from(count).ok(),
+        None => None,
+    }
+}
+
+/// How many components of so many stand from a place on.
+pub(crate) fn less(size: Option<u32>, base: Option<i32>) -> Option<i64>
+    ensures { result ≡ told_less size base }
+{
+    match (size, base) {
+        (Some(size), Some(base)) => Some(i64::from(size) - i64::from(base)),
+        _ => None,
+    }
+}
+
+/// The number of components that is known by the type, or else is known here.
+pub(crate) fn whole(typed: Option<u32>, here: Option<u32>) -> Option<u32>
+    ensures { result ≡ told_whole typed here }
+{
+    match typed {
+        Some(size) => Some(size),
+        None => here,
+    }
+}
+
+/// A number of components that is counted.
+pub(crate) fn count(value: Option<Value>) -> Option<i64>
+    ensures { result ≡ told_count value }
+{
+    match int(value) {
+        Some(n) => Some(i64::from(n)),
+        None => None,
+    }
+}
+
+/// The value of an expression where these specifications are in scope: none where it is not known, and none where it has a
+/// fault.
+#[cycle(values)]
+pub fn value(expr: &TypedExpr, env: &[Bound]) -> Option<Value>
+    ensures { result ≡ (expr_view expr.now).value env.now }
+{
+    match expr {
+        TypedExpr::Literal(known) => known.value,
+        TypedExpr::Element(element) => element_value(element.get(), env),
+        TypedExpr::Operation(known, operator, operands) => match known.value {
+            Some(value) => Some(value),
+            None => operation(*operator, operands.as_slice(), env),
+        },
+        TypedExpr::Applied(known, operator, operand) => match known.value {
+            Some(value) => Some(value),
+            None => one(*operator, value(operand.get(), env)),
+        },
+        TypedExpr::Size(known, operand) => match known.value {
+            Some(value) => Some(value),
+            None => size_value(size(operand.get(), env)),
+        },
+        TypedExpr::Converted(known, operand) => match known.value {
+            Some(value) => Some(value),
+            None => converted(known.of.get(), value(operand.get(), env)),
+        },
+        TypedExpr::Table(_, _) => None,
+        TypedExpr::Call(_, _, _) => None,
+    }
+}
+
+/// The value of operands with one operator between each two.
+#[cycle(values)]
+fn operation(operator: Operator, operands: &[Shared<TypedExpr>], env: &[Bound]) -> Option<Value>
+    ensures { result ≡ folded_all operator (expr_views operands.now) env.now }
+{
+    let (first, more) = operands.split_first()?;
+    let mut found = value(first.get(), env);
+    for operand in more {
+        found = both(operator, found, value(operand.get(), env));
+    }
+    found
+}
+
+/// The value of an element: only a name alone has one.
+fn element_value(element: &TypedElement, env: &[Bound]) -> Option<Value>
+    ensures { result ≡ (element_view element.now).value env.now }
+{
+    match element.known.value {
+        Some(value) => Some(value),
+        None => {
+            if element.selectors.is_empty() {
+                value_at(env, element.referent.spec)
+            } else {
+                None
+            }
+        }
+    }
+}
+
+/// The number of components of an array, as far as the specifications in scope tell it.
+#[cycle(values)]
+pub fn size(expr: &TypedExpr, env: &[Bound]) -> Option<u32>
+    ensures { result ≡ (expr_view expr.now).size env.now }
+{
+    match expr {
+        TypedExpr::Element(element) => element_size(element.get(), env),
+        _ => None,
+    }
+}
+
+/// The number of components of an element, as far as the specifications in scope tell it.
+#[cycle(values)]
+pub fn element_size(element: &TypedElement, env: &[Bound]) -> Option<u32>
+    ensures { result ≡ (element_view element.now).size env.now }
+{
+    let mut found = size_at(env, element.referent.spec);
+    for selector in element.selectors.as_slice() {
+        found = size_within(selector, found, env);
+    }
+    found
+}
+
+/// The number of components of what is selected from so many.
+#[cycle(values)]
+pub(crate) fn size_within(selector: &Selector, size: Option<u32>, env: &[Bound]) -> Option<u32>
+    ensures { result ≡ (selector_view selector.now).size env.now size }
+{
+    match selector {
+        Selector::Field(_, _) => None,
+        Selector::Component(_) => None,
+        Selector::From(typed, base) => {
+            size_number(less(whole(*typed, size), int(value(base.get(), env))))
+        }
+        Selector::For(_, length) => size_number(count(value(length.get(), env))),
+        Selector::FromFor(_, _, length) => size_number(count(value(length.get(), env))),
+    }
+}

@@ -1,4 +1,0 @@
-pub mod Nested
-pub mod Scopes
-pub mod Marked
-pub mod Viewed

@@ -1,9 +1,0 @@
-pub mod Faults
-pub mod Nesting
-pub mod Scope
-pub mod Mentions
-pub mod Parallel
-pub mod Diagnostics
-pub mod Samples
-pub mod View
-pub mod inside

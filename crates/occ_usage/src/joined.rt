@@ -1,0 +1,19 @@
+ghost use Rattle.std.specs.Prelude.{◌≡◌, concat, IfOk};
+
+use occ_base::Items;
+use occ_bounds::Use;
+use std::alloc::{AllocError, Global};
+
+/// The uses of all components, one behind the other.
+pub(crate) fn joined(
+    alloc: Global,
+    components: Vec<Items<Use>>,
+) -> Result<Items<Use>, AllocError>
+    ensures { IfOk result (λ all. all ≡ concat components.items) }
+{
+    let mut all = Items::new(alloc);
+    for one in components {
+        all.append(one)?;
+    }
+    Ok(all)
+}
