@@ -39,7 +39,7 @@ added_exports (Some entries) = flat_map entry_exports entries
 
 -- what comes into scope behind a `#USE` is the used unit's, and is not exported again
 abbrev pub is_use : TypedForm → Bool
-is_use form.Uses = true
+is_use (form.Uses interfaces) = true
 is_use other = false
 
 abbrev pub line_exports : TypedLine → List Export

@@ -68,7 +68,7 @@ fn add_entry(alloc: Global, entry: &Entry, found: &mut Vec<Export>) -> Result<()
 fn is_use(line: &TypedLine) -> bool
     ensures { result ≡ is_use_form (out-TypedLine line.now).form }
 {
-    matches!(line.form.get(), TypedForm::Uses)
+    matches!(line.form.get(), TypedForm::Uses(_))
 }
 
 /// Adds what comes into scope behind a line, as far as it is exported.

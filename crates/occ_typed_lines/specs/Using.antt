@@ -8,6 +8,7 @@ use Rattle.occ_types.specs.declared.interface.Export.{Export}
 use Rattle.occ_types.specs.declared.interface.ExportKind.{ExportKind}
 use Rattle.occ_types.specs.declared.interface.ExportKind.TheVariants as kind
 use Rattle.occ_types.specs.declared.interface.Formal.{Formal}
+use Rattle.occ_types.specs.declared.interface.Interface.{Interface}
 use Rattle.occ_types.specs.declared.types.OccType.{OccType}
 use Rattle.occ_typed_lines.specs.declared.using.Import.{Import}
 
@@ -22,11 +23,17 @@ abbrev pub entries_of : List Export → List Entry
 entries_of [] = []
 entries_of (x ∷ xs) = entry_of x ∷ entries_of xs
 
--- the exports of the first import of this unit; a unit of which there is none exports nothing
-abbrev pub exports_of : List ℕ → List Import → List Export
-exports_of unit [] = []
-exports_of unit (i ∷ is) = if bytes_eq i.unit unit then i.interface.exports else exports_of unit is
+-- what the first import of this unit shows; a unit of which there is none shows nothing
+abbrev pub interface_of : List ℕ → List Import → List Interface
+interface_of unit [] = []
+interface_of unit (i ∷ is) = if bytes_eq i.unit unit then i.interface ∷ [] else interface_of unit is
 
-abbrev pub imported : List Import → List (List ℕ) → List Entry
-imported is [] = []
-imported is (unit ∷ units) = entries_of (exports_of unit is) ++ imported is units
+-- what these units show
+abbrev pub interfaces : List Import → List (List ℕ) → List Interface
+interfaces is [] = []
+interfaces is (unit ∷ units) = interface_of unit is ++ interfaces is units
+
+-- what comes into scope by what is shown
+abbrev pub imported : List Interface → List Entry
+imported [] = []
+imported (i ∷ is) = entries_of i.exports ++ imported is

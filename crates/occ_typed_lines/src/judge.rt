@@ -12,7 +12,7 @@ use super::parent::{Line, Parent, Role};
 use super::part::{expressions, part};
 use super::specifying::one_line;
 use super::tree::TypedForm;
-use super::using::{Import, imported};
+use super::using::{Import, imported, interfaces};
 use super::variant::tagged;
 use occ_base::{Diag, Fault, Items};
 use occ_forms::Form;
@@ -99,8 +99,9 @@ fn line(
             form_line(alloc, form.get(), nodes, scope, parent, found, faults)
         }
         ExpandedBody::Uses(units) => {
-            let adds = imported(alloc, imports, units.as_slice())?;
-            Ok(line_of_one(alloc, adds, TypedForm::Uses, parent))
+            let interfaces = interfaces(alloc, imports, units.as_slice())?;
+            let adds = imported(alloc, interfaces.as_slice())?;
+            Ok(line_of_one(alloc, adds, TypedForm::Uses(interfaces), parent))
         }
         ExpandedBody::Fault(_) => Ok(main(alloc, TypedForm::Unknown, parent)),
     }

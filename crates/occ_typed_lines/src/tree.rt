@@ -3,6 +3,7 @@ use occ_names::{Entry, Referent};
 use occ_replicators::TypedReplicator;
 use occ_typed::{TypedActual, TypedElement, TypedExpr};
 use occ_typed_exchanges::{TypedInput, TypedOutput, TypedTarget};
+use occ_types::Interface;
 
 /// What a block does with the lines under it. PRI PAR and PRI ALT are checked as PAR and ALT.
 #[derive(Clone, Copy)]
@@ -47,8 +48,8 @@ pub enum TypedForm {
     DataType,
     /// `PROTOCOL n IS item; ..:`
     Protocol,
-    /// `#USE`
-    Uses,
+    /// `#USE`: what its units show, in their order.
+    Uses(Items<Shared<Interface>>),
     /// `PROC n (formals)`
     ProcedureHead,
     /// `t, .. FUNCTION n (formals)`

@@ -1,4 +1,4 @@
-ghost use Rattle.occ_typed_lines.specs.Using.{entry_of, entries_of, exports_of as told_exports, imported as told_imported, meaning_of as told_meaning};
+ghost use Rattle.occ_typed_lines.specs.Using.{entry_of, entries_of, imported as told_imported, interface_of, interfaces as told_interfaces, meaning_of as told_meaning};
 ghost use Rattle.std.specs.Prelude.{◌≡◌, ◌++◌, ◌∷◌, [], IfOk, OnOk};
 
 use occ_base::{FileName, Items, Shared};
@@ -80,29 +80,47 @@ fn push_exports(
     Ok(())
 }
 
-/// The exports of a unit.
-fn exports_of<'a>(unit: &FileName, imports: &'a [Import]) -> &'a [Export]
-    ensures { result.now ≡ told_exports unit.now imports.now }
+/// Adds what a unit shows; one of which there is no import shows nothing.
+fn push_interface(
+    unit: &FileName,
+    imports: &[Import],
+    found: &mut Items<Shared<Interface>>,
+) -> Result<(), AllocError>
+    ensures { OnOk result (found.new ≡ found.old ++ interface_of unit.now imports.now) }
 {
     for import in imports {
         if import.unit == *unit {
-            return import.interface.get().exports.as_slice();
+            return found.push(import.interface.share()?);
         }
     }
-    &[]
+    Ok(())
 }
 
-/// What comes into scope behind a line that uses units.
-pub fn imported(
+/// What the units show that a line uses, in their order.
+pub fn interfaces(
     alloc: Global,
     imports: &[Import],
     units: &[FileName],
+) -> Result<Items<Shared<Interface>>, AllocError>
+    ensures { IfOk result (λ found. found ≡ told_interfaces imports.now units.now) }
+{
+    let mut found = Items::new(alloc);
+    for unit in units {
+        push_interface(unit, imports, &mut found)?;
+    }
+    Ok(found)
+}
+
+/// What comes into scope behind a line that uses units which show this.
+pub fn imported(
+    alloc: Global,
+    interfaces: &[Shared<Interface>],
 ) -> Result<Items<Entry>, AllocError>
-    ensures { IfOk result (λ entries. entries ≡ told_imported imports.now units.now) }
+    ensures { IfOk result (λ entries. entries ≡ told_imported interfaces.now) }
 {
     let mut entries = Items::new(alloc);
-    for unit in units {
-        push_exports(alloc, exports_of(unit, imports), &mut entries)?;
+    for interface in interfaces {
+        push_exports(alloc, interface.get().exports.as_slice(), &mut entries)?;
     }
     Ok(entries)
 }

@@ -1,10 +1,18 @@
-use super::bounds::{cut, enter_all};
-use super::effects::{form_effect, results_effect};
-use super::form::{each, form_uses};
-use super::pairs::root_name;
-use super::walk::{is_head, line as judged_line};
+#![tactic(auto, using(crate::proofs::Trees::first_tree))]
+
+ghost use Rattle.std.specs.Prelude.{◌≡◌, ◌++◌, IfOk, OnOk, length, take};
+ghost use Rattle.occ_base.specs.Errors.{error_if};
+ghost use Rattle.occ_base.specs.declared.code.Code.TheVariants.{F1};
+ghost use Rattle.occ_usage.specs.Effect.{inner as told_inner};
+ghost use Rattle.occ_usage.specs.FunctionRule.{counted as told_counted, faults as told_faults, function_faults as told_function, is_write as tells_write, line_faults as told_line, one_line_faults as told_one_line, results_faults as told_results, whole_faults as told_whole, within_under as told_within, write_fault as told_write, write_faults as told_writes};
+ghost use Rattle.occ_usage.specs.Lines.{behind_by, behind_line};
+ghost use Rattle.occ_usage.specs.Trees.{head_of, trees_of, under as lines_under};
+
+use super::walk::{known_replicator, line as judged_line};
 use occ_base::{Code, Diag, Items, Shared};
 use occ_bounds::{Bound, Use};
+use occ_clashes::root_name;
+use occ_line_uses::{cut, each_effect, each_uses, enter_all, form_effect, form_uses};
 use occ_names::Entry;
 use occ_project::Place as Line;
 use occ_typed::TypedExpr;
@@ -13,23 +21,37 @@ use occ_types::UseKind;
 use occ_typing::{Typed, TypedLine};
 use std::alloc::{AllocError, Global};
 
-/// Where lines stand: in the body of a function round which so many specifications stand, and whether they are ever
-/// executed; or in none.
+/// Where a line stands.
 #[derive(Clone, Copy)]
-enum Within {
+pub(crate) enum Within {
+    /// In no FUNCTION.
     Nothing,
+    /// In the body of a FUNCTION round which so many specifications stand, and whether it is ever executed there.
     Function(usize, bool),
 }
 
-/// A use that writes something outside a function.
+fn is_write(kind: UseKind) -> bool
+    ensures { result ≡ tells_write kind }
+{
+    match kind {
+        UseKind::Write => true,
+        UseKind::Read => false,
+        UseKind::Input => false,
+        UseKind::Output => false,
+    }
+}
+
+/// What is told of a use in a FUNCTION round which so many specifications stand.
 fn write_fault(
     alloc: Global,
     number: usize,
     found: &Use,
     env: &[Bound],
     faults: &mut Items<Diag>,
-) -> Result<(), AllocError> {
-    if found.kind != UseKind::Write || found.part.root >= number {
+) -> Result<(), AllocError>
+    ensures { OnOk result (faults.new ≡ faults.old ++ told_write number env.now found.now) }
+{
+    if !(is_write(found.kind) && found.part.root < number) {
         return Ok(());
     }
     let name = root_name(alloc, env, found.part.root)?;
@@ -42,18 +64,23 @@ fn write_faults(
     uses: &[Use],
     env: &[Bound],
     faults: &mut Items<Diag>,
-) -> Result<(), AllocError> {
+) -> Result<(), AllocError>
+    ensures { OnOk result (faults.new ≡ faults.old ++ told_writes number env.now uses.now) }
+{
     for found in uses {
         write_fault(alloc, number, found, env, faults)?;
     }
     Ok(())
 }
 
+/// What is told of a line that perhaps has an effect.
 fn effect_fault(
     has_effect: bool,
     line: &Line,
     faults: &mut Items<Diag>,
-) -> Result<(), AllocError> {
+) -> Result<(), AllocError>
+    ensures { OnOk result (faults.new ≡ faults.old ++ error_if has_effect line.now.file line.now.line F1) }
+{
     if has_effect {
         faults.push(Diag::error(line.file, line.line, Code::F1, None))
     } else {
@@ -61,14 +88,16 @@ fn effect_fault(
     }
 }
 
-/// What is told of a line of a function.
-fn own_faults(
+/// What is told of a line of a FUNCTION.
+fn line_faults(
     alloc: Global,
     line: &TypedLine,
     within: Within,
     env: &[Bound],
     faults: &mut Items<Diag>,
-) -> Result<(), AllocError> {
+) -> Result<(), AllocError>
+    ensures { OnOk result (faults.new ≡ faults.old ++ told_line within (head_of line.now) env.now) }
+{
     let Within::Function(number, is_live) = within else {
         return Ok(());
     };
@@ -81,86 +110,85 @@ fn own_faults(
     write_faults(alloc, number, uses.as_slice(), env, faults)
 }
 
-/// What is told of a function of one line.
-fn one_line_faults(
+/// What is told of the results of a FUNCTION of one line.
+fn results_faults(
     alloc: Global,
     formals: &[Entry],
     results: &[Shared<TypedExpr>],
     line: &Line,
     env: &mut Items<Bound>,
     faults: &mut Items<Diag>,
-) -> Result<(), AllocError> {
+) -> Result<(), AllocError>
+    ensures faults { OnOk result (faults.new ≡ faults.old ++ told_results formals.now results.now env.old line.now) }
+    ensures env { OnOk result (env.new ≡ env.old) }
+{
     let depth = env.len();
     enter_all(alloc, formals, env)?;
-    effect_fault(results_effect(results, env.as_slice()), line, faults)?;
+    effect_fault(each_effect(results, env.as_slice()), line, faults)?;
     let mut uses = Items::new(alloc);
-    each(alloc, results, env.as_slice(), line, &mut uses)?;
+    each_uses(alloc, results, env.as_slice(), line, &mut uses)?;
     write_faults(alloc, depth, uses.as_slice(), env.as_slice(), faults)?;
     cut(env, depth);
     Ok(())
 }
 
-/// Where the lines under a line stand.
-fn within_under(form: &TypedForm, depth: usize, within: Within) -> Within {
-    match form {
-        TypedForm::FunctionHead => Within::Function(depth, true),
-        TypedForm::Block(_, Some(replicator)) => match replicator.known {
-            Some(known) => counted(known.count, within),
-            None => within,
-        },
-        _ => {
-            if is_head(form) {
-                Within::Nothing
-            } else {
-                within
-            }
-        }
-    }
-}
-
-fn counted(count: u32, within: Within) -> Within {
-    match within {
-        Within::Function(number, is_live) => Within::Function(number, is_live && count != 0),
-        Within::Nothing => Within::Nothing,
-    }
-}
-
-/// A line, with those under it.
-#[cycle(function)]
-fn line(
+/// What is told of a line, if it is a FUNCTION of one line.
+fn one_line_faults(
     alloc: Global,
     line: &TypedLine,
-    depth: usize,
-    within: Within,
     env: &mut Items<Bound>,
     faults: &mut Items<Diag>,
-) -> Result<(), AllocError> {
-    own_faults(alloc, line, within, env.as_slice(), faults)?;
-    if let TypedForm::OneLineFunction(formals, results) = line.form.get() {
-        one_line_faults(
+) -> Result<(), AllocError>
+    ensures faults { OnOk result (faults.new ≡ faults.old ++ told_one_line (head_of line.now).form env.old (head_of line.now).place) }
+    ensures env { OnOk result (env.new ≡ env.old) }
+{
+    match line.form.get() {
+        TypedForm::OneLineFunction(formals, results) => results_faults(
             alloc,
             formals.as_slice(),
             results.as_slice(),
             &line.place,
             env,
             faults,
-        )?;
+        ),
+        _ => Ok(()),
     }
-    let inner = within_under(line.form.get(), env.len(), within);
-    let count = env.len();
-    enter_all(alloc, line.enters.as_slice(), env)?;
-    lines(alloc, line.under.as_slice(), inner, env, faults)?;
-    cut(env, count);
-    go_behind(alloc, line, depth, env)
 }
 
-/// What stands in scope behind a line.
+/// Under a replicator of so many rounds.
+fn counted(count: u32, within: Within) -> Within
+    ensures { result ≡ told_counted count within }
+{
+    match within {
+        Within::Function(number, is_live) => Within::Function(number, is_live && count != 0),
+        Within::Nothing => Within::Nothing,
+    }
+}
+
+/// Where the lines under a line stand that has so many specifications round it.
+fn within_under(form: &TypedForm, depth: usize, within: Within) -> Within
+    ensures { result ≡ told_within form.now depth within }
+{
+    match form {
+        TypedForm::FunctionHead => Within::Function(depth, true),
+        TypedForm::ProcedureHead => Within::Nothing,
+        TypedForm::Block(_, _) => match known_replicator(form) {
+            Some(known) => counted(known.count, within),
+            None => within,
+        },
+        _ => within,
+    }
+}
+
+/// Goes behind a line: so many specifications stand round its item.
 pub(crate) fn go_behind(
     alloc: Global,
     line: &TypedLine,
     depth: usize,
     env: &mut Items<Bound>,
-) -> Result<(), AllocError> {
+) -> Result<(), AllocError>
+    ensures { OnOk result (env.new ≡ behind_line (take depth env.old) env.old (head_of line.now) (lines_under line.now)) }
+{
     if line.adds.is_none() {
         cut(env, depth);
         return Ok(());
@@ -170,6 +198,45 @@ pub(crate) fn go_behind(
     judged_line(alloc, line, env, &mut uses, &mut faults)
 }
 
+/// What is told of the lines under a line.
+#[cycle(function)]
+fn under_faults(
+    alloc: Global,
+    line: &TypedLine,
+    within: Within,
+    env: &mut Items<Bound>,
+    faults: &mut Items<Diag>,
+) -> Result<(), AllocError>
+    ensures faults { OnOk result (faults.new ≡ faults.old ++ told_faults within (lines_under line.now) (told_inner env.old (head_of line.now)) (told_inner env.old (head_of line.now))) }
+    ensures env { OnOk result (env.new ≡ env.old) }
+{
+    let depth = env.len();
+    enter_all(alloc, line.enters.as_slice(), env)?;
+    lines(alloc, line.under.as_slice(), within, env, faults)?;
+    cut(env, depth);
+    Ok(())
+}
+
+/// What is told of a line with those under it, and what stands in scope behind it.
+#[cycle(function)]
+fn line(
+    alloc: Global,
+    line: &TypedLine,
+    depth: usize,
+    within: Within,
+    env: &mut Items<Bound>,
+    faults: &mut Items<Diag>,
+) -> Result<(), AllocError>
+    ensures faults { OnOk result (faults.new ≡ faults.old ++ told_whole within (head_of line.now) (lines_under line.now) env.old) }
+    ensures env { OnOk result (env.new ≡ behind_line (take depth env.old) env.old (head_of line.now) (lines_under line.now)) }
+{
+    line_faults(alloc, line, within, env.as_slice(), faults)?;
+    one_line_faults(alloc, line, env, faults)?;
+    let inner = within_under(line.form.get(), env.len(), within);
+    under_faults(alloc, line, inner, env, faults)?;
+    go_behind(alloc, line, depth, env)
+}
+
 #[cycle(function)]
 fn lines(
     alloc: Global,
@@ -177,7 +244,10 @@ fn lines(
     within: Within,
     env: &mut Items<Bound>,
     faults: &mut Items<Diag>,
-) -> Result<(), AllocError> {
+) -> Result<(), AllocError>
+    ensures faults { OnOk result (faults.new ≡ faults.old ++ told_faults within (trees_of lines.now) env.old env.old) }
+    ensures env { OnOk result (env.new ≡ env.old) }
+{
     let depth = env.len();
     for one in lines {
         line(alloc, one, depth, within, env, faults)?;
@@ -186,8 +256,10 @@ fn lines(
     Ok(())
 }
 
-/// What the function rule tells of a unit.
-pub fn function_faults(alloc: Global, typed: &Typed) -> Result<Items<Diag>, AllocError> {
+/// What the function rule tells of a unit, in no order, some perhaps more than once.
+pub fn function_faults(alloc: Global, typed: &Typed) -> Result<Items<Diag>, AllocError>
+    ensures { IfOk result (λ faults. faults ≡ told_function typed.now.lines) }
+{
     let mut env = Items::new(alloc);
     let mut faults = Items::new(alloc);
     lines(

@@ -1,24 +1,41 @@
-use super::form::used;
-use super::pairs::target_faults;
+ghost use Rattle.std.specs.Prelude.{◌≡◌, ◌++◌, IfOk, OnOk};
+ghost use Rattle.occ_usage.specs.ParallelRule.{assignment_faults as told_assignment, targets as told_targets};
+
 use occ_base::{Diag, Items};
 use occ_bounds::{Bound, Use};
+use occ_clashes::target_faults;
+use occ_line_uses::used;
 use occ_project::Place as Line;
 use occ_typed::TypedElement;
 use occ_types::UseKind;
 use std::alloc::{AllocError, Global};
 
-/// The uses of each target.
+/// What a target of an assignment uses.
+fn target(
+    alloc: Global,
+    element: &TypedElement,
+    env: &[Bound],
+    line: &Line,
+) -> Result<Items<Use>, AllocError>
+    ensures { IfOk result (λ own. told_targets (element.now ∷ []) env.now line.now ≡ own ∷ []) }
+{
+    let mut own = Items::new(alloc);
+    used(alloc, UseKind::Write, element, env, line, &mut own)?;
+    Ok(own)
+}
+
+/// The targets of an assignment as components.
 fn targets(
     alloc: Global,
     elements: &[TypedElement],
     env: &[Bound],
     line: &Line,
-) -> Result<Items<Items<Use>>, AllocError> {
-    let mut found = Items::new(alloc);
+) -> Result<Vec<Items<Use>>, AllocError>
+    ensures { IfOk result (λ found. found.items ≡ told_targets elements.now env.now line.now) }
+{
+    let mut found = Vec::new(alloc);
     for element in elements {
-        let mut own = Items::new(alloc);
-        used(alloc, UseKind::Write, element, env, line, &mut own)?;
-        found.push(own)?;
+        found.push(target(alloc, element, env, line)?)?;
     }
     Ok(found)
 }
@@ -30,7 +47,9 @@ pub(crate) fn assignment_faults(
     env: &[Bound],
     line: &Line,
     faults: &mut Items<Diag>,
-) -> Result<(), AllocError> {
+) -> Result<(), AllocError>
+    ensures { OnOk result (faults.new ≡ faults.old ++ told_assignment elements.now env.now line.now) }
+{
     if elements.len() < 2 {
         return Ok(());
     }

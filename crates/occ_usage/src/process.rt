@@ -1,8 +1,16 @@
-use super::bounds::{cut, enter_all};
+#![tactic(auto, using(crate::proofs::Trees::first_tree))]
+
+ghost use Rattle.std.specs.Prelude.{◌≡◌, ◌++◌, IfOk, OnOk, length, take};
+ghost use Rattle.occ_usage.specs.Effect.{inner as told_inner};
+ghost use Rattle.occ_usage.specs.Lines.{behind_line, items_of, line_uses as told_line_uses};
+ghost use Rattle.occ_usage.specs.Processes.{from_round, is_number as tells_number, own_uses as told_own, process_uses as told_uses, uses_in, whole_uses as told_whole};
+ghost use Rattle.occ_usage.specs.Trees.{head_of, trees_of, under as lines_under};
+
 use super::function::go_behind;
 use super::walk::line as judged_line;
 use occ_base::Items;
 use occ_bounds::{Bound, Use};
+use occ_line_uses::{cut, enter_all};
 use occ_typing::{ProcessId, Typed, TypedLine};
 use std::alloc::{AllocError, Global};
 
@@ -13,12 +21,15 @@ pub struct Summary {
     pub uses: Items<Use>,
 }
 
-/// The uses of a line with those under it.
+/// What a line uses with those under it.
 fn line_uses(
     alloc: Global,
     line: &TypedLine,
     env: &mut Items<Bound>,
-) -> Result<Items<Use>, AllocError> {
+) -> Result<Items<Use>, AllocError>
+    ensures uses { IfOk result (λ uses. uses ≡ told_line_uses env.old (head_of line.now) (items_of (lines_under line.now))) }
+    ensures env { OnOk result (env.new ≡ env.old) }
+{
     let mut uses = Items::new(alloc);
     let mut faults = Items::new(alloc);
     let depth = env.len();
@@ -27,30 +38,85 @@ fn line_uses(
     Ok(uses)
 }
 
-/// The uses of what so many specifications are.
-fn outside(depth: usize, mut uses: Items<Use>, found: &mut Items<Use>) -> Result<(), AllocError> {
-    while let Some(one) = uses.pop() {
-        if one.part.root < depth {
-            found.push(one)?;
-        }
+/// Adds a use, if it is one of what so many specifications are.
+fn push_from_round(
+    alloc: Global,
+    depth: usize,
+    one: &Use,
+    found: &mut Items<Use>,
+) -> Result<(), AllocError>
+    ensures { OnOk result (found.new ≡ found.old ++ from_round depth (one.now ∷ [])) }
+{
+    if one.part.root < depth {
+        found.push(one.at_line(alloc, &one.line)?)
+    } else {
+        Ok(())
+    }
+}
+
+/// Adds the uses of what so many specifications are.
+fn add_from_round(
+    alloc: Global,
+    depth: usize,
+    uses: &[Use],
+    found: &mut Items<Use>,
+) -> Result<(), AllocError>
+    ensures { OnOk result (found.new ≡ found.old ++ from_round depth uses.now) }
+{
+    for one in uses {
+        push_from_round(alloc, depth, one, found)?;
     }
     Ok(())
 }
 
-fn own_uses(
+/// Whether a number is that of a process, if there is one.
+fn is_number(number: ProcessId, process: Option<ProcessId>) -> bool
+    ensures { result ≡ tells_number number process }
+{
+    match process {
+        Some(other) => other == number,
+        None => false,
+    }
+}
+
+/// Adds the uses of a line, if it is the process with this number.
+fn add_own_uses(
     alloc: Global,
     line: &TypedLine,
     process: ProcessId,
     env: &mut Items<Bound>,
     found: &mut Items<Use>,
-) -> Result<(), AllocError> {
-    if line.process != Some(process) {
+) -> Result<(), AllocError>
+    ensures found { OnOk result (found.new ≡ found.old ++ told_own process (head_of line.now) (lines_under line.now) env.old) }
+    ensures env { OnOk result (env.new ≡ env.old) }
+{
+    if !is_number(process, line.process) {
         return Ok(());
     }
     let uses = line_uses(alloc, line, env)?;
-    outside(env.len(), uses, found)
+    add_from_round(alloc, env.len(), uses.as_slice(), found)
 }
 
+/// Adds the uses of the process with this number, if it stands under a line.
+#[cycle(process)]
+fn add_under(
+    alloc: Global,
+    line: &TypedLine,
+    process: ProcessId,
+    env: &mut Items<Bound>,
+    found: &mut Items<Use>,
+) -> Result<(), AllocError>
+    ensures found { OnOk result (found.new ≡ found.old ++ told_uses process (lines_under line.now) (told_inner env.old (head_of line.now)) (told_inner env.old (head_of line.now))) }
+    ensures env { OnOk result (env.new ≡ env.old) }
+{
+    let depth = env.len();
+    enter_all(alloc, line.enters.as_slice(), env)?;
+    lines(alloc, line.under.as_slice(), process, env, found)?;
+    cut(env, depth);
+    Ok(())
+}
+
+/// Adds the uses of the process with this number, if it is a line or stands under it, and goes behind the line.
 #[cycle(process)]
 fn line(
     alloc: Global,
@@ -59,15 +125,16 @@ fn line(
     process: ProcessId,
     env: &mut Items<Bound>,
     found: &mut Items<Use>,
-) -> Result<(), AllocError> {
-    own_uses(alloc, line, process, env, found)?;
-    let count = env.len();
-    enter_all(alloc, line.enters.as_slice(), env)?;
-    lines(alloc, line.under.as_slice(), process, env, found)?;
-    cut(env, count);
+) -> Result<(), AllocError>
+    ensures found { OnOk result (found.new ≡ found.old ++ told_whole process (head_of line.now) (lines_under line.now) env.old) }
+    ensures env { OnOk result (env.new ≡ behind_line (take depth env.old) env.old (head_of line.now) (lines_under line.now)) }
+{
+    add_own_uses(alloc, line, process, env, found)?;
+    add_under(alloc, line, process, env, found)?;
     go_behind(alloc, line, depth, env)
 }
 
+/// Adds the uses of the process with this number, if it stands in lines.
 #[cycle(process)]
 fn lines(
     alloc: Global,
@@ -75,7 +142,10 @@ fn lines(
     process: ProcessId,
     env: &mut Items<Bound>,
     found: &mut Items<Use>,
-) -> Result<(), AllocError> {
+) -> Result<(), AllocError>
+    ensures found { OnOk result (found.new ≡ found.old ++ told_uses process (trees_of lines.now) env.old env.old) }
+    ensures env { OnOk result (env.new ≡ env.old) }
+{
     let depth = env.len();
     for one in lines {
         line(alloc, one, depth, process, env, found)?;
@@ -85,7 +155,9 @@ fn lines(
 }
 
 /// What the process with this number uses of what stands round it, where no index round it is known.
-pub fn uses_of(alloc: Global, typed: &Typed, process: ProcessId) -> Result<Summary, AllocError> {
+pub fn uses_of(alloc: Global, typed: &Typed, process: ProcessId) -> Result<Summary, AllocError>
+    ensures { IfOk result (λ summary. summary.uses ≡ uses_in typed.now.lines process) }
+{
     let mut env = Items::new(alloc);
     let mut uses = Items::new(alloc);
     lines(alloc, typed.lines.as_slice(), process, &mut env, &mut uses)?;

@@ -1,144 +1,65 @@
-use super::body::body_uses;
-use super::bounds::{
-    abbreviation, body, cut, enter_all, index_value, retyped_value, retyping, valued,
-};
-use super::distinct::distinct;
-use super::effects::{form_effect, results_effect};
-use super::form::{each, form_uses};
-use super::joined::joined;
+#![tactic(auto, using(crate::proofs::Trees::first_tree))]
+
+ghost use Rattle.std.specs.Prelude.{◌≡◌, ◌≤◌, ◌++◌, ◌∷◌, [], concat, if◌then◌else◌, true, IfOk, OnOk, length, take};
+ghost use Rattle.occ_usage.specs.Effect.{effect_under as told_effect, inner as told_inner};
+ghost use Rattle.occ_usage.specs.Lines.{added as told_behind, added_by as told_added, body_over as told_body, components as told_components, ends_item, entered as told_entered, is_replicated as tells_replicated, items_of, known_replicator as told_known, line_uses as told_line_uses, rounds_to, under_uses as told_under, with_index};
+ghost use Rattle.occ_usage.specs.ParallelRule.{block_faults as told_block, line_told, own_faults as told_own, parallel_faults, rounds_told, told_of, under_told};
+ghost use Rattle.occ_usage.specs.Trees.{head_of, trees_of, under as lines_under};
+
+use super::effect::{effect_under, is_body};
 use super::multiple::assignment_faults;
-use super::pairs::component_faults;
-use occ_base::{Diag, Items, Shared};
+use occ_base::{Diag, Items};
 use occ_bounds::{Bound, Use};
+use occ_clashes::{body_uses, component_faults, distinct, joined};
+use occ_line_uses::{body_bound, cut, enter, enter_all, enter_index, enter_line, form_uses, index_value};
 use occ_names::Entry;
-use occ_project::Place as Line;
 use occ_replicators::KnownReplicator;
-use occ_typed::TypedExpr;
 use occ_typed_lines::{BlockKind, TypedForm};
-use occ_types::Value;
 use occ_typing::{Typed, TypedLine};
 use std::alloc::{AllocError, Global};
 
-/// Whether the lines under a line of this form are no part of what the line does.
-pub(crate) fn is_head(form: &TypedForm) -> bool {
-    match form {
-        TypedForm::ProcedureHead => true,
-        TypedForm::FunctionHead => true,
-        TypedForm::RecordHead => true,
-        TypedForm::ProtocolHead => true,
-        _ => false,
-    }
-}
-
 /// The replicator of a line, if it is known.
-fn known_replicator(form: &TypedForm) -> Option<KnownReplicator> {
+pub(crate) fn known_replicator(form: &TypedForm) -> Option<KnownReplicator>
+    ensures { result ≡ told_known form.now }
+{
     match form {
         TypedForm::Block(_, Some(replicator)) => replicator.known,
         _ => None,
     }
 }
 
-fn is_parallel(form: &TypedForm) -> bool {
+/// Whether a line has a replicator.
+fn is_replicated(form: &TypedForm) -> bool
+    ensures { result ≡ tells_replicated form.now }
+{
     match form {
-        TypedForm::Block(BlockKind::Parallel, _) => true,
+        TypedForm::Block(_, Some(_)) => true,
         _ => false,
     }
 }
 
-// ---- whether lines have an effect
-
-/// What a line puts into scope, for those that ask which bodies have an effect.
-#[cycle(effect)]
-fn effect_behind(
-    alloc: Global,
-    line: &TypedLine,
-    depth: usize,
-    env: &mut Items<Bound>,
-) -> Result<(), AllocError> {
-    let Some(entries) = &line.adds else {
-        cut(env, depth);
-        return Ok(());
-    };
-    match line.form.get() {
-        TypedForm::ProcedureHead | TypedForm::FunctionHead => {
-            let has_effect = effect_under(alloc, line, env)?;
-            env.push(body(Items::new(alloc), has_effect))
-        }
-        TypedForm::OneLineFunction(_, results) => {
-            let has_effect = results_effect(results.as_slice(), env.as_slice());
-            env.push(body(Items::new(alloc), has_effect))
-        }
-        _ => enter_all(alloc, entries.as_slice(), env),
-    }
-}
-
-/// Whether the lines under a line have an effect.
-#[cycle(effect)]
-pub(crate) fn effect_under(
-    alloc: Global,
-    line: &TypedLine,
-    env: &mut Items<Bound>,
-) -> Result<bool, AllocError> {
-    let depth = env.len();
-    enter_all(alloc, line.enters.as_slice(), env)?;
-    let found = lines_effect(alloc, line.under.as_slice(), env)?;
-    cut(env, depth);
-    Ok(found)
-}
-
-/// Whether a line has an effect with those under it.
-#[cycle(effect)]
-fn line_effect(
-    alloc: Global,
-    line: &TypedLine,
-    env: &mut Items<Bound>,
-) -> Result<bool, AllocError> {
-    if form_effect(line.form.get(), env.as_slice()) {
-        return Ok(true);
-    }
-    if is_head(line.form.get()) {
-        return Ok(false);
-    }
-    effect_under(alloc, line, env)
-}
-
-/// Whether lines have an input, an output, a PAR or an ALT, or call a body with one.
-#[cycle(effect)]
-fn lines_effect(
-    alloc: Global,
-    lines: &[TypedLine],
-    env: &mut Items<Bound>,
-) -> Result<bool, AllocError> {
-    let depth = env.len();
-    let mut found = false;
-    for line in lines {
-        let has_effect = line_effect(alloc, line, env)?;
-        found = found || has_effect;
-        effect_behind(alloc, line, depth, env)?;
-    }
-    cut(env, depth);
-    Ok(found)
-}
-
-// ---- uses
-
-/// The uses of the lines under a line, in one round of its replicator.
+/// The uses of the lines under a line in one round of its replicator, and what is told of them.
 #[cycle(walk)]
 fn round(
     alloc: Global,
-    value: Option<Value>,
+    base: i32,
+    index: u32,
     lines: &[TypedLine],
     env: &mut Items<Bound>,
     faults: &mut Items<Diag>,
-) -> Result<Items<Use>, AllocError> {
+) -> Result<Items<Use>, AllocError>
+    ensures found { IfOk result (λ found. found ≡ concat (items_of (trees_of lines.now) (with_index env.old base index))) }
+    ensures env { OnOk result (env.new ≡ env.old) }
+    ensures faults { OnOk result (faults.new ≡ faults.old ++ told_of (trees_of lines.now) (with_index env.old base index)) }
+{
     let depth = env.len();
-    env.push(Bound::Value(value, None, Items::new(alloc)))?;
+    enter_index(alloc, index_value(base, index), env)?;
     let found = items(alloc, lines, env, faults)?;
     cut(env, depth);
     joined(alloc, found)
 }
 
-/// The uses of the lines under a line, in each round of its replicator.
+/// The uses of the lines under a line in each round of its replicator, and what is told of them.
 #[cycle(walk)]
 fn rounds(
     alloc: Global,
@@ -146,25 +67,30 @@ fn rounds(
     lines: &[TypedLine],
     env: &mut Items<Bound>,
     faults: &mut Items<Diag>,
-) -> Result<Vec<Items<Use>>, AllocError> {
+) -> Result<Vec<Items<Use>>, AllocError>
+    ensures found { IfOk result (λ found. found.items ≡ rounds_to known.count known.base env.old (items_of (trees_of lines.now))) }
+    ensures env { OnOk result (env.new ≡ env.old) }
+    ensures faults { OnOk result (faults.new ≡ faults.old ++ rounds_told known.count known.base env.old (told_of (trees_of lines.now))) }
+{
     let mut found = Vec::new(alloc);
     for i in 0..known.count {
-        found.push(round(alloc, index_value(known.base, i), lines, env, faults)?)?;
+        found.push(round(alloc, known.base, i, lines, env, faults)?)?;
     }
     Ok(found)
 }
 
-/// The components of a line: the uses of each item under it, or of each round.
+/// The uses of each item under a line, with what the line enters in scope, and what is told of them.
 #[cycle(walk)]
-pub(crate) fn components(
+fn inner(
     alloc: Global,
     line: &TypedLine,
     env: &mut Items<Bound>,
     faults: &mut Items<Diag>,
-) -> Result<Vec<Items<Use>>, AllocError> {
-    if let Some(known) = known_replicator(line.form.get()) {
-        return rounds(alloc, known, line.under.as_slice(), env, faults);
-    }
+) -> Result<Vec<Items<Use>>, AllocError>
+    ensures found { IfOk result (λ found. found.items ≡ items_of (lines_under line.now) (told_inner env.old (head_of line.now))) }
+    ensures env { OnOk result (env.new ≡ env.old) }
+    ensures faults { OnOk result (faults.new ≡ faults.old ++ told_of (lines_under line.now) (told_inner env.old (head_of line.now))) }
+{
     let depth = env.len();
     enter_all(alloc, line.enters.as_slice(), env)?;
     let found = items(alloc, line.under.as_slice(), env, faults)?;
@@ -172,17 +98,56 @@ pub(crate) fn components(
     Ok(found)
 }
 
-/// The faults of a line with these components.
-fn line_faults(
+/// The components of a line, and what is told of the lines under it.
+#[cycle(walk)]
+fn components(
+    alloc: Global,
+    line: &TypedLine,
+    env: &mut Items<Bound>,
+    faults: &mut Items<Diag>,
+) -> Result<Vec<Items<Use>>, AllocError>
+    ensures found { IfOk result (λ found. found.items ≡ told_components env.old (head_of line.now) (items_of (lines_under line.now))) }
+    ensures env { OnOk result (env.new ≡ env.old) }
+    ensures faults { OnOk result (faults.new ≡ faults.old ++ under_told env.old (head_of line.now) (told_of (lines_under line.now))) }
+{
+    match known_replicator(line.form.get()) {
+        Some(known) => rounds(alloc, known, line.under.as_slice(), env, faults),
+        None => inner(alloc, line, env, faults),
+    }
+}
+
+/// What is told of a block with these components.
+fn block_faults(
+    alloc: Global,
+    block: BlockKind,
+    line: &TypedLine,
+    components: &[Items<Use>],
+    env: &[Bound],
+    faults: &mut Items<Diag>,
+) -> Result<(), AllocError>
+    ensures { OnOk result (faults.new ≡ faults.old ++ told_block block (head_of line.now).place env.now components.now) }
+{
+    match block {
+        BlockKind::Parallel => component_faults(alloc, &line.place, env, components, faults),
+        BlockKind::Sequence => Ok(()),
+        BlockKind::Conditional => Ok(()),
+        BlockKind::Alternation => Ok(()),
+    }
+}
+
+/// What is told of a line with these components.
+fn own_faults(
     alloc: Global,
     line: &TypedLine,
     components: &[Items<Use>],
     env: &[Bound],
     faults: &mut Items<Diag>,
-) -> Result<(), AllocError> {
+) -> Result<(), AllocError>
+    ensures { OnOk result (faults.new ≡ faults.old ++ told_own (head_of line.now).form (head_of line.now).place env.now components.now) }
+{
     match line.form.get() {
-        TypedForm::Block(BlockKind::Parallel, _) => {
-            component_faults(alloc, &line.place, env, components, faults)
+        TypedForm::Block(block, _) => {
+            block_faults(alloc, *block, line, components, env, faults)
         }
         TypedForm::Assignment(targets, _) => {
             assignment_faults(alloc, targets.as_slice(), env, &line.place, faults)
@@ -191,88 +156,75 @@ fn line_faults(
     }
 }
 
-/// What is specified by a function of one line.
-fn one_line_function(
-    alloc: Global,
-    formals: &[Entry],
-    results: &[Shared<TypedExpr>],
-    line: &Line,
-    env: &mut Items<Bound>,
-) -> Result<Bound, AllocError> {
-    let depth = env.len();
-    enter_all(alloc, formals, env)?;
-    let mut uses = Items::new(alloc);
-    each(alloc, results, env.as_slice(), line, &mut uses)?;
-    let has_effect = results_effect(results, env.as_slice());
-    let locals = env.len();
-    cut(env, depth);
-    let uses = body_uses(alloc, uses.as_slice(), depth, locals, line)?;
-    Ok(body(uses, has_effect))
-}
-
-/// The body of a PROC or a FUNCTION whose lines use these.
-fn head_body(
+/// A PROC or a FUNCTION over lines that use these.
+fn body_over(
     alloc: Global,
     line: &TypedLine,
     uses: &[Use],
     env: &mut Items<Bound>,
-) -> Result<Bound, AllocError> {
-    let depth = env.len();
+) -> Result<Bound, AllocError>
+    ensures bound { IfOk result (λ bound. bound ≡ told_body env.old (head_of line.now) uses.now (told_effect (lines_under line.now) env.old (head_of line.now))) }
+    ensures env { OnOk result (env.new ≡ env.old) }
+{
     let has_effect = effect_under(alloc, line, env)?;
-    let uses = body_uses(alloc, uses, depth, depth + line.enters.len(), &line.place)?;
-    Ok(body(uses, has_effect))
+    let number = env.len();
+    let locals = number + line.enters.len();
+    let uses = body_uses(alloc, uses, number, locals, &line.place)?;
+    Ok(body_bound(uses, has_effect))
 }
 
-/// Puts into scope what a line of a specification specifies, the lines under which use these.
-fn specify(
+/// Enters what a line of specification over lines that use these specifies.
+fn enter_behind(
     alloc: Global,
     line: &TypedLine,
     entries: &[Entry],
     uses: &[Use],
     env: &mut Items<Bound>,
-) -> Result<(), AllocError> {
-    let bound = match line.form.get() {
-        TypedForm::Abbreviation(element) => {
-            abbreviation(alloc, element, &line.place, env.as_slice())?
-        }
-        TypedForm::Retyped(element) => retyping(alloc, element, &line.place, env.as_slice())?,
-        TypedForm::Value(expr) => valued(alloc, expr.get(), &line.place, env.as_slice())?,
-        TypedForm::RetypedValue(expr) => {
-            retyped_value(alloc, expr.get(), &line.place, env.as_slice())?
-        }
-        TypedForm::OneLineFunction(formals, results) => one_line_function(
-            alloc,
-            formals.as_slice(),
-            results.as_slice(),
-            &line.place,
-            env,
-        )?,
-        TypedForm::ProcedureHead => head_body(alloc, line, uses, env)?,
-        TypedForm::FunctionHead => head_body(alloc, line, uses, env)?,
-        _ => return enter_all(alloc, entries, env),
-    };
-    env.push(bound)
+) -> Result<(), AllocError>
+    ensures { OnOk result (env.new ≡ env.old ++ told_entered env.old (head_of line.now) uses.now (told_effect (lines_under line.now) env.old (head_of line.now)) entries.now) }
+{
+    if is_body(line.form.get()) {
+        let body = body_over(alloc, line, uses, env)?;
+        return enter(body, env);
+    }
+    enter_line(alloc, line.form.get(), &line.place, entries, env)
 }
 
-/// The uses of the lines under a line, as they are uses of the line.
-fn own_under(
+/// Goes behind a line over lines that use these.
+fn go_behind(
+    alloc: Global,
+    line: &TypedLine,
+    uses: &[Use],
+    env: &mut Items<Bound>,
+) -> Result<(), AllocError>
+    ensures { OnOk result (env.new ≡ env.old ++ told_added env.old (head_of line.now) uses.now (told_effect (lines_under line.now) env.old (head_of line.now)) (head_of line.now).adds) }
+{
+    match &line.adds {
+        Some(entries) => enter_behind(alloc, line, entries.as_slice(), uses, env),
+        None => Ok(()),
+    }
+}
+
+/// Adds the uses of the lines under a line, as they are uses of the line.
+fn under_uses(
     alloc: Global,
     form: &TypedForm,
     under: Items<Use>,
     uses: &mut Items<Use>,
-) -> Result<(), AllocError> {
-    if is_head(form) {
+) -> Result<(), AllocError>
+    ensures { OnOk result (uses.new ≡ uses.old ++ told_under form.now under) }
+{
+    if is_body(form) {
         return Ok(());
     }
-    let under = match form {
-        TypedForm::Block(_, Some(_)) => distinct(alloc, under)?,
-        _ => under,
-    };
+    if is_replicated(form) {
+        return uses.append(distinct(alloc, under)?);
+    }
     uses.append(under)
 }
 
-/// A line with those under it: its uses, what it puts into scope, and what is told of them. Behind a main line so many stand
-/// in scope.
+/// A line with those under it: its uses, what comes into scope behind it, and what is told of them. A main line leaves what
+/// stands in scope.
 #[cycle(walk)]
 pub(crate) fn line(
     alloc: Global,
@@ -280,47 +232,33 @@ pub(crate) fn line(
     env: &mut Items<Bound>,
     uses: &mut Items<Use>,
     faults: &mut Items<Diag>,
-) -> Result<(), AllocError> {
+) -> Result<(), AllocError>
+    ensures env { OnOk result (env.new ≡ env.old ++ told_behind env.old (head_of line.now) (lines_under line.now) (items_of (lines_under line.now))) }
+    ensures uses { OnOk result (uses.new ≡ uses.old ++ told_line_uses env.old (head_of line.now) (items_of (lines_under line.now))) }
+    ensures faults { OnOk result (faults.new ≡ faults.old ++ line_told env.old (head_of line.now) (lines_under line.now) (told_of (lines_under line.now))) }
+{
     let components = components(alloc, line, env, faults)?;
-    line_faults(alloc, line, components.as_slice(), env.as_slice(), faults)?;
-    let under = joined(alloc, components)?;
+    own_faults(alloc, line, components.as_slice(), env.as_slice(), faults)?;
     form_uses(alloc, line.form.get(), env.as_slice(), &line.place, uses)?;
-    if let Some(entries) = &line.adds {
-        specify(alloc, line, entries.as_slice(), under.as_slice(), env)?;
-    }
-    own_under(alloc, line.form.get(), under, uses)
+    let under = joined(alloc, components)?;
+    go_behind(alloc, line, under.as_slice(), env)?;
+    under_uses(alloc, line.form.get(), under, uses)
 }
 
-/// The uses of each item of lines.
-#[cycle(walk)]
-fn items(
-    alloc: Global,
-    lines: &[TypedLine],
-    env: &mut Items<Bound>,
-    faults: &mut Items<Diag>,
-) -> Result<Vec<Items<Use>>, AllocError> {
-    let depth = env.len();
-    let mut found = Vec::new(alloc);
-    let mut own = Items::new(alloc);
-    for one in lines {
-        line(alloc, one, env, &mut own, faults)?;
-        end_item(alloc, one.adds.is_some(), depth, env, &mut own, &mut found)?;
-    }
-    cut(env, depth);
-    found.push(own)?;
-    Ok(found)
-}
-
-/// Ends an item behind its main line.
+/// Ends an item behind its main line: so many specifications stand round it.
 fn end_item(
     alloc: Global,
-    specifies: bool,
+    line: &TypedLine,
     depth: usize,
     env: &mut Items<Bound>,
     own: &mut Items<Use>,
     found: &mut Vec<Items<Use>>,
-) -> Result<(), AllocError> {
-    if specifies {
+) -> Result<(), AllocError>
+    ensures env { OnOk result (env.new ≡ (if ends_item (head_of line.now).adds then take depth env.old else env.old)) }
+    ensures own { OnOk result (own.new ≡ (if ends_item (head_of line.now).adds then [] else own.old)) }
+    ensures found { OnOk result (found.new.items ≡ (if ends_item (head_of line.now).adds then found.old.items ++ own.old ∷ [] else found.old.items)) }
+{
+    if line.adds.is_some() {
         return Ok(());
     }
     cut(env, depth);
@@ -328,8 +266,34 @@ fn end_item(
     Ok(())
 }
 
-/// What the parallel rule tells of a unit.
-pub fn par_faults(alloc: Global, typed: &Typed) -> Result<Items<Diag>, AllocError> {
+/// The uses of each item of lines, and what is told of them.
+#[cycle(walk)]
+fn items(
+    alloc: Global,
+    lines: &[TypedLine],
+    env: &mut Items<Bound>,
+    faults: &mut Items<Diag>,
+) -> Result<Vec<Items<Use>>, AllocError>
+    ensures found { IfOk result (λ found. found.items ≡ items_of (trees_of lines.now) env.old) }
+    ensures env { OnOk result (env.new ≡ env.old) }
+    ensures faults { OnOk result (faults.new ≡ faults.old ++ told_of (trees_of lines.now) env.old) }
+{
+    let depth = env.len();
+    let mut found = Vec::new(alloc);
+    let mut own = Items::new(alloc);
+    for one in lines {
+        line(alloc, one, env, &mut own, faults)?;
+        end_item(alloc, one, depth, env, &mut own, &mut found)?;
+    }
+    cut(env, depth);
+    found.push(own)?;
+    Ok(found)
+}
+
+/// What the parallel rule tells of a unit, in no order, some perhaps more than once.
+pub fn par_faults(alloc: Global, typed: &Typed) -> Result<Items<Diag>, AllocError>
+    ensures { IfOk result (λ faults. faults ≡ parallel_faults typed.now.lines) }
+{
     let mut env = Items::new(alloc);
     let mut faults = Items::new(alloc);
     items(alloc, typed.lines.as_slice(), &mut env, &mut faults)?;

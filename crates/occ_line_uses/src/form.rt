@@ -1,6 +1,6 @@
 ghost use Rattle.std.specs.Prelude.{◌≡◌, ◌++◌, OnOk};
 ghost use Rattle.occ_bounds.specs.Views.{element_view, expr_view};
-ghost use Rattle.occ_usage.specs.Forms.{each_uses as told_each, form_uses as told_form, guard_uses as told_guard, input_uses as told_input, output_uses as told_output, outputs_uses as told_outputs, replicator_uses as told_replicator, target_uses as told_target, targets_uses as told_targets, used as told_used, written as told_written};
+ghost use Rattle.occ_line_uses.specs.Forms.{each_uses as told_each, form_uses as told_form, guard_uses as told_guard, input_uses as told_input, output_uses as told_output, outputs_uses as told_outputs, replicator_uses as told_replicator, target_uses as told_target, targets_uses as told_targets, used as told_used, written as told_written};
 
 use occ_base::{Items, Shared};
 use occ_bounds::{Bound, Use, element_uses, expression_uses, instance_uses, use_of};
@@ -13,7 +13,7 @@ use occ_types::UseKind;
 use std::alloc::{AllocError, Global};
 
 /// A use of an element, with those of its subscripts and bounds.
-pub(crate) fn used(
+pub fn used(
     alloc: Global,
     kind: UseKind,
     element: &TypedElement,
@@ -28,7 +28,7 @@ pub(crate) fn used(
 }
 
 /// The uses of expressions that are evaluated.
-pub(crate) fn each(
+pub fn each_uses(
     alloc: Global,
     exprs: &[Shared<TypedExpr>],
     env: &[Bound],
@@ -212,7 +212,7 @@ pub fn form_uses(
         TypedForm::Value(expr) => expression_uses(alloc, expr.get(), env, line, uses),
         TypedForm::RetypedValue(expr) => expression_uses(alloc, expr.get(), env, line, uses),
         TypedForm::Assignment(to, values) => {
-            each(alloc, values.as_slice(), env, line, uses)?;
+            each_uses(alloc, values.as_slice(), env, line, uses)?;
             written(alloc, to.as_slice(), env, line, uses)
         }
         TypedForm::Output(channel, sent) => {
@@ -233,7 +233,7 @@ pub fn form_uses(
             guard(alloc, found, env, line, uses)
         }
         TypedForm::Variant(_, _, to) => targets(alloc, to.as_slice(), env, line, uses),
-        TypedForm::Results(values) => each(alloc, values.as_slice(), env, line, uses),
+        TypedForm::Results(values) => each_uses(alloc, values.as_slice(), env, line, uses),
         _ => Ok(()),
     }
 }

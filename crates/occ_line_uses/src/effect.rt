@@ -1,0 +1,139 @@
+ghost use Rattle.std.specs.Prelude.{◌≡◌};
+ghost use Rattle.occ_line_uses.specs.Effects.{block_communicates, calls_effect as told_calls, communicates as told_communicates, each_effect as told_each, elements_effect as told_elements, form_effect as told_form, guard_communicates, replicator_effect as told_replicator, target_effect as told_target, targets_effect as told_targets};
+
+use occ_base::Shared;
+use occ_bounds::{Bound, element_effect, expression_effect, instance_effect};
+use occ_replicators::TypedReplicator;
+use occ_typed::{TypedElement, TypedExpr};
+use occ_typed_exchanges::TypedTarget;
+use occ_typed_lines::{BlockKind, TypedForm, TypedGuard};
+
+/// Whether one of the expressions calls a body with an input, an output, a PAR or an ALT.
+pub fn each_effect(exprs: &[Shared<TypedExpr>], env: &[Bound]) -> bool
+    ensures { result ≡ told_each exprs.now env.now }
+{
+    for expr in exprs {
+        if expression_effect(expr.get(), env) {
+            return true;
+        }
+    }
+    false
+}
+
+/// Whether a subscript or a bound of one of the elements calls such a body.
+fn elements_effect(elements: &[TypedElement], env: &[Bound]) -> bool
+    ensures { result ≡ told_elements elements.now env.now }
+{
+    for element in elements {
+        if element_effect(element, env) {
+            return true;
+        }
+    }
+    false
+}
+
+/// Whether a subscript or a bound of a target calls such a body.
+fn target_effect(target: &TypedTarget, env: &[Bound]) -> bool
+    ensures { result ≡ told_target target.now env.now }
+{
+    match target {
+        TypedTarget::Single(element) => element_effect(element, env),
+        TypedTarget::Counted(count, element) => {
+            element_effect(count, env) || element_effect(element, env)
+        }
+    }
+}
+
+/// Whether a subscript or a bound of one of the targets calls such a body.
+fn targets_effect(targets: &[TypedTarget], env: &[Bound]) -> bool
+    ensures { result ≡ told_targets targets.now env.now }
+{
+    for target in targets {
+        if target_effect(target, env) {
+            return true;
+        }
+    }
+    false
+}
+
+/// Whether the base or the count of a replicator calls such a body.
+fn replicator_effect(replicator: &Option<TypedReplicator>, env: &[Bound]) -> bool
+    ensures { result ≡ told_replicator replicator.now env.now }
+{
+    match replicator {
+        Some(found) => {
+            expression_effect(found.base.get(), env) || expression_effect(found.count.get(), env)
+        }
+        None => false,
+    }
+}
+
+/// Whether a block is a PAR or an ALT.
+fn is_communicating(block: BlockKind) -> bool
+    ensures { result ≡ block_communicates block }
+{
+    match block {
+        BlockKind::Sequence => false,
+        BlockKind::Parallel => true,
+        BlockKind::Conditional => false,
+        BlockKind::Alternation => true,
+    }
+}
+
+/// Whether a guard has an input.
+fn is_input(guard: &TypedGuard) -> bool
+    ensures { result ≡ guard_communicates guard.now }
+{
+    match guard {
+        TypedGuard::Skip => false,
+        TypedGuard::Input(_) => true,
+        TypedGuard::CaseInput(_) => true,
+    }
+}
+
+/// Whether a line is an input, an output, a PAR or an ALT.
+fn communicates(form: &TypedForm) -> bool
+    ensures { result ≡ told_communicates form.now }
+{
+    match form {
+        TypedForm::Output(_, _) => true,
+        TypedForm::Input(_) => true,
+        TypedForm::CaseInput(_) => true,
+        TypedForm::Block(block, _) => is_communicating(*block),
+        TypedForm::Guard(_, guard) => is_input(guard),
+        _ => false,
+    }
+}
+
+/// Whether a line that is no input, output, PAR or ALT calls a body with one.
+fn calls_effect(form: &TypedForm, env: &[Bound]) -> bool
+    ensures { result ≡ told_calls form.now env.now }
+{
+    match form {
+        TypedForm::Abbreviation(element) => element_effect(element, env),
+        TypedForm::Retyped(element) => element_effect(element, env),
+        TypedForm::Value(expr) => expression_effect(expr.get(), env),
+        TypedForm::RetypedValue(expr) => expression_effect(expr.get(), env),
+        TypedForm::Assignment(to, values) => {
+            each_effect(values.as_slice(), env) || elements_effect(to.as_slice(), env)
+        }
+        TypedForm::Instance(callee, actuals) => {
+            instance_effect(callee.spec, actuals.as_slice(), env)
+        }
+        TypedForm::Block(_, replicator) => replicator_effect(replicator, env),
+        TypedForm::While(expr) => expression_effect(expr.get(), env),
+        TypedForm::Selection(expr) => expression_effect(expr.get(), env),
+        TypedForm::Condition(expr) => expression_effect(expr.get(), env),
+        TypedForm::Guard(expr, _) => expression_effect(expr.get(), env),
+        TypedForm::Variant(_, _, to) => targets_effect(to.as_slice(), env),
+        TypedForm::Results(values) => each_effect(values.as_slice(), env),
+        _ => false,
+    }
+}
+
+/// Whether a line is an input, an output, a PAR or an ALT, or calls a body with one.
+pub fn form_effect(form: &TypedForm, env: &[Bound]) -> bool
+    ensures { result ≡ told_form form.now env.now }
+{
+    communicates(form) || calls_effect(form, env)
+}

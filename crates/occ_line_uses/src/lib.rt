@@ -1,0 +1,11 @@
+//! One line of a unit for those that ask which parts are used: what it uses, whether it has an effect, and what comes into
+//! scope by it.
+#![tactic(auto)]
+
+mod effect;
+mod entering;
+mod form;
+
+pub use effect::{each_effect, form_effect};
+pub use entering::{body_bound, cut, enter, enter_all, enter_index, enter_line};
+pub use form::{each_uses, form_uses, used};

@@ -1,0 +1,6 @@
+pub mod Trees
+pub mod Lines
+pub mod Effect
+pub mod ParallelRule
+pub mod FunctionRule
+pub mod Processes

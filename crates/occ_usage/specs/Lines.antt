@@ -1,0 +1,115 @@
+-- What lines use, by what stands in scope there: of the lines under a line the uses of each item apart, since those of a PAR are
+-- its components.
+use Rattle.std.specs.Prelude.{ℕ, zero, suc, ◌+◌, ℤ, Bool, true, false, Option, Some, None, List, [], ◌∷◌, ◌++◌, length, concat, if◌then◌else◌}
+use Rattle.occ_bounds.specs.Bounds.{Env}
+use Rattle.occ_bounds.specs.declared.bound.Bound.{Bound}
+use Rattle.occ_bounds.specs.declared.bound.Bound.TheVariants as b
+use Rattle.occ_bounds.specs.declared.uses.Use.{Use}
+use Rattle.occ_clashes.specs.Bodies.{body_uses}
+use Rattle.occ_clashes.specs.Distinct.{distinct}
+use Rattle.occ_line_uses.specs.Entering.{body_bound, index_value, specified}
+use Rattle.occ_line_uses.specs.Forms.{form_uses}
+use Rattle.occ_names.specs.declared.meaning.Entry.{Entry}
+use Rattle.occ_replicators.specs.declared.tree.KnownReplicator.{KnownReplicator}
+use Rattle.occ_replicators.specs.declared.tree.TypedReplicator.{TypedReplicator}
+use Rattle.occ_typed_lines.specs.declared.tree.BlockKind.TheVariants as block
+use Rattle.occ_typed_lines.specs.declared.tree.TypedForm.{TypedForm}
+use Rattle.occ_typed_lines.specs.declared.tree.TypedForm.TheVariants as form
+use Rattle.occ_usage.specs.Effect.{effect_under, inner, is_body}
+use Rattle.occ_usage.specs.Trees.{Empty, Head, Tree, Trees}
+
+-- what stands under a line: the uses of each item
+abbrev pub Under : Type 0
+Under = Env → List (List Use)
+
+-- ---- replicators
+
+abbrev pub known_of : Option TypedReplicator → Option KnownReplicator
+known_of None = None
+known_of (Some r) = r.known
+
+-- the replicator of a line, if it is known
+abbrev pub known_replicator : TypedForm → Option KnownReplicator
+known_replicator (form.Block kind r) = known_of r
+known_replicator other = None
+
+abbrev pub is_some_replicator : Option TypedReplicator → Bool
+is_some_replicator None = false
+is_some_replicator (Some r) = true
+
+abbrev pub is_replicated : TypedForm → Bool
+is_replicated (form.Block kind r) = is_some_replicator r
+is_replicated other = false
+
+abbrev pub with_index : Env → ℤ → ℕ → Env
+with_index env base i = env ++ b.Value (index_value base i) None [] ∷ []
+
+-- the first n rounds of a replicator with this base
+abbrev pub rounds_to : ℕ → ℤ → Env → Under → List (List Use)
+rounds_to zero base env under = []
+rounds_to (suc i) base env under = rounds_to i base env under ++ concat (under (with_index env base i)) ∷ []
+
+abbrev pub components_by : Option KnownReplicator → Env → Head → Under → List (List Use)
+components_by None env h under = under (inner env h)
+components_by (Some k) env h under = rounds_to k.count k.base env under
+
+-- of a line: the items under it, or the rounds of its replicator, if that is known
+abbrev pub components : Env → Head → Under → List (List Use)
+components env h under = components_by (known_replicator h.form) env h under
+
+-- ---- one line
+
+-- what the lines under a line use, as uses of the line: those of a replicated one each once
+abbrev pub under_uses : TypedForm → List Use → List Use
+under_uses f us = if is_body f then [] else if is_replicated f then distinct us else us
+
+-- a line with those under it
+abbrev pub line_uses : Env → Head → Under → List Use
+line_uses env h under = form_uses h.form env h.place ++ under_uses h.form (concat (components env h under))
+
+-- a PROC or a FUNCTION over lines that use these, and have an effect or not
+abbrev pub body_over : Env → Head → List Use → Bool → Bound
+body_over env h us does = body_bound (body_uses (length env) (length env + length h.enters) h.place us) does
+
+-- by which these names come into scope
+abbrev pub entered : Env → Head → List Use → Bool → List Entry → List Bound
+entered env h us does entries = if is_body h.form then body_over env h us does ∷ [] else specified env h.place entries h.form
+
+abbrev pub added_by : Env → Head → List Use → Bool → Option (List Entry) → List Bound
+added_by env h us does None = []
+added_by env h us does (Some entries) = entered env h us does entries
+
+-- what comes into scope behind a line over these lines
+abbrev pub added : Env → Head → Trees → Under → List Bound
+added env h t under = added_by env h (concat (components env h under)) (effect_under t env h) h.adds
+
+-- ---- lines
+
+abbrev pub ends_item : Option (List Entry) → Bool
+ends_item None = true
+ends_item (Some entries) = false
+
+-- env stands in scope at the first of the lines, outer at the next item, and these uses of the item were found before
+abbrev pub items : Trees → Env → Env → List Use → List (List Use)
+items Empty outer env own = own ∷ []
+items (Tree h t behind) outer env own =
+    if ends_item h.adds
+    then (own ++ line_uses env h (λ (e : Env). items t e e [])) ∷ items behind outer outer []
+    else items behind outer (env ++ added env h t (λ (e : Env). items t e e [])) (own ++ line_uses env h (λ (e : Env). items t e e []))
+
+-- of lines under a line; behind the last item stand no uses
+abbrev pub items_of : Trees → Under
+items_of t env = items t env env []
+
+-- in scope behind a line: a specification adds to the item, a main line ends it
+abbrev pub behind_by : Env → Env → Head → Trees → Option (List Entry) → Env
+behind_by outer env h t None = outer
+behind_by outer env h t (Some entries) = env ++ added env h t (items_of t)
+
+abbrev pub behind_line : Env → Env → Head → Trees → Env
+behind_line outer env h t = behind_by outer env h t h.adds
+
+-- in scope behind the last of the lines of a unit
+abbrev pub behind_lines : Trees → Env → Env → Env
+behind_lines Empty outer env = env
+behind_lines (Tree h t behind) outer env = behind_lines behind outer (behind_line outer env h t)

@@ -1,0 +1,46 @@
+-- The typed lines of a unit as trees.
+use Rattle.std.specs.Prelude.{ℕ, Option, List, [], ◌∷◌, map}
+use Rattle.occ_names.specs.declared.meaning.Entry.{Entry}
+use Rattle.occ_project.specs.declared.expanded.Place.{Place as Line}
+use Rattle.occ_typed_lines.specs.declared.tree.TypedForm.{TypedForm}
+use Rattle.occ_typing.specs.declared.tree.TypedLine.{TypedLine, out-TypedLine}
+use Rattle.occ_typing.specs.declared.tree.TypedLine.TheFolds.{fold-TypedLine}
+use Rattle.occ_typing.specs.declared.tree.TypedLine.TheOpen.{TypedLine-F}
+
+-- a line by itself
+pub record Head : Type 0 where
+  pub place : Line
+  pub process : Option ℕ
+  pub form : TypedForm
+  pub enters : List Entry
+  pub adds : Option (List Entry)
+
+-- none, or a line, the lines under it, and those behind it
+pub data Trees : Type 0 where
+  Empty : Trees
+  Tree : Head → Trees → Trees → Trees
+
+-- the lines that are these, where each is told what it is before others
+abbrev pub one_behind_other : List (Trees → Trees) → Trees
+one_behind_other [] = Empty
+one_behind_other (t ∷ ts) = t (one_behind_other ts)
+
+abbrev pub head_in : {X : Type 0} → TypedLine-F X → Head
+head_in n = record { place = n.place; process = n.process; form = n.form; enters = n.enters; adds = n.adds }
+
+abbrev pub tree_step : TypedLine-F (Trees → Trees) → Trees → Trees
+tree_step n behind = Tree (head_in n) (one_behind_other n.under) behind
+
+-- a line, before others
+abbrev pub tree_of : TypedLine → Trees → Trees
+tree_of = fold-TypedLine (Trees → Trees) tree_step
+
+abbrev pub trees_of : List TypedLine → Trees
+trees_of ls = one_behind_other (map tree_of ls)
+
+abbrev pub head_of : TypedLine → Head
+head_of l = head_in (out-TypedLine l)
+
+-- the lines under it
+abbrev pub under : TypedLine → Trees
+under l = trees_of (out-TypedLine l).under

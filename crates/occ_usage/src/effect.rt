@@ -1,0 +1,97 @@
+#![tactic(auto, using(crate::proofs::Trees::first_tree))]
+
+ghost use Rattle.std.specs.Prelude.{◌≡◌, ◌++◌, IfOk, OnOk, length, take};
+ghost use Rattle.occ_usage.specs.Effect.{effect_behind as told_behind, effect_under as told_under, is_body as tells_body, line_effect as told_line, lines_effect as told_lines};
+ghost use Rattle.occ_usage.specs.Trees.{head_of, trees_of, under as lines_under};
+
+use occ_base::Items;
+use occ_bounds::Bound;
+use occ_line_uses::{body_bound, cut, enter, enter_all, enter_line, form_effect};
+use occ_typed_lines::TypedForm;
+use occ_typing::TypedLine;
+use std::alloc::{AllocError, Global};
+
+/// Whether a line is the head of a PROC or of a FUNCTION: the lines under it are a body, and no part of what the line does.
+pub(crate) fn is_body(form: &TypedForm) -> bool
+    ensures { result ≡ tells_body form.now }
+{
+    match form {
+        TypedForm::ProcedureHead => true,
+        TypedForm::FunctionHead => true,
+        _ => false,
+    }
+}
+
+/// Goes behind a line, where a body has this effect: its uses are not asked for. So many specifications stand round its item.
+fn go_behind(
+    alloc: Global,
+    line: &TypedLine,
+    has_effect: bool,
+    depth: usize,
+    env: &mut Items<Bound>,
+) -> Result<(), AllocError>
+    ensures { OnOk result (env.new ≡ told_behind (take depth env.old) env.old (head_of line.now) has_effect (head_of line.now).adds) }
+{
+    let Some(entries) = &line.adds else {
+        cut(env, depth);
+        return Ok(());
+    };
+    if is_body(line.form.get()) {
+        return enter(body_bound(Items::new(alloc), has_effect), env);
+    }
+    enter_line(alloc, line.form.get(), &line.place, entries.as_slice(), env)
+}
+
+/// Whether the lines under a line have an effect.
+#[cycle(effect)]
+pub(crate) fn effect_under(
+    alloc: Global,
+    line: &TypedLine,
+    env: &mut Items<Bound>,
+) -> Result<bool, AllocError>
+    ensures found { IfOk result (λ found. found ≡ told_under (lines_under line.now) env.old (head_of line.now)) }
+    ensures env { OnOk result (env.new ≡ env.old) }
+{
+    let depth = env.len();
+    enter_all(alloc, line.enters.as_slice(), env)?;
+    let found = lines_effect(alloc, line.under.as_slice(), env)?;
+    cut(env, depth);
+    Ok(found)
+}
+
+/// Whether a line has an effect, with those under it unless they are a body; and what stands in scope behind it.
+#[cycle(effect)]
+fn line_effect(
+    alloc: Global,
+    line: &TypedLine,
+    depth: usize,
+    env: &mut Items<Bound>,
+) -> Result<bool, AllocError>
+    ensures found { IfOk result (λ found. found ≡ told_line env.old (head_of line.now) (told_under (lines_under line.now) env.old (head_of line.now))) }
+    ensures env { OnOk result (env.new ≡ told_behind (take depth env.old) env.old (head_of line.now) (told_under (lines_under line.now) env.old (head_of line.now)) (head_of line.now).adds) }
+{
+    let own = form_effect(line.form.get(), env.as_slice());
+    let below = effect_under(alloc, line, env)?;
+    go_behind(alloc, line, below, depth, env)?;
+    Ok(own || (below && !is_body(line.form.get())))
+}
+
+/// Whether lines have an input, an output, a PAR or an ALT, or call a body with one.
+#[cycle(effect)]
+fn lines_effect(
+    alloc: Global,
+    lines: &[TypedLine],
+    env: &mut Items<Bound>,
+) -> Result<bool, AllocError>
+    ensures found { IfOk result (λ found. found ≡ told_lines (trees_of lines.now) env.old env.old) }
+    ensures env { OnOk result (env.new ≡ env.old) }
+{
+    let depth = env.len();
+    let mut found = false;
+    for line in lines {
+        let has_effect = line_effect(alloc, line, depth, env)?;
+        found = found || has_effect;
+    }
+    cut(env, depth);
+    Ok(found)
+}
