@@ -1,10 +1,10 @@
 use super::bounds::{cut, enter_all};
 use super::effects::{form_effect, results_effect};
 use super::form::{each, form_uses};
-use super::pairs::root_name;
 use super::walk::{is_head, line as judged_line};
 use occ_base::{Code, Diag, Items, Shared};
 use occ_bounds::{Bound, Use};
+use occ_clashes::root_name;
 use occ_names::Entry;
 use occ_project::Place as Line;
 use occ_typed::TypedExpr;
@@ -49,11 +49,7 @@ fn write_faults(
     Ok(())
 }
 
-fn effect_fault(
-    has_effect: bool,
-    line: &Line,
-    faults: &mut Items<Diag>,
-) -> Result<(), AllocError> {
+fn effect_fault(has_effect: bool, line: &Line, faults: &mut Items<Diag>) -> Result<(), AllocError> {
     if has_effect {
         faults.push(Diag::error(line.file, line.line, Code::F1, None))
     } else {

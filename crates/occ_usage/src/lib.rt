@@ -2,15 +2,11 @@
 //! a function changes nothing outside it and takes no part in communication.
 #![tactic(auto)]
 
-mod body;
 mod bounds;
-mod distinct;
 mod effects;
 mod form;
 mod function;
-mod joined;
 mod multiple;
-mod pairs;
 mod process;
 pub mod rows;
 mod walk;

@@ -1,7 +1,7 @@
 use super::form::used;
-use super::pairs::target_faults;
 use occ_base::{Diag, Items};
 use occ_bounds::{Bound, Use};
+use occ_clashes::target_faults;
 use occ_project::Place as Line;
 use occ_typed::TypedElement;
 use occ_types::UseKind;

@@ -1,15 +1,12 @@
-use super::body::body_uses;
 use super::bounds::{
     abbreviation, body, cut, enter_all, index_value, retyped_value, retyping, valued,
 };
-use super::distinct::distinct;
 use super::effects::{form_effect, results_effect};
 use super::form::{each, form_uses};
-use super::joined::joined;
 use super::multiple::assignment_faults;
-use super::pairs::component_faults;
 use occ_base::{Diag, Items, Shared};
 use occ_bounds::{Bound, Use};
+use occ_clashes::{body_uses, component_faults, distinct, joined};
 use occ_names::Entry;
 use occ_project::Place as Line;
 use occ_replicators::KnownReplicator;

@@ -1,7 +1,7 @@
-ghost use Rattle.std.specs.Prelude.{◌≡◌, ◌++◌, IfOk, OnOk};
-ghost use Rattle.occ_usage.specs.Bodies.{below as told_below, body_uses as told_body, from_outside as told_outside, outside as told_all_outside};
+ghost use Rattle.std.specs.Prelude.{◌≡◌, ◌++◌, ◌∷◌, [], IfOk, OnOk};
+ghost use Rattle.occ_clashes.specs.Bodies.{below as told_below, body_uses as told_body, from_outside as told_outside, outside as told_all_outside};
 
-use super::distinct::distinct;
+use super::each_once::distinct;
 use occ_base::Items;
 use occ_bounds::Use;
 use occ_parts::{Part, copies};
@@ -22,12 +22,7 @@ fn below(alloc: Global, numbers: &[usize], bound: usize) -> Result<Items<usize>,
 }
 
 /// A use in a body round which so many specifications stand, as it is seen from outside the body.
-fn from_outside(
-    alloc: Global,
-    found: &Use,
-    number: usize,
-    line: &Line,
-) -> Result<Use, AllocError>
+fn from_outside(alloc: Global, found: &Use, number: usize, line: &Line) -> Result<Use, AllocError>
     ensures { IfOk result (λ seen. seen ≡ told_outside number line.now found.now) }
 {
     Ok(Use {
@@ -61,7 +56,7 @@ fn push_outside(
 
 /// The uses of a body, each once, as they are seen from outside: so many specifications stand round it, and its own have
 /// numbers from `locals` on.
-pub(crate) fn body_uses(
+pub fn body_uses(
     alloc: Global,
     uses: &[Use],
     number: usize,

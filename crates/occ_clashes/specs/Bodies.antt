@@ -3,7 +3,7 @@ use Rattle.std.specs.Prelude.{ℕ, nat_lt, List, [], ◌∷◌, if◌then◌else
 use Rattle.std.specs.List.{filter}
 use Rattle.occ_bounds.specs.declared.uses.Use.{Use}
 use Rattle.occ_project.specs.declared.expanded.Place.{Place as Line}
-use Rattle.occ_usage.specs.Distinct.{distinct}
+use Rattle.occ_clashes.specs.Distinct.{distinct}
 
 abbrev pub below : ℕ → List ℕ → List ℕ
 below n ks = filter (λ k. nat_lt k n) ks
