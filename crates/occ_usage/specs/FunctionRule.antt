@@ -8,6 +8,7 @@ use Rattle.occ_base.specs.declared.code.Code.TheVariants.{F1}
 use Rattle.occ_base.specs.declared.diag.Diag.{Diag}
 use Rattle.occ_bounds.specs.Bounds.{Env}
 use Rattle.occ_bounds.specs.declared.uses.Use.{Use}
+use Rattle.occ_clashes.specs.Kinds.{is_write}
 use Rattle.occ_clashes.specs.ParallelRule.{root_name}
 use Rattle.occ_line_uses.specs.Effects.{each_effect, form_effect}
 use Rattle.occ_line_uses.specs.Entering.{entry_bounds}
@@ -18,20 +19,12 @@ use Rattle.occ_replicators.specs.declared.tree.KnownReplicator.{KnownReplicator}
 use Rattle.occ_typed.specs.declared.expr.TypedExpr.{TypedExpr}
 use Rattle.occ_typed_lines.specs.declared.tree.TypedForm.{TypedForm}
 use Rattle.occ_typed_lines.specs.declared.tree.TypedForm.TheVariants as form
-use Rattle.occ_types.specs.declared.interface.UseKind.{UseKind}
-use Rattle.occ_types.specs.declared.interface.UseKind.TheVariants as kind
 use Rattle.occ_typing.specs.declared.tree.TypedLine.{TypedLine}
 use Rattle.occ_usage.specs.Effect.{inner}
 use Rattle.occ_usage.specs.Lines.{behind_line, known_of}
 use Rattle.occ_usage.specs.Trees.{Empty, Head, Tree, Trees, trees_of}
 use Rattle.occ_usage.specs.declared.function.Within.{Within}
 use Rattle.occ_usage.specs.declared.function.Within.TheVariants as within
-
-abbrev pub is_write : UseKind → Bool
-is_write kind.Write = true
-is_write kind.Read = false
-is_write kind.Input = false
-is_write kind.Output = false
 
 -- a use in a FUNCTION round which n specifications stand
 abbrev pub write_fault : ℕ → Env → Use → List Diag

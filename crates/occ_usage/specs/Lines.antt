@@ -1,11 +1,12 @@
 -- What lines use, by what stands in scope there: of the lines under a line the uses of each item apart, since those of a PAR are
 -- its components.
-use Rattle.std.specs.Prelude.{ℕ, zero, suc, ◌+◌, ℤ, Bool, true, false, Option, Some, None, List, [], ◌∷◌, ◌++◌, length, concat, if◌then◌else◌}
+use Rattle.std.specs.Prelude.{ℕ, zero, suc, ◌+◌, ℤ, Bool, true, false, Option, Some, None, List, [], ◌∷◌, ◌++◌, length, if◌then◌else◌}
 use Rattle.occ_bounds.specs.Bounds.{Env}
 use Rattle.occ_bounds.specs.declared.bound.Bound.{Bound}
 use Rattle.occ_bounds.specs.declared.bound.Bound.TheVariants as b
 use Rattle.occ_bounds.specs.declared.uses.Use.{Use}
 use Rattle.occ_clashes.specs.Bodies.{body_uses}
+use Rattle.occ_clashes.specs.Components.{joined}
 use Rattle.occ_clashes.specs.Distinct.{distinct}
 use Rattle.occ_line_uses.specs.Entering.{body_bound, index_value, specified}
 use Rattle.occ_line_uses.specs.Forms.{form_uses}
@@ -47,7 +48,7 @@ with_index env base i = env ++ b.Value (index_value base i) None [] ∷ []
 -- the first n rounds of a replicator with this base
 abbrev pub rounds_to : ℕ → ℤ → Env → Under → List (List Use)
 rounds_to zero base env under = []
-rounds_to (suc i) base env under = rounds_to i base env under ++ concat (under (with_index env base i)) ∷ []
+rounds_to (suc i) base env under = rounds_to i base env under ++ joined (under (with_index env base i)) ∷ []
 
 abbrev pub components_by : Option KnownReplicator → Env → Head → Under → List (List Use)
 components_by None env h under = under (inner env h)
@@ -65,7 +66,7 @@ under_uses f us = if is_body f then [] else if is_replicated f then distinct us 
 
 -- a line with those under it
 abbrev pub line_uses : Env → Head → Under → List Use
-line_uses env h under = form_uses h.form env h.place ++ under_uses h.form (concat (components env h under))
+line_uses env h under = form_uses h.form env h.place ++ under_uses h.form (joined (components env h under))
 
 -- a PROC or a FUNCTION over lines that use these, and have an effect or not
 abbrev pub body_over : Env → Head → List Use → Bool → Bound
@@ -81,7 +82,7 @@ added_by env h us does (Some entries) = entered env h us does entries
 
 -- what comes into scope behind a line over these lines
 abbrev pub added : Env → Head → Trees → Under → List Bound
-added env h t under = added_by env h (concat (components env h under)) (effect_under t env h) h.adds
+added env h t under = added_by env h (joined (components env h under)) (effect_under t env h) h.adds
 
 -- ---- lines
 

@@ -3,8 +3,9 @@
 ghost use Rattle.std.specs.Prelude.{◌≡◌, ◌++◌, IfOk, OnOk, length, take};
 ghost use Rattle.occ_base.specs.Errors.{error_if};
 ghost use Rattle.occ_base.specs.declared.code.Code.TheVariants.{F1};
+ghost use Rattle.occ_clashes.specs.Kinds.{is_write as tells_write};
 ghost use Rattle.occ_usage.specs.Effect.{inner as told_inner};
-ghost use Rattle.occ_usage.specs.FunctionRule.{counted as told_counted, faults as told_faults, function_faults as told_function, is_write as tells_write, line_faults as told_line, one_line_faults as told_one_line, results_faults as told_results, whole_faults as told_whole, within_under as told_within, write_fault as told_write, write_faults as told_writes};
+ghost use Rattle.occ_usage.specs.FunctionRule.{counted as told_counted, faults as told_faults, function_faults as told_function, line_faults as told_line, one_line_faults as told_one_line, results_faults as told_results, whole_faults as told_whole, within_under as told_within, write_fault as told_write, write_faults as told_writes};
 ghost use Rattle.occ_usage.specs.Lines.{behind_by, behind_line};
 ghost use Rattle.occ_usage.specs.Trees.{head_of, trees_of, under as lines_under};
 

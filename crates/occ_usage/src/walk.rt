@@ -1,6 +1,7 @@
 #![tactic(auto, using(crate::proofs::Trees::first_tree))]
 
-ghost use Rattle.std.specs.Prelude.{◌≡◌, ◌≤◌, ◌++◌, ◌∷◌, [], concat, if◌then◌else◌, true, IfOk, OnOk, length, take};
+ghost use Rattle.std.specs.Prelude.{◌≡◌, ◌≤◌, ◌++◌, ◌∷◌, [], if◌then◌else◌, true, IfOk, OnOk, length, take};
+ghost use Rattle.occ_clashes.specs.Components.{joined as told_joined};
 ghost use Rattle.occ_usage.specs.Effect.{effect_under as told_effect, inner as told_inner};
 ghost use Rattle.occ_usage.specs.Lines.{added as told_behind, added_by as told_added, body_over as told_body, components as told_components, ends_item, entered as told_entered, is_replicated as tells_replicated, items_of, known_replicator as told_known, line_uses as told_line_uses, rounds_to, under_uses as told_under, with_index};
 ghost use Rattle.occ_usage.specs.ParallelRule.{block_faults as told_block, line_told, own_faults as told_own, parallel_faults, rounds_told, told_of, under_told};
@@ -48,7 +49,7 @@ fn round(
     env: &mut Items<Bound>,
     faults: &mut Items<Diag>,
 ) -> Result<Items<Use>, AllocError>
-    ensures found { IfOk result (λ found. found ≡ concat (items_of (trees_of lines.now) (with_index env.old base index))) }
+    ensures found { IfOk result (λ found. found ≡ told_joined (items_of (trees_of lines.now) (with_index env.old base index))) }
     ensures env { OnOk result (env.new ≡ env.old) }
     ensures faults { OnOk result (faults.new ≡ faults.old ++ told_of (trees_of lines.now) (with_index env.old base index)) }
 {

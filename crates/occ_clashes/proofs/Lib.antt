@@ -1,0 +1,3 @@
+pub mod Clashing
+pub mod Equality
+pub mod Once

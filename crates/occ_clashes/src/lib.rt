@@ -1,0 +1,17 @@
+//! What components have in common: the rule of parallel components, the uses of a body as they are seen from outside, and
+//! uses that are told once.
+#![tactic(auto)]
+
+mod body;
+mod each_once;
+mod joining;
+pub mod laws;
+mod pairs;
+mod rule;
+mod same;
+
+pub use body::body_uses;
+pub use each_once::distinct;
+pub use joining::joined;
+pub use pairs::{component_faults, target_faults};
+pub use rule::root_name;
