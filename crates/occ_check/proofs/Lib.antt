@@ -1,5 +1,4 @@
 pub mod Placed
 pub mod Names
 pub mod Rising
-pub mod Exported
 pub mod Firsts

@@ -3,11 +3,11 @@
 use Rattle.std.specs.Prelude.{ℕ, List, [], ◌∷◌, ◌++◌, Some, None}
 use Rattle.std.specs.List.{flat_map}
 use Rattle.occ_base.specs.declared.diag.Diag.{Diag}
-use Rattle.occ_check.specs.Exports.{interface_in}
 use Rattle.occ_check.specs.declared.language.Judgement.{Judgement}
 use Rattle.occ_check.specs.declared.used.Used.{Used}
 use Rattle.occ_check.specs.declared.used.Used.TheVariants as how
 use Rattle.occ_check.specs.declared.used.UsedUnit.{UsedUnit}
+use Rattle.occ_interfaces.specs.Exports.{interface_in}
 use Rattle.occ_project.specs.declared.expanded.ExpandedLine.{ExpandedLine}
 use Rattle.occ_tree.specs.Faults.{shape_faults}
 use Rattle.occ_tree.specs.Forest.{nested}
@@ -16,7 +16,8 @@ use Rattle.occ_typing.specs.Units.{type_faults}
 use Rattle.occ_typed_lines.specs.declared.using.Import.{Import}
 use Rattle.occ_typing.specs.declared.tree.TypedLine.{TypedLine}
 use Rattle.occ_usage.specs.FunctionRule.{function_faults}
-use Rattle.occ_usage.specs.Lines.{parallel_faults}
+use Rattle.occ_usage.specs.Lines.{behind_unit}
+use Rattle.occ_usage.specs.ParallelRule.{parallel_faults}
 
 -- these alone, if there are any, else what comes later
 abbrev pub behind : List Diag → Judgement → Judgement
@@ -41,9 +42,13 @@ imports = flat_map shown_by
 abbrev pub use_faults : List TypedLine → List Diag
 use_faults ls = parallel_faults ls ++ function_faults ls
 
+-- of the typed lines of a unit
+abbrev pub uses_judged : List TypedLine → Judgement
+uses_judged ls = record { faults = use_faults ls; interface = Some (interface_in (behind_unit ls) ls) }
+
 -- of names and types; else of uses
 abbrev pub lines_typed : List ExpandedLine → List Import → Judgement
-lines_typed ls shows = behind (type_faults shows (nested ls)) (record { faults = use_faults (typed_unit shows (nested ls)); interface = Some (interface_in (typed_unit shows (nested ls))) })
+lines_typed ls shows = behind (type_faults shows (nested ls)) (uses_judged (typed_unit shows (nested ls)))
 
 -- of the lines of a unit that uses these: first what is wrong with their shape, else what they mean
 unfoldable pub lines_judged : List ExpandedLine → List UsedUnit → Judgement

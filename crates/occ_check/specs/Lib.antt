@@ -2,7 +2,6 @@ pub mod Order
 pub mod Uses
 pub mod Input
 pub mod Faults
-pub mod Exports
 pub mod Language
 pub mod Diagnostics
 pub mod Samples

@@ -1,19 +1,18 @@
 ghost use Rattle.std.specs.Prelude.{◌≡◌, IfOk, None, Some};
-ghost use Rattle.occ_check.specs.Exports.{interface_in};
-ghost use Rattle.occ_check.specs.Language.{behind, imports as shown_imports, lines_judged, use_faults};
+ghost use Rattle.occ_check.specs.Language.{behind, imports as shown_imports, lines_judged, uses_judged};
 ghost use Rattle.occ_tree.specs.Forest.{forest_of};
 ghost use Rattle.occ_typing.specs.TypedLines.{typed_unit};
 ghost use Rattle.occ_typing.specs.Units.{type_faults};
 
-use super::exports::interface_of;
 use super::used::{Used, UsedUnit};
 use occ_base::{Diag, Items};
+use occ_interfaces::interface_of;
 use occ_project::ExpandedLine;
 use occ_tree::{ShapeFault, Unit, shape};
 use occ_typed_lines::Import;
 use occ_types::Interface;
 use occ_typing::{TypeFault, Typed, type_unit};
-use occ_usage::{function_faults, par_faults};
+use occ_usage::{UnitUses, function_faults, unit_uses};
 use std::alloc::{AllocError, Global};
 
 /// What is said of a unit.
@@ -53,13 +52,17 @@ fn imports(alloc: Global, used: &[UsedUnit]) -> Result<Items<Import>, AllocError
     Ok(found)
 }
 
-/// What the rules of uses say of a unit.
-fn find_use_faults(alloc: Global, typed: &Typed) -> Result<Items<Diag>, AllocError>
-    ensures { IfOk result (λ found. found ≡ use_faults typed.now.lines) }
+/// What the rules of uses say of a unit, and what it exports.
+fn judge_uses(alloc: Global, typed: &Typed) -> Result<Judgement, AllocError>
+    ensures { IfOk result (λ judgement. judgement ≡ uses_judged typed.now.lines) }
 {
-    let mut found = par_faults(alloc, typed)?;
-    found.append(function_faults(alloc, typed)?)?;
-    Ok(found)
+    let UnitUses { mut faults, bounds } = unit_uses(alloc, typed)?;
+    faults.append(function_faults(alloc, typed)?)?;
+    let interface = interface_of(alloc, bounds.as_slice(), typed.lines.as_slice())?;
+    Ok(Judgement {
+        faults,
+        interface: Some(interface),
+    })
 }
 
 /// What names and types say of a unit, and behind them the rules of uses.
@@ -69,14 +72,10 @@ fn judge_meaning(
     unit: &Unit,
     imports: &[Import],
 ) -> Result<Judgement, AllocError>
-    ensures { IfOk result (λ judgement. judgement ≡ behind (type_faults imports.now (forest_of unit.now.roots)) (record { faults = use_faults (typed_unit imports.now (forest_of unit.now.roots)); interface = Some (interface_in (typed_unit imports.now (forest_of unit.now.roots))) })) }
+    ensures { IfOk result (λ judgement. judgement ≡ behind (type_faults imports.now (forest_of unit.now.roots)) (uses_judged (typed_unit imports.now (forest_of unit.now.roots)))) }
 {
     match type_unit(alloc, unit, imports) {
-        Ok(typed) => {
-            let interface = Some(interface_of(alloc, typed.lines.as_slice())?);
-            let faults = find_use_faults(alloc, &typed)?;
-            Ok(Judgement { faults, interface })
-        }
+        Ok(typed) => judge_uses(alloc, &typed),
         Err(TypeFault::Faults(found)) => Ok(Judgement::of_faults(found)),
         Err(TypeFault::Memory) => Err(AllocError),
     }

@@ -2,7 +2,6 @@
 //! the interface that the rules give for that input.
 #![tactic(auto)]
 
-mod exports;
 mod faults;
 mod job;
 mod language;

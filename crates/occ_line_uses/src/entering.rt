@@ -67,6 +67,16 @@ pub fn enter_all(
     Ok(())
 }
 
+/// The number of the specification behind so many more. There is none where numbers end, which memory does before them.
+pub fn number_behind(number: usize, more: usize) -> Result<usize, AllocError>
+    ensures { IfOk result (λ behind. behind ≡ number + more) }
+{
+    match number.checked_add(more) {
+        Some(behind) => Ok(behind),
+        None => Err(AllocError),
+    }
+}
+
 /// Takes the last one out of scope, if there is one.
 fn leave(env: &mut Items<Bound>)
     requires { 1 ≤ length env.old }
@@ -226,7 +236,7 @@ fn exported_use(
 {
     Ok(Use {
         part: Part {
-            root: number + found.formal as usize,
+            root: number_behind(number, found.formal as usize)?,
             selectors: copies(alloc, found.selectors.as_slice())?,
         },
         kind: found.kind,

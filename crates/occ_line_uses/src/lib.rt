@@ -7,5 +7,7 @@ mod entering;
 mod form;
 
 pub use effect::{each_effect, form_effect};
-pub use entering::{body_bound, cut, enter, enter_all, enter_index, enter_line};
+pub use entering::{
+    body_bound, cut, enter, enter_all, enter_index, enter_line, index_value, number_behind,
+};
 pub use form::{each_uses, form_uses, used};

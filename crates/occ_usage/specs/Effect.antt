@@ -22,7 +22,7 @@ inner env h = env ++ entry_bounds h.enters
 -- in scope behind a line, where a body has this effect and its uses are not asked for; outer stands round its item
 abbrev pub effect_behind : Env → Env → Head → Bool → Option (List Entry) → Env
 effect_behind outer env h does None = outer
-effect_behind outer env h does (Some entries) = if is_body h.form then env ++ body_bound [] does ∷ [] else env ++ specified env h.place entries h.form
+effect_behind outer env h does (Some entries) = env ++ (if is_body h.form then body_bound [] does ∷ [] else specified env h.place entries h.form)
 
 -- of a line, where those under it have this effect
 abbrev pub line_effect : Env → Head → Bool → Bool

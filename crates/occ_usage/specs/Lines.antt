@@ -17,7 +17,8 @@ use Rattle.occ_typed_lines.specs.declared.tree.BlockKind.TheVariants as block
 use Rattle.occ_typed_lines.specs.declared.tree.TypedForm.{TypedForm}
 use Rattle.occ_typed_lines.specs.declared.tree.TypedForm.TheVariants as form
 use Rattle.occ_usage.specs.Effect.{effect_under, inner, is_body}
-use Rattle.occ_usage.specs.Trees.{Empty, Head, Tree, Trees}
+use Rattle.occ_typing.specs.declared.tree.TypedLine.{TypedLine}
+use Rattle.occ_usage.specs.Trees.{Empty, Head, Tree, Trees, trees_of}
 
 -- what stands under a line: the uses of each item
 abbrev pub Under : Type 0
@@ -114,3 +115,7 @@ behind_line outer env h t = behind_by outer env h t h.adds
 abbrev pub behind_lines : Trees → Env → Env → Env
 behind_lines Empty outer env = env
 behind_lines (Tree h t behind) outer env = behind_lines behind outer (behind_line outer env h t)
+
+-- of a unit: nothing stands in scope at the first
+abbrev pub behind_unit : List TypedLine → Env
+behind_unit ls = behind_lines (trees_of ls) [] []

@@ -1,15 +1,15 @@
 #![tactic(auto, using(crate::proofs::Trees::first_tree))]
 
-ghost use Rattle.std.specs.Prelude.{◌≡◌, ◌++◌, IfOk, OnOk, length, take};
+ghost use Rattle.std.specs.Prelude.{◌≡◌, ◌≤◌, ◌++◌, IfOk, OnOk, length, take};
 ghost use Rattle.occ_base.specs.Errors.{error_if};
 ghost use Rattle.occ_base.specs.declared.code.Code.TheVariants.{F1};
 ghost use Rattle.occ_clashes.specs.Kinds.{is_write as tells_write};
 ghost use Rattle.occ_usage.specs.Effect.{inner as told_inner};
 ghost use Rattle.occ_usage.specs.FunctionRule.{counted as told_counted, faults as told_faults, function_faults as told_function, line_faults as told_line, one_line_faults as told_one_line, results_faults as told_results, whole_faults as told_whole, within_under as told_within, write_fault as told_write, write_faults as told_writes};
-ghost use Rattle.occ_usage.specs.Lines.{behind_by, behind_line};
+ghost use Rattle.occ_usage.specs.Lines.{behind_line};
 ghost use Rattle.occ_usage.specs.Trees.{head_of, trees_of, under as lines_under};
 
-use super::walk::{known_replicator, line as judged_line};
+use super::walk::{go_over, known_replicator};
 use occ_base::{Code, Diag, Items, Shared};
 use occ_bounds::{Bound, Use};
 use occ_clashes::root_name;
@@ -188,15 +188,14 @@ pub(crate) fn go_behind(
     depth: usize,
     env: &mut Items<Bound>,
 ) -> Result<(), AllocError>
-    ensures { OnOk result (env.new ≡ behind_line (take depth env.old) env.old (head_of line.now) (lines_under line.now)) }
+    ensures { OnOk result (depth ≤ length env.old → env.new ≡ behind_line (take depth env.old) env.old (head_of line.now) (lines_under line.now)) }
 {
     if line.adds.is_none() {
         cut(env, depth);
         return Ok(());
     }
-    let mut uses = Items::new(alloc);
     let mut faults = Items::new(alloc);
-    judged_line(alloc, line, env, &mut uses, &mut faults)
+    go_over(alloc, line, depth, env, &mut faults)
 }
 
 /// What is told of the lines under a line.
@@ -229,7 +228,7 @@ fn line(
     faults: &mut Items<Diag>,
 ) -> Result<(), AllocError>
     ensures faults { OnOk result (faults.new ≡ faults.old ++ told_whole within (head_of line.now) (lines_under line.now) env.old) }
-    ensures env { OnOk result (env.new ≡ behind_line (take depth env.old) env.old (head_of line.now) (lines_under line.now)) }
+    ensures env { OnOk result (depth ≤ length env.old → env.new ≡ behind_line (take depth env.old) env.old (head_of line.now) (lines_under line.now)) }
 {
     line_faults(alloc, line, within, env.as_slice(), faults)?;
     one_line_faults(alloc, line, env, faults)?;

@@ -10,4 +10,4 @@ mod walk;
 
 pub use function::function_faults;
 pub use process::{Summary, uses_of};
-pub use walk::par_faults;
+pub use walk::{UnitUses, par_faults, unit_uses};

@@ -1,4 +1,6 @@
 ghost use Rattle.std.specs.Prelude.{◌≡◌, ◌++◌, IfOk, OnOk};
+ghost use Rattle.occ_line_uses.specs.Forms.{used as told_used};
+ghost use Rattle.occ_types.specs.declared.interface.UseKind.TheVariants as kinds;
 ghost use Rattle.occ_usage.specs.ParallelRule.{assignment_faults as told_assignment, targets as told_targets};
 
 use occ_base::{Diag, Items};
@@ -17,7 +19,7 @@ fn target(
     env: &[Bound],
     line: &Line,
 ) -> Result<Items<Use>, AllocError>
-    ensures { IfOk result (λ own. told_targets (element.now ∷ []) env.now line.now ≡ own ∷ []) }
+    ensures { IfOk result (λ own. own ≡ told_used kinds.Write element.now env.now line.now) }
 {
     let mut own = Items::new(alloc);
     used(alloc, UseKind::Write, element, env, line, &mut own)?;

@@ -1,6 +1,6 @@
 #![tactic(auto, using(crate::proofs::Trees::first_tree))]
 
-ghost use Rattle.std.specs.Prelude.{◌≡◌, ◌++◌, IfOk, OnOk, length, take};
+ghost use Rattle.std.specs.Prelude.{◌≡◌, ◌≤◌, ◌++◌, IfOk, OnOk, length, take};
 ghost use Rattle.occ_usage.specs.Effect.{inner as told_inner};
 ghost use Rattle.occ_usage.specs.Lines.{behind_line, items_of, line_uses as told_line_uses};
 ghost use Rattle.occ_usage.specs.Processes.{from_round, is_number as tells_number, own_uses as told_own, process_uses as told_uses, uses_in, whole_uses as told_whole};
@@ -127,7 +127,7 @@ fn line(
     found: &mut Items<Use>,
 ) -> Result<(), AllocError>
     ensures found { OnOk result (found.new ≡ found.old ++ told_whole process (head_of line.now) (lines_under line.now) env.old) }
-    ensures env { OnOk result (env.new ≡ behind_line (take depth env.old) env.old (head_of line.now) (lines_under line.now)) }
+    ensures env { OnOk result (depth ≤ length env.old → env.new ≡ behind_line (take depth env.old) env.old (head_of line.now) (lines_under line.now)) }
 {
     add_own_uses(alloc, line, process, env, found)?;
     add_under(alloc, line, process, env, found)?;

@@ -3,7 +3,7 @@
 ghost use Rattle.std.specs.Prelude.{◌≡◌, ◌≤◌, ◌++◌, ◌∷◌, [], if◌then◌else◌, true, IfOk, OnOk, length, take};
 ghost use Rattle.occ_clashes.specs.Components.{joined as told_joined};
 ghost use Rattle.occ_usage.specs.Effect.{effect_under as told_effect, inner as told_inner};
-ghost use Rattle.occ_usage.specs.Lines.{added as told_behind, added_by as told_added, body_over as told_body, components as told_components, ends_item, entered as told_entered, is_replicated as tells_replicated, items_of, known_replicator as told_known, line_uses as told_line_uses, rounds_to, under_uses as told_under, with_index};
+ghost use Rattle.occ_usage.specs.Lines.{added as told_behind, behind_line, behind_lines, behind_unit, added_by as told_added, body_over as told_body, components as told_components, ends_item, entered as told_entered, is_replicated as tells_replicated, items_of, known_replicator as told_known, line_uses as told_line_uses, rounds_to, under_uses as told_under, with_index};
 ghost use Rattle.occ_usage.specs.ParallelRule.{block_faults as told_block, line_told, own_faults as told_own, parallel_faults, rounds_told, told_of, under_told};
 ghost use Rattle.occ_usage.specs.Trees.{head_of, trees_of, under as lines_under};
 
@@ -12,7 +12,7 @@ use super::multiple::assignment_faults;
 use occ_base::{Diag, Items};
 use occ_bounds::{Bound, Use};
 use occ_clashes::{body_uses, component_faults, distinct, joined};
-use occ_line_uses::{body_bound, cut, enter, enter_all, enter_index, enter_line, form_uses, index_value};
+use occ_line_uses::{body_bound, cut, enter, enter_all, enter_index, enter_line, form_uses, index_value, number_behind};
 use occ_names::Entry;
 use occ_replicators::KnownReplicator;
 use occ_typed_lines::{BlockKind, TypedForm};
@@ -169,7 +169,7 @@ fn body_over(
 {
     let has_effect = effect_under(alloc, line, env)?;
     let number = env.len();
-    let locals = number + line.enters.len();
+    let locals = number_behind(number, line.enters.len())?;
     let uses = body_uses(alloc, uses, number, locals, &line.place)?;
     Ok(body_bound(uses, has_effect))
 }
@@ -291,12 +291,68 @@ fn items(
     Ok(found)
 }
 
+/// What the parallel rule tells of lines, behind the last of which stands in scope what is in scope then.
+fn go_through(
+    alloc: Global,
+    lines: &[TypedLine],
+    env: &mut Items<Bound>,
+    faults: &mut Items<Diag>,
+) -> Result<(), AllocError>
+    ensures env { OnOk result (env.new ≡ behind_lines (trees_of lines.now) env.old env.old) }
+    ensures faults { OnOk result (faults.new ≡ faults.old ++ told_of (trees_of lines.now) env.old) }
+{
+    let depth = env.len();
+    for one in lines {
+        go_over(alloc, one, depth, env, faults)?;
+    }
+    Ok(())
+}
+
+/// What the parallel rule tells of a line with those under it, behind which stands in scope what is in scope then: so many
+/// specifications stand round its item.
+pub(crate) fn go_over(
+    alloc: Global,
+    one: &TypedLine,
+    depth: usize,
+    env: &mut Items<Bound>,
+    faults: &mut Items<Diag>,
+) -> Result<(), AllocError>
+    ensures env { OnOk result (depth ≤ length env.old → env.new ≡ behind_line (take depth env.old) env.old (head_of one.now) (lines_under one.now)) }
+    ensures faults { OnOk result (faults.new ≡ faults.old ++ line_told env.old (head_of one.now) (lines_under one.now) (told_of (lines_under one.now))) }
+{
+    let mut uses = Items::new(alloc);
+    line(alloc, one, env, &mut uses, faults)?;
+    if one.adds.is_none() {
+        cut(env, depth);
+    }
+    Ok(())
+}
+
 /// What the parallel rule tells of a unit, in no order, some perhaps more than once.
 pub fn par_faults(alloc: Global, typed: &Typed) -> Result<Items<Diag>, AllocError>
     ensures { IfOk result (λ faults. faults ≡ parallel_faults typed.now.lines) }
 {
     let mut env = Items::new(alloc);
     let mut faults = Items::new(alloc);
-    items(alloc, typed.lines.as_slice(), &mut env, &mut faults)?;
+    go_through(alloc, typed.lines.as_slice(), &mut env, &mut faults)?;
     Ok(faults)
+}
+
+/// What the rules of uses tell of a unit, and what stands in scope behind its last line.
+#[derive(Drop)]
+pub struct UnitUses {
+    /// What the parallel rule tells, in no order, some perhaps more than once.
+    pub faults: Items<Diag>,
+    pub bounds: Items<Bound>,
+}
+
+/// What the parallel rule tells of a unit, as `par_faults` does, and with it what stands in scope behind its last line.
+pub fn unit_uses(alloc: Global, typed: &Typed) -> Result<UnitUses, AllocError>
+    ensures faults { IfOk result (λ found. found.faults ≡ parallel_faults typed.now.lines) }
+    ensures bounds { IfOk result (λ found. found.bounds ≡ behind_unit typed.now.lines) }
+{
+    let mut bounds = Items::new(alloc);
+    let mut faults = Items::new(alloc);
+    go_through(alloc, typed.lines.as_slice(), &mut bounds, &mut faults)?;
+    Ok(UnitUses { faults, bounds })
 }

@@ -1,6 +1,6 @@
 use Rattle.std.proofs.Common.{◌∙◌, ◌++◌, ◌∷◌, [], List, ap, rules}
 use Rattle.std.proofs.lemmas.Fn.{filter_same}
-use Rattle.occ_check.proofs.exports.add_export.Goals as goal
+use Rattle.occ_interfaces.proofs.export.add_export.Goals as goal
 use Rattle.occ_types.specs.declared.interface.Export.{Export}
 
 pub returns : goal.returns

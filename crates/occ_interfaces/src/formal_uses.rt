@@ -1,0 +1,71 @@
+ghost use Rattle.std.specs.Prelude.{◌≡◌, ◌++◌, IfOk, OnOk};
+ghost use Rattle.occ_interfaces.specs.FormalUses.{formal_use as told_use, formal_uses as told_uses, in_order as told_order};
+
+use super::code::use_code;
+use occ_base::Items;
+use occ_bounds::Use;
+use occ_parts::copies;
+use occ_types::FormalUse;
+use std::alloc::{AllocError, Global};
+use std::collections::BTreeMap;
+
+/// Adds a use in a body round which so many specifications stand, if it is one of a formal.
+fn push_formal_use(
+    alloc: Global,
+    number: usize,
+    found: &Use,
+    uses: &mut Items<FormalUse>,
+) -> Result<(), AllocError>
+    ensures { OnOk result (uses.new ≡ uses.old ++ told_use number found.now) }
+{
+    if found.part.root < number {
+        return Ok(());
+    }
+    let Ok(formal) = u32::try_from(found.part.root - number) else {
+        return Ok(());
+    };
+    uses.push(FormalUse {
+        formal,
+        selectors: copies(alloc, found.part.selectors.as_slice())?,
+        kind: found.kind,
+    })
+}
+
+/// The uses of formals in a body round which so many specifications stand.
+fn formal_uses(
+    alloc: Global,
+    number: usize,
+    body: &[Use],
+) -> Result<Items<FormalUse>, AllocError>
+    ensures { IfOk result (λ uses. uses ≡ told_uses number body.now) }
+{
+    let mut uses = Items::new(alloc);
+    for found in body {
+        push_formal_use(alloc, number, found, &mut uses)?;
+    }
+    Ok(uses)
+}
+
+/// The uses in the order of their codes, each once.
+fn in_order(alloc: Global, mut uses: Items<FormalUse>) -> Result<Items<FormalUse>, AllocError>
+    ensures { IfOk result (λ ordered. ordered ≡ told_order uses) }
+{
+    let mut coded = BTreeMap::new(alloc);
+    while let Some(found) = uses.pop() {
+        coded.insert(use_code(alloc, &found)?, found)?;
+    }
+    let ordered = coded.into_values().collect(alloc)?;
+    Ok(Items::from_vec(ordered))
+}
+
+/// What a body round which so many specifications stand does with its formals.
+pub fn body_formal_uses(
+    alloc: Global,
+    number: usize,
+    body: &[Use],
+) -> Result<Items<FormalUse>, AllocError>
+    ensures { IfOk result (λ uses. uses ≡ told_order (told_uses number body.now)) }
+{
+    let uses = formal_uses(alloc, number, body)?;
+    in_order(alloc, uses)
+}
