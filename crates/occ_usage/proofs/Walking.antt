@@ -9,7 +9,7 @@ use Rattle.occ_line_uses.specs.Entering.{body_bound, specified}
 use Rattle.occ_names.specs.declared.meaning.Entry.{Entry}
 use Rattle.occ_usage.specs.Effect.{effect_behind, effect_under, is_body, line_effect, lines_effect}
 use Rattle.occ_usage.specs.FunctionRule.{faults, whole_faults}
-use Rattle.occ_usage.specs.Lines.{added, behind_by, behind_line, ends_item, items, items_of, line_uses}
+use Rattle.occ_usage.specs.Lines.{added, behind_by, behind_line, behind_lines, ends_item, items, items_of, line_uses}
 use Rattle.occ_usage.specs.ParallelRule.{line_told, told, told_of}
 use Rattle.occ_usage.specs.Processes.{process_uses, whole_uses}
 use Rattle.occ_usage.specs.Trees.{Empty, Head, Tree, Trees}
@@ -98,6 +98,16 @@ step_told h t rest all outer env behind found found1 whole is before more e =
     ∙ append_assoc found (line_told env h t (told_of t)) (told rest outer (behind_line outer env h t))
     ∙ ap (λ (z : Trees). found ++ told z outer env) (sym is)
     ∙ before
+
+-- ---- what stands in scope behind lines
+
+pub step_behind : (h : Head) (t rest all : Trees) (outer env behind whole : Env)
+    → all ≡ Tree h t rest
+    → behind_lines all outer env ≡ whole
+    → behind ≡ behind_line outer env h t
+    → behind_lines rest outer behind ≡ whole
+step_behind h t rest all outer env behind whole is before e =
+    ap (behind_lines rest outer) e ∙ ap (λ (z : Trees). behind_lines z outer env) (sym is) ∙ before
 
 -- ---- what the function rule tells
 

@@ -1,3 +1,0 @@
-pub mod LineCalls
-pub mod AbbreviationRule
-pub mod Grades
