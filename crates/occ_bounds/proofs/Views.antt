@@ -12,7 +12,7 @@ use Rattle.occ_typed.specs.declared.expr.Selector.TheOpen.{Selector-F, TypedActu
 use Rattle.occ_typed.specs.declared.expr.Selector.TheVariants as sv
 use Rattle.occ_typed.specs.declared.expr.TypedActual.{TypedActual}
 use Rattle.occ_typed.specs.declared.expr.TypedActual.TheVariants as av
-use Rattle.occ_typed.specs.declared.expr.TypedElement.{TypedElement, out-TypedElement, roll-TypedElement}
+use Rattle.occ_typed.specs.declared.expr.TypedElement.{TypedElement, out-TypedElement}
 use Rattle.occ_typed.specs.declared.expr.Selector.TheViews.{roll-out-TypedElement}
 use Rattle.occ_typed.specs.declared.expr.TypedExpr.{TypedExpr}
 use Rattle.occ_typed.specs.declared.expr.TypedExpr.TheVariants as tv

@@ -6,7 +6,6 @@ use Rattle.occ_operands.specs.declared.kind.Known.{Known}
 use Rattle.occ_parts.specs.Selecting.{subscript}
 use Rattle.occ_project.specs.declared.expanded.Place.{Place as Line}
 use Rattle.occ_typed.specs.declared.expr.Selector.{Selector}
-use Rattle.occ_typed.specs.declared.expr.Selector.TheVariants as s
 use Rattle.occ_typed.specs.declared.expr.TypedElement.{TypedElement}
 use Rattle.occ_typed.specs.declared.expr.TypedExpr.{TypedExpr}
 use Rattle.occ_typed.specs.declared.expr.TypedExpr.TheVariants as e

@@ -23,7 +23,14 @@ fn call_at(
     let mut reads = Items::new(alloc);
     actuals_uses(alloc, actuals, env, line, &mut reads)?;
     let mut uses = Items::new(alloc);
-    called(alloc, line, callee, places.as_slice(), body_at(env, callee), &mut uses)?;
+    called(
+        alloc,
+        line,
+        callee,
+        places.as_slice(),
+        body_at(env, callee),
+        &mut uses,
+    )?;
     Ok(Call {
         callee,
         places,

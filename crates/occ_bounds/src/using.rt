@@ -217,5 +217,12 @@ pub fn instance_uses(
 {
     actuals_uses(alloc, actuals, env, line, uses)?;
     let places = places(alloc, actuals, env)?;
-    called(alloc, line, callee, places.as_slice(), body_at(env, callee), uses)
+    called(
+        alloc,
+        line,
+        callee,
+        places.as_slice(),
+        body_at(env, callee),
+        uses,
+    )
 }

@@ -153,7 +153,10 @@ fn element_value(element: &TypedElement, env: &[Bound]) -> Option<Value>
 {
     match element.known.value {
         Some(value) => Some(value),
-        None => name_value(element.selectors.as_slice(), value_at(env, element.referent.spec)),
+        None => name_value(
+            element.selectors.as_slice(),
+            value_at(env, element.referent.spec),
+        ),
     }
 }
 
@@ -185,7 +188,11 @@ pub fn size(expr: &TypedExpr, env: &[Bound]) -> Option<u32>
 pub fn element_size(element: &TypedElement, env: &[Bound]) -> Option<u32>
     ensures { result ≡ (element_view element.now).size env.now }
 {
-    size_behind(element.selectors.as_slice(), size_at(env, element.referent.spec), env)
+    size_behind(
+        element.selectors.as_slice(),
+        size_at(env, element.referent.spec),
+        env,
+    )
 }
 
 /// The number of components behind selectors from so many.
