@@ -4,3 +4,4 @@ pub mod Timers
 pub mod Values
 pub mod Calls
 pub mod Views
+pub mod Examples

@@ -1,8 +1,6 @@
 -- What an expression, an element, a selector and an actual are where specifications are in scope: values, places, the uses of
 -- what is evaluated, and the calls.
-use Rattle.std.specs.Prelude.{ℕ, ℤ, pos, Bool, false, ◌||◌, Option, Some, None, List, [], ◌∷◌, ◌++◌, slice_get}
-use Rattle.occ_names.specs.declared.meaning.Referent.{Referent}
-use Rattle.occ_operands.specs.declared.kind.Known.{Known}
+use Rattle.std.specs.Prelude.{ℕ, pos, Bool, false, ◌||◌, Option, Some, None, List, [], ◌∷◌, ◌++◌, slice_get}
 use Rattle.occ_parts.specs.Selecting.{with_field, with_segment, with_subscript}
 use Rattle.occ_parts.specs.declared.place.Place.{Place}
 use Rattle.occ_project.specs.declared.expanded.Place.{Place as Line}
@@ -17,8 +15,7 @@ use Rattle.occ_typed.specs.declared.expr.TypedElement.{TypedElement}
 use Rattle.occ_typed.specs.declared.expr.TypedExpr.{TypedExpr}
 use Rattle.occ_bounds.specs.Bounds.{Env, body_of, effect_of, place_of, size_of, value_of}
 use Rattle.occ_bounds.specs.Calls.{called_all, made}
-use Rattle.occ_bounds.specs.Values.{both, converted_to, count_of, folded_behind, int_of, known_or, less, one, size_number, size_value, whole}
-use Rattle.occ_bounds.specs.declared.bound.Bound.{Bound}
+use Rattle.occ_bounds.specs.Values.{converted_to, count_of, folded_behind, int_of, known_or, less, one, size_number, size_value, whole}
 use Rattle.occ_bounds.specs.declared.call.Call.{Call}
 use Rattle.occ_bounds.specs.declared.uses.Use.{Use}
 

@@ -1,4 +1,4 @@
-ghost use Rattle.std.specs.Prelude.{◌≡◌, ◌++◌, ◌-◌, IfOk, OnOk, slice_get};
+ghost use Rattle.std.specs.Prelude.{◌≡◌, ◌++◌, MatchOption, None, OnOk, Some, slice_get};
 ghost use Rattle.occ_bounds.specs.Calls.{called as told_called, called_all as told_called_all, made as told_made, named_by as told_named_by, of_actual as told_of_actual};
 
 use super::uses::Use;
@@ -44,27 +44,32 @@ pub(crate) fn push_made(
     })
 }
 
-/// A use of a part of a formal, of which this is the actual.
+/// A use of a part of a formal that has this actual.
 fn push_of_actual(
     alloc: Global,
     line: &Line,
     found: &Use,
-    place: Option<&Option<Place>>,
+    place: &Place,
     uses: &mut Items<Use>,
 ) -> Result<(), AllocError>
-    ensures { OnOk result (uses.new ≡ uses.old ++ told_of_actual line.now found.now (told_named_by place)) }
+    ensures { OnOk result (uses.new ≡ uses.old ++ told_of_actual line.now found.now (Some place.now)) }
 {
-    let Some(Some(place)) = place else {
-        return Ok(());
-    };
-    let part = place.followed_by(alloc, found.part.selectors.as_slice())?;
-    let chain = Items::from_slice(alloc, place.chain.as_slice())?;
     uses.push(Use {
-        part,
+        part: place.followed_by(alloc, found.part.selectors.as_slice())?,
         kind: found.kind,
         line: *line,
-        chain,
+        chain: Items::from_slice(alloc, place.chain.as_slice())?,
     })
+}
+
+/// The actual of the formal at a place among them, if it is used.
+fn actual_of(places: &[Option<Place>], formal: usize) -> Option<&Place>
+    ensures { MatchOption result (told_named_by (slice_get places.now formal) ≡ None) (λ place. told_named_by (slice_get places.now formal) ≡ Some place.now) }
+{
+    match places.get(formal) {
+        Some(place) => place.as_ref(),
+        None => None,
+    }
 }
 
 /// What a call of a specification with this number does by a use in its body.
@@ -81,8 +86,10 @@ fn push_called(
     if found.part.root < callee {
         uses.push(found.at_line(alloc, line)?)
     } else {
-        let place = places.get(found.part.root - callee);
-        push_of_actual(alloc, line, found, place, uses)
+        match actual_of(places, found.part.root - callee) {
+            Some(place) => push_of_actual(alloc, line, found, place, uses),
+            None => Ok(()),
+        }
     }
 }
 

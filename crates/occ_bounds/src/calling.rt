@@ -1,5 +1,3 @@
-#![tactic(auto, using(crate::proofs::Views::view_rules))]
-
 ghost use Rattle.std.specs.Prelude.{◌≡◌, ◌++◌, ◌∷◌, [], IfOk, OnOk, slice_get};
 ghost use Rattle.occ_bounds.specs.Views.{actual_view, actual_views, actuals_calls as told_actuals_calls, call_at as told_call_at, call_calls as told_call_calls, each_calls as told_each_calls, element_view, expr_view, expr_views, selector_view, selector_views, selectors_calls as told_selectors_calls};
 
@@ -25,7 +23,14 @@ fn call_at(
     let mut reads = Items::new(alloc);
     actuals_uses(alloc, actuals, env, line, &mut reads)?;
     let mut uses = Items::new(alloc);
-    called(alloc, line, callee, places.as_slice(), body_at(env, callee), &mut uses)?;
+    called(
+        alloc,
+        line,
+        callee,
+        places.as_slice(),
+        body_at(env, callee),
+        &mut uses,
+    )?;
     Ok(Call {
         callee,
         places,
@@ -35,6 +40,7 @@ fn call_at(
 }
 
 /// The calls of an expression that is evaluated at a line.
+#[tactic(auto, using(crate::proofs::Views::expr_calls_rules))]
 #[cycle(calling)]
 pub fn expression_calls(
     alloc: Global,
@@ -88,6 +94,7 @@ fn each_calls(
 }
 
 /// The calls in the subscripts and bounds of an element.
+#[tactic(auto, using(crate::proofs::Views::element_calls_rules))]
 #[cycle(calling)]
 pub fn element_calls(
     alloc: Global,
@@ -119,6 +126,7 @@ fn selectors_calls(
 }
 
 /// The calls in the subscript or the bounds of a selector.
+#[tactic(auto, using(crate::proofs::Views::selector_calls_rules))]
 #[cycle(calling)]
 fn selector_calls(
     alloc: Global,
@@ -142,6 +150,7 @@ fn selector_calls(
 }
 
 /// The calls in an actual.
+#[tactic(auto, using(crate::proofs::Views::actual_calls_rules))]
 #[cycle(calling)]
 fn actual_calls(
     alloc: Global,

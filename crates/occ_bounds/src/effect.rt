@@ -1,5 +1,3 @@
-#![tactic(auto, using(crate::proofs::Views::view_rules))]
-
 ghost use Rattle.std.specs.Prelude.{◌≡◌};
 ghost use Rattle.occ_bounds.specs.Views.{actual_view, actual_views, actuals_effect as told_actuals, call_effect as told_call, each_effect as told_each, element_view, expr_view, expr_views, selector_view, selector_views, selectors_effect as told_selectors};
 
@@ -8,6 +6,7 @@ use occ_base::Shared;
 use occ_typed::{Selector, TypedActual, TypedElement, TypedExpr};
 
 /// Whether an expression calls a body with an input, an output, a PAR or an ALT.
+#[tactic(auto, using(crate::proofs::Views::expr_effect_rules))]
 #[cycle(effects)]
 pub fn expression_effect(expr: &TypedExpr, env: &[Bound]) -> bool
     ensures { result ≡ (expr_view expr.now).effect env.now }
@@ -40,6 +39,7 @@ fn each_effect(exprs: &[Shared<TypedExpr>], env: &[Bound]) -> bool
 }
 
 /// Whether a subscript or a bound of an element calls such a body.
+#[tactic(auto, using(crate::proofs::Views::element_effect_rules))]
 #[cycle(effects)]
 pub fn element_effect(element: &TypedElement, env: &[Bound]) -> bool
     ensures { result ≡ (element_view element.now).effect env.now }
@@ -61,6 +61,7 @@ fn selectors_effect(selectors: &[Selector], env: &[Bound]) -> bool
 }
 
 /// Whether the subscript or a bound of a selector calls such a body.
+#[tactic(auto, using(crate::proofs::Views::selector_effect_rules))]
 #[cycle(effects)]
 fn selector_effect(selector: &Selector, env: &[Bound]) -> bool
     ensures { result ≡ (selector_view selector.now).effect env.now }
@@ -77,6 +78,7 @@ fn selector_effect(selector: &Selector, env: &[Bound]) -> bool
 }
 
 /// Whether the value or a subscript of an actual calls such a body.
+#[tactic(auto, using(crate::proofs::Views::actual_effect_rules))]
 #[cycle(effects)]
 fn actual_effect(actual: &TypedActual, env: &[Bound]) -> bool
     ensures { result ≡ (actual_view actual.now).effect env.now }

@@ -1,7 +1,5 @@
-#![tactic(auto, using(crate::proofs::Views::view_rules))]
-
 ghost use Rattle.std.specs.Prelude.{◌≡◌, IfOk};
-ghost use Rattle.occ_bounds.specs.Views.{element_view, selector_view, placed};
+ghost use Rattle.occ_bounds.specs.Views.{element_view, placed, selector_view, selector_views};
 
 use super::bound::{Bound, place_at, size_at};
 use super::valuing::{count, int, less, size_within, value, whole};
@@ -10,6 +8,7 @@ use occ_typed::{Selector, TypedElement};
 use std::alloc::{AllocError, Global};
 
 /// What is selected from a place of so many components, if their number is known.
+#[tactic(auto, using(crate::proofs::Views::selector_place_rules))]
 fn selected(
     alloc: Global,
     place: Place,
@@ -38,6 +37,7 @@ fn selected(
 
 /// What an element selects, where these specifications are in scope: nothing that is used, where its name is VAL, an index
 /// or a timer.
+#[tactic(auto, using(crate::proofs::Views::element_place_rules))]
 pub fn place(
     alloc: Global,
     element: &TypedElement,
@@ -45,13 +45,28 @@ pub fn place(
 ) -> Result<Option<Place>, AllocError>
     ensures { IfOk result (λ found. found ≡ (element_view element.now).place env.now) }
 {
-    let Some(mut place) = place_at(alloc, env, element.referent.spec)? else {
+    let Some(place) = place_at(alloc, env, element.referent.spec)? else {
         return Ok(None);
     };
-    let mut size = size_at(env, element.referent.spec);
-    for selector in element.selectors.as_slice() {
-        place = selected(alloc, place, selector, size, env)?;
-        size = size_within(selector, size, env);
+    let size = size_at(env, element.referent.spec);
+    Ok(Some(place_behind(alloc, place, element.selectors.as_slice(), size, env)?))
+}
+
+/// What selectors select from a place of so many components, if their number is known.
+fn place_behind(
+    alloc: Global,
+    place: Place,
+    selectors: &[Selector],
+    size: Option<u32>,
+    env: &[Bound],
+) -> Result<Place, AllocError>
+    ensures { IfOk result (λ found. found ≡ placed (selector_views selectors.now) env.now size place) }
+{
+    let mut found = place;
+    let mut number = size;
+    for selector in selectors {
+        found = selected(alloc, found, selector, number, env)?;
+        number = size_within(selector, number, env);
     }
-    Ok(Some(place))
+    Ok(found)
 }

@@ -1,3 +1,5 @@
+#![tactic(auto, using(crate::proofs::Timers::timer_rules))]
+
 ghost use Rattle.std.specs.Prelude.{◌≡◌};
 ghost use Rattle.occ_bounds.specs.Timers.{is_timer as told_timer};
 

@@ -1,5 +1,3 @@
-#![tactic(auto, using(crate::proofs::Views::view_rules))]
-
 ghost use Rattle.std.specs.Prelude.{◌≡◌, ◌++◌, IfOk, OnOk, slice_get};
 ghost use Rattle.occ_bounds.specs.Bounds.{body_of};
 ghost use Rattle.occ_bounds.specs.Calls.{called_all, made as told_made};
@@ -32,6 +30,7 @@ pub fn use_of(
 }
 
 /// What the actual is for a formal that is not VAL.
+#[tactic(auto, using(crate::proofs::Views::actual_place_rules))]
 fn actual_place(
     alloc: Global,
     actual: &TypedActual,
@@ -61,6 +60,7 @@ pub(crate) fn places(
 }
 
 /// The uses of an expression that is evaluated at a line.
+#[tactic(auto, using(crate::proofs::Views::expr_uses_rules))]
 #[cycle(using)]
 pub fn expression_uses(
     alloc: Global,
@@ -113,6 +113,7 @@ fn each_uses(
 }
 
 /// The uses of the subscripts and bounds of an element.
+#[tactic(auto, using(crate::proofs::Views::element_uses_rules))]
 #[cycle(using)]
 pub fn element_uses(
     alloc: Global,
@@ -144,6 +145,7 @@ fn selectors_uses(
 }
 
 /// The uses of the subscript or the bounds of a selector.
+#[tactic(auto, using(crate::proofs::Views::selector_uses_rules))]
 #[cycle(using)]
 fn selector_uses(
     alloc: Global,
@@ -167,6 +169,7 @@ fn selector_uses(
 }
 
 /// The uses of an actual: of its value, or of its subscripts and bounds.
+#[tactic(auto, using(crate::proofs::Views::actual_uses_rules))]
 #[cycle(using)]
 fn actual_uses(
     alloc: Global,
@@ -214,5 +217,12 @@ pub fn instance_uses(
 {
     actuals_uses(alloc, actuals, env, line, uses)?;
     let places = places(alloc, actuals, env)?;
-    called(alloc, line, callee, places.as_slice(), body_at(env, callee), uses)
+    called(
+        alloc,
+        line,
+        callee,
+        places.as_slice(),
+        body_at(env, callee),
+        uses,
+    )
 }

@@ -1,8 +1,6 @@
-#![tactic(auto, using(crate::proofs::Views::view_rules))]
-
 ghost use Rattle.std.specs.Prelude.{◌≡◌};
-ghost use Rattle.occ_bounds.specs.Values.{both as told_both, converted_to, count_of as told_count, folded_all, int_of as told_int, known_or, less as told_less, one as told_one, size_number as told_size_number, size_value as told_size_value, whole as told_whole};
-ghost use Rattle.occ_bounds.specs.Views.{element_view, expr_view, expr_views, selector_view, sized};
+ghost use Rattle.occ_bounds.specs.Values.{both as told_both, converted_to, count_of as told_count, folded_behind, int_of as told_int, known_or, less as told_less, one as told_one, size_number as told_size_number, size_value as told_size_value, whole as told_whole};
+ghost use Rattle.occ_bounds.specs.Views.{element_view, expr_view, expr_views, folded_all, name_value as told_name_value, selector_view, selector_views, sized, values_of};
 
 use super::bound::{Bound, size_at, value_at};
 use occ_base::Shared;
@@ -104,6 +102,7 @@ pub(crate) fn count(value: Option<Value>) -> Option<i64>
 
 /// The value of an expression where these specifications are in scope: none where it is not known, and none where it has a
 /// fault.
+#[tactic(auto, using(crate::proofs::Views::expr_value_rules))]
 #[cycle(values)]
 pub fn value(expr: &TypedExpr, env: &[Bound]) -> Option<Value>
     ensures { result ≡ (expr_view expr.now).value env.now }
@@ -137,7 +136,9 @@ pub fn value(expr: &TypedExpr, env: &[Bound]) -> Option<Value>
 fn operation(operator: Operator, operands: &[Shared<TypedExpr>], env: &[Bound]) -> Option<Value>
     ensures { result ≡ folded_all operator (expr_views operands.now) env.now }
 {
-    let (first, more) = operands.split_first()?;
+    let Some((first, more)) = operands.split_first() else {
+        return None;
+    };
     let mut found = value(first.get(), env);
     for operand in more {
         found = both(operator, found, value(operand.get(), env));
@@ -146,22 +147,31 @@ fn operation(operator: Operator, operands: &[Shared<TypedExpr>], env: &[Bound]) 
 }
 
 /// The value of an element: only a name alone has one.
+#[tactic(auto, using(crate::proofs::Views::element_value_rules))]
 fn element_value(element: &TypedElement, env: &[Bound]) -> Option<Value>
     ensures { result ≡ (element_view element.now).value env.now }
 {
     match element.known.value {
         Some(value) => Some(value),
-        None => {
-            if element.selectors.is_empty() {
-                value_at(env, element.referent.spec)
-            } else {
-                None
-            }
-        }
+        None => name_value(
+            element.selectors.as_slice(),
+            value_at(env, element.referent.spec),
+        ),
+    }
+}
+
+/// The value of a name of this value with selectors behind it: only the name alone has one.
+fn name_value(selectors: &[Selector], value: Option<Value>) -> Option<Value>
+    ensures { result ≡ told_name_value (selector_views selectors.now) value }
+{
+    match selectors.split_first() {
+        Some(_) => None,
+        None => value,
     }
 }
 
 /// The number of components of an array, as far as the specifications in scope tell it.
+#[tactic(auto, using(crate::proofs::Views::expr_size_rules))]
 #[cycle(values)]
 pub fn size(expr: &TypedExpr, env: &[Bound]) -> Option<u32>
     ensures { result ≡ (expr_view expr.now).size env.now }
@@ -173,18 +183,32 @@ pub fn size(expr: &TypedExpr, env: &[Bound]) -> Option<u32>
 }
 
 /// The number of components of an element, as far as the specifications in scope tell it.
+#[tactic(auto, using(crate::proofs::Views::element_size_rules))]
 #[cycle(values)]
 pub fn element_size(element: &TypedElement, env: &[Bound]) -> Option<u32>
     ensures { result ≡ (element_view element.now).size env.now }
 {
-    let mut found = size_at(env, element.referent.spec);
-    for selector in element.selectors.as_slice() {
+    size_behind(
+        element.selectors.as_slice(),
+        size_at(env, element.referent.spec),
+        env,
+    )
+}
+
+/// The number of components behind selectors from so many.
+#[cycle(values)]
+fn size_behind(selectors: &[Selector], size: Option<u32>, env: &[Bound]) -> Option<u32>
+    ensures { result ≡ sized (selector_views selectors.now) env.now size }
+{
+    let mut found = size;
+    for selector in selectors {
         found = size_within(selector, found, env);
     }
     found
 }
 
 /// The number of components of what is selected from so many.
+#[tactic(auto, using(crate::proofs::Views::selector_size_rules))]
 #[cycle(values)]
 pub(crate) fn size_within(selector: &Selector, size: Option<u32>, env: &[Bound]) -> Option<u32>
     ensures { result ≡ (selector_view selector.now).size env.now size }

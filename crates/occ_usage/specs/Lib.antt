@@ -4,3 +4,4 @@ pub mod Effect
 pub mod ParallelRule
 pub mod FunctionRule
 pub mod Processes
+pub mod Standing

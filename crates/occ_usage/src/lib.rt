@@ -4,10 +4,12 @@
 
 mod effect;
 mod function;
+mod laws;
 mod multiple;
 mod process;
 mod walk;
 
 pub use function::function_faults;
+pub use laws::place_law;
 pub use process::{Summary, uses_of};
 pub use walk::{UnitUses, par_faults, unit_uses};
