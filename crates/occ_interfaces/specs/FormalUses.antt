@@ -20,10 +20,10 @@ abbrev pub formal_uses : ℕ → List Use → List FormalUse
 formal_uses n [] = []
 formal_uses n (u ∷ us) = formal_use n u ++ formal_uses n us
 
--- with their codes, in the order of these; of one code the last that is put there
-abbrev pub coded : List FormalUse → List (List ℕ × FormalUse)
-coded [] = []
-coded (u ∷ us) = insert_entry (slice_cmp nat_cmp) (coded us) (use_code u) u
+-- with their codes, put one by one at their places among those that are there already; of one code the last that is put there
+abbrev pub coded : List FormalUse → List (List ℕ × FormalUse) → List (List ℕ × FormalUse)
+coded [] there = there
+coded (u ∷ us) there = insert_entry (slice_cmp nat_cmp) (coded us there) (use_code u) u
 
 abbrev pub in_order : List FormalUse → List FormalUse
-in_order us = values_of (coded us)
+in_order us = values_of (coded us [])

@@ -47,6 +47,7 @@ fn formal_uses(
 }
 
 /// The uses in the order of their codes, each once.
+#[tactic(auto, using(crate::proofs::Coded::coded_last))]
 fn in_order(alloc: Global, mut uses: Items<FormalUse>) -> Result<Items<FormalUse>, AllocError>
     ensures { IfOk result (λ ordered. ordered ≡ told_order uses) }
 {
