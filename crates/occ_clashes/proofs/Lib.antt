@@ -1,3 +1,4 @@
 pub mod Clashing
 pub mod Equality
 pub mod Once
+pub mod Accumulation

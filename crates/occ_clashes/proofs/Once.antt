@@ -22,7 +22,7 @@ onto_last (x ∷ us) u found = ap (added x) (onto_last us u found)
 
 -- ---- places in a list
 
-get_push : {X : Type 0} (xs : List X) (y x : X) (j : ℕ) → slice_get (xs ++ y ∷ []) j ≡ Some x → (slice_get xs j ≡ Some x) ⊎ ((j ≡ length xs) × (x ≡ y))
+pub get_push : {X : Type 0} (xs : List X) (y x : X) (j : ℕ) → slice_get (xs ++ y ∷ []) j ≡ Some x → (slice_get xs j ≡ Some x) ⊎ ((j ≡ length xs) × (x ≡ y))
 get_push [] y x zero h = inr (refl, cc)
 get_push [] y x (suc j) h = cc
 get_push (z ∷ xs) y x zero h = inl h

@@ -3,3 +3,5 @@ pub mod Kinds
 pub mod ParallelRule
 pub mod Distinct
 pub mod Bodies
+-- what no contract of a public call rests on
+pub mod inside
