@@ -30,7 +30,7 @@ use Rattle.occ_clashes.proofs.Once.{get_push}
 
 -- ---- lists
 
-get_set : {X : Type 0} (xs : List X) (i : ℕ) (y : X) (j : ℕ) (r : X) → slice_get (slice_set xs i y) j ≡ Some r
+pub get_set : {X : Type 0} (xs : List X) (i : ℕ) (y : X) (j : ℕ) (r : X) → slice_get (slice_set xs i y) j ≡ Some r
     → ((j ≡ i) × (y ≡ r)) ⊎ ((j ≢ i) × (slice_get xs j ≡ Some r))
 get_set [] i y j r h = cc
 get_set (x ∷ xs) zero y zero r h = inl (refl, cc)
@@ -46,7 +46,7 @@ set_length [] i y = refl
 set_length (x ∷ xs) zero y = refl
 set_length (x ∷ xs) (suc i) y = ap suc (set_length xs i y)
 
-get_within : {X : Type 0} (xs : List X) (k : ℕ) → k < length xs → (x : X) × (slice_get xs k ≡ Some x)
+pub get_within : {X : Type 0} (xs : List X) (k : ℕ) → k < length xs → (x : X) × (slice_get xs k ≡ Some x)
 get_within [] k w = absurd (omega (arith, w))
 get_within (x ∷ xs) zero w = (x, refl)
 get_within (x ∷ xs) (suc k) w = get_within xs k (omega (arith, w))
@@ -55,7 +55,7 @@ any_none : {X : Type 0} (p : X → Bool) (xs : List X) → ((x : X) → p x ≡ 
 any_none p [] h = refl
 any_none p (x ∷ xs) h = let a : p x ≡ false = h x in let b : list_any p xs ≡ false = any_none p xs h in grind (arith, a, b)
 
-any_last : {X : Type 0} (p : X → Bool) (xs : List X) (y : X) → list_any p (xs ++ y ∷ []) ≡ (list_any p xs || p y)
+pub any_last : {X : Type 0} (p : X → Bool) (xs : List X) (y : X) → list_any p (xs ++ y ∷ []) ≡ (list_any p xs || p y)
 any_last p [] y = grind arith
 any_last p (x ∷ xs) y = let e : list_any p (xs ++ y ∷ []) ≡ (list_any p xs || p y) = any_last p xs y in grind (arith, e)
 

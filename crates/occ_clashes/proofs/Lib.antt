@@ -2,3 +2,4 @@ pub mod Clashing
 pub mod Equality
 pub mod Once
 pub mod Accumulation
+pub mod Looking

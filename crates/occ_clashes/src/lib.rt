@@ -7,6 +7,7 @@ mod body;
 mod each_once;
 mod joining;
 pub mod laws;
+mod numbering;
 mod pairs;
 mod rule;
 mod same;
