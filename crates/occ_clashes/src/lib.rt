@@ -9,6 +9,7 @@ mod joining;
 pub mod laws;
 mod numbering;
 mod pairs;
+pub mod rows;
 mod rule;
 mod same;
 mod telling;
