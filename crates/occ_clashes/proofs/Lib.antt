@@ -1,3 +1,5 @@
 pub mod Clashing
 pub mod Equality
 pub mod Once
+pub mod Accumulation
+pub mod Looking

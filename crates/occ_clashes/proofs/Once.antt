@@ -22,7 +22,7 @@ onto_last (x ∷ us) u found = ap (added x) (onto_last us u found)
 
 -- ---- places in a list
 
-get_push : {X : Type 0} (xs : List X) (y x : X) (j : ℕ) → slice_get (xs ++ y ∷ []) j ≡ Some x → (slice_get xs j ≡ Some x) ⊎ ((j ≡ length xs) × (x ≡ y))
+pub get_push : {X : Type 0} (xs : List X) (y x : X) (j : ℕ) → slice_get (xs ++ y ∷ []) j ≡ Some x → (slice_get xs j ≡ Some x) ⊎ ((j ≡ length xs) × (x ≡ y))
 get_push [] y x zero h = inr (refl, cc)
 get_push [] y x (suc j) h = cc
 get_push (z ∷ xs) y x zero h = inl h
@@ -31,12 +31,12 @@ get_push (z ∷ xs) y x (suc j) h = elim (get_push xs y x j h) [
   | inr m ↦ inr (ap suc (m.0), m.1)
 ]
 
-get_front : {X : Type 0} (xs ys : List X) (x : X) (j : ℕ) → slice_get xs j ≡ Some x → slice_get (xs ++ ys) j ≡ Some x
+pub get_front : {X : Type 0} (xs ys : List X) (x : X) (j : ℕ) → slice_get xs j ≡ Some x → slice_get (xs ++ ys) j ≡ Some x
 get_front [] ys x j h = cc
 get_front (z ∷ xs) ys x zero h = h
 get_front (z ∷ xs) ys x (suc j) h = get_front xs ys x j h
 
-get_last : {X : Type 0} (xs : List X) (y : X) → slice_get (xs ++ y ∷ []) (length xs) ≡ Some y
+pub get_last : {X : Type 0} (xs : List X) (y : X) → slice_get (xs ++ y ∷ []) (length xs) ≡ Some y
 get_last [] y = refl
 get_last (z ∷ xs) y = get_last xs y
 

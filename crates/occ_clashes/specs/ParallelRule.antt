@@ -73,8 +73,11 @@ root_name env root = name_of (slice_get env root)
 abbrev pub fault_of : Rule → Line → List Bound → ℕ → Diag
 fault_of r line env root = error_at line.file line.line (code_of r) (root_name env root)
 
+abbrev pub fault_if : Bool → Rule → Line → List Bound → ℕ → List Diag
+fault_if test r line env root = if test then fault_of r line env root ∷ [] else []
+
 abbrev pub root_fault : Rule → Least → Line → List Bound → List (List Use) → ℕ → List Diag
-root_fault r l line env components root = if some_clash r l root components then fault_of r line env root ∷ [] else []
+root_fault r l line env components root = fault_if (some_clash r l root components) r line env root
 
 abbrev pub root_faults : Line → List Bound → List (List Use) → ℕ → List Diag
 root_faults line env components root =

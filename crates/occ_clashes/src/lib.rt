@@ -2,16 +2,21 @@
 //! uses that are told once.
 #![tactic(auto)]
 
+mod accumulate;
 mod body;
 mod each_once;
 mod joining;
 pub mod laws;
+mod numbering;
 mod pairs;
+pub mod rows;
 mod rule;
 mod same;
+mod telling;
 
 pub use body::body_uses;
 pub use each_once::distinct;
 pub use joining::joined;
-pub use pairs::{component_faults, target_faults};
+pub use pairs::target_faults;
 pub use rule::root_name;
+pub use telling::component_faults;

@@ -1,9 +1,10 @@
 ghost use Rattle.std.specs.Prelude.{◌≡◌, ◌++◌, List, OnOk};
-ghost use Rattle.occ_clashes.specs.ParallelRule.{clash, clash_between, component_faults as told_components, root_fault as told_root_fault, root_faults as told_root_faults, some_clash as told_some_clash, target_faults as told_targets, uses_clash};
+ghost use Rattle.occ_clashes.specs.ParallelRule.{clash, clash_between, some_clash as told_some_clash, target_faults as told_targets, uses_clash};
 ghost use Rattle.std.specs.List.{list_any};
 ghost use Rattle.occ_bounds.specs.declared.uses.Use.{Use as AUse};
 
-use super::rule::{Least, Rule, code, conflict, counts, root_name};
+use super::rule::{Least, Rule, conflict, counts};
+use super::telling::root_fault;
 use occ_base::{Diag, Items};
 use occ_bounds::{Bound, Use};
 use occ_parts::overlap;
@@ -69,85 +70,6 @@ fn some_clash(rule: Rule, least: Least, root: usize, components: &[Items<Use>]) 
     false
 }
 
-/// Adds the fault of a root.
-fn root_fault(
-    alloc: Global,
-    rule: Rule,
-    least: Least,
-    line: &Line,
-    env: &[Bound],
-    components: &[Items<Use>],
-    root: usize,
-    faults: &mut Items<Diag>,
-) -> Result<(), AllocError>
-    ensures { OnOk result (faults.new ≡ faults.old ++ told_root_fault rule least line.now env.now components.now root) }
-{
-    if !some_clash(rule, least, root, components) {
-        return Ok(());
-    }
-    let name = root_name(alloc, env, root)?;
-    faults.push(Diag::error(line.file, line.line, code(rule), name))
-}
-
-/// Adds the faults of a root.
-fn root_faults(
-    alloc: Global,
-    line: &Line,
-    env: &[Bound],
-    components: &[Items<Use>],
-    root: usize,
-    faults: &mut Items<Diag>,
-) -> Result<(), AllocError>
-    ensures { OnOk result (faults.new ≡ faults.old ++ told_root_faults line.now env.now components.now root) }
-{
-    root_fault(
-        alloc,
-        Rule::Written,
-        Least::May,
-        line,
-        env,
-        components,
-        root,
-        faults,
-    )?;
-    root_fault(
-        alloc,
-        Rule::Input,
-        Least::May,
-        line,
-        env,
-        components,
-        root,
-        faults,
-    )?;
-    root_fault(
-        alloc,
-        Rule::Output,
-        Least::May,
-        line,
-        env,
-        components,
-        root,
-        faults,
-    )
-}
-
-/// What is told of a PAR with these components, where these specifications stand round it.
-pub fn component_faults(
-    alloc: Global,
-    line: &Line,
-    env: &[Bound],
-    components: &[Items<Use>],
-    faults: &mut Items<Diag>,
-) -> Result<(), AllocError>
-    ensures { OnOk result (faults.new ≡ faults.old ++ told_components line.now env.now components.now) }
-{
-    for root in 0..env.len() {
-        root_faults(alloc, line, env, components, root, faults)?;
-    }
-    Ok(())
-}
-
 /// What is told of an assignment of several targets with these uses.
 pub fn target_faults(
     alloc: Global,
@@ -159,16 +81,8 @@ pub fn target_faults(
     ensures { OnOk result (faults.new ≡ faults.old ++ told_targets line.now env.now components.now) }
 {
     for root in 0..env.len() {
-        root_fault(
-            alloc,
-            Rule::Written,
-            Least::Must,
-            line,
-            env,
-            components,
-            root,
-            faults,
-        )?;
+        let is_broken = some_clash(Rule::Written, Least::Must, root, components);
+        root_fault(alloc, is_broken, Rule::Written, line, env, root, faults)?;
     }
     Ok(())
 }

@@ -53,7 +53,7 @@ fn same_selector(a: &PartSelector, b: &PartSelector) -> bool
 }
 
 /// Whether two lists of selectors are one.
-fn same_selectors(a: &[PartSelector], b: &[PartSelector]) -> bool
+pub(crate) fn same_selectors(a: &[PartSelector], b: &[PartSelector]) -> bool
     ensures { result ≡ told_selectors a.now b.now }
 {
     if a.len() != b.len() {

@@ -1,0 +1,99 @@
+ghost use Rattle.std.specs.Prelude.{◌≡◌, ◌++◌, OnOk, Some, length};
+ghost use Rattle.occ_clashes.specs.ParallelRule.{below, component_faults as told_components, fault_if};
+ghost use Rattle.occ_clashes.specs.inside.Accumulating.{broken_faults, faults_in};
+
+use super::accumulate::{RootUses, root_uses};
+use super::rule::{Rule, code, root_name};
+use occ_base::{Diag, Items};
+use occ_bounds::{Bound, Use};
+use occ_project::Place as Line;
+use std::alloc::{AllocError, Global};
+
+/// Adds the fault of a root, if the rule is broken there.
+pub(crate) fn root_fault(
+    alloc: Global,
+    is_broken: bool,
+    rule: Rule,
+    line: &Line,
+    env: &[Bound],
+    root: usize,
+    faults: &mut Items<Diag>,
+) -> Result<(), AllocError>
+    ensures { OnOk result (faults.new ≡ faults.old ++ fault_if is_broken rule line.now env.now root) }
+{
+    if !is_broken {
+        return Ok(());
+    }
+    let name = root_name(alloc, env, root)?;
+    faults.push(Diag::error(line.file, line.line, code(rule), name))
+}
+
+/// Adds the faults of a root, by each rule that is broken there.
+fn root_faults(
+    alloc: Global,
+    line: &Line,
+    env: &[Bound],
+    root: usize,
+    uses: &RootUses,
+    faults: &mut Items<Diag>,
+) -> Result<(), AllocError>
+    ensures { OnOk result (faults.new ≡ faults.old ++ broken_faults line.now env.now root (Some uses.now)) }
+{
+    root_fault(
+        alloc,
+        uses.breaks_written,
+        Rule::Written,
+        line,
+        env,
+        root,
+        faults,
+    )?;
+    root_fault(
+        alloc,
+        uses.breaks_input,
+        Rule::Input,
+        line,
+        env,
+        root,
+        faults,
+    )?;
+    root_fault(
+        alloc,
+        uses.breaks_output,
+        Rule::Output,
+        line,
+        env,
+        root,
+        faults,
+    )
+}
+
+/// Adds the faults of all roots.
+fn tell(
+    alloc: Global,
+    line: &Line,
+    env: &[Bound],
+    table: &[RootUses],
+    faults: &mut Items<Diag>,
+) -> Result<(), AllocError>
+    ensures { OnOk result (faults.new ≡ faults.old ++ below (length table.now) (faults_in line.now env.now table.now)) }
+{
+    for (root, uses) in table.iter().enumerate() {
+        root_faults(alloc, line, env, root, uses, faults)?;
+    }
+    Ok(())
+}
+
+/// What is told of a PAR with these components, where these specifications stand round it.
+pub fn component_faults(
+    alloc: Global,
+    line: &Line,
+    env: &[Bound],
+    components: &[Items<Use>],
+    faults: &mut Items<Diag>,
+) -> Result<(), AllocError>
+    ensures { OnOk result (faults.new ≡ faults.old ++ told_components line.now env.now components.now) }
+{
+    let table = root_uses(alloc, env.len(), components)?;
+    tell(alloc, line, env, table.as_slice(), faults)
+}
