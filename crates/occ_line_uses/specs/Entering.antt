@@ -1,5 +1,5 @@
 -- What comes into scope by a line, for the uses of parts: of each name one specification, in the order of the names.
-use Rattle.std.specs.Prelude.{ℕ, ℤ, pos, neg, ◌+◌, ◌+ℤ◌, int_le, Bool, true, false, ◌&&◌, Option, Some, None, List, [], ◌∷◌, ◌++◌, length, if◌then◌else◌}
+use Rattle.std.specs.Prelude.{ℕ, ℤ, pos, negsuc, ◌+◌, ◌+ℤ◌, int_le, Bool, true, false, ◌&&◌, Option, Some, None, List, [], ◌∷◌, ◌++◌, length, if◌then◌else◌}
 use Rattle.occ_base.specs.declared.name.Name.{Name}
 use Rattle.occ_bounds.specs.Bounds.{Env}
 use Rattle.occ_bounds.specs.Timers.{is_timer}
@@ -55,7 +55,7 @@ entry_bounds (e ∷ es) = meaning_bound e.name e.meaning ∷ entry_bounds es
 
 -- in one of the rounds, the first of which has number 0; over the range of INT it has no value
 abbrev pub index_value : ℤ → ℕ → Option Value
-index_value base i = if int_le (neg 2147483648) (base +ℤ pos i) && int_le (base +ℤ pos i) (pos 2147483647) then Some (v.Int (base +ℤ pos i)) else None
+index_value base i = if int_le (negsuc 2147483647) (base +ℤ pos i) && int_le (base +ℤ pos i) (pos 2147483647) then Some (v.Int (base +ℤ pos i)) else None
 
 -- ---- abbreviations
 

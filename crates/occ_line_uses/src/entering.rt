@@ -1,4 +1,4 @@
-ghost use Rattle.std.specs.Prelude.{◌≡◌, ◌++◌, ◌+◌, ◌∷◌, ◌≤◌, [], None, IfOk, OnOk, length, take};
+ghost use Rattle.std.specs.Prelude.{◌≡◌, ◌++◌, ◌+◌, ◌-◌, ◌∷◌, ◌≤◌, [], None, IfOk, OnOk, length, take};
 ghost use Rattle.occ_bounds.specs.declared.bound.Bound.TheVariants as bounds;
 ghost use Rattle.occ_line_uses.specs.Entering.{abbreviated as told_abbreviated, access_bound, body_bound as told_body, entry_bounds, export_bounds, exported_use as told_use, exported_uses as told_uses, index_value as told_index, interface_bounds as told_interfaces, looked_at as told_looked, meaning_bound as told_meaning, named_at as told_named, one_line as told_one_line, retyped as told_retyped, retyped_value as told_retyped_value, specified as told_specified, valued as told_valued};
 
