@@ -4,4 +4,5 @@ pub mod Timers
 pub mod Values
 pub mod Calls
 pub mod Views
+pub mod Making
 pub mod Examples

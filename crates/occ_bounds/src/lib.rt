@@ -6,6 +6,7 @@ mod bound;
 mod call;
 mod calling;
 mod effect;
+pub mod laws;
 mod placing;
 pub mod rows;
 mod timing;
