@@ -1,6 +1,6 @@
 #![tactic(auto, using(crate::proofs::Trees::first_tree))]
 
-ghost use Rattle.std.specs.Prelude.{◌≡◌, ◌++◌, IfOk, OnOk, length, take};
+ghost use Rattle.std.specs.Prelude.{◌≡◌, ◌||◌, IfOk, OnOk, take};
 ghost use Rattle.occ_usage.specs.Effect.{effect_behind as told_behind, effect_under as told_under, is_body as tells_body, line_effect as told_line, lines_effect as told_lines};
 ghost use Rattle.occ_usage.specs.Trees.{head_of, trees_of, under as lines_under};
 
@@ -20,6 +20,13 @@ pub(crate) fn is_body(form: &TypedForm) -> bool
         TypedForm::FunctionHead => true,
         _ => false,
     }
+}
+
+/// Whether one of the two is so.
+fn either(one: bool, other: bool) -> bool
+    ensures { result ≡ (one || other) }
+{
+    one || other
 }
 
 /// Goes behind a line, where a body has this effect: its uses are not asked for. So many specifications stand round its item.
@@ -90,7 +97,7 @@ fn lines_effect(
     let mut found = false;
     for line in lines {
         let has_effect = line_effect(alloc, line, depth, env)?;
-        found = found || has_effect;
+        found = either(found, has_effect);
     }
     cut(env, depth);
     Ok(found)

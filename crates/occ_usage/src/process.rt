@@ -1,6 +1,6 @@
 #![tactic(auto, using(crate::proofs::Trees::first_tree))]
 
-ghost use Rattle.std.specs.Prelude.{◌≡◌, ◌≤◌, ◌++◌, IfOk, OnOk, length, take};
+ghost use Rattle.std.specs.Prelude.{◌≡◌, ◌≤◌, ◌++◌, ◌∷◌, [], IfOk, OnOk, length, take};
 ghost use Rattle.occ_usage.specs.Effect.{inner as told_inner};
 ghost use Rattle.occ_usage.specs.Lines.{behind_line, items_of, line_uses as told_line_uses};
 ghost use Rattle.occ_usage.specs.Processes.{from_round, is_number as tells_number, own_uses as told_own, process_uses as told_uses, uses_in, whole_uses as told_whole};
