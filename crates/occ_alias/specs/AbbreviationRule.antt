@@ -136,9 +136,12 @@ results_faults formals results env line =
     let body = env ++ entry_bounds formals in
     evaluated_faults line body (each_uses results body line) (each_calls results body line)
 
+abbrev pub form_faults : TypedForm → Env → Line → List Diag
+form_faults f env line = evaluated_faults line env (form_uses f env line) (form_calls f env line)
+
 abbrev pub line_faults : TypedForm → Env → Line → List Diag
 line_faults (form.OneLineFunction formals results) env line = results_faults formals results env line
-line_faults other env line = evaluated_faults line env (form_uses other env line) (form_calls other env line)
+line_faults other env line = form_faults other env line
 
 -- env stands in scope at the first of the lines, and outer at the next item
 abbrev pub faults : Trees → Env → Env → List Diag
