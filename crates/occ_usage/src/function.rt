@@ -182,7 +182,7 @@ fn within_under(form: &TypedForm, depth: usize, within: Within) -> Within
 }
 
 /// Goes behind a line: so many specifications stand round its item.
-pub(crate) fn go_behind(
+pub fn go_behind(
     alloc: Global,
     line: &TypedLine,
     depth: usize,

@@ -9,7 +9,7 @@ mod multiple;
 mod process;
 mod walk;
 
-pub use function::function_faults;
+pub use function::{function_faults, go_behind};
 pub use laws::place_law;
 pub use process::{Summary, uses_of};
-pub use walk::{UnitUses, par_faults, unit_uses};
+pub use walk::{UnitUses, known_replicator, par_faults, unit_uses};

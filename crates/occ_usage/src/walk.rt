@@ -20,7 +20,7 @@ use occ_typing::{Typed, TypedLine};
 use std::alloc::{AllocError, Global};
 
 /// The replicator of a line, if it is known.
-pub(crate) fn known_replicator(form: &TypedForm) -> Option<KnownReplicator>
+pub fn known_replicator(form: &TypedForm) -> Option<KnownReplicator>
     ensures { result ≡ told_known form.now }
 {
     match form {
