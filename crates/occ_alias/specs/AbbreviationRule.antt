@@ -32,6 +32,7 @@ use Rattle.occ_typing.specs.declared.tree.TypedLine.{TypedLine}
 use Rattle.occ_usage.specs.Lines.{behind_line}
 use Rattle.occ_usage.specs.ParallelRule.{Told, under_told}
 use Rattle.occ_usage.specs.Trees.{Empty, Head, Tree, Trees, trees_of}
+use Rattle.occ_alias.specs.Grades.{graver}
 use Rattle.occ_alias.specs.LineCalls.{each_calls, form_calls}
 
 -- ---- two parts that are not apart: an error where they surely have an element in common, else a check
@@ -159,3 +160,7 @@ whole_faults h t env = line_faults h.form env h.place ++ under_told env h (fault
 -- of the lines of a unit: nothing stands in scope at the first
 abbrev pub unit_faults : List TypedLine → List Diag
 unit_faults ls = faults_of (trees_of ls) []
+
+-- of an error and a check that differ in nothing else the error alone
+abbrev pub abbreviation_faults : List TypedLine → List Diag
+abbreviation_faults ls = graver (unit_faults ls)

@@ -9,5 +9,4 @@ mod pairs;
 mod scope;
 mod walk;
 
-pub use grade::graver;
 pub use walk::alias_faults;

@@ -1,13 +1,14 @@
 #![tactic(auto, using(occ_usage::proofs::Trees::first_tree))]
 
 ghost use Rattle.std.specs.Prelude.{◌≡◌, ◌≤◌, ◌++◌, IfOk, OnOk, length, take};
-ghost use Rattle.occ_alias.specs.AbbreviationRule.{evaluated_faults as told_evaluated, faults_of, form_faults as told_form, line_faults as told_line, results_faults as told_results, unit_faults, whole_faults};
+ghost use Rattle.occ_alias.specs.AbbreviationRule.{abbreviation_faults, evaluated_faults as told_evaluated, faults_of, form_faults as told_form, line_faults as told_line, results_faults as told_results, unit_faults as told_unit, whole_faults};
 ghost use Rattle.occ_usage.specs.Effect.{inner as told_inner};
 ghost use Rattle.occ_usage.specs.Lines.{behind_line, with_index};
 ghost use Rattle.occ_usage.specs.ParallelRule.{rounds_told, under_told};
 ghost use Rattle.occ_usage.specs.Trees.{head_of, trees_of, under as lines_under};
 
 use super::calling::calls_faults;
+use super::grade::graver;
 use super::line_calls::{each_calls, form_calls};
 use super::scope::scope_faults;
 use occ_base::{Diag, Items, Shared};
@@ -217,12 +218,20 @@ fn lines(
     Ok(())
 }
 
-/// What the abbreviation rule tells of a unit, in no order, some perhaps more than once, and with both grades.
-pub fn alias_faults(alloc: Global, typed: &Typed) -> Result<Items<Diag>, AllocError>
-    ensures { IfOk result (λ faults. faults ≡ unit_faults typed.now.lines) }
+/// What is told of the lines of a unit, with both grades.
+fn unit_faults(alloc: Global, typed: &Typed) -> Result<Items<Diag>, AllocError>
+    ensures { IfOk result (λ faults. faults ≡ told_unit typed.now.lines) }
 {
     let mut env = Items::new(alloc);
     let mut faults = Items::new(alloc);
     lines(alloc, typed.lines.as_slice(), &mut env, &mut faults)?;
     Ok(faults)
+}
+
+/// What the abbreviation rule tells of a unit, in no order, some perhaps more than once.
+pub fn alias_faults(alloc: Global, typed: &Typed) -> Result<Items<Diag>, AllocError>
+    ensures { IfOk result (λ faults. faults ≡ abbreviation_faults typed.now.lines) }
+{
+    let faults = unit_faults(alloc, typed)?;
+    graver(alloc, faults)
 }
