@@ -1,3 +1,5 @@
+#![tactic(auto, using(crate::proofs::Grading::errors_last, crate::proofs::Grading::checks_last, crate::proofs::Grading::kept_last))]
+
 ghost use Rattle.std.specs.Prelude.{◌≡◌, ◌++◌, IfOk, OnOk};
 ghost use Rattle.occ_alias.specs.Grades.{all_unless_told, checks_of, graded_as as told_graded_as, graver as told_graver, if_check, unless_told, with_error, with_errors};
 
