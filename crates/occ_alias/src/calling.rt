@@ -130,7 +130,15 @@ fn call_faults(
     ensures { OnOk result (faults.new ≡ faults.old ++ told_call line.now env.now call.now) }
 {
     let body = body_at(env, call.callee);
-    actuals_faults(alloc, line, call.callee, env, body, call.places.as_slice(), faults)?;
+    actuals_faults(
+        alloc,
+        line,
+        call.callee,
+        env,
+        body,
+        call.places.as_slice(),
+        faults,
+    )?;
     written_faults(
         alloc,
         Code::A4,

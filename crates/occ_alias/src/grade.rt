@@ -1,5 +1,3 @@
-#![tactic(auto, using(crate::proofs::Grading::errors_last, crate::proofs::Grading::checks_last, crate::proofs::Grading::kept_last))]
-
 ghost use Rattle.std.specs.Prelude.{◌≡◌, ◌++◌, IfOk, OnOk};
 ghost use Rattle.occ_alias.specs.Grades.{all_unless_told, checks_of, graded_as as told_graded_as, graver as told_graver, if_check, unless_told, with_error, with_errors};
 
@@ -54,11 +52,7 @@ fn divide_all(
 }
 
 /// Keeps a check that is not told as an error too.
-fn keep(
-    errors: &BTreeSet<Diag>,
-    check: Diag,
-    kept: &mut Items<Diag>,
-) -> Result<(), AllocError>
+fn keep(errors: &BTreeSet<Diag>, check: Diag, kept: &mut Items<Diag>) -> Result<(), AllocError>
     ensures { OnOk result (kept.new ≡ kept.old ++ unless_told errors.now.keys check) }
 {
     let raised = graded_as(Grade::Error, check);

@@ -90,7 +90,15 @@ fn written_fault(
     if !(is_write(found.kind) && is_read(read.kind)) {
         return Ok(());
     }
-    pair_faults(alloc, &found.line, code, env, &found.part, &read.part, faults)
+    pair_faults(
+        alloc,
+        &found.line,
+        code,
+        env,
+        &found.part,
+        &read.part,
+        faults,
+    )
 }
 
 /// What is told of a use, if it writes what some of these have read.

@@ -30,7 +30,15 @@ fn element_fault(
     if is_by(found.chain.as_slice(), number) {
         return Ok(());
     }
-    pair_faults(alloc, &found.line, Code::A1, env, element, &found.part, faults)
+    pair_faults(
+        alloc,
+        &found.line,
+        Code::A1,
+        env,
+        element,
+        &found.part,
+        faults,
+    )
 }
 
 fn element_faults(

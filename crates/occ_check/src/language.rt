@@ -69,11 +69,7 @@ fn judge_uses(alloc: Global, typed: &Typed) -> Result<Judgement, AllocError>
 
 /// What names and types say of a unit, and behind them the rules of uses.
 #[tactic(auto, using(crate::proofs::Firsts::first_is_all))]
-fn judge_meaning(
-    alloc: Global,
-    unit: &Unit,
-    imports: &[Import],
-) -> Result<Judgement, AllocError>
+fn judge_meaning(alloc: Global, unit: &Unit, imports: &[Import]) -> Result<Judgement, AllocError>
     ensures { IfOk result (λ judgement. judgement ≡ behind (type_faults imports.now (forest_of unit.now.roots)) (uses_judged (typed_unit imports.now (forest_of unit.now.roots)))) }
 {
     match type_unit(alloc, unit, imports) {

@@ -11,12 +11,12 @@ loop-diag-preserved c =
     let front = c.pop.new.self in
     let last = c.in-Some.diag in (
       ap (λ (es : List Diag). with_errors es front) c.in_ok-divide.ensures.errors
-      ∙ sym (errors_last errors front last)
-      ∙ ap (with_errors errors) (sym c.in-Some.ensures)
-      ∙ c.loop-diag.invariant.0,
+          ∙ sym (errors_last errors front last)
+          ∙ ap (with_errors errors) (sym c.in-Some.ensures)
+          ∙ c.loop-diag.invariant.0,
       ap (λ (ds : List Diag). ds ++ checks_of front) c.in_ok-divide.ensures.checks
-      ∙ append_assoc checks (if_check last) (checks_of front)
-      ∙ ap (λ (ds : List Diag). checks ++ ds) (sym (checks_last front last))
-      ∙ ap (λ (ds : List Diag). checks ++ checks_of ds) (sym c.in-Some.ensures)
-      ∙ c.loop-diag.invariant.1,
+          ∙ append_assoc checks (if_check last) (checks_of front)
+          ∙ ap (λ (ds : List Diag). checks ++ ds) (sym (checks_last front last))
+          ∙ ap (λ (ds : List Diag). checks ++ checks_of ds) (sym c.in-Some.ensures)
+          ∙ c.loop-diag.invariant.1,
     )
