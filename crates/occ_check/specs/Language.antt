@@ -2,6 +2,7 @@
 -- whatever the language is.
 use Rattle.std.specs.Prelude.{ℕ, List, [], ◌∷◌, ◌++◌, Some, None}
 use Rattle.std.specs.List.{flat_map}
+use Rattle.occ_alias.specs.AbbreviationRule.{abbreviation_faults}
 use Rattle.occ_base.specs.declared.diag.Diag.{Diag}
 use Rattle.occ_check.specs.declared.language.Judgement.{Judgement}
 use Rattle.occ_check.specs.declared.used.Used.{Used}
@@ -38,9 +39,9 @@ shown_by u = shown u.unit u.used
 abbrev pub imports : List UsedUnit → List Import
 imports = flat_map shown_by
 
--- of uses: of parallel components, and of functions
+-- of uses: of parallel components, of functions, and of what abbreviations and calls name
 abbrev pub use_faults : List TypedLine → List Diag
-use_faults ls = parallel_faults ls ++ function_faults ls
+use_faults ls = (parallel_faults ls ++ function_faults ls) ++ abbreviation_faults ls
 
 -- of the typed lines of a unit
 abbrev pub uses_judged : List TypedLine → Judgement

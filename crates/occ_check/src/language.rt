@@ -5,6 +5,7 @@ ghost use Rattle.occ_typing.specs.TypedLines.{typed_unit};
 ghost use Rattle.occ_typing.specs.Units.{type_faults};
 
 use super::used::{Used, UsedUnit};
+use occ_alias::alias_faults;
 use occ_base::{Diag, Items};
 use occ_interfaces::interface_of;
 use occ_project::ExpandedLine;
@@ -58,6 +59,7 @@ fn judge_uses(alloc: Global, typed: &Typed) -> Result<Judgement, AllocError>
 {
     let UnitUses { mut faults, bounds } = unit_uses(alloc, typed)?;
     faults.append(function_faults(alloc, typed)?)?;
+    faults.append(alias_faults(alloc, typed)?)?;
     let interface = interface_of(alloc, bounds.as_slice(), typed.lines.as_slice())?;
     Ok(Judgement {
         faults,
@@ -67,11 +69,7 @@ fn judge_uses(alloc: Global, typed: &Typed) -> Result<Judgement, AllocError>
 
 /// What names and types say of a unit, and behind them the rules of uses.
 #[tactic(auto, using(crate::proofs::Firsts::first_is_all))]
-fn judge_meaning(
-    alloc: Global,
-    unit: &Unit,
-    imports: &[Import],
-) -> Result<Judgement, AllocError>
+fn judge_meaning(alloc: Global, unit: &Unit, imports: &[Import]) -> Result<Judgement, AllocError>
     ensures { IfOk result (λ judgement. judgement ≡ behind (type_faults imports.now (forest_of unit.now.roots)) (uses_judged (typed_unit imports.now (forest_of unit.now.roots)))) }
 {
     match type_unit(alloc, unit, imports) {

@@ -1,0 +1,17 @@
+use Rattle.std.proofs.Common.{◌≡◌, ◌∙◌, ap, sym}
+use Rattle.occ_usage.proofs.Trees.{from_line}
+use Rattle.occ_usage.proofs.Walking.{behind_stands}
+use Rattle.occ_usage.specs.Trees.{head_of, under}
+use Rattle.occ_alias.proofs.Walking.{step_faults}
+use Rattle.occ_alias.proofs.walk.+walk.Goals as goal
+
+pub lines-loop-one-preserved : goal.lines-loop-one-preserved
+lines-loop-one-preserved t c =
+    let split = from_line _ _ _ c.loop-one-test.true c.one-item.is in
+    let h = head_of c.one-item.result in
+    let u = under c.one-item.result in
+    let stands = behind_stands _ _ _ _ h u c.loop-one.invariant.0 c.loop-one.invariant.1 (c.in_ok-line.ensures.env c.loop-one.invariant.0) in (
+      stands.0,
+      stands.1,
+      step_faults h u _ _ _ _ _ _ _ _ split c.loop-one.invariant.2 c.in_ok-line.ensures.faults stands.2,
+    )

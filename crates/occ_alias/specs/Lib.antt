@@ -1,0 +1,3 @@
+pub mod LineCalls
+pub mod AbbreviationRule
+pub mod Grades

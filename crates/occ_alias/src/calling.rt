@@ -1,0 +1,166 @@
+ghost use Rattle.std.specs.Prelude.{◌≡◌, ◌++◌, OnOk, slice_get};
+ghost use Rattle.occ_alias.specs.AbbreviationRule.{actual_faults as told_actual, actuals_faults as told_actuals, call_faults as told_call, calls_faults as told_calls, free_fault as told_free, free_faults as told_frees, place_pair as told_pair, place_pairs as told_pairs};
+
+use super::pairs::{pair_faults, written_faults};
+use occ_base::{Code, Diag, Items};
+use occ_bounds::{Bound, Call, Use, body_at};
+use occ_parts::{Part, Place};
+use occ_project::Place as Line;
+use std::alloc::{AllocError, Global};
+
+/// What is told of an actual with this part and another one.
+fn place_pair(
+    alloc: Global,
+    line: &Line,
+    env: &[Bound],
+    part: &Part,
+    other: &Option<Place>,
+    faults: &mut Items<Diag>,
+) -> Result<(), AllocError>
+    ensures { OnOk result (faults.new ≡ faults.old ++ told_pair line.now env.now part.now other.now) }
+{
+    let Some(other) = other else {
+        return Ok(());
+    };
+    let other = other.copied(alloc)?.into_part()?;
+    pair_faults(alloc, line, Code::A4, env, part, &other, faults)
+}
+
+/// What is told of an actual with this part and those behind it.
+fn place_pairs(
+    alloc: Global,
+    line: &Line,
+    env: &[Bound],
+    part: &Part,
+    others: &[Option<Place>],
+    faults: &mut Items<Diag>,
+) -> Result<(), AllocError>
+    ensures { OnOk result (faults.new ≡ faults.old ++ told_pairs line.now env.now part.now others.now) }
+{
+    for other in others {
+        place_pair(alloc, line, env, part, other, faults)?;
+    }
+    Ok(())
+}
+
+/// What is told of an actual with this part and a use by the body with this number.
+fn free_fault(
+    alloc: Global,
+    line: &Line,
+    callee: usize,
+    env: &[Bound],
+    part: &Part,
+    found: &Use,
+    faults: &mut Items<Diag>,
+) -> Result<(), AllocError>
+    ensures { OnOk result (faults.new ≡ faults.old ++ told_free line.now callee env.now part.now found.now) }
+{
+    if found.part.root >= callee {
+        return Ok(());
+    }
+    pair_faults(alloc, line, Code::A4, env, part, &found.part, faults)
+}
+
+/// What is told of an actual with this part and the uses by the body with this number.
+fn free_faults(
+    alloc: Global,
+    line: &Line,
+    callee: usize,
+    env: &[Bound],
+    part: &Part,
+    body: &[Use],
+    faults: &mut Items<Diag>,
+) -> Result<(), AllocError>
+    ensures { OnOk result (faults.new ≡ faults.old ++ told_frees line.now callee env.now part.now body.now) }
+{
+    for found in body {
+        free_fault(alloc, line, callee, env, part, found, faults)?;
+    }
+    Ok(())
+}
+
+/// What is told of an actual, with those behind it and the uses by the body with this number.
+fn actual_faults(
+    alloc: Global,
+    line: &Line,
+    callee: usize,
+    env: &[Bound],
+    body: &[Use],
+    place: &Option<Place>,
+    others: &[Option<Place>],
+    faults: &mut Items<Diag>,
+) -> Result<(), AllocError>
+    ensures { OnOk result (faults.new ≡ faults.old ++ told_actual line.now callee env.now body.now place.now others.now) }
+{
+    let Some(place) = place else {
+        return Ok(());
+    };
+    let part = place.copied(alloc)?.into_part()?;
+    place_pairs(alloc, line, env, &part, others, faults)?;
+    free_faults(alloc, line, callee, env, &part, body, faults)
+}
+
+/// What is told of the actuals of a call of the body with this number.
+fn actuals_faults(
+    alloc: Global,
+    line: &Line,
+    callee: usize,
+    env: &[Bound],
+    body: &[Use],
+    places: &[Option<Place>],
+    faults: &mut Items<Diag>,
+) -> Result<(), AllocError>
+    ensures { OnOk result (faults.new ≡ faults.old ++ told_actuals line.now callee env.now body.now places.now) }
+{
+    for (at, place) in places.iter().enumerate() {
+        let others = places.split_at(at + 1).1;
+        actual_faults(alloc, line, callee, env, body, place, others, faults)?;
+    }
+    Ok(())
+}
+
+/// What is told of a call at a line.
+fn call_faults(
+    alloc: Global,
+    line: &Line,
+    env: &[Bound],
+    call: &Call,
+    faults: &mut Items<Diag>,
+) -> Result<(), AllocError>
+    ensures { OnOk result (faults.new ≡ faults.old ++ told_call line.now env.now call.now) }
+{
+    let body = body_at(env, call.callee);
+    actuals_faults(
+        alloc,
+        line,
+        call.callee,
+        env,
+        body,
+        call.places.as_slice(),
+        faults,
+    )?;
+    written_faults(
+        alloc,
+        Code::A4,
+        env,
+        call.uses.as_slice(),
+        call.reads.as_slice(),
+        faults,
+    )
+}
+
+/// What is told of calls at a line.
+pub(crate) fn calls_faults(
+    alloc: Global,
+    line: &Line,
+    env: &[Bound],
+    calls: &[Call],
+    faults: &mut Items<Diag>,
+) -> Result<(), AllocError>
+    ensures { OnOk result (faults.new ≡ faults.old ++ told_calls line.now env.now calls.now) }
+{
+    for call in calls {
+        call_faults(alloc, line, env, call, faults)?;
+    }
+    Ok(())
+}

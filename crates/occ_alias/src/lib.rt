@@ -1,0 +1,12 @@
+//! The abbreviation rule: while a name stands for an element, nothing else uses that element, and nothing changes which one it
+//! is; and what a call is given.
+#![tactic(auto)]
+
+mod calling;
+mod grade;
+mod line_calls;
+mod pairs;
+mod scope;
+mod walk;
+
+pub use walk::alias_faults;

@@ -1,0 +1,223 @@
+ghost use Rattle.std.specs.Prelude.{◌≡◌, ◌++◌, OnOk};
+ghost use Rattle.occ_bounds.specs.Views.{element_view};
+ghost use Rattle.occ_alias.specs.LineCalls.{each_calls as told_each, elements_calls as told_elements, form_calls as told_form, guard_calls as told_guard, input_calls as told_input, output_calls as told_output, outputs_calls as told_outputs, replicator_calls as told_replicator, target_calls as told_target, targets_calls as told_targets};
+
+use occ_base::{Items, Shared};
+use occ_bounds::{Bound, Call, element_calls, expression_calls, instance_calls};
+use occ_project::Place as Line;
+use occ_replicators::TypedReplicator;
+use occ_typed::{TypedElement, TypedExpr};
+use occ_typed_exchanges::{TypedInput, TypedOutput, TypedTarget};
+use occ_typed_lines::{TypedForm, TypedGuard};
+use std::alloc::{AllocError, Global};
+
+/// The calls in expressions that are evaluated.
+pub fn each_calls(
+    alloc: Global,
+    exprs: &[Shared<TypedExpr>],
+    env: &[Bound],
+    line: &Line,
+    calls: &mut Items<Call>,
+) -> Result<(), AllocError>
+    ensures { OnOk result (calls.new ≡ calls.old ++ told_each exprs.now env.now line.now) }
+{
+    for expr in exprs {
+        expression_calls(alloc, expr.get(), env, line, calls)?;
+    }
+    Ok(())
+}
+
+/// The calls in elements that are written.
+fn elements_calls(
+    alloc: Global,
+    elements: &[TypedElement],
+    env: &[Bound],
+    line: &Line,
+    calls: &mut Items<Call>,
+) -> Result<(), AllocError>
+    ensures { OnOk result (calls.new ≡ calls.old ++ told_elements elements.now env.now line.now) }
+{
+    for element in elements {
+        element_calls(alloc, element, env, line, calls)?;
+    }
+    Ok(())
+}
+
+/// The calls in a target of an input.
+fn target_calls(
+    alloc: Global,
+    target: &TypedTarget,
+    env: &[Bound],
+    line: &Line,
+    calls: &mut Items<Call>,
+) -> Result<(), AllocError>
+    ensures { OnOk result (calls.new ≡ calls.old ++ told_target target.now env.now line.now) }
+{
+    match target {
+        TypedTarget::Single(element) => element_calls(alloc, element, env, line, calls),
+        TypedTarget::Counted(count, element) => {
+            element_calls(alloc, count, env, line, calls)?;
+            element_calls(alloc, element, env, line, calls)
+        }
+    }
+}
+
+/// The calls in the targets of an input.
+fn targets_calls(
+    alloc: Global,
+    targets: &[TypedTarget],
+    env: &[Bound],
+    line: &Line,
+    calls: &mut Items<Call>,
+) -> Result<(), AllocError>
+    ensures { OnOk result (calls.new ≡ calls.old ++ told_targets targets.now env.now line.now) }
+{
+    for one in targets {
+        target_calls(alloc, one, env, line, calls)?;
+    }
+    Ok(())
+}
+
+/// The calls in what an output sends as one.
+fn output_calls(
+    alloc: Global,
+    output: &TypedOutput,
+    env: &[Bound],
+    line: &Line,
+    calls: &mut Items<Call>,
+) -> Result<(), AllocError>
+    ensures { OnOk result (calls.new ≡ calls.old ++ told_output output.now env.now line.now) }
+{
+    match output {
+        TypedOutput::Value(expr) => expression_calls(alloc, expr.get(), env, line, calls),
+        TypedOutput::Counted(count, expr) => {
+            expression_calls(alloc, count.get(), env, line, calls)?;
+            expression_calls(alloc, expr.get(), env, line, calls)
+        }
+        TypedOutput::Tag(_, _) => Ok(()),
+    }
+}
+
+/// The calls in what an output sends.
+fn outputs_calls(
+    alloc: Global,
+    outputs: &[TypedOutput],
+    env: &[Bound],
+    line: &Line,
+    calls: &mut Items<Call>,
+) -> Result<(), AllocError>
+    ensures { OnOk result (calls.new ≡ calls.old ++ told_outputs outputs.now env.now line.now) }
+{
+    for one in outputs {
+        output_calls(alloc, one, env, line, calls)?;
+    }
+    Ok(())
+}
+
+/// The calls in an input.
+fn input_calls(
+    alloc: Global,
+    input: &TypedInput,
+    env: &[Bound],
+    line: &Line,
+    calls: &mut Items<Call>,
+) -> Result<(), AllocError>
+    ensures { OnOk result (calls.new ≡ calls.old ++ told_input input.now env.now line.now) }
+{
+    match input {
+        TypedInput::Plain(channel, to) => {
+            element_calls(alloc, channel, env, line, calls)?;
+            targets_calls(alloc, to.as_slice(), env, line, calls)
+        }
+        TypedInput::Time(timer, to) => {
+            element_calls(alloc, timer, env, line, calls)?;
+            element_calls(alloc, to, env, line, calls)
+        }
+        TypedInput::After(timer, time) => {
+            element_calls(alloc, timer, env, line, calls)?;
+            expression_calls(alloc, time.get(), env, line, calls)
+        }
+        TypedInput::Tagged(channel, _, _, to) => {
+            element_calls(alloc, channel, env, line, calls)?;
+            targets_calls(alloc, to.as_slice(), env, line, calls)
+        }
+    }
+}
+
+/// The calls in what stands behind the `&` of a guard.
+fn guard_calls(
+    alloc: Global,
+    guard: &TypedGuard,
+    env: &[Bound],
+    line: &Line,
+    calls: &mut Items<Call>,
+) -> Result<(), AllocError>
+    ensures { OnOk result (calls.new ≡ calls.old ++ told_guard guard.now env.now line.now) }
+{
+    match guard {
+        TypedGuard::Skip => Ok(()),
+        TypedGuard::Input(found) => input_calls(alloc, found, env, line, calls),
+        TypedGuard::CaseInput(channel) => element_calls(alloc, channel, env, line, calls),
+    }
+}
+
+/// The calls in the base and the count of a replicator.
+fn replicator_calls(
+    alloc: Global,
+    replicator: &Option<TypedReplicator>,
+    env: &[Bound],
+    line: &Line,
+    calls: &mut Items<Call>,
+) -> Result<(), AllocError>
+    ensures { OnOk result (calls.new ≡ calls.old ++ told_replicator replicator.now env.now line.now) }
+{
+    match replicator {
+        Some(found) => {
+            expression_calls(alloc, found.base.get(), env, line, calls)?;
+            expression_calls(alloc, found.count.get(), env, line, calls)
+        }
+        None => Ok(()),
+    }
+}
+
+/// The calls in a line, without those of the lines under it.
+pub fn form_calls(
+    alloc: Global,
+    form: &TypedForm,
+    env: &[Bound],
+    line: &Line,
+    calls: &mut Items<Call>,
+) -> Result<(), AllocError>
+    ensures { OnOk result (calls.new ≡ calls.old ++ told_form form.now env.now line.now) }
+{
+    match form {
+        TypedForm::Abbreviation(element) => element_calls(alloc, element, env, line, calls),
+        TypedForm::Retyped(element) => element_calls(alloc, element, env, line, calls),
+        TypedForm::Value(expr) => expression_calls(alloc, expr.get(), env, line, calls),
+        TypedForm::RetypedValue(expr) => expression_calls(alloc, expr.get(), env, line, calls),
+        TypedForm::Assignment(to, values) => {
+            each_calls(alloc, values.as_slice(), env, line, calls)?;
+            elements_calls(alloc, to.as_slice(), env, line, calls)
+        }
+        TypedForm::Output(channel, sent) => {
+            element_calls(alloc, channel, env, line, calls)?;
+            outputs_calls(alloc, sent.as_slice(), env, line, calls)
+        }
+        TypedForm::Input(found) => input_calls(alloc, found, env, line, calls),
+        TypedForm::Instance(callee, actuals) => {
+            instance_calls(alloc, callee.spec, actuals.as_slice(), env, line, calls)
+        }
+        TypedForm::Block(_, found) => replicator_calls(alloc, found, env, line, calls),
+        TypedForm::While(expr) => expression_calls(alloc, expr.get(), env, line, calls),
+        TypedForm::Selection(expr) => expression_calls(alloc, expr.get(), env, line, calls),
+        TypedForm::CaseInput(channel) => element_calls(alloc, channel, env, line, calls),
+        TypedForm::Condition(expr) => expression_calls(alloc, expr.get(), env, line, calls),
+        TypedForm::Guard(expr, found) => {
+            expression_calls(alloc, expr.get(), env, line, calls)?;
+            guard_calls(alloc, found, env, line, calls)
+        }
+        TypedForm::Variant(_, _, to) => targets_calls(alloc, to.as_slice(), env, line, calls),
+        TypedForm::Results(values) => each_calls(alloc, values.as_slice(), env, line, calls),
+        _ => Ok(()),
+    }
+}

@@ -1,0 +1,136 @@
+ghost use Rattle.std.specs.Prelude.{◌≡◌, ◌++◌, OnOk};
+ghost use Rattle.occ_alias.specs.AbbreviationRule.{graded as told_graded, pair_faults as told_pair, written_by as told_by, written_fault as told_written, written_faults as told_all_written};
+ghost use Rattle.occ_clashes.specs.Kinds.{is_read as tells_read, is_write as tells_write};
+
+use occ_base::{Code, Diag, Grade, Items, Name};
+use occ_bounds::{Bound, Use};
+use occ_clashes::root_name;
+use occ_parts::{Overlap, Part, overlap};
+use occ_project::Place as Line;
+use occ_types::UseKind;
+use std::alloc::{AllocError, Global};
+
+fn is_read(kind: UseKind) -> bool
+    ensures { result ≡ tells_read kind }
+{
+    match kind {
+        UseKind::Read => true,
+        UseKind::Write => false,
+        UseKind::Input => false,
+        UseKind::Output => false,
+    }
+}
+
+fn is_write(kind: UseKind) -> bool
+    ensures { result ≡ tells_write kind }
+{
+    match kind {
+        UseKind::Read => false,
+        UseKind::Write => true,
+        UseKind::Input => false,
+        UseKind::Output => false,
+    }
+}
+
+/// What is told of two parts with this overlap.
+fn graded(
+    line: &Line,
+    code: Code,
+    name: Option<Name>,
+    found: Overlap,
+    faults: &mut Items<Diag>,
+) -> Result<(), AllocError>
+    ensures { OnOk result (faults.new ≡ faults.old ++ told_graded line.now code name found) }
+{
+    let grade = match found {
+        Overlap::Apart => return Ok(()),
+        Overlap::May => Grade::Check,
+        Overlap::Must => Grade::Error,
+    };
+    faults.push(Diag {
+        file: line.file,
+        line: line.line,
+        code,
+        grade,
+        name,
+    })
+}
+
+/// What is told of two parts, if they are not apart.
+pub(crate) fn pair_faults(
+    alloc: Global,
+    line: &Line,
+    code: Code,
+    env: &[Bound],
+    one: &Part,
+    other: &Part,
+    faults: &mut Items<Diag>,
+) -> Result<(), AllocError>
+    ensures { OnOk result (faults.new ≡ faults.old ++ told_pair line.now code env.now one.now other.now) }
+{
+    let found = overlap(one, other);
+    if found == Overlap::Apart {
+        return Ok(());
+    }
+    let name = root_name(alloc, env, one.root)?;
+    graded(line, code, name, found, faults)
+}
+
+/// What is told of a use, if it writes what another has read.
+fn written_fault(
+    alloc: Global,
+    code: Code,
+    env: &[Bound],
+    found: &Use,
+    read: &Use,
+    faults: &mut Items<Diag>,
+) -> Result<(), AllocError>
+    ensures { OnOk result (faults.new ≡ faults.old ++ told_written code env.now found.now read.now) }
+{
+    if !(is_write(found.kind) && is_read(read.kind)) {
+        return Ok(());
+    }
+    pair_faults(
+        alloc,
+        &found.line,
+        code,
+        env,
+        &found.part,
+        &read.part,
+        faults,
+    )
+}
+
+/// What is told of a use, if it writes what some of these have read.
+fn written_by(
+    alloc: Global,
+    code: Code,
+    env: &[Bound],
+    found: &Use,
+    reads: &[Use],
+    faults: &mut Items<Diag>,
+) -> Result<(), AllocError>
+    ensures { OnOk result (faults.new ≡ faults.old ++ told_by code env.now found.now reads.now) }
+{
+    for read in reads {
+        written_fault(alloc, code, env, found, read, faults)?;
+    }
+    Ok(())
+}
+
+/// What is told of uses that write what some of these have read.
+pub(crate) fn written_faults(
+    alloc: Global,
+    code: Code,
+    env: &[Bound],
+    uses: &[Use],
+    reads: &[Use],
+    faults: &mut Items<Diag>,
+) -> Result<(), AllocError>
+    ensures { OnOk result (faults.new ≡ faults.old ++ told_all_written code env.now uses.now reads.now) }
+{
+    for found in uses {
+        written_by(alloc, code, env, found, reads, faults)?;
+    }
+    Ok(())
+}

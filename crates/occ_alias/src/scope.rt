@@ -1,0 +1,116 @@
+ghost use Rattle.std.specs.List.{list_any};
+ghost use Rattle.std.specs.Prelude.{◌≡◌, ◌++◌, ◌==◌, ℕ, OnOk};
+ghost use Rattle.occ_alias.specs.AbbreviationRule.{bound_faults as told_bound, element_fault as told_element, element_faults as told_elements, place_faults as told_place, scope_faults as told_scope};
+ghost use Rattle.occ_parts.specs.Selecting.{part_of};
+
+use super::pairs::{pair_faults, written_faults};
+use occ_base::{Code, Diag, Items};
+use occ_bounds::{Bound, Use};
+use occ_parts::{Part, Place};
+use std::alloc::{AllocError, Global};
+
+/// Whether a use is made by the name of the abbreviation with this number, or by one made from it.
+fn is_by(chain: &[usize], number: usize) -> bool
+    ensures { result ≡ list_any (λ (k : ℕ). k == number) chain.now }
+{
+    chain.iter().any(|name| *name == number)
+}
+
+/// What is told of a use in the scope of the abbreviation with this number, of which this is the element.
+fn element_fault(
+    alloc: Global,
+    number: usize,
+    env: &[Bound],
+    element: &Part,
+    found: &Use,
+    faults: &mut Items<Diag>,
+) -> Result<(), AllocError>
+    ensures { OnOk result (faults.new ≡ faults.old ++ told_element number env.now element.now found.now) }
+{
+    if is_by(found.chain.as_slice(), number) {
+        return Ok(());
+    }
+    pair_faults(
+        alloc,
+        &found.line,
+        Code::A1,
+        env,
+        element,
+        &found.part,
+        faults,
+    )
+}
+
+fn element_faults(
+    alloc: Global,
+    number: usize,
+    env: &[Bound],
+    element: &Part,
+    uses: &[Use],
+    faults: &mut Items<Diag>,
+) -> Result<(), AllocError>
+    ensures { OnOk result (faults.new ≡ faults.old ++ told_elements number env.now element.now uses.now) }
+{
+    for found in uses {
+        element_fault(alloc, number, env, element, found, faults)?;
+    }
+    Ok(())
+}
+
+/// What is told of uses in the scope of the abbreviation with this number, which has this place.
+fn place_faults(
+    alloc: Global,
+    number: usize,
+    env: &[Bound],
+    place: &Option<Place>,
+    uses: &[Use],
+    faults: &mut Items<Diag>,
+) -> Result<(), AllocError>
+    ensures { OnOk result (faults.new ≡ faults.old ++ told_place number env.now place.now uses.now) }
+{
+    let Some(place) = place else {
+        return Ok(());
+    };
+    let element = place.copied(alloc)?.into_part()?;
+    element_faults(alloc, number, env, &element, uses, faults)
+}
+
+/// What is told of uses in the scope of the specification with this number.
+fn bound_faults(
+    alloc: Global,
+    number: usize,
+    env: &[Bound],
+    bound: &Bound,
+    uses: &[Use],
+    faults: &mut Items<Diag>,
+) -> Result<(), AllocError>
+    ensures { OnOk result (faults.new ≡ faults.old ++ told_bound number env.now bound.now uses.now) }
+{
+    match bound {
+        Bound::Abbreviation(place, _, reads) => {
+            place_faults(alloc, number, env, place, uses, faults)?;
+            written_faults(alloc, Code::A2, env, uses, reads.as_slice(), faults)
+        }
+        Bound::Value(_, _, reads) => {
+            written_faults(alloc, Code::A3, env, uses, reads.as_slice(), faults)
+        }
+        Bound::Root(_) => Ok(()),
+        Bound::Body(_, _) => Ok(()),
+        Bound::Other => Ok(()),
+    }
+}
+
+/// What is told of uses in the scope of these specifications.
+pub(crate) fn scope_faults(
+    alloc: Global,
+    env: &[Bound],
+    uses: &[Use],
+    faults: &mut Items<Diag>,
+) -> Result<(), AllocError>
+    ensures { OnOk result (faults.new ≡ faults.old ++ told_scope 0 env.now env.now uses.now) }
+{
+    for (number, bound) in env.iter().enumerate() {
+        bound_faults(alloc, number, env, bound, uses, faults)?;
+    }
+    Ok(())
+}
