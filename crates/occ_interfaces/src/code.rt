@@ -152,10 +152,7 @@ fn push_selector(selector: &PartSelector, numbers: &mut Items<u64>) -> Result<()
 }
 
 /// Adds the numbers of selectors.
-fn push_selectors(
-    selectors: &[PartSelector],
-    numbers: &mut Items<u64>,
-) -> Result<(), AllocError>
+fn push_selectors(selectors: &[PartSelector], numbers: &mut Items<u64>) -> Result<(), AllocError>
     ensures { OnOk result (numbers.new ≡ numbers.old ++ told_selectors selectors.now) }
 {
     for selector in selectors {

@@ -17,7 +17,11 @@ use std::alloc::{AllocError, Global};
 fn effect_if(has_effect: bool) -> Effect
     ensures { result ≡ told_effect has_effect }
 {
-    if has_effect { Effect::Some } else { Effect::None }
+    if has_effect {
+        Effect::Some
+    } else {
+        Effect::None
+    }
 }
 
 /// The export that the specification with this number is.

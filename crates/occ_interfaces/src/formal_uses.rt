@@ -32,11 +32,7 @@ fn push_formal_use(
 }
 
 /// The uses of formals in a body round which so many specifications stand.
-fn formal_uses(
-    alloc: Global,
-    number: usize,
-    body: &[Use],
-) -> Result<Items<FormalUse>, AllocError>
+fn formal_uses(alloc: Global, number: usize, body: &[Use]) -> Result<Items<FormalUse>, AllocError>
     ensures { IfOk result (λ uses. uses ≡ told_uses number body.now) }
 {
     let mut uses = Items::new(alloc);

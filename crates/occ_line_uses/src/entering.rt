@@ -18,12 +18,7 @@ use occ_types::{Effect, Export, FormalUse, Interface, Value};
 use std::alloc::{AllocError, Global};
 
 /// What a name of this access stands for, which is that of a timer or of something else.
-fn of_access(
-    alloc: Global,
-    name: &Name,
-    access: Access,
-    timer: bool,
-) -> Result<Bound, AllocError>
+fn of_access(alloc: Global, name: &Name, access: Access, timer: bool) -> Result<Bound, AllocError>
     ensures { IfOk result (λ bound. bound ≡ access_bound name.now access timer) }
 {
     match access {
@@ -54,11 +49,7 @@ fn of_meaning(alloc: Global, name: &Name, meaning: &Meaning) -> Result<Bound, Al
 }
 
 /// Enters names of which their line says nothing more.
-pub fn enter_all(
-    alloc: Global,
-    entries: &[Entry],
-    env: &mut Items<Bound>,
-) -> Result<(), AllocError>
+pub fn enter_all(alloc: Global, entries: &[Entry], env: &mut Items<Bound>) -> Result<(), AllocError>
     ensures { OnOk result (env.new ≡ env.old ++ entry_bounds entries.now) }
 {
     for entry in entries {
@@ -166,12 +157,7 @@ fn retyped(
 }
 
 /// `VAL n IS e:`
-fn valued(
-    alloc: Global,
-    expr: &TypedExpr,
-    line: &Line,
-    env: &[Bound],
-) -> Result<Bound, AllocError>
+fn valued(alloc: Global, expr: &TypedExpr, line: &Line, env: &[Bound]) -> Result<Bound, AllocError>
     ensures { IfOk result (λ bound. bound ≡ told_valued expr.now env.now line.now) }
 {
     let mut reads = Items::new(alloc);

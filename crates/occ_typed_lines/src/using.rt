@@ -112,10 +112,7 @@ pub fn interfaces(
 }
 
 /// What comes into scope behind a line that uses units which show this.
-pub fn imported(
-    alloc: Global,
-    interfaces: &[Shared<Interface>],
-) -> Result<Items<Entry>, AllocError>
+pub fn imported(alloc: Global, interfaces: &[Shared<Interface>]) -> Result<Items<Entry>, AllocError>
     ensures { IfOk result (λ entries. entries ≡ told_imported interfaces.now) }
 {
     let mut entries = Items::new(alloc);

@@ -27,7 +27,7 @@ rounds_found zero base env t d h = absurd (none_told d h)
 rounds_found (suc n) base env t d h = elim (Contains-append_cases (rounds_told n base env t) (t (with_index env base n)) d h) [
   | inl before ↦ let r = rounds_found n base env t d before in let k : r.0 < n = r.1 in (r.0, omega (arith, k), r.2)
   | inr last ↦ (n, omega arith, last)
-  ]
+]
 
 rounds_given : (n : ℕ) (base : ℤ) (env : Env) (t : Told) (d : Diag) (i : ℕ) → i < n → Contains (t (with_index env base i)) d
     → Contains (rounds_told n base env t) d
@@ -56,9 +56,9 @@ found_in (Tree h t behind) outer env d c =
       | inl line ↦ elim (Contains-append_cases (under_told env h (told_of t)) (own_faults h.form h.place env (components env h (items_of t))) d line) [
         | inl under ↦ under_found (known_replicator h.form) h t behind outer env d refl (λ (e : Env) x. found_in t e e d x) under
         | inr own ↦ (record { line = h; under = t; env = env }, first h t behind outer env, own)
-        ]
-      | inr rest ↦ let r = found_in behind outer (behind_line outer env h t) d rest in (r.0, later h t behind outer env r.0 r.1, r.2)
       ]
+      | inr rest ↦ let r = found_in behind outer (behind_line outer env h t) d rest in (r.0, later h t behind outer env r.0 r.1, r.2)
+    ]
 
 -- ---- from the places to the list
 

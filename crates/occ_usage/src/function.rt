@@ -75,11 +75,7 @@ fn write_faults(
 }
 
 /// What is told of a line that perhaps has an effect.
-fn effect_fault(
-    has_effect: bool,
-    line: &Line,
-    faults: &mut Items<Diag>,
-) -> Result<(), AllocError>
+fn effect_fault(has_effect: bool, line: &Line, faults: &mut Items<Diag>) -> Result<(), AllocError>
     ensures { OnOk result (faults.new ≡ faults.old ++ error_if has_effect line.now.file line.now.line F1) }
 {
     if has_effect {

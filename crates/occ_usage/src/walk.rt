@@ -12,7 +12,10 @@ use super::multiple::assignment_faults;
 use occ_base::{Diag, Items};
 use occ_bounds::{Bound, Use};
 use occ_clashes::{body_uses, component_faults, distinct, joined};
-use occ_line_uses::{body_bound, cut, enter, enter_all, enter_index, enter_line, form_uses, index_value, number_behind};
+use occ_line_uses::{
+    body_bound, cut, enter, enter_all, enter_index, enter_line, form_uses, index_value,
+    number_behind,
+};
 use occ_names::Entry;
 use occ_replicators::KnownReplicator;
 use occ_typed_lines::{BlockKind, TypedForm};
@@ -147,9 +150,7 @@ fn own_faults(
     ensures { OnOk result (faults.new ≡ faults.old ++ told_own (head_of line.now).form (head_of line.now).place env.now components.now) }
 {
     match line.form.get() {
-        TypedForm::Block(block, _) => {
-            block_faults(alloc, *block, line, components, env, faults)
-        }
+        TypedForm::Block(block, _) => { block_faults(alloc, *block, line, components, env, faults) }
         TypedForm::Assignment(targets, _) => {
             assignment_faults(alloc, targets.as_slice(), env, &line.place, faults)
         }
