@@ -1,5 +1,5 @@
 -- What the abbreviation rule tells, said use by use, call by call and line by line.
-use Rattle.std.specs.Prelude.{◌≡◌, ◌==◌, ℕ, Bool, true, false, Option, Some, List, ◌∷◌, ◌++◌, nat_lt, slice_get}
+use Rattle.std.specs.Prelude.{◌≡◌, ◌==◌, ℕ, true, false, Option, Some, List, ◌∷◌, ◌++◌, nat_lt, slice_get}
 use Rattle.std.specs.List.{Contains, list_any}
 use Rattle.occ_base.specs.declared.code.Code.{Code}
 use Rattle.occ_base.specs.declared.code.Code.TheVariants as code
