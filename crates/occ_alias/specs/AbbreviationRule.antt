@@ -1,7 +1,7 @@
 -- What the abbreviation rule tells of lines. The abbreviations in whose scope a line stands are those in scope there: so each use
 -- of a line is compared with each of them, and of a body that is specified in their scope each line is one of these too. Under a
 -- known replicator a line is judged once for each round: indices round an abbreviation have the same values on both sides.
-use Rattle.std.specs.Prelude.{ℕ, ◌+◌, ◌==◌, nat_lt, Bool, true, false, ◌&&◌, Option, Some, None, List, [], ◌∷◌, ◌++◌, length, slice_get, if◌then◌else◌}
+use Rattle.std.specs.Prelude.{ℕ, ◌+◌, ◌==◌, nat_lt, ◌&&◌, Option, Some, None, List, [], ◌∷◌, ◌++◌, slice_get, if◌then◌else◌}
 use Rattle.std.specs.List.{list_any}
 use Rattle.occ_base.specs.declared.code.Code.{Code}
 use Rattle.occ_base.specs.declared.code.Code.TheVariants as code

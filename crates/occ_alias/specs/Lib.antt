@@ -1,3 +1,4 @@
 pub mod LineCalls
 pub mod AbbreviationRule
 pub mod Grades
+pub mod Telling

@@ -1,10 +1,7 @@
 -- The calls that are evaluated at a line, without those of the lines under it. Options, sizes and types are constants and call
 -- nothing.
 use Rattle.std.specs.Prelude.{Option, Some, None, List, [], ◌∷◌, ◌++◌}
-use Rattle.occ_bounds.specs.Bounds.{Env}
 use Rattle.occ_bounds.specs.Views.{Calls, actual_views, call_calls, element_view, expr_view}
-use Rattle.occ_bounds.specs.declared.call.Call.{Call}
-use Rattle.occ_line_uses.specs.Entering.{entry_bounds}
 use Rattle.occ_replicators.specs.declared.tree.TypedReplicator.{TypedReplicator}
 use Rattle.occ_typed.specs.declared.expr.TypedElement.{TypedElement}
 use Rattle.occ_typed.specs.declared.expr.TypedExpr.{TypedExpr}

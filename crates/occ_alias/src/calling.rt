@@ -1,4 +1,4 @@
-ghost use Rattle.std.specs.Prelude.{◌≡◌, ◌++◌, OnOk, slice_get};
+ghost use Rattle.std.specs.Prelude.{◌≡◌, ◌++◌, OnOk};
 ghost use Rattle.occ_alias.specs.AbbreviationRule.{actual_faults as told_actual, actuals_faults as told_actuals, call_faults as told_call, calls_faults as told_calls, free_fault as told_free, free_faults as told_frees, place_pair as told_pair, place_pairs as told_pairs};
 
 use super::pairs::{pair_faults, written_faults};

@@ -4,9 +4,11 @@
 
 mod calling;
 mod grade;
+mod laws;
 mod line_calls;
 mod pairs;
 mod scope;
 mod walk;
 
+pub use laws::{line_law, place_law};
 pub use walk::alias_faults;

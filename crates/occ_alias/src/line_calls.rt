@@ -1,5 +1,4 @@
 ghost use Rattle.std.specs.Prelude.{◌≡◌, ◌++◌, OnOk};
-ghost use Rattle.occ_bounds.specs.Views.{element_view};
 ghost use Rattle.occ_alias.specs.LineCalls.{each_calls as told_each, elements_calls as told_elements, form_calls as told_form, guard_calls as told_guard, input_calls as told_input, output_calls as told_output, outputs_calls as told_outputs, replicator_calls as told_replicator, target_calls as told_target, targets_calls as told_targets};
 
 use occ_base::{Items, Shared};

@@ -1,7 +1,6 @@
 ghost use Rattle.std.specs.List.{list_any};
 ghost use Rattle.std.specs.Prelude.{◌≡◌, ◌++◌, ◌==◌, ℕ, OnOk};
 ghost use Rattle.occ_alias.specs.AbbreviationRule.{bound_faults as told_bound, element_fault as told_element, element_faults as told_elements, place_faults as told_place, scope_faults as told_scope};
-ghost use Rattle.occ_parts.specs.Selecting.{part_of};
 
 use super::pairs::{pair_faults, written_faults};
 use occ_base::{Code, Diag, Items};
