@@ -1,6 +1,5 @@
 -- Whether a line has an effect: it is an input, an output, a PAR or an ALT, or it calls a body with one.
 use Rattle.std.specs.Prelude.{Bool, true, false, ◌||◌, Option, Some, None, List, [], ◌∷◌}
-use Rattle.occ_bounds.specs.Bounds.{Env}
 use Rattle.occ_bounds.specs.Views.{Effects, actual_views, call_effect, element_view, expr_view}
 use Rattle.occ_replicators.specs.declared.tree.TypedReplicator.{TypedReplicator}
 use Rattle.occ_typed.specs.declared.expr.TypedElement.{TypedElement}

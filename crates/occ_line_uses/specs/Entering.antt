@@ -1,6 +1,5 @@
 -- What comes into scope by a line, for the uses of parts: of each name one specification, in the order of the names.
 use Rattle.std.specs.Prelude.{ℕ, ℤ, pos, negsuc, ◌+◌, ◌+ℤ◌, int_le, Bool, true, false, ◌&&◌, Option, Some, None, List, [], ◌∷◌, ◌++◌, length, if◌then◌else◌}
-use Rattle.occ_base.specs.declared.name.Name.{Name}
 use Rattle.occ_bounds.specs.Bounds.{Env}
 use Rattle.occ_bounds.specs.Timers.{is_timer}
 use Rattle.occ_bounds.specs.Views.{element_view, expr_view}

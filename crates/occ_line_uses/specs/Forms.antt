@@ -1,9 +1,7 @@
 -- What a line uses, without the lines under it.
 use Rattle.std.specs.Prelude.{Option, Some, None, List, [], ◌∷◌, ◌++◌}
-use Rattle.occ_bounds.specs.Bounds.{Env}
 use Rattle.occ_bounds.specs.Calls.{made}
 use Rattle.occ_bounds.specs.Views.{Uses, actual_views, call_uses, element_view, expr_view}
-use Rattle.occ_bounds.specs.declared.uses.Use.{Use}
 use Rattle.occ_replicators.specs.declared.tree.TypedReplicator.{TypedReplicator}
 use Rattle.occ_typed.specs.declared.expr.TypedElement.{TypedElement}
 use Rattle.occ_typed.specs.declared.expr.TypedExpr.{TypedExpr}
