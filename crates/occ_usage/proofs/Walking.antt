@@ -3,7 +3,6 @@ use Rattle.std.proofs.Common.{◌≡◌, ◌∙◌, ◌≤◌, ◌+◌, ℕ, Boo
 use Rattle.std.proofs.lemmas.List.{length-take-le, take-append-le, take_all}
 use Rattle.occ_base.specs.declared.diag.Diag.{Diag}
 use Rattle.occ_bounds.specs.Bounds.{Env}
-use Rattle.occ_bounds.specs.declared.bound.Bound.{Bound}
 use Rattle.occ_bounds.specs.declared.uses.Use.{Use}
 use Rattle.occ_line_uses.specs.Entering.{body_bound, specified}
 use Rattle.occ_names.specs.declared.meaning.Entry.{Entry}
@@ -12,7 +11,7 @@ use Rattle.occ_usage.specs.FunctionRule.{faults, whole_faults}
 use Rattle.occ_usage.specs.Lines.{added, behind_by, behind_line, behind_lines, ends_item, items, items_of, line_uses}
 use Rattle.occ_usage.specs.ParallelRule.{line_told, told, told_of}
 use Rattle.occ_usage.specs.Processes.{process_uses, whole_uses}
-use Rattle.occ_usage.specs.Trees.{Empty, Head, Tree, Trees}
+use Rattle.occ_usage.specs.Trees.{Head, Tree, Trees}
 use Rattle.occ_usage.specs.declared.function.Within.{Within}
 
 -- ---- what stands in scope round lines stands there still

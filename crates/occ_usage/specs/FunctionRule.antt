@@ -2,7 +2,7 @@
 -- line of the write, with its name; and each line with an effect. The body of a PROC in it counts by its calls, and that of
 -- another FUNCTION is judged for itself. Indices of replicators round a line are not known here; under one of count 0 nothing is
 -- written.
-use Rattle.std.specs.Prelude.{ℕ, zero, nat_lt, Bool, true, false, ◌&&◌, ◌==◌, not, Option, Some, None, List, [], ◌∷◌, ◌++◌, length, if◌then◌else◌}
+use Rattle.std.specs.Prelude.{ℕ, zero, nat_lt, true, ◌&&◌, ◌==◌, not, Option, Some, None, List, [], ◌∷◌, ◌++◌, length, if◌then◌else◌}
 use Rattle.occ_base.specs.Errors.{error_at, error_if}
 use Rattle.occ_base.specs.declared.code.Code.TheVariants.{F1}
 use Rattle.occ_base.specs.declared.diag.Diag.{Diag}

@@ -1,6 +1,6 @@
 -- What the parallel rule tells of lines: at each PAR what its components have in common, and at each assignment of several
 -- targets what these have; under a known replicator once for each round, so for each choice of the known indices round a line.
-use Rattle.std.specs.Prelude.{ℕ, zero, suc, ℤ, Bool, true, false, Option, Some, None, List, [], ◌∷◌, ◌++◌, if◌then◌else◌}
+use Rattle.std.specs.Prelude.{ℕ, zero, suc, ℤ, Option, Some, None, List, [], ◌∷◌, ◌++◌}
 use Rattle.occ_base.specs.declared.diag.Diag.{Diag}
 use Rattle.occ_bounds.specs.Bounds.{Env}
 use Rattle.occ_bounds.specs.declared.uses.Use.{Use}
@@ -16,7 +16,7 @@ use Rattle.occ_typed_lines.specs.declared.tree.TypedForm.TheVariants as form
 use Rattle.occ_types.specs.declared.interface.UseKind.TheVariants as kind
 use Rattle.occ_typing.specs.declared.tree.TypedLine.{TypedLine}
 use Rattle.occ_usage.specs.Effect.{inner}
-use Rattle.occ_usage.specs.Lines.{Under, behind_line, components, items_of, known_replicator, with_index}
+use Rattle.occ_usage.specs.Lines.{behind_line, components, items_of, known_replicator, with_index}
 use Rattle.occ_usage.specs.Trees.{Empty, Head, Tree, Trees, trees_of}
 
 -- each target of an assignment as a component: what it writes, and what its subscripts and bounds use

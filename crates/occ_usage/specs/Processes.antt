@@ -1,5 +1,5 @@
 -- What a process of a unit uses of what stands round it, where no index round it is known.
-use Rattle.std.specs.Prelude.{ℕ, nat_lt, ◌==◌, Bool, true, false, Option, Some, None, List, [], ◌∷◌, ◌++◌, length, if◌then◌else◌}
+use Rattle.std.specs.Prelude.{ℕ, nat_lt, ◌==◌, Bool, false, Option, Some, None, List, [], ◌++◌, length, if◌then◌else◌}
 use Rattle.std.specs.List.{filter}
 use Rattle.occ_bounds.specs.Bounds.{Env}
 use Rattle.occ_bounds.specs.declared.uses.Use.{Use}

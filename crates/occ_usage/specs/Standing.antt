@@ -1,6 +1,6 @@
 -- What the parallel rule tells of a unit, said place by place: of each line by what stands in scope there, for each choice of the
 -- known indices round it.
-use Rattle.std.specs.Prelude.{◌≡◌, ◌<◌, ℕ, Option, Some, None, List}
+use Rattle.std.specs.Prelude.{◌≡◌, ◌<◌, ℕ, Some, None, List}
 use Rattle.std.specs.List.{Contains}
 use Rattle.occ_base.specs.declared.diag.Diag.{Diag}
 use Rattle.occ_bounds.specs.Bounds.{Env}

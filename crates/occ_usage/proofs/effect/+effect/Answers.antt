@@ -1,4 +1,4 @@
-use Rattle.std.proofs.Common.{◌≡◌, ◌∙◌, ◌||◌, Bool, ap}
+use Rattle.std.proofs.Common.{◌∙◌, ◌||◌, Bool, ap}
 use Rattle.occ_usage.proofs.Trees.{from_line}
 use Rattle.occ_usage.proofs.Walking.{effect_stands, step_effect}
 use Rattle.occ_usage.specs.Effect.{effect_under}

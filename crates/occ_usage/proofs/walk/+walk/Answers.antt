@@ -1,4 +1,3 @@
-use Rattle.std.proofs.Common.{◌≡◌, ◌∙◌, ap, sym}
 use Rattle.occ_usage.proofs.Trees.{from_line}
 use Rattle.occ_usage.proofs.Walking.{end_behind, end_stands, step_items, step_told}
 use Rattle.occ_usage.specs.Lines.{ends_item}
