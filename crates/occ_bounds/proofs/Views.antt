@@ -1,5 +1,5 @@
 -- What each form of the typed tree is where specifications are in scope, from what its parts are.
-use Rattle.std.proofs.Common.{◌≡◌, ◌∙◌, ℕ, Option, List, [], ◌∷◌, map, refl, ap, sym}
+use Rattle.std.proofs.Common.{◌≡◌, ◌∙◌, ℕ, ℤ, Option, List, [], ◌∷◌, map, refl, ap, sym}
 use Rattle.occ_names.specs.declared.meaning.Referent.{Referent}
 use Rattle.occ_operands.specs.declared.kind.Known.{Known}
 use Rattle.occ_parts.specs.declared.place.Place.{Place}
@@ -247,10 +247,10 @@ actual_variable_calls el env line = ap (λ (v : ActualView). v.calls env line) (
 pub actual_variable_effect : (el : TypedElement) (env : Env) → (actual_view (av.Variable el)).effect env ≡ (actual_step (TypedActual-F.Variable (element_view el))).effect env
 actual_variable_effect el env = ap (λ (v : ActualView). v.effect env) (actual_variable el)
 
-pub selector_field_size : (k : ℕ) (name : List ℕ) (env : Env) (size : Option ℕ) → (selector_view (sv.Field k name)).size env size ≡ (selector_step (Selector-F.Field k name)).size env size
+pub selector_field_size : (k : ℕ) (name : List ℕ) (env : Env) (size : Option ℤ) → (selector_view (sv.Field k name)).size env size ≡ (selector_step (Selector-F.Field k name)).size env size
 selector_field_size k name env size = ap (λ (v : SelectorView). v.size env size) (selector_field k name)
 
-pub selector_field_place : (k : ℕ) (name : List ℕ) (env : Env) (size : Option ℕ) (p : Place) → (selector_view (sv.Field k name)).place env size p ≡ (selector_step (Selector-F.Field k name)).place env size p
+pub selector_field_place : (k : ℕ) (name : List ℕ) (env : Env) (size : Option ℤ) (p : Place) → (selector_view (sv.Field k name)).place env size p ≡ (selector_step (Selector-F.Field k name)).place env size p
 selector_field_place k name env size p = ap (λ (v : SelectorView). v.place env size p) (selector_field k name)
 
 pub selector_field_uses : (k : ℕ) (name : List ℕ) (env : Env) (line : Line) → (selector_view (sv.Field k name)).uses env line ≡ (selector_step (Selector-F.Field k name)).uses env line
@@ -262,10 +262,10 @@ selector_field_calls k name env line = ap (λ (v : SelectorView). v.calls env li
 pub selector_field_effect : (k : ℕ) (name : List ℕ) (env : Env) → (selector_view (sv.Field k name)).effect env ≡ (selector_step (Selector-F.Field k name)).effect env
 selector_field_effect k name env = ap (λ (v : SelectorView). v.effect env) (selector_field k name)
 
-pub selector_component_size : (e : TypedExpr) (env : Env) (size : Option ℕ) → (selector_view (sv.Component e)).size env size ≡ (selector_step (Selector-F.Component (expr_view e))).size env size
+pub selector_component_size : (e : TypedExpr) (env : Env) (size : Option ℤ) → (selector_view (sv.Component e)).size env size ≡ (selector_step (Selector-F.Component (expr_view e))).size env size
 selector_component_size e env size = ap (λ (v : SelectorView). v.size env size) (selector_component e)
 
-pub selector_component_place : (e : TypedExpr) (env : Env) (size : Option ℕ) (p : Place) → (selector_view (sv.Component e)).place env size p ≡ (selector_step (Selector-F.Component (expr_view e))).place env size p
+pub selector_component_place : (e : TypedExpr) (env : Env) (size : Option ℤ) (p : Place) → (selector_view (sv.Component e)).place env size p ≡ (selector_step (Selector-F.Component (expr_view e))).place env size p
 selector_component_place e env size p = ap (λ (v : SelectorView). v.place env size p) (selector_component e)
 
 pub selector_component_uses : (e : TypedExpr) (env : Env) (line : Line) → (selector_view (sv.Component e)).uses env line ≡ (selector_step (Selector-F.Component (expr_view e))).uses env line
@@ -277,10 +277,10 @@ selector_component_calls e env line = ap (λ (v : SelectorView). v.calls env lin
 pub selector_component_effect : (e : TypedExpr) (env : Env) → (selector_view (sv.Component e)).effect env ≡ (selector_step (Selector-F.Component (expr_view e))).effect env
 selector_component_effect e env = ap (λ (v : SelectorView). v.effect env) (selector_component e)
 
-pub selector_from_size : (n : Option ℕ) (e : TypedExpr) (env : Env) (size : Option ℕ) → (selector_view (sv.From n e)).size env size ≡ (selector_step (Selector-F.From n (expr_view e))).size env size
+pub selector_from_size : (n : Option ℕ) (e : TypedExpr) (env : Env) (size : Option ℤ) → (selector_view (sv.From n e)).size env size ≡ (selector_step (Selector-F.From n (expr_view e))).size env size
 selector_from_size n e env size = ap (λ (v : SelectorView). v.size env size) (selector_from n e)
 
-pub selector_from_place : (n : Option ℕ) (e : TypedExpr) (env : Env) (size : Option ℕ) (p : Place) → (selector_view (sv.From n e)).place env size p ≡ (selector_step (Selector-F.From n (expr_view e))).place env size p
+pub selector_from_place : (n : Option ℕ) (e : TypedExpr) (env : Env) (size : Option ℤ) (p : Place) → (selector_view (sv.From n e)).place env size p ≡ (selector_step (Selector-F.From n (expr_view e))).place env size p
 selector_from_place n e env size p = ap (λ (v : SelectorView). v.place env size p) (selector_from n e)
 
 pub selector_from_uses : (n : Option ℕ) (e : TypedExpr) (env : Env) (line : Line) → (selector_view (sv.From n e)).uses env line ≡ (selector_step (Selector-F.From n (expr_view e))).uses env line
@@ -292,10 +292,10 @@ selector_from_calls n e env line = ap (λ (v : SelectorView). v.calls env line) 
 pub selector_from_effect : (n : Option ℕ) (e : TypedExpr) (env : Env) → (selector_view (sv.From n e)).effect env ≡ (selector_step (Selector-F.From n (expr_view e))).effect env
 selector_from_effect n e env = ap (λ (v : SelectorView). v.effect env) (selector_from n e)
 
-pub selector_for_size : (n : Option ℕ) (e : TypedExpr) (env : Env) (size : Option ℕ) → (selector_view (sv.For n e)).size env size ≡ (selector_step (Selector-F.For n (expr_view e))).size env size
+pub selector_for_size : (n : Option ℕ) (e : TypedExpr) (env : Env) (size : Option ℤ) → (selector_view (sv.For n e)).size env size ≡ (selector_step (Selector-F.For n (expr_view e))).size env size
 selector_for_size n e env size = ap (λ (v : SelectorView). v.size env size) (selector_for n e)
 
-pub selector_for_place : (n : Option ℕ) (e : TypedExpr) (env : Env) (size : Option ℕ) (p : Place) → (selector_view (sv.For n e)).place env size p ≡ (selector_step (Selector-F.For n (expr_view e))).place env size p
+pub selector_for_place : (n : Option ℕ) (e : TypedExpr) (env : Env) (size : Option ℤ) (p : Place) → (selector_view (sv.For n e)).place env size p ≡ (selector_step (Selector-F.For n (expr_view e))).place env size p
 selector_for_place n e env size p = ap (λ (v : SelectorView). v.place env size p) (selector_for n e)
 
 pub selector_for_uses : (n : Option ℕ) (e : TypedExpr) (env : Env) (line : Line) → (selector_view (sv.For n e)).uses env line ≡ (selector_step (Selector-F.For n (expr_view e))).uses env line
@@ -307,10 +307,10 @@ selector_for_calls n e env line = ap (λ (v : SelectorView). v.calls env line) (
 pub selector_for_effect : (n : Option ℕ) (e : TypedExpr) (env : Env) → (selector_view (sv.For n e)).effect env ≡ (selector_step (Selector-F.For n (expr_view e))).effect env
 selector_for_effect n e env = ap (λ (v : SelectorView). v.effect env) (selector_for n e)
 
-pub selector_from_for_size : (n : Option ℕ) (e : TypedExpr) (f : TypedExpr) (env : Env) (size : Option ℕ) → (selector_view (sv.FromFor n e f)).size env size ≡ (selector_step (Selector-F.FromFor n (expr_view e) (expr_view f))).size env size
+pub selector_from_for_size : (n : Option ℕ) (e : TypedExpr) (f : TypedExpr) (env : Env) (size : Option ℤ) → (selector_view (sv.FromFor n e f)).size env size ≡ (selector_step (Selector-F.FromFor n (expr_view e) (expr_view f))).size env size
 selector_from_for_size n e f env size = ap (λ (v : SelectorView). v.size env size) (selector_from_for n e f)
 
-pub selector_from_for_place : (n : Option ℕ) (e : TypedExpr) (f : TypedExpr) (env : Env) (size : Option ℕ) (p : Place) → (selector_view (sv.FromFor n e f)).place env size p ≡ (selector_step (Selector-F.FromFor n (expr_view e) (expr_view f))).place env size p
+pub selector_from_for_place : (n : Option ℕ) (e : TypedExpr) (f : TypedExpr) (env : Env) (size : Option ℤ) (p : Place) → (selector_view (sv.FromFor n e f)).place env size p ≡ (selector_step (Selector-F.FromFor n (expr_view e) (expr_view f))).place env size p
 selector_from_for_place n e f env size p = ap (λ (v : SelectorView). v.place env size p) (selector_from_for n e f)
 
 pub selector_from_for_uses : (n : Option ℕ) (e : TypedExpr) (f : TypedExpr) (env : Env) (line : Line) → (selector_view (sv.FromFor n e f)).uses env line ≡ (selector_step (Selector-F.FromFor n (expr_view e) (expr_view f))).uses env line

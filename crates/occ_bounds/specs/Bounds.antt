@@ -21,7 +21,7 @@ value_of (Some (b.Body uses does)) = None
 value_of (Some b.Other) = None
 value_of None = None
 
-abbrev pub size_of : Option Bound → Option ℕ
+abbrev pub size_of : Option Bound → Option ℤ
 size_of (Some (b.Value v size reads)) = size
 size_of (Some (b.Root name)) = None
 size_of (Some (b.Abbreviation place size reads)) = size

@@ -1,5 +1,6 @@
 -- Values and numbers of components that are perhaps not known. What has a fault has none.
-use Rattle.std.specs.Prelude.{ℕ, ℤ, pos, ◌-ℤ◌, int_le, unsigned_abs, nat_le, ◌&&◌, Option, Some, None, List, [], ◌∷◌, Result, Ok, Err, if◌then◌else◌}
+use Rattle.std.specs.Prelude.{ℕ, ℤ, pos, negsuc, ◌-ℤ◌, int_le, ◌&&◌, Option, Some, None, List, [], ◌∷◌, Result, Ok, Err, if◌then◌else◌}
+use Rattle.occ_parts.specs.Places.{near}
 use Rattle.occ_types.specs.Constant as constant
 use Rattle.occ_types.specs.Fits.{unnamed}
 use Rattle.occ_types.specs.View.{as_primitive}
@@ -61,24 +62,19 @@ abbrev pub int_of : Option Value → Option ℤ
 int_of None = None
 int_of (Some x) = int_in x
 
-abbrev pub size_value : Option ℕ → Option Value
+-- a number of components as a value: none over the range of INT
+abbrev pub size_value : Option ℤ → Option Value
 size_value None = None
-size_value (Some n) = if nat_le n 2147483647 then Some (v.Int (pos n)) else None
+size_value (Some n) = if int_le (negsuc 2147483647) n && int_le n (pos 2147483647) then Some (v.Int n) else None
 
--- a number that can be one of components
-abbrev pub size_number : Option ℤ → Option ℕ
-size_number None = None
-size_number (Some n) = if int_le (pos 0) n && int_le n (pos 4294967295) then Some (unsigned_abs n) else None
-
--- so many less those before a place
-abbrev pub less : Option ℕ → Option ℤ → Option ℤ
+-- So many less those before a place. It may be below 0, as the count of a segment may; one of over 64 bits, which no text reaches, is
+-- not known.
+abbrev pub less : Option ℤ → Option ℤ → Option ℤ
 less None base = None
 less (Some n) None = None
-less (Some n) (Some base) = Some (pos n -ℤ base)
+less (Some n) (Some base) = near (n -ℤ base)
 
 -- as the type tells it, or else as it is known here
-abbrev pub whole : Option ℕ → Option ℕ → Option ℕ
-whole typed here = known_or typed here
-
-abbrev pub count_of : Option Value → Option ℤ
-count_of x = int_of x
+abbrev pub whole : Option ℕ → Option ℤ → Option ℤ
+whole (Some n) here = Some (pos n)
+whole None here = here

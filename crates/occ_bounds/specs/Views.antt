@@ -15,7 +15,7 @@ use Rattle.occ_typed.specs.declared.expr.TypedElement.{TypedElement}
 use Rattle.occ_typed.specs.declared.expr.TypedExpr.{TypedExpr}
 use Rattle.occ_bounds.specs.Bounds.{Env, body_of, effect_of, place_of, size_of, value_of}
 use Rattle.occ_bounds.specs.Calls.{called_all, made}
-use Rattle.occ_bounds.specs.Values.{converted_to, count_of, folded_behind, int_of, known_or, less, one, size_number, size_value, whole}
+use Rattle.occ_bounds.specs.Values.{converted_to, folded_behind, int_of, known_or, less, one, size_value, whole}
 use Rattle.occ_bounds.specs.declared.call.Call.{Call}
 use Rattle.occ_bounds.specs.declared.uses.Use.{Use}
 
@@ -42,7 +42,7 @@ no_calls env line = []
 -- its value, the number of its components, and what it uses and calls where it is evaluated
 pub record ExprView : Type 0 where
   pub value : Env → Option Value
-  pub size : Env → Option ℕ
+  pub size : Env → Option ℤ
   pub uses : Uses
   pub calls : Calls
   pub effect : Effects
@@ -50,7 +50,7 @@ pub record ExprView : Type 0 where
 -- also the place that it selects; it uses and calls what its subscripts and bounds do
 pub record ElementView : Type 0 where
   pub value : Env → Option Value
-  pub size : Env → Option ℕ
+  pub size : Env → Option ℤ
   pub place : Env → Option Place
   pub uses : Uses
   pub calls : Calls
@@ -58,8 +58,8 @@ pub record ElementView : Type 0 where
 
 -- what it selects from a place of so many components
 pub record SelectorView : Type 0 where
-  pub size : Env → Option ℕ → Option ℕ
-  pub place : Env → Option ℕ → Place → Place
+  pub size : Env → Option ℤ → Option ℤ
+  pub place : Env → Option ℤ → Place → Place
   pub uses : Uses
   pub calls : Calls
   pub effect : Effects
@@ -133,7 +133,7 @@ call_effect callee xs env = actuals_effect xs env || effect_of (slice_get env ca
 
 -- ---- selectors
 
-abbrev pub from_place : Option ℕ → ExprView → Env → Option ℕ → Place → Place
+abbrev pub from_place : Option ℕ → ExprView → Env → Option ℤ → Place → Place
 from_place typed e env size p = with_segment p (int_of (e.value env)) (less (whole typed size) (int_of (e.value env)))
 
 abbrev pub selector_step : Selector-F SelectorView ActualView ExprView ElementView → SelectorView
@@ -142,13 +142,13 @@ selector_step (Selector-F.Field k name) =
 selector_step (Selector-F.Component e) =
     record { size = λ env size. None; place = λ env size p. with_subscript p (int_of (e.value env)); uses = e.uses; calls = e.calls; effect = e.effect }
 selector_step (Selector-F.From typed e) =
-    record { size = λ env size. size_number (less (whole typed size) (int_of (e.value env))); place = from_place typed e; uses = e.uses; calls = e.calls; effect = e.effect }
+    record { size = λ env size. less (whole typed size) (int_of (e.value env)); place = from_place typed e; uses = e.uses; calls = e.calls; effect = e.effect }
 selector_step (Selector-F.For typed e) =
-    record { size = λ env size. size_number (count_of (e.value env)); place = λ env size p. with_segment p (Some (pos 0)) (count_of (e.value env)); uses = e.uses; calls = e.calls; effect = e.effect }
+    record { size = λ env size. int_of (e.value env); place = λ env size p. with_segment p (Some (pos 0)) (int_of (e.value env)); uses = e.uses; calls = e.calls; effect = e.effect }
 selector_step (Selector-F.FromFor typed e f) =
     record {
-      size = λ env size. size_number (count_of (f.value env));
-      place = λ env size p. with_segment p (int_of (e.value env)) (count_of (f.value env));
+      size = λ env size. int_of (f.value env);
+      place = λ env size p. with_segment p (int_of (e.value env)) (int_of (f.value env));
       uses = λ env line. e.uses env line ++ f.uses env line;
       calls = λ env line. e.calls env line ++ f.calls env line;
       effect = λ env. e.effect env || f.effect env;
@@ -156,16 +156,16 @@ selector_step (Selector-F.FromFor typed e f) =
 
 -- ---- elements
 
-abbrev pub sized : List SelectorView → Env → Option ℕ → Option ℕ
+abbrev pub sized : List SelectorView → Env → Option ℤ → Option ℤ
 sized [] env size = size
 sized (x ∷ xs) env size = sized xs env (x.size env size)
 
 -- what is selected from a place of so many components
-abbrev pub placed : List SelectorView → Env → Option ℕ → Place → Place
+abbrev pub placed : List SelectorView → Env → Option ℤ → Place → Place
 placed [] env size p = p
 placed (x ∷ xs) env size p = placed xs env (x.size env size) (x.place env size p)
 
-abbrev pub placed_from : List SelectorView → Env → Option ℕ → Option Place → Option Place
+abbrev pub placed_from : List SelectorView → Env → Option ℤ → Option Place → Option Place
 placed_from xs env size None = None
 placed_from xs env size (Some p) = Some (placed xs env size p)
 

@@ -14,10 +14,10 @@ pub enum Bound {
     Root(Name),
     /// A VAL name, a VAL formal or an index: its value and the number of its components, if they are known, and what is read
     /// where it is specified.
-    Value(Option<Value>, Option<u32>, Items<Use>),
+    Value(Option<Value>, Option<i64>, Items<Use>),
     /// An abbreviation: what it stands for, which is nothing where that is a timer, the number of its components, if it is
     /// known, and what is read where it is specified.
-    Abbreviation(Option<Place>, Option<u32>, Items<Use>),
+    Abbreviation(Option<Place>, Option<i64>, Items<Use>),
     /// A PROC or a FUNCTION: the uses of its body, of what stands round it and of its formals, and whether the body has an
     /// input, an output, a PAR or an ALT.
     Body(Items<Use>, Effect),
@@ -36,7 +36,7 @@ pub fn value_at(env: &[Bound], number: usize) -> Option<Value>
 }
 
 /// The number of components of a specification, if it is known here.
-pub fn size_at(env: &[Bound], number: usize) -> Option<u32>
+pub fn size_at(env: &[Bound], number: usize) -> Option<i64>
     ensures { result ≡ size_of (slice_get env.now number) }
 {
     match env.get(number) {

@@ -13,7 +13,7 @@ fn selected(
     alloc: Global,
     place: Place,
     selector: &Selector,
-    size: Option<u32>,
+    size: Option<i64>,
     env: &[Bound],
 ) -> Result<Place, AllocError>
     ensures { IfOk result (λ found. found ≡ (selector_view selector.now).place env.now size place) }
@@ -57,7 +57,7 @@ fn place_behind(
     alloc: Global,
     place: Place,
     selectors: &[Selector],
-    size: Option<u32>,
+    size: Option<i64>,
     env: &[Bound],
 ) -> Result<Place, AllocError>
     ensures { IfOk result (λ found. found ≡ placed (selector_views selectors.now) env.now size place) }

@@ -1,5 +1,5 @@
 ghost use Rattle.std.specs.Prelude.{◌≡◌};
-ghost use Rattle.occ_bounds.specs.Values.{both as told_both, converted_to, count_of as told_count, folded_behind, int_of as told_int, known_or, less as told_less, one as told_one, size_number as told_size_number, size_value as told_size_value, whole as told_whole};
+ghost use Rattle.occ_bounds.specs.Values.{both as told_both, converted_to, folded_behind, int_of as told_int, known_or, less as told_less, one as told_one, size_value as told_size_value, whole as told_whole};
 ghost use Rattle.occ_bounds.specs.Views.{element_view, expr_view, expr_views, folded_all, name_value as told_name_value, selector_view, selector_views, sized, values_of};
 
 use super::bound::{Bound, size_at, value_at};
@@ -48,7 +48,7 @@ pub(crate) fn int(value: Option<Value>) -> Option<i32>
 }
 
 /// A number of components as a value.
-fn size_value(size: Option<u32>) -> Option<Value>
+fn size_value(size: Option<i64>) -> Option<Value>
     ensures { result ≡ told_size_value size }
 {
     match size {
@@ -60,39 +60,29 @@ fn size_value(size: Option<u32>) -> Option<Value>
     }
 }
 
-/// A number as one of components, if it can be one.
-fn size_number(count: Option<i64>) -> Option<u32>
-    ensures { result ≡ told_size_number count }
-{
-    match count {
-        Some(count) => u32::try_from(count).ok(),
-        None => None,
-    }
-}
-
 /// How many components of so many stand from a place on.
-pub(crate) fn less(size: Option<u32>, base: Option<i32>) -> Option<i64>
+pub(crate) fn less(size: Option<i64>, base: Option<i32>) -> Option<i64>
     ensures { result ≡ told_less size base }
 {
     match (size, base) {
-        (Some(size), Some(base)) => Some(i64::from(size) - i64::from(base)),
+        (Some(size), Some(base)) => size.checked_sub(i64::from(base)),
         _ => None,
     }
 }
 
 /// The number of components that is known by the type, or else is known here.
-pub(crate) fn whole(typed: Option<u32>, here: Option<u32>) -> Option<u32>
+pub(crate) fn whole(typed: Option<u32>, here: Option<i64>) -> Option<i64>
     ensures { result ≡ told_whole typed here }
 {
     match typed {
-        Some(size) => Some(size),
+        Some(size) => Some(i64::from(size)),
         None => here,
     }
 }
 
 /// A number of components that is counted.
 pub(crate) fn count(value: Option<Value>) -> Option<i64>
-    ensures { result ≡ told_count value }
+    ensures { result ≡ told_int value }
 {
     match int(value) {
         Some(n) => Some(i64::from(n)),
@@ -173,7 +163,7 @@ fn name_value(selectors: &[Selector], value: Option<Value>) -> Option<Value>
 /// The number of components of an array, as far as the specifications in scope tell it.
 #[tactic(auto, using(crate::proofs::Views::expr_size_rules))]
 #[cycle(values)]
-pub fn size(expr: &TypedExpr, env: &[Bound]) -> Option<u32>
+pub fn size(expr: &TypedExpr, env: &[Bound]) -> Option<i64>
     ensures { result ≡ (expr_view expr.now).size env.now }
 {
     match expr {
@@ -185,7 +175,7 @@ pub fn size(expr: &TypedExpr, env: &[Bound]) -> Option<u32>
 /// The number of components of an element, as far as the specifications in scope tell it.
 #[tactic(auto, using(crate::proofs::Views::element_size_rules))]
 #[cycle(values)]
-pub fn element_size(element: &TypedElement, env: &[Bound]) -> Option<u32>
+pub fn element_size(element: &TypedElement, env: &[Bound]) -> Option<i64>
     ensures { result ≡ (element_view element.now).size env.now }
 {
     size_behind(
@@ -197,7 +187,7 @@ pub fn element_size(element: &TypedElement, env: &[Bound]) -> Option<u32>
 
 /// The number of components behind selectors from so many.
 #[cycle(values)]
-fn size_behind(selectors: &[Selector], size: Option<u32>, env: &[Bound]) -> Option<u32>
+fn size_behind(selectors: &[Selector], size: Option<i64>, env: &[Bound]) -> Option<i64>
     ensures { result ≡ sized (selector_views selectors.now) env.now size }
 {
     let mut found = size;
@@ -210,16 +200,14 @@ fn size_behind(selectors: &[Selector], size: Option<u32>, env: &[Bound]) -> Opti
 /// The number of components of what is selected from so many.
 #[tactic(auto, using(crate::proofs::Views::selector_size_rules))]
 #[cycle(values)]
-pub(crate) fn size_within(selector: &Selector, size: Option<u32>, env: &[Bound]) -> Option<u32>
+pub(crate) fn size_within(selector: &Selector, size: Option<i64>, env: &[Bound]) -> Option<i64>
     ensures { result ≡ (selector_view selector.now).size env.now size }
 {
     match selector {
         Selector::Field(_, _) => None,
         Selector::Component(_) => None,
-        Selector::From(typed, base) => {
-            size_number(less(whole(*typed, size), int(value(base.get(), env))))
-        }
-        Selector::For(_, length) => size_number(count(value(length.get(), env))),
-        Selector::FromFor(_, _, length) => size_number(count(value(length.get(), env))),
+        Selector::From(typed, base) => { less(whole(*typed, size), int(value(base.get(), env))) }
+        Selector::For(_, length) => count(value(length.get(), env)),
+        Selector::FromFor(_, _, length) => count(value(length.get(), env)),
     }
 }
