@@ -1,5 +1,5 @@
 -- What the specifications in scope are for the uses of parts. Each has the number of those round it.
-use Rattle.std.specs.Prelude.{ℕ, Bool, true, false, Option, Some, None, List, []}
+use Rattle.std.specs.Prelude.{ℕ, ℤ, Bool, true, false, Option, Some, None, List, []}
 use Rattle.occ_parts.specs.Selecting.{whole}
 use Rattle.occ_parts.specs.declared.place.Place.{Place}
 use Rattle.occ_types.specs.declared.interface.Effect.{Effect}

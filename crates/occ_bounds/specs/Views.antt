@@ -1,6 +1,6 @@
 -- What an expression, an element, a selector and an actual are where specifications are in scope: values, places, the uses of
 -- what is evaluated, and the calls.
-use Rattle.std.specs.Prelude.{ℕ, pos, Bool, false, ◌||◌, Option, Some, None, List, [], ◌∷◌, ◌++◌, slice_get}
+use Rattle.std.specs.Prelude.{ℕ, ℤ, pos, Bool, false, ◌||◌, Option, Some, None, List, [], ◌∷◌, ◌++◌, slice_get}
 use Rattle.occ_parts.specs.Selecting.{with_field, with_segment, with_subscript}
 use Rattle.occ_parts.specs.declared.place.Place.{Place}
 use Rattle.occ_project.specs.declared.expanded.Place.{Place as Line}
