@@ -20,6 +20,7 @@ whole_told read script page wrote status.Errors h e s = (same_items wrote (outpu
 whole_told read script page wrote status.ScriptFault h e s = (same_items wrote (output read script) (h.0 [] (ap Some e)), ap exit_code (sym h.1))
 whole_told read script page wrote status.DeviceFault h e s = absurd (omega arith)
 whole_told read script page wrote status.NoMemory h e s = absurd (omega arith)
+whole_told read script page wrote status.Disagree h e s = absurd (omega arith)
 
 -- so what is wanted is what the script writes
 pub met : (read : Reading) (script : Script) (page wrote wanted : List ℕ) (result : Status) (code number : ℕ) → IsTold read script (Some page) (Some wrote) result → page ≡ []

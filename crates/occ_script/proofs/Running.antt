@@ -138,6 +138,7 @@ told_fault read script left k line desk before now next status.ScriptFault h l e
 told_fault read script left k line desk before now next status.DeviceFault h l e f =
     let t = at_end left script k (Some line) l e in
     subst (λ (x : Option ℕ). AppendsFront before next (answers read start script.commands ++ fault_text x)) (sym t.1) (front_more before now next _ _ (whole_written read script k desk before now h t.0) f)
+told_fault read script left k line desk before now next status.Disagree h l e f = absurd f
 told_fault read script left k line desk before now next status.NoMemory h l e f =
     let t = at_end left script k (Some line) l e in (
       length script.commands,

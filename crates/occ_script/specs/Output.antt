@@ -49,6 +49,7 @@ IsTold read script before now status.Errors = IsWhole read script before now sta
 IsTold read script before now status.ScriptFault = IsWhole read script before now status.ScriptFault
 IsTold read script before now status.DeviceFault = AppendsFront before now (output read script)
 IsTold read script before now status.NoMemory = (k : ℕ) × IsRefusedAt k script × Appends before now (answers read start (take k script.commands))
+IsTold read script before now status.Disagree = ⊥
 
 -- the same of the line that tells a script fault
 abbrev pub IsFaultTold : ℕ → Option (List ℕ) → Option (List ℕ) → Status → Type 0
@@ -57,3 +58,4 @@ IsFaultTold line before now status.Errors = ⊥
 IsFaultTold line before now status.ScriptFault = Appends before now (fault_text (Some line))
 IsFaultTold line before now status.DeviceFault = AppendsFront before now (fault_text (Some line))
 IsFaultTold line before now status.NoMemory = now ≡ before
+IsFaultTold line before now status.Disagree = ⊥

@@ -1,7 +1,7 @@
 -- What the status of a run says.
 use Rattle.std.specs.Prelude.{ℕ, Bool, true, false}
 use Rattle.occ_script.specs.declared.status.Status.{Status}
-use Rattle.occ_script.specs.declared.status.Status.TheVariants.{Clean, Errors, ScriptFault, DeviceFault, NoMemory}
+use Rattle.occ_script.specs.declared.status.Status.TheVariants.{Clean, Errors, ScriptFault, DeviceFault, NoMemory, Disagree}
 
 -- the exit status of the program
 abbrev pub exit_code : Status → ℕ
@@ -10,6 +10,7 @@ exit_code Errors = 1
 exit_code ScriptFault = 2
 exit_code DeviceFault = 3
 exit_code NoMemory = 4
+exit_code Disagree = 5
 
 -- a read or a write failed
 abbrev pub is_device_fault : Status → Bool
@@ -18,3 +19,4 @@ is_device_fault Errors = false
 is_device_fault ScriptFault = false
 is_device_fault DeviceFault = true
 is_device_fault NoMemory = false
+is_device_fault Disagree = false

@@ -3,8 +3,8 @@ ghost use Rattle.occ_board.specs.declared.entry.EditFault.TheVariants as fault;
 ghost use Rattle.occ_lines.specs.Lines.{limit_fault};
 ghost use Rattle.occ_script.specs.Machine.{AreLines, Reading, board_word as the_board_word, edited_text, name_word as the_name_word, text_read, text_word as the_text_word, told, wrong_word};
 ghost use Rattle.occ_script.specs.inside.Seen.{IsFile, refused_by, refused_edit, unnamed_by};
-ghost use Rattle.std.specs.Option.{option_map};
-ghost use Rattle.std.specs.Prelude.{◌≡◌, ◌++◌, Err, IfOk, IsErr, codes};
+ghost use Rattle.std.specs.Option.{option_copied, option_map};
+ghost use Rattle.std.specs.Prelude.{◌≡◌, ◌++◌, Err, IfOk, IsErr, None, codes};
 
 use super::answer::{line, line_naming};
 use occ_base::{FileName, NameFault, Shared};
@@ -43,7 +43,7 @@ fn text_word(fault: TextFault) -> &'static str
 }
 
 /// The word of a refusal of the board.
-fn board_word(fault: EditFault) -> &'static str
+pub fn board_word(fault: EditFault) -> &'static str
     ensures { result.now ≡ the_board_word fault }
 {
     match fault {
@@ -63,6 +63,29 @@ pub fn named(name: &[u8]) -> Result<FileName, &'static str>
     match FileName::read(name) {
         Ok(file) => Ok(file),
         Err(fault) => Err(name_word(fault)),
+    }
+}
+
+/// The word that refuses the name of an edit, if one does.
+pub fn wrong_name(name: &[u8]) -> Option<&'static str>
+    ensures { option_copied result ≡ wrong_word name.now None }
+{
+    match named(name) {
+        Ok(_file) => None,
+        Err(word) => Some(word),
+    }
+}
+
+/// The word that refuses the name or the text of an edit, if one does: a wrong name comes before a wrong text.
+pub fn wrong_edit(name: &[u8], text: &[u8]) -> Option<&'static str>
+    ensures { option_copied result ≡ wrong_word name.now (limit_fault text.now) }
+{
+    if let Err(word) = named(name) {
+        return Some(word);
+    }
+    match text_fault(text) {
+        Some(fault) => Some(text_word(fault)),
+        None => None,
     }
 }
 

@@ -18,6 +18,11 @@ mod settling;
 mod status;
 mod written;
 
+pub use answer::{line, line_naming};
 pub use devices::{ByteIn, ByteOut, Failed, StdIn, StdOut};
+pub use edit::{Given, board_word, named, read_edit, wrong_edit, wrong_name};
+pub use input::{ReadFault, read_script};
+pub use report::{report_lines, tells_errors};
 pub use run::run_script;
 pub use status::Status;
+pub use written::write_all;

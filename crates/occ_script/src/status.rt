@@ -14,6 +14,8 @@ pub enum Status {
     DeviceFault,
     /// Memory was refused.
     NoMemory,
+    /// What sessions were told does not agree with the edits that were made. The run of one script does not end so.
+    Disagree,
 }
 
 impl Status {
@@ -27,6 +29,7 @@ impl Status {
             Status::ScriptFault => 2,
             Status::DeviceFault => 3,
             Status::NoMemory => 4,
+            Status::Disagree => 5,
         }
     }
 }

@@ -15,6 +15,7 @@ mod server;
 mod snapshot;
 mod work;
 
+pub use comparing::is_same_entry;
 pub use fault::{CloseFault, ReportFault};
 pub use occ_board::{Edit, EditFault, Entry};
 pub use receipt::Receipt;

@@ -13,6 +13,8 @@ mod form;
 #[cfg(test)]
 mod scope;
 #[cfg(test)]
+mod server;
+#[cfg(test)]
 mod types;
 #[cfg(test)]
 mod units;
