@@ -111,7 +111,7 @@ change_to _ _ _ _ _ (change c env us rs d u r one other w q h) =
 
 -- ---- in the scope of abbreviations
 
-beside_from : (n : ℕ) (env : Env) (p : Place) (size : Option ℕ) (reads us : List Use) (d : Diag) → slice_get env n ≡ Some (b.Abbreviation (Some p) size reads)
+beside_from : (n : ℕ) (env : Env) (p : Place) (size : Option ℤ) (reads us : List Use) (d : Diag) → slice_get env n ≡ Some (b.Abbreviation (Some p) size reads)
     → Contains (element_faults n env (part_of p) us) d → IsToldInScope env us d
 beside_from n env p size reads us d e h =
     each_from (λ (u : Use). element_fault n env (part_of p) u) (λ (vs : List Use). element_faults n env (part_of p) vs) refl (λ (u : Use) (vs : List Use). refl) us d h
@@ -120,7 +120,7 @@ beside_from n env p size reads us d e h =
     let ds = pair_faults u.line code.A1 env (part_of p) u.part in
     beside env us d n p size reads u e one (unless_false s ds d told) (unless_in s ds d told))
 
-place_from : (n : ℕ) (env : Env) (place : Option Place) (size : Option ℕ) (reads us : List Use) (d : Diag) → slice_get env n ≡ Some (b.Abbreviation place size reads)
+place_from : (n : ℕ) (env : Env) (place : Option Place) (size : Option ℤ) (reads us : List Use) (d : Diag) → slice_get env n ≡ Some (b.Abbreviation place size reads)
     → Contains (place_faults n env place us) d → IsToldInScope env us d
 place_from n env None size reads us d e h = absurd (none d h)
 place_from n env (Some p) size reads us d e h = beside_from n env p size reads us d e h

@@ -1,5 +1,5 @@
 -- What the abbreviation rule tells, said use by use, call by call and line by line.
-use Rattle.std.specs.Prelude.{◌≡◌, ◌==◌, ℕ, true, false, Option, Some, List, ◌∷◌, ◌++◌, nat_lt, slice_get}
+use Rattle.std.specs.Prelude.{◌≡◌, ◌==◌, ℕ, ℤ, true, false, Option, Some, List, ◌∷◌, ◌++◌, nat_lt, slice_get}
 use Rattle.std.specs.List.{Contains, list_any}
 use Rattle.occ_base.specs.declared.code.Code.{Code}
 use Rattle.occ_base.specs.declared.code.Code.TheVariants as code
@@ -24,14 +24,14 @@ pub data IsChange : Code → Env → List Use → List Use → Diag → Type 0 w
 
 pub data IsToldInScope : Env → List Use → Diag → Type 0 where
   -- a use that is not by the name of an abbreviation, nor by one that was made from it
-  beside : (env : Env) (us : List Use) (d : Diag) (n : ℕ) (p : Place) (size : Option ℕ) (reads : List Use) (u : Use)
+  beside : (env : Env) (us : List Use) (d : Diag) (n : ℕ) (p : Place) (size : Option ℤ) (reads : List Use) (u : Use)
       → slice_get env n ≡ Some (b.Abbreviation (Some p) size reads) → Contains us u → list_any (λ (k : ℕ). k == n) u.chain ≡ false
       → Contains (pair_faults u.line code.A1 env (part_of p) u.part) d → IsToldInScope env us d
   -- a change of what the subscripts and bounds of an abbreviation read
-  subscript : (env : Env) (us : List Use) (d : Diag) (n : ℕ) (place : Option Place) (size : Option ℕ) (reads : List Use)
+  subscript : (env : Env) (us : List Use) (d : Diag) (n : ℕ) (place : Option Place) (size : Option ℤ) (reads : List Use)
       → slice_get env n ≡ Some (b.Abbreviation place size reads) → IsChange code.A2 env us reads d → IsToldInScope env us d
   -- a change of what a VAL abbreviation reads
-  value : (env : Env) (us : List Use) (d : Diag) (n : ℕ) (v : Option Value) (size : Option ℕ) (reads : List Use)
+  value : (env : Env) (us : List Use) (d : Diag) (n : ℕ) (v : Option Value) (size : Option ℤ) (reads : List Use)
       → slice_get env n ≡ Some (b.Value v size reads) → IsChange code.A3 env us reads d → IsToldInScope env us d
 
 pub data IsToldOfCall : Line → Env → Call → Diag → Type 0 where
