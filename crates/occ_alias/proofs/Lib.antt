@@ -1,3 +1,3 @@
-pub mod Walking
+pub mod Elements
 pub mod Grading
 pub mod Telling

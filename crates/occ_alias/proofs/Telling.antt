@@ -1,10 +1,10 @@
 -- The two ways to say what the abbreviation rule tells are one.
 use Rattle.std.specs.Prelude.{◌==◌, ◌↔◌, if◌then◌else◌, nat_lt, slice_get}
-use Rattle.std.proofs.Common.{◌≡◌, ◌∙◌, ◌<◌, ◌+◌, ℕ, ℤ, zero, suc, Bool, true, false, ◌&&◌, Option, Some, None, List, [], ◌∷◌, ◌++◌, inl, inr, refl, ap, subst, sym, arith, append_assoc}
+use Rattle.std.proofs.Common.{◌≡◌, ◌∙◌, ◌+◌, ℕ, ℤ, zero, suc, Bool, true, false, ◌&&◌, Option, Some, None, List, [], ◌∷◌, ◌++◌, inl, inr, refl, ap, subst, sym, arith, append_assoc}
 use Rattle.std.specs.List.{Contains, list_any}
 use Rattle.std.proofs.lemmas.List.Elements.{Contains-append_cases, Contains-append_left, Contains-append_right, Contains-push}
-use Rattle.occ_alias.specs.AbbreviationRule.{actual_faults, actuals_faults, bound_faults, call_faults, calls_faults, element_fault, element_faults, evaluated_faults, faults, faults_of, free_fault, free_faults, line_faults, pair_faults, place_faults, place_pair, place_pairs, scope_faults, unit_faults, written_by, written_fault, written_faults}
-use Rattle.occ_alias.specs.Telling.{IsChange, IsToldIn, IsToldInScope, IsToldOf, IsToldOfCall, actuals, at_line, beside, change, free, of_call, of_use, read, subscript, value}
+use Rattle.occ_alias.specs.AbbreviationRule.{actual_faults, actuals_faults, bound_faults, call_faults, calls_faults, element_fault, element_faults, evaluated_faults, free_fault, free_faults, pair_faults, place_faults, place_pair, place_pairs, scope_faults, written_by, written_fault, written_faults}
+use Rattle.occ_alias.specs.Telling.{IsChange, IsToldInScope, IsToldOf, IsToldOfCall, actuals, beside, change, free, of_call, of_use, read, subscript, value}
 use Rattle.occ_base.specs.declared.code.Code.{Code}
 use Rattle.occ_base.specs.declared.code.Code.TheVariants as code
 use Rattle.occ_base.specs.declared.diag.Diag.{Diag}
@@ -18,13 +18,6 @@ use Rattle.occ_parts.specs.Selecting.{part_of}
 use Rattle.occ_parts.specs.declared.part.Part.{Part}
 use Rattle.occ_parts.specs.declared.place.Place.{Place}
 use Rattle.occ_project.specs.declared.expanded.Place.{Place as Line}
-use Rattle.occ_replicators.specs.declared.tree.KnownReplicator.{KnownReplicator}
-use Rattle.occ_typing.specs.declared.tree.TypedLine.{TypedLine}
-use Rattle.occ_usage.specs.Effect.{inner}
-use Rattle.occ_usage.specs.Lines.{behind_line, known_replicator, with_index}
-use Rattle.occ_usage.specs.ParallelRule.{Told, rounds_told, under_told, under_told_by}
-use Rattle.occ_usage.specs.Standing.{At, Stands, below, first, in_round, later}
-use Rattle.occ_usage.specs.Trees.{Empty, Head, Tree, Trees, trees_of}
 
 -- ---- items of lists
 
@@ -296,84 +289,3 @@ line_to _ _ _ _ _ (of_call line env us cs d c among h) =
 
 pub line_law : (line : Line) (env : Env) (us : List Use) (cs : List Call) (d : Diag) → Contains (evaluated_faults line env us cs) d ↔ IsToldOf line env us cs d
 line_law line env us cs d = (line_from line env us cs d, line_to line env us cs d)
-
--- ---- rounds
-
-rounds_from : {P : Type 0} (n : ℕ) (base : ℤ) (env : Env) (t : Told) (d : Diag) → Contains (rounds_told n base env t) d
-    → ((i : ℕ) → i < n → Contains (t (with_index env base i)) d → P) → P
-rounds_from zero base env t d h found = absurd (none d h)
-rounds_from (suc n) base env t d h found = elim (Contains-append_cases (rounds_told n base env t) (t (with_index env base n)) d h) [
-  | inl before ↦ rounds_from n base env t d before (λ (i : ℕ) within told. found i (omega (arith, within)) told)
-  | inr last ↦ found n (omega arith) last
-]
-
-same_number : (m n : ℕ) → (m == n) ≡ true → m ≡ n
-same_number m n e = grind (arith, e)
-
-rounds_to : (n : ℕ) (base : ℤ) (env : Env) (t : Told) (d : Diag) (i : ℕ) → i < n → Contains (t (with_index env base i)) d
-    → Contains (rounds_told n base env t) d
-rounds_to zero base env t d i w h = absurd (omega (arith, w))
-rounds_to (suc n) base env t d i w h = at (i == n) refl (λ v. rounds_to n base env t d i v h) where
-  at : (s : Bool) → (i == n) ≡ s → (i < n → Contains (rounds_told n base env t) d) → Contains (rounds_told n base env t ++ t (with_index env base n)) d
-  at true e before = Contains-append_right (rounds_told n base env t) (t (with_index env base n)) d (subst (λ (k : ℕ). Contains (t (with_index env base k)) d) (same_number i n e) h)
-  at false e before = Contains-append_left (rounds_told n base env t) (t (with_index env base n)) d (before (let u : (i == n) ≡ false = e in grind (arith, w, u)))
-
--- ---- lines
-
--- from one place to another
-carried : (t : Trees) (outer env : Env) (d : Diag) → IsToldIn t outer env d
-    → (t1 : Trees) (outer1 env1 : Env) → ((a : At) → Stands t outer env a → Stands t1 outer1 env1 a) → IsToldIn t1 outer1 env1 d
-carried _ _ _ _ (at_line t outer env d a s h) t1 outer1 env1 stands = at_line t1 outer1 env1 d a (stands a s) h
-
-under_from : (k : Option KnownReplicator) (h : Head) (t behind : Trees) (outer env : Env) (d : Diag) → known_replicator h.form ≡ k
-    → ((e : Env) → Contains (faults_of t e) d → IsToldIn t e e d)
-    → Contains (under_told_by k env h (faults_of t)) d → IsToldIn (Tree h t behind) outer env d
-under_from None h t behind outer env d known found c =
-    carried t (inner env h) (inner env h) d (found (inner env h) c) (Tree h t behind) outer env (λ (a : At) s. below h t behind outer env a known s)
-under_from (Some k) h t behind outer env d known found c =
-    rounds_from k.count k.base env (faults_of t) d c
-    (λ (i : ℕ) within told.
-    carried t (with_index env k.base i) (with_index env k.base i) d (found (with_index env k.base i) told) (Tree h t behind) outer env
-    (λ (a : At) s. in_round h t behind outer env a k i known within s))
-
-lines_from : (t : Trees) (outer env : Env) (d : Diag) → Contains (faults t outer env) d → IsToldIn t outer env d
-lines_from Empty outer env d h = absurd (none d h)
-lines_from (Tree h t behind) outer env d c =
-    let own = line_faults h.form env h.place in
-    let under = under_told env h (faults_of t) in
-    elim (Contains-append_cases (own ++ under) (faults behind outer (behind_line outer env h t)) d c) [
-      | inl line ↦ elim (Contains-append_cases own under d line) [
-        | inl here ↦ at_line (Tree h t behind) outer env d (record { line = h; under = t; env = env }) (first h t behind outer env) here
-        | inr beneath ↦ under_from (known_replicator h.form) h t behind outer env d refl (λ (e : Env) x. lines_from t e e d x) beneath
-      ]
-      | inr rest ↦
-          carried behind outer (behind_line outer env h t) d (lines_from behind outer (behind_line outer env h t) d rest) (Tree h t behind) outer env
-          (λ (a : At) s. later h t behind outer env a s)
-    ]
-
-under_to : (k : Option KnownReplicator) (h : Head) (t behind : Trees) (outer env : Env) (d : Diag) → known_replicator h.form ≡ k
-    → Contains (under_told_by k env h (faults_of t)) d → Contains (faults (Tree h t behind) outer env) d
-under_to k h t behind outer env d known c =
-    Contains-append_left (line_faults h.form env h.place ++ under_told env h (faults_of t)) (faults behind outer (behind_line outer env h t)) d
-    (Contains-append_right (line_faults h.form env h.place) (under_told env h (faults_of t)) d
-    (subst (λ (z : Option KnownReplicator). Contains (under_told_by z env h (faults_of t)) d) (sym known) c))
-
-lines_to : (t : Trees) (outer env : Env) (a : At) (d : Diag) → Stands t outer env a → Contains (line_faults a.line.form a.env a.line.place) d
-    → Contains (faults t outer env) d
-lines_to _ _ _ _ d (first h t behind outer env) c =
-    Contains-append_left (line_faults h.form env h.place ++ under_told env h (faults_of t)) (faults behind outer (behind_line outer env h t)) d
-    (Contains-append_left (line_faults h.form env h.place) (under_told env h (faults_of t)) d c)
-lines_to _ _ _ _ d (below h t behind outer env a known s) c =
-    under_to None h t behind outer env d known (lines_to t (inner env h) (inner env h) a d s c)
-lines_to _ _ _ _ d (in_round h t behind outer env a k i known w s) c =
-    under_to (Some k) h t behind outer env d known
-    (rounds_to k.count k.base env (faults_of t) d i w (lines_to t (with_index env k.base i) (with_index env k.base i) a d s c))
-lines_to _ _ _ _ d (later h t behind outer env a s) c =
-    Contains-append_right (line_faults h.form env h.place ++ under_told env h (faults_of t)) (faults behind outer (behind_line outer env h t)) d
-    (lines_to behind outer (behind_line outer env h t) a d s c)
-
-told_to : (t : Trees) (outer env : Env) (d : Diag) → IsToldIn t outer env d → Contains (faults t outer env) d
-told_to _ _ _ _ (at_line t outer env d a s h) = lines_to t outer env a d s h
-
-pub place_law : (ls : List TypedLine) (d : Diag) → Contains (unit_faults ls) d ↔ IsToldIn (trees_of ls) [] [] d
-place_law ls d = (lines_from (trees_of ls) [] [] d, told_to (trees_of ls) [] [] d)

@@ -1,6 +1,6 @@
--- What the abbreviation rule tells of lines. The abbreviations in whose scope a line stands are those in scope there: so each use
--- of a line is compared with each of them, and of a body that is specified in their scope each line is one of these too. Under a
--- known replicator a line is judged once for each round: indices round an abbreviation have the same values on both sides.
+-- What the abbreviation rule tells of a line, by what stands in scope there. The abbreviations in whose scope a line stands are
+-- those in scope there: so each use of a line is compared with each of them, and of a body that is specified in their scope each
+-- line is one of these too.
 use Rattle.std.specs.Prelude.{ℕ, ◌+◌, ◌==◌, nat_lt, ◌&&◌, Option, Some, None, List, [], ◌∷◌, ◌++◌, slice_get, if◌then◌else◌}
 use Rattle.std.specs.List.{list_any}
 use Rattle.occ_base.specs.declared.code.Code.{Code}
@@ -28,11 +28,6 @@ use Rattle.occ_project.specs.declared.expanded.Place.{Place as Line}
 use Rattle.occ_typed.specs.declared.expr.TypedExpr.{TypedExpr}
 use Rattle.occ_typed_lines.specs.declared.tree.TypedForm.{TypedForm}
 use Rattle.occ_typed_lines.specs.declared.tree.TypedForm.TheVariants as form
-use Rattle.occ_typing.specs.declared.tree.TypedLine.{TypedLine}
-use Rattle.occ_usage.specs.Lines.{behind_line}
-use Rattle.occ_usage.specs.ParallelRule.{Told, under_told}
-use Rattle.occ_usage.specs.Trees.{Empty, Head, Tree, Trees, trees_of}
-use Rattle.occ_alias.specs.Grades.{graver}
 use Rattle.occ_alias.specs.LineCalls.{each_calls, form_calls}
 
 -- ---- two parts that are not apart: an error where they surely have an element in common, else a check
@@ -137,30 +132,10 @@ results_faults formals results env line =
     let body = env ++ entry_bounds formals in
     evaluated_faults line body (each_uses results body line) (each_calls results body line)
 
-abbrev pub form_faults : TypedForm → Env → Line → List Diag
-form_faults f env line = evaluated_faults line env (form_uses f env line) (form_calls f env line)
+-- a line that uses these itself
+abbrev pub told_with : TypedForm → Env → Line → List Use → List Diag
+told_with (form.OneLineFunction formals results) env line us = results_faults formals results env line
+told_with other env line us = evaluated_faults line env us (form_calls other env line)
 
 abbrev pub line_faults : TypedForm → Env → Line → List Diag
-line_faults (form.OneLineFunction formals results) env line = results_faults formals results env line
-line_faults other env line = form_faults other env line
-
--- env stands in scope at the first of the lines, and outer at the next item
-abbrev pub faults : Trees → Env → Env → List Diag
-faults Empty outer env = []
-faults (Tree h t behind) outer env =
-    (line_faults h.form env h.place ++ under_told env h (λ (e : Env). faults t e e)) ++ faults behind outer (behind_line outer env h t)
-
-abbrev pub faults_of : Trees → Told
-faults_of t env = faults t env env
-
--- of a line and those under it
-abbrev pub whole_faults : Head → Trees → Env → List Diag
-whole_faults h t env = line_faults h.form env h.place ++ under_told env h (faults_of t)
-
--- of the lines of a unit: nothing stands in scope at the first
-abbrev pub unit_faults : List TypedLine → List Diag
-unit_faults ls = faults_of (trees_of ls) []
-
--- of an error and a check that differ in nothing else the error alone
-abbrev pub abbreviation_faults : List TypedLine → List Diag
-abbreviation_faults ls = graver (unit_faults ls)
+line_faults f env line = told_with f env line (form_uses f env line)

@@ -1,4 +1,4 @@
--- What the abbreviation rule tells, said use by use, call by call and line by line.
+-- What the abbreviation rule tells of a line, said use by use and call by call.
 use Rattle.std.specs.Prelude.{◌≡◌, ◌==◌, ℕ, ℤ, true, false, Option, Some, List, ◌∷◌, ◌++◌, nat_lt, slice_get}
 use Rattle.std.specs.List.{Contains, list_any}
 use Rattle.occ_base.specs.declared.code.Code.{Code}
@@ -13,9 +13,7 @@ use Rattle.occ_parts.specs.Selecting.{part_of}
 use Rattle.occ_parts.specs.declared.place.Place.{Place}
 use Rattle.occ_project.specs.declared.expanded.Place.{Place as Line}
 use Rattle.occ_types.specs.declared.value.Value.{Value}
-use Rattle.occ_usage.specs.Standing.{At, Stands}
-use Rattle.occ_usage.specs.Trees.{Trees}
-use Rattle.occ_alias.specs.AbbreviationRule.{line_faults, pair_faults}
+use Rattle.occ_alias.specs.AbbreviationRule.{pair_faults}
 
 -- one of the first uses writes what one of the others reads
 pub data IsChange : Code → Env → List Use → List Use → Diag → Type 0 where
@@ -51,8 +49,3 @@ pub data IsToldOf : Line → Env → List Use → List Call → Diag → Type 0 
   of_use : (line : Line) (env : Env) (us : List Use) (cs : List Call) (d : Diag) → IsToldInScope env us d → IsToldOf line env us cs d
   of_call : (line : Line) (env : Env) (us : List Use) (cs : List Call) (d : Diag) (c : Call) → Contains cs c → IsToldOfCall line env c d
       → IsToldOf line env us cs d
-
--- some line in these trees, by what stands in scope there for some choice of the known indices round it
-pub data IsToldIn : Trees → Env → Env → Diag → Type 0 where
-  at_line : (t : Trees) (outer env : Env) (d : Diag) (a : At) → Stands t outer env a → Contains (line_faults a.line.form a.env a.line.place) d
-      → IsToldIn t outer env d

@@ -77,7 +77,7 @@ fn keep_all(
 }
 
 /// Of an error and a check that are told with one code at one line with one name the error alone; the errors each once.
-pub(crate) fn graver(alloc: Global, found: Items<Diag>) -> Result<Items<Diag>, AllocError>
+pub fn graver(alloc: Global, found: Items<Diag>) -> Result<Items<Diag>, AllocError>
     ensures { IfOk result (λ diags. diags ≡ told_graver found) }
 {
     let mut errors = BTreeSet::new(alloc);

@@ -1,14 +1,15 @@
-//! The abbreviation rule: while a name stands for an element, nothing else uses that element, and nothing changes which one it
-//! is; and what a call is given.
+//! The abbreviation rule at one line: while a name stands for an element, nothing else uses that element, and nothing changes
+//! which one it is; and what a call is given.
 #![tactic(auto)]
 
 mod calling;
 mod grade;
 mod laws;
+mod line;
 mod line_calls;
 mod pairs;
 mod scope;
-mod walk;
 
-pub use laws::{line_law, place_law};
-pub use walk::alias_faults;
+pub use grade::graver;
+pub use laws::line_law;
+pub use line::line_faults;

@@ -1,5 +1,6 @@
 ghost use Rattle.std.specs.List.{list_any};
 ghost use Rattle.std.specs.Prelude.{◌≡◌, ◌++◌, ◌==◌, ℕ, OnOk};
+ghost use Rattle.occ_bounds.specs.declared.uses.Use.{Use as AUse};
 ghost use Rattle.occ_alias.specs.AbbreviationRule.{bound_faults as told_bound, element_fault as told_element, element_faults as told_elements, place_faults as told_place, scope_faults as told_scope};
 
 use super::pairs::{pair_faults, written_faults};
@@ -56,6 +57,13 @@ fn element_faults(
     Ok(())
 }
 
+/// Whether one of the uses is of a part of this root.
+fn are_of(uses: &[Use], root: usize) -> bool
+    ensures { result ≡ list_any (λ (u : AUse). root == u.part.root) uses.now }
+{
+    uses.iter().any(|found| root == found.part.root)
+}
+
 /// What is told of uses in the scope of the abbreviation with this number, which has this place.
 fn place_faults(
     alloc: Global,
@@ -70,6 +78,9 @@ fn place_faults(
     let Some(place) = place else {
         return Ok(());
     };
+    if !are_of(uses, place.root) {
+        return Ok(());
+    }
     let element = place.copied(alloc)?.into_part()?;
     element_faults(alloc, number, env, &element, uses, faults)
 }

@@ -31,7 +31,7 @@ kept_here (j ∷ js) i = by (bytes_eq j.unit i.unit) refl (kept_here js i) where
   by false e rest = ap (λ (b : Bool). cond b (Some j) (kept_of (with_kept js i) i.unit)) e ∙ rest
 
 -- and of others the same as before
-kept_other : (js : List Input) (i : Input) (u : List ℕ) → bytes_eq i.unit u ≡ false → kept_of (with_kept js i) u ≡ kept_of js u
+pub kept_other : (js : List Input) (i : Input) (u : List ℕ) → bytes_eq i.unit u ≡ false → kept_of (with_kept js i) u ≡ kept_of js u
 kept_other [] i u h = ap (λ (b : Bool). cond b (Some i) None) h
 kept_other (j ∷ js) i u h = by (bytes_eq j.unit i.unit) refl (kept_other js i u h) where
   by : (b : Bool) → bytes_eq j.unit i.unit ≡ b → kept_of (with_kept js i) u ≡ kept_of js u → kept_of (if b then i ∷ js else j ∷ with_kept js i) u ≡ kept_of (j ∷ js) u

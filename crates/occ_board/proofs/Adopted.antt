@@ -1,16 +1,21 @@
 -- A board that keeps an outcome more.
-use Rattle.std.proofs.Common.{◌≡◌, ◌∙◌, ◌<◌, Bool, true, ℕ, List, length, sym, ap, subst}
-use Rattle.occ_board.proofs.Accepted.{fewer_pending, more_done}
-use Rattle.occ_board.specs.Done.{done, done_step, pending_units}
+use Rattle.std.proofs.Common.{◌≡◌, ◌∙◌, ◌<◌, Bool, true, false, ℕ, List, length, Option, sym, ap, subst}
+use Rattle.std.specs.Str.{bytes_eq}
+use Rattle.occ_board.proofs.Accepted.{fewer_pending, kept_other, more_done}
+use Rattle.occ_board.proofs.Settled.{flag_at, is_step, step_done, step_kept, step_open, step_rests}
+use Rattle.occ_board.proofs.Spread.{placed_there}
+use Rattle.occ_board.specs.Done.{done, done_step, is_kept, is_that, pending_units}
 use Rattle.occ_board.specs.Journal.{replay}
 use Rattle.occ_board.specs.Machine.{State, files_of, pending_answer, unhanded, with_kept}
 use Rattle.occ_board.specs.declared.entry.Entry.{Entry}
-use Rattle.occ_board.specs.inside.Flagged.{IsSound}
+use Rattle.occ_board.specs.inside.Flagged.{IsFullAt, IsSound, flag_of}
 use Rattle.occ_board.specs.inside.Holding.{IsBoard}
 use Rattle.occ_board.specs.inside.Ready.{IsAcceptable}
 use Rattle.occ_check.specs.Input.{Input}
 use Rattle.occ_project.specs.Entries.{is_among}
 use Rattle.occ_project.specs.declared.reads.Read.{Read}
+use Rattle.occ_report.specs.Checks.{input}
+use Rattle.occ_units.specs.Along.{name_at}
 use Rattle.occ_units.specs.Places.{rest_units}
 use Rattle.occ_units.specs.Project.{IsProject}
 
@@ -43,6 +48,19 @@ module _ (journal : List Entry) (kept handed : List Input) (s : State) (i : Inpu
         ap (λ (fs : List Read). done fs better u) board.files_are
         ∙ ap (λ (ks : List Input). done (replay journal) ks u) same
         ∙ more_done (replay journal) (λ ks v. law (replay journal) ks v (project journal)) high.0 high.1 kept i fits.now u was
+
+    -- and of no unit but this one a flag is missing
+    pub full_still : (files : List Read) (flags : List Bool) → IsBoard journal kept files flags → (p : ℕ) → p < length files → bytes_eq i.unit (name_at files p) ≡ false → IsFullAt files better flags p
+    full_still files flags board p lt other h =
+        let u : List ℕ = name_at files p in
+        let ordered : IsProject files = subst IsProject (sym board.files_are) (project journal) in
+        let have : done_step files (with_kept kept i) u (flag_of files flags) ≡ true = sym (ap (λ (ks : List Input). done_step files ks u (flag_of files flags)) same) ∙ h in
+        let was : is_kept kept (input files u) ≡ true = sym (ap (λ (o : Option Input). is_that o (input files u)) (kept_other kept i u other)) ∙ step_kept files (with_kept kept i) u (flag_of files flags) have in
+        let step : done_step files kept u (flag_of files flags) ≡ true =
+        is_step files kept u (flag_of files flags) (step_open files (with_kept kept i) u (flag_of files flags) have) was (step_rests files (with_kept kept i) u (flag_of files flags) have)
+        in
+        let is : done files kept u ≡ true = step_done files kept (λ v. law files kept v ordered) flags u (λ v k. sym (board.flags_are v) ∙ k) step in
+        sym (flag_at files flags u p (placed_there files kept ordered p lt)) ∙ board.flags_are u ∙ is
 
     -- and one unit more is done
     pub fewer_left : (left : List Input) → pending_answer (record { journal = journal; kept = better; handed = left }) < pending_answer s

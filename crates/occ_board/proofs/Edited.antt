@@ -58,7 +58,7 @@ module _ (put_is : (files : List Read) (file : Read) (name : List ℕ) → file_
   same_input_later s session e u apart = by_answer (λ files. input files u) s session e (λ file n. same_inputs (files_of s) file u (project s.journal) (subst (λ (name : List ℕ). IsApart (files_of s) name u) (sym n) apart))
 
   module _ (done_step_is : (files : List Read) (kept : List Input) (u : List ℕ) → IsProject files → done files kept u ≡ done_step files kept u (done files kept)) where
-    same_dones : (files : List Read) (file : Read) (kept : List Input) (u : List ℕ) → IsProject files → IsApart files file.name u → done (put files file) kept u ≡ done files kept u
+    pub same_dones : (files : List Read) (file : Read) (kept : List Input) (u : List ℕ) → IsProject files → IsApart files file.name u → done (put files file) kept u ≡ done files kept u
     same_dones files file kept u h apart =
         let high = heights files h in
         let later = put_rises files file h in

@@ -1,12 +1,18 @@
 -- The inputs that are kept, where one comes in place of that of its unit.
-use Rattle.std.proofs.Common.{◌≡◌, ◌∙◌, ◌++◌, ◌<◌, Bool, true, false, ℕ, zero, suc, List, [], ◌∷◌, length, take, get_or, ◌+◌, Option, Some, None, refl, sym, ap, subst, arith, if◌then◌else◌}
+use Rattle.std.proofs.Common.{◌≡◌, ◌∙◌, ◌++◌, ◌<◌, Bool, true, false, cond, ℕ, zero, suc, List, [], ◌∷◌, length, Option, Some, None, refl, sym, ap, arith, if◌then◌else◌}
+use Rattle.std.proofs.lemmas.Map.Text.{is_eq-slice_cmp}
+use Rattle.std.proofs.lemmas.Slice.Eq.{bytes_eq-Decides}
+use Rattle.std.specs.BTreeMap.{BTreeMap, get}
 use Rattle.std.specs.List.{slice_get}
 use Rattle.std.specs.Prelude.{slice_set}
-use Rattle.std.specs.Option.{option_map}
+use Rattle.std.specs.Option.{option_and_then, option_map}
+use Rattle.std.specs.Ordering.{is_eq}
 use Rattle.std.specs.Str.{bytes_eq}
 use Rattle.occ_board.specs.Machine.{with_kept}
-use Rattle.occ_board.specs.inside.Holding.{place_in}
+use Rattle.occ_board.specs.Done.{kept_of}
+use Rattle.occ_board.specs.inside.Holding.{ArePlaces, place_in}
 use Rattle.occ_check.specs.Input.{Input}
+use Rattle.occ_project.specs.Reads.{name_cmp}
 
 pub kept_within : (js : List Input) (u : List ℕ) (p : ℕ) → place_in js u ≡ Some p → p < length js
 kept_within [] u p e = absurd cc
@@ -41,31 +47,72 @@ pub last_there : (js : List Input) (i : Input) → slice_get (js ++ i ∷ []) (l
 last_there [] i = refl
 last_there (j ∷ js) i = last_there js i
 
--- the first of a unit, where none before it is
-pub first_there : (js : List Input) (u : List ℕ) (p : ℕ) (j : Input) → place_in (take p js) u ≡ None → p < length js → j ≡ get_or js p j → bytes_eq j.unit u ≡ true → Some p ≡ place_in js u
-first_there [] u p j none lt e h = absurd (omega (arith, lt))
-first_there (k ∷ js) u zero j none lt e h = sym (ap (λ (b : Bool). if b then Some 0 else option_map suc (place_in js u)) (ap (λ (i : Input). bytes_eq i.unit u) (sym e) ∙ h))
-first_there (k ∷ js) u (suc p) j none lt e h = by (bytes_eq k.unit u) (place_in (take p js) u) none (λ n. first_there js u p j n (omega (arith, lt)) e h) where
-  by : (b : Bool) (o : Option ℕ) → (if b then Some 0 else option_map suc o) ≡ None → (o ≡ None → Some p ≡ place_in js u) → Some (suc p) ≡ (if b then Some 0 else option_map suc (place_in js u))
-  by true o n f = absurd cc
-  by false (Some q) n f = absurd cc
-  by false None n f = ap (option_map suc) (f refl)
+-- what is kept of a unit stands at its place
+behind : (j : Input) (js : List Input) (o : Option ℕ) → option_and_then (slice_get (j ∷ js)) (option_map suc o) ≡ option_and_then (slice_get js) o
+behind j js None = refl
+behind j js (Some p) = refl
 
-pub none_more : (js : List Input) (u : List ℕ) (p : ℕ) (j : Input) → place_in (take p js) u ≡ None → p < length js → j ≡ get_or js p j → bytes_eq j.unit u ≡ false → place_in (take (p + 1) js) u ≡ None
-none_more [] u p j none lt e h = absurd (omega (arith, lt))
-none_more (k ∷ js) u zero j none lt e h = ap (λ (b : Bool). if b then Some 0 else option_map suc (place_in (take 0 js) u)) (ap (λ (i : Input). bytes_eq i.unit u) (sym e) ∙ h)
-none_more (k ∷ js) u (suc p) j none lt e h =
-    let next : suc (p + 1) ≡ suc p + 1 = omega arith in
-    subst (λ (m : ℕ). place_in (take m (k ∷ js)) u ≡ None) next (by (bytes_eq k.unit u) (place_in (take p js) u) none (λ n. none_more js u p j n (omega (arith, lt)) e h))
-  where
-    by : (b : Bool) (o : Option ℕ) → (if b then Some 0 else option_map suc o) ≡ None → (o ≡ None → place_in (take (p + 1) js) u ≡ None) → (if b then Some 0 else option_map suc (place_in (take (p + 1) js) u)) ≡ None
-    by true o n f = absurd cc
-    by false (Some q) n f = absurd cc
-    by false None n f = ap (option_map suc) (f refl)
+one_of : (j : Input) (js : List Input) (found : Option Input) (b : Bool) (o : Option ℕ) → option_and_then (slice_get js) o ≡ found → option_and_then (slice_get (j ∷ js)) (if b then Some 0 else option_map suc o) ≡ cond b (Some j) found
+one_of j js found true o e = refl
+one_of j js found false o e = behind j js o ∙ e
 
--- the place of an outcome's unit, as it was looked for
-pub looked_for : (slice items : List Input) (job outcome : Input) (unit : List ℕ) (o : Option ℕ) → slice ≡ items → unit ≡ job.unit → job ≡ outcome → o ≡ place_in slice unit → place_in items outcome.unit ≡ o
-looked_for slice items job outcome unit o s u j e =
-    sym (ap (place_in items) (u ∙ ap (λ (i : Input). i.unit) j))
-    ∙ sym (ap (λ (is : List Input). place_in is unit) s)
-    ∙ sym e
+pub kept_there : (js : List Input) (u : List ℕ) → option_and_then (slice_get js) (place_in js u) ≡ kept_of js u
+kept_there [] u = refl
+kept_there (j ∷ js) u = one_of j js (kept_of js u) (bytes_eq j.unit u) (place_in js u) (kept_there js u)
+
+-- where one comes in place of another all have their places
+pub places_stay : (js : List Input) (i : Input) (u : List ℕ) (p : ℕ) → place_in js i.unit ≡ Some p → place_in (with_kept js i) u ≡ place_in js u
+places_stay [] i u p e = absurd cc
+places_stay (j ∷ js) i u p e = by (bytes_eq j.unit i.unit) refl (place_in js i.unit) e (λ k q. places_stay js i u k q) where
+  by : (b : Bool) → bytes_eq j.unit i.unit ≡ b → (o : Option ℕ) → (if b then Some 0 else option_map suc o) ≡ Some p → ((k : ℕ) → o ≡ Some k → place_in (with_kept js i) u ≡ place_in js u)
+      → place_in (if b then i ∷ js else j ∷ with_kept js i) u ≡ place_in (j ∷ js) u
+  by true h o k rest =
+      let same : j.unit ≡ i.unit = (bytes_eq-Decides j.unit i.unit).0 h in
+      ap (λ (n : List ℕ). if bytes_eq n u then Some 0 else option_map suc (place_in js u)) (sym same)
+  by false h None k rest = absurd cc
+  by false h (Some q) k rest = ap (λ (o : Option ℕ). if bytes_eq j.unit u then Some 0 else option_map suc o) (rest q refl)
+
+-- and the first of a unit has the last
+alone : (b : Bool) → (if b then Some 0 else option_map suc None) ≡ cond b (Some 0) None
+alone true = refl
+alone false = refl
+
+pub place_more : (js : List Input) (i : Input) (u : List ℕ) → place_in js i.unit ≡ None → place_in (js ++ i ∷ []) u ≡ cond (bytes_eq i.unit u) (Some (length js)) (place_in js u)
+place_more [] i u e = alone (bytes_eq i.unit u)
+place_more (j ∷ js) i u e = by (bytes_eq j.unit i.unit) refl (place_in js i.unit) refl e (λ k. place_more js i u k) where
+  mixed : (b c : Bool) → (b ≡ true → c ≡ true → ⊥) → (if b then Some 0 else option_map suc (cond c (Some (length js)) (place_in js u))) ≡ cond c (Some (suc (length js))) (if b then Some 0 else option_map suc (place_in js u))
+  mixed true true f = absurd (f refl refl)
+  mixed true false f = refl
+  mixed false true f = refl
+  mixed false false f = refl
+
+  apart : bytes_eq j.unit i.unit ≡ false → bytes_eq j.unit u ≡ true → bytes_eq i.unit u ≡ true → ⊥
+  apart h a b =
+      let one : j.unit ≡ u = (bytes_eq-Decides j.unit u).0 a in
+      let other : i.unit ≡ u = (bytes_eq-Decides i.unit u).0 b in
+      let same : bytes_eq j.unit i.unit ≡ true = (bytes_eq-Decides j.unit i.unit).1 (one ∙ sym other) in
+      cc (same, h)
+
+  by : (b : Bool) → bytes_eq j.unit i.unit ≡ b → (o : Option ℕ) → place_in js i.unit ≡ o → (if b then Some 0 else option_map suc o) ≡ None
+      → (place_in js i.unit ≡ None → place_in (js ++ i ∷ []) u ≡ cond (bytes_eq i.unit u) (Some (length js)) (place_in js u))
+      → (if bytes_eq j.unit u then Some 0 else option_map suc (place_in (js ++ i ∷ []) u)) ≡ cond (bytes_eq i.unit u) (Some (suc (length js))) (if bytes_eq j.unit u then Some 0 else option_map suc (place_in js u))
+  by true h o q n rest = absurd cc
+  by false h (Some k) q n rest = absurd cc
+  by false h None q n rest = ap (λ (o : Option ℕ). if bytes_eq j.unit u then Some 0 else option_map suc o) (rest q) ∙ mixed (bytes_eq j.unit u) (bytes_eq i.unit u) (apart h)
+
+-- the places behind a first outcome
+pub places_with : (places more : BTreeMap (List ℕ) ℕ) (js next : List Input) (i : Input) (unit : List ℕ) (n : ℕ) → ArePlaces places js → place_in js i.unit ≡ None → next ≡ js ++ i ∷ [] → unit ≡ i.unit → n ≡ length js
+    → ((u : List ℕ) → get name_cmp more u ≡ cond (is_eq (name_cmp unit u)) (Some n) (get name_cmp places u)) → ArePlaces more next
+places_with places more js next i unit n are none e s l told u =
+    told u
+    ∙ ap (λ (b : Bool). cond b (Some n) (get name_cmp places u)) (is_eq-slice_cmp unit u ∙ ap (λ (x : List ℕ). bytes_eq x u) s)
+    ∙ ap (λ (m : ℕ). cond (bytes_eq i.unit u) (Some m) (get name_cmp places u)) l
+    ∙ ap (cond (bytes_eq i.unit u) (Some (length js))) (are u)
+    ∙ sym (place_more js i u none)
+    ∙ sym (ap (λ (is : List Input). place_in is u) e)
+
+-- what stands at a place is one
+pub same_there : (js : List Input) (p : ℕ) (i j : Input) → slice_get js p ≡ Some i → slice_get js p ≡ Some j → i ≡ j
+same_there js p i j e f = one i j (sym e ∙ f) where
+  one : (a b : Input) → Some a ≡ Some b → a ≡ b
+  one a b s = cc

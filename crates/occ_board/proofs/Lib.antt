@@ -20,6 +20,9 @@ pub mod Accepted
 pub mod Edited
 pub mod Begun
 pub mod Taken
+pub mod Readers
+pub mod Spread
+pub mod Marked
 pub mod Adopted
 pub mod Least
 pub mod Working

@@ -25,7 +25,7 @@ rows_in files kept some = map (row_of files kept) (units_in some)
 abbrev pub pending_in : List Read → List Input → List Read → ℕ
 pending_in files kept some = length (filter (λ u. not (done files kept u)) (units_in some))
 
-units_more : (files : List Read) (p : ℕ) (file : Read) → p < length files → file ≡ get_or files p file → units_in (take (p + 1) files) ≡ units_in (take p files) ++ units_in (file ∷ [])
+pub units_more : (files : List Read) (p : ℕ) (file : Read) → p < length files → file ≡ get_or files p file → units_in (take (p + 1) files) ≡ units_in (take p files) ++ units_in (file ∷ [])
 units_more files p file lt e =
     ap units_in (take_more files p file lt)
     ∙ ap (map (λ file. file.name)) (filter-append is_open_unit (take p files) (get_or files p file ∷ []))
@@ -47,7 +47,7 @@ rows_more files kept p file lt e =
 abbrev pub is_pending : List Read → List Input → Read → Bool
 is_pending files kept file = cond (is_open_unit file) (not (done files kept file.name)) false
 
-one_by : (b c : Bool) (q : List ℕ → Bool) (file : Read) → q file.name ≡ c → length (filter q (map (λ file. file.name) (cond b (file ∷ []) []))) ≡ cond (cond b c false) 1 0
+pub one_by : (b c : Bool) (q : List ℕ → Bool) (file : Read) → q file.name ≡ c → length (filter q (map (λ file. file.name) (cond b (file ∷ []) []))) ≡ cond (cond b c false) 1 0
 one_by true true q file e = ap (λ (x : Bool). length (cond x (file.name ∷ []) [])) e
 one_by true false q file e = ap (λ (x : Bool). length (cond x (file.name ∷ []) [])) e
 one_by false c q file e = refl
@@ -72,7 +72,7 @@ flag_here files items kept flags p file s same are lt e =
     sym (flag_at files flags file.name p (placed files p file (subst IsProject same s) here)) ∙ are file.name
 
 -- one more file is counted
-one_more : (b c : Bool) (m n : ℕ) → m ≡ n → cond (b && c) (m + 1) m ≡ n + cond (cond b c false) 1 0
+pub one_more : (b c : Bool) (m n : ℕ) → m ≡ n → cond (b && c) (m + 1) m ≡ n + cond (cond b c false) 1 0
 one_more true true m n e = ap (λ (k : ℕ). k + 1) e
 one_more true false m n e = let k : m ≡ n + 0 = omega (arith, e) in k
 one_more false c m n e = let k : m ≡ n + 0 = omega (arith, e) in k

@@ -1,10 +1,10 @@
 -- The machine: what is at a moment, and what each event answers and leaves. No diagnostics are in its state: a report takes
 -- them from the texts.
-use Rattle.std.specs.Prelude.{ℕ, ◌+◌, Bool, true, false, not, List, [], ◌∷◌, ◌++◌, length, map, if◌then◌else◌, Option, Some, None}
+use Rattle.std.specs.Prelude.{ℕ, ◌+◌, ◌-◌, slice_get, Bool, true, false, not, List, [], ◌∷◌, ◌++◌, length, map, if◌then◌else◌, Option, Some, None}
 use Rattle.std.specs.List.{AllByRecursion, filter, find}
 use Rattle.std.specs.Str.{bytes_eq}
 use Rattle.occ_board.specs.Done.{done, is_input_among, pending_units, ready_units}
-use Rattle.occ_board.specs.Journal.{refusal, replay}
+use Rattle.occ_board.specs.Journal.{edited, refusal, replay}
 use Rattle.occ_board.specs.Same.{same_input}
 use Rattle.occ_board.specs.Verdicts.{verdict_of}
 use Rattle.occ_board.specs.declared.entry.Edit.{Edit}
@@ -15,10 +15,12 @@ use Rattle.occ_board.specs.declared.report.Shown.TheVariants as shown
 use Rattle.occ_board.specs.declared.verdict.Verdict.{Verdict}
 use Rattle.occ_board.specs.declared.verdict.Verdict.TheVariants as verdict
 use Rattle.occ_check.specs.Input.{Input, IsInput}
+use Rattle.occ_project.specs.Entries.{is_among}
 use Rattle.occ_project.specs.declared.reads.Read.{Read}
 use Rattle.occ_report.specs.Checks.{diags, input}
 use Rattle.occ_report.specs.Report.{open_units}
 use Rattle.occ_units.specs.Spelled.{IsSpelled}
+use Rattle.occ_units.specs.Units.{read_names}
 
 -- the edits that were accepted; the inputs of the outcomes that are kept, one for each unit at most; those handed out
 pub record State : Type 0 where
@@ -102,6 +104,18 @@ report_answer s = rows_of (files_of s) s.kept
 
 abbrev pub pending_answer : State → ℕ
 pending_answer s = length (pending_units (files_of s) s.kept)
+
+-- the open units that have the file of that name among their reads, in order of name
+abbrev pub readers : List Read → List ℕ → List (List ℕ)
+readers files name = filter (λ u. is_among (read_names files u) name) (open_units files)
+
+abbrev pub expanded_number : List Read → Option Entry → ℕ
+expanded_number files None = 0
+expanded_number files (Some e) = length (readers files (edited 0 e.edit).name)
+
+-- how many units the last edit made to be expanded anew: those that have its file among their reads; 0 before any edit
+abbrev pub expanded_answer : State → ℕ
+expanded_answer s = expanded_number (files_of s) (slice_get s.journal (length s.journal - 1))
 
 -- ---- events
 

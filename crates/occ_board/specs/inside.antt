@@ -2,3 +2,4 @@
 pub mod Flagged
 pub mod Holding
 pub mod Ready
+pub mod Touched

@@ -1,23 +1,28 @@
 ghost use Rattle.occ_board.specs.Done.{NoneIsHanded};
 ghost use Rattle.occ_board.specs.Journal.{IsLegal, refusal as why_refused};
-ghost use Rattle.occ_board.specs.Machine.{Answer, Event, after, answer, edit_number, files_of, finish_answer, pending_answer, report_answer, start, take_answer, unhanded, with_kept};
+ghost use Rattle.occ_board.specs.Machine.{Answer, Event, after, answer, edit_number, expanded_answer, files_of, finish_answer, pending_answer, report_answer, start, take_answer, unhanded, with_kept};
 ghost use Rattle.occ_board.specs.declared.entry.Edit.TheVariants as an_edit;
 ghost use Rattle.occ_board.specs.declared.entry.EditFault.TheVariants as fault;
 ghost use Rattle.occ_board.specs.declared.entry.EditFault.{EditFault as AFault};
 ghost use Rattle.occ_board.specs.declared.verdict.Verdict.TheVariants as verdicts;
+ghost use Rattle.occ_board.specs.inside.Flagged.{AreFlags};
 ghost use Rattle.occ_board.specs.inside.Ready.{HasJob, IsAcceptable};
+ghost use Rattle.occ_board.specs.inside.Touched.{IsBehind};
 ghost use Rattle.occ_report.specs.Checks.{input};
 ghost use Rattle.occ_units.specs.Spelled.{AreSpelled};
 ghost use Rattle.std.specs.Option.{is_some, option_map};
-ghost use Rattle.std.specs.Prelude.{◌≡◌, ◌<◌, ◌⊎◌, Err, IfErr, IfOk, IfSome, None, OnErr, OnOk, true};
+ghost use Rattle.std.specs.Prelude.{◌≡◌, ◌<◌, ◌⊎◌, Err, IfErr, IfOk, IfSome, None, OnErr, OnOk, length, true};
 
-use super::flags::{no_flags, settle};
+use super::expanding::count_readers;
+use super::flags::settle_from;
 use super::journal::refusal;
 use super::judging::judge;
-use super::keeping::{keep, unhand};
+use super::keeping::unhand;
+use super::kept::Kept;
 use super::laws::{done_law, height_law, ready_law};
 use super::report::{count_pending, rows};
 use super::taking::{job_now, next_unit};
+use super::touching::flags_behind;
 use super::{Edit, EditFault, Entry, Row, Verdict};
 use occ_base::{FileName, Items, Shared};
 use occ_check::{Job, Outcome};
@@ -32,7 +37,7 @@ use std::marker::Model;
 #[derive(Drop)]
 pub struct Board {
     journal: Vec<Entry>,
-    kept: Vec<Outcome>,
+    kept: Kept,
     handed: Vec<Job>,
     /// The graph of the project that the edits make.
     graph: Graph,
@@ -56,9 +61,9 @@ impl Model for Board {
 
     ghost use Rattle.occ_board.specs.inside.Holding.{IsBoard};
 
-    ghost view = { λ b. record { journal = b.journal.items; kept = b.kept.items; handed = b.handed.items } };
+    ghost view = { λ b. record { journal = b.journal.items; kept = b.kept; handed = b.handed.items } };
 
-    ghost invariant = { λ b. IsBoard b.journal.items b.kept.items b.graph b.flags };
+    ghost invariant = { λ b. IsBoard b.journal.items b.kept b.graph b.flags };
 }
 
 impl Board {
@@ -69,7 +74,7 @@ impl Board {
         done_law();
         Board {
             journal: Vec::new(alloc),
-            kept: Vec::new(alloc),
+            kept: Kept::new(alloc),
             handed: Vec::new(alloc),
             graph: Graph::new(alloc),
             flags: Items::new(alloc),
@@ -150,13 +155,34 @@ impl Board {
     {
         put_law();
         let number = self.journal.len() as u32 + 1;
-        let graph = self.graph.with(alloc, edit.name(), number, edit.shared()?)?;
-        let mut flags = no_flags(alloc, graph.project().files().len())?;
-        settle(&graph, self.kept.as_slice(), &mut flags);
+        let name = edit.name();
+        let graph = self.graph.with(alloc, name, number, edit.shared()?)?;
+        let flags = self.flags_behind(alloc, &graph, name)?;
         self.journal.push(Entry { session, edit })?;
         self.graph = graph;
         self.flags = flags;
         Ok(number)
+    }
+
+    /// The flags of the units that are done by this graph, which is of the project behind the edit of a file.
+    fn flags_behind(
+        &self,
+        alloc: Global,
+        graph: &Graph,
+        edited: FileName,
+    ) -> Result<Items<bool>, AllocError>
+        requires { IsBehind (files_of self.now) graph.now edited }
+        ensures len { IfOk result (λ flags. length flags ≡ length graph.now) }
+        ensures flags { IfOk result (λ flags. AreFlags graph.now self.now.kept flags) }
+    {
+        flags_behind(
+            alloc,
+            &self.graph,
+            graph,
+            &self.kept,
+            self.flags.as_slice(),
+            edited,
+        )
     }
 
     /// Hands out the job of the least unit that is ready and whose present job is not handed out, if there is one. There is
@@ -184,7 +210,7 @@ impl Board {
     {
         next_unit(
             &self.graph,
-            self.kept.as_slice(),
+            &self.kept,
             self.handed.as_slice(),
             self.flags.as_slice(),
         )
@@ -195,7 +221,7 @@ impl Board {
         requires { HasJob (files_of self.now) self.now.kept unit }
         ensures { IfOk result (λ job. job ≡ input (files_of self.now) unit) }
     {
-        job_now(alloc, &self.graph, self.kept.as_slice(), unit)
+        job_now(alloc, &self.graph, &self.kept, unit)
     }
 
     /// Judges an outcome, and keeps it if it is accepted. Its job is handed out no more. Where memory is refused, which
@@ -224,9 +250,10 @@ impl Board {
     {
         done_law();
         height_law();
-        let place = keep(&mut self.kept, outcome)?;
-        unhand(&mut self.handed, self.kept[place].job());
-        settle(&self.graph, self.kept.as_slice(), &mut self.flags);
+        let place = self.kept.keep(outcome)?;
+        let job = self.kept.at(place).job();
+        unhand(&mut self.handed, job);
+        settle_from(&self.graph, &self.kept, &mut self.flags, job.unit());
         Ok(())
     }
 
@@ -238,7 +265,7 @@ impl Board {
         judge(
             &self.graph,
             self.journal.len(),
-            self.kept.as_slice(),
+            &self.kept,
             self.flags.as_slice(),
             job,
         )
@@ -255,19 +282,25 @@ impl Board {
     pub fn report(&self, alloc: Global) -> Result<Items<Row>, AllocError>
         ensures { IfOk result (λ rows. rows ≡ report_answer self.now) }
     {
-        rows(
-            alloc,
-            &self.graph,
-            self.kept.as_slice(),
-            self.flags.as_slice(),
-        )
+        rows(alloc, &self.graph, &self.kept, self.flags.as_slice())
     }
 
     /// How many open units are pending.
     pub fn pending(&self) -> usize
         ensures { result ≡ pending_answer self.now }
     {
-        count_pending(&self.graph, self.kept.as_slice(), self.flags.as_slice())
+        count_pending(&self.graph, &self.kept, self.flags.as_slice())
+    }
+
+    /// How many units the last edit made to be expanded anew: the open units that have its file among their reads. 0 before
+    /// any edit.
+    pub fn expanded(&self) -> u32
+        ensures { result ≡ expanded_answer self.now }
+    {
+        match self.journal.last() {
+            Some(entry) => count_readers(&self.graph, entry.edit.name()),
+            None => 0,
+        }
     }
 
     /// The edits that were accepted, in order. The first has number 1. The files that they make have the lines that their

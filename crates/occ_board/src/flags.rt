@@ -5,14 +5,16 @@ ghost use Rattle.occ_units.specs.Along.{name_at};
 ghost use Rattle.occ_units.specs.Places.{graph_of, rest_units};
 ghost use Rattle.occ_units.specs.Project.{IsProject};
 ghost use Rattle.std.specs.List.{list_all};
-ghost use Rattle.std.specs.Prelude.{◌≡◌, ◌<◌, IfOk, IsFalse, IsTrue, Some, false, get_or, length, replicate, slice_get, true};
+ghost use Rattle.std.specs.Prelude.{◌≡◌, ◌<◌, ◌≤◌, ◌⊎◌, IfOk, IsFalse, IsTrue, Some, false, get_or, length, replicate, slice_get, slice_set, true, ℕ};
+ghost use Rattle.std.specs.Str.{bytes_eq};
 
+use super::kept::Kept;
 use super::laws::{done_law, height_law};
 use super::present::is_kept_now;
 use occ_base::{FileName, Items};
-use occ_check::Outcome;
 use occ_project::Read;
 use occ_units::Graph;
+use occ_units::laws::users_law;
 use sqlite_items::at;
 use std::alloc::{AllocError, Global};
 
@@ -78,7 +80,7 @@ pub fn are_rests_flagged(graph: &Graph, flags: &[bool], place: usize) -> bool
 }
 
 /// Whether the file at a place is done, as far as the flags tell.
-fn is_file_done(graph: &Graph, kept: &[Outcome], flags: &[bool], place: usize, file: &Read) -> bool
+fn is_file_done(graph: &Graph, kept: &Kept, flags: &[bool], place: usize, file: &Read) -> bool
     requires project { IsProject graph.now }
     requires file { slice_get graph.now place ≡ Some file.now }
     requires sound { IsSound graph.now kept.now flags.now }
@@ -90,11 +92,11 @@ fn is_file_done(graph: &Graph, kept: &[Outcome], flags: &[bool], place: usize, f
     if !are_rests_flagged(graph, flags, place) {
         return false;
     }
-    is_kept_now(graph, kept, file.name)
+    is_kept_now(graph, kept, place, file.name)
 }
 
 /// The same of a place.
-fn is_done_by(graph: &Graph, kept: &[Outcome], flags: &[bool], place: usize) -> bool
+fn is_done_by(graph: &Graph, kept: &Kept, flags: &[bool], place: usize) -> bool
     requires within { place < length graph.now }
     requires sound { IsSound graph.now kept.now flags.now }
     ensures value { result ≡ done_step graph.now kept.now (name_at graph.now place) (flag_of graph.now flags.now) }
@@ -108,13 +110,14 @@ fn is_done_by(graph: &Graph, kept: &[Outcome], flags: &[bool], place: usize) -> 
 }
 
 /// Sets the flag of a unit that is done by the flags that are set, and tells whether it did.
-fn advance(graph: &Graph, kept: &[Outcome], flags: &mut Items<bool>, place: usize) -> bool
+fn advance(graph: &Graph, kept: &Kept, flags: &mut Items<bool>, place: usize) -> bool
     requires within { place < length graph.now }
     requires len { length flags.old ≡ length graph.now }
     requires sound { IsSound graph.now kept.now flags.old }
     ensures len { length flags.new ≡ length graph.now }
     ensures sound { IsSound graph.now kept.now flags.new }
     ensures fewer { IsTrue result → unflagged flags.new < unflagged flags.old }
+    ensures set { IsTrue result → flags.new ≡ slice_set flags.old place true }
     ensures same { IsFalse result → flags.new ≡ flags.old }
     ensures full { IsFalse result → IsFullAt graph.now kept.now flags.new place }
 {
@@ -126,7 +129,7 @@ fn advance(graph: &Graph, kept: &[Outcome], flags: &mut Items<bool>, place: usiz
 }
 
 /// Goes once through all units, and tells whether it set a flag.
-fn pass(graph: &Graph, kept: &[Outcome], flags: &mut Items<bool>) -> bool
+fn pass(graph: &Graph, kept: &Kept, flags: &mut Items<bool>) -> bool
     requires len { length flags.old ≡ length graph.now }
     requires sound { IsSound graph.now kept.now flags.old }
     ensures len { length flags.new ≡ length graph.now }
@@ -144,7 +147,7 @@ fn pass(graph: &Graph, kept: &[Outcome], flags: &mut Items<bool>) -> bool
 }
 
 /// Sets the flags of all units that are done. It takes no memory.
-pub fn settle(graph: &Graph, kept: &[Outcome], flags: &mut Items<bool>)
+pub fn settle(graph: &Graph, kept: &Kept, flags: &mut Items<bool>)
     requires len { length flags.old ≡ length graph.now }
     requires sound { IsSound graph.now kept.now flags.old }
     ensures len { length flags.new ≡ length graph.now }
@@ -154,4 +157,44 @@ pub fn settle(graph: &Graph, kept: &[Outcome], flags: &mut Items<bool>)
     done_law();
     height_law();
     while pass(graph, kept, flags) {}
+}
+
+/// Sets the flag of the unit at a place, if it is done by the flags that are set, and then so of each that rests on it. If
+/// no other flag was missing, none is then. It takes no memory, and goes no deeper than there are units.
+#[cycle(spread)]
+pub fn spread(graph: &Graph, kept: &Kept, flags: &mut Items<bool>, place: usize)
+    requires within { place < length graph.now }
+    requires len { length flags.old ≡ length graph.now }
+    requires sound { IsSound graph.now kept.now flags.old }
+    ensures len { length flags.new ≡ length graph.now }
+    ensures sound { IsSound graph.now kept.now flags.new }
+    ensures least { unflagged flags.new ≤ unflagged flags.old }
+    ensures full { (p : ℕ) → p < length graph.now → IsFullAt graph.now kept.now flags.old p ⊎ (place ≡ p) → IsFullAt graph.now kept.now flags.new p }
+{
+    let _files = graph.project().files();
+    users_law();
+    if !advance(graph, kept, flags, place) {
+        return;
+    }
+    let users = graph.users(place);
+    for user in users {
+        spread(graph, kept, flags, *user);
+    }
+}
+
+/// Sets the flags of all units that are done, where none was missing but that of this unit. It takes no memory.
+pub fn settle_from(graph: &Graph, kept: &Kept, flags: &mut Items<bool>, unit: FileName)
+    requires len { length flags.old ≡ length graph.now }
+    requires sound { IsSound graph.now kept.now flags.old }
+    requires full { (p : ℕ) → p < length graph.now → bytes_eq unit (name_at graph.now p) ≡ false → IsFullAt graph.now kept.now flags.old p }
+    ensures len { length flags.new ≡ length graph.now }
+    ensures flags { AreFlags graph.now kept.now flags.new }
+{
+    let _files = graph.project().files();
+    done_law();
+    height_law();
+    let Some(place) = graph.project().place(unit) else {
+        return;
+    };
+    spread(graph, kept, flags, place);
 }

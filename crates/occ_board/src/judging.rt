@@ -12,9 +12,10 @@ ghost use Rattle.std.specs.Prelude.{◌≡◌, ◌&&◌, None, cond, map, not};
 use super::Verdict;
 use super::comparing::Same;
 use super::flags::has_flag;
-use super::present::{is_read_now, is_unit_now, kept_of};
+use super::kept::Kept;
+use super::present::{hint_of, is_read_now, is_unit_now};
 use occ_base::FileName;
-use occ_check::{Job, Outcome, UsedUnit};
+use occ_check::{Job, UsedUnit};
 use occ_project::Read;
 use occ_units::laws::reads_law;
 use occ_units::{Graph, Project, Standing};
@@ -31,12 +32,12 @@ fn off_read(project: &Project, accepted: usize, read: &Read) -> Verdict
 }
 
 /// What the first read decides that is not of its file as that is at present.
-fn judge_reads(project: &Project, accepted: usize, reads: &[Read]) -> Option<Verdict>
+fn judge_reads(project: &Project, accepted: usize, hint: usize, reads: &[Read]) -> Option<Verdict>
     ensures value { result ≡ reads_verdict project.now accepted reads.now }
     ensures now { result ≡ None → reads.now ≡ map (λ read. file_of project.now read.name) reads.now }
 {
     for read in reads {
-        if !is_read_now(project, read) {
+        if !is_read_now(project, hint, read) {
             return Some(off_read(project, accepted, read));
         }
     }
@@ -44,31 +45,39 @@ fn judge_reads(project: &Project, accepted: usize, reads: &[Read]) -> Option<Ver
 }
 
 /// Whether a used unit is open, in no circle with its user and without its flag.
-fn is_waiting(graph: &Graph, flags: &[bool], user: FileName, unit: FileName) -> bool
+fn is_waiting(graph: &Graph, flags: &[bool], hint: usize, user: FileName, unit: FileName) -> bool
     ensures { result ≡ (is_below (standing_of graph.now user unit) && not (flag_of graph.now flags.now unit)) }
 {
-    match graph.standing(user, unit) {
+    match graph.standing_near(hint, user, unit) {
         Standing::Below => !has_flag(graph, flags, unit),
         _ => false,
     }
 }
 
 /// Whether a used unit is open, in no circle with its user and pending, or stands otherwise than at present.
-fn is_off(graph: &Graph, kept: &[Outcome], flags: &[bool], user: FileName, one: &UsedUnit) -> bool
+fn is_off(
+    graph: &Graph,
+    kept: &Kept,
+    flags: &[bool],
+    hint: usize,
+    user: FileName,
+    one: &UsedUnit,
+) -> bool
     requires { AreFlags graph.now kept.now flags.now }
     ensures { result ≡ is_off_now graph.now kept.now user one.now }
 {
-    if is_waiting(graph, flags, user, one.unit) {
+    if is_waiting(graph, flags, hint, user, one.unit) {
         return true;
     }
-    !is_unit_now(graph, kept, user, one)
+    !is_unit_now(graph, kept, hint, user, one)
 }
 
 /// What the first used unit decides that is so.
 fn judge_used(
     graph: &Graph,
-    kept: &[Outcome],
+    kept: &Kept,
     flags: &[bool],
+    hint: usize,
     user: FileName,
     used: &[UsedUnit],
 ) -> Option<Verdict>
@@ -76,7 +85,7 @@ fn judge_used(
     ensures { result ≡ option_map (λ one. verdict.Stale one.unit) (find (is_off_now graph.now kept.now user) used.now) }
 {
     for one in used {
-        if is_off(graph, kept, flags, user, one) {
+        if is_off(graph, kept, flags, hint, user, one) {
             return Some(Verdict::Stale(one.unit));
         }
     }
@@ -84,24 +93,24 @@ fn judge_used(
 }
 
 /// Whether the outcome that is kept of its unit is of the same job.
-fn is_repeated(kept: &[Outcome], job: &Job) -> bool
+fn is_repeated(kept: &Kept, job: &Job) -> bool
     ensures { result ≡ is_kept kept.now job.now }
 {
-    match kept_of(kept, job.unit()) {
+    match kept.get(job.unit()) {
         Some(outcome) => outcome.job().is_same(job),
         None => false,
     }
 }
 
 /// What becomes of an outcome of a job whose reads are of their files as they are at present.
-fn judge_now(graph: &Graph, kept: &[Outcome], flags: &[bool], job: &Job) -> Verdict
+fn judge_now(graph: &Graph, kept: &Kept, flags: &[bool], hint: usize, job: &Job) -> Verdict
     requires flags { AreFlags graph.now kept.now flags.now }
     requires now { job.now.reads ≡ map (λ read. file_of graph.now read.name) job.now.reads }
     ensures value { result ≡ or_else (uses_verdict graph.now kept.now job.now) (cond (is_kept kept.now job.now) verdict.Repeated verdict.Accepted) }
     ensures acceptable { result ≡ verdict.Accepted → IsAcceptable graph.now kept.now job.now }
 {
     reads_law();
-    match judge_used(graph, kept, flags, job.unit(), job.used()) {
+    match judge_used(graph, kept, flags, hint, job.unit(), job.used()) {
         Some(verdict) => verdict,
         None => {
             if is_repeated(kept, job) {
@@ -114,13 +123,14 @@ fn judge_now(graph: &Graph, kept: &[Outcome], flags: &[bool], job: &Job) -> Verd
 }
 
 /// What becomes of an outcome of a job, where so many edits were accepted.
-pub fn judge(graph: &Graph, accepted: usize, kept: &[Outcome], flags: &[bool], job: &Job) -> Verdict
+pub fn judge(graph: &Graph, accepted: usize, kept: &Kept, flags: &[bool], job: &Job) -> Verdict
     requires { AreFlags graph.now kept.now flags.now }
     ensures value { result ≡ verdict_of graph.now accepted kept.now job.now }
     ensures acceptable { result ≡ verdict.Accepted → IsAcceptable graph.now kept.now job.now }
 {
-    match judge_reads(graph.project(), accepted, job.reads().as_slice()) {
+    let hint = hint_of(graph, job.unit());
+    match judge_reads(graph.project(), accepted, hint, job.reads().as_slice()) {
         Some(verdict) => verdict,
-        None => judge_now(graph, kept, flags, job),
+        None => judge_now(graph, kept, flags, hint, job),
     }
 }

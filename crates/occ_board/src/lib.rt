@@ -5,16 +5,19 @@
 mod board;
 mod comparing;
 mod entry;
+mod expanding;
 mod flags;
 mod journal;
 mod judging;
 mod keeping;
+mod kept;
 pub mod laws;
 mod present;
 mod report;
 pub mod rows;
 mod sources;
 mod taking;
+mod touching;
 mod verdict;
 
 pub use board::Board;

@@ -1,67 +1,56 @@
-ghost use Rattle.occ_board.specs.Done.{done, is_kept, kept_of as the_kept_of};
+ghost use Rattle.occ_board.specs.Done.{done, is_kept};
 ghost use Rattle.occ_board.specs.Same.{same_input};
 ghost use Rattle.occ_board.specs.Verdicts.{is_as_read};
 ghost use Rattle.occ_board.specs.inside.Ready.{AreRested, is_rested};
-ghost use Rattle.occ_check.specs.Diagnostics.{interface_of};
 ghost use Rattle.occ_report.specs.Checks.{checked, input, used_as, used_unit};
 ghost use Rattle.occ_units.specs.Places.{is_below, standing_of};
 ghost use Rattle.occ_units.specs.Project.{file_of};
-ghost use Rattle.std.specs.Option.{option_and_then, option_copied};
+ghost use Rattle.std.specs.Option.{option_copied};
 ghost use Rattle.std.specs.Prelude.{◌≡◌, ◌↔◌, IsTrue, map, true};
 
 use super::comparing::{Same, are_same_sources};
+use super::kept::Kept;
 use super::laws::kept_law;
 use occ_base::{FileName, Shared};
-use occ_check::{Job, Outcome, Used, UsedUnit};
+use occ_check::{Job, Used, UsedUnit};
 use occ_project::Read;
 use occ_report::laws::input_law;
 use occ_types::Interface;
 use occ_units::{Graph, Project, Standing};
 
-/// The outcome that is kept of a unit.
-pub fn kept_of(kept: &[Outcome], unit: FileName) -> Option<&Outcome>
-    ensures { option_copied result ≡ the_kept_of kept.now unit }
-{
-    for outcome in kept {
-        if outcome.job().unit() == unit {
-            return Some(outcome);
-        }
+/// Where a unit is looked for first. It promises nothing: a hint that is wrong costs time.
+pub fn hint_of(graph: &Graph, unit: FileName) -> usize {
+    match graph.project().place(unit) {
+        Some(place) => place,
+        None => 0,
     }
-    None
 }
 
-/// What a unit shows by the outcome that is kept of it.
-pub fn shown_of(kept: &[Outcome], unit: FileName) -> Option<&Shared<Interface>>
-    ensures { option_copied result ≡ option_and_then interface_of (the_kept_of kept.now unit) }
-{
-    kept_of(kept, unit)?.interface()
-}
-
-/// Whether a read is of the file of its name as that is at present.
-pub fn is_read_now(project: &Project, read: &Read) -> bool
+/// Whether a read is of the file of its name, which is looked for at a place first, as that is at present.
+pub fn is_read_now(project: &Project, hint: usize, read: &Read) -> bool
     ensures value { result ≡ is_as_read read.now (file_of project.now read.now.name) }
     ensures one { IsTrue result ↔ (read.now ≡ file_of project.now read.now.name) }
 {
-    read.revision == project.revision(read.name)
-        && are_same_sources(read.source.as_ref(), project.get(read.name))
+    read.revision == project.revision_near(hint, read.name)
+        && are_same_sources(read.source.as_ref(), project.get_near(hint, read.name))
 }
 
 /// Whether a read is of the file of that name as that is at present.
-fn is_read_of(project: &Project, read: &Read, name: FileName) -> bool
+fn is_read_of(project: &Project, hint: usize, read: &Read, name: FileName) -> bool
     ensures { IsTrue result ↔ (read.now ≡ file_of project.now name) }
 {
-    read.name == name && is_read_now(project, read)
+    read.name == name && is_read_now(project, hint, read)
 }
 
 /// Whether the reads are of the files of these names as they are at present.
-fn are_reads_now(project: &Project, reads: &[Read], names: &[FileName]) -> bool
+fn are_reads_now(project: &Project, hint: usize, reads: &[Read], names: &[FileName]) -> bool
     ensures { IsTrue result ↔ (reads.now ≡ map (file_of project.now) names.now) }
 {
     if reads.len() != names.len() {
         return false;
     }
     for i in 0..reads.len() {
-        if !is_read_of(project, &reads[i], names[i]) {
+        if !is_read_of(project, hint, &reads[i], names[i]) {
             return false;
         }
     }
@@ -83,8 +72,9 @@ fn is_used_as(used: &Used, standing: Standing, shown: Option<&Shared<Interface>>
     }
 }
 
-/// Whether a used unit stands to its user as it does at present. If the user rests on it, it is done.
-pub fn is_unit_now(graph: &Graph, kept: &[Outcome], user: FileName, one: &UsedUnit) -> bool
+/// Whether a used unit stands to its user, which is looked for at a place first, as it does at present. If the user rests on
+/// it, it is done.
+pub fn is_unit_now(graph: &Graph, kept: &Kept, hint: usize, user: FileName, one: &UsedUnit) -> bool
     requires done { is_below (standing_of graph.now user one.now.unit) ≡ true → done graph.now kept.now one.now.unit ≡ true }
     ensures { IsTrue result ↔ (one.now ≡ used_unit graph.now user (checked graph.now) one.now.unit) }
 {
@@ -93,8 +83,8 @@ pub fn is_unit_now(graph: &Graph, kept: &[Outcome], user: FileName, one: &UsedUn
     input_law();
     is_used_as(
         &one.used,
-        graph.standing(user, one.unit),
-        shown_of(kept, one.unit),
+        graph.standing_near(hint, user, one.unit),
+        kept.shown(one.unit),
     )
 }
 
@@ -102,7 +92,8 @@ pub fn is_unit_now(graph: &Graph, kept: &[Outcome], user: FileName, one: &UsedUn
 /// done.
 fn is_unit_of(
     graph: &Graph,
-    kept: &[Outcome],
+    kept: &Kept,
+    hint: usize,
     user: FileName,
     one: &UsedUnit,
     name: FileName,
@@ -110,13 +101,14 @@ fn is_unit_of(
     requires done { is_below (standing_of graph.now user name) ≡ true → done graph.now kept.now name ≡ true }
     ensures { IsTrue result ↔ (one.now ≡ used_unit graph.now user (checked graph.now) name) }
 {
-    one.unit == name && is_unit_now(graph, kept, user, one)
+    one.unit == name && is_unit_now(graph, kept, hint, user, one)
 }
 
 /// Whether the used units are those of these names, and stand to their user as they do at present.
 fn are_units_now(
     graph: &Graph,
-    kept: &[Outcome],
+    kept: &Kept,
+    hint: usize,
     user: FileName,
     used: &[UsedUnit],
     names: &[FileName],
@@ -128,30 +120,43 @@ fn are_units_now(
         return false;
     }
     for i in 0..used.len() {
-        if !is_unit_of(graph, kept, user, &used[i], names[i]) {
+        if !is_unit_of(graph, kept, hint, user, &used[i], names[i]) {
             return false;
         }
     }
     true
 }
 
-/// Whether a job looks at what is so of a unit at present. All that the unit rests on is done.
-pub fn is_present(graph: &Graph, kept: &[Outcome], unit: FileName, job: &Job) -> bool
+/// Whether a job looks at what is so at present of a unit, which is looked for at a place first. All that the unit rests on is
+/// done.
+pub fn is_present(graph: &Graph, kept: &Kept, hint: usize, unit: FileName, job: &Job) -> bool
     requires { is_rested graph.now kept.now unit ≡ true }
     ensures { result ≡ same_input job.now (input graph.now unit) }
 {
     job.unit() == unit
-        && are_reads_now(graph.project(), job.reads().as_slice(), graph.reads(&unit))
-        && are_units_now(graph, kept, unit, job.used(), graph.uses(unit))
+        && are_reads_now(
+            graph.project(),
+            hint,
+            job.reads().as_slice(),
+            graph.reads_near(hint, &unit),
+        )
+        && are_units_now(
+            graph,
+            kept,
+            hint,
+            unit,
+            job.used(),
+            graph.uses_near(hint, unit),
+        )
 }
 
-/// Whether the outcome that is kept of a unit looked at what is so at present.
-pub fn is_kept_now(graph: &Graph, kept: &[Outcome], unit: FileName) -> bool
+/// Whether the outcome that is kept of a unit, which is looked for at a place first, looked at what is so at present.
+pub fn is_kept_now(graph: &Graph, kept: &Kept, hint: usize, unit: FileName) -> bool
     requires { is_rested graph.now kept.now unit ≡ true }
     ensures { result ≡ is_kept kept.now (input graph.now unit) }
 {
-    match kept_of(kept, unit) {
-        Some(outcome) => is_present(graph, kept, unit, outcome.job()),
+    match kept.get(unit) {
+        Some(outcome) => is_present(graph, kept, hint, unit, outcome.job()),
         None => false,
     }
 }

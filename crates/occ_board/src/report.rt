@@ -7,10 +7,9 @@ ghost use Rattle.occ_report.specs.Report.{is_open_unit};
 ghost use Rattle.std.specs.Prelude.{◌≡◌, ◌<◌, ◌+◌, ◌^◌, ◌&&◌, ◌∷◌, ◌++◌, [], IfOk, OnOk, cond, length, not, true};
 
 use super::flags::is_flagged;
+use super::kept::Kept;
 use super::laws::kept_law;
-use super::present::kept_of;
 use occ_base::{Diag, FileName, Items};
-use occ_check::Outcome;
 use occ_project::Read;
 use occ_report::laws::input_law;
 use occ_units::Graph;
@@ -64,7 +63,7 @@ fn all_copied(alloc: Global, diags: &[Diag]) -> Result<Items<Diag>, AllocError>
 fn diags_of(
     alloc: Global,
     graph: &Graph,
-    kept: &[Outcome],
+    kept: &Kept,
     unit: FileName,
 ) -> Result<Items<Diag>, AllocError>
     requires { is_done graph.now kept.now unit ≡ true }
@@ -73,7 +72,7 @@ fn diags_of(
     let _files = graph.project().files();
     kept_law();
     input_law();
-    match kept_of(kept, unit) {
+    match kept.get(unit) {
         Some(outcome) => all_copied(alloc, outcome.diags()),
         None => unreachable!(),
     }
@@ -83,7 +82,7 @@ fn diags_of(
 fn show(
     alloc: Global,
     graph: &Graph,
-    kept: &[Outcome],
+    kept: &Kept,
     done: bool,
     unit: FileName,
 ) -> Result<Shown, AllocError>
@@ -101,7 +100,7 @@ fn show(
 fn add_row(
     alloc: Global,
     graph: &Graph,
-    kept: &[Outcome],
+    kept: &Kept,
     done: bool,
     file: &Read,
     rows: &mut Items<Row>,
@@ -122,7 +121,7 @@ fn add_row(
 pub fn rows(
     alloc: Global,
     graph: &Graph,
-    kept: &[Outcome],
+    kept: &Kept,
     flags: &[bool],
 ) -> Result<Items<Row>, AllocError>
     requires { AreFlags graph.now kept.now flags.now }
@@ -152,7 +151,7 @@ fn counted(count: usize, is_one: bool) -> usize
 }
 
 /// How many open units are not done.
-pub fn count_pending(graph: &Graph, kept: &[Outcome], flags: &[bool]) -> usize
+pub fn count_pending(graph: &Graph, kept: &Kept, flags: &[bool]) -> usize
     requires { AreFlags graph.now kept.now flags.now }
     ensures { result ≡ length (pending_units graph.now kept.now) }
 {

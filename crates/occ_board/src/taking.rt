@@ -9,11 +9,12 @@ ghost use Rattle.std.specs.Option.{option_copied, option_map};
 ghost use Rattle.std.specs.Prelude.{◌≡◌, IfOk, IfSome, Some, map, slice_get, true};
 
 use super::flags::{are_rests_flagged, is_flagged};
+use super::kept::Kept;
 use super::laws::kept_law;
-use super::present::{is_present, shown_of};
+use super::present::{hint_of, is_present};
 use super::report::is_pending;
 use occ_base::{FileName, Items, Shared};
-use occ_check::{Job, JobFault, Outcome, Used, UsedUnit};
+use occ_check::{Job, Used, UsedUnit};
 use occ_project::Read;
 use occ_report::laws::{input_law, job_law};
 use occ_types::Interface;
@@ -32,10 +33,11 @@ fn used_as(standing: Standing, shown: Option<&Shared<Interface>>) -> Result<Used
     }
 }
 
-/// A used unit as it stands at present to its user. If the user rests on it, it is done.
+/// A used unit as it stands at present to its user, which is looked for at a place first. If the user rests on it, it is done.
 fn unit_now(
     graph: &Graph,
-    kept: &[Outcome],
+    kept: &Kept,
+    hint: usize,
     user: FileName,
     unit: FileName,
 ) -> Result<UsedUnit, AllocError>
@@ -45,7 +47,7 @@ fn unit_now(
     let _files = graph.project().files();
     kept_law();
     input_law();
-    let used = used_as(graph.standing(user, unit), shown_of(kept, unit))?;
+    let used = used_as(graph.standing_near(hint, user, unit), kept.shown(unit))?;
     Ok(UsedUnit { unit, used })
 }
 
@@ -53,7 +55,8 @@ fn unit_now(
 fn units_now(
     alloc: Global,
     graph: &Graph,
-    kept: &[Outcome],
+    kept: &Kept,
+    hint: usize,
     user: FileName,
     units: &[FileName],
 ) -> Result<Items<UsedUnit>, AllocError>
@@ -62,39 +65,30 @@ fn units_now(
 {
     let mut used = Items::new(alloc);
     for unit in units {
-        used.push(unit_now(graph, kept, user, *unit)?)?;
+        used.push(unit_now(graph, kept, hint, user, *unit)?)?;
     }
     Ok(used)
 }
 
 /// The job of an open unit that looks at what is so at present.
-pub fn job_now(
-    alloc: Global,
-    graph: &Graph,
-    kept: &[Outcome],
-    unit: FileName,
-) -> Result<Job, AllocError>
+pub fn job_now(alloc: Global, graph: &Graph, kept: &Kept, unit: FileName) -> Result<Job, AllocError>
     requires { HasJob graph.now kept.now unit }
     ensures { IfOk result (λ job. job ≡ input graph.now unit) }
 {
-    let reads = graph.project().reads(alloc, graph.reads(&unit))?;
-    let used = units_now(alloc, graph, kept, unit, graph.uses(unit))?;
+    let hint = hint_of(graph, unit);
+    let reads = graph.project().reads(alloc, graph.reads_near(hint, &unit))?;
+    let used = units_now(alloc, graph, kept, hint, unit, graph.uses_near(hint, unit))?;
     job_law();
-    match Job::new(alloc, unit, reads, used) {
-        Ok(job) => Ok(job),
-        Err(JobFault::Memory) => Err(AllocError),
-        Err(JobFault::Reads) => unreachable!(),
-        Err(JobFault::Used) => unreachable!(),
-    }
+    Ok(Job::of(unit, reads, used))
 }
 
 /// Whether one of these jobs looks at what is so of a unit at present. All that the unit rests on is done.
-fn is_handed(graph: &Graph, kept: &[Outcome], handed: &[Job], unit: FileName) -> bool
+fn is_handed(graph: &Graph, kept: &Kept, handed: &[Job], hint: usize, unit: FileName) -> bool
     requires { is_rested graph.now kept.now unit ≡ true }
     ensures { result ≡ is_input_among handed.now (input graph.now unit) }
 {
     for job in handed {
-        if is_present(graph, kept, unit, job) {
+        if is_present(graph, kept, hint, unit, job) {
             return true;
         }
     }
@@ -104,7 +98,7 @@ fn is_handed(graph: &Graph, kept: &[Outcome], handed: &[Job], unit: FileName) ->
 /// Whether the file at a place is a unit that is ready and whose present job is not handed out.
 fn is_next(
     graph: &Graph,
-    kept: &[Outcome],
+    kept: &Kept,
     handed: &[Job],
     flags: &[bool],
     place: usize,
@@ -122,16 +116,11 @@ fn is_next(
     if !are_rests_flagged(graph, flags, place) {
         return false;
     }
-    !is_handed(graph, kept, handed, file.name)
+    !is_handed(graph, kept, handed, place, file.name)
 }
 
 /// The least unit that is ready and whose present job is not handed out.
-pub fn next_unit(
-    graph: &Graph,
-    kept: &[Outcome],
-    handed: &[Job],
-    flags: &[bool],
-) -> Option<FileName>
+pub fn next_unit(graph: &Graph, kept: &Kept, handed: &[Job], flags: &[bool]) -> Option<FileName>
     requires { AreFlags graph.now kept.now flags.now }
     ensures next { option_map (input graph.now) result ≡ next_input graph.now kept.now handed.now }
     ensures job { IfSome result (λ unit. HasJob graph.now kept.now unit) }

@@ -2,7 +2,7 @@
 -- whatever the language is.
 use Rattle.std.specs.Prelude.{ℕ, List, [], ◌∷◌, ◌++◌, Some, None}
 use Rattle.std.specs.List.{flat_map}
-use Rattle.occ_alias.specs.AbbreviationRule.{abbreviation_faults}
+use Rattle.occ_usage.specs.AbbreviationRule.{abbreviation_faults}
 use Rattle.occ_base.specs.declared.diag.Diag.{Diag}
 use Rattle.occ_check.specs.declared.language.Judgement.{Judgement}
 use Rattle.occ_check.specs.declared.used.Used.{Used}

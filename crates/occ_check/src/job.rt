@@ -132,6 +132,14 @@ impl Job {
         Ok(Job { unit, reads, used })
     }
 
+    /// The job that looks at these, of which it is known that there is one.
+    pub fn of(unit: FileName, reads: Reads, used: Items<UsedUnit>) -> Job
+        requires { IsInput (record { unit = unit; reads = reads; used = used }) }
+        ensures { result ≡ record { unit = unit; reads = reads; used = used } }
+    {
+        Job { unit, reads, used }
+    }
+
     /// The unit that is checked.
     pub fn unit(&self) -> FileName
         ensures value { result ≡ self.now.unit }

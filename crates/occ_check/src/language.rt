@@ -5,7 +5,6 @@ ghost use Rattle.occ_typing.specs.TypedLines.{typed_unit};
 ghost use Rattle.occ_typing.specs.Units.{type_faults};
 
 use super::used::{Used, UsedUnit};
-use occ_alias::alias_faults;
 use occ_base::{Diag, Items};
 use occ_interfaces::interface_of;
 use occ_project::ExpandedLine;
@@ -57,9 +56,13 @@ fn imports(alloc: Global, used: &[UsedUnit]) -> Result<Items<Import>, AllocError
 fn judge_uses(alloc: Global, typed: &Typed) -> Result<Judgement, AllocError>
     ensures { IfOk result (λ judgement. judgement ≡ uses_judged typed.now.lines) }
 {
-    let UnitUses { mut faults, bounds } = unit_uses(alloc, typed)?;
+    let UnitUses {
+        parallel: mut faults,
+        abbreviations,
+        bounds,
+    } = unit_uses(alloc, typed)?;
     faults.append(function_faults(alloc, typed)?)?;
-    faults.append(alias_faults(alloc, typed)?)?;
+    faults.append(abbreviations)?;
     let interface = interface_of(alloc, bounds.as_slice(), typed.lines.as_slice())?;
     Ok(Judgement {
         faults,

@@ -3,3 +3,4 @@ pub mod Equality
 pub mod Once
 pub mod Accumulation
 pub mod Looking
+pub mod Spreading

@@ -1,3 +1,4 @@
 pub mod Accumulating
 pub mod Numbering
 pub mod Indexing
+pub mod Spreading

@@ -1,28 +1,22 @@
-ghost use Rattle.std.specs.Prelude.{◌≡◌, ◌++◌, ◌||◌, ◌∷◌, [], IfOk, List, OnOk, false, length, not};
-ghost use Rattle.std.specs.List.{list_any};
+ghost use Rattle.std.specs.Prelude.{◌≡◌, ◌++◌, ◌∷◌, [], IfOk, List, OnOk, false, length};
 ghost use Rattle.occ_bounds.specs.declared.uses.Use.{Use as AUse};
-ghost use Rattle.occ_parts.specs.Keeping.{meets_some};
-ghost use Rattle.occ_parts.specs.Parts.{are_apart as are_parted};
-ghost use Rattle.occ_types.specs.declared.interface.PartSelector.{PartSelector as ASelector};
 ghost use Rattle.occ_clashes.specs.Components.{joined};
-ghost use Rattle.occ_clashes.specs.Distinct.{same_selectors as told_selectors};
 ghost use Rattle.occ_clashes.specs.inside.Accumulating.{Adds, IsTable, breaks as told_breaks, judged, judged_by, judged_in};
 
+use super::kept::Kept;
 use super::rule::Rule;
-use super::same::same_selectors;
 use occ_base::Items;
 use occ_bounds::Use;
-use occ_parts::{copies, keep, meets_kept};
 use occ_types::{PartSelector, UseKind};
 use std::alloc::{AllocError, Global};
 
 /// How the components so far use one root: the parts that they use, by the kind of use, and which rules they break.
 #[derive(Drop)]
 pub struct RootUses {
-    reads: Items<Items<PartSelector>>,
-    writes: Items<Items<PartSelector>>,
-    inputs: Items<Items<PartSelector>>,
-    outputs: Items<Items<PartSelector>>,
+    reads: Kept,
+    writes: Kept,
+    inputs: Kept,
+    outputs: Kept,
     pub(crate) breaks_written: bool,
     pub(crate) breaks_input: bool,
     pub(crate) breaks_output: bool,
@@ -34,10 +28,10 @@ impl RootUses {
         ensures { result ≡ record { reads = []; writes = []; inputs = []; outputs = []; breaks_written = false; breaks_input = false; breaks_output = false } }
     {
         RootUses {
-            reads: Items::new(alloc),
-            writes: Items::new(alloc),
-            inputs: Items::new(alloc),
-            outputs: Items::new(alloc),
+            reads: Kept::none(alloc),
+            writes: Kept::none(alloc),
+            inputs: Kept::none(alloc),
+            outputs: Kept::none(alloc),
             breaks_written: false,
             breaks_input: false,
             breaks_output: false,
@@ -49,12 +43,10 @@ impl RootUses {
         ensures { result ≡ told_breaks rule self.now kind part.now }
     {
         match (rule, kind) {
-            (Rule::Written, UseKind::Write) => {
-                meets_kept(self.reads.as_slice(), part) || meets_kept(self.writes.as_slice(), part)
-            }
-            (Rule::Written, UseKind::Read) => meets_kept(self.writes.as_slice(), part),
-            (Rule::Input, UseKind::Input) => meets_kept(self.inputs.as_slice(), part),
-            (Rule::Output, UseKind::Output) => meets_kept(self.outputs.as_slice(), part),
+            (Rule::Written, UseKind::Write) => { self.reads.meets(part) || self.writes.meets(part) }
+            (Rule::Written, UseKind::Read) => self.writes.meets(part),
+            (Rule::Input, UseKind::Input) => self.inputs.meets(part),
+            (Rule::Output, UseKind::Output) => self.outputs.meets(part),
             _ => false,
         }
     }
@@ -73,46 +65,12 @@ impl RootUses {
         ensures { OnOk result (Adds kind part.now self.old self.new) }
     {
         match kind {
-            UseKind::Read => add_part(alloc, &mut self.reads, part),
-            UseKind::Write => add_part(alloc, &mut self.writes, part),
-            UseKind::Input => add_part(alloc, &mut self.inputs, part),
-            UseKind::Output => add_part(alloc, &mut self.outputs, part),
+            UseKind::Read => self.reads.add(alloc, part),
+            UseKind::Write => self.writes.add(alloc, part),
+            UseKind::Input => self.inputs.add(alloc, part),
+            UseKind::Output => self.outputs.add(alloc, part),
         }
     }
-}
-
-/// Whether a part is kept as it is.
-fn is_kept(kept: &[Items<PartSelector>], part: &[PartSelector]) -> bool
-    ensures { result ≡ list_any (λ (p : List ASelector). told_selectors p part.now) kept.now }
-{
-    for one in kept {
-        if same_selectors(one.as_slice(), part) {
-            return true;
-        }
-    }
-    false
-}
-
-/// Whether the last selector is an interval, so that `keep` makes one of two equal parts.
-fn ends_in_places(part: &[PartSelector]) -> bool {
-    match part {
-        [.., PartSelector::Interval(_)] => true,
-        _ => false,
-    }
-}
-
-/// Keeps a part, if it is not kept.
-fn add_part(
-    alloc: Global,
-    kept: &mut Items<Items<PartSelector>>,
-    part: &[PartSelector],
-) -> Result<(), AllocError>
-    ensures { OnOk result ((q : List ASelector) → meets_some kept.new q ≡ (meets_some kept.old q || not (are_parted part.now q))) }
-{
-    if !ends_in_places(part) && is_kept(kept.as_slice(), part) {
-        return Ok(());
-    }
-    keep(kept, copies(alloc, part)?)
 }
 
 /// Finds which rules a use breaks.

@@ -6,6 +6,7 @@ mod accumulate;
 mod body;
 mod each_once;
 mod joining;
+mod kept;
 pub mod laws;
 mod numbering;
 mod pairs;

@@ -4,3 +4,4 @@ pub mod Turns
 pub mod Searches
 pub mod Ranked
 pub mod Circled
+pub mod Turned

@@ -1,3 +1,4 @@
 pub mod Graph
 pub mod Along
+pub mod Sources
 pub mod inside

@@ -1,6 +1,7 @@
 ghost use Rattle.std.specs.Prelude.{◌≡◌, ◌↔◌, ℕ, Bool, true};
 ghost use Rattle.occ_graph.specs.Along.{IsLocal, along, done, done_step};
-ghost use Rattle.occ_graph.specs.Graph.{Graph, IsCircular, Reaches, is_circular, reaches};
+ghost use Rattle.occ_graph.specs.Graph.{Graph, IsCircular, Reaches, has_edge, is_among, is_circular, reaches};
+ghost use Rattle.occ_graph.specs.Sources.{sources};
 
 /// The test for a way tells whether edges lead from the one node to the other, and the test for a circle whether an edge
 /// stands in one.
@@ -23,4 +24,9 @@ pub fn done_law()
     ensures step { (g : Graph) (good : ℕ → Bool) (u : ℕ) → done g good u ≡ done_step g good u (done g good) }
     ensures only { (g : Graph) (good f : ℕ → Bool) → ((u : ℕ) → f u ≡ true → done g good u ≡ true) → ((u : ℕ) → done_step g good u f ≡ true → f u ≡ true) → (u : ℕ) → f u ≡ done g good u }
     ensures more { (g : Graph) (good better : ℕ → Bool) → ((u : ℕ) → good u ≡ true → better u ≡ true) → (u : ℕ) → done g good u ≡ true → done g better u ≡ true }
+{}
+
+/// A graph that is turned round has an edge for each that it had, the other way, and no other.
+pub fn sources_law()
+    ensures { (g : Graph) (u v : ℕ) → (is_among (sources g v) u ≡ true) ↔ (has_edge g u v ≡ true) }
 {}

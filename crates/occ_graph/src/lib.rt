@@ -7,5 +7,7 @@ mod order;
 mod ranks;
 pub mod rows;
 mod search;
+mod sources;
 
 pub use circles::find_rests;
+pub use sources::find_sources;

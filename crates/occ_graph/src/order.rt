@@ -1,10 +1,11 @@
+use super::sources::find_sources;
 use sqlite_items::Items;
 use std::alloc::{AllocError, Global};
 
 /// The nodes in an order in which each that reaches no circle stands behind all to which edges lead from it; nodes that
 /// reach a circle are left out. It promises nothing: what it leaves out or puts wrongly costs time.
 pub fn in_order(alloc: Global, graph: &[Items<usize>]) -> Result<Vec<usize>, AllocError> {
-    let sources = sources(alloc, graph)?;
+    let sources = find_sources(alloc, graph)?;
     let mut left = Vec::new(alloc);
     let mut order = Vec::new(alloc);
     for (node, targets) in graph.iter().enumerate() {
@@ -18,36 +19,10 @@ pub fn in_order(alloc: Global, graph: &[Items<usize>]) -> Result<Vec<usize>, All
             break;
         };
         if let Some(sources) = sources.get(*node) {
-            release(sources, &mut left, &mut order)?;
+            release(sources.as_slice(), &mut left, &mut order)?;
         }
     }
     Ok(order)
-}
-
-/// For each node those from which edges lead to it, once for each edge.
-fn sources(alloc: Global, graph: &[Items<usize>]) -> Result<Vec<Vec<usize>>, AllocError> {
-    let mut sources = Vec::new(alloc);
-    for _ in 0..graph.len() {
-        sources.push(Vec::new(alloc))?;
-    }
-    for (node, targets) in graph.iter().enumerate() {
-        add_source(node, targets.as_slice(), &mut sources)?;
-    }
-    Ok(sources)
-}
-
-/// Edges lead from the node to these.
-fn add_source(
-    node: usize,
-    targets: &[usize],
-    sources: &mut Vec<Vec<usize>>,
-) -> Result<(), AllocError> {
-    for target in targets {
-        if let Some(sources) = sources.get_mut(*target) {
-            sources.push(node)?;
-        }
-    }
-    Ok(())
 }
 
 /// One more node to which edges lead from these is in order; those that wait for no other follow.

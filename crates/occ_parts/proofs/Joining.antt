@@ -1,7 +1,7 @@
 -- Two parts that are made into one have an element in common with a part exactly if one of them has.
-use Rattle.std.proofs.Common.{◌≡◌, ℕ, zero, suc, Bool, true, false, not, ap, sym, ◌∙◌, refl, subst, arith, List, [], ◌∷◌, ◌++◌, Option, Some, None}
+use Rattle.std.proofs.Common.{◌≡◌, ◌+◌, ℕ, zero, suc, Bool, true, false, not, ap, sym, ◌∙◌, refl, subst, arith, List, [], ◌∷◌, ◌++◌, length, take, Option, Some, None}
 use Rattle.std.specs.Prelude.{◌&&◌, ◌||◌, IfSome, slice_get, slice_set}
-use Rattle.std.specs.List.{list_any}
+use Rattle.std.specs.List.{list_any, remove}
 use Rattle.occ_types.specs.declared.interface.Interval.{Interval}
 use Rattle.occ_types.specs.declared.interface.Mark.TheVariants as mark
 use Rattle.occ_types.specs.declared.interface.PartSelector.{PartSelector}
@@ -95,3 +95,44 @@ joined_meets kept at one part wide q u h j w =
         demorgan : (a b : Bool) → not (a && b) ≡ (not a || not b)
         demorgan true b = refl
         demorgan false b = refl
+
+-- ---- one kept part less
+
+any_removed : {X : Type 0} (f : X → Bool) (xs : List X) (at : ℕ) (x : X) → slice_get xs at ≡ Some x → list_any f xs ≡ (list_any f (remove xs at) || f x)
+any_removed f [] at x h = absurd (grind (arith, h))
+any_removed f (z ∷ zs) zero x h = let same : z ≡ x = grind (arith, h) in turned (f z) (list_any f zs) ∙ ap (λ (y : Bool). list_any f zs || y) (ap f same) where
+  turned : (a b : Bool) → (a || b) ≡ (b || a)
+  turned true true = refl
+  turned true false = refl
+  turned false true = refl
+  turned false false = refl
+any_removed f (z ∷ zs) (suc at) x h = ap (λ (y : Bool). f z || y) (any_removed f zs at x h) ∙ sym (regrouped (f z) (list_any f (remove zs at)) (f x)) where
+  regrouped : (a b c : Bool) → ((a || b) || c) ≡ (a || (b || c))
+  regrouped true b c = refl
+  regrouped false b c = refl
+
+before_removed : {X : Type 0} (xs : List X) (at k : ℕ) (x : X) → slice_get (take at xs) k ≡ Some x → slice_get (remove xs at) k ≡ Some x
+before_removed [] zero k x h = absurd (grind (arith, h))
+before_removed [] (suc at) k x h = absurd (grind (arith, h))
+before_removed (z ∷ zs) zero k x h = absurd (grind (arith, h))
+before_removed (z ∷ zs) (suc at) zero x h = h
+before_removed (z ∷ zs) (suc at) (suc k) x h = before_removed zs at k x h
+
+-- of a kept part and one before it one is made
+pub merged_meets : (kept : List (List PartSelector)) (at k : ℕ) (other one wide q : List PartSelector) (u : Places)
+    → slice_get kept at ≡ Some one → slice_get (take at kept) k ≡ Some other → Joins other one u
+    → ((front : List PartSelector) (last : PartSelector) → one ≡ front ++ last ∷ [] → wide ≡ behind front (record { mark = mark.Unsure; places = u }))
+    → meets_some (slice_set (remove kept at) k wide) q ≡ meets_some kept q
+merged_meets kept at k other one wide q u h e j w =
+    joined_meets (remove kept at) k other one wide q u (before_removed kept at k other e) j w
+    ∙ sym (any_removed (λ (p : List PartSelector). not (are_apart p q)) kept at one h)
+
+-- with another last selector
+pub set_last : (front : List PartSelector) (last x : PartSelector) (n : ℕ) → n + 1 ≡ length (front ++ last ∷ []) → slice_set (front ++ last ∷ []) n x ≡ front ++ x ∷ []
+set_last [] last x zero h = refl
+set_last [] last x (suc n) h = absurd (omega (arith, h))
+set_last (y ∷ ys) last x zero h = absurd (none ys last (omega (arith, h))) where
+  none : (zs : List PartSelector) (z : PartSelector) → length (zs ++ z ∷ []) ≡ 0 → ⊥
+  none [] z e = omega (arith, e)
+  none (v ∷ vs) z e = omega (arith, e)
+set_last (y ∷ ys) last x (suc n) h = ap (λ (zs : List PartSelector). y ∷ zs) (set_last ys last x n (omega (arith, h)))

@@ -1,4 +1,4 @@
-ghost use Rattle.std.specs.Prelude.{◌≡◌, ◌∷◌, ◌++◌, ◌<◌, ◌||◌, IfOk, IfSome, IsTrue, List, OnErr, OnOk, Some, [], length, not, slice_get};
+ghost use Rattle.std.specs.Prelude.{◌≡◌, ◌∷◌, ◌++◌, ◌<◌, ◌||◌, IfSome, IsTrue, List, OnErr, OnOk, Some, [], length, not, slice_get};
 ghost use Rattle.occ_types.specs.declared.interface.Mark.TheVariants as mark;
 ghost use Rattle.occ_types.specs.declared.interface.PartSelector.{PartSelector as ASelector};
 ghost use Rattle.occ_parts.specs.Keeping.{Joins, behind, meets_some};
@@ -24,7 +24,8 @@ pub fn meets_kept(kept: &[Items<PartSelector>], part: &[PartSelector]) -> bool
 }
 
 /// Keeps a part: from now on what has an element in common with it has one in common with a kept part. It is made into one
-/// with a kept part where both differ in their last intervals alone, and these follow one another.
+/// with a kept part where both differ in their last intervals alone, and these follow one another; and this again with one that
+/// was kept before it.
 pub fn keep(
     kept: &mut Items<Items<PartSelector>>,
     part: Items<PartSelector>,
@@ -37,12 +38,29 @@ pub fn keep(
     }
     match find_joined(kept.as_slice(), part.as_slice()) {
         Some((at, places)) => {
-            let part = with_last(part, places)?;
-            kept.set(at, part);
+            kept.set(at, with_last(part, places));
+            merge(kept, at);
             Ok(())
         }
         None => kept.push(part),
     }
+}
+
+/// Makes one of the kept part at this place and one before it, if they differ in their last intervals alone, and these follow
+/// one another.
+fn merge(kept: &mut Items<Items<PartSelector>>, at: usize)
+    requires { at < length kept.old }
+    ensures { (q : List ASelector) → meets_some kept.new q ≡ meets_some kept.old q }
+{
+    let (before, _) = kept.as_slice().split_at(at);
+    let Some(one) = kept.get(at) else {
+        return;
+    };
+    let Some((place, places)) = find_joined(before, one.as_slice()) else {
+        return;
+    };
+    let one = kept.remove(at);
+    kept.set(place, with_last(one, places));
 }
 
 /// The first kept part with which a part makes one, and the places of both.
@@ -106,16 +124,17 @@ fn is_same(a: &PartSelector, b: &PartSelector) -> bool
 }
 
 /// The part with these places in place of its last selector.
-fn with_last(
-    mut part: Items<PartSelector>,
-    places: Places,
-) -> Result<Items<PartSelector>, AllocError>
-    ensures { IfOk result (λ widened. (front : List ASelector) (last : ASelector) → part ≡ front ++ last ∷ [] → widened ≡ behind front (record { mark = mark.Unsure; places = places })) }
+fn with_last(mut part: Items<PartSelector>, places: Places) -> Items<PartSelector>
+    ensures { (front : List ASelector) (last : ASelector) → part ≡ front ++ last ∷ [] → result ≡ behind front (record { mark = mark.Unsure; places = places }) }
 {
-    part.pop();
-    part.push(PartSelector::Interval(Interval {
-        mark: Mark::Unsure,
-        places,
-    }))?;
-    Ok(part)
+    if let Some(last) = part.len().checked_sub(1) {
+        part.set(
+            last,
+            PartSelector::Interval(Interval {
+                mark: Mark::Unsure,
+                places,
+            }),
+        );
+    }
+    part
 }

@@ -1,4 +1,5 @@
 ghost use Rattle.std.specs.Prelude.{◌≡◌, ◌≤ℤ◌, ◌+ℤ◌, pos};
+ghost use Rattle.occ_types.specs.declared.interface.Places.TheVariants as places;
 ghost use Rattle.occ_parts.specs.Places.{common, from_with_run, is_next, meet, moved, near, run_to, run_with_run, short_run as the_short_run, united};
 
 use occ_types::Places;
@@ -39,13 +40,23 @@ pub(crate) fn intersection(a: Places, b: Places) -> Places
     }
 }
 
+/// Whether two runs have a place in common: neither lies behind the other.
+fn do_runs_meet(a: i64, n: u32, b: i64, m: u32) -> bool
+    ensures { result ≡ meet (places.Run a n) (places.Run b m) }
+{
+    i128::from(a) <= last(b, m) && i128::from(b) <= last(a, n)
+}
+
 /// Whether some place lies in both.
 pub(crate) fn do_meet(a: Places, b: Places) -> bool
     ensures { result ≡ meet a b }
 {
-    match intersection(a, b) {
-        Places::None => false,
-        _ => true,
+    match (a, b) {
+        (Places::Run(a, n), Places::Run(b, m)) => do_runs_meet(a, n, b, m),
+        _ => match intersection(a, b) {
+            Places::None => false,
+            _ => true,
+        },
     }
 }
 

@@ -5,6 +5,8 @@
 
 mod devices;
 mod row;
+#[cfg(test)]
+mod sessions;
 mod tally;
 
 ghost use Rattle.std.specs.List.{All};

@@ -8,6 +8,7 @@ use Rattle.occ_base.proofs.shared.Shared.TheSendSync as shared
 use Rattle.occ_base.proofs.name.Name.TheSendSync as name_cross
 use Rattle.occ_base.specs.contracts.name.Name as name
 use Rattle.std.proofs.Crossing.{Vec-send, Vec-sync}
+use Rattle.std.proofs.MapsCrossing.{BTreeMap-send}
 use Rattle.occ_expression_forms.proofs.tree.Literal.TheSendSync as literal_cross
 use Rattle.occ_expression_forms.proofs.tree.DataBase.TheSendSync as data_base_cross
 use Rattle.occ_expression_forms.proofs.tree.MonadicOperator.TheSendSync as monadic_operator_cross
@@ -71,8 +72,10 @@ use Rattle.occ_check.specs.contracts.job.Job as job
 use Rattle.occ_check.specs.contracts.outcome.Outcome as outcome
 use Rattle.occ_board.specs.contracts.entry.Edit as edit
 use Rattle.occ_board.specs.contracts.entry.Entry as entry
+use Rattle.occ_board.specs.contracts.kept.Kept as kept
 use Rattle.occ_units.specs.contracts.project.Project as project
 use Rattle.occ_units.specs.contracts.facts.Facts as facts
+use Rattle.occ_units.specs.contracts.links.Links as links
 use Rattle.sqlite_items.specs.contracts.items.Items as items_of
 use Rattle.occ_base.specs.contracts.shared.Shared as shared_of
 use denote.Builtin.{usize}
@@ -653,23 +656,38 @@ number_sync = search sendable depth 10
 numbers_sync : IsSync (items_of.the_row (items_of.the_row usize))
 numbers_sync = items.the_sync (items_of.the_row usize) (items.the_sync usize number_sync)
 
-rests_send : IsSend (shared_of.the_row (items_of.the_row (items_of.the_row usize)))
-rests_send = shared.the_send (items_of.the_row (items_of.the_row usize)) numbers_send numbers_sync
+links_field_send : IsSend links.the_field.row
+links_field_send = search (sendable, numbers_send) depth 20
+
+links_send : IsSend links.the_row
+links_send = search (sendable, links_field_send) depth 10
+
+links_field_sync : IsSync links.the_field.row
+links_field_sync = search (sendable, numbers_sync) depth 20
+
+links_sync : IsSync links.the_row
+links_sync = search (sendable, links_field_sync) depth 10
+
+shared_links_send : IsSend (shared_of.the_row links.the_row)
+shared_links_send = shared.the_send links.the_row links_send links_sync
 
 graph_field_send : IsSend graph.the_field.row
-graph_field_send = search (sendable, project_field_send, facts_list_send, rests_send) depth 30
+graph_field_send = search (sendable, project_field_send, facts_list_send, shared_links_send) depth 30
 
-rests_sync : IsSync (shared_of.the_row (items_of.the_row (items_of.the_row usize)))
-rests_sync = shared.the_sync (items_of.the_row (items_of.the_row usize)) numbers_send numbers_sync
+shared_links_sync : IsSync (shared_of.the_row links.the_row)
+shared_links_sync = shared.the_sync links.the_row links_send links_sync
 
 graph_field_sync : IsSync graph.the_field.row
-graph_field_sync = search (sendable, project_field_sync, facts_list_sync, rests_sync) depth 30
+graph_field_sync = search (sendable, project_field_sync, facts_list_sync, shared_links_sync) depth 30
 
 graph_send : IsSend graph.the_row
 graph_send = search (sendable, graph_field_send) depth 10
 
+kept_field_send : IsSend kept.the_field.row
+kept_field_send = search (sendable, Vec-send, BTreeMap-send, outcome_field_send, file_name_cross.the_send) depth 30
+
 board_field_send : IsSend board.the_field.row
-board_field_send = search (sendable, items.the_send, Vec-send, entry_send, outcome_field_send, job_field_send, graph_field_send) depth 30
+board_field_send = search (sendable, items.the_send, Vec-send, entry_send, kept_field_send, job_field_send, graph_field_send) depth 30
 
 board_send : IsSend board.the_row
 board_send = search (sendable, board_field_send) depth 10
@@ -695,10 +713,10 @@ server_sync = search (sendable, server_field_sync) depth 10
 receipt_field_send : IsSend receipt.the_field.row
 receipt_field_send = search (sendable, entry_field_send) depth 30
 
-receipt_send : IsSend receipt.the_row
+pub receipt_send : IsSend receipt.the_row
 receipt_send = search (sendable, receipt_field_send) depth 10
 
-snapshot_field_send : IsSend snapshot.the_field.row
+pub snapshot_field_send : IsSend snapshot.the_field.row
 snapshot_field_send = search (sendable, items.the_send, entry_send, row_cross.the_send) depth 30
 
 snapshot_send : IsSend snapshot.the_row

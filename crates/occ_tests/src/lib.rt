@@ -7,6 +7,8 @@ mod board;
 #[cfg(test)]
 mod check;
 #[cfg(test)]
+mod expanded;
+#[cfg(test)]
 mod expansion;
 #[cfg(test)]
 mod form;
@@ -15,6 +17,10 @@ mod scope;
 #[cfg(test)]
 mod server;
 #[cfg(test)]
+mod threads;
+#[cfg(test)]
 mod types;
 #[cfg(test)]
 mod units;
+#[cfg(test)]
+mod words;

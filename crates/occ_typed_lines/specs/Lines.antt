@@ -63,6 +63,6 @@ abbrev pub made : {X : Type 0} → (X → TypedForm) → Option X → TypedForm
 made form None = t.Unknown
 made form (Some x) = form x
 
--- a line that typing does not know yet
+-- a line that stands where no line of its kind may; in a unit without a fault of shape there is none
 abbrev pub beyond : List Fault
 beyond = nameless code.S1 ∷ []

@@ -107,7 +107,7 @@ abbrev pub results_in : Scope → Expected → List Expr → Option (List TypedE
 results_in s (expected.Count n) es = None
 results_in s (expected.Types types) es = results_trees s types es
 
--- ---- by the parent; what is not told here typing does not know yet, or it stands where no line of its kind may
+-- ---- by the parent; what is not told here stands where no line of its kind may
 
 abbrev pub instance_form : TypedInstance → TypedForm
 instance_form x = t.Instance x.callee x.actuals

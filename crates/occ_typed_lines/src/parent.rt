@@ -20,7 +20,7 @@ pub struct Choosing {
 /// What lines are that do not all say so by their own words.
 #[derive(Drop)]
 pub enum Role {
-    /// Of them nothing is said: processes, specifications, and lines that typing does not know yet.
+    /// Of them nothing is said: processes and specifications.
     Process,
     /// The choices of an `IF`.
     Conditional,

@@ -95,6 +95,6 @@ pub enum TypedForm {
     ValueOf,
     /// `RESULT e, ..`
     Results(Items<Shared<TypedExpr>>),
-    /// A line that typing does not know yet, or that has a fault.
+    /// A line that has a fault.
     Unknown,
 }

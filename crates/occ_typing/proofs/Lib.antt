@@ -1,3 +1,4 @@
 pub mod Places
 pub mod Walking
 pub mod Rounds
+mod whole

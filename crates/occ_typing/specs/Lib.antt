@@ -5,3 +5,5 @@ pub mod TypedLines
 pub mod Typed
 pub mod inside
 pub mod Rounds
+pub mod Known
+pub mod Whole

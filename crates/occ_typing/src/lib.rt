@@ -7,6 +7,6 @@ mod tree;
 mod unit;
 mod walk;
 
-pub use laws::{place_law, scope_law};
+pub use laws::{place_law, scope_law, whole_law};
 pub use tree::{ProcessId, TypedLine};
 pub use unit::{TypeFault, Typed, type_unit};

@@ -42,6 +42,9 @@ unused files unit e = ap (λ x. cond (is_unit unit) (in_order (flat_map units_of
 pub read_alone : (files : List Read) (unit : List ℕ) → place unit files ≡ None → is_unit unit ≡ true → read_names files unit ≡ unit ∷ []
 read_alone files unit e u = ap (λ x. cond (is_unit unit) x.reads []) (closed files unit (no_lines files unit e)) ∙ ap (λ (b : Bool). cond b (unit ∷ []) []) u
 
+pub absent_reads : (files : List Read) (unit : List ℕ) → place unit files ≡ None → (expansion files unit).reads ≡ unit ∷ []
+absent_reads files unit e = ap (λ x. x.reads) (closed files unit (no_lines files unit e))
+
 -- what uses another has a place
 pub placed_user : (files : List Read) (u v : List ℕ) → Uses files u v → (p : ℕ) × (place u files ≡ Some p)
 placed_user files u v h = by (place u files) refl where

@@ -9,3 +9,6 @@ pub mod Rounds
 pub mod Below
 pub mod Spelled
 pub mod Sharing
+pub mod Users
+pub mod Reading
+pub mod Near

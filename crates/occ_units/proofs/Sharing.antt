@@ -1,5 +1,5 @@
 -- What an edit leaves of what a graph keeps.
-use Rattle.std.proofs.Common.{◌≡◌, ◌∙◌, ◌||◌, ℕ, zero, suc, Bool, true, false, not, cond, List, [], ◌∷◌, map, Option, Some, None, Result, Ok, Err, refl, sym, ap, subst, IfOk, IfSome}
+use Rattle.std.proofs.Common.{◌≡◌, ◌∙◌, ◌||◌, ◌<◌, arith, get_or, length, ℕ, zero, suc, Bool, true, false, not, cond, List, [], ◌∷◌, map, Option, Some, None, Result, Ok, Err, refl, sym, ap, subst, IfOk, IfSome}
 use Rattle.std.proofs.lemmas.Slice.Eq.{bytes_eq-Decides}
 use Rattle.std.specs.List.{cons_option, flat_map, slice_get}
 use Rattle.std.specs.List.Sorted.{IsStrictlySortedBy}
@@ -10,21 +10,24 @@ use Rattle.std.specs.declared.cmp.Ordering.{Ordering}
 use Rattle.std.specs.declared.cmp.Ordering.TheVariants.{Less, Equal, Greater}
 use Rattle.occ_base.specs.FileName.{is_unit}
 use Rattle.occ_graph.specs.Graph.{Graph, all_rests}
+use Rattle.occ_graph.specs.Sources.{sources}
 use Rattle.occ_project.specs.Entries.{is_among}
 use Rattle.occ_project.specs.Expansion.{Expansion, expansion}
 use Rattle.occ_project.specs.Reads.{lines_of, name_cmp, open_lines, place}
 use Rattle.occ_project.specs.Uses.{units_of}
 use Rattle.occ_project.specs.declared.reads.Read.{Read}
+use Rattle.occ_units.proofs.Edges.{graph_long}
 use Rattle.occ_units.proofs.Kept.{edges_are, map_at}
 use Rattle.occ_units.proofs.Looks.{looks_at_reads, same_bytes}
 use Rattle.occ_units.proofs.Narrowed.{file_lines}
 use Rattle.occ_units.proofs.Putting.{below_found, file_put}
 use Rattle.occ_units.proofs.Rising.{equal_names, turned}
 use Rattle.occ_units.specs.declared.facts.Facts.{Facts}
+use Rattle.occ_units.specs.declared.links.Links.{Links}
 use Rattle.occ_units.specs.Places.{graph_of, places_of}
 use Rattle.occ_units.specs.Project.{IsProject, file_of, put}
 use Rattle.occ_units.specs.Units.{in_order, used_units}
-use Rattle.occ_units.specs.inside.Keeping.{AreOthers, IsGraph, all_facts, facts_of, reads_in}
+use Rattle.occ_units.specs.inside.Keeping.{AreOthers, IsGraph, IsLinks, all_facts, facts_of, no_links, reads_in}
 
 -- what was known at a place
 pub known_is : (files : List Read) (facts : List Facts) (p : ℕ) (file : Read) (name : List ℕ) → facts ≡ all_facts files → slice_get files p ≡ Some file → file.name ≡ name → IfSome (slice_get facts p) (λ known. known ≡ facts_of files name)
@@ -130,13 +133,26 @@ pub if_ok : {X E : Type 0} (r : Result X E) (x y : X) → IfOk r (λ z. z ≡ x)
 if_ok (Ok z) x y h e = h ∙ e
 if_ok (Err f) x y h e = h
 
--- so do the rests
-pub rests_stay : (now files later : List Read) (facts lent found : List Facts) (kept : Option (List (List ℕ))) (rests : List (List ℕ)) (edited : List ℕ) → files ≡ now → IsGraph files facts kept → lent ≡ facts → found ≡ all_facts later
-    → map (λ (f : Facts). f.uses) lent ≡ map (λ (f : Facts). f.uses) found → kept ≡ Some rests → is_some (place edited files) ≡ true → (is_some (place edited now) ≡ true → (name : List ℕ) → place name later ≡ place name now) → rests ≡ all_rests (graph_of later)
-rests_stay now files later facts lent found kept rests edited view graph l f uses k here same =
-    sym (ap (λ (o : Option (List (List ℕ))). unwrap_or o []) k)
-    ∙ graph.rests_are
-    ∙ ap all_rests (graph_stays files later lent found (l ∙ graph.facts_are) f uses (λ name. same (ap (λ (fs : List Read). is_some (place edited fs)) (sym view) ∙ here) name ∙ ap (place name) (sym view)))
+pub if_is : {X E : Type 0} (r : Result X E) (x : X) (P : X → Type 0) → IfOk r (λ z. z ≡ x) → P x → IfOk r P
+if_is (Ok z) x P h k = subst P (sym h) k
+if_is (Err f) x P h k = h
+
+-- what rests on what, and what uses what
+pub linked : (files : List Read) (facts : List Facts) (edges : Graph) (links : Links) → facts ≡ all_facts files → edges ≡ map (λ (f : Facts). places_of files f.uses) facts → links.rests ≡ all_rests edges
+    → ((p : ℕ) → p < length edges → get_or links.users p [] ≡ sources edges p) → IsLinks files links
+linked files facts edges links f e r u =
+    let are = edges_are files facts edges f e in
+    let long : length edges ≡ length files = ap (length {A = List ℕ}) are ∙ graph_long files in
+    record { rests_are = r ∙ ap all_rests are; users_are = λ p lt. u p (omega (arith, long, lt)) ∙ ap (λ (g : Graph). sources g p) are }
+
+-- is the same where the edges are
+pub links_stay : (now files later : List Read) (facts lent found : List Facts) (kept : Option Links) (links : Links) (edited : List ℕ) → files ≡ now → IsGraph files facts kept → lent ≡ facts → found ≡ all_facts later
+    → map (λ (f : Facts). f.uses) lent ≡ map (λ (f : Facts). f.uses) found → kept ≡ Some links → is_some (place edited files) ≡ true → (is_some (place edited now) ≡ true → (name : List ℕ) → place name later ≡ place name now) → IsLinks later links
+links_stay now files later facts lent found kept links edited view graph l f uses k here same =
+    let are : IsLinks files links = subst (IsLinks files) (ap (λ (o : Option Links). unwrap_or o no_links) k) graph.links_are in
+    let stays : graph_of files ≡ graph_of later = graph_stays files later lent found (l ∙ graph.facts_are) f uses (λ name. same (ap (λ (fs : List Read). is_some (place edited fs)) (sym view) ∙ here) name ∙ ap (place name) (sym view)) in
+    let long : length files ≡ length later = sym (graph_long files) ∙ ap (length {A = List ℕ}) stays ∙ graph_long later in
+    record { rests_are = are.rests_are ∙ ap all_rests stays; users_are = λ p lt. are.users_are p (omega (arith, long, lt)) ∙ ap (λ (g : Graph). sources g p) stays }
 
 -- whether a file has a place
 pub placed_by : (o p : Option ℕ) (b : Bool) → o ≡ p → is_some o ≡ not b → b ≡ false → is_some p ≡ true

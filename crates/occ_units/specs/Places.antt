@@ -4,6 +4,7 @@ use Rattle.std.specs.List.{filter, filter_map}
 use Rattle.std.specs.Option.{is_some}
 use Rattle.occ_graph.specs.Graph.{Graph}
 use Rattle.occ_graph.specs.Graph as graph
+use Rattle.occ_graph.specs.Sources.{sources}
 use Rattle.occ_project.specs.declared.reads.Read.{Read}
 use Rattle.occ_project.specs.Entries.{is_among}
 use Rattle.occ_project.specs.Reads.{place}
@@ -19,6 +20,10 @@ places_of files names = filter_map (λ name. place name files) names
 -- an edge from each unit to each that it uses and that is in the project
 abbrev pub graph_of : List Read → Graph
 graph_of files = map (λ file. places_of files (used_units files file.name)) files
+
+-- the places of the units that use the one at a place, in order
+abbrev pub users_at : List Read → ℕ → List ℕ
+users_at files p = sources (graph_of files) p
 
 -- an edge between these places stands in a circle
 abbrev pub circular_at : Graph → Option ℕ → Option ℕ → Bool

@@ -72,42 +72,69 @@ pub fn all_facts(alloc: Global, project: &Project) -> Result<Items<Shared<Facts>
     Ok(all)
 }
 
-/// Adds the place of the file of that name, if it is in the project.
-fn add_place(project: &Project, name: FileName, places: &mut Items<usize>) -> Result<(), AllocError>
+/// Adds the place of the file of that name, if it is in the project. It is looked for at the hint first.
+fn add_place(
+    project: &Project,
+    hint: usize,
+    name: FileName,
+    places: &mut Items<usize>,
+) -> Result<(), AllocError>
     ensures { OnOk result (places.new ≡ places.old ++ the_places_of project.now (name ∷ [])) }
 {
-    match project.place(name) {
+    match project.place_near(hint, name) {
         Some(place) => places.push(place),
         None => Ok(()),
     }
 }
 
-/// The places of the files of these names.
+/// What stands at a place of these, 0 if nothing does.
+fn hint_at(hints: &[usize], place: usize) -> usize {
+    match hints.get(place) {
+        Some(hint) => *hint,
+        None => 0,
+    }
+}
+
+/// The places of the files of these names. Each is looked for at its hint first.
 fn places_of(
     alloc: Global,
     project: &Project,
+    hints: &[usize],
     names: &[FileName],
 ) -> Result<Items<usize>, AllocError>
     ensures { IfOk result (λ places. places ≡ the_places_of project.now names.now) }
 {
     let mut places = Items::new(alloc);
-    for name in names {
-        add_place(project, *name, &mut places)?;
+    for (i, name) in names.iter().enumerate() {
+        add_place(project, hint_at(hints, i), *name, &mut places)?;
     }
     Ok(places)
 }
 
-/// An edge from each unit to each that it uses and that is in the project.
+/// The edges that before led from the file at a place, where none was new but that at this one.
+fn hints_at(before: &[Items<usize>], new: usize, place: usize) -> &[usize] {
+    let row = if place > new { place - 1 } else { place };
+    match before.get(row) {
+        Some(hints) => hints.as_slice(),
+        None => &[],
+    }
+}
+
+/// An edge from each unit to each that it uses and that is in the project. What an edge leads to is looked for first near the
+/// place to which one led before, when the file at the new place was not there; a hint that is wrong costs time.
 pub fn edges(
     alloc: Global,
     project: &Project,
     all: &[Shared<Facts>],
+    before: &[Items<usize>],
+    new: usize,
 ) -> Result<Items<Items<usize>>, AllocError>
     ensures { IfOk result (λ edges. edges ≡ map (λ facts. the_places_of project.now facts.uses) all.now) }
 {
     let mut edges = Items::new(alloc);
-    for facts in all {
-        edges.push(places_of(alloc, project, facts.get().uses.as_slice())?)?;
+    for (place, facts) in all.iter().enumerate() {
+        let hints = hints_at(before, new, place);
+        edges.push(places_of(alloc, project, hints, facts.get().uses.as_slice())?)?;
     }
     Ok(edges)
 }

@@ -1,18 +1,20 @@
 ghost use Rattle.occ_graph.specs.Graph.{all_rests, is_among as is_place, rests as rests_in};
+ghost use Rattle.occ_project.specs.Entries.{is_among};
 ghost use Rattle.occ_project.specs.Reads.{place};
-ghost use Rattle.occ_units.specs.Places.{graph_of, is_circular as uses_in_circle, standing_of};
+ghost use Rattle.occ_units.specs.Along.{name_at};
+ghost use Rattle.occ_units.specs.Places.{graph_of, is_circular as uses_in_circle, standing_of, users_at};
 ghost use Rattle.occ_units.specs.Project.{put};
 ghost use Rattle.occ_units.specs.Units.{read_names, used_units};
-ghost use Rattle.occ_units.specs.inside.Keeping.{all_facts as all_facts_of, facts_of as the_facts_of};
+ghost use Rattle.occ_units.specs.inside.Keeping.{IsLinks, all_facts as all_facts_of, facts_of as the_facts_of};
 ghost use Rattle.std.specs.Option.{is_some, option_and_then, option_copied, option_map};
-ghost use Rattle.std.specs.Prelude.{[], get_or, IfOk, List, slice_get, true, ℕ, ◌≡◌};
+ghost use Rattle.std.specs.Prelude.{[], get_or, IfOk, length, List, slice_get, true, ℕ, ◌≡◌, ◌<◌};
 
 use super::behind::{all_facts_behind, use_same};
-use super::facts::{Facts, all_facts, edges, is_name_among};
+use super::facts::{Facts, all_facts, does_read, is_name_among};
+use super::links::{Links, links_of};
 use super::{Project, Standing};
 use occ_base::{FileName, Items, Shared};
 use occ_forms::Source;
-use occ_graph::find_rests;
 use occ_project::Expanded;
 use std::alloc::{AllocError, Global};
 use std::marker::Model;
@@ -38,6 +40,14 @@ fn facts_at(all: &[Shared<Facts>], place: usize) -> Option<&Facts>
     }
 }
 
+/// The place of the file of that name, or the first.
+fn place_or_first(project: &Project, name: FileName) -> usize {
+    match project.place(name) {
+        Some(place) => place,
+        None => 0,
+    }
+}
+
 /// Whether the place is one of these.
 fn is_place_among(places: &[usize], place: usize) -> bool
     ensures { result ≡ is_place places.now place }
@@ -52,8 +62,8 @@ pub struct Graph {
     project: Project,
     /// What is known of each file, in order of name.
     facts: Items<Shared<Facts>>,
-    /// Of each file the places of those that it rests on; nothing where there are no files.
-    rests: Option<Shared<Items<Items<usize>>>>,
+    /// What rests on what and what uses what; nothing where there are no files.
+    links: Option<Shared<Links>>,
 }
 
 impl Model for Graph {
@@ -73,7 +83,7 @@ impl Model for Graph {
 
     ghost view = { λ graph. graph.project };
 
-    ghost invariant = { λ graph. IsGraph graph.project graph.facts graph.rests };
+    ghost invariant = { λ graph. IsGraph graph.project graph.facts graph.links };
 }
 
 /// The graph of a project, which it keeps.
@@ -81,25 +91,12 @@ fn keep(alloc: Global, project: Project) -> Result<Graph, AllocError>
     ensures { IfOk result (λ graph. graph ≡ project) }
 {
     let facts = all_facts(alloc, &project)?;
-    let rests = Some(rests_of(alloc, &project, facts.as_slice())?);
+    let links = Some(links_of(alloc, &project, facts.as_slice(), &[], 0)?);
     Ok(Graph {
         project,
         facts,
-        rests,
+        links,
     })
-}
-
-/// Of each file the places of those that it rests on.
-fn rests_of(
-    alloc: Global,
-    project: &Project,
-    facts: &[Shared<Facts>],
-) -> Result<Shared<Items<Items<usize>>>, AllocError>
-    requires { facts.now ≡ all_facts_of project.now }
-    ensures { IfOk result (λ rests. rests ≡ all_rests (graph_of project.now)) }
-{
-    let edges = edges(alloc, project, facts)?;
-    Shared::new(alloc, find_rests(alloc, edges.as_slice())?)
 }
 
 impl Graph {
@@ -110,7 +107,7 @@ impl Graph {
         Graph {
             project: Project::new(alloc),
             facts: Items::new(alloc),
-            rests: None,
+            links: None,
         }
     }
 
@@ -140,34 +137,55 @@ impl Graph {
             &project,
             name,
         )?;
-        let rests = Some(self.rests_behind(alloc, &project, facts.as_slice(), name)?);
+        let links = Some(self.links_behind(alloc, &project, facts.as_slice(), name)?);
         Ok(Graph {
             project,
             facts,
-            rests,
+            links,
         })
     }
 
-    /// Of each file the places of those that it rests on, behind the edit of one: the same as before, if no file is new and
-    /// each uses the same units.
-    fn rests_behind(
+    /// What rests on what and uses what behind the edit of a file: the same as before, if no file is new and each uses the same units.
+    fn links_behind(
         &self,
         alloc: Global,
         project: &Project,
         facts: &[Shared<Facts>],
         edited: FileName,
-    ) -> Result<Shared<Items<Items<usize>>>, AllocError>
+    ) -> Result<Shared<Links>, AllocError>
         requires facts { facts.now ≡ all_facts_of project.now }
         requires places { is_some (place edited self.now) ≡ true → (name : List ℕ) → place name project.now ≡ place name self.now }
-        ensures { IfOk result (λ rests. rests ≡ all_rests (graph_of project.now)) }
+        ensures { IfOk result (λ links. IsLinks project.now links) }
     {
-        if self.project.place(edited).is_none() || !use_same(self.facts.as_slice(), facts) {
-            return rests_of(alloc, project, facts);
+        if self.project.place(edited).is_none() {
+            let new = place_or_first(project, edited);
+            return links_of(alloc, project, facts, self.all_edges(), new);
         }
-        match &self.rests {
-            Some(rests) => rests.share(),
-            None => rests_of(alloc, project, facts),
+        if !use_same(self.facts.as_slice(), facts) {
+            return links_of(alloc, project, facts, self.all_edges(), facts.len());
         }
+        match &self.links {
+            Some(links) => links.share(),
+            None => links_of(alloc, project, facts, &[], 0),
+        }
+    }
+
+    /// Of each file the places of those that it uses. It promises nothing, since places are only looked for there first.
+    fn all_edges(&self) -> &[Items<usize>] {
+        match &self.links {
+            Some(links) => links.get().edges.as_slice(),
+            None => &[],
+        }
+    }
+
+    /// Where a file that the one at a place uses is looked for first.
+    fn used_hint(&self, place: usize, used: FileName) -> usize {
+        for to in row(self.all_edges(), place) {
+            if self.project.is_at(*to, used) {
+                return *to;
+            }
+        }
+        0
     }
 
     /// The project that it is of.
@@ -178,20 +196,20 @@ impl Graph {
     }
 
     /// What is known of the file of that name, if it is in the project.
-    fn facts_of(&self, name: FileName) -> Option<&Facts>
+    fn facts_of(&self, hint: usize, name: FileName) -> Option<&Facts>
         ensures { option_copied result ≡ option_map (λ at. the_facts_of self.now name) (place name self.now) }
     {
-        match self.project.place(name) {
+        match self.project.place_near(hint, name) {
             Some(place) => facts_at(self.facts.as_slice(), place),
             None => None,
         }
     }
 
     /// The expansion of a unit that is in the project.
-    fn expanded(&self, unit: FileName) -> Option<&Expanded>
+    fn expanded(&self, hint: usize, unit: FileName) -> Option<&Expanded>
         ensures { option_copied result ≡ option_and_then (λ at. (the_facts_of self.now unit).expanded) (place unit self.now) }
     {
-        match &self.facts_of(unit)?.expanded {
+        match &self.facts_of(hint, unit)?.expanded {
             Some(expanded) => Some(expanded.get()),
             None => None,
         }
@@ -201,7 +219,14 @@ impl Graph {
     pub fn uses(&self, unit: FileName) -> &[FileName]
         ensures { result.now ≡ used_units self.now unit }
     {
-        match self.facts_of(unit) {
+        self.uses_near(0, unit)
+    }
+
+    /// The same of a unit that is looked for at a place first.
+    pub fn uses_near(&self, hint: usize, unit: FileName) -> &[FileName]
+        ensures { result.now ≡ used_units self.now unit }
+    {
+        match self.facts_of(hint, unit) {
             Some(facts) => facts.uses.as_slice(),
             None => &[],
         }
@@ -211,12 +236,30 @@ impl Graph {
     pub fn reads<'a>(&'a self, unit: &'a FileName) -> &'a [FileName]
         ensures { result.now ≡ read_names self.now unit.now }
     {
+        self.reads_near(0, unit)
+    }
+
+    /// The same of a unit that is looked for at a place first.
+    pub fn reads_near<'a>(&'a self, hint: usize, unit: &'a FileName) -> &'a [FileName]
+        ensures { result.now ≡ read_names self.now unit.now }
+    {
         if !unit.is_unit() {
             return &[];
         }
-        match self.expanded(*unit) {
+        match self.expanded(hint, *unit) {
             Some(expanded) => expanded.reads(),
             None => slice::from_ref(unit),
+        }
+    }
+
+    /// Whether the expansion of the file at a place looks up that name, if it is a unit.
+    pub fn does_read(&self, place: usize, name: FileName) -> bool
+        requires { place < length self.now }
+        ensures { result ≡ is_among (read_names self.now (name_at self.now place)) name }
+    {
+        match facts_at(self.facts.as_slice(), place) {
+            Some(facts) => does_read(facts, name),
+            None => false,
         }
     }
 
@@ -224,8 +267,8 @@ impl Graph {
     fn all_rests(&self) -> &[Items<usize>]
         ensures { result.now ≡ all_rests (graph_of self.now) }
     {
-        match &self.rests {
-            Some(rests) => rests.get().as_slice(),
+        match &self.links {
+            Some(links) => links.get().rests.as_slice(),
             None => &[],
         }
     }
@@ -237,26 +280,65 @@ impl Graph {
         row(self.all_rests(), place)
     }
 
+    /// Of each file the places of those that use it.
+    fn all_users(&self) -> &[Items<usize>]
+        ensures { (p : ℕ) → p < length self.now → get_or result.now p [] ≡ users_at self.now p }
+    {
+        match &self.links {
+            Some(links) => links.get().users.as_slice(),
+            None => &[],
+        }
+    }
+
+    /// The places of the units that use the one at a place, in order.
+    pub fn users(&self, place: usize) -> &[usize]
+        requires { place < length self.now }
+        ensures { result.now ≡ users_at self.now place }
+    {
+        row(self.all_users(), place)
+    }
+
     /// Whether the one unit uses the other, which is the same or reaches it by units that each use the next.
     pub fn is_circular(&self, unit: FileName, used: FileName) -> bool
         ensures { result ≡ uses_in_circle self.now unit used }
     {
-        let Some(from) = self.project.place(unit) else {
+        self.is_circular_near(0, 0, unit, used)
+    }
+
+    /// The same of units that are looked for at these places first.
+    fn is_circular_near(
+        &self,
+        hint: usize,
+        used_hint: usize,
+        unit: FileName,
+        used: FileName,
+    ) -> bool
+        ensures { result ≡ uses_in_circle self.now unit used }
+    {
+        let Some(from) = self.project.place_near(hint, unit) else {
             return false;
         };
-        let Some(to) = self.project.place(used) else {
+        let Some(to) = self.project.place_near(used_hint, used) else {
             return false;
         };
-        is_name_among(self.uses(unit), used) && !is_place_among(self.rests(from), to)
+        is_name_among(self.uses_near(from, unit), used) && !is_place_among(self.rests(from), to)
     }
 
     /// How a unit stands to one that uses it.
     pub fn standing(&self, unit: FileName, used: FileName) -> Standing
         ensures { result ≡ standing_of self.now unit used }
     {
-        if self.project.get(used).is_none() {
+        self.standing_near(0, unit, used)
+    }
+
+    /// The same where the one that uses it is looked for at a place first.
+    pub fn standing_near(&self, hint: usize, unit: FileName, used: FileName) -> Standing
+        ensures { result ≡ standing_of self.now unit used }
+    {
+        let used_hint = self.used_hint(hint, used);
+        if self.project.get_near(used_hint, used).is_none() {
             Standing::Absent
-        } else if self.is_circular(unit, used) {
+        } else if self.is_circular_near(hint, used_hint, unit, used) {
             Standing::Circular
         } else {
             Standing::Below

@@ -1,14 +1,15 @@
 ghost use Rattle.occ_base.specs.FileName.{is_unit};
+ghost use Rattle.occ_graph.specs.Graph.{has_edge, is_among as is_place, rests};
 ghost use Rattle.occ_project.specs.Entries.{is_among};
 ghost use Rattle.occ_project.specs.Expansion.{expansion, not_given};
 ghost use Rattle.occ_project.specs.Reads.{open_lines};
 ghost use Rattle.occ_project.specs.declared.reads.Read.{Read};
 ghost use Rattle.occ_units.specs.Along.{IsLocal, along};
-ghost use Rattle.occ_units.specs.Places.{is_circular};
+ghost use Rattle.occ_units.specs.Places.{graph_of, is_circular, users_at};
 ghost use Rattle.occ_units.specs.Project.{IsProject, file_of, put};
 ghost use Rattle.occ_units.specs.Spelled.{AreSpelled, IsSpelled};
 ghost use Rattle.occ_units.specs.Units.{IsCircular, Uses, unit_reads};
-ghost use Rattle.std.specs.Prelude.{List, None, ℕ, cond, true, ◌≡◌, ◌↔◌};
+ghost use Rattle.std.specs.Prelude.{List, None, ℕ, cond, length, true, ◌≡◌, ◌<◌, ◌↔◌};
 ghost use Rattle.std.specs.Str.{bytes_eq};
 
 use occ_graph::laws;
@@ -48,4 +49,13 @@ pub fn along_law<A>()
     ensures { (files : List Read) (step : List ℕ → (List ℕ → A) → A) (base : A) → IsProject files → IsLocal files step → (u : List ℕ) → along files step base u ≡ step u (along files step base) }
 {
     laws::along_law::<A>();
+}
+
+/// The users of the unit at a place are the places of those that use it, those among them that rest on it, and no others.
+pub fn users_law()
+    ensures users { (files : List Read) (p q : ℕ) → (is_place (users_at files q) p ≡ true) ↔ (has_edge (graph_of files) p q ≡ true) }
+    ensures rests { (files : List Read) (p q : ℕ) → is_place (rests (graph_of files) p) q ≡ true → is_place (users_at files q) p ≡ true }
+    ensures within { (files : List Read) (p q : ℕ) → is_place (users_at files q) p ≡ true → p < length files }
+{
+    laws::sources_law();
 }

@@ -6,6 +6,7 @@ mod expansion;
 mod facts;
 mod graph;
 pub mod laws;
+mod links;
 mod project;
 pub mod rows;
 mod standing;

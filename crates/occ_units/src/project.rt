@@ -2,7 +2,7 @@ ghost use Rattle.occ_project.specs.Reads.{member, place as first_place};
 ghost use Rattle.occ_units.specs.Project.{IsProject, file_of, put};
 ghost use Rattle.occ_units.specs.inside.Finding.{IsGap};
 ghost use Rattle.std.specs.Option.{option_copied};
-ghost use Rattle.std.specs.Prelude.{[], map, IfOk, MatchResult, None, OnErr, OnOk, Some, ◌≡◌};
+ghost use Rattle.std.specs.Prelude.{[], map, IfOk, IsTrue, MatchResult, None, OnErr, OnOk, Some, ◌≡◌};
 
 use occ_base::{FileName, Items, Shared};
 use occ_forms::Source;
@@ -95,6 +95,30 @@ impl Project {
         self.find(name).ok()
     }
 
+    /// Whether the file of that name stands at this place.
+    pub(crate) fn is_at(&self, place: usize, name: FileName) -> bool
+        ensures { IsTrue result → first_place name self.now ≡ Some place }
+    {
+        match at(self.files.as_slice(), place) {
+            Some(file) => file.name == name,
+            None => false,
+        }
+    }
+
+    /// The place of the file of that name. One that stands at this place, or behind it, is found at once.
+    pub fn place_near(&self, hint: usize, name: FileName) -> Option<usize>
+        ensures { result ≡ first_place name self.now }
+    {
+        if self.is_at(hint, name) {
+            return Some(hint);
+        }
+        let next = hint.saturating_add(1);
+        if self.is_at(next, name) {
+            return Some(next);
+        }
+        self.place(name)
+    }
+
     /// Gives the file of that name this text, or takes it away, by the edit of that number.
     pub fn set(
         &mut self,
@@ -123,7 +147,14 @@ impl Project {
     fn file(&self, name: FileName) -> Option<&Read>
         ensures { option_copied result ≡ member self.now name }
     {
-        match self.place(name) {
+        self.file_near(0, name)
+    }
+
+    /// The same where it is looked for at a place first.
+    fn file_near(&self, hint: usize, name: FileName) -> Option<&Read>
+        ensures { option_copied result ≡ member self.now name }
+    {
+        match self.place_near(hint, name) {
             Some(place) => at(self.files.as_slice(), place),
             None => None,
         }
@@ -133,7 +164,14 @@ impl Project {
     pub fn get(&self, name: FileName) -> Option<&Shared<Source>>
         ensures { option_copied result ≡ (file_of self.now name).source }
     {
-        match self.file(name) {
+        self.get_near(0, name)
+    }
+
+    /// The same where the file is looked for at a place first.
+    pub fn get_near(&self, hint: usize, name: FileName) -> Option<&Shared<Source>>
+        ensures { option_copied result ≡ (file_of self.now name).source }
+    {
+        match self.file_near(hint, name) {
             Some(file) => file.source.as_ref(),
             None => None,
         }
@@ -143,7 +181,14 @@ impl Project {
     pub fn revision(&self, name: FileName) -> u32
         ensures { result ≡ (file_of self.now name).revision }
     {
-        match self.file(name) {
+        self.revision_near(0, name)
+    }
+
+    /// The same where the file is looked for at a place first.
+    pub fn revision_near(&self, hint: usize, name: FileName) -> u32
+        ensures { result ≡ (file_of self.now name).revision }
+    {
+        match self.file_near(hint, name) {
             Some(file) => file.revision,
             None => 0,
         }

@@ -1,4 +1,4 @@
--- The two ways to say what the parallel rule tells are one.
+-- The two ways to say what a rule tells are one.
 use Rattle.std.specs.Prelude.{◌==◌, ◌↔◌}
 use Rattle.std.proofs.Common.{◌≡◌, ◌<◌, ℕ, ℤ, zero, suc, Bool, true, false, Option, Some, None, List, [], ◌++◌, inl, inr, refl, subst, sym, arith}
 use Rattle.std.specs.List.{Contains}
@@ -7,10 +7,10 @@ use Rattle.occ_base.specs.declared.diag.Diag.{Diag}
 use Rattle.occ_bounds.specs.Bounds.{Env}
 use Rattle.occ_replicators.specs.declared.tree.KnownReplicator.{KnownReplicator}
 use Rattle.occ_usage.specs.Effect.{inner}
-use Rattle.occ_usage.specs.Lines.{behind_line, components, items_of, known_replicator, with_index}
-use Rattle.occ_usage.specs.ParallelRule.{Told, line_told, own_faults, parallel_faults, rounds_told, told, told_of, under_told, under_told_by}
-use Rattle.occ_usage.specs.Standing.{At, IsToldIn, Stands, below, first, in_round, later, told_at}
+use Rattle.occ_usage.specs.Lines.{behind_line, known_replicator, with_index}
+use Rattle.occ_usage.specs.Standing.{IsToldIn, Stands, below, first, in_round, later}
 use Rattle.occ_usage.specs.Trees.{Empty, Head, Tree, Trees, trees_of}
+use Rattle.occ_usage.specs.Walk.{At, Rule, Told, line_told, rounds_told, told, told_of, under_told, under_told_by, unit_told}
 use Rattle.occ_typing.specs.declared.tree.TypedLine.{TypedLine}
 
 none_told : (d : Diag) → Contains [] d → ⊥
@@ -39,47 +39,47 @@ rounds_given (suc n) base env t d i w h = at (i == n) refl (λ v. rounds_given n
 
 -- ---- from the list to the places
 
-under_found : (k : Option KnownReplicator) (h : Head) (t behind : Trees) (outer env : Env) (d : Diag) → known_replicator h.form ≡ k
-    → ((e : Env) → Contains (told_of t e) d → IsToldIn t e e d)
-    → Contains (under_told_by k env h (told_of t)) d → IsToldIn (Tree h t behind) outer env d
-under_found None h t behind outer env d known found c =
+under_found : (rule : Rule) (k : Option KnownReplicator) (h : Head) (t behind : Trees) (outer env : Env) (d : Diag) → known_replicator h.form ≡ k
+    → ((e : Env) → Contains (told_of rule t e) d → IsToldIn rule t e e d)
+    → Contains (under_told_by k env h (told_of rule t)) d → IsToldIn rule (Tree h t behind) outer env d
+under_found rule None h t behind outer env d known found c =
     let r = found (inner env h) c in (r.0, below h t behind outer env r.0 known r.1, r.2)
-under_found (Some k) h t behind outer env d known found c =
-    let i = rounds_found k.count k.base env (told_of t) d c in
+under_found rule (Some k) h t behind outer env d known found c =
+    let i = rounds_found k.count k.base env (told_of rule t) d c in
     let r = found (with_index env k.base i.0) i.2 in
     (r.0, in_round h t behind outer env r.0 k i.0 known i.1 r.1, r.2)
 
-found_in : (t : Trees) (outer env : Env) (d : Diag) → Contains (told t outer env) d → IsToldIn t outer env d
-found_in Empty outer env d h = absurd (none_told d h)
-found_in (Tree h t behind) outer env d c =
-    elim (Contains-append_cases (line_told env h t (told_of t)) (told behind outer (behind_line outer env h t)) d c) [
-      | inl line ↦ elim (Contains-append_cases (under_told env h (told_of t)) (own_faults h.form h.place env (components env h (items_of t))) d line) [
-        | inl under ↦ under_found (known_replicator h.form) h t behind outer env d refl (λ (e : Env) x. found_in t e e d x) under
+found_in : (rule : Rule) (t : Trees) (outer env : Env) (d : Diag) → Contains (told rule t outer env) d → IsToldIn rule t outer env d
+found_in rule Empty outer env d h = absurd (none_told d h)
+found_in rule (Tree h t behind) outer env d c =
+    elim (Contains-append_cases (line_told rule env h t (told_of rule t)) (told rule behind outer (behind_line outer env h t)) d c) [
+      | inl line ↦ elim (Contains-append_cases (under_told env h (told_of rule t)) (rule (record { line = h; under = t; env = env })) d line) [
+        | inl under ↦ under_found rule (known_replicator h.form) h t behind outer env d refl (λ (e : Env) x. found_in rule t e e d x) under
         | inr own ↦ (record { line = h; under = t; env = env }, first h t behind outer env, own)
       ]
-      | inr rest ↦ let r = found_in behind outer (behind_line outer env h t) d rest in (r.0, later h t behind outer env r.0 r.1, r.2)
+      | inr rest ↦ let r = found_in rule behind outer (behind_line outer env h t) d rest in (r.0, later h t behind outer env r.0 r.1, r.2)
     ]
 
 -- ---- from the places to the list
 
-under_given : (k : Option KnownReplicator) (h : Head) (t behind : Trees) (outer env : Env) (d : Diag) → known_replicator h.form ≡ k
-    → Contains (under_told_by k env h (told_of t)) d → Contains (told (Tree h t behind) outer env) d
-under_given k h t behind outer env d known c =
-    Contains-append_left (line_told env h t (told_of t)) (told behind outer (behind_line outer env h t)) d
-    (Contains-append_left (under_told env h (told_of t)) (own_faults h.form h.place env (components env h (items_of t))) d
-    (subst (λ (z : Option KnownReplicator). Contains (under_told_by z env h (told_of t)) d) (sym known) c))
+under_given : (rule : Rule) (k : Option KnownReplicator) (h : Head) (t behind : Trees) (outer env : Env) (d : Diag) → known_replicator h.form ≡ k
+    → Contains (under_told_by k env h (told_of rule t)) d → Contains (told rule (Tree h t behind) outer env) d
+under_given rule k h t behind outer env d known c =
+    Contains-append_left (line_told rule env h t (told_of rule t)) (told rule behind outer (behind_line outer env h t)) d
+    (Contains-append_left (under_told env h (told_of rule t)) (rule (record { line = h; under = t; env = env })) d
+    (subst (λ (z : Option KnownReplicator). Contains (under_told_by z env h (told_of rule t)) d) (sym known) c))
 
-given_in : (t : Trees) (outer env : Env) (a : At) (d : Diag) → Stands t outer env a → Contains (told_at a) d → Contains (told t outer env) d
-given_in _ _ _ _ d (first h t behind outer env) c =
-    Contains-append_left (line_told env h t (told_of t)) (told behind outer (behind_line outer env h t)) d
-    (Contains-append_right (under_told env h (told_of t)) (own_faults h.form h.place env (components env h (items_of t))) d c)
-given_in _ _ _ _ d (below h t behind outer env a known s) c =
-    under_given None h t behind outer env d known (given_in t (inner env h) (inner env h) a d s c)
-given_in _ _ _ _ d (in_round h t behind outer env a k i known w s) c =
-    under_given (Some k) h t behind outer env d known
-    (rounds_given k.count k.base env (told_of t) d i w (given_in t (with_index env k.base i) (with_index env k.base i) a d s c))
-given_in _ _ _ _ d (later h t behind outer env a s) c =
-    Contains-append_right (line_told env h t (told_of t)) (told behind outer (behind_line outer env h t)) d (given_in behind outer (behind_line outer env h t) a d s c)
+given_in : (rule : Rule) (t : Trees) (outer env : Env) (a : At) (d : Diag) → Stands t outer env a → Contains (rule a) d → Contains (told rule t outer env) d
+given_in rule _ _ _ _ d (first h t behind outer env) c =
+    Contains-append_left (line_told rule env h t (told_of rule t)) (told rule behind outer (behind_line outer env h t)) d
+    (Contains-append_right (under_told env h (told_of rule t)) (rule (record { line = h; under = t; env = env })) d c)
+given_in rule _ _ _ _ d (below h t behind outer env a known s) c =
+    under_given rule None h t behind outer env d known (given_in rule t (inner env h) (inner env h) a d s c)
+given_in rule _ _ _ _ d (in_round h t behind outer env a k i known w s) c =
+    under_given rule (Some k) h t behind outer env d known
+    (rounds_given k.count k.base env (told_of rule t) d i w (given_in rule t (with_index env k.base i) (with_index env k.base i) a d s c))
+given_in rule _ _ _ _ d (later h t behind outer env a s) c =
+    Contains-append_right (line_told rule env h t (told_of rule t)) (told rule behind outer (behind_line outer env h t)) d (given_in rule behind outer (behind_line outer env h t) a d s c)
 
-pub place_law : (ls : List TypedLine) (d : Diag) → Contains (parallel_faults ls) d ↔ IsToldIn (trees_of ls) [] [] d
-place_law ls d = (λ h. found_in (trees_of ls) [] [] d h, λ h. given_in (trees_of ls) [] [] h.0 d h.1 h.2)
+pub place_law : (rule : Rule) (ls : List TypedLine) (d : Diag) → Contains (unit_told rule ls) d ↔ IsToldIn rule (trees_of ls) [] [] d
+place_law rule ls d = (λ h. found_in rule (trees_of ls) [] [] d h, λ h. given_in rule (trees_of ls) [] [] h.0 d h.1 h.2)

@@ -9,9 +9,9 @@ use Rattle.occ_names.specs.declared.meaning.Entry.{Entry}
 use Rattle.occ_usage.specs.Effect.{effect_behind, effect_under, is_body, line_effect, lines_effect}
 use Rattle.occ_usage.specs.FunctionRule.{faults, whole_faults}
 use Rattle.occ_usage.specs.Lines.{added, behind_by, behind_line, behind_lines, ends_item, items, items_of, line_uses}
-use Rattle.occ_usage.specs.ParallelRule.{line_told, told, told_of}
 use Rattle.occ_usage.specs.Processes.{process_uses, whole_uses}
 use Rattle.occ_usage.specs.Trees.{Head, Tree, Trees}
+use Rattle.occ_usage.specs.Walk.{Rule, line_told, told, told_of}
 use Rattle.occ_usage.specs.declared.function.Within.{Within}
 
 -- ---- what stands in scope round lines stands there still
@@ -83,19 +83,19 @@ step_items h t rest all depth outer env grown behind own more own1 found found1 
     ∙ ap (λ (z : Trees). found ++ items z outer env own) (sym is)
     ∙ before
 
--- ---- what the parallel rule tells
+-- ---- what a rule tells
 
-pub step_told : (h : Head) (t rest all : Trees) (outer env behind : Env) (found found1 whole : List Diag)
+pub step_told : (rule : Rule) (h : Head) (t rest all : Trees) (outer env behind : Env) (found found1 whole : List Diag)
     → all ≡ Tree h t rest
-    → found ++ told all outer env ≡ whole
-    → found1 ≡ found ++ line_told env h t (told_of t)
+    → found ++ told rule all outer env ≡ whole
+    → found1 ≡ found ++ line_told rule env h t (told_of rule t)
     → behind ≡ behind_line outer env h t
-    → found1 ++ told rest outer behind ≡ whole
-step_told h t rest all outer env behind found found1 whole is before more e =
-    ap (λ (z : Env). found1 ++ told rest outer z) e
-    ∙ ap (λ (z : List Diag). z ++ told rest outer (behind_line outer env h t)) more
-    ∙ append_assoc found (line_told env h t (told_of t)) (told rest outer (behind_line outer env h t))
-    ∙ ap (λ (z : Trees). found ++ told z outer env) (sym is)
+    → found1 ++ told rule rest outer behind ≡ whole
+step_told rule h t rest all outer env behind found found1 whole is before more e =
+    ap (λ (z : Env). found1 ++ told rule rest outer z) e
+    ∙ ap (λ (z : List Diag). z ++ told rule rest outer (behind_line outer env h t)) more
+    ∙ append_assoc found (line_told rule env h t (told_of rule t)) (told rule rest outer (behind_line outer env h t))
+    ∙ ap (λ (z : Trees). found ++ told rule z outer env) (sym is)
     ∙ before
 
 -- ---- what stands in scope behind lines

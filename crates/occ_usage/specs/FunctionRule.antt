@@ -2,7 +2,7 @@
 -- line of the write, with its name; and each line with an effect. The body of a PROC in it counts by its calls, and that of
 -- another FUNCTION is judged for itself. Indices of replicators round a line are not known here; under one of count 0 nothing is
 -- written.
-use Rattle.std.specs.Prelude.{ℕ, zero, nat_lt, true, ◌&&◌, ◌==◌, not, Option, Some, None, List, [], ◌∷◌, ◌++◌, length, if◌then◌else◌}
+use Rattle.std.specs.Prelude.{ℕ, zero, nat_lt, Bool, true, false, ◌&&◌, ◌||◌, ◌==◌, not, Option, Some, None, List, [], ◌∷◌, ◌++◌, length, if◌then◌else◌}
 use Rattle.occ_base.specs.Errors.{error_at, error_if}
 use Rattle.occ_base.specs.declared.code.Code.TheVariants.{F1}
 use Rattle.occ_base.specs.declared.diag.Diag.{Diag}
@@ -82,3 +82,15 @@ whole_faults w h t env =
 -- of the lines of a unit: nothing stands in scope at the first
 abbrev pub function_faults : List TypedLine → List Diag
 function_faults ls = faults within.Nothing (trees_of ls) [] []
+
+-- ---- where a FUNCTION is specified
+
+abbrev pub is_function : TypedForm → Bool
+is_function form.FunctionHead = true
+is_function (form.OneLineFunction formals results) = true
+is_function other = false
+
+-- at one of the lines, or under it
+abbrev pub has_function : Trees → Bool
+has_function Empty = false
+has_function (Tree h t behind) = (is_function h.form || has_function t) || has_function behind

@@ -1,13 +1,12 @@
 -- What the parallel rule tells of lines: at each PAR what its components have in common, and at each assignment of several
--- targets what these have; under a known replicator once for each round, so for each choice of the known indices round a line.
-use Rattle.std.specs.Prelude.{ℕ, zero, suc, ℤ, Option, Some, None, List, [], ◌∷◌, ◌++◌}
+-- targets what these have.
+use Rattle.std.specs.Prelude.{List, [], ◌∷◌}
 use Rattle.occ_base.specs.declared.diag.Diag.{Diag}
 use Rattle.occ_bounds.specs.Bounds.{Env}
 use Rattle.occ_bounds.specs.declared.uses.Use.{Use}
 use Rattle.occ_clashes.specs.ParallelRule.{component_faults, target_faults}
 use Rattle.occ_line_uses.specs.Forms.{used}
 use Rattle.occ_project.specs.declared.expanded.Place.{Place as Line}
-use Rattle.occ_replicators.specs.declared.tree.KnownReplicator.{KnownReplicator}
 use Rattle.occ_typed.specs.declared.expr.TypedElement.{TypedElement}
 use Rattle.occ_typed_lines.specs.declared.tree.BlockKind.{BlockKind}
 use Rattle.occ_typed_lines.specs.declared.tree.BlockKind.TheVariants as block
@@ -15,9 +14,8 @@ use Rattle.occ_typed_lines.specs.declared.tree.TypedForm.{TypedForm}
 use Rattle.occ_typed_lines.specs.declared.tree.TypedForm.TheVariants as form
 use Rattle.occ_types.specs.declared.interface.UseKind.TheVariants as kind
 use Rattle.occ_typing.specs.declared.tree.TypedLine.{TypedLine}
-use Rattle.occ_usage.specs.Effect.{inner}
-use Rattle.occ_usage.specs.Lines.{behind_line, components, items_of, known_replicator, with_index}
-use Rattle.occ_usage.specs.Trees.{Empty, Head, Tree, Trees, trees_of}
+use Rattle.occ_usage.specs.Lines.{components, items_of}
+use Rattle.occ_usage.specs.Walk.{Rule, unit_told}
 
 -- each target of an assignment as a component: what it writes, and what its subscripts and bounds use
 abbrev pub targets : List TypedElement → Env → Line → List (List Use)
@@ -42,33 +40,10 @@ own_faults (form.Block kind r) line env comps = block_faults kind line env comps
 own_faults (form.Assignment els es) line env comps = assignment_faults els env line
 own_faults other line env comps = []
 
-abbrev pub Told : Type 0
-Told = Env → List Diag
+-- at a line: what the components of a PAR, and the targets of an assignment, have in common
+abbrev pub parallel_at : Rule
+parallel_at a = own_faults a.line.form a.line.place a.env (components a.env a.line (items_of a.under))
 
-abbrev pub rounds_told : ℕ → ℤ → Env → Told → List Diag
-rounds_told zero base env told = []
-rounds_told (suc i) base env told = rounds_told i base env told ++ told (with_index env base i)
-
-abbrev pub under_told_by : Option KnownReplicator → Env → Head → Told → List Diag
-under_told_by None env h told = told (inner env h)
-under_told_by (Some k) env h told = rounds_told k.count k.base env told
-
--- of the lines under a line, in each round of a known replicator
-abbrev pub under_told : Env → Head → Told → List Diag
-under_told env h told = under_told_by (known_replicator h.form) env h told
-
--- of a line and those under it
-abbrev pub line_told : Env → Head → Trees → Told → List Diag
-line_told env h t told = under_told env h told ++ own_faults h.form h.place env (components env h (items_of t))
-
--- env stands in scope at the first of the lines, and outer at the next item
-abbrev pub told : Trees → Env → Env → List Diag
-told Empty outer env = []
-told (Tree h t behind) outer env = line_told env h t (λ (e : Env). told t e e) ++ told behind outer (behind_line outer env h t)
-
-abbrev pub told_of : Trees → Told
-told_of t env = told t env env
-
--- of the lines of a unit: nothing stands in scope at the first
+-- of the lines of a unit
 abbrev pub parallel_faults : List TypedLine → List Diag
-parallel_faults ls = told_of (trees_of ls) []
+parallel_faults = unit_told parallel_at

@@ -1,20 +1,14 @@
--- What the parallel rule tells of a unit, said place by place: of each line by what stands in scope there, for each choice of the
--- known indices round it.
-use Rattle.std.specs.Prelude.{◌≡◌, ◌<◌, ℕ, Some, None, List}
+-- What a rule tells of a unit, said place by place: of each line by what stands in scope there, for each choice of the known
+-- indices round it.
+use Rattle.std.specs.Prelude.{◌≡◌, ◌<◌, ℕ, Some, None}
 use Rattle.std.specs.List.{Contains}
 use Rattle.occ_base.specs.declared.diag.Diag.{Diag}
 use Rattle.occ_bounds.specs.Bounds.{Env}
 use Rattle.occ_replicators.specs.declared.tree.KnownReplicator.{KnownReplicator}
 use Rattle.occ_usage.specs.Effect.{inner}
-use Rattle.occ_usage.specs.Lines.{behind_line, components, items_of, known_replicator, with_index}
-use Rattle.occ_usage.specs.ParallelRule.{own_faults}
+use Rattle.occ_usage.specs.Lines.{behind_line, known_replicator, with_index}
 use Rattle.occ_usage.specs.Trees.{Head, Tree, Trees}
-
--- a line with those under it, and what stands in scope there
-pub record At : Type 0 where
-  pub line : Head
-  pub under : Trees
-  pub env : Env
+use Rattle.occ_usage.specs.Walk.{At, Rule}
 
 -- a line stands in trees, where env stands in scope at the first line and outer at the next item
 pub data Stands : Trees → Env → Env → At → Type 0 where
@@ -28,10 +22,6 @@ pub data Stands : Trees → Env → Env → At → Type 0 where
   later : (h : Head) (t behind : Trees) (outer env : Env) (a : At)
       → Stands behind outer (behind_line outer env h t) a → Stands (Tree h t behind) outer env a
 
--- of the line alone
-abbrev pub told_at : At → List Diag
-told_at a = own_faults a.line.form a.line.place a.env (components a.env a.line (items_of a.under))
-
 -- of some line in these trees
-abbrev pub IsToldIn : Trees → Env → Env → Diag → Type 0
-IsToldIn t outer env d = (a : At) × Stands t outer env a × Contains (told_at a) d
+abbrev pub IsToldIn : Rule → Trees → Env → Env → Diag → Type 0
+IsToldIn rule t outer env d = (a : At) × Stands t outer env a × Contains (rule a) d

@@ -5,11 +5,11 @@ ghost use Rattle.occ_base.specs.Errors.{error_if};
 ghost use Rattle.occ_base.specs.declared.code.Code.TheVariants.{F1};
 ghost use Rattle.occ_clashes.specs.Kinds.{is_write as tells_write};
 ghost use Rattle.occ_usage.specs.Effect.{inner as told_inner};
-ghost use Rattle.occ_usage.specs.FunctionRule.{counted as told_counted, faults as told_faults, function_faults as told_function, line_faults as told_line, one_line_faults as told_one_line, results_faults as told_results, whole_faults as told_whole, within_under as told_within, write_fault as told_write, write_faults as told_writes};
+ghost use Rattle.occ_usage.specs.FunctionRule.{counted as told_counted, faults as told_faults, function_faults as told_function, has_function as tells_some, is_function as tells_function, line_faults as told_line, one_line_faults as told_one_line, results_faults as told_results, whole_faults as told_whole, within_under as told_within, write_fault as told_write, write_faults as told_writes};
 ghost use Rattle.occ_usage.specs.Lines.{behind_line};
 ghost use Rattle.occ_usage.specs.Trees.{head_of, trees_of, under as lines_under};
 
-use super::walk::{go_over, known_replicator};
+use super::walk::{Told, go_over, known_replicator};
 use occ_base::{Code, Diag, Items, Shared};
 use occ_bounds::{Bound, Use};
 use occ_clashes::root_name;
@@ -178,7 +178,7 @@ fn within_under(form: &TypedForm, depth: usize, within: Within) -> Within
 }
 
 /// Goes behind a line: so many specifications stand round its item.
-pub fn go_behind(
+pub(crate) fn go_behind(
     alloc: Global,
     line: &TypedLine,
     depth: usize,
@@ -190,8 +190,8 @@ pub fn go_behind(
         cut(env, depth);
         return Ok(());
     }
-    let mut faults = Items::new(alloc);
-    go_over(alloc, line, depth, env, &mut faults)
+    let mut told = Told::nothing(alloc);
+    go_over(alloc, line, depth, env, &mut told)
 }
 
 /// What is told of the lines under a line.
@@ -252,12 +252,38 @@ fn lines(
     Ok(())
 }
 
+fn is_function(form: &TypedForm) -> bool
+    ensures { result ≡ tells_function form.now }
+{
+    match form {
+        TypedForm::FunctionHead => true,
+        TypedForm::OneLineFunction(_, _) => true,
+        _ => false,
+    }
+}
+
+/// Whether a FUNCTION is specified at one of the lines, or under it.
+#[cycle(search)]
+fn has_function(lines: &[TypedLine]) -> bool
+    ensures { result ≡ tells_some (trees_of lines.now) }
+{
+    for line in lines {
+        if is_function(line.form.get()) || has_function(line.under.as_slice()) {
+            return true;
+        }
+    }
+    false
+}
+
 /// What the function rule tells of a unit, in no order, some perhaps more than once.
 pub fn function_faults(alloc: Global, typed: &Typed) -> Result<Items<Diag>, AllocError>
     ensures { IfOk result (λ faults. faults ≡ told_function typed.now.lines) }
 {
     let mut env = Items::new(alloc);
     let mut faults = Items::new(alloc);
+    if !has_function(typed.lines.as_slice()) {
+        return Ok(faults);
+    }
     lines(
         alloc,
         typed.lines.as_slice(),

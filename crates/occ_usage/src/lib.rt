@@ -1,5 +1,6 @@
-//! What the processes of a unit use, and the rules of uses: parallel components share nothing that one of them changes, and
-//! a function changes nothing outside it and takes no part in communication.
+//! What the processes of a unit use, and the rules of uses: parallel components share nothing that one of them changes, a
+//! function changes nothing outside it and takes no part in communication, and while a name stands for an element nothing else
+//! uses that element.
 #![tactic(auto)]
 
 mod effect;
@@ -9,7 +10,7 @@ mod multiple;
 mod process;
 mod walk;
 
-pub use function::{function_faults, go_behind};
-pub use laws::place_law;
+pub use function::function_faults;
+pub use laws::{place_law, scope_law};
 pub use process::{Summary, uses_of};
-pub use walk::{UnitUses, known_replicator, par_faults, unit_uses};
+pub use walk::{UnitUses, alias_faults, par_faults, unit_uses};

@@ -7,7 +7,7 @@ ghost use Rattle.occ_usage.specs.Processes.{from_round, is_number as tells_numbe
 ghost use Rattle.occ_usage.specs.Trees.{head_of, trees_of, under as lines_under};
 
 use super::function::go_behind;
-use super::walk::line as judged_line;
+use super::walk::{Told, line as judged_line};
 use occ_base::Items;
 use occ_bounds::{Bound, Use};
 use occ_line_uses::{cut, enter_all};
@@ -31,9 +31,9 @@ fn line_uses(
     ensures env { OnOk result (env.new ≡ env.old) }
 {
     let mut uses = Items::new(alloc);
-    let mut faults = Items::new(alloc);
+    let mut told = Told::nothing(alloc);
     let depth = env.len();
-    judged_line(alloc, line, env, &mut uses, &mut faults)?;
+    judged_line(alloc, line, env, &mut uses, &mut told)?;
     cut(env, depth);
     Ok(uses)
 }

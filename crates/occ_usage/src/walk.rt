@@ -1,14 +1,19 @@
 #![tactic(auto, using(crate::proofs::Trees::first_tree))]
 
 ghost use Rattle.std.specs.Prelude.{◌≡◌, ◌≤◌, ◌++◌, ◌∷◌, [], if◌then◌else◌, true, IfOk, OnOk, length, take};
+ghost use Rattle.occ_alias.specs.AbbreviationRule.{line_faults as told_line_faults};
 ghost use Rattle.occ_clashes.specs.Components.{joined as told_joined};
+ghost use Rattle.occ_line_uses.specs.Forms.{form_uses as told_form_uses};
 ghost use Rattle.occ_usage.specs.Effect.{effect_under as told_effect, inner as told_inner};
 ghost use Rattle.occ_usage.specs.Lines.{added as told_behind, behind_line, behind_lines, behind_unit, added_by as told_added, body_over as told_body, components as told_components, ends_item, entered as told_entered, is_replicated as tells_replicated, items_of, known_replicator as told_known, line_uses as told_line_uses, rounds_to, under_uses as told_under, with_index};
-ghost use Rattle.occ_usage.specs.ParallelRule.{block_faults as told_block, line_told, own_faults as told_own, parallel_faults, rounds_told, told_of, under_told};
+ghost use Rattle.occ_usage.specs.AbbreviationRule.{abbreviation_at, abbreviation_faults};
+ghost use Rattle.occ_usage.specs.ParallelRule.{block_faults as told_block, own_faults as told_own, parallel_at, parallel_faults};
+ghost use Rattle.occ_usage.specs.Walk.{line_told, rounds_told, told_of, under_told};
 ghost use Rattle.occ_usage.specs.Trees.{head_of, trees_of, under as lines_under};
 
 use super::effect::{effect_under, is_body};
 use super::multiple::assignment_faults;
+use occ_alias::{graver, line_faults};
 use occ_base::{Diag, Items};
 use occ_bounds::{Bound, Use};
 use occ_clashes::{body_uses, component_faults, distinct, joined};
@@ -22,8 +27,28 @@ use occ_typed_lines::{BlockKind, TypedForm};
 use occ_typing::{Typed, TypedLine};
 use std::alloc::{AllocError, Global};
 
+/// What the rules of uses tell of lines, in no order, some perhaps more than once.
+#[derive(Drop)]
+pub(crate) struct Told {
+    /// What the parallel rule tells.
+    parallel: Items<Diag>,
+    /// What the abbreviation rule tells, with both grades.
+    abbreviations: Items<Diag>,
+}
+
+impl Told {
+    pub(crate) fn nothing(alloc: Global) -> Told
+        ensures { result ≡ record { parallel = []; abbreviations = [] } }
+    {
+        Told {
+            parallel: Items::new(alloc),
+            abbreviations: Items::new(alloc),
+        }
+    }
+}
+
 /// The replicator of a line, if it is known.
-pub fn known_replicator(form: &TypedForm) -> Option<KnownReplicator>
+pub(crate) fn known_replicator(form: &TypedForm) -> Option<KnownReplicator>
     ensures { result ≡ told_known form.now }
 {
     match form {
@@ -50,15 +75,16 @@ fn round(
     index: u32,
     lines: &[TypedLine],
     env: &mut Items<Bound>,
-    faults: &mut Items<Diag>,
+    told: &mut Told,
 ) -> Result<Items<Use>, AllocError>
     ensures found { IfOk result (λ found. found ≡ told_joined (items_of (trees_of lines.now) (with_index env.old base index))) }
     ensures env { OnOk result (env.new ≡ env.old) }
-    ensures faults { OnOk result (faults.new ≡ faults.old ++ told_of (trees_of lines.now) (with_index env.old base index)) }
+    ensures parallel { OnOk result (told.new.parallel ≡ told.old.parallel ++ told_of parallel_at (trees_of lines.now) (with_index env.old base index)) }
+    ensures abbreviations { OnOk result (told.new.abbreviations ≡ told.old.abbreviations ++ told_of abbreviation_at (trees_of lines.now) (with_index env.old base index)) }
 {
     let depth = env.len();
     enter_index(alloc, index_value(base, index), env)?;
-    let found = items(alloc, lines, env, faults)?;
+    let found = items(alloc, lines, env, told)?;
     cut(env, depth);
     joined(alloc, found)
 }
@@ -70,15 +96,16 @@ fn rounds(
     known: KnownReplicator,
     lines: &[TypedLine],
     env: &mut Items<Bound>,
-    faults: &mut Items<Diag>,
+    told: &mut Told,
 ) -> Result<Vec<Items<Use>>, AllocError>
     ensures found { IfOk result (λ found. found.items ≡ rounds_to known.count known.base env.old (items_of (trees_of lines.now))) }
     ensures env { OnOk result (env.new ≡ env.old) }
-    ensures faults { OnOk result (faults.new ≡ faults.old ++ rounds_told known.count known.base env.old (told_of (trees_of lines.now))) }
+    ensures parallel { OnOk result (told.new.parallel ≡ told.old.parallel ++ rounds_told known.count known.base env.old (told_of parallel_at (trees_of lines.now))) }
+    ensures abbreviations { OnOk result (told.new.abbreviations ≡ told.old.abbreviations ++ rounds_told known.count known.base env.old (told_of abbreviation_at (trees_of lines.now))) }
 {
     let mut found = Vec::new(alloc);
     for i in 0..known.count {
-        found.push(round(alloc, known.base, i, lines, env, faults)?)?;
+        found.push(round(alloc, known.base, i, lines, env, told)?)?;
     }
     Ok(found)
 }
@@ -89,15 +116,16 @@ fn inner(
     alloc: Global,
     line: &TypedLine,
     env: &mut Items<Bound>,
-    faults: &mut Items<Diag>,
+    told: &mut Told,
 ) -> Result<Vec<Items<Use>>, AllocError>
     ensures found { IfOk result (λ found. found.items ≡ items_of (lines_under line.now) (told_inner env.old (head_of line.now))) }
     ensures env { OnOk result (env.new ≡ env.old) }
-    ensures faults { OnOk result (faults.new ≡ faults.old ++ told_of (lines_under line.now) (told_inner env.old (head_of line.now))) }
+    ensures parallel { OnOk result (told.new.parallel ≡ told.old.parallel ++ told_of parallel_at (lines_under line.now) (told_inner env.old (head_of line.now))) }
+    ensures abbreviations { OnOk result (told.new.abbreviations ≡ told.old.abbreviations ++ told_of abbreviation_at (lines_under line.now) (told_inner env.old (head_of line.now))) }
 {
     let depth = env.len();
     enter_all(alloc, line.enters.as_slice(), env)?;
-    let found = items(alloc, line.under.as_slice(), env, faults)?;
+    let found = items(alloc, line.under.as_slice(), env, told)?;
     cut(env, depth);
     Ok(found)
 }
@@ -108,15 +136,16 @@ fn components(
     alloc: Global,
     line: &TypedLine,
     env: &mut Items<Bound>,
-    faults: &mut Items<Diag>,
+    told: &mut Told,
 ) -> Result<Vec<Items<Use>>, AllocError>
     ensures found { IfOk result (λ found. found.items ≡ told_components env.old (head_of line.now) (items_of (lines_under line.now))) }
     ensures env { OnOk result (env.new ≡ env.old) }
-    ensures faults { OnOk result (faults.new ≡ faults.old ++ under_told env.old (head_of line.now) (told_of (lines_under line.now))) }
+    ensures parallel { OnOk result (told.new.parallel ≡ told.old.parallel ++ under_told env.old (head_of line.now) (told_of parallel_at (lines_under line.now))) }
+    ensures abbreviations { OnOk result (told.new.abbreviations ≡ told.old.abbreviations ++ under_told env.old (head_of line.now) (told_of abbreviation_at (lines_under line.now))) }
 {
     match known_replicator(line.form.get()) {
-        Some(known) => rounds(alloc, known, line.under.as_slice(), env, faults),
-        None => inner(alloc, line, env, faults),
+        Some(known) => rounds(alloc, known, line.under.as_slice(), env, told),
+        None => inner(alloc, line, env, told),
     }
 }
 
@@ -225,6 +254,25 @@ fn under_uses(
     uses.append(under)
 }
 
+/// Adds what a line uses itself, and what the abbreviation rule tells of that.
+fn own_uses(
+    alloc: Global,
+    line: &TypedLine,
+    env: &mut Items<Bound>,
+    uses: &mut Items<Use>,
+    faults: &mut Items<Diag>,
+) -> Result<(), AllocError>
+    ensures env { OnOk result (env.new ≡ env.old) }
+    ensures uses { OnOk result (uses.new ≡ uses.old ++ told_form_uses (head_of line.now).form env.old (head_of line.now).place) }
+    ensures faults { OnOk result (faults.new ≡ faults.old ++ told_line_faults (head_of line.now).form env.old (head_of line.now).place) }
+{
+    let form = line.form.get();
+    let mut own = Items::new(alloc);
+    form_uses(alloc, form, env.as_slice(), &line.place, &mut own)?;
+    line_faults(alloc, form, &line.place, own.as_slice(), env, faults)?;
+    uses.append(own)
+}
+
 /// A line with those under it: its uses, what comes into scope behind it, and what is told of them. A main line leaves what
 /// stands in scope.
 #[cycle(walk)]
@@ -233,15 +281,22 @@ pub(crate) fn line(
     line: &TypedLine,
     env: &mut Items<Bound>,
     uses: &mut Items<Use>,
-    faults: &mut Items<Diag>,
+    told: &mut Told,
 ) -> Result<(), AllocError>
     ensures env { OnOk result (env.new ≡ env.old ++ told_behind env.old (head_of line.now) (lines_under line.now) (items_of (lines_under line.now))) }
     ensures uses { OnOk result (uses.new ≡ uses.old ++ told_line_uses env.old (head_of line.now) (items_of (lines_under line.now))) }
-    ensures faults { OnOk result (faults.new ≡ faults.old ++ line_told env.old (head_of line.now) (lines_under line.now) (told_of (lines_under line.now))) }
+    ensures parallel { OnOk result (told.new.parallel ≡ told.old.parallel ++ line_told parallel_at env.old (head_of line.now) (lines_under line.now) (told_of parallel_at (lines_under line.now))) }
+    ensures abbreviations { OnOk result (told.new.abbreviations ≡ told.old.abbreviations ++ line_told abbreviation_at env.old (head_of line.now) (lines_under line.now) (told_of abbreviation_at (lines_under line.now))) }
 {
-    let components = components(alloc, line, env, faults)?;
-    own_faults(alloc, line, components.as_slice(), env.as_slice(), faults)?;
-    form_uses(alloc, line.form.get(), env.as_slice(), &line.place, uses)?;
+    let components = components(alloc, line, env, told)?;
+    own_faults(
+        alloc,
+        line,
+        components.as_slice(),
+        env.as_slice(),
+        &mut told.parallel,
+    )?;
+    own_uses(alloc, line, env, uses, &mut told.abbreviations)?;
     let under = joined(alloc, components)?;
     go_behind(alloc, line, under.as_slice(), env)?;
     under_uses(alloc, line.form.get(), under, uses)
@@ -274,17 +329,18 @@ fn items(
     alloc: Global,
     lines: &[TypedLine],
     env: &mut Items<Bound>,
-    faults: &mut Items<Diag>,
+    told: &mut Told,
 ) -> Result<Vec<Items<Use>>, AllocError>
     ensures found { IfOk result (λ found. found.items ≡ items_of (trees_of lines.now) env.old) }
     ensures env { OnOk result (env.new ≡ env.old) }
-    ensures faults { OnOk result (faults.new ≡ faults.old ++ told_of (trees_of lines.now) env.old) }
+    ensures parallel { OnOk result (told.new.parallel ≡ told.old.parallel ++ told_of parallel_at (trees_of lines.now) env.old) }
+    ensures abbreviations { OnOk result (told.new.abbreviations ≡ told.old.abbreviations ++ told_of abbreviation_at (trees_of lines.now) env.old) }
 {
     let depth = env.len();
     let mut found = Vec::new(alloc);
     let mut own = Items::new(alloc);
     for one in lines {
-        line(alloc, one, env, &mut own, faults)?;
+        line(alloc, one, env, &mut own, told)?;
         end_item(alloc, one, depth, env, &mut own, &mut found)?;
     }
     cut(env, depth);
@@ -292,68 +348,86 @@ fn items(
     Ok(found)
 }
 
-/// What the parallel rule tells of lines, behind the last of which stands in scope what is in scope then.
+/// What is told of lines, behind the last of which stands in scope what is in scope then.
 fn go_through(
     alloc: Global,
     lines: &[TypedLine],
     env: &mut Items<Bound>,
-    faults: &mut Items<Diag>,
+    told: &mut Told,
 ) -> Result<(), AllocError>
     ensures env { OnOk result (env.new ≡ behind_lines (trees_of lines.now) env.old env.old) }
-    ensures faults { OnOk result (faults.new ≡ faults.old ++ told_of (trees_of lines.now) env.old) }
+    ensures parallel { OnOk result (told.new.parallel ≡ told.old.parallel ++ told_of parallel_at (trees_of lines.now) env.old) }
+    ensures abbreviations { OnOk result (told.new.abbreviations ≡ told.old.abbreviations ++ told_of abbreviation_at (trees_of lines.now) env.old) }
 {
     let depth = env.len();
     for one in lines {
-        go_over(alloc, one, depth, env, faults)?;
+        go_over(alloc, one, depth, env, told)?;
     }
     Ok(())
 }
 
-/// What the parallel rule tells of a line with those under it, behind which stands in scope what is in scope then: so many
-/// specifications stand round its item.
+/// What is told of a line with those under it, behind which stands in scope what is in scope then: so many specifications stand
+/// round its item.
 pub(crate) fn go_over(
     alloc: Global,
     one: &TypedLine,
     depth: usize,
     env: &mut Items<Bound>,
-    faults: &mut Items<Diag>,
+    told: &mut Told,
 ) -> Result<(), AllocError>
     ensures env { OnOk result (depth ≤ length env.old → env.new ≡ behind_line (take depth env.old) env.old (head_of one.now) (lines_under one.now)) }
-    ensures faults { OnOk result (faults.new ≡ faults.old ++ line_told env.old (head_of one.now) (lines_under one.now) (told_of (lines_under one.now))) }
+    ensures parallel { OnOk result (told.new.parallel ≡ told.old.parallel ++ line_told parallel_at env.old (head_of one.now) (lines_under one.now) (told_of parallel_at (lines_under one.now))) }
+    ensures abbreviations { OnOk result (told.new.abbreviations ≡ told.old.abbreviations ++ line_told abbreviation_at env.old (head_of one.now) (lines_under one.now) (told_of abbreviation_at (lines_under one.now))) }
 {
     let mut uses = Items::new(alloc);
-    line(alloc, one, env, &mut uses, faults)?;
+    line(alloc, one, env, &mut uses, told)?;
     if one.adds.is_none() {
         cut(env, depth);
     }
     Ok(())
 }
 
+/// What the rules of uses that are said line by line tell of a unit, and what stands in scope behind its last line.
+#[derive(Drop)]
+pub struct UnitUses {
+    /// What the parallel rule tells, in no order, some perhaps more than once.
+    pub parallel: Items<Diag>,
+    /// What the abbreviation rule tells: an error or a check, never both.
+    pub abbreviations: Items<Diag>,
+    pub bounds: Items<Bound>,
+}
+
+/// What the parallel rule and the abbreviation rule tell of a unit, and what stands in scope behind its last line.
+pub fn unit_uses(alloc: Global, typed: &Typed) -> Result<UnitUses, AllocError>
+    ensures parallel { IfOk result (λ found. found.parallel ≡ parallel_faults typed.now.lines) }
+    ensures abbreviations { IfOk result (λ found. found.abbreviations ≡ abbreviation_faults typed.now.lines) }
+    ensures bounds { IfOk result (λ found. found.bounds ≡ behind_unit typed.now.lines) }
+{
+    let mut bounds = Items::new(alloc);
+    let mut told = Told::nothing(alloc);
+    go_through(alloc, typed.lines.as_slice(), &mut bounds, &mut told)?;
+    let Told {
+        parallel,
+        abbreviations,
+    } = told;
+    let abbreviations = graver(alloc, abbreviations)?;
+    Ok(UnitUses {
+        parallel,
+        abbreviations,
+        bounds,
+    })
+}
+
 /// What the parallel rule tells of a unit, in no order, some perhaps more than once.
 pub fn par_faults(alloc: Global, typed: &Typed) -> Result<Items<Diag>, AllocError>
     ensures { IfOk result (λ faults. faults ≡ parallel_faults typed.now.lines) }
 {
-    let mut env = Items::new(alloc);
-    let mut faults = Items::new(alloc);
-    go_through(alloc, typed.lines.as_slice(), &mut env, &mut faults)?;
-    Ok(faults)
+    Ok(unit_uses(alloc, typed)?.parallel)
 }
 
-/// What the rules of uses tell of a unit, and what stands in scope behind its last line.
-#[derive(Drop)]
-pub struct UnitUses {
-    /// What the parallel rule tells, in no order, some perhaps more than once.
-    pub faults: Items<Diag>,
-    pub bounds: Items<Bound>,
-}
-
-/// What the parallel rule tells of a unit, as `par_faults` does, and with it what stands in scope behind its last line.
-pub fn unit_uses(alloc: Global, typed: &Typed) -> Result<UnitUses, AllocError>
-    ensures faults { IfOk result (λ found. found.faults ≡ parallel_faults typed.now.lines) }
-    ensures bounds { IfOk result (λ found. found.bounds ≡ behind_unit typed.now.lines) }
+/// What the abbreviation rule tells of a unit, in no order: an error or a check, never both.
+pub fn alias_faults(alloc: Global, typed: &Typed) -> Result<Items<Diag>, AllocError>
+    ensures { IfOk result (λ faults. faults ≡ abbreviation_faults typed.now.lines) }
 {
-    let mut bounds = Items::new(alloc);
-    let mut faults = Items::new(alloc);
-    go_through(alloc, typed.lines.as_slice(), &mut bounds, &mut faults)?;
-    Ok(UnitUses { faults, bounds })
+    Ok(unit_uses(alloc, typed)?.abbreviations)
 }

@@ -1,13 +1,24 @@
-//! The program: it runs the script that its words name and writes the answers to standard output.
+//! The program: it runs the script, or the sessions, that its words name and writes the answers to standard output.
 #![tactic(auto)]
 
+mod input;
+
+ghost use Rattle.occ_words.specs.Modes.{IsAllowed, IsFew};
+ghost use Rattle.std.specs.List.{list_any};
+ghost use Rattle.std.specs.Prelude.{◌≡◌, IfOk, false, length};
+
+use input::Input;
+use occ_base::FileName;
 use occ_script::{Status, StdIn, StdOut, run_script};
+use occ_server::Gate;
+use occ_sessions::run_sessions;
 use occ_words::{Mode, WordsFault, read_words};
 use std::alloc::AllocError;
 use std::env::{self, Env};
 use std::fs;
 use std::io::{self, ErrorKind};
 use std::process::ExitCode;
+use std::sync::Wait;
 
 /// The exit status where the words ask for nothing that there is.
 const REFUSED: u8 = 64;
@@ -15,14 +26,55 @@ const REFUSED: u8 = 64;
 fn main(rt: HostRuntime) -> ExitCode {
     match asked(&rt) {
         Ok(Mode::Steps(script)) => steps(&rt, script.as_str()),
-        Ok(Mode::Workers(_, _)) => {
-            refuse(
-                &rt,
-                "error: there are no sessions yet, so '--workers' is not taken\n",
-            )
+        Ok(Mode::Workers(workers, scripts)) => {
+            let status = match opened(&rt, scripts.as_slice()) {
+                Ok(mut readers) => run_sessions(
+                    &rt,
+                    rt.alloc(),
+                    readers.as_mut_slice(),
+                    u32::from(workers),
+                    &Free,
+                    &mut StdOut::new(rt.stdout()),
+                ),
+                Err(status) => status,
+            };
+            ExitCode::from(status.code())
         }
         Err(WordsFault::Refused(text)) => refuse(&rt, text.as_str()),
         Err(WordsFault::Memory) => ExitCode::from(Status::NoMemory.code()),
+    }
+}
+
+/// Lets all jobs pass.
+struct Free;
+
+impl Gate for Free {
+    fn pass<R: Wait>(&self, _rt: &R, _unit: &FileName) {}
+}
+
+/// The scripts, all of them opened. A file that cannot be opened is a device that failed.
+fn opened(rt: &HostRuntime, scripts: &[String]) -> Result<Vec<StdIn<Input>>, Status>
+    ensures count { IfOk result (λ readers. length readers.items ≡ length scripts.now) }
+    ensures fresh { IfOk result (λ readers. list_any (λ reader. reader.failed) readers.items ≡ false) }
+{
+    let mut readers = Vec::new(rt.alloc());
+    for script in scripts {
+        let Ok(input) = open(rt, script.as_str()) else {
+            return Err(Status::DeviceFault);
+        };
+        if readers.push(StdIn::new(input)).is_err() {
+            return Err(Status::NoMemory);
+        }
+    }
+    Ok(readers)
+}
+
+/// A script, `-` from standard input.
+fn open(rt: &HostRuntime, script: &str) -> io::Result<Input> {
+    if script == "-" {
+        Ok(Input::Standard(rt.stdin()))
+    } else {
+        Ok(Input::File(fs::open(rt, script)?))
     }
 }
 
@@ -33,7 +85,9 @@ fn refuse(rt: &HostRuntime, text: &str) -> ExitCode {
 }
 
 /// What the words after the program's name ask for.
-fn asked(rt: &HostRuntime) -> Result<Mode, WordsFault> {
+fn asked(rt: &HostRuntime) -> Result<Mode, WordsFault>
+    ensures { IfOk result (λ mode. IsAllowed mode) }
+{
     let words = match words(rt) {
         Ok(words) => words,
         Err(error) => return Err(unread(rt, error.kind())?),

@@ -1,5 +1,6 @@
 -- What a board keeps.
 use Rattle.std.specs.Prelude.{◌≡◌, ◌≤◌, ℕ, Bool, List, [], ◌∷◌, length, Option, Some, None, if◌then◌else◌}
+use Rattle.std.specs.BTreeMap.{BTreeMap, get}
 use Rattle.std.specs.Option.{option_map}
 use Rattle.std.specs.Str.{bytes_eq}
 use Rattle.std.specs.Prelude.{suc}
@@ -7,6 +8,7 @@ use Rattle.occ_board.specs.Journal.{IsLegal, replay}
 use Rattle.occ_board.specs.declared.entry.Entry.{Entry}
 use Rattle.occ_board.specs.inside.Flagged.{AreFlags}
 use Rattle.occ_check.specs.Input.{Input}
+use Rattle.occ_project.specs.Reads.{name_cmp}
 use Rattle.occ_project.specs.declared.reads.Read.{Read}
 use Rattle.occ_units.specs.Spelled.{AreSpelled}
 
@@ -22,3 +24,7 @@ pub record IsBoard (journal : List Entry) (kept : List Input) (files : List Read
 abbrev pub place_in : List Input → List ℕ → Option ℕ
 place_in [] u = None
 place_in (i ∷ is) u = if bytes_eq i.unit u then Some 0 else option_map suc (place_in is u)
+
+-- of each unit the place of the input that is kept of it, by name
+abbrev pub ArePlaces : BTreeMap (List ℕ) ℕ → List Input → Type 0
+ArePlaces places kept = (u : List ℕ) → get name_cmp places u ≡ place_in kept u

@@ -1,5 +1,5 @@
 -- What a graph keeps.
-use Rattle.std.specs.Prelude.{◌≡◌, ℕ, false, List, [], cond, map, Option, Some, None}
+use Rattle.std.specs.Prelude.{◌≡◌, ◌<◌, ℕ, false, List, [], cond, get_or, length, map, Option, Some, None}
 use Rattle.std.specs.Option.{unwrap_or}
 use Rattle.std.specs.Str.{bytes_eq}
 use Rattle.occ_base.specs.FileName.{is_unit}
@@ -7,7 +7,8 @@ use Rattle.occ_graph.specs.Graph.{all_rests}
 use Rattle.occ_project.specs.declared.reads.Read.{Read}
 use Rattle.occ_project.specs.Expansion.{Expansion, expansion}
 use Rattle.occ_units.specs.declared.facts.Facts.{Facts}
-use Rattle.occ_units.specs.Places.{graph_of}
+use Rattle.occ_units.specs.declared.links.Links.{Links}
+use Rattle.occ_units.specs.Places.{graph_of, users_at}
 use Rattle.occ_units.specs.Project.{file_of}
 use Rattle.occ_units.specs.Units.{used_units}
 
@@ -27,7 +28,15 @@ reads_in (Some expansion) = expansion.reads
 abbrev pub AreOthers : List ℕ → List Read → List Read → Type 0
 AreOthers name files later = (other : List ℕ) → bytes_eq name other ≡ false → file_of later other ≡ file_of files other
 
--- without files there are no rests
-pub record IsGraph (files : List Read) (facts : List Facts) (rests : Option (List (List ℕ))) : Type 0 where
+-- what rests on what, and what uses what
+pub record IsLinks (files : List Read) (links : Links) : Type 0 where
+  pub rests_are : links.rests ≡ all_rests (graph_of files)
+  pub users_are : (p : ℕ) → p < length files → get_or links.users p [] ≡ users_at files p
+
+abbrev pub no_links : Links
+no_links = record { edges = []; rests = []; users = [] }
+
+-- without files there are no links
+pub record IsGraph (files : List Read) (facts : List Facts) (links : Option Links) : Type 0 where
   pub facts_are : facts ≡ all_facts files
-  pub rests_are : unwrap_or rests [] ≡ all_rests (graph_of files)
+  pub links_are : IsLinks files (unwrap_or links no_links)

@@ -1,4 +1,4 @@
-use Rattle.std.proofs.Common.{◌≡◌, ◌+◌, drop, length}
+use Rattle.std.proofs.Common.{◌≡◌, ◌+◌, drop}
 use Rattle.occ_interfaces.specs.Exports.{entries_exports, with_exports}
 use Rattle.occ_interfaces.proofs.export.add_entries.Given as goal
 

@@ -4,12 +4,13 @@ use Rattle.occ_parts.specs.Keeping.{Joins, meets_some}
 use Rattle.occ_parts.proofs.Joining.{joined_meets}
 use Rattle.occ_parts.proofs.kept.keep.Goals as goal
 
-pub returns-in_ok-part-in-Some-clause-ok : goal.returns-in_ok-part-in-Some-clause-ok
-returns-in_ok-part-in-Some-clause-ok c q =
+pub returns-in-Some-clause-ok : goal.returns-in-Some-clause-ok
+returns-in-Some-clause-ok c q =
     let joined = c.in-Some.ensures.joins in
-    let is : c.set.new.self ≡ slice_set c.args.kept.now c.in-Some.at c.in_ok-part-in-Some.part = search rules in
-    ap (λ (k : List (List PartSelector)). meets_some k q) is
-    ∙ joined_meets c.args.kept.now c.in-Some.at (joined.0) c.args.part c.in_ok-part-in-Some.part q c.in-Some.places
+    let is : c.set.new.self ≡ slice_set c.args.kept.now c.in-Some.at c.with_last.result = search rules in
+    c.merge.ensures q
+    ∙ ap (λ (k : List (List PartSelector)). meets_some k q) is
+    ∙ joined_meets c.args.kept.now c.in-Some.at (joined.0) c.args.part c.with_last.result q c.in-Some.places
     (subst (λ (k : List (List PartSelector)). slice_get k c.in-Some.at ≡ Some (joined.0)) c.as_slice-2.ensures (joined.1))
     (subst (λ (p : List PartSelector). Joins (joined.0) p c.in-Some.places) c.as_slice-3.ensures (joined.2))
-    c.in_ok-part-in-Some.ensures
+    c.with_last.ensures

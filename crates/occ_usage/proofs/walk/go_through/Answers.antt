@@ -1,5 +1,7 @@
 use Rattle.occ_usage.proofs.Trees.{from_line}
 use Rattle.occ_usage.proofs.Walking.{behind_stands, step_behind, step_told}
+use Rattle.occ_usage.specs.AbbreviationRule.{abbreviation_at}
+use Rattle.occ_usage.specs.ParallelRule.{parallel_at}
 use Rattle.occ_usage.specs.Trees.{head_of, under}
 use Rattle.occ_usage.proofs.walk.go_through.Goals as goal
 
@@ -12,5 +14,6 @@ loop-one-preserved c =
       stands.0,
       stands.1,
       step_behind h u _ _ _ _ _ _ split c.loop-one.invariant.2 stands.2,
-      step_told h u _ _ _ _ _ _ _ _ split c.loop-one.invariant.3 c.in_ok-go_over.ensures.faults stands.2,
+      step_told parallel_at h u _ _ _ _ _ _ _ _ split c.loop-one.invariant.3 c.in_ok-go_over.ensures.parallel stands.2,
+      step_told abbreviation_at h u _ _ _ _ _ _ _ _ split c.loop-one.invariant.4 c.in_ok-go_over.ensures.abbreviations stands.2,
     )

@@ -1,17 +1,32 @@
-use Rattle.std.proofs.Common.{◌∙◌}
-use Rattle.std.proofs.lemmas.Option.{get_or_from_slice_get}
-use Rattle.occ_board.proofs.Adopted.{adopted, fewer_left, sound_still}
+use Rattle.std.proofs.Common.{◌≡◌, ◌∙◌, List, ℕ, Some, ap, false, subst, sym}
+use Rattle.std.specs.Str.{bytes_eq}
+use Rattle.occ_board.proofs.Adopted.{adopted, fewer_left, full_still, sound_still}
+use Rattle.occ_board.proofs.Keeps.{same_there}
+use Rattle.occ_board.proofs.Places.{within}
 use Rattle.occ_board.proofs.board.Board.accept_outcome.Goals as goal
+use Rattle.occ_check.specs.Input.{Input}
+use Rattle.occ_units.specs.Along.{name_at}
 
-pub settle-requires-clause-sound : goal.settle-requires-clause-sound
-settle-requires-clause-sound c =
-    sound_still c.self.inside.journal.items c.self.inside.kept.items c.self.inside.handed.items c.args.self.now c.args.outcome c.self.view_is c.requires c.as_slice.result.now (c.as_slice.ensures.value ∙ c.in_ok-place.ensures.kept) c.done_law.ensures.done c.done_law.ensures.project c.height_law.ensures c.self.inside.graph c.self.inside.flags
+pub at-requires : goal.at-requires
+at-requires c = within c.keep.new.self c.in_ok-place.place c.args.outcome c.in_ok-place.ensures.place
+
+pub settle_from-requires-clause-sound : goal.settle_from-requires-clause-sound
+settle_from-requires-clause-sound c =
+    sound_still c.self.inside.journal.items c.self.inside.kept c.self.inside.handed.items c.args.self.now c.args.outcome c.self.view_is c.requires c.keep.new.self c.in_ok-place.ensures.kept c.done_law.ensures.done c.done_law.ensures.project c.height_law.ensures c.self.inside.graph c.self.inside.flags
     c.self.invariant
+
+pub settle_from-requires-clause-full : goal.settle_from-requires-clause-full
+settle_from-requires-clause-full c = λ p lt other.
+    let job : c.job-job.result.now ≡ c.args.outcome = c.job-job.ensures ∙ same_there c.keep.new.self c.in_ok-place.place c.at.result.now c.args.outcome c.at.ensures c.in_ok-place.ensures.place in
+    let unit : c.unit.result ≡ c.args.outcome.unit = c.unit.ensures.value ∙ ap (λ (i : Input). i.unit) job in
+    full_still c.self.inside.journal.items c.self.inside.kept c.self.inside.handed.items c.args.self.now c.args.outcome c.self.view_is c.requires c.keep.new.self c.in_ok-place.ensures.kept c.done_law.ensures.done c.done_law.ensures.project c.height_law.ensures c.self.inside.graph c.self.inside.flags
+    c.self.invariant p lt (ap (λ (n : List ℕ). bytes_eq n (name_at c.self.inside.graph p)) (sym unit) ∙ other)
 
 pub returns-clause-ok : goal.returns-clause-ok
 returns-clause-ok c =
-    adopted c.self.inside.journal.items c.self.inside.kept.items c.self.inside.handed.items c.args.self.now c.args.outcome c.self.view_is c.requires c.keep.new.kept.items c.in_ok-place.ensures.kept c.unhand.new.handed.items c.job.result.now c.unhand.ensures
-    (c.job.ensures ∙ c.index.ensures ∙ get_or_from_slice_get c.keep.new.kept.items c.in_ok-place.place c.args.outcome c.index.result.now c.in_ok-place.ensures.place)
+    adopted c.self.inside.journal.items c.self.inside.kept c.self.inside.handed.items c.args.self.now c.args.outcome c.self.view_is c.requires c.keep.new.self c.in_ok-place.ensures.kept c.unhand.new.handed.items c.job-job.result.now c.unhand.ensures
+    (c.job-job.ensures ∙ same_there c.keep.new.self c.in_ok-place.place c.at.result.now c.args.outcome c.at.ensures c.in_ok-place.ensures.place)
 
 pub returns-clause-fewer : goal.returns-clause-fewer
-returns-clause-fewer c = fewer_left c.self.inside.journal.items c.self.inside.kept.items c.self.inside.handed.items c.args.self.now c.args.outcome c.self.view_is c.requires c.keep.new.kept.items c.in_ok-place.ensures.kept c.done_law.ensures.done c.done_law.ensures.project c.height_law.ensures c.unhand.new.handed.items
+returns-clause-fewer c =
+    fewer_left c.self.inside.journal.items c.self.inside.kept c.self.inside.handed.items c.args.self.now c.args.outcome c.self.view_is c.requires c.keep.new.self c.in_ok-place.ensures.kept c.done_law.ensures.done c.done_law.ensures.project c.height_law.ensures c.unhand.new.handed.items

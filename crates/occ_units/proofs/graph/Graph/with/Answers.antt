@@ -8,7 +8,7 @@ all_facts_behind-requires-clause-others c =
     others_behind c.files.result.now c.in_ok-project.project c.set.new.self (record { name = c.args.name; revision = c.args.revision; source = c.args.source }) c.in_ok-set.ensures.ok
     (c.in_ok-project.ensures ∙ sym c.files.ensures.files)
 
-pub rests_behind-requires-clause-places : goal.rests_behind-requires-clause-places
-rests_behind-requires-clause-places c =
+pub links_behind-requires-clause-places : goal.links_behind-requires-clause-places
+links_behind-requires-clause-places c =
     places_behind c.args.self.now c.in_ok-project.project c.set.new.self (record { name = c.args.name; revision = c.args.revision; source = c.args.source }) (subst IsProject c.self.view_is c.files.ensures.in_order) c.in_ok-set.ensures.ok
     (c.in_ok-project.ensures ∙ c.self.view_is)

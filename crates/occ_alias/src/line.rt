@@ -1,0 +1,101 @@
+ghost use Rattle.std.specs.Prelude.{◌≡◌, ◌++◌, OnOk};
+ghost use Rattle.occ_alias.specs.AbbreviationRule.{evaluated_faults as told_evaluated, results_faults as told_results, told_with};
+ghost use Rattle.occ_alias.specs.LineCalls.{form_calls as told_calls};
+
+use super::calling::calls_faults;
+use super::line_calls::{each_calls, form_calls};
+use super::scope::scope_faults;
+use occ_base::{Diag, Items, Shared};
+use occ_bounds::{Bound, Call, Use};
+use occ_line_uses::{cut, each_uses, enter_all};
+use occ_names::Entry;
+use occ_project::Place as Line;
+use occ_typed::TypedExpr;
+use occ_typed_lines::TypedForm;
+use std::alloc::{AllocError, Global};
+
+/// What is told of these uses and calls at a line.
+fn evaluated_faults(
+    alloc: Global,
+    line: &Line,
+    env: &[Bound],
+    uses: &[Use],
+    calls: &[Call],
+    faults: &mut Items<Diag>,
+) -> Result<(), AllocError>
+    ensures { OnOk result (faults.new ≡ faults.old ++ told_evaluated line.now env.now uses.now calls.now) }
+{
+    scope_faults(alloc, env, uses, faults)?;
+    calls_faults(alloc, line, env, calls, faults)
+}
+
+/// What is told of the results of a FUNCTION of one line.
+fn results_faults(
+    alloc: Global,
+    formals: &[Entry],
+    results: &[Shared<TypedExpr>],
+    line: &Line,
+    env: &mut Items<Bound>,
+    faults: &mut Items<Diag>,
+) -> Result<(), AllocError>
+    ensures faults { OnOk result (faults.new ≡ faults.old ++ told_results formals.now results.now env.old line.now) }
+    ensures env { OnOk result (env.new ≡ env.old) }
+{
+    let depth = env.len();
+    enter_all(alloc, formals, env)?;
+    let mut uses = Items::new(alloc);
+    each_uses(alloc, results, env.as_slice(), line, &mut uses)?;
+    let mut calls = Items::new(alloc);
+    each_calls(alloc, results, env.as_slice(), line, &mut calls)?;
+    evaluated_faults(
+        alloc,
+        line,
+        env.as_slice(),
+        uses.as_slice(),
+        calls.as_slice(),
+        faults,
+    )?;
+    cut(env, depth);
+    Ok(())
+}
+
+/// What is told of a line that uses these itself, without those under it.
+fn form_faults(
+    alloc: Global,
+    form: &TypedForm,
+    line: &Line,
+    uses: &[Use],
+    env: &[Bound],
+    faults: &mut Items<Diag>,
+) -> Result<(), AllocError>
+    ensures { OnOk result (faults.new ≡ faults.old ++ told_evaluated line.now env.now uses.now (told_calls form.now env.now line.now)) }
+{
+    let mut calls = Items::new(alloc);
+    form_calls(alloc, form, env, line, &mut calls)?;
+    evaluated_faults(alloc, line, env, uses, calls.as_slice(), faults)
+}
+
+/// What the abbreviation rule tells of a line that uses these itself, without those under it, with both grades.
+pub fn line_faults(
+    alloc: Global,
+    form: &TypedForm,
+    line: &Line,
+    uses: &[Use],
+    env: &mut Items<Bound>,
+    faults: &mut Items<Diag>,
+) -> Result<(), AllocError>
+    ensures faults { OnOk result (faults.new ≡ faults.old ++ told_with form.now env.old line.now uses.now) }
+    ensures env { OnOk result (env.new ≡ env.old) }
+{
+    match form {
+        TypedForm::OneLineFunction(formals, results) => results_faults(
+            alloc,
+            formals.as_slice(),
+            results.as_slice(),
+            line,
+            env,
+            faults,
+        ),
+        _ => form_faults(alloc, form, line, uses, env.as_slice(), faults),
+    }
+}

@@ -1,0 +1,12 @@
+use Rattle.std.proofs.Common.{◌≡◌, arith, ap, length}
+use Rattle.occ_board.proofs.Readers.{few_files}
+use Rattle.occ_board.proofs.board.Board.expanded.Goals as goal
+use Rattle.occ_board.specs.Journal.{replay}
+use Rattle.occ_project.specs.declared.reads.Read.{Read}
+
+pub count_readers-requires : goal.count_readers-requires
+count_readers-requires c =
+    let fewer = few_files c.self.inside.journal.items in
+    let same : length c.self.inside.graph ≡ length (replay c.self.inside.journal.items) = ap (length {A = Read}) c.self.invariant.files_are in
+    let few = c.self.invariant.few in
+    omega (arith, fewer, same, few)

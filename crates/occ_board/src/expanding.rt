@@ -1,0 +1,38 @@
+ghost use Rattle.occ_board.specs.Machine.{readers};
+ghost use Rattle.occ_project.specs.Entries.{is_among};
+ghost use Rattle.occ_report.specs.Report.{is_open_unit};
+ghost use Rattle.occ_units.specs.Units.{read_names};
+ghost use Rattle.std.specs.Prelude.{◌≡◌, ◌<◌, ◌^◌, ◌&&◌, ◌+◌, Some, cond, length, slice_get};
+
+use occ_base::FileName;
+use occ_project::Read;
+use occ_units::Graph;
+
+/// Whether the file at a place is an open unit that has the one of that name among its reads.
+fn is_reader(graph: &Graph, place: usize, file: &Read, name: FileName) -> bool
+    requires { slice_get graph.now place ≡ Some file.now }
+    ensures { result ≡ (is_open_unit file.now && is_among (read_names graph.now file.now.name) name) }
+{
+    file.name.is_unit() && file.source.is_some() && graph.does_read(place, name)
+}
+
+/// One more, if it is counted.
+fn counted(count: u32, is_one: bool) -> u32
+    requires { count < 2 ^ 31 }
+    ensures { result ≡ cond is_one (count + 1) count }
+{
+    if is_one { count + 1 } else { count }
+}
+
+/// How many open units have the file of that name among their reads.
+pub fn count_readers(graph: &Graph, name: FileName) -> u32
+    requires { length graph.now < 2 ^ 31 }
+    ensures { result ≡ length (readers graph.now name) }
+{
+    let mut count = 0;
+    for (place, file) in graph.project().files().iter().enumerate() {
+        let is_one = is_reader(graph, place, file, name);
+        count = counted(count, is_one);
+    }
+    count
+}

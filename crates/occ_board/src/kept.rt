@@ -1,0 +1,138 @@
+ghost use Rattle.occ_board.specs.Done.{kept_of};
+ghost use Rattle.occ_board.specs.Machine.{with_kept};
+ghost use Rattle.occ_board.specs.inside.Holding.{place_in};
+ghost use Rattle.occ_check.specs.Diagnostics.{interface_of};
+ghost use Rattle.std.specs.Option.{option_and_then, option_copied};
+ghost use Rattle.std.specs.Prelude.{◌≡◌, ◌<◌, [], IfErr, IfOk, None, Some, length, slice_get};
+
+use occ_base::{FileName, Shared};
+use occ_check::Outcome;
+use occ_types::Interface;
+use sqlite_items::at;
+use std::alloc::{AllocError, Global};
+use std::collections::BTreeMap;
+use std::marker::Model;
+
+/// The outcomes that are kept, one for each unit at most. In contracts it is the list of what they looked at.
+#[derive(Drop)]
+pub struct Kept {
+    outcomes: Vec<Outcome>,
+    /// The place of the outcome of each unit that has one.
+    places: BTreeMap<FileName, usize>,
+}
+
+impl Model for Kept {
+    ghost use Rattle.occ_expression_forms.specs.contracts.tree.Builtin as builtins;
+    ghost use Rattle.occ_expression_forms.specs.contracts.tree.Dimension as dimensions;
+    ghost use Rattle.occ_expression_forms.specs.contracts.tree.Element as elements;
+    ghost use Rattle.occ_expression_forms.specs.contracts.tree.Expr as expressions;
+    ghost use Rattle.occ_expression_forms.specs.contracts.tree.TypeForm as type_forms;
+    ghost use Rattle.occ_types.specs.contracts.types.OccType as types;
+    ghost use Rattle.occ_check.specs.Input.{Input};
+    ghost use Rattle.std.specs.Coded.{codes};
+    ghost use Rattle.std.specs.Prelude.{List};
+
+    ghost Value = { List Input };
+
+    ghost coded = { Prim.hlevel (codes, builtins.the_row.coded, dimensions.the_row.coded, elements.the_row.coded, expressions.the_row.coded, type_forms.the_row.coded, types.the_row.coded) };
+
+    ghost use Rattle.occ_board.specs.inside.Holding.{ArePlaces};
+
+    ghost view = { λ kept. kept.outcomes.items };
+
+    ghost invariant = { λ kept. ArePlaces kept.places kept.outcomes.items };
+}
+
+impl Kept {
+    /// Where no outcome is kept.
+    pub fn new(alloc: Global) -> Kept
+        ensures { result ≡ [] }
+    {
+        Kept {
+            outcomes: Vec::new(alloc),
+            places: BTreeMap::new(alloc),
+        }
+    }
+
+    /// The place of the outcome that is kept of a unit.
+    fn place(&self, unit: FileName) -> Option<usize>
+        ensures { result ≡ place_in self.now unit }
+    {
+        match self.places.get(&unit) {
+            Some(place) => Some(*place),
+            None => None,
+        }
+    }
+
+    /// The outcome that is kept of a unit.
+    pub fn get(&self, unit: FileName) -> Option<&Outcome>
+        ensures { option_copied result ≡ kept_of self.now unit }
+    {
+        match self.place(unit) {
+            Some(place) => at(self.outcomes.as_slice(), place),
+            None => None,
+        }
+    }
+
+    /// What a unit shows by the outcome that is kept of it.
+    pub fn shown(&self, unit: FileName) -> Option<&Shared<Interface>>
+        ensures { option_copied result ≡ option_and_then interface_of (kept_of self.now unit) }
+    {
+        self.get(unit)?.interface()
+    }
+
+    /// The outcome at a place.
+    pub fn at(&self, place: usize) -> &Outcome
+        requires { place < length self.now }
+        ensures { slice_get self.now place ≡ Some result.now }
+    {
+        &self.outcomes[place]
+    }
+
+    /// Keeps an outcome, in place of the one that is kept of its unit if one is, and tells its place. Where memory is
+    /// refused it comes back.
+    pub fn keep(&mut self, outcome: Outcome) -> Result<usize, (Outcome, AllocError)>
+        ensures kept { IfOk result (λ _. self.new ≡ with_kept self.old outcome) }
+        ensures place { IfOk result (λ place. slice_get self.new place ≡ Some outcome) }
+        ensures err { IfErr result (λ refused. (refused.0 ≡ outcome) × (self.new ≡ self.old)) }
+    {
+        match self.place(outcome.job().unit()) {
+            Some(place) => {
+                self.replace(place, outcome);
+                Ok(place)
+            }
+            None => self.keep_first(outcome),
+        }
+    }
+
+    /// Keeps an outcome in place of the one that is kept of its unit.
+    fn replace(&mut self, place: usize, outcome: Outcome)
+        requires within { place < length self.old }
+        requires place { place_in self.old outcome.unit ≡ Some place }
+        ensures kept { self.new ≡ with_kept self.old outcome }
+        ensures place { slice_get self.new place ≡ Some outcome }
+    {
+        self.outcomes[place] = outcome;
+    }
+
+    /// Keeps the first outcome of a unit, and tells its place.
+    fn keep_first(&mut self, outcome: Outcome) -> Result<usize, (Outcome, AllocError)>
+        requires { place_in self.old outcome.unit ≡ None }
+        ensures kept { IfOk result (λ _. self.new ≡ with_kept self.old outcome) }
+        ensures place { IfOk result (λ place. slice_get self.new place ≡ Some outcome) }
+        ensures err { IfErr result (λ refused. (refused.0 ≡ outcome) × (self.new ≡ self.old)) }
+    {
+        let unit = outcome.job().unit();
+        let place = self.outcomes.len();
+        if let Err(refused) = self.outcomes.push(outcome) {
+            return Err((refused.value, AllocError));
+        }
+        if self.places.insert(unit, place).is_err() {
+            return match self.outcomes.pop() {
+                Some(outcome) => Err((outcome, AllocError)),
+                None => unreachable!(),
+            };
+        }
+        Ok(place)
+    }
+}
