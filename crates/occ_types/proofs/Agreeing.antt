@@ -576,7 +576,7 @@ alike_of_channel carried u = ap (λ (f : OccType → Bool). f u) (ap alike (sym 
 pub alike_of_timer : (u : OccType) → alike t.Timer u ≡ false
 alike_of_timer u = ap (λ (f : OccType → Bool). f u) (ap alike (sym t.rolls-Timer) ∙ fold-roll-OccType (Unit {0}) (OccType → Bool) (Unit {0}) (Field → Bool) (Unit {0}) (λ _. tt) alike_step (λ _. tt) alike_field_step (λ _. tt) OccType-F.Timer)
 
-pub alike_of_unknown : (u : OccType) → alike t.Unknown u ≡ is_unknown (unnamed u)
+pub alike_of_unknown : (u : OccType) → alike t.Unknown u ≡ true
 alike_of_unknown u = ap (λ (f : OccType → Bool). f u) (ap alike (sym t.rolls-Unknown) ∙ fold-roll-OccType (Unit {0}) (OccType → Bool) (Unit {0}) (Field → Bool) (Unit {0}) (λ _. tt) alike_step (λ _. tt) alike_field_step (λ _. tt) OccType-F.Unknown)
 
 pub is_data_of_primitive : (x : Primitive) → is_data (t.Primitive x) ≡ true

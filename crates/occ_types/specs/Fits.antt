@@ -1,5 +1,5 @@
 -- When two types agree, and what a type is under its names.
-use Rattle.std.specs.Prelude.{ℕ, ◌==◌, Option, Some, None, List, [], ◌∷◌, map, Bool, true, false, ◌&&◌}
+use Rattle.std.specs.Prelude.{ℕ, ◌==◌, Option, Some, None, List, [], ◌∷◌, map, Bool, true, false, ◌&&◌, ◌||◌}
 use Rattle.std.specs.Str.{bytes_eq}
 use Rattle.occ_types.specs.declared.types.Field.{Field}
 use Rattle.occ_types.specs.declared.types.Item.{Item}
@@ -165,18 +165,18 @@ alike_step (OccType-F.Record packing fields) u = record_fits packing fields (as_
 alike_step (OccType-F.Named name inner) u = inner u
 alike_step (OccType-F.Channel carried) u = false
 alike_step OccType-F.Timer u = false
-alike_step OccType-F.Unknown u = is_unknown (unnamed u)
+alike_step OccType-F.Unknown u = true
 
 abbrev pub alike_field_step : Field-F (Unit {0}) (OccType → Bool) (Unit {0}) (Field → Bool) (Unit {0}) → Field → Bool
-alike_field_step f g = is_same_name f.name g.name && f.of g.of
+alike_field_step f g = is_same_name f.name g.name && (is_unknown g.of || f.of g.of)
 
--- the types are one when each name of a type is dropped, at any depth; no channel and no timer is in them, and fields of
--- unknown type are alike
+-- the types are one when each name of a type is dropped, at any depth; no channel and no timer is in them, and a field whose
+-- line has a fault is alike with any of its name
 abbrev pub alike : OccType → OccType → Bool
 alike = fold-OccType (Unit {0}) (OccType → Bool) (Unit {0}) (Field → Bool) (Unit {0}) (λ _. tt) alike_step (λ _. tt) alike_field_step (λ _. tt)
 
 abbrev pub field_alike : Field → Field → Bool
-field_alike f g = is_same_name f.name g.name && alike f.of g.of
+field_alike f g = is_same_name f.name g.name && (is_unknown g.of || alike f.of g.of)
 
 abbrev pub fields_alike : List Field → List Field → Bool
 fields_alike fs gs = all_fit (map field_alike fs) gs

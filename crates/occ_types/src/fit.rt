@@ -152,8 +152,8 @@ fn tags_fit(a: &[Tag], b: &[Tag]) -> bool
     others.is_empty()
 }
 
-/// Whether two types are one when each name of a type is dropped, at any depth. No channel and no timer is in them, and
-/// fields of unknown type are alike.
+/// Whether two types are one when each name of a type is dropped, at any depth. No channel and no timer is in them, and a
+/// field whose line has a fault is alike with any of its name.
 #[cycle(alike)]
 pub fn alike(a: &OccType, b: &OccType) -> bool
     ensures { result ≡ same_but_names a.now b.now }
@@ -174,7 +174,7 @@ pub fn alike(a: &OccType, b: &OccType) -> bool
             }
             _ => false,
         },
-        OccType::Unknown => is_unknown(unnamed(b)),
+        OccType::Unknown => true,
         OccType::Channel(_) | OccType::Timer => false,
     }
 }
@@ -183,7 +183,7 @@ pub fn alike(a: &OccType, b: &OccType) -> bool
 fn field_alike(a: &Field, b: &Field) -> bool
     ensures { result ≡ field_same_but_names a.now b.now }
 {
-    a.name == b.name && alike(a.of.get(), b.of.get())
+    a.name == b.name && (is_unknown(b.of.get()) || alike(a.of.get(), b.of.get()))
 }
 
 #[cycle(alike)]
