@@ -117,7 +117,7 @@ pub fn found_in<T: Copy>(table: &[(&[u8], T)], bytes: &[u8]) -> Option<T>
     ensures { result ≡ found_in (map (λ row. (row.0.now, row.1)) table.now) bytes.now }
 {
     for (spelling, meaning) in table {
-        if spelling.len() == bytes.len() && *spelling == bytes {
+        if spelling.first() == bytes.first() && *spelling == bytes {
             return Some(*meaning);
         }
     }
