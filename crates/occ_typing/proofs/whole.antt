@@ -1,9 +1,11 @@
 -- no faults, then what was found is whole
 pub mod Clean
+pub mod Made
 pub mod Types
 pub mod Reading
 pub mod Filled
 pub mod Trees
+pub mod Roots
 pub mod Sound
 pub mod Operating
 pub mod Names

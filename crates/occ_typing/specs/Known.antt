@@ -35,6 +35,16 @@ abbrev pub IsKnownProcedure : Meaning → Type 0
 IsKnownProcedure (m.Procedure formals) = AreKnownFormals formals
 IsKnownProcedure _ = ⊥
 
+-- a function, of whose formals and results the types are known
+abbrev pub IsKnownFunction : Meaning → Type 0
+IsKnownFunction (m.Function formals results) = AreKnownFormals formals × AreKnownTypes results
+IsKnownFunction _ = ⊥
+
+-- a variable, a channel, a timer or a value, of which the type is known
+abbrev pub IsKnownElement : Meaning → Type 0
+IsKnownElement (m.Element whole) = IsKnownType whole.of
+IsKnownElement _ = ⊥
+
 abbrev pub AreKnownMeanings : List Meaning → Type 0
 AreKnownMeanings [] = Unit {0}
 AreKnownMeanings (meaning ∷ meanings) = IsKnownMeaning meaning × AreKnownMeanings meanings

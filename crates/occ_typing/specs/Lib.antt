@@ -6,4 +6,5 @@ pub mod Typed
 pub mod inside
 pub mod Rounds
 pub mod Known
+pub mod WholeTrees
 pub mod Whole

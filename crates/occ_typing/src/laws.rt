@@ -27,8 +27,9 @@ pub fn scope_law()
 {}
 
 /// No diagnostics, then whole. Of trees that stand as the table lets them, where of all that imports show it is known what
-/// it stands for: the typed tree has no line of which it is not known what it is, and no name comes into scope of which it
-/// is not known what it stands for; at each line all names in scope are known.
+/// it stands for: the typed tree has no line of which it is not known what it is; of each expression and element of a line
+/// it is known, part by part, of which type it is and what its names stand for; no name comes into scope of which it is not
+/// known what it stands for; at each line all names in scope are known.
 pub fn whole_law()
     ensures tree { (is : List AnImport) → (f : Forest) → (tree : ATyped) → Obeys f → AreKnownImports is → IsTypedTree is f tree → AreWhole tree.lines }
     ensures names { (is : List AnImport) → (f : Forest) → (a : At) → Obeys f → AreKnownImports is → type_faults is f ≡ [] → Stands is (body_of role.Process) nothing nothing f a → IsKnownScope a.scope }

@@ -15,5 +15,10 @@ abbrev pub IsThere : {X : Type 0} → Option X → Type 0
 IsThere None = ⊥
 IsThere (Some x) = Unit {0}
 
+-- it is there, and so is what is asked of it
+abbrev pub Has : {X : Type 0} → (X → Type 0) → Option X → Type 0
+Has P None = ⊥
+Has P (Some x) = P x
+
 pub same_number : (m n : ℕ) → (m == n) ≡ true → m ≡ n
 same_number m n e = grind (arith, e)

@@ -5,7 +5,7 @@ use Rattle.std.specs.Str.{bytes_eq}
 use Rattle.std.specs.List.{list_any}
 use Rattle.occ_base.specs.declared.code.Code.TheVariants as code
 use Rattle.occ_base.specs.declared.fault.Fault.{Fault}
-use Rattle.occ_expr.specs.Drafts.{called_tree, conversion_draft, formal_types, operand_call, typed_call}
+use Rattle.occ_expr.specs.Drafts.{by_value, called_tree, conversion_draft, formal_types, operand_call, typed_call}
 use Rattle.occ_expr.specs.Elements.{component_at, element_draft, element_of, field_at, field_place_from, one_selector, place_tree, selector, selector_in, selectors, with_selectors}
 use Rattle.occ_expr.specs.Operations.{converted, plain}
 use Rattle.occ_expr.specs.Parts.{ExprView, Said, argument_as, call, call_of, call_of_type, component, element_of_type, field_or_component, function_call, in_scope, kind_of_whole, named, named_element, no_call, no_function, one_result, only, own_faults, part, segment_element, segment_of, subscript, subscripts, table, table_of_one_as, terms, whole_element, whole_element_of}
@@ -34,7 +34,7 @@ use Rattle.occ_typed.specs.declared.draft.Draft.{Draft}
 use Rattle.occ_typed.specs.declared.draft.Draft.TheVariants as dr
 use Rattle.occ_typed.specs.declared.expr.Selector.{Selector}
 use Rattle.occ_typed.specs.declared.expr.Selector.TheViews.{out-roll-TypedElement}
-use Rattle.occ_typed.specs.declared.expr.TypedElement.{TypedElement, out-TypedElement}
+use Rattle.occ_typed.specs.declared.expr.TypedElement.{TypedElement, out-TypedElement, roll-TypedElement}
 use Rattle.occ_typed.specs.declared.expr.TypedExpr.{TypedExpr}
 use Rattle.occ_typed.specs.declared.expr.TypedExpr.TheVariants as typed
 use Rattle.occ_types.specs.Fits.{unnamed}
@@ -45,12 +45,16 @@ use Rattle.occ_types.specs.declared.types.Field.{Field}
 use Rattle.occ_types.specs.declared.types.OccType.{OccType}
 use Rattle.occ_types.specs.declared.types.OccType.TheVariants as t
 use Rattle.occ_types.proofs.Unknowns.{unknown_array}
-use Rattle.occ_typing.specs.Known.{AreKnownTypes, IsKnownScope, IsKnownType}
-use Rattle.occ_typing.proofs.whole.Clean.{IsThere, back_clean, front_clean, same_number}
-use Rattle.occ_typing.proofs.whole.Names.{IsElement, PerhapsKnown, element_found, referent_there, visible_known}
+use Rattle.occ_typing.specs.Known.{AreKnownFormals, AreKnownTypes, IsKnownElement, IsKnownScope, IsKnownType}
+use Rattle.occ_typing.specs.WholeTrees.{AreWholeExprs, AreWholeSelectors, IsWholeElement, IsWholeExpr, IsWholeSelector}
+use Rattle.occ_typing.specs.WholeTrees as wholes
+use Rattle.occ_typing.proofs.whole.Made as made
+use Rattle.occ_typing.proofs.whole.Clean.{Has, IsThere, back_clean, front_clean, same_number}
+use Rattle.occ_typing.proofs.whole.Names.{IsElement, NamesElement, NamesFunction, PerhapsKnown, element_found, element_named, function_named, visible_known}
 use Rattle.occ_typing.proofs.whole.Operating.{drafted_reads, known_typed}
 use Rattle.occ_typing.proofs.whole.Literals.{conversion_reads, plain_reads}
-use Rattle.occ_typing.proofs.whole.Reading.{IsKnown, MayRead, ReadsAs, chosen, field_reads, placed_as, subscripted_reads}
+use Rattle.occ_typing.proofs.whole.Reading.{IsKnown, MayRead, ReadsAs, chosen, field_reads, int_known, placed_as, subscripted_reads}
+use Rattle.occ_typing.proofs.whole.Roots.{actuals_by_value}
 use Rattle.occ_typing.proofs.whole.Sound.{AllSound, Sound, alone_none, reads_no_fault, table_sound, with_clean}
 use Rattle.occ_typing.proofs.whole.Trees.{EachTree, each_there}
 use Rattle.occ_typing.proofs.whole.Types.{fields_hold, parts_hold, unnamed_holds}
@@ -89,21 +93,21 @@ all_sound s [] h e = tt
 all_sound s (x ∷ es) h e =
     (h.0 (front_clean (x.said s).faults (own_faults (in_scope s es)) e), all_sound s es h.1 (back_clean (x.said s).faults (own_faults (in_scope s es)) e))
 
--- what is known of an element, and its tree, of which the same is known
+-- what is known of an element, and its whole tree, of which the same is known
 abbrev pub ElementReads : Kind → Option TypedElement → Type 0
 ElementReads k.Faulty el = ⊥
 ElementReads (k.Free f) el = ⊥
 ElementReads (k.Known x) None = ⊥
-ElementReads (k.Known x) (Some el) = IsKnownType x.of × ((out-TypedElement el).known ≡ x)
+ElementReads (k.Known x) (Some el) = IsKnownType x.of × ((out-TypedElement el).known ≡ x) × IsWholeElement el
 
 -- ---- subscripts
 
 abbrev Selected : Kind → Option Selector → Type 0
-Selected kind x = IsKnown kind × IsThere x
+Selected kind x = IsKnown kind × Has IsWholeSelector x
 
-component_there : (t : Option TypedExpr) → IsThere t → IsThere (component_at t)
+component_there : (t : Option TypedExpr) → Has IsWholeExpr t → Has IsWholeSelector (component_at t)
 component_there None h = h
-component_there (Some t) h = tt
+component_there (Some t) h = made.component t h
 
 component_reads : (s : Scope) (of : OccType) (e : ExprView) → ExprSound s e → IsKnownType of → (component s of e).faults ≡ [] → Selected (component s of e).kind (component_at (place_tree s e))
 unfolding component
@@ -128,9 +132,9 @@ field_told_there : (name : List ℕ) (found : Option OccType) → (field_told na
 field_told_there name None e = absurd cc
 field_told_there name (Some of) e = tt
 
-at_place : (name : List ℕ) (n : Option ℕ) → IsThere n → IsThere (field_at name n)
+at_place : (name : List ℕ) (n : Option ℕ) → IsThere n → Has IsWholeSelector (field_at name n)
 at_place name None h = h
-at_place name (Some n) h = tt
+at_place name (Some n) h = made.field n name
 
 field_selected : (name : List ℕ) (fs : List Field) → any_of (fields_unknown fs) ≡ false → (field fs name).faults ≡ [] → Selected (field fs name).kind (field_at name (field_place_from 0 name fs))
 field_selected name fs known c = (
@@ -153,17 +157,21 @@ subscript_reads s e k.Faulty h g c = absurd g
 subscript_reads s e (k.Free f) h g c = absurd g
 subscript_reads s e (k.Known x) h g c = in_fields s x.of (fields_in (unnamed x.of)) e h g refl c
 
-both_selectors : (xs ys : Option (List Selector)) → IsThere xs → IsThere ys → IsThere (with_selectors xs ys)
+more_selectors : (xs ys : List Selector) → AreWholeSelectors xs → AreWholeSelectors ys → AreWholeSelectors (xs ++ ys)
+more_selectors _ ys wholes.no_selector g = g
+more_selectors _ ys (wholes.one_selector x xs here behind) g = wholes.one_selector x (xs ++ ys) here (more_selectors xs ys behind g)
+
+both_selectors : (xs ys : Option (List Selector)) → Has AreWholeSelectors xs → Has AreWholeSelectors ys → Has AreWholeSelectors (with_selectors xs ys)
 both_selectors None ys h g = h
 both_selectors (Some xs) None h g = g
-both_selectors (Some xs) (Some ys) h g = tt
+both_selectors (Some xs) (Some ys) h g = more_selectors xs ys h g
 
-one_there : (x : Option Selector) → IsThere x → IsThere (one_selector x)
+one_there : (x : Option Selector) → Has IsWholeSelector x → Has AreWholeSelectors (one_selector x)
 one_there None h = h
-one_there (Some x) h = tt
+one_there (Some x) h = wholes.one_selector x [] h wholes.no_selector
 
-pub subscripts_read : (s : Scope) (es : List ExprView) (kind : Kind) → AllExprs s es → IsKnown kind → (subscripts s es kind).faults ≡ [] → IsKnown (subscripts s es kind).kind × IsThere (selectors s es kind)
-subscripts_read s [] kind h g c = (g, tt)
+pub subscripts_read : (s : Scope) (es : List ExprView) (kind : Kind) → AllExprs s es → IsKnown kind → (subscripts s es kind).faults ≡ [] → IsKnown (subscripts s es kind).kind × Has AreWholeSelectors (selectors s es kind)
+subscripts_read s [] kind h g c = (g, wholes.no_selector)
 subscripts_read s (e ∷ es) kind h g c =
     let x = subscript s e kind in
     let y = subscripts s es x.kind in
@@ -173,13 +181,19 @@ subscripts_read s (e ∷ es) kind h g c =
 
 -- ---- a name with subscripts
 
-element_is : (kind : Kind) (name : List ℕ) (r : Option Referent) (xs : Option (List Selector)) → IsKnown kind → IsThere r → IsThere xs → ElementReads kind (element_of kind name r xs)
+element_is : (kind : Kind) (name : List ℕ) (r : Option Referent) (xs : Option (List Selector)) → IsKnown kind → Has NamesElement r → Has AreWholeSelectors xs → ElementReads kind (element_of kind name r xs)
 unfolding element_of
 element_is k.Faulty name r xs h g i = h
 element_is (k.Free f) name r xs h g i = h
 element_is (k.Known x) name None xs h g i = absurd g
 element_is (k.Known x) name (Some r) None h g i = absurd i
-element_is (k.Known x) name (Some r) (Some xs) h g i = (h, ap (λ z. z.known) (out-roll-TypedElement (record { known = x; name = name; referent = r; selectors = xs })))
+element_is (k.Known x) name (Some r) (Some xs) h g i =
+    let el = roll-TypedElement (record { known = x; name = name; referent = r; selectors = xs }) in
+    let is = out-roll-TypedElement (record { known = x; name = name; referent = r; selectors = xs }) in (
+      h,
+      ap (λ z. z.known) is,
+      wholes.whole_element el (subst (λ z. IsKnownType z.known.of) (sym is) h) (subst (λ z. IsKnownElement z.referent.meaning) (sym is) g) (subst (λ z. AreWholeSelectors z.selectors) (sym is) i),
+    )
 
 whole_known : (x : Option Whole) (whole : Whole) → x ≡ Some whole → IsKnownType whole.of → IsKnown (kind_of_whole x)
 whole_known None whole is h = absurd cc
@@ -192,7 +206,7 @@ named_element_reads s name es known h c =
     let y = subscripts s es x.kind in
     let f = element_found name (visible s name) (visible_known s name known) (front_clean x.faults y.faults c) in
     let z = subscripts_read s es x.kind h (whole_known (element name (visible s name)).found f.whole f.found f.known) (back_clean x.faults y.faults c) in
-    element_is y.kind name (referent s name) (selectors s es x.kind) z.0 (referent_there s name (m.Element f.whole) f.is) z.1
+    element_is y.kind name (referent s name) (selectors s es x.kind) z.0 (element_named s name f.whole f.is f.known) z.1
 
 -- the name stands for an element
 pub named_stands : (s : Scope) (name : List ℕ) (es : List ExprView) → IsKnownScope s → (named_element s name es).faults ≡ [] → IsElement (visible s name) (element name (visible s name))
@@ -205,21 +219,21 @@ pub element_may : (kind : Kind) (el : Option TypedElement) → ElementReads kind
 element_may k.Faulty el h = absurd h
 element_may (k.Free f) el h = absurd h
 element_may (k.Known x) None h = absurd h
-element_may (k.Known x) (Some el) h = known_typed x (typed.Element el) h.0
+element_may (k.Known x) (Some el) h = known_typed x (typed.Element el) h.0 (made.element el h.2)
 
 -- ---- segments
 
--- bounds of which each has its tree where it is an INT
+-- bounds of which each has its whole tree where it is an INT
 abbrev pub BoundSound : BoundTerms → (Option ℕ → Option Selector) → Type 0
-BoundSound (bounds.From x) tree = (d : Draft) × Sound (judged x) d × ((n : Option ℕ) → IsThere (placed d int) → IsThere (tree n))
-BoundSound (bounds.For x) tree = (d : Draft) × Sound (judged x) d × ((n : Option ℕ) → IsThere (placed d int) → IsThere (tree n))
-BoundSound (bounds.FromFor x y) tree = (d : Draft) × (e : Draft) × Sound (judged x) d × Sound (judged y) e × ((n : Option ℕ) → IsThere (placed d int) → IsThere (placed e int) → IsThere (tree n))
+BoundSound (bounds.From x) tree = (d : Draft) × Sound (judged x) d × ((n : Option ℕ) → Has IsWholeExpr (placed d int) → Has IsWholeSelector (tree n))
+BoundSound (bounds.For x) tree = (d : Draft) × Sound (judged x) d × ((n : Option ℕ) → Has IsWholeExpr (placed d int) → Has IsWholeSelector (tree n))
+BoundSound (bounds.FromFor x y) tree = (d : Draft) × (e : Draft) × Sound (judged x) d × Sound (judged y) e × ((n : Option ℕ) → Has IsWholeExpr (placed d int) → Has IsWholeExpr (placed e int) → Has IsWholeSelector (tree n))
 
 abbrev pub BoundsSound : Scope → BoundsView → Type 0
 BoundsSound s b = (b.said s).faults ≡ [] → BoundSound (b.said s).bounds (b.tree s)
 
 abbrev Segmented : Kind → (Option ℕ → Option Selector) → Type 0
-Segmented kind tree = IsKnown kind × ((n : Option ℕ) → IsThere (tree n))
+Segmented kind tree = IsKnown kind × ((n : Option ℕ) → Has IsWholeSelector (tree n))
 
 taken_or : (b : Bool) (n : Option ℕ) (of : OccType) → IsKnownType of → (chosen b (fault_of code.T6) (record { faults = []; kind = known (t.Array n of) None })).faults ≡ [] → IsKnown (chosen b (fault_of code.T6) (record { faults = []; kind = known (t.Array n of) None })).kind
 taken_or true n of h e = absurd cc
@@ -243,19 +257,19 @@ two_clean x y whole e =
     let g = front_clean (x.faults ++ (y.faults ++ [])) (unless_faulty (kinds (x ∷ y ∷ [])) whole).faults e in
     (front_clean x.faults (y.faults ++ []) g, front_clean y.faults [] (back_clean x.faults (y.faults ++ []) g))
 
-one_bound : (x : Told) (d : Draft) (whole : Told) → (x.faults ≡ [] → ReadsAs int x.kind d) → (whole.faults ≡ [] → IsKnown whole.kind) → (with_items (x ∷ []) whole).faults ≡ [] → IsKnown (with_items (x ∷ []) whole).kind × IsThere (placed d int)
+one_bound : (x : Told) (d : Draft) (whole : Told) → (x.faults ≡ [] → ReadsAs int x.kind d) → (whole.faults ≡ [] → IsKnown whole.kind) → (with_items (x ∷ []) whole).faults ≡ [] → IsKnown (with_items (x ∷ []) whole).kind × Has IsWholeExpr (placed d int)
 one_bound x d whole h g e =
     let r = h (one_clean x whole e) in
     let y = with_clean (x ∷ []) whole (one_none x d r) e in
-    (subst (λ (z : Told). IsKnown z.kind) (sym y.0) (g y.1), placed_as int x.kind d r)
+    (subst (λ (z : Told). IsKnown z.kind) (sym y.0) (g y.1), placed_as int x.kind d int_known r)
 
-two_bounds : (x y : Told) (d f : Draft) (whole : Told) → (x.faults ≡ [] → ReadsAs int x.kind d) → (y.faults ≡ [] → ReadsAs int y.kind f) → (whole.faults ≡ [] → IsKnown whole.kind) → (with_items (x ∷ y ∷ []) whole).faults ≡ [] → IsKnown (with_items (x ∷ y ∷ []) whole).kind × IsThere (placed d int) × IsThere (placed f int)
+two_bounds : (x y : Told) (d f : Draft) (whole : Told) → (x.faults ≡ [] → ReadsAs int x.kind d) → (y.faults ≡ [] → ReadsAs int y.kind f) → (whole.faults ≡ [] → IsKnown whole.kind) → (with_items (x ∷ y ∷ []) whole).faults ≡ [] → IsKnown (with_items (x ∷ y ∷ []) whole).kind × Has IsWholeExpr (placed d int) × Has IsWholeExpr (placed f int)
 two_bounds x y d f whole h i g e =
     let c = two_clean x y whole e in
     let a = h c.0 in
     let b = i c.1 in
     let z = with_clean (x ∷ y ∷ []) whole (two_none x y d f a b) e in
-    (subst (λ (w : Told). IsKnown w.kind) (sym z.0) (g z.1), placed_as int x.kind d a, placed_as int y.kind f b)
+    (subst (λ (w : Told). IsKnown w.kind) (sym z.0) (g z.1), placed_as int x.kind d int_known a, placed_as int y.kind f int_known b)
 
 -- nothing has no segment
 never : (c : (fault_of code.T2).faults ≡ []) → IsKnown (fault_of code.T2).kind
@@ -285,19 +299,25 @@ segment_reads k.Faulty b tree h g e = absurd h
 segment_reads (k.Free f) b tree h g e = absurd h
 segment_reads (k.Known x) b tree h g e = segment_bounds (as_array (unnamed x.of)) b tree (λ p is. parts_hold (unnamed x.of) p is ∙ unnamed_holds x.of ∙ h) g e
 
-pub element_known : (kind : Kind) (el : Option TypedElement) → ElementReads kind el → IsKnown kind × IsThere el
+pub element_known : (kind : Kind) (el : Option TypedElement) → ElementReads kind el → IsKnown kind × Has IsWholeElement el
 element_known k.Faulty el h = absurd h
 element_known (k.Free f) el h = absurd h
 element_known (k.Known x) None h = absurd h
-element_known (k.Known x) (Some el) h = (h.0, tt)
+element_known (k.Known x) (Some el) h = (h.0, h.2)
 
-part_is : (kind : Kind) (el : Option TypedElement) (x : Option Selector) (behind : Option (List Selector)) → IsKnown kind → IsThere el → IsThere x → IsThere behind → ElementReads kind (part_of kind el x behind)
+element_names : (el : TypedElement) → IsWholeElement el → IsKnownElement (out-TypedElement el).referent.meaning
+element_names _ (wholes.whole_element el h name selecting) = name
+
+element_selects : (el : TypedElement) → IsWholeElement el → AreWholeSelectors (out-TypedElement el).selectors
+element_selects _ (wholes.whole_element el h name selecting) = selecting
+
+part_is : (kind : Kind) (el : Option TypedElement) (x : Option Selector) (behind : Option (List Selector)) → IsKnown kind → Has IsWholeElement el → Has IsWholeSelector x → Has AreWholeSelectors behind → ElementReads kind (part_of kind el x behind)
 unfolding part_of
 part_is kind None x behind h g i j = absurd g
 part_is kind (Some el) x behind h g i j =
     let z = out-TypedElement el in
-    element_is kind z.name (Some z.referent) (with_selectors (with_selectors (Some z.selectors) (one_selector x)) behind) h tt
-    (both_selectors (with_selectors (Some z.selectors) (one_selector x)) behind (both_selectors (Some z.selectors) (one_selector x) tt (one_there x i)) j)
+    element_is kind z.name (Some z.referent) (with_selectors (with_selectors (Some z.selectors) (one_selector x)) behind) h (element_names el g)
+    (both_selectors (with_selectors (Some z.selectors) (one_selector x)) behind (both_selectors (Some z.selectors) (one_selector x) (element_selects el g) (one_there x i)) j)
 
 pub segment_element_reads : (s : Scope) (el : ElementView) (b : BoundsView) (es : List ExprView) → ((el.told s).faults ≡ [] → ElementReads (el.told s).kind (el.tree s)) → BoundsSound s b → AllExprs s es
     → (segment_element s (el.told s) (b.said s) es).faults ≡ [] → ElementReads (segment_element s (el.told s) (b.said s) es).kind (segment_tree s el b es)
@@ -315,17 +335,17 @@ segment_element_reads s el b es h g i e =
 
 -- ---- calls
 
-each_for_read : (fs : List Formal) (js : List Judged) (ds : List Draft) → length fs ≡ length js → AllSound js ds → all_faults (each_for fs js) ≡ [] → (list_any is_faulty (kinds (each_for fs js)) ≡ false) × EachTree ds (formal_types fs)
-each_for_read [] [] [] same h e = (refl, tt)
-each_for_read [] [] (d ∷ ds) same h e = absurd h
-each_for_read [] (j ∷ js) ds same h e = absurd (omega (arith, same))
-each_for_read (f ∷ fs) [] ds same h e = absurd (omega (arith, same))
-each_for_read (f ∷ fs) (j ∷ js) [] same h e = absurd h
-each_for_read (f ∷ fs) (j ∷ js) (d ∷ ds) same h e =
+each_for_read : (fs : List Formal) (js : List Judged) (ds : List Draft) → AreKnownFormals fs → length fs ≡ length js → AllSound js ds → all_faults (each_for fs js) ≡ [] → (list_any is_faulty (kinds (each_for fs js)) ≡ false) × EachTree ds (formal_types fs)
+each_for_read [] [] [] known same h e = (refl, tt)
+each_for_read [] [] (d ∷ ds) known same h e = absurd h
+each_for_read [] (j ∷ js) ds known same h e = absurd (omega (arith, same))
+each_for_read (f ∷ fs) [] ds known same h e = absurd (omega (arith, same))
+each_for_read (f ∷ fs) (j ∷ js) [] known same h e = absurd h
+each_for_read (f ∷ fs) (j ∷ js) (d ∷ ds) known same h e =
     let x = j.under f.of in
     let r = h.0.wanted f.of (front_clean x.faults (all_faults (each_for fs js)) e) in
-    let rest = each_for_read fs js ds (omega (arith, same)) h.1 (back_clean x.faults (all_faults (each_for fs js)) e) in
-    (ap (λ (b : Bool). b || list_any is_faulty (kinds (each_for fs js))) (reads_no_fault f.of x.kind d r) ∙ rest.0, (placed_as f.of x.kind d r, rest.1))
+    let rest = each_for_read fs js ds known.1 (omega (arith, same)) h.1 (back_clean x.faults (all_faults (each_for fs js)) e) in
+    (ap (λ (b : Bool). b || list_any is_faulty (kinds (each_for fs js))) (reads_no_fault f.of x.kind d r) ∙ rest.0, (placed_as f.of x.kind d known.0 r, rest.1))
 
 number_told : (b : Bool) → b ≡ false → number_faults (false || b) ≡ [] → ⊥
 number_told true is e = absurd cc
@@ -340,12 +360,12 @@ another_told js ds h e =
 abbrev matched_if : Bool → List Formal → List Judged → Matched
 matched_if b formals js = if b then as_many (each_for formals js) else record { faults = of_another_number false (map alone js); is_faulty = true }
 
-if_matched : (b : Bool) (fs : List Formal) (js : List Judged) (ds : List Draft) → (b ≡ true → length fs ≡ length js) → AllSound js ds → (matched_if b fs js).faults ≡ [] → ((matched_if b fs js).is_faulty ≡ false) × EachTree ds (formal_types fs)
-if_matched true fs js ds same h e = each_for_read fs js ds (same refl) h e
-if_matched false fs js ds same h e = absurd (another_told js ds h e)
+if_matched : (b : Bool) (fs : List Formal) (js : List Judged) (ds : List Draft) → AreKnownFormals fs → (b ≡ true → length fs ≡ length js) → AllSound js ds → (matched_if b fs js).faults ≡ [] → ((matched_if b fs js).is_faulty ≡ false) × EachTree ds (formal_types fs)
+if_matched true fs js ds known same h e = each_for_read fs js ds known (same refl) h e
+if_matched false fs js ds known same h e = absurd (another_told js ds h e)
 
-pub matched_reads : (fs : List Formal) (js : List Judged) (ds : List Draft) → AllSound js ds → (matched fs js).faults ≡ [] → ((matched fs js).is_faulty ≡ false) × EachTree ds (formal_types fs)
-matched_reads fs js ds h e = if_matched (length fs == length js) fs js ds (same_number (length fs) (length js)) h e
+pub matched_reads : (fs : List Formal) (js : List Judged) (ds : List Draft) → AreKnownFormals fs → AllSound js ds → (matched fs js).faults ≡ [] → ((matched fs js).is_faulty ≡ false) × EachTree ds (formal_types fs)
+matched_reads fs js ds known h e = if_matched (length fs == length js) fs js ds known (same_number (length fs) (length js)) h e
 
 result_known : (results : List OccType) → AreKnownTypes results → (one_result results).faults ≡ [] → IsKnown (one_result results).kind
 result_known [] h e = absurd cc
@@ -356,29 +376,29 @@ after_known : (results : List OccType) (b : Bool) → AreKnownTypes results → 
 after_known results true h is e = absurd cc
 after_known results false h is e = result_known results h e
 
-call_there : (x : Known) (r : Option Referent) (ts : Option (List TypedExpr)) → IsThere r → IsThere ts → IsThere (typed_call x r ts)
-call_there x None ts h g = h
-call_there x (Some r) None h g = g
-call_there x (Some r) (Some ts) h g = tt
+call_there : (x : Known) (r : Option Referent) (ts : Option (List TypedExpr)) → IsKnownType x.of → Has NamesFunction r → Has AreWholeExprs ts → Has IsWholeExpr (typed_call x r ts)
+call_there x None ts known h g = h
+call_there x (Some r) None known h g = g
+call_there x (Some r) (Some ts) known h g = made.call x r (by_value ts) known h (actuals_by_value ts g)
 
-pub called_there : (of : OccType) (r : Option Referent) (fs : List Formal) (ds : List Draft) → IsThere r → EachTree ds (formal_types fs) → IsThere (called_tree of r fs ds)
+pub called_there : (of : OccType) (r : Option Referent) (fs : List Formal) (ds : List Draft) → IsKnownType of → Has NamesFunction r → EachTree ds (formal_types fs) → Has IsWholeExpr (called_tree of r fs ds)
 unfolding called_tree
-called_there of r fs ds h g = call_there (record { of = of; value = None }) r (each_placed ds (formal_types fs)) h (each_there ds (formal_types fs) g)
+called_there of r fs ds known h g = call_there (record { of = of; value = None }) r (each_placed ds (formal_types fs)) known h (each_there ds (formal_types fs) g)
 
-operand_read : (kind : Kind) (r : Option Referent) (fs : List Formal) (ds : List Draft) → IsKnown kind → IsThere r → EachTree ds (formal_types fs) → MayRead kind (operand_call kind r fs ds)
+operand_read : (kind : Kind) (r : Option Referent) (fs : List Formal) (ds : List Draft) → IsKnown kind → Has NamesFunction r → EachTree ds (formal_types fs) → MayRead kind (operand_call kind r fs ds)
 operand_read k.Faulty r fs ds h g i = absurd h
 operand_read (k.Free f) r fs ds h g i = absurd h
-operand_read (k.Known x) r fs ds h g i = drafted_reads x (called_tree x.of r fs ds) h (called_there x.of r fs ds g i)
+operand_read (k.Known x) r fs ds h g i = drafted_reads x (called_tree x.of r fs ds) h (called_there x.of r fs ds h g i)
 
-function_reads : (s : Scope) (es : List ExprView) (fs : List Formal) (results : List OccType) (r : Option Referent) → AllExprs s es → AreKnownTypes results → IsThere r → (function_call fs results (in_scope s es)).faults ≡ []
+function_reads : (s : Scope) (es : List ExprView) (fs : List Formal) (results : List OccType) (r : Option Referent) → AllExprs s es → AreKnownFormals fs → AreKnownTypes results → Has NamesFunction r → (function_call fs results (in_scope s es)).faults ≡ []
     → MayRead (function_call fs results (in_scope s es)).kind (operand_call (function_call fs results (in_scope s es)).kind r fs (item_drafts s es))
 unfolding function_call
-function_reads s es fs results r h known g e =
+function_reads s es fs results r h formals known g e =
     let xs = in_scope s es in
     let x = matched fs (judged_all (terms xs)) in
     let y = chosen x.is_faulty silent (one_result results) in
     let own = front_clean (own_faults xs ++ x.faults) y.faults e in
-    let z = matched_reads fs (judged_all (terms xs)) (item_drafts s es) (all_sound s es h (front_clean (own_faults xs) x.faults own)) (back_clean (own_faults xs) x.faults own) in
+    let z = matched_reads fs (judged_all (terms xs)) (item_drafts s es) formals (all_sound s es h (front_clean (own_faults xs) x.faults own)) (back_clean (own_faults xs) x.faults own) in
     operand_read y.kind r fs (item_drafts s es) (after_known results x.is_faulty known z.0 (back_clean (own_faults xs ++ x.faults) y.faults e)) g z.1
 
 argument_reads : (to : OccType) (x : Said) (d : Draft) → IsKnownType to → SaidSound x d → (argument_as (Some to) x).faults ≡ [] → MayRead (argument_as (Some to) x).kind (conversion_draft (Some to) (judged x.term) d)
@@ -420,7 +440,7 @@ call_reads_of s name es (Some (m.Type None)) known h is e = absurd known
 call_reads_of s name es (Some (m.Type (Some to))) known h is e = type_call s name es to (only es) known (λ x i. only_sound s es x h i) is e
 call_reads_of s name es (Some (m.Protocol c)) known h is e = absurd (no_call_told s name es (Some (m.Protocol c)) known (λ f. f) is e)
 call_reads_of s name es (Some (m.Procedure fs)) known h is e = absurd (no_call_told s name es (Some (m.Procedure fs)) known (λ f. f) is e)
-call_reads_of s name es (Some (m.Function fs results)) known h is e = function_reads s es fs results (referent s name) h known.1 (referent_there s name (m.Function fs results) is) e
+call_reads_of s name es (Some (m.Function fs results)) known h is e = function_reads s es fs results (referent s name) h known.0 known.1 (function_named s name fs results is known.0 known.1) e
 call_reads_of s name es (Some (m.Element whole)) known h is e = absurd (no_call_told s name es (Some (m.Element whole)) known (λ f. f) is e)
 
 pub call_reads : (s : Scope) (name : List ℕ) (es : List ExprView) → IsKnownScope s → AllExprs s es → (call s name es).faults ≡ [] → MayRead (call s name es).kind (call_draft s name es)

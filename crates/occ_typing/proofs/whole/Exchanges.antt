@@ -75,10 +75,13 @@ use Rattle.occ_types.specs.declared.types.Protocol.TheVariants as p
 use Rattle.occ_types.specs.declared.types.Tag.{Tag}
 use Rattle.occ_types.proofs.Unknowns.{unknown_channel, unknown_defined, unknown_sequence, unknown_value as unknown_item, unknown_variant}
 use Rattle.occ_typing.specs.Known.{IsKnownScope, IsKnownType}
-use Rattle.occ_typing.proofs.whole.Clean.{IsThere, back_clean, front_clean, same_number}
+use Rattle.occ_typed_exchanges.specs.declared.sending.TypedSending.{TypedSending}
+use Rattle.occ_typed_exchanges.specs.declared.variants.TypedVariant.{TypedVariant}
+use Rattle.occ_typing.specs.WholeTrees.{AllAre, IsWholeElement, IsWholeExpr, IsWholeInput, IsWholeOutput, IsWholeTarget}
+use Rattle.occ_typing.proofs.whole.Clean.{Has, IsThere, back_clean, front_clean, same_number}
 use Rattle.occ_typing.proofs.whole.Elements.{element_known}
 use Rattle.occ_typing.proofs.whole.Expressions.{element_sound}
-use Rattle.occ_typing.proofs.whole.Reading.{IsKnown, Reads, as_read, placed_as}
+use Rattle.occ_typing.proofs.whole.Reading.{IsKnown, Reads, as_read, int_known, placed_as}
 use Rattle.occ_typing.proofs.whole.Sound.{Sound}
 use Rattle.occ_typing.proofs.whole.Specifications.{read_tree}
 use Rattle.occ_typing.proofs.whole.Statements.{said_sound, target_sound}
@@ -299,14 +302,14 @@ under_reads w.Hidden x d g h e = absurd g
 under_reads w.Nothing x d g h e = h.by_itself e
 under_reads (w.Of of) x d g h e = operand_reads of x d h e
 
-value_there : (t : Option TypedExpr) → IsThere t → IsThere (value_output t)
+value_there : (t : Option TypedExpr) → Has IsWholeExpr t → Has IsWholeOutput (value_output t)
 value_there None h = h
-value_there (Some t) h = tt
+value_there (Some t) h = h
 
-counted_there : (n t : Option TypedExpr) → IsThere n → IsThere t → IsThere (counted_output n t)
+counted_there : (n t : Option TypedExpr) → Has IsWholeExpr n → Has IsWholeExpr t → Has IsWholeOutput (counted_output n t)
 counted_there None t h g = h
 counted_there (Some n) None h g = g
-counted_there (Some n) (Some t) h g = tt
+counted_there (Some n) (Some t) h g = (h, g)
 
 plain_wanted : (want : Wanted) → AreWanted want → IsWanted (value_want want)
 plain_wanted (wanted.Plain x) h = h
@@ -316,7 +319,7 @@ count_wanted : (want : Wanted) → AreWanted want → IsWanted (count_want want)
 count_wanted (wanted.Plain x) h = h
 count_wanted (wanted.Counted n x) h = h.0
 
-item_there : (s : Scope) (want : Wanted) (x : OutputItem) → IsKnownScope s → AreWanted want → item_faults s x ≡ [] → (item_sent want (item_read s x)).faults ≡ [] → IsThere (item_sent want (item_read s x)).tree
+item_there : (s : Scope) (want : Wanted) (x : OutputItem) → IsKnownScope s → AreWanted want → item_faults s x ≡ [] → (item_sent want (item_read s x)).faults ≡ [] → Has IsWholeOutput (item_sent want (item_read s x)).tree
 item_there s want (out.Plain e) known g c f =
     let r = reading s e in
     let y = operand_under (value_want want) r.term in
@@ -330,60 +333,67 @@ item_there s want (out.Counted n e) known g c f =
     (read_tree z.kind q.draft (under_reads (count_want want) q.term q.draft (count_wanted want g) (said_sound s n known (front_clean (own s n) (own s e) c)) (front_clean z.faults y.faults f)))
     (read_tree y.kind r.draft (under_reads (value_want want) r.term r.draft (plain_wanted want g) (said_sound s e known (back_clean (own s n) (own s e) c)) (back_clean z.faults y.faults f)))
 
-pub joined_there : {X : Type 0} (x : Option X) (xs : Option (List X)) → IsThere x → IsThere xs → IsThere (joined (one_part x) xs)
-joined_there None xs h g = h
-joined_there (Some x) None h g = g
-joined_there (Some x) (Some xs) h g = tt
+pub joined_there : {X : Type 0} (P : X → Type 0) (x : Option X) (xs : Option (List X)) → Has P x → Has (AllAre P) xs → Has (AllAre P) (joined (one_part x) xs)
+joined_there P None xs h g = h
+joined_there P (Some x) None h g = g
+joined_there P (Some x) (Some xs) h g = (h, g)
 
-items_there : (s : Scope) (ws : List Wanted) (xs : List OutputItem) → IsKnownScope s → AllWanted ws → items_faults s xs ≡ [] → sent_faults (items_sent ws (items_read s xs)) ≡ [] → IsThere (sent_trees (items_sent ws (items_read s xs)))
+items_there : (s : Scope) (ws : List Wanted) (xs : List OutputItem) → IsKnownScope s → AllWanted ws → items_faults s xs ≡ [] → sent_faults (items_sent ws (items_read s xs)) ≡ [] → Has (AllAre IsWholeOutput) (sent_trees (items_sent ws (items_read s xs)))
 items_there s [] xs known g c f = tt
 items_there s (want ∷ ws) [] known g c f = tt
 items_there s (want ∷ ws) (x ∷ xs) known g c f =
     let y = item_sent want (item_read s x) in
     let ys = items_sent ws (items_read s xs) in
-    joined_there y.tree (sent_trees ys)
+    joined_there IsWholeOutput y.tree (sent_trees ys)
     (item_there s want x known g.0 (front_clean (item_faults s x) (items_faults s xs) c) (front_clean y.faults (sent_faults ys) f))
     (items_there s ws xs known g.1 (back_clean (item_faults s x) (items_faults s xs) c) (back_clean y.faults (sent_faults ys) f))
 
-both_joined : {X : Type 0} (xs ys : Option (List X)) → IsThere xs → IsThere ys → IsThere (joined xs ys)
-both_joined None ys h g = h
-both_joined (Some xs) None h g = g
-both_joined (Some xs) (Some ys) h g = tt
+pub both_are : {X : Type 0} (P : X → Type 0) (xs ys : List X) → AllAre P xs → AllAre P ys → AllAre P (xs ++ ys)
+both_are P [] ys h g = g
+both_are P (x ∷ xs) ys h g = (h.0, both_are P xs ys h.1 g)
 
-at_there : (name : List ℕ) (n : Option ℕ) → IsThere n → IsThere (tag_at name n)
+both_joined : {X : Type 0} (P : X → Type 0) (xs ys : Option (List X)) → Has (AllAre P) xs → Has (AllAre P) ys → Has (AllAre P) (joined xs ys)
+both_joined P None ys h g = h
+both_joined P (Some xs) None h g = g
+both_joined P (Some xs) (Some ys) h g = both_are P xs ys h g
+
+at_there : (name : List ℕ) (n : Option ℕ) → IsThere n → Has (AllAre IsWholeOutput) (tag_at name n)
 at_there name None h = h
-at_there name (Some n) h = tt
+at_there name (Some n) h = (tt, tt)
 
-tag_there : (c : Carrier) (tag : Option (List ℕ)) → TagPlaced c tag → IsThere (tag_tree c tag)
+tag_there : (c : Carrier) (tag : Option (List ℕ)) → TagPlaced c tag → Has (AllAre IsWholeOutput) (tag_tree c tag)
 tag_there c None h = tt
 tag_there c (Some name) h = at_there name (tag_place c name) h
 
-sending_there : (el : Option TypedElement) (xs : Option (List TypedOutput)) → IsThere el → IsThere xs → IsThere (sending_of el xs)
+abbrev pub IsWholeSending : TypedSending → Type 0
+IsWholeSending x = IsWholeElement x.channel × AllAre IsWholeOutput x.outputs
+
+sending_there : (el : Option TypedElement) (xs : Option (List TypedOutput)) → Has IsWholeElement el → Has (AllAre IsWholeOutput) xs → Has IsWholeSending (sending_of el xs)
 sending_there None xs h g = h
 sending_there (Some el) None h g = g
-sending_there (Some el) (Some xs) h g = tt
+sending_there (Some el) (Some xs) h g = (h, g)
 
-behind_there : (s : Scope) (c : Carrier) (root : List ℕ) (tag : Option (List ℕ)) (items : List OutputItem) → IsKnownScope s → KnownCarrier c → behind_tag s c root tag items ≡ [] → IsThere (outputs_behind s c tag items)
+behind_there : (s : Scope) (c : Carrier) (root : List ℕ) (tag : Option (List ℕ)) (items : List OutputItem) → IsKnownScope s → KnownCarrier c → behind_tag s c root tag items ≡ [] → Has (AllAre IsWholeOutput) (outputs_behind s c tag items)
 behind_there s c root tag items known h e =
     let xs = sent_through c tag (items_read s items) in
     let last = exchanged c root tag (sending.givens xs) in
     let own = front_clean (items_faults s items) (sent_faults xs ++ last) e in
     let rest = back_clean (items_faults s items) (sent_faults xs ++ last) e in
     let r = clear c root tag (sending.givens xs) h (back_clean (sent_faults xs) last rest) in
-    both_joined (tag_tree c tag) (sent_trees xs) (tag_there c tag r.1)
+    both_joined IsWholeOutput (tag_tree c tag) (sent_trees xs) (tag_there c tag r.1)
     (items_there s (wants (asked c tag) (shapes_of (items_read s items))) items known (wants_all (asked c tag) (shapes_of (items_read s items)) r.0) own (front_clean (sent_faults xs) last rest))
 
 -- what a line sends or receives through
 record Carries (s : Scope) (el : Element) : Type 0 where
   carrier : KnownCarrier (carrier_of s el)
-  tree : IsThere (through_tree s el)
+  tree : Has IsWholeElement (through_tree s el)
 
 through_known : (s : Scope) (el : Element) → IsKnownScope s → (through s el).faults ≡ [] → Carries s el
 through_known s el known e =
     let x = element_known (through s el).kind (through_tree s el) ((element_sound el s known).told e) in
     record { carrier = carrier_known (through s el).kind x.0; tree = x.1 }
 
-pub output_there : (s : Scope) (el : Element) (first : OutputItem) (more : List OutputItem) → IsKnownScope s → output_faults s el first more ≡ [] → IsThere (output_tree s el first more)
+pub output_there : (s : Scope) (el : Element) (first : OutputItem) (more : List OutputItem) → IsKnownScope s → output_faults s el first more ≡ [] → Has IsWholeSending (output_tree s el first more)
 unfolding output_faults output_tree
 output_there s el first more known e =
     let c = carrier_of s el in
@@ -395,18 +405,18 @@ output_there s el first more known e =
 
 -- ---- items that are received
 
-single_there : (x : Option TypedElement) → IsThere x → IsThere (single_target x)
+single_there : (x : Option TypedElement) → Has IsWholeElement x → Has IsWholeTarget (single_target x)
 single_there None h = h
-single_there (Some x) h = tt
+single_there (Some x) h = h
 
-two_there : (n x : Option TypedElement) → IsThere n → IsThere x → IsThere (counted_target n x)
+two_there : (n x : Option TypedElement) → Has IsWholeElement n → Has IsWholeElement x → Has IsWholeTarget (counted_target n x)
 two_there None x h g = h
 two_there (Some n) None h g = g
-two_there (Some n) (Some x) h g = tt
+two_there (Some n) (Some x) h g = (h, g)
 
--- without faults it has its tree, and nothing in it is faulty
+-- without faults it has its whole tree, and nothing in it is faulty
 abbrev ReceivedSound : Received → Type 0
-ReceivedSound x = x.faults ≡ [] → IsThere x.tree × (has_fault x.given ≡ false)
+ReceivedSound x = x.faults ≡ [] → Has IsWholeTarget x.tree × (has_fault x.given ≡ false)
 
 known_faultless : (kind : Kind) → IsKnown kind → is_faulty kind ≡ false
 known_faultless k.Faulty h = absurd h
@@ -438,13 +448,13 @@ detail_received_sound s (detail.Builtin ds word) is known = absurd cc
 detail_received_sound s (detail.CountedType count of) is known = absurd cc
 
 abbrev AllReceived : List Received → Type 0
-AllReceived xs = IsThere (received_trees xs) × (list_any has_fault (receiving.givens xs) ≡ false)
+AllReceived xs = Has (AllAre IsWholeTarget) (received_trees xs) × (list_any has_fault (receiving.givens xs) ≡ false)
 
 received_both : (x : Received) (xs : List Received) → ReceivedSound x → (received_faults xs ≡ [] → AllReceived xs) → received_faults (x ∷ xs) ≡ [] → AllReceived (x ∷ xs)
 received_both x xs h g e =
     let a = h (front_clean x.faults (received_faults xs) e) in
     let b = g (back_clean x.faults (received_faults xs) e) in
-    (joined_there x.tree (received_trees xs) a.0 b.0, ap (λ (z : Bool). z || list_any has_fault (receiving.givens xs)) a.1 ∙ b.1)
+    (joined_there IsWholeTarget x.tree (received_trees xs) a.0 b.0, ap (λ (z : Bool). z || list_any has_fault (receiving.givens xs)) a.1 ∙ b.1)
 
 items_received_sound : (s : Scope) (xs : List InputItem) → IsKnownScope s → received_faults (items_received s xs) ≡ [] → AllReceived (items_received s xs)
 items_received_sound s [] known e = (tt, refl)
@@ -467,13 +477,13 @@ named_told true f root is e = refl
 named_told false true root is e = absurd cc
 named_told false false root is e = absurd cc
 
-one_time : (s : Scope) (el : TypedElement) (x : InputItem) (root : List ℕ) → IsThere (item_received s x).tree → has_fault (item_received s x).given ≡ false → unmet root (meets (i.Value int) (item_received s x).given) (item_received s x).given ≡ []
-    → IsThere (time_of_trees el (joined (one_part (item_received s x).tree) (Some [])))
-one_time s el (into.Plain y) root h f e = plain_time (target_tree s y) h where
-  plain_time : (o : Option TypedElement) → IsThere (single_target o) → IsThere (time_of_trees el (joined (one_part (single_target o)) (Some [])))
+one_time : (s : Scope) (el : TypedElement) (x : InputItem) (root : List ℕ) → IsWholeElement el → Has IsWholeTarget (item_received s x).tree → has_fault (item_received s x).given ≡ false → unmet root (meets (i.Value int) (item_received s x).given) (item_received s x).given ≡ []
+    → Has IsWholeInput (time_of_trees el (joined (one_part (item_received s x).tree) (Some [])))
+one_time s el (into.Plain y) root w h f e = plain_time (target_tree s y) h where
+  plain_time : (o : Option TypedElement) → Has IsWholeTarget (single_target o) → Has IsWholeInput (time_of_trees el (joined (one_part (single_target o)) (Some [])))
   plain_time None g = g
-  plain_time (Some z) g = tt
-one_time s el (into.Counted n y) root h f e =
+  plain_time (Some z) g = (w, g)
+one_time s el (into.Counted n y) root w h f e =
     let x = g.Counted (target_of s n).kind (target_of s y).kind in
     let met = named_told (meets (i.Value int) x) (has_fault x) root f e in
     let never : false ≡ true = sym (meets_value int x) ∙ met in
@@ -483,50 +493,50 @@ another_told : (b : Bool) (root : List ℕ) → b ≡ false → (if b then [] el
 another_told true root is e = absurd cc
 another_told false root is e = absurd cc
 
-against_if_one : (b : Bool) (s : Scope) (el : TypedElement) (x : InputItem) (xs : List InputItem) (root : List ℕ) → (b ≡ true → length xs ≡ 0) → AllReceived (items_received s (x ∷ xs)) → (received_faults (items_received s (x ∷ xs)) ≡ []) → IsKnownScope s
+against_if_one : (b : Bool) (s : Scope) (el : TypedElement) (x : InputItem) (xs : List InputItem) (root : List ℕ) → IsWholeElement el → (b ≡ true → length xs ≡ 0) → AllReceived (items_received s (x ∷ xs)) → (received_faults (items_received s (x ∷ xs)) ≡ []) → IsKnownScope s
     → (if b then each_unmet root (i.Value int ∷ []) (receiving.givens (items_received s (x ∷ xs))) else of_another_number root (receiving.givens (items_received s (x ∷ xs)))) ≡ []
-    → IsThere (time_of_trees el (received_trees (items_received s (x ∷ xs))))
-against_if_one true s el x [] root one all own known e =
+    → Has IsWholeInput (time_of_trees el (received_trees (items_received s (x ∷ xs))))
+against_if_one true s el x [] root w one all own known e =
     let r = item_received_sound s x known (front_clean (item_received s x).faults [] own) in
-    one_time s el x root r.0 r.1 (front_clean (unmet root (meets (i.Value int) (item_received s x).given) (item_received s x).given) [] e)
-against_if_one true s el x (y ∷ xs) root one all own known e = let z = one refl in absurd (omega (arith, z))
-against_if_one false s el x xs root one all own known e = absurd (another_told (list_any has_fault (receiving.givens (items_received s (x ∷ xs)))) root all.1 e)
+    one_time s el x root w r.0 r.1 (front_clean (unmet root (meets (i.Value int) (item_received s x).given) (item_received s x).given) [] e)
+against_if_one true s el x (y ∷ xs) root w one all own known e = let z = one refl in absurd (omega (arith, z))
+against_if_one false s el x xs root w one all own known e = absurd (another_told (list_any has_fault (receiving.givens (items_received s (x ∷ xs)))) root all.1 e)
 
 givens_length : (s : Scope) (xs : List InputItem) → length (receiving.givens (items_received s xs)) ≡ length xs
 givens_length s [] = refl
 givens_length s (x ∷ xs) = ap suc (givens_length s xs)
 
-time_there : (s : Scope) (el : TypedElement) (x : InputItem) (xs : List InputItem) (root : List ℕ) → IsKnownScope s → received_faults (items_received s (x ∷ xs)) ≡ [] → against root (i.Value int ∷ []) (receiving.givens (items_received s (x ∷ xs))) ≡ []
-    → IsThere (time_of_trees el (received_trees (items_received s (x ∷ xs))))
-time_there s el x xs root known own e =
+time_there : (s : Scope) (el : TypedElement) (x : InputItem) (xs : List InputItem) (root : List ℕ) → IsWholeElement el → IsKnownScope s → received_faults (items_received s (x ∷ xs)) ≡ [] → against root (i.Value int ∷ []) (receiving.givens (items_received s (x ∷ xs))) ≡ []
+    → Has IsWholeInput (time_of_trees el (received_trees (items_received s (x ∷ xs))))
+time_there s el x xs root w known own e =
     let gs = receiving.givens (items_received s (x ∷ xs)) in
-    against_if_one (length (i.Value int ∷ []) == length gs) s el x xs root
+    against_if_one (length (i.Value int ∷ []) == length gs) s el x xs root w
     (λ h. let a : 1 ≡ length gs = same_number 1 (length gs) h in let b : length gs ≡ suc (length xs) = givens_length s (x ∷ xs) in omega (arith, a, b))
     (items_received_sound s (x ∷ xs) known own) own known e
 
 -- ---- inputs
 
-plain_some : (el : Option TypedElement) (xs : Option (List TypedTarget)) → IsThere el → IsThere xs → IsThere (plain_input false el xs)
+plain_some : (el : Option TypedElement) (xs : Option (List TypedTarget)) → Has IsWholeElement el → Has (AllAre IsWholeTarget) xs → Has IsWholeInput (plain_input false el xs)
 plain_some None xs h g = h
 plain_some (Some el) None h g = g
-plain_some (Some el) (Some xs) h g = tt
+plain_some (Some el) (Some xs) h g = (h, g)
 
-timed_some : (el : Option TypedElement) (xs : Option (List TypedTarget)) → IsThere el → IsThere xs → ((z : TypedElement) → IsThere (time_of_trees z xs)) → IsThere (plain_input true el xs)
+timed_some : (el : Option TypedElement) (xs : Option (List TypedTarget)) → Has IsWholeElement el → Has (AllAre IsWholeTarget) xs → ((z : TypedElement) → IsWholeElement z → Has IsWholeInput (time_of_trees z xs)) → Has IsWholeInput (plain_input true el xs)
 timed_some None xs h g f = h
 timed_some (Some el) None h g f = g
-timed_some (Some el) (Some xs) h g f = f el
+timed_some (Some el) (Some xs) h g f = f el h
 
-plain_by : (s : Scope) (c : Carrier) (root : List ℕ) (el : Option TypedElement) (x : InputItem) (xs : List InputItem) → IsKnownScope s → IsThere el → received_faults (items_received s (x ∷ xs)) ≡ [] → received c root (receiving.givens (items_received s (x ∷ xs))) ≡ []
-    → IsThere (plain_input (is_timer c) el (received_trees (items_received s (x ∷ xs))))
+plain_by : (s : Scope) (c : Carrier) (root : List ℕ) (el : Option TypedElement) (x : InputItem) (xs : List InputItem) → IsKnownScope s → Has IsWholeElement el → received_faults (items_received s (x ∷ xs)) ≡ [] → received c root (receiving.givens (items_received s (x ∷ xs))) ≡ []
+    → Has IsWholeInput (plain_input (is_timer c) el (received_trees (items_received s (x ∷ xs))))
 plain_by s Hidden root el x xs known h own e = plain_some el (received_trees (items_received s (x ∷ xs))) h (items_received_sound s (x ∷ xs) known own).0
 plain_by s Nothing root el x xs known h own e = plain_some el (received_trees (items_received s (x ∷ xs))) h (items_received_sound s (x ∷ xs) known own).0
 plain_by s Data root el x xs known h own e = plain_some el (received_trees (items_received s (x ∷ xs))) h (items_received_sound s (x ∷ xs) known own).0
 plain_by s (Sequence items) root el x xs known h own e = plain_some el (received_trees (items_received s (x ∷ xs))) h (items_received_sound s (x ∷ xs) known own).0
 plain_by s (Variant tags) root el x xs known h own e = plain_some el (received_trees (items_received s (x ∷ xs))) h (items_received_sound s (x ∷ xs) known own).0
 plain_by s Time root el x xs known h own e =
-    timed_some el (received_trees (items_received s (x ∷ xs))) h (items_received_sound s (x ∷ xs) known own).0 (λ z. time_there s z x xs root known own e)
+    timed_some el (received_trees (items_received s (x ∷ xs))) h (items_received_sound s (x ∷ xs) known own).0 (λ z w. time_there s z x xs root w known own e)
 
-plain_there : (s : Scope) (el : Element) (x : InputItem) (xs : List InputItem) → IsKnownScope s → plain_faults s el (x ∷ xs) ≡ [] → IsThere (plain_tree s el (x ∷ xs))
+plain_there : (s : Scope) (el : Element) (x : InputItem) (xs : List InputItem) → IsKnownScope s → plain_faults s el (x ∷ xs) ≡ [] → Has IsWholeInput (plain_tree s el (x ∷ xs))
 unfolding plain_faults plain_tree
 plain_there s el x xs known e =
     let ys = items_received s (x ∷ xs) in
@@ -535,35 +545,35 @@ plain_there s el x xs known e =
     plain_by s (carrier_of s el) (root_of s el) (through_tree s el) x xs known (through_known s el known (front_clean (through s el).faults (received_faults ys ++ last) e)).tree
     (front_clean (received_faults ys) last rest) (back_clean (received_faults ys) last rest)
 
-after_is : (el : Option TypedElement) (t : Option TypedExpr) → IsThere el → IsThere t → IsThere (after_input el t)
+after_is : (el : Option TypedElement) (t : Option TypedExpr) → Has IsWholeElement el → Has IsWholeExpr t → Has IsWholeInput (after_input el t)
 after_is None t h g = h
 after_is (Some el) None h g = g
-after_is (Some el) (Some t) h g = tt
+after_is (Some el) (Some t) h g = (h, g)
 
-time_placed : (s : Scope) (e : Expr) → IsKnownScope s → time_faults s e ≡ [] → IsThere (time_tree s e)
+time_placed : (s : Scope) (e : Expr) → IsKnownScope s → time_faults s e ≡ [] → Has IsWholeExpr (time_tree s e)
 unfolding time_faults time_tree
 time_placed s e known c =
     let x = (expr_view e).said s in
     let y = (judged x.term).under int in
-    placed_as int y.kind ((expr_view e).draft s) ((said_sound s e known (front_clean x.faults y.faults c)).wanted int (back_clean x.faults y.faults c))
+    placed_as int y.kind ((expr_view e).draft s) int_known ((said_sound s e known (front_clean x.faults y.faults c)).wanted int (back_clean x.faults y.faults c))
 
-after_there : (s : Scope) (el : Element) (e : Expr) → IsKnownScope s → after_faults s el e ≡ [] → IsThere (after_tree s el e)
+after_there : (s : Scope) (el : Element) (e : Expr) → IsKnownScope s → after_faults s el e ≡ [] → Has IsWholeInput (after_tree s el e)
 unfolding after_faults after_tree
 after_there s el e known c =
     let last = awaited (carrier_of s el) (root_of s el) in
     let rest = back_clean (through s el).faults (time_faults s e ++ last) c in
     after_is (through_tree s el) (time_tree s e) (through_known s el known (front_clean (through s el).faults (time_faults s e ++ last) c)).tree (time_placed s e known (front_clean (time_faults s e) last rest))
 
-at_tag : (el : TypedElement) (place : Option ℕ) (tag : List ℕ) (xs : List TypedTarget) → IsThere place → IsThere (tagged_at el place tag xs)
-at_tag el None tag xs h = h
-at_tag el (Some n) tag xs h = tt
+at_tag : (el : TypedElement) (place : Option ℕ) (tag : List ℕ) (xs : List TypedTarget) → IsWholeElement el → IsThere place → AllAre IsWholeTarget xs → Has IsWholeInput (tagged_at el place tag xs)
+at_tag el None tag xs w h g = h
+at_tag el (Some n) tag xs w h g = (w, g)
 
-tagged_is : (el : Option TypedElement) (place : Option ℕ) (tag : List ℕ) (xs : Option (List TypedTarget)) → IsThere el → IsThere place → IsThere xs → IsThere (tagged_input el place tag xs)
+tagged_is : (el : Option TypedElement) (place : Option ℕ) (tag : List ℕ) (xs : Option (List TypedTarget)) → Has IsWholeElement el → IsThere place → Has (AllAre IsWholeTarget) xs → Has IsWholeInput (tagged_input el place tag xs)
 tagged_is None place tag xs h g f = h
 tagged_is (Some el) place tag None h g f = f
-tagged_is (Some el) place tag (Some xs) h g f = at_tag el place tag xs g
+tagged_is (Some el) place tag (Some xs) h g f = at_tag el place tag xs h g f
 
-tagged_there : (s : Scope) (el : Element) (tag : List ℕ) (xs : List InputItem) → IsKnownScope s → tagged_faults s el tag xs ≡ [] → IsThere (tagged_tree s el tag xs)
+tagged_there : (s : Scope) (el : Element) (tag : List ℕ) (xs : List InputItem) → IsKnownScope s → tagged_faults s el tag xs ≡ [] → Has IsWholeInput (tagged_tree s el tag xs)
 unfolding tagged_faults tagged_tree
 tagged_there s el tag xs known e =
     let ys = items_received s xs in
@@ -575,7 +585,7 @@ tagged_there s el tag xs known e =
     (clear c (root_of s el) (Some tag) (receiving.givens ys) r.carrier (back_clean (received_faults ys) last rest)).1
     (items_received_sound s xs known (front_clean (received_faults ys) last rest)).0
 
-pub input_there : (s : Scope) (x : Input) → IsKnownScope s → input_faults s x ≡ [] → IsThere (input_tree s x)
+pub input_there : (s : Scope) (x : Input) → IsKnownScope s → input_faults s x ≡ [] → Has IsWholeInput (input_tree s x)
 input_there s (input.Plain el x xs) known e = plain_there s el x xs known e
 input_there s (input.After el t) known e = after_there s el t known e
 input_there s (input.Tagged el tag xs) known e = tagged_there s el tag xs known e
@@ -601,7 +611,7 @@ cased_known (Variant tags) root h e = h
 
 pub record CaseKnown (s : Scope) (el : Element) : Type 0 where
   pub variants : IsVariants (carrier (begun s el).channel)
-  pub tree : IsThere (through_tree s el)
+  pub tree : Has IsWholeElement (through_tree s el)
 
 pub case_known : (s : Scope) (el : Element) → IsKnownScope s → case_faults s el ≡ [] → CaseKnown s el
 unfolding case_faults begun
@@ -618,12 +628,15 @@ variant_placed Data root tag xs h e = absurd h
 variant_placed (Sequence items) root tag xs h e = absurd h
 variant_placed (Variant tags) root tag xs h e = (clear (Variant tags) root (Some tag) xs h e).1
 
-variant_is : (place : Option ℕ) (tag : List ℕ) (xs : Option (List TypedTarget)) → IsThere place → IsThere xs → IsThere (variant_at place tag xs)
+abbrev pub IsWholeVariant : TypedVariant → Type 0
+IsWholeVariant x = AllAre IsWholeTarget x.targets
+
+variant_is : (place : Option ℕ) (tag : List ℕ) (xs : Option (List TypedTarget)) → IsThere place → Has (AllAre IsWholeTarget) xs → Has IsWholeVariant (variant_at place tag xs)
 variant_is None tag xs h g = h
 variant_is (Some n) tag None h g = g
-variant_is (Some n) tag (Some xs) h g = tt
+variant_is (Some n) tag (Some xs) h g = g
 
-pub variant_there : (s : Scope) (x : CaseInput) (tag : List ℕ) (ds : List Detail) → list_any is_type_part ds ≡ false → IsKnownScope s → IsVariants (carrier x.channel) → variant_faults s x tag ds ≡ [] → IsThere (variant_tree s x tag ds)
+pub variant_there : (s : Scope) (x : CaseInput) (tag : List ℕ) (ds : List Detail) → list_any is_type_part ds ≡ false → IsKnownScope s → IsVariants (carrier x.channel) → variant_faults s x tag ds ≡ [] → Has IsWholeVariant (variant_tree s x tag ds)
 unfolding variant_faults variant_tree
 variant_there s x tag ds is known h e =
     let xs = details_received s ds in

@@ -36,7 +36,9 @@ use Rattle.occ_types.proofs.Unknowns.{unknown_any, unknown_channel, unknown_prim
 use Rattle.occ_types.specs.declared.types.Protocol.TheVariants as protocol
 use Rattle.occ_expr.specs.Written.{primitive_of}
 use Rattle.occ_typing.specs.Known.{IsKnownScope}
-use Rattle.occ_typing.proofs.whole.Clean.{IsThere, back_clean, front_clean}
+use Rattle.occ_typing.specs.WholeTrees.{IsWholeExpr, IsWholeSelector}
+use Rattle.occ_typing.proofs.whole.Made as made
+use Rattle.occ_typing.proofs.whole.Clean.{Has, back_clean, front_clean}
 use Rattle.occ_typing.proofs.whole.Elements.{AllExprs, BoundsSound, ElementReads, ExprSound, SaidSound, all_sound, call_reads, element_may, named_element_reads, segment_element_reads, whole_element_reads}
 use Rattle.occ_typing.proofs.whole.Literals.{applied_reads, conversion_reads, decorated_reads, decorated_table_reads, literal_reads, most_reads, operation_reads, pair_reads, truth_reads}
 use Rattle.occ_typing.proofs.whole.Names.{IsTyped, type_found, visible_known}
@@ -106,18 +108,18 @@ after_sound fs x d h e = single_sound x.kind d (h (front_clean fs x.faults e) (b
 
 -- ---- bounds
 
-from_there : (n : Option ℕ) (t : Option TypedExpr) → IsThere t → IsThere (from_of n t)
+from_there : (n : Option ℕ) (t : Option TypedExpr) → Has IsWholeExpr t → Has IsWholeSelector (from_of n t)
 from_there n None h = h
-from_there n (Some t) h = tt
+from_there n (Some t) h = made.from n t h
 
-for_there : (n : Option ℕ) (t : Option TypedExpr) → IsThere t → IsThere (for_of n t)
+for_there : (n : Option ℕ) (t : Option TypedExpr) → Has IsWholeExpr t → Has IsWholeSelector (for_of n t)
 for_there n None h = h
-for_there n (Some t) h = tt
+for_there n (Some t) h = made.so_many n t h
 
-from_for_there : (n : Option ℕ) (t u : Option TypedExpr) → IsThere t → IsThere u → IsThere (from_for_of n t u)
+from_for_there : (n : Option ℕ) (t u : Option TypedExpr) → Has IsWholeExpr t → Has IsWholeExpr u → Has IsWholeSelector (from_for_of n t u)
 from_for_there n None u h g = h
 from_for_there n (Some t) None h g = g
-from_for_there n (Some t) (Some u) h g = tt
+from_for_there n (Some t) (Some u) h g = made.from_so_many n t u h g
 
 -- ---- conversions and tables with a type
 

@@ -44,10 +44,11 @@ use Rattle.occ_types.specs.declared.types.OccType.{OccType}
 use Rattle.occ_types.specs.declared.value.Primitive.TheVariants as p
 use Rattle.occ_types.proofs.Unknowns.{unknown_primitive}
 use Rattle.occ_typing.specs.Known.{AreKnownEntries, AreKnownFormals, AreKnownTypes, IsKnownMeaning, IsKnownScope}
-use Rattle.occ_typing.proofs.whole.Clean.{IsThere, back_clean, front_clean}
+use Rattle.occ_typing.specs.WholeTrees.{AreWholeExprs, IsWholeExpr, IsWholeReplicator}
+use Rattle.occ_typing.proofs.whole.Clean.{Has, back_clean, front_clean}
 use Rattle.occ_typing.proofs.whole.Expressions.{OfDimension, all_spans, dimension_sound, type_sound}
 use Rattle.occ_typing.proofs.whole.Names.{IsTyped, with_all_known}
-use Rattle.occ_typing.proofs.whole.Reading.{placed_as}
+use Rattle.occ_typing.proofs.whole.Reading.{int_known, placed_as}
 use Rattle.occ_typing.proofs.whole.Sound.{none_faulty, reads_no_fault}
 use Rattle.occ_typing.proofs.whole.Specifications.{data_form_known}
 use Rattle.occ_typing.proofs.whole.Statements.{results_there, said_sound, side_sound}
@@ -140,9 +141,9 @@ found_known (x ∷ xs) h = one_type x (known_types xs) h.0 (found_known xs h.1)
 
 -- ---- heads
 
--- types are compared with the results of the body
+-- types that are known are compared with the results of the body
 abbrev pub IsTypes : Expected → Type 0
-IsTypes (expected.Types types) = Unit {0}
+IsTypes (expected.Types types) = AreKnownTypes types
 IsTypes (expected.Count n) = ⊥
 
 pub record HeadKnown (h : Heading) : Type 0 where
@@ -171,13 +172,13 @@ function_known s head known e =
     let i = groups_typed s [] (values head.formals) known (back_clean x.faults y.faults e) in
     subst (λ (b : Bool). HeadKnown (function_heading b y.formals x.types))
     (sym (all_told (x.faults ++ y.faults) (types_known y.formals x.types) e (ap (λ (b : Bool). b && all_found x.types) (all_are_known y.formals i) ∙ all_are_found x.types h)))
-    (record { formals = entries_known y.formals i; meaning = (formals_known y.formals i, found_known x.types h); results = tt })
+    (record { formals = entries_known y.formals i; meaning = (formals_known y.formals i, found_known x.types h); results = found_known x.types h })
 
 -- ---- results of a body, and functions of one line
 
-pub results_known : (s : Scope) (wanted : Expected) (es : List Expr) → IsKnownScope s → IsTypes wanted → results_of s wanted es ≡ [] → IsThere (results_in s wanted es)
+pub results_known : (s : Scope) (wanted : Expected) (es : List Expr) → IsKnownScope s → IsTypes wanted → results_of s wanted es ≡ [] → Has AreWholeExprs (results_in s wanted es)
 results_known s (expected.Count n) es known h e = absurd h
-results_known s (expected.Types types) es known h e = results_there s types es known e
+results_known s (expected.Types types) es known h e = results_there s types es known h e
 
 results_side_clean : (s : Scope) (wanted : Expected) (es : List Expr) → IsTypes wanted → results_of s wanted es ≡ [] → (side s es).faults ≡ []
 results_side_clean s (expected.Count n) es h e = absurd h
@@ -194,7 +195,7 @@ unless_known (f ∷ fs) b meaning e h i = absurd cc
 pub record FunctionLine (s : Scope) (h : Headed) (es : List Expr) : Type 0 where
   pub formals : AreKnownEntries h.heading.formals
   pub meaning : IsKnownMeaning (function_meaning s h es)
-  pub results : IsThere (results_in (with_all s h.heading.formals) h.heading.results es)
+  pub results : Has AreWholeExprs (results_in (with_all s h.heading.formals) h.heading.results es)
 
 pub function_line_known : (s : Scope) (head : FunctionHead) (es : List Expr) → IsKnownScope s → function_faults s (function s head) es ≡ [] → FunctionLine s (function s head) es
 unfolding function_faults function_meaning
@@ -213,27 +214,27 @@ function_line_known s head es known e =
 
 -- ---- replicators
 
-pub bound_reads : (s : Scope) (e : Expr) → IsKnownScope s → (bound s e).faults ≡ [] → (is_faulty (bound s e).kind ≡ false) × IsThere (bound_tree s e)
+pub bound_reads : (s : Scope) (e : Expr) → IsKnownScope s → (bound s e).faults ≡ [] → (is_faulty (bound s e).kind ≡ false) × Has IsWholeExpr (bound_tree s e)
 unfolding bound bound_tree
 bound_reads s e known c =
     let x = (expr_view e).said s in
     let y = (judged x.term).under int in
     let r = (said_sound s e known (front_clean x.faults y.faults c)).wanted int (back_clean x.faults y.faults c) in
-    (reads_no_fault int y.kind ((expr_view e).draft s) r, placed_as int y.kind ((expr_view e).draft s) r)
+    (reads_no_fault int y.kind ((expr_view e).draft s) r, placed_as int y.kind ((expr_view e).draft s) int_known r)
 
 index_known : (fs : List Fault) (b : Bool) (name : List ℕ) → fs ≡ [] → b ≡ false → IsKnownMeaning (index_of fs b name)
 index_known [] false name e h = unknown_primitive p.Int
 index_known [] true name e h = absurd cc
 index_known (f ∷ fs) b name e h = absurd cc
 
-tree_there : (level : ℕ) (x : Option KnownReplicator) (a b : Option TypedExpr) → IsThere a → IsThere b → IsThere (tree_of level x a b)
+tree_there : (level : ℕ) (x : Option KnownReplicator) (a b : Option TypedExpr) → Has IsWholeExpr a → Has IsWholeExpr b → Has IsWholeReplicator (tree_of level x a b)
 tree_there level x None b h i = h
 tree_there level x (Some a) None h i = i
-tree_there level x (Some a) (Some b) h i = tt
+tree_there level x (Some a) (Some b) h i = (h, i)
 
 pub record Replicated (s : Scope) (by : Replicating) (rounds : ℕ) (r : Replicator) : Type 0 where
   pub index : AreKnownEntries (enters s by rounds r)
-  pub tree : IsThere (tree s rounds r)
+  pub tree : Has IsWholeReplicator (tree s rounds r)
 
 pub replicator_known : (s : Scope) (by : Replicating) (rounds : ℕ) (r : Replicator) → IsKnownScope s → faults s by rounds r ≡ [] → Replicated s by rounds r
 unfolding faults enters tree read

@@ -29,8 +29,11 @@ use Rattle.occ_types.specs.declared.interface.Formal.{Formal}
 use Rattle.occ_types.specs.declared.interface.Passing.{Passing}
 use Rattle.occ_types.specs.declared.interface.Passing.TheVariants as passing
 use Rattle.occ_types.specs.declared.types.OccType.{OccType}
-use Rattle.occ_typing.specs.Known.{AreKnownFormals, IsKnownProcedure, IsKnownScope}
-use Rattle.occ_typing.proofs.whole.Clean.{IsThere, back_clean, front_clean}
+use Rattle.occ_typing.specs.Known.{AreKnownFormals, IsKnownProcedure, IsKnownScope, IsKnownType}
+use Rattle.occ_typing.specs.WholeTrees.{AreWholeActuals, IsWholeActual, IsWholeElement, IsWholeExpr}
+use Rattle.occ_typing.specs.WholeTrees as wholes
+use Rattle.occ_typing.proofs.whole.Made as made
+use Rattle.occ_typing.proofs.whole.Clean.{Has, IsThere, back_clean, front_clean}
 use Rattle.occ_typing.proofs.whole.Elements.{another_told, element_known}
 use Rattle.occ_typing.proofs.whole.Names.{PerhapsKnown, Refers, refers, visible_known}
 use Rattle.occ_typing.proofs.whole.Reading.{placed_as}
@@ -39,19 +42,19 @@ use Rattle.occ_typing.proofs.whole.Statements.{every_expr_known, said_sound, tar
 
 -- ---- actuals
 
-value_there : (t : Option TypedExpr) → IsThere t → IsThere (value_of t)
+value_there : (t : Option TypedExpr) → Has IsWholeExpr t → Has IsWholeActual (value_of t)
 value_there None h = h
-value_there (Some t) h = tt
+value_there (Some t) h = made.value t h
 
-variable_there : (el : Option TypedElement) → IsThere el → IsThere (variable_of el)
+variable_there : (el : Option TypedElement) → Has IsWholeElement el → Has IsWholeActual (variable_of el)
 variable_there None h = h
-variable_there (Some el) h = tt
+variable_there (Some el) h = made.variable el h
 
-value_read : (s : Scope) (of : OccType) (e : Expr) → IsKnownScope s → value_by of ((expr_view e).said s) ≡ [] → IsThere (placed ((expr_view e).draft s) of)
-value_read s of e known c =
+value_read : (s : Scope) (of : OccType) (e : Expr) → IsKnownScope s → IsKnownType of → value_by of ((expr_view e).said s) ≡ [] → Has IsWholeExpr (placed ((expr_view e).draft s) of)
+value_read s of e known h c =
     let x = (expr_view e).said s in
     let y = (judged x.term).under of in
-    placed_as of y.kind ((expr_view e).draft s) ((said_sound s e known (front_clean x.faults y.faults c)).wanted of (back_clean x.faults y.faults c))
+    placed_as of y.kind ((expr_view e).draft s) h ((said_sound s e known (front_clean x.faults y.faults c)).wanted of (back_clean x.faults y.faults c))
 
 element_told : (b : Bool) → b ≡ false → (if b then [] else nameless code.T3 ∷ []) ≡ [] → ⊥
 element_told true is e = absurd cc
@@ -66,32 +69,36 @@ misplaced_never s e known c =
     let r = (said_sound s e known (front_clean x.faults (y.faults ++ last) c)).by_itself (front_clean y.faults last rest) in
     element_told (is_faulty y.kind) (no_fault y.kind ((expr_view e).draft s) r) (back_clean y.faults last rest)
 
-reference_read : (s : Scope) (of : OccType) (e : Expr) (el : Option Element) → IsKnownScope s → reference_faults s of e el ≡ [] → IsThere (reference_tree s el)
+reference_read : (s : Scope) (of : OccType) (e : Expr) (el : Option Element) → IsKnownScope s → reference_faults s of e el ≡ [] → Has IsWholeActual (reference_tree s el)
 reference_read s of e None known c = absurd (misplaced_never s e known c)
 reference_read s of e (Some el) known c =
     let x = target_of s el in
     let r = target_sound s el known (front_clean x.faults (taken of x.kind).faults c) in
     variable_there ((element_view el).tree s) (element_known x.kind ((element_view el).tree s) r).1
 
-actual_read : (s : Scope) (of : OccType) (by : Passing) (e : Expr) → IsKnownScope s → actual_faults s of by e ≡ [] → IsThere (actual_tree s of by e)
-actual_read s of passing.Value e known c = value_there (placed ((expr_view e).draft s) of) (value_read s of e known c)
-actual_read s of passing.Reference e known c = reference_read s of e (element_in s e) known c
+actual_read : (s : Scope) (of : OccType) (by : Passing) (e : Expr) → IsKnownScope s → IsKnownType of → actual_faults s of by e ≡ [] → Has IsWholeActual (actual_tree s of by e)
+actual_read s of passing.Value e known h c = value_there (placed ((expr_view e).draft s) of) (value_read s of e known h c)
+actual_read s of passing.Reference e known h c = reference_read s of e (element_in s e) known c
 
-both_actuals : (xs ys : Option (List TypedActual)) → IsThere xs → IsThere ys → IsThere (with_actuals xs ys)
+more_actuals : (xs ys : List TypedActual) → AreWholeActuals xs → AreWholeActuals ys → AreWholeActuals (xs ++ ys)
+more_actuals _ ys wholes.no_actual g = g
+more_actuals _ ys (wholes.one_actual x xs here behind) g = wholes.one_actual x (xs ++ ys) here (more_actuals xs ys behind g)
+
+both_actuals : (xs ys : Option (List TypedActual)) → Has AreWholeActuals xs → Has AreWholeActuals ys → Has AreWholeActuals (with_actuals xs ys)
 both_actuals None ys h g = h
 both_actuals (Some xs) None h g = g
-both_actuals (Some xs) (Some ys) h g = tt
+both_actuals (Some xs) (Some ys) h g = more_actuals xs ys h g
 
-one_there : (x : Option TypedActual) → IsThere x → IsThere (one_actual x)
+one_there : (x : Option TypedActual) → Has IsWholeActual x → Has AreWholeActuals (one_actual x)
 one_there None h = h
-one_there (Some x) h = tt
+one_there (Some x) h = wholes.one_actual x [] h wholes.no_actual
 
-each_read : (s : Scope) (fs : List Formal) (es : List Expr) → IsKnownScope s → each_faults s fs es ≡ [] → IsThere (each_tree s fs es)
-each_read s [] es known c = tt
-each_read s (f ∷ fs) [] known c = tt
-each_read s (f ∷ fs) (e ∷ es) known c =
+each_read : (s : Scope) (fs : List Formal) (es : List Expr) → IsKnownScope s → AreKnownFormals fs → each_faults s fs es ≡ [] → Has AreWholeActuals (each_tree s fs es)
+each_read s [] es known h c = wholes.no_actual
+each_read s (f ∷ fs) [] known h c = wholes.no_actual
+each_read s (f ∷ fs) (e ∷ es) known h c =
     let x = actual_faults s f.of f.passing e in
-    both_actuals (one_actual (actual_tree s f.of f.passing e)) (each_tree s fs es) (one_there (actual_tree s f.of f.passing e) (actual_read s f.of f.passing e known (front_clean x (each_faults s fs es) c))) (each_read s fs es known (back_clean x (each_faults s fs es) c))
+    both_actuals (one_actual (actual_tree s f.of f.passing e)) (each_tree s fs es) (one_there (actual_tree s f.of f.passing e) (actual_read s f.of f.passing e known h.0 (front_clean x (each_faults s fs es) c))) (each_read s fs es known h.1 (back_clean x (each_faults s fs es) c))
 
 another_never : (s : Scope) (es : List Expr) → IsKnownScope s → another_number (each_one s es) ≡ [] → ⊥
 another_never s es known c =
@@ -99,26 +106,26 @@ another_never s es known c =
     let js = judged_all (terms xs) in
     another_told js (item_drafts s (expr_views es)) (every_expr_known s es known (front_clean (own_faults xs) (of_another_number false (map alone js)) c)) (back_clean (own_faults xs) (of_another_number false (map alone js)) c)
 
-actuals_if : (b : Bool) (s : Scope) (fs : List Formal) (es : List Expr) → IsKnownScope s → (if b then each_faults s fs es else another_number (each_one s es)) ≡ [] → IsThere (if b then each_tree s fs es else None)
-actuals_if true s fs es known c = each_read s fs es known c
-actuals_if false s fs es known c = absurd (another_never s es known c)
+actuals_if : (b : Bool) (s : Scope) (fs : List Formal) (es : List Expr) → IsKnownScope s → AreKnownFormals fs → (if b then each_faults s fs es else another_number (each_one s es)) ≡ [] → Has AreWholeActuals (if b then each_tree s fs es else None)
+actuals_if true s fs es known h c = each_read s fs es known h c
+actuals_if false s fs es known h c = absurd (another_never s es known c)
 
-actuals_read : (s : Scope) (fs : List Formal) (es : List Expr) → IsKnownScope s → actuals_faults s fs es ≡ [] → IsThere (actuals_tree s fs es)
+actuals_read : (s : Scope) (fs : List Formal) (es : List Expr) → IsKnownScope s → AreKnownFormals fs → actuals_faults s fs es ≡ [] → Has AreWholeActuals (actuals_tree s fs es)
 unfolding actuals_faults actuals_tree
-actuals_read s fs es known c = actuals_if (length fs == length es) s fs es known c
+actuals_read s fs es known h c = actuals_if (length fs == length es) s fs es known h c
 
 -- ---- the call
 
--- an instance of a procedure that is known
+-- an instance of a procedure that is known, with whole actuals
 abbrev pub InstanceKnown : Option TypedInstance → Type 0
 InstanceKnown None = ⊥
-InstanceKnown (Some x) = IsKnownProcedure x.callee.meaning
+InstanceKnown (Some x) = IsKnownProcedure x.callee.meaning × AreWholeActuals x.actuals
 
-actuals_there : (r : Referent) (xs : Option (List TypedActual)) → IsKnownProcedure r.meaning → IsThere xs → InstanceKnown (with_callee (Some r) xs)
+actuals_there : (r : Referent) (xs : Option (List TypedActual)) → IsKnownProcedure r.meaning → Has AreWholeActuals xs → InstanceKnown (with_callee (Some r) xs)
 actuals_there r None h g = absurd g
-actuals_there r (Some xs) h g = h
+actuals_there r (Some xs) h g = (h, g)
 
-callee_there : (found : Option Referent) (fs : List Formal) (xs : Option (List TypedActual)) → Refers found (m.Procedure fs) → AreKnownFormals fs → IsThere xs → InstanceKnown (with_callee found xs)
+callee_there : (found : Option Referent) (fs : List Formal) (xs : Option (List TypedActual)) → Refers found (m.Procedure fs) → AreKnownFormals fs → Has AreWholeActuals xs → InstanceKnown (with_callee found xs)
 callee_there found fs xs x h g =
     subst (λ (o : Option Referent). InstanceKnown (with_callee o xs)) (sym x.is)
     (actuals_there x.referent xs (subst IsKnownProcedure (sym x.means) h) g)
@@ -153,7 +160,7 @@ call_read s name es (Some m.Faulty) known h is e = absurd h
 call_read s name es (Some (m.Type None)) known h is e = absurd h
 call_read s name es (Some (m.Type (Some of))) known h is e = absurd (no_instance_never s name es (Some (m.Type (Some of))) h (λ f. f) is e)
 call_read s name es (Some (m.Protocol c)) known h is e = absurd (no_instance_never s name es (Some (m.Protocol c)) h (λ f. f) is e)
-call_read s name es (Some (m.Procedure fs)) known h is e = callee_there (referent s name) fs (actuals_tree s fs es) (refers s name (m.Procedure fs) is) h (actuals_read s fs es known e)
+call_read s name es (Some (m.Procedure fs)) known h is e = callee_there (referent s name) fs (actuals_tree s fs es) (refers s name (m.Procedure fs) is) h (actuals_read s fs es known h e)
 call_read s name es (Some (m.Function fs types)) known h is e = absurd (no_instance_never s name es (Some (m.Function fs types)) h (λ f. f) is e)
 call_read s name es (Some (m.Element whole)) known h is e = absurd (no_instance_never s name es (Some (m.Element whole)) h (λ f. f) is e)
 

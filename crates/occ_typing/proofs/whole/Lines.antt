@@ -85,47 +85,48 @@ use Rattle.occ_typed_statements.specs.Statements.{condition}
 use Rattle.occ_typed_statements.specs.StatementTrees.{assignment_tree, condition_tree, selector_tree}
 use Rattle.occ_types.specs.declared.interface.Interface.{Interface}
 use Rattle.occ_typing.specs.Known.{AreKnownEntries, IsKnownScope}
-use Rattle.occ_typing.specs.Whole.{AreKnownAdds, AreKnownImports, IsKnownForm}
+use Rattle.occ_typing.specs.Whole.{AreKnownAdds, AreKnownImports, IsKnownInterface, IsWholeForm}
+use Rattle.occ_typing.specs.WholeTrees.{AllAre, AreWholeExprs, IsWholeElement, IsWholeExpr, IsWholeGuard, IsWholeInput, IsWholeReplicator}
 use Rattle.occ_typing.proofs.whole.Bodies.{protocol_tags_known, record_fields_known}
-use Rattle.occ_typing.proofs.whole.Clean.{IsThere, back_clean, front_clean}
-use Rattle.occ_typing.proofs.whole.Exchanges.{case_known, input_there, output_there, variant_there}
+use Rattle.occ_typing.proofs.whole.Clean.{Has, IsThere, back_clean, front_clean}
+use Rattle.occ_typing.proofs.whole.Exchanges.{IsWholeSending, IsWholeVariant, both_are, case_known, input_there, output_there, variant_there}
 use Rattle.occ_typing.proofs.whole.Heads.{function_known, function_line_known, procedure_known, replicator_known, results_known}
 use Rattle.occ_typing.proofs.whole.Instances.{InstanceKnown, instance_there}
 use Rattle.occ_typing.proofs.whole.Protocols.{name_found, protocol_known, tagged_known}
 use Rattle.occ_typing.proofs.whole.Rows.{IsExpressionSort, IsFunctionRole, NoMembers, StandIn, Suits, function_only, no_record, nowhere, plain_under, process_only, result_role, valof_role, variant_only, variant_parts}
 use Rattle.occ_typing.proofs.whole.Specifications.{Specified as SpecifiedKnown, abbreviation_known, data_type_known, declaration_known, recast_element_known, recast_value_known, recorded_known, value_known_line}
-use Rattle.occ_typing.proofs.whole.Statements.{assignment_there, condition_there, options_there, selector_reads}
+use Rattle.occ_typing.proofs.whole.Statements.{IsWholeAssignment, assignment_there, condition_there, options_there, selector_reads}
 
 -- a line of this sort in this row
 pub record LineKnown (r : Row) (s : Sort) (x : Line) : Type 0 where
-  pub form : IsKnownForm x.form
+  pub form : IsWholeForm x.form
   pub enters : AreKnownEntries x.enters
   pub adds : AreKnownAdds x.adds
   pub under : Suits (row_under r s) x.parent.role
   pub next : is_valof s ≡ false → Suits r x.next.role
 
-made_known : {X : Type 0} (f : X → TypedForm) (o : Option X) → ((x : X) → IsKnownForm (f x)) → IsThere o → IsKnownForm (made f o)
-made_known f None h g = absurd g
-made_known f (Some x) h g = h x
+made_known : {X : Type 0} (P : X → Type 0) (f : X → TypedForm) (o : Option X) → ((x : X) → P x → IsWholeForm (f x)) → Has P o → IsWholeForm (made f o)
+made_known P f None h g = absurd g
+made_known P f (Some x) h g = h x g
 
 -- a main line over processes, if over any
-main_known : (r : Row) (p : Parent) (s : Sort) (fs : List Fault) (f : TypedForm) → NoMembers p.role → Suits r p.role → own_row s ≡ None → IsKnownForm f → LineKnown r s (main fs f p).line
+main_known : (r : Row) (p : Parent) (s : Sort) (fs : List Fault) (f : TypedForm) → NoMembers p.role → Suits r p.role → own_row s ≡ None → IsWholeForm f → LineKnown r s (main fs f p).line
 main_known r p s fs f h g e i = record { form = i; enters = tt; adds = tt; under = plain_under r p.role s h g e; next = λ _. g }
 
-declared_known : (r : Row) (p : Parent) (s : Sort) (x : Declared) (f : TypedForm) → NoMembers p.role → Suits r p.role → own_row s ≡ None → AreKnownEntries x.adds → IsKnownForm f → LineKnown r s (declared_line x f p).line
+declared_known : (r : Row) (p : Parent) (s : Sort) (x : Declared) (f : TypedForm) → NoMembers p.role → Suits r p.role → own_row s ≡ None → AreKnownEntries x.adds → IsWholeForm f → LineKnown r s (declared_line x f p).line
 declared_known r p s x f h g e a i = record { form = i; enters = tt; adds = a; under = plain_under r p.role s h g e; next = λ _. g }
 
 -- ---- specifications of one line
 
-specified_known : (r : Row) (p : Parent) (s : Sort) (x : Declared) {X : Type 0} (f : X → TypedForm) (o : Option X) → NoMembers p.role → Suits r p.role → own_row s ≡ None → ((y : X) → IsKnownForm (f y)) → SpecifiedKnown x (IsThere o) → LineKnown r s (declared_line x (made f o) p).line
-specified_known r p s x f o h g e i a = declared_known r p s x (made f o) h g e a.adds (made_known f o i a.form)
+specified_known : (r : Row) (p : Parent) (s : Sort) (x : Declared) {X : Type 0} (P : X → Type 0) (f : X → TypedForm) (o : Option X) → NoMembers p.role → Suits r p.role → own_row s ≡ None → ((y : X) → P y → IsWholeForm (f y)) → SpecifiedKnown x (Has P o) → LineKnown r s (declared_line x (made f o) p).line
+specified_known r p s x P f o h g e i a = declared_known r p s x (made f o) h g e a.adds (made_known P f o i a.form)
 
 function_line_of : (r : Row) (p : Parent) (s : Scope) (fh : FunctionHead) (es : List Expr) → NoMembers p.role → Suits r p.role → IsKnownScope s → function_faults s (function s fh) es ≡ [] → LineKnown r sort.GlobalSpecification (function_line s fh es p).line
 unfolding function_form
 function_line_of r p s fh es h g known e =
     let x = function_line_known s fh es known e in
     record {
-      form = made_known (one_line_function (function s fh).heading.formals) _ (λ _. x.formals) x.results;
+      form = made_known AreWholeExprs (one_line_function (function s fh).heading.formals) _ (λ _ y. (x.formals, y)) x.results;
       enters = tt;
       adds = (x.meaning, tt);
       under = plain_under r p.role sort.GlobalSpecification h g refl;
@@ -134,12 +135,12 @@ function_line_of r p s fh es h g known e =
 
 one_line_known : (r : Row) (p : Parent) (s : Scope) (x : Specification) → NoMembers p.role → Suits r p.role → IsKnownScope s → (one_line s x p).faults ≡ [] → LineKnown r (specification_sort x) (one_line s x p).line
 one_line_known r p s (specification.Declaration of first more) h g known e = declared_known r p sort.Declaration (declaration s of first more) t.Declaration h g refl (declaration_known s of first more known e) tt
-one_line_known r p s (specification.Value of name x) h g known e = specified_known r p sort.GlobalSpecification _ t.Value _ h g refl (λ _. tt) (value_known_line s of name x known e)
+one_line_known r p s (specification.Value of name x) h g known e = specified_known r p sort.GlobalSpecification _ IsWholeExpr t.Value _ h g refl (λ _ y. y) (value_known_line s of name x known e)
 one_line_known r p s (specification.DataType name of) h g known e = declared_known r p sort.GlobalSpecification (data_type s name of) t.DataType h g refl (data_type_known s name of known e) tt
 one_line_known r p s (specification.Function fh x xs) h g known e = function_line_of r p s fh (x ∷ xs) h g known e
-one_line_known r p s (specification.Abbreviation of name el) h g known e = specified_known r p sort.LocalSpecification _ t.Abbreviation _ h g refl (λ _. tt) (abbreviation_known s of name el known e)
-one_line_known r p s (specification.Retyped how of name el) h g known e = specified_known r p sort.LocalSpecification _ t.Retyped _ h g refl (λ _. tt) (recast_element_known s how of name el known e)
-one_line_known r p s (specification.RetypedValue how of name x) h g known e = specified_known r p sort.GlobalSpecification _ t.RetypedValue _ h g refl (λ _. tt) (recast_value_known s how of name x known e)
+one_line_known r p s (specification.Abbreviation of name el) h g known e = specified_known r p sort.LocalSpecification _ IsWholeElement t.Abbreviation _ h g refl (λ _ y. y) (abbreviation_known s of name el known e)
+one_line_known r p s (specification.Retyped how of name el) h g known e = specified_known r p sort.LocalSpecification _ IsWholeElement t.Retyped _ h g refl (λ _ y. y) (recast_element_known s how of name el known e)
+one_line_known r p s (specification.RetypedValue how of name x) h g known e = specified_known r p sort.GlobalSpecification _ IsWholeExpr t.RetypedValue _ h g refl (λ _ y. y) (recast_value_known s how of name x known e)
 one_line_known r p s (specification.Protocol name item items) h g known e = declared_known r p sort.GlobalSpecification (protocol s name (item ∷ items)) t.Protocol h g refl (protocol_known s name (item ∷ items) known e) tt
 
 -- ---- heads
@@ -159,12 +160,12 @@ heading_known r p s (head.DataType name) under h g known st ob e b =
 
 -- ---- actions
 
-action_known : (s : Scope) (a : Action) → IsKnownScope s → action_faults s a ≡ [] → IsKnownForm (action_form s a)
+action_known : (s : Scope) (a : Action) → IsKnownScope s → action_faults s a ≡ [] → IsWholeForm (action_form s a)
 action_known s action.Skip known e = tt
 action_known s action.Stop known e = tt
-action_known s (action.Assignment el els x xs) known e = made_known assigning (assignment_tree s (el ∷ els) (x ∷ xs)) (λ _. tt) (assignment_there s (el ∷ els) (x ∷ xs) known e)
-action_known s (action.Output el item items) known e = made_known sending (output_tree s el item items) (λ _. tt) (output_there s el item items known e)
-action_known s (action.Input i) known e = made_known t.Input (input_tree s i) (λ _. tt) (input_there s i known e)
+action_known s (action.Assignment el els x xs) known e = made_known IsWholeAssignment assigning (assignment_tree s (el ∷ els) (x ∷ xs)) (λ _ y. y) (assignment_there s (el ∷ els) (x ∷ xs) known e)
+action_known s (action.Output el item items) known e = made_known IsWholeSending sending (output_tree s el item items) (λ _ y. y) (output_there s el item items known e)
+action_known s (action.Input i) known e = made_known IsWholeInput t.Input (input_tree s i) (λ _ y. y) (input_there s i known e)
 
 action_own : (a : Action) → own_row (form_sort (form.Action a)) ≡ None
 action_own action.Skip = refl
@@ -195,15 +196,15 @@ construct_known : (r : Row) (p : Parent) (s : Scope) (x : Construct) → NoMembe
 construct_known r p s (construct.Replicable w None) h g known e = record { form = tt; enters = tt; adds = tt; under = plain_suits r w; next = λ _. g }
 construct_known r p s (construct.Replicable w (Some x)) h g known e =
     let y = replicator_known s (replicating_of w) p.rounds x known e in
-    record { form = made_known (replicated (block_of w)) (replicating.tree s p.rounds x) (λ z. tt) y.tree; enters = y.index; adds = tt; under = replicated_suits r w; next = λ _. g }
+    record { form = made_known IsWholeReplicator (replicated (block_of w)) (replicating.tree s p.rounds x) (λ _ z. z) y.tree; enters = y.index; adds = tt; under = replicated_suits r w; next = λ _. g }
 construct_known r p s (construct.While x) h g known e =
-    record { form = made_known t.While (condition_tree s x) (λ _. tt) (condition_there s x known e); enters = tt; adds = tt; under = tt; next = λ _. g }
+    record { form = made_known IsWholeExpr t.While (condition_tree s x) (λ _ z. z) (condition_there s x known e); enters = tt; adds = tt; under = tt; next = λ _. g }
 construct_known r p s (construct.Case x) h g known e =
     let y = selector_reads s x known e in
-    record { form = made_known t.Selection (selector_tree s x) (λ _. tt) y.1; enters = tt; adds = tt; under = (tt, y.0); next = λ _. g }
+    record { form = made_known IsWholeExpr t.Selection (selector_tree s x) (λ _ z. z) y.1; enters = tt; adds = tt; under = (tt, y.0); next = λ _. g }
 construct_known r p s (construct.CaseInput el) h g known e =
     let y = case_known s el known e in
-    record { form = made_known t.CaseInput (through_tree s el) (λ _. tt) y.tree; enters = tt; adds = tt; under = (tt, y.variants); next = λ _. g }
+    record { form = made_known IsWholeElement t.CaseInput (through_tree s el) (λ _ z. z) y.tree; enters = tt; adds = tt; under = (tt, y.variants); next = λ _. g }
 
 -- ---- what sort of line an expression is
 
@@ -323,7 +324,7 @@ expression_own _ h = absurd h
 
 -- ---- lines of expressions
 
-instance_made : (o : Option TypedInstance) → InstanceKnown o → IsKnownForm (made instance_form o)
+instance_made : (o : Option TypedInstance) → InstanceKnown o → IsWholeForm (made instance_form o)
 instance_made None h = absurd h
 instance_made (Some x) h = h
 
@@ -333,7 +334,7 @@ instance_known r n x s e es h g c known f =
 
 variant_known : (r : Row) (n : ℕ) (k : Sort) (s : Scope) (x : CaseInput) (tag : List ℕ) (ds : List Detail) → Suits r (role.Variants x) → own_row k ≡ None → list_any is_type_part ds ≡ false → IsKnownScope s → (variant s x n tag ds).faults ≡ [] → LineKnown r k (variant s x n tag ds).line
 variant_known r n k s x tag ds g o is known e =
-    record { form = made_known varied (variant_tree s x tag ds) (λ _. tt) (variant_there s x tag ds is known g.1 e); enters = tt; adds = tt; under = plain_under r (role.Variants x) k tt g o; next = λ _. g }
+    record { form = made_known IsWholeVariant varied (variant_tree s x tag ds) (λ _ z. z) (variant_there s x tag ds is known g.1 e); enters = tt; adds = tt; under = plain_under r (role.Variants x) k tt g o; next = λ _. g }
 
 variant_named_known : (r : Row) (n : ℕ) (k : Sort) (s : Scope) (x : CaseInput) (tag : Option (List ℕ)) → IsThere tag → Suits r (role.Variants x) → own_row k ≡ None → IsKnownScope s → (variant_named s x n tag).faults ≡ [] → LineKnown r k (variant_named s x n tag).line
 variant_named_known r n k s x None h g o known e = absurd h
@@ -343,11 +344,11 @@ expressing_known : (r : Row) (n : ℕ) (x : Role) (s : Scope) (e : Expr) (es : L
 expressing_known r n role.Process s e es h g st known f =
     instance_known r n role.Process s e es h g (calls e es (process_only r (expressions_sort e es) (is_expression e es) g st)) known f
 expressing_known r n role.Conditional s e es h g st known f =
-    main_known r (of_role n role.Conditional) (expressions_sort e es) (condition s e) (made t.Condition (condition_tree s e)) h g (expression_own (expressions_sort e es) (is_expression e es)) (made_known t.Condition (condition_tree s e) (λ _. tt) (condition_there s e known f))
+    main_known r (of_role n role.Conditional) (expressions_sort e es) (condition s e) (made t.Condition (condition_tree s e)) h g (expression_own (expressions_sort e es) (is_expression e es)) (made_known IsWholeExpr t.Condition (condition_tree s e) (λ _ z. z) (condition_there s e known f))
 expressing_known r n role.Alternation s e es h g st known f = absurd cc
 expressing_known r n (role.Selection c) s e es h g st known f =
     record {
-      form = made_known t.Options _ (λ _. tt) (options_there s c.selector c.numbers (e ∷ es) known g.1 f);
+      form = made_known AreWholeExprs t.Options _ (λ _ z. z) (options_there s c.selector c.numbers (e ∷ es) known g.1 f);
       enters = tt;
       adds = tt;
       under = plain_under r (role.Selection c) (expressions_sort e es) tt g (expression_own (expressions_sort e es) (is_expression e es));
@@ -401,7 +402,7 @@ valued_known r n role.Members h g = absurd h
 
 resulting_known : (r : Row) (n : ℕ) (x : Role) (s : Scope) (es : List Expr) → IsFunctionRole x → Suits r x → IsKnownScope s → (resulting_in s es n x).faults ≡ [] → LineKnown r sort.Result (resulting_in s es n x).line
 resulting_known r n (role.Function wanted) s es h g known e =
-    main_known r (of_role n (role.Function wanted)) sort.Result (results_of s wanted es) (made t.Results (results_in s wanted es)) tt g refl (made_known t.Results (results_in s wanted es) (λ _. tt) (results_known s wanted es known g.1 e))
+    main_known r (of_role n (role.Function wanted)) sort.Result (results_of s wanted es) (made t.Results (results_in s wanted es)) tt g refl (made_known AreWholeExprs t.Results (results_in s wanted es) (λ _ z. z) (results_known s wanted es known g.1 e))
 resulting_known r n role.Process s es h g known e = absurd h
 resulting_known r n role.Conditional s es h g known e = absurd h
 resulting_known r n role.Alternation s es h g known e = absurd h
@@ -409,24 +410,24 @@ resulting_known r n (role.Selection c) s es h g known e = absurd h
 resulting_known r n (role.Variants y) s es h g known e = absurd h
 resulting_known r n role.Members s es h g known e = absurd h
 
-guard_there : {X : Type 0} (f : X → TypedGuard) (o : Option X) → IsThere o → IsThere (guard_of f o)
-guard_there f None h = h
-guard_there f (Some x) h = tt
+guard_there : {X : Type 0} (P : X → Type 0) (f : X → TypedGuard) (o : Option X) → ((x : X) → P x → IsWholeGuard (f x)) → Has P o → Has IsWholeGuard (guard_of f o)
+guard_there P f None h g = g
+guard_there P f (Some x) h g = h x g
 
 record GuardKnown (r : Row) (s : Scope) (x : Guarded) : Type 0 where
-  tree : IsThere (guard_tree s x)
+  tree : Has IsWholeGuard (guard_tree s x)
   under : Suits (row_under r (guarded_sort x)) (guard_role s x)
 
 guard_known : (r : Row) (s : Scope) (x : Guarded) → IsKnownScope s → guard_faults s x ≡ [] → GuardKnown r s x
 guard_known r s guarded.Skip known e = record { tree = tt; under = tt }
-guard_known r s (guarded.Input i) known e = record { tree = guard_there guard.Input (input_tree s i) (input_there s i known e); under = tt }
+guard_known r s (guarded.Input i) known e = record { tree = guard_there IsWholeInput guard.Input (input_tree s i) (λ _ z. z) (input_there s i known e); under = tt }
 guard_known r s (guarded.CaseInput el) known e =
-    let y = case_known s el known e in record { tree = guard_there guard.CaseInput (through_tree s el) y.tree; under = (tt, y.variants) }
+    let y = case_known s el known e in record { tree = guard_there IsWholeElement guard.CaseInput (through_tree s el) (λ _ z. z) y.tree; under = (tt, y.variants) }
 
-guarded_is : (e : Option TypedExpr) (x : Option TypedGuard) → IsThere e → IsThere x → IsKnownForm (guarded_form e x)
+guarded_is : (e : Option TypedExpr) (x : Option TypedGuard) → Has IsWholeExpr e → Has IsWholeGuard x → IsWholeForm (guarded_form e x)
 guarded_is None x h g = absurd h
 guarded_is (Some e) None h g = absurd g
-guarded_is (Some e) (Some x) h g = tt
+guarded_is (Some e) (Some x) h g = (h, g)
 
 part_known : (r : Row) (p : Parent) (s : Scope) (x : Part) → NoMembers p.role → Suits r p.role → may_stand r (part_sort x) ≡ true → IsKnownScope s → (parting s x p).faults ≡ [] → LineKnown r (part_sort x) (parting s x p).line
 part_known r p s part.Case h g st known e = absurd cc
@@ -445,28 +446,21 @@ both_entries : (xs ys : List Entry) → AreKnownEntries xs → AreKnownEntries y
 both_entries [] ys h g = g
 both_entries (x ∷ xs) ys h g = (h.0, both_entries xs ys h.1 g)
 
-imported_both : (xs ys : List Interface) → AreKnownEntries (imported xs) → AreKnownEntries (imported ys) → AreKnownEntries (imported (xs ++ ys))
-imported_both [] ys h g = g
-imported_both (x ∷ xs) ys h g = both_entries (entries_of x.exports) (imported (xs ++ ys)) (first_part (entries_of x.exports) (imported xs) h) (imported_both xs ys (last_part (entries_of x.exports) (imported xs) h) g) where
-  first_part : (us vs : List Entry) → AreKnownEntries (us ++ vs) → AreKnownEntries us
-  first_part [] vs k = tt
-  first_part (u ∷ us) vs k = (k.0, first_part us vs k.1)
+imported_known : (xs : List Interface) → AllAre IsKnownInterface xs → AreKnownEntries (imported xs)
+imported_known [] h = tt
+imported_known (x ∷ xs) h = both_entries (entries_of x.exports) (imported xs) h.0 (imported_known xs h.1)
 
-  last_part : (us vs : List Entry) → AreKnownEntries (us ++ vs) → AreKnownEntries vs
-  last_part [] vs k = k
-  last_part (u ∷ us) vs k = last_part us vs k.1
-
-found_if : (b : Bool) (x : Interface) (rest : List Interface) → AreKnownEntries (entries_of x.exports) → AreKnownEntries (imported rest) → AreKnownEntries (imported (if b then x ∷ [] else rest))
-found_if true x rest h g = both_entries (entries_of x.exports) [] h tt
+found_if : (b : Bool) (x : Interface) (rest : List Interface) → IsKnownInterface x → AllAre IsKnownInterface rest → AllAre IsKnownInterface (if b then x ∷ [] else rest)
+found_if true x rest h g = (h, tt)
 found_if false x rest h g = g
 
-interface_known : (unit : List ℕ) (is : List Import) → AreKnownImports is → AreKnownEntries (imported (interface_of unit is))
+interface_known : (unit : List ℕ) (is : List Import) → AreKnownImports is → AllAre IsKnownInterface (interface_of unit is)
 interface_known unit [] h = tt
 interface_known unit (i ∷ is) h = found_if (bytes_eq i.unit unit) i.interface (interface_of unit is) h.0 (interface_known unit is h.1)
 
-interfaces_known : (is : List Import) (units : List (List ℕ)) → AreKnownImports is → AreKnownEntries (imported (interfaces is units))
+interfaces_known : (is : List Import) (units : List (List ℕ)) → AreKnownImports is → AllAre IsKnownInterface (interfaces is units)
 interfaces_known is [] h = tt
-interfaces_known is (unit ∷ units) h = imported_both (interface_of unit is) (interfaces is units) (interface_known unit is h) (interfaces_known is units h)
+interfaces_known is (unit ∷ units) h = both_are IsKnownInterface (interface_of unit is) (interfaces is units) (interface_known unit is h) (interfaces_known is units h)
 
 -- ---- all lines
 
@@ -484,7 +478,9 @@ form_known r p s (form.Tagged name d ds) under h g st so ob known e b = tagged_k
 body_known : (is : List Import) (r : Row) (p : Parent) (s : Scope) (x : ExpandedBody) (under : Forest) → AreKnownImports is → NoMembers p.role → Suits r p.role → may_stand r (body_sort x) ≡ true → StandIn (row_under r (body_sort x)) (root_sorts under) → ObeysUnder (row_under r (body_sort x)) under → IsKnownScope s
     → (line is s x under p).faults ≡ [] → (line is s x under p).beneath ≡ [] → LineKnown r (body_sort x) (line is s x under p).line
 body_known is r p s (body.Form f) under i h g st so ob known e b = form_known r p s f under h g st so ob known e b
-body_known is r p s (body.Uses units) under i h g st so ob known e b = record { form = tt; enters = tt; adds = interfaces_known is units i; under = plain_under r p.role sort.GlobalSpecification h g refl; next = λ _. g }
+body_known is r p s (body.Uses units) under i h g st so ob known e b =
+    let shown = interfaces_known is units i in
+    record { form = shown; enters = tt; adds = imported_known (interfaces is units) shown; under = plain_under r p.role sort.GlobalSpecification h g refl; next = λ _. g }
 body_known is r p s (body.Fault code) under i h g st so ob known e b = absurd (nowhere r st)
 
 -- a line that is told with the head over it

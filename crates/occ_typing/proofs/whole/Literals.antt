@@ -42,20 +42,22 @@ use Rattle.occ_types.specs.declared.value.Primitive.{Primitive}
 use Rattle.occ_types.specs.declared.value.Primitive.TheVariants as p
 use Rattle.occ_types.proofs.Unknowns.{unknown_primitive}
 use Rattle.occ_typing.specs.Known.{IsKnownType}
-use Rattle.occ_typing.proofs.whole.Clean.{IsThere, back_clean, front_clean, same_number}
+use Rattle.occ_typing.specs.WholeTrees.{AreWholeExprs, IsWholeExpr}
+use Rattle.occ_typing.proofs.whole.Made as made
+use Rattle.occ_typing.proofs.whole.Clean.{Has, back_clean, front_clean, same_number}
 use Rattle.occ_typing.proofs.whole.Names.{IsTyped}
 use Rattle.occ_typing.proofs.whole.Operating.{AllMay, drafted_reads, front_reads, known_typed, landed_known, of_in, operated_reads, shift_reads}
-use Rattle.occ_typing.proofs.whole.Reading.{IsKnown, MayRead, Reads, ReadsAs, as_known, chosen, free_settles, placed_as, read_known, settled_reads, settled_tree, wanted_reads}
+use Rattle.occ_typing.proofs.whole.Reading.{IsKnown, MayRead, Reads, ReadsAs, as_known, chosen, free_settles, int_known, placed_as, read_known, settled_reads, settled_tree, wanted_reads}
 use Rattle.occ_typing.proofs.whole.Sound.{AllSound, IsTable, Sound, alone_none, alone_reads, each_read_as, reads_no_fault, table_typed, with_clean}
 use Rattle.occ_typing.proofs.whole.Trees.{EachTree, all_there, each_there, table_of_there, tree_literal}
-use Rattle.occ_typing.proofs.whole.Types.{base_known, depth, fields_hold, known_is, no_either, number_is, unnamed_holds}
+use Rattle.occ_typing.proofs.whole.Types.{base_known, depth, fields_hold, known_is, no_either, number_is, parts_hold, unnamed_holds}
 
 -- ---- literals
 
 known_literal : (kind : Kind) → IsKnown kind → MayRead kind (literal_draft kind)
 known_literal k.Faulty h = absurd h
 known_literal (k.Free f) h = absurd h
-known_literal (k.Known x) h = known_typed x (typed.Literal x) h
+known_literal (k.Known x) h = known_typed x (typed.Literal x) h (made.literal x h)
 
 known_table : (n : ℕ) (kind : Kind) → IsTable n kind → IsKnown kind
 known_table n k.Faulty h = h
@@ -187,20 +189,20 @@ size_known k.Faulty h e = absurd h
 size_known (k.Free f) h e = absurd h
 size_known (k.Known x) h e = array_known_size (as_array (unnamed x.of)) e
 
-size_there : (x : Known) (t : Option TypedExpr) → IsThere t → IsThere (size_of x t)
-size_there x None h = h
-size_there x (Some t) h = tt
+size_there : (x : Known) (t : Option TypedExpr) → IsKnownType x.of → Has IsWholeExpr t → Has IsWholeExpr (size_of x t)
+size_there x None known h = h
+size_there x (Some t) known h = made.size x t known h
 
 -- it is placed by its own type
-pub placed_alone : (kind : Kind) (d : Draft) → Reads kind d → IsThere (placed d (type_alone kind))
+pub placed_alone : (kind : Kind) (d : Draft) → Reads kind d → Has IsWholeExpr (placed d (type_alone kind))
 placed_alone k.Faulty d h = absurd h
 placed_alone (k.Free f) d h = absurd h
-placed_alone (k.Known x) d h = h.1 x.of (omega arith)
+placed_alone (k.Known x) d h = h.1 x.of (omega arith) h.0
 
 size_read : (whole operand : Kind) (d : Draft) → IsKnown whole → Reads operand d → MayRead whole (size_draft whole operand d)
 size_read k.Faulty operand d h g = absurd h
 size_read (k.Free f) operand d h g = absurd h
-size_read (k.Known y) operand d h g = drafted_reads y (size_of y (placed d (type_alone operand))) h (size_there y (placed d (type_alone operand)) (placed_alone operand d g))
+size_read (k.Known y) operand d h g = drafted_reads y (size_of y (placed d (type_alone operand))) h (size_there y (placed d (type_alone operand)) h (placed_alone operand d g))
 
 size_reads : (j : Judged) (d : Draft) → Sound j d → (and_then j.alone sized).faults ≡ [] → MayRead (and_then j.alone sized).kind (size_draft (and_then j.alone sized).kind j.alone.kind d)
 size_reads j d h e =
@@ -228,20 +230,20 @@ from_known to k.Faulty h g e = absurd g
 from_known to (k.Free f) h g e = absurd g
 from_known to (k.Known x) h g e = converted_or (converts to x.of) (landed to (cast (base_of to) x.value)) (landed_known to (cast (base_of to) x.value) h) e
 
-converted_there : (x : Known) (t : Option TypedExpr) → IsThere t → IsThere (converted_of x t)
-converted_there x None h = h
-converted_there x (Some t) h = tt
+converted_there : (x : Known) (t : Option TypedExpr) → IsKnownType x.of → Has IsWholeExpr t → Has IsWholeExpr (converted_of x t)
+converted_there x None known h = h
+converted_there x (Some t) known h = made.converted x t known h
 
 -- where nothing is told of it as an INT, it is placed by its own type, or as an INT
-placed_plain : (kind : Kind) (d : Draft) → MayRead kind d → (settled int kind).faults ≡ [] → IsThere (placed d (type_alone kind))
+placed_plain : (kind : Kind) (d : Draft) → MayRead kind d → (settled int kind).faults ≡ [] → Has IsWholeExpr (placed d (type_alone kind))
 placed_plain k.Faulty d h e = absurd h
-placed_plain (k.Free f) d h e = settled_tree f d (free_settles int f h.0 e).sound h.1 int (omega arith)
-placed_plain (k.Known x) d h e = h.1 x.of (omega arith)
+placed_plain (k.Free f) d h e = settled_tree f d (free_settles int f h.0 e).sound h.1 int (omega arith) int_known
+placed_plain (k.Known x) d h e = h.1 x.of (omega arith) h.0
 
-to_read : (whole operand : Kind) (d : Draft) → IsKnown whole → IsThere (placed d (type_alone operand)) → MayRead whole (converted_to whole operand d)
+to_read : (whole operand : Kind) (d : Draft) → IsKnown whole → Has IsWholeExpr (placed d (type_alone operand)) → MayRead whole (converted_to whole operand d)
 to_read k.Faulty operand d h g = absurd h
 to_read (k.Free f) operand d h g = absurd h
-to_read (k.Known y) operand d h g = drafted_reads y (converted_of y (placed d (type_alone operand))) h (converted_there y (placed d (type_alone operand)) g)
+to_read (k.Known y) operand d h g = drafted_reads y (converted_of y (placed d (type_alone operand))) h (converted_there y (placed d (type_alone operand)) h g)
 
 pub conversion_reads : (to : Option OccType) (j : Judged) (d : Draft) → IsTyped to → Sound j d → (converted to j).faults ≡ [] → MayRead (converted to j).kind (conversion_draft to j d)
 unfolding converted conversion_draft
@@ -295,25 +297,26 @@ field_values_length [] js same = refl
 field_values_length (f ∷ fs) [] same = absurd (omega (arith, same))
 field_values_length (f ∷ fs) (j ∷ js) same = let e = field_values_length fs js (omega (arith, same)) in omega (arith, e)
 
-fields_there : (fs : List Field) (xs : List Told) (ds : List Draft) → FieldReads fs xs ds → EachTree ds (types_of fs)
-fields_there [] xs [] h = tt
-fields_there [] xs (d ∷ ds) h = absurd h
-fields_there (f ∷ fs) xs [] h = absurd h
-fields_there (f ∷ fs) [] (d ∷ ds) h = absurd h
-fields_there (f ∷ fs) (x ∷ xs) (d ∷ ds) h = (placed_as f.of x.kind d h.0, fields_there fs xs ds h.1)
+fields_there : (fs : List Field) (xs : List Told) (ds : List Draft) → any_of (fields_unknown fs) ≡ false → FieldReads fs xs ds → EachTree ds (types_of fs)
+fields_there [] xs [] known h = tt
+fields_there [] xs (d ∷ ds) known h = absurd h
+fields_there (f ∷ fs) xs [] known h = absurd h
+fields_there (f ∷ fs) [] (d ∷ ds) known h = absurd h
+fields_there (f ∷ fs) (x ∷ xs) (d ∷ ds) known h =
+    let both = no_either (holds_unknown f.of) (any_of (fields_unknown fs)) known in (placed_as f.of x.kind d both.0 h.0, fields_there fs xs ds both.1 h.1)
 
 count_or : (b : Bool) (to : OccType) → (chosen b (whole to) (fault_of code.T2)).faults ≡ [] → chosen b (whole to) (fault_of code.T2) ≡ whole to
 count_or true to e = refl
 count_or false to e = absurd cc
 
-array_read : (to : OccType) (parts : Option ℕ × OccType) (js : List Judged) (ds : List Draft) → AllSound js ds → as_array (unnamed to) ≡ Some parts → (of_array to parts.0 parts.1 js).faults ≡ [] → ((of_array to parts.0 parts.1 js).kind ≡ known to None) × IsThere (items_placed ds to)
-array_read to parts js ds h is e =
+array_read : (to : OccType) (parts : Option ℕ × OccType) (js : List Judged) (ds : List Draft) → IsKnownType to → AllSound js ds → as_array (unnamed to) ≡ Some parts → (of_array to parts.0 parts.1 js).faults ≡ [] → ((of_array to parts.0 parts.1 js).kind ≡ known to None) × Has AreWholeExprs (items_placed ds to)
+array_read to parts js ds known h is e =
     let ys = each_under parts.1 js in
     let x = of_count to parts.0 (length (kinds ys)) in
     let r = each_read_as parts.1 js ds h (front_clean (all_faults ys) (unless_faulty (kinds ys) x).faults e) in
     let y = with_clean ys x r.0 e in (
       ap (λ (z : Told). z.kind) y.0 ∙ ap (λ (z : Told). z.kind) (count_or (counts_fit parts.0 (Some (length (kinds ys)))) to y.1),
-      subst (λ (o : Option (Option ℕ × OccType)). IsThere (components_placed ds to o)) (sym is) (all_there (depth parts.1) ds parts.1 r.1 (omega arith)),
+      subst (λ (o : Option (Option ℕ × OccType)). Has AreWholeExprs (components_placed ds to o)) (sym is) (all_there (depth parts.1) ds parts.1 r.1 (omega arith) (parts_hold (unnamed to) parts is ∙ unnamed_holds to ∙ known)),
     )
 
 mismatch : (kind : Kind) → IsKnown kind → (mismatched kind).faults ≡ [] → ⊥
@@ -333,16 +336,17 @@ another_never js ds h e =
 
 -- a table of this type, with these items
 abbrev Tabled : OccType → Kind → List Draft → Type 0
-Tabled to kind ds = (kind ≡ known to None) × IsThere (items_placed ds to)
+Tabled to kind ds = (kind ≡ known to None) × Has AreWholeExprs (items_placed ds to)
 
 values_read : (to : OccType) (fs : List Field) (js : List Judged) (ds : List Draft) → IsKnownType to → AllSound js ds → as_array (unnamed to) ≡ None → fields_in (unnamed to) ≡ Some fs → length fs ≡ length js → (of_values to fs js).faults ≡ [] → Tabled to (of_values to fs js).kind ds
 values_read to fs js ds known h none is same e =
     let ys = field_values fs js in
-    let r = fields_read fs js ds (fields_hold (unnamed to) fs is ∙ unnamed_holds to ∙ known) same h (front_clean (all_faults ys) (unless_faulty (kinds ys) (whole to)).faults e) in
+    let sure : any_of (fields_unknown fs) ≡ false = fields_hold (unnamed to) fs is ∙ unnamed_holds to ∙ known in
+    let r = fields_read fs js ds sure same h (front_clean (all_faults ys) (unless_faulty (kinds ys) (whole to)).faults e) in
     let y = with_clean ys (whole to) (fields_none fs ys ds (field_values_length fs js same) r) e in (
       ap (λ (z : Told). z.kind) y.0,
-      subst (λ (o : Option (Option ℕ × OccType)). IsThere (components_placed ds to o)) (sym none)
-          (subst (λ (o : Option (List Field)). IsThere (values_placed ds o)) (sym is) (each_there ds (types_of fs) (fields_there fs ys ds r))),
+      subst (λ (o : Option (Option ℕ × OccType)). Has AreWholeExprs (components_placed ds to o)) (sym none)
+          (subst (λ (o : Option (List Field)). Has AreWholeExprs (values_placed ds o)) (sym is) (each_there ds (types_of fs) (fields_there fs ys ds sure r))),
     )
 
 record_or : (b : Bool) (to : OccType) (fs : List Field) (js : List Judged) (ds : List Draft) → (b ≡ true → length fs ≡ length js) → IsKnownType to → AllSound js ds → as_array (unnamed to) ≡ None → fields_in (unnamed to) ≡ Some fs
@@ -356,7 +360,7 @@ fields_or to (Some fs) js d ds known h none is e = record_or (length fs == lengt
 
 components_or : (to : OccType) (parts : Option (Option ℕ × OccType)) (js : List Judged) (d : Draft) (ds : List Draft) → IsKnownType to → AllSound js (d ∷ ds) → as_array (unnamed to) ≡ parts → (of_components to parts js).faults ≡ [] → Tabled to (of_components to parts js).kind (d ∷ ds)
 components_or to None js d ds known h is e = fields_or to (fields_in (unnamed to)) js d ds known h is refl e
-components_or to (Some parts) js d ds known h is e = array_read to parts js (d ∷ ds) h is e
+components_or to (Some parts) js d ds known h is e = array_read to parts js (d ∷ ds) known h is e
 
 tabled_draft : (to : OccType) (kind : Kind) (ds : List Draft) → IsKnownType to → Tabled to kind ds → MayRead kind (decorated_draft kind ds)
 unfolding decorated_draft
@@ -364,8 +368,9 @@ tabled_draft to k.Faulty ds sure h = let e : k.Faulty ≡ known to None = h.0 in
 tabled_draft to (k.Free f) ds sure h = let e : k.Free f ≡ known to None = h.0 in absurd cc
 tabled_draft to (k.Known x) ds sure h =
     let same : x.of ≡ to = ap (λ (u : Kind). of_in u to) h.0 in
-    drafted_reads x (table_of x (items_placed ds x.of)) (ap holds_unknown same ∙ sure)
-    (table_of_there x (items_placed ds x.of) (subst (λ (u : OccType). IsThere (items_placed ds u)) (sym same) h.1))
+    let known : IsKnownType x.of = ap holds_unknown same ∙ sure in
+    drafted_reads x (table_of x (items_placed ds x.of)) known
+    (table_of_there x (items_placed ds x.of) known (subst (λ (u : OccType). Has AreWholeExprs (items_placed ds u)) (sym same) h.1))
 
 pub decorated_table_reads : (to : OccType) (js : List Judged) (d : Draft) (ds : List Draft) → IsKnownType to → AllSound js (d ∷ ds) → (decorated_table to js).faults ≡ [] → MayRead (decorated_table to js).kind (decorated_draft (decorated_table to js).kind (d ∷ ds))
 decorated_table_reads to js d ds known h e = tabled_draft to (decorated_table to js).kind (d ∷ ds) known (components_or to (as_array (unnamed to)) js d ds known h refl e)

@@ -14,8 +14,9 @@ use Rattle.occ_names.specs.declared.scope.Scope.{Scope}
 use Rattle.occ_scope.specs.Nearest.{nearest}
 use Rattle.occ_types.specs.Unknown.{protocol_unknown}
 use Rattle.occ_types.specs.declared.types.OccType.{OccType}
-use Rattle.occ_typing.specs.Known.{AreKnownEntries, AreKnownMeanings, IsKnownMeaning, IsKnownScope, IsKnownType}
-use Rattle.occ_typing.proofs.whole.Clean.{IsThere}
+use Rattle.occ_types.specs.declared.interface.Formal.{Formal}
+use Rattle.occ_typing.specs.Known.{AreKnownEntries, AreKnownFormals, AreKnownMeanings, AreKnownTypes, IsKnownElement, IsKnownFunction, IsKnownMeaning, IsKnownScope, IsKnownType}
+use Rattle.occ_typing.proofs.whole.Clean.{Has}
 
 abbrev pub PerhapsKnown : Option Meaning → Type 0
 PerhapsKnown None = Unit {0}
@@ -54,9 +55,21 @@ at_refers ms (Some n) meaning e = numbered_refers n (slice_get ms n) meaning e
 pub refers : (s : Scope) (name : List ℕ) (meaning : Meaning) → visible s name ≡ Some meaning → Refers (referent s name) meaning
 refers s name meaning e = at_refers s.meanings (nearest s.names name) meaning e
 
+-- the specification of an element, and of a function
+abbrev pub NamesElement : Referent → Type 0
+NamesElement r = IsKnownElement r.meaning
+
+abbrev pub NamesFunction : Referent → Type 0
+NamesFunction r = IsKnownFunction r.meaning
+
 -- what a name stands for has its specification
-pub referent_there : (s : Scope) (name : List ℕ) (meaning : Meaning) → visible s name ≡ Some meaning → IsThere (referent s name)
-referent_there s name meaning e = subst IsThere (sym (refers s name meaning e).is) tt
+pub element_named : (s : Scope) (name : List ℕ) (whole : Whole) → visible s name ≡ Some (m.Element whole) → IsKnownType whole.of → Has NamesElement (referent s name)
+element_named s name whole e h =
+    let x = refers s name (m.Element whole) e in subst (Has NamesElement) (sym x.is) (subst IsKnownElement (sym x.means) h)
+
+pub function_named : (s : Scope) (name : List ℕ) (fs : List Formal) (results : List OccType) → visible s name ≡ Some (m.Function fs results) → AreKnownFormals fs → AreKnownTypes results → Has NamesFunction (referent s name)
+function_named s name fs results e h g =
+    let x = refers s name (m.Function fs results) e in subst (Has NamesFunction) (sym x.is) (subst IsKnownFunction (sym x.means) (h, g))
 
 -- ---- what more comes into scope
 

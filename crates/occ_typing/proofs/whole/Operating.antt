@@ -27,8 +27,11 @@ use Rattle.occ_types.specs.declared.value.Primitive.TheVariants as p
 use Rattle.occ_types.specs.declared.value.Value.{Value}
 use Rattle.occ_types.proofs.Unknowns.{unknown_primitive}
 use Rattle.occ_expr.specs.Drafts.{drafted, front_draft, operands_type, operation_draft, shift_draft, shifted_free, shifted_known}
-use Rattle.occ_typing.proofs.whole.Clean.{IsThere, back_clean, front_clean}
-use Rattle.occ_typing.proofs.whole.Reading.{HasTree, IsBad, IsBadFree, IsKnown, Lands, MayRead, Reads, chosen, lands, settled_reads, tree_of_any, wrong_told}
+use Rattle.occ_typing.specs.Known.{IsKnownType}
+use Rattle.occ_typing.specs.WholeTrees.{IsWholeExpr}
+use Rattle.occ_typing.proofs.whole.Clean.{Has, back_clean, front_clean}
+use Rattle.occ_typing.proofs.whole.Reading.{HasTree, IsBad, IsBadFree, IsKnown, Lands, MayRead, Reads, chosen, int_known, lands, settled_reads, tree_of_any, wrong_told}
+use Rattle.occ_typing.proofs.whole.Roots.{operands_known}
 use Rattle.occ_typing.proofs.whole.Trees.{Trees, all_there, applied_of_there, operation_of_there, shifted_of_there, tree_applied, tree_operation, tree_shifted, tree_typed}
 use Rattle.occ_typing.proofs.whole.Sound.{no_fault}
 use Rattle.occ_typing.proofs.whole.Types.{base_flat, base_known, both_true, depth, fits_depth, flat_primitive}
@@ -44,12 +47,12 @@ of_in (k.Known x) of = x.of
 
 -- ---- drafts that are typed
 
-pub known_typed : (x : Known) (y : TypedExpr) → holds_unknown x.of ≡ false → Reads (k.Known x) (dr.Typed y)
-known_typed x y h = (h, tree_of_any (dr.Typed y) (depth x.of) (tree_typed y))
+pub known_typed : (x : Known) (y : TypedExpr) → holds_unknown x.of ≡ false → IsWholeExpr y → Reads (k.Known x) (dr.Typed y)
+known_typed x y h g = (h, tree_of_any (dr.Typed y) (depth x.of) (tree_typed y g))
 
-pub drafted_reads : (x : Known) (o : Option TypedExpr) → holds_unknown x.of ≡ false → IsThere o → Reads (k.Known x) (drafted o)
+pub drafted_reads : (x : Known) (o : Option TypedExpr) → holds_unknown x.of ≡ false → Has IsWholeExpr o → Reads (k.Known x) (drafted o)
 drafted_reads x None h g = absurd g
-drafted_reads x (Some y) h g = known_typed x y h
+drafted_reads x (Some y) h g = known_typed x y h g
 
 -- ---- outcomes with a fault
 
@@ -252,7 +255,7 @@ unfolding operation_draft
 known_operation op k.Faulty ds h = absurd h.known
 known_operation op (k.Free f) ds h = absurd h.known
 known_operation op (k.Known x) ds h =
-    drafted_reads x (operation_of x op (all_placed ds (operands_type ds))) h.known (operation_of_there x op (all_placed ds (operands_type ds)) (all_there 0 ds (operands_type ds) h.trees (omega arith)))
+    drafted_reads x (operation_of x op (all_placed ds (operands_type ds))) h.known (operation_of_there x op (all_placed ds (operands_type ds)) h.known (all_there 0 ds (operands_type ds) h.trees (omega arith) (operands_known ds h.trees)))
 
 free_operation : (op : Operator) (ks : List Kind) (ds : List Draft) → AnyBad ks ⊎ Trees 0 ds → IsBadFree (in_each (list_any needs_faulty ks) (λ of. run_in op of ks)) ⊎ HasTree 0 (dr.Operation (in_each (list_any needs_faulty ks) (λ of. run_in op of ks)) op ds)
 free_operation op ks ds (inl h) = inl (bad_each (list_any needs_faulty ks) (λ of. run_in op of ks) (λ of. bad_run op of ks h))
@@ -283,12 +286,12 @@ int_flat of e = from (as_primitive of) refl e where
   from None is e = absurd cc
   from (Some x) is e = flat_primitive of x is
 
-int_tree : (y : Known) (d : Draft) → is_int (as_primitive y.of) ≡ true → Reads (k.Known y) d → IsThere (placed d int)
-int_tree y d e h = h.1 int (let z : depth y.of ≡ 0 = int_flat y.of e in omega (arith, z))
+int_tree : (y : Known) (d : Draft) → is_int (as_primitive y.of) ≡ true → Reads (k.Known y) d → Has IsWholeExpr (placed d int)
+int_tree y d e h = h.1 int (let z : depth y.of ≡ 0 = int_flat y.of e in omega (arith, z)) int_known
 
-shifted_is : (op : Operator) (f : Free) (x : Draft) (count : Option TypedExpr) → IsThere count → HasTree 0 x → HasTree 0 (shifted_free f op x count)
+shifted_is : (op : Operator) (f : Free) (x : Draft) (count : Option TypedExpr) → Has IsWholeExpr count → HasTree 0 x → HasTree 0 (shifted_free f op x count)
 shifted_is op f x None h g = absurd h
-shifted_is op f x (Some count) h g = tree_shifted f op x count g
+shifted_is op f x (Some count) h g = tree_shifted f op x count g h
 
 abbrev counted : Bool → Operator → Free → Option Value → Primitive → Outcome
 counted b op f count of = if b then shifted op count (in_type f of) else misshifted (in_type f of)
@@ -298,26 +301,27 @@ bad_counted true op f count (inl h) of = absurd cc
 bad_counted true op f count (inr h) of = bad_shifted op count (in_type f of) (h of)
 bad_counted false op f count h of = bad_misshifted (in_type f of)
 
-free_shift : (b : Bool) (op : Operator) (f : Free) (count : Option Value) (x : Draft) (tree : Option TypedExpr) → (b ≡ true → IsThere tree) → IsBadFree f ⊎ HasTree 0 x
+free_shift : (b : Bool) (op : Operator) (f : Free) (count : Option Value) (x : Draft) (tree : Option TypedExpr) → (b ≡ true → Has IsWholeExpr tree) → IsBadFree f ⊎ HasTree 0 x
     → IsBadFree (in_each f.is_faulty (counted b op f count)) ⊎ HasTree 0 (shifted_free (in_each f.is_faulty (counted b op f count)) op x tree)
 free_shift false op f count x tree h g = inl (bad_each f.is_faulty (counted false op f count) (bad_counted false op f count (inl refl)))
 free_shift true op f count x tree h (inl g) = inl (bad_each f.is_faulty (counted true op f count) (bad_counted true op f count (inr g)))
 free_shift true op f count x tree h (inr g) = inr (shifted_is op (in_each f.is_faulty (counted true op f count)) x tree (h refl) g)
 
-shifted_there : (x : Known) (op : Operator) (t count : Option TypedExpr) → IsThere t → IsThere count → IsThere (shifted_known x op t count)
-shifted_there x op t None h g = g
-shifted_there x op t (Some count) h g = shifted_of_there x op t count h
+shifted_there : (x : Known) (op : Operator) (t count : Option TypedExpr) → IsKnownType x.of → Has IsWholeExpr t → Has IsWholeExpr count → Has IsWholeExpr (shifted_known x op t count)
+shifted_there x op t None known h g = g
+shifted_there x op t (Some count) known h g = shifted_of_there x op t count known h g
 
-landed_shift : (op : Operator) (of : OccType) (kind : Kind) (x : Outcome) (a b : Draft) → holds_unknown of ≡ false → Lands of x kind → HasTree (depth of) a → IsThere (placed b int) → MayRead kind (shift_draft kind op a b)
+landed_shift : (op : Operator) (of : OccType) (kind : Kind) (x : Outcome) (a b : Draft) → holds_unknown of ≡ false → Lands of x kind → HasTree (depth of) a → Has IsWholeExpr (placed b int) → MayRead kind (shift_draft kind op a b)
 unfolding shift_draft
 landed_shift op of k.Faulty x a b h y g i = let z : k.Faulty ≡ k.Known y.what = y.is in absurd cc
 landed_shift op of (k.Free f) x a b h y g i = let z : k.Free f ≡ k.Known y.what = y.is in absurd cc
 landed_shift op of (k.Known z) x a b h y g i =
     let same : z.of ≡ of = ap (λ (u : Kind). of_in u of) y.is ∙ y.typed in
-    drafted_reads z (shifted_known z op (placed a z.of) (placed b int)) (ap holds_unknown same ∙ h)
-    (shifted_there z op (placed a z.of) (placed b int) (g z.of (let q : depth z.of ≡ depth of = ap depth same in omega (arith, q))) i)
+    let known : IsKnownType z.of = ap holds_unknown same ∙ h in
+    drafted_reads z (shifted_known z op (placed a z.of) (placed b int)) known
+    (shifted_there z op (placed a z.of) (placed b int) known (g z.of (let q : depth z.of ≡ depth of = ap depth same in omega (arith, q)) known) i)
 
-known_shift : (b : Bool) (op : Operator) (x : Known) (r : Outcome) (a c : Draft) → Reads (k.Known x) a → (b ≡ true → IsThere (placed c int)) → (chosen b (landed x.of r) (fault_of code.T1)).faults ≡ []
+known_shift : (b : Bool) (op : Operator) (x : Known) (r : Outcome) (a c : Draft) → Reads (k.Known x) a → (b ≡ true → Has IsWholeExpr (placed c int)) → (chosen b (landed x.of r) (fault_of code.T1)).faults ≡ []
     → MayRead (chosen b (landed x.of r) (fault_of code.T1)).kind (shift_draft (chosen b (landed x.of r) (fault_of code.T1)).kind op a c)
 known_shift false op x r a c h g e = absurd cc
 known_shift true op x r a c h g e = landed_shift op x.of (landed x.of r).kind r a c h.0 (lands x.of r e) h.1 (g refl)
@@ -348,8 +352,9 @@ landed_front op of k.Faulty x a h y g = let z : k.Faulty ≡ k.Known y.what = y.
 landed_front op of (k.Free f) x a h y g = let z : k.Free f ≡ k.Known y.what = y.is in absurd cc
 landed_front op of (k.Known z) x a h y g =
     let same : z.of ≡ of = ap (λ (u : Kind). of_in u of) y.is ∙ y.typed in
-    drafted_reads z (applied_of z op (placed a z.of)) (ap holds_unknown same ∙ h)
-    (applied_of_there z op (placed a z.of) (g z.of (let q : depth z.of ≡ depth of = ap depth same in omega (arith, q))))
+    let known : IsKnownType z.of = ap holds_unknown same ∙ h in
+    drafted_reads z (applied_of z op (placed a z.of)) known
+    (applied_of_there z op (placed a z.of) known (g z.of (let q : depth z.of ≡ depth of = ap depth same in omega (arith, q)) known))
 
 known_front : (b : Bool) (op : Monadic) (x : Known) (r : Outcome) (a : Draft) → Reads (k.Known x) a → (chosen b (landed x.of r) (fault_of code.T1)).faults ≡ []
     → MayRead (chosen b (landed x.of r) (fault_of code.T1)).kind (front_draft (chosen b (landed x.of r) (fault_of code.T1)).kind op a)

@@ -23,14 +23,16 @@ use Rattle.occ_types.specs.declared.types.OccType.{OccType}
 use Rattle.occ_types.specs.declared.value.Primitive.{Primitive}
 use Rattle.occ_types.specs.declared.value.Primitive.TheVariants as p
 use Rattle.occ_types.proofs.Unknowns.{unknown_primitive}
-use Rattle.occ_typing.proofs.whole.Clean.{IsThere, back_clean, front_clean}
+use Rattle.occ_typing.specs.Known.{IsKnownType}
+use Rattle.occ_typing.specs.WholeTrees.{IsWholeExpr}
+use Rattle.occ_typing.proofs.whole.Clean.{Has, back_clean, front_clean}
 use Rattle.occ_typing.proofs.whole.Types.{base_known, depth, field_known, fits_depth, known_is, number_is, parts_hold, unnamed_holds}
 
 -- ---- definitions
 
--- there is a tree of it wherever a type with so many dimensions or more is wanted
+-- there is a whole tree of it wherever a type that is known and has so many dimensions or more is wanted
 abbrev pub HasTree : ℕ → Draft → Type 0
-HasTree n d = (of : OccType) → n ≤ depth of → IsThere (placed d of)
+HasTree n d = (of : OccType) → n ≤ depth of → IsKnownType of → Has IsWholeExpr (placed d of)
 
 abbrev pub IsBad : Outcome → Type 0
 IsBad o.Unfit = Unit {0}
@@ -116,7 +118,7 @@ free_settles of f is e = sound_if f.is_faulty (settled_free of f (number (base_o
 
 -- more dimensions are wanted
 pub tree_of_any : (d : Draft) (n : ℕ) → HasTree 0 d → HasTree n d
-tree_of_any d n h of e = h of (omega arith)
+tree_of_any d n h of e known = h of (omega arith) known
 
 pub settled_tree : (f : Free) (d : Draft) → (IsBadFree f → ⊥) → IsBadFree f ⊎ HasTree 0 d → HasTree 0 d
 settled_tree f d sound (inl bad) = absurd (sound bad)
@@ -148,10 +150,13 @@ wanted_reads of kind d h e =
     (settled_reads of kind d h (front_clean (settled of kind).faults (fitted of (settled of kind).kind).faults e))
     (back_clean (settled of kind).faults (fitted of (settled of kind).kind).faults e)
 
-pub placed_as : (of : OccType) (kind : Kind) (d : Draft) → ReadsAs of kind d → IsThere (placed d of)
-placed_as of k.Faulty d h = absurd h
-placed_as of (k.Free f) d h = absurd h
-placed_as of (k.Known x) d h = let e : depth of ≡ depth x.of = fits_depth of x.of h.1 in h.2 of (omega (arith, e))
+pub int_known : IsKnownType int
+int_known = unknown_primitive p.Int
+
+pub placed_as : (of : OccType) (kind : Kind) (d : Draft) → IsKnownType of → ReadsAs of kind d → Has IsWholeExpr (placed d of)
+placed_as of k.Faulty d known h = absurd h
+placed_as of (k.Free f) d known h = absurd h
+placed_as of (k.Known x) d known h = let e : depth of ≡ depth x.of = fits_depth of x.of h.1 in h.2 of (omega (arith, e)) known
 
 pub as_known : (of : OccType) (kind : Kind) (d : Draft) → ReadsAs of kind d → IsKnown kind
 as_known of k.Faulty d h = h
@@ -192,7 +197,7 @@ nothing_there (k.Free f) h e = h
 nothing_there (k.Known x) h e = absurd cc
 
 subscript_of : (of : OccType) (parts : Option (Option ℕ × OccType)) (kind : Kind) (d : Draft) → holds_unknown of ≡ false → as_array of ≡ parts → MayRead kind d → (subscripted_array parts kind).faults ≡ []
-    → IsKnown (subscripted_array parts kind).kind × IsThere (placed d int)
+    → IsKnown (subscripted_array parts kind).kind × Has IsWholeExpr (placed d int)
 subscript_of of None kind d h is r e =
     absurd (nothing_there (settled int kind).kind
     (read_known (settled int kind).kind d (settled_reads int kind d r (front_clean (settled int kind).faults (no_component (settled int kind).kind).faults e)))
@@ -201,12 +206,12 @@ subscript_of of (Some parts) kind d h is r e =
     let x = wanted_reads int kind d r (front_clean (wanted int kind).faults (component_at parts.0 parts.1 (wanted int kind).kind).faults e) in (
       component_known parts.0 parts.1 (wanted int kind).kind (parts_hold of parts is ∙ h) (as_known int (wanted int kind).kind d x)
           (back_clean (wanted int kind).faults (component_at parts.0 parts.1 (wanted int kind).kind).faults e),
-      placed_as int (wanted int kind).kind d x,
+      placed_as int (wanted int kind).kind d int_known x,
     )
 
--- a subscript: what it selects is known, and its place has a tree
+-- a subscript: what it selects is known, and its place has a whole tree
 pub subscripted_reads : (of : OccType) (kind : Kind) (d : Draft) → holds_unknown of ≡ false → MayRead kind d → (subscripted of kind).faults ≡ []
-    → IsKnown (subscripted of kind).kind × IsThere (placed d int)
+    → IsKnown (subscripted of kind).kind × Has IsWholeExpr (placed d int)
 subscripted_reads of kind d h r e = subscript_of (unnamed of) (as_array (unnamed of)) kind d (unnamed_holds of ∙ h) refl r e
 
 unknown_or : (b : Bool) (of : OccType) → b ≡ false → holds_unknown of ≡ false

@@ -49,7 +49,8 @@ use Rattle.occ_types.proofs.Unknowns.{unknown_array, unknown_named, unknown_reco
 use Rattle.occ_specification_forms.specs.declared.tree.Recast.{Recast as Form}
 use Rattle.occ_specification_forms.specs.declared.tree.Recast.TheVariants as form
 use Rattle.occ_typing.specs.Known.{AreKnownEntries, IsKnownMeaning, IsKnownScope, IsKnownType}
-use Rattle.occ_typing.proofs.whole.Clean.{IsThere, back_clean, front_clean}
+use Rattle.occ_typing.specs.WholeTrees.{IsWholeElement, IsWholeExpr}
+use Rattle.occ_typing.proofs.whole.Clean.{Has, back_clean, front_clean}
 use Rattle.occ_typing.proofs.whole.Elements.{element_known}
 use Rattle.occ_typing.proofs.whole.Expressions.{type_sound}
 use Rattle.occ_typing.proofs.whole.Filled.{filled_kept}
@@ -146,10 +147,10 @@ told_reads : (s : Scope) (of : Option TypeForm) (e : Expr) → IsKnownScope s �
 told_reads s None e known c = alone_reads s e known c
 told_reads s (Some of) e known c = with_type_reads s of e known c
 
-pub read_tree : (kind : Kind) (d : Draft) → Reads kind d → IsThere (tree_of kind d)
+pub read_tree : (kind : Kind) (d : Draft) → Reads kind d → Has IsWholeExpr (tree_of kind d)
 read_tree k.Faulty d h = h
 read_tree (k.Free f) d h = h
-read_tree (k.Known x) d h = h.1 x.of (omega arith)
+read_tree (k.Known x) d h = h.1 x.of (omega arith) h.0
 
 value_known : (kind : Kind) (name : List ℕ) → IsKnown kind → IsKnownMeaning (value_name kind name)
 value_known k.Faulty name h = h
@@ -159,7 +160,7 @@ value_known (k.Known x) name h = h
 named_value : (fs : List Fault) (kind : Kind) (name : List ℕ) → fs ≡ [] → IsKnown kind → IsKnownMeaning (value_name (kind_unless_told fs kind) name)
 named_value fs kind name e h = subst (λ (y : Kind). IsKnownMeaning (value_name y name)) (sym (untold_kind fs kind e)) (value_known kind name h)
 
-pub value_known_line : (s : Scope) (of : Option TypeForm) (name : List ℕ) (e : Expr) → IsKnownScope s → (value s of name e).faults ≡ [] → Specified (value s of name e) (IsThere (value_tree s of e))
+pub value_known_line : (s : Scope) (of : Option TypeForm) (name : List ℕ) (e : Expr) → IsKnownScope s → (value s of name e).faults ≡ [] → Specified (value s of name e) (Has IsWholeExpr (value_tree s of e))
 unfolding value value_tree
 value_known_line s of name e known c =
     let x = value_told s of e in
@@ -244,11 +245,11 @@ of_type_known (Some to) k.Faulty h g e = absurd g
 of_type_known (Some to) (k.Free f) h g e = absurd g
 of_type_known (Some to) (k.Known x) h g e = agreed_if (fits to x.of) to x.of h e
 
--- of an element that is told so, without faults: it is known, and it has its tree
+-- of an element that is told so, without faults: it is known, and it has its whole tree
 record Taken (s : Scope) (el : Element) (kind : Kind) : Type 0 where
   known : IsKnown kind
   stands : Stands s (root el)
-  tree : IsThere ((element_view el).tree s)
+  tree : Has IsWholeElement ((element_view el).tree s)
 
 target_taken : (s : Scope) (el : Element) → IsKnownScope s → (target_of s el).faults ≡ [] → Taken s el (target_of s el).kind
 target_taken s el known e =
@@ -269,7 +270,7 @@ element_taken : (s : Scope) (of : Option TypeForm) (el : Element) → IsKnownSco
 element_taken s None el known e = target_taken s el known e
 element_taken s (Some of) el known e = with_type_taken s of el known e
 
-pub abbreviation_known : (s : Scope) (of : Option TypeForm) (name : List ℕ) (el : Element) → IsKnownScope s → (abbreviation s of name el).faults ≡ [] → Specified (abbreviation s of name el) (IsThere ((element_view el).tree s))
+pub abbreviation_known : (s : Scope) (of : Option TypeForm) (name : List ℕ) (el : Element) → IsKnownScope s → (abbreviation s of name el).faults ≡ [] → Specified (abbreviation s of name el) (Has IsWholeElement ((element_view el).tree s))
 unfolding abbreviation
 abbreviation_known s of name el known e =
     let x = element_taken s of el known e in
@@ -339,7 +340,7 @@ recast_known w (Some to) k.Faulty h g e = absurd g
 recast_known w (Some to) (k.Free f) h g e = absurd g
 recast_known w (Some to) (k.Known x) h g e = found_known (recast w to x.of).found (recast_sound w to x.of h e)
 
-pub recast_element_known : (s : Scope) (w : Form) (of : TypeForm) (name : List ℕ) (el : Element) → IsKnownScope s → (recast_element s w of name el).faults ≡ [] → Specified (recast_element s w of name el) (IsThere ((element_view el).tree s))
+pub recast_element_known : (s : Scope) (w : Form) (of : TypeForm) (name : List ℕ) (el : Element) → IsKnownScope s → (recast_element s w of name el).faults ≡ [] → Specified (recast_element s w of name el) (Has IsWholeElement ((element_view el).tree s))
 unfolding recast_element recasting.element_told
 recast_element_known s w of name el known e =
     let to = type_form_view of opening.Allowed s in
@@ -357,7 +358,7 @@ source_reads s e known c =
     let y = abbreviated (judged x.term) in
     abbreviated_reads (judged x.term) ((expr_view e).draft s) (said_sound s e known (front_clean x.faults y.faults c)) (back_clean x.faults y.faults c)
 
-pub recast_value_known : (s : Scope) (w : Form) (of : TypeForm) (name : List ℕ) (e : Expr) → IsKnownScope s → (recast_value s w of name e).faults ≡ [] → Specified (recast_value s w of name e) (IsThere (source_tree s e))
+pub recast_value_known : (s : Scope) (w : Form) (of : TypeForm) (name : List ℕ) (e : Expr) → IsKnownScope s → (recast_value s w of name e).faults ≡ [] → Specified (recast_value s w of name e) (Has IsWholeExpr (source_tree s e))
 unfolding recast_value recasting.value_told source_tree
 recast_value_known s w of name e known c =
     let to = type_form_view of opening.Allowed s in

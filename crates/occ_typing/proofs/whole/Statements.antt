@@ -38,7 +38,7 @@ use Rattle.occ_type_rules.specs.Calling.{matched}
 use Rattle.occ_type_rules.specs.Choosing as choosing
 use Rattle.occ_type_rules.specs.Numbering.{any_faulty, of_another_number}
 use Rattle.occ_type_rules.specs.Resulting.{each_under, results as told_results}
-use Rattle.occ_typed.specs.Placing.{all_placed, each_placed, placed, with_first}
+use Rattle.occ_typed.specs.Placing.{all_placed, each_placed, placed}
 use Rattle.occ_typed.specs.declared.draft.Draft.{Draft}
 use Rattle.occ_typed.specs.declared.draft.Draft.TheVariants as dr
 use Rattle.occ_typed.specs.declared.expr.TypedElement.{TypedElement}
@@ -54,15 +54,18 @@ use Rattle.occ_types.specs.declared.types.OccType.{OccType}
 use Rattle.occ_types.specs.declared.types.OccType.TheVariants as t
 use Rattle.occ_types.specs.declared.value.Primitive.{Primitive}
 use Rattle.occ_types.specs.declared.value.Primitive.TheVariants as p
-use Rattle.occ_typing.specs.Known.{AreKnownTypes, IsKnownScope}
-use Rattle.occ_typing.proofs.whole.Clean.{IsThere, back_clean, front_clean, same_number}
+use Rattle.occ_types.proofs.Unknowns.{unknown_primitive}
+use Rattle.occ_typed_statements.specs.declared.statement.TypedAssignment.{TypedAssignment}
+use Rattle.occ_typing.specs.Known.{AreKnownFormals, AreKnownTypes, IsKnownScope, IsKnownType}
+use Rattle.occ_typing.specs.WholeTrees.{AllAre, AreWholeExprs, IsWholeElement, IsWholeExpr, no_expr}
+use Rattle.occ_typing.proofs.whole.Clean.{Has, back_clean, front_clean, same_number}
 use Rattle.occ_typing.proofs.whole.Elements.{ElementReads, SaidSound, all_sound, another_told, called_there, matched_reads, named_stands}
 use Rattle.occ_typing.proofs.whole.Expressions.{each_element, OfExpr, all_exprs, element_sound, expr_sound}
-use Rattle.occ_typing.proofs.whole.Names.{PerhapsKnown, referent_there, visible_known}
+use Rattle.occ_typing.proofs.whole.Names.{NamesFunction, PerhapsKnown, function_named, visible_known}
 use Rattle.occ_typing.proofs.whole.Operating.{drafted_reads}
-use Rattle.occ_typing.proofs.whole.Reading.{IsKnown, Reads, chosen, placed_as, reads_may}
+use Rattle.occ_typing.proofs.whole.Reading.{IsKnown, Reads, chosen, int_known, placed_as, reads_may}
 use Rattle.occ_typing.proofs.whole.Sound.{AllSound, Sound, single_sound}
-use Rattle.occ_typing.proofs.whole.Trees.{EachTree, each_there}
+use Rattle.occ_typing.proofs.whole.Trees.{EachTree, each_there, first_there}
 use Rattle.occ_typing.proofs.whole.Types.{depth, flat_primitive}
 
 -- ---- expressions and elements in a scope whose names are known
@@ -134,13 +137,13 @@ target_clean s el e = front_clean ((element_view el).told s).faults (reached (vi
 
 -- ---- right sides
 
-all_results : (call : Option TypedExpr) (types : List OccType) → AreKnownTypes types → IsThere call → AllSound (judged_all (result_terms types)) (result_drafts call types)
+all_results : (call : Option TypedExpr) (types : List OccType) → AreKnownTypes types → Has IsWholeExpr call → AllSound (judged_all (result_terms types)) (result_drafts call types)
 all_results call [] h g = tt
 all_results call (of ∷ types) h g = (single_sound (known of None) (drafted call) (reads_may (known of None) (drafted call) (drafted_reads (record { of = of; value = None }) call h.0 g)), all_results call types h.1 g)
 
-some_results : (types : List OccType) (r : Option Referent) (fs : List Formal) (ds : List Draft) → AreKnownTypes types → IsThere r → EachTree ds (formal_types fs) → AllSound (judged_all (result_terms types)) (result_drafts (call_of_first types r fs ds) types)
+some_results : (types : List OccType) (r : Option Referent) (fs : List Formal) (ds : List Draft) → AreKnownTypes types → Has NamesFunction r → EachTree ds (formal_types fs) → AllSound (judged_all (result_terms types)) (result_drafts (call_of_first types r fs ds) types)
 some_results [] r fs ds h g i = tt
-some_results (of ∷ types) r fs ds h g i = all_results (called_tree of r fs ds) (of ∷ types) h (called_there of r fs ds g i)
+some_results (of ∷ types) r fs ds h g i = all_results (called_tree of r fs ds) (of ∷ types) h (called_there of r fs ds h.0 g i)
 
 abbrev side_if : Bool → List Fault → Option TypedExpr → List OccType → Side
 side_if b fs call types = if b then record { faults = fs; terms = v.Single k.Faulty ∷ []; drafts = dr.Faulty ∷ [] } else record { faults = fs; terms = result_terms types; drafts = result_drafts call types }
@@ -153,14 +156,14 @@ after_faults : (b : Bool) (fs : List Fault) (call : Option TypedExpr) (types : L
 after_faults true fs call types e = e
 after_faults false fs call types e = e
 
-results_sound : (s : Scope) (name : List ℕ) (es : List Expr) (fs : List Formal) (types : List OccType) → IsKnownScope s → AreKnownTypes types → IsThere (referent s name) → (results_side s name es fs types).faults ≡ [] → AllSound (judged_all (results_side s name es fs types).terms) (results_side s name es fs types).drafts
+results_sound : (s : Scope) (name : List ℕ) (es : List Expr) (fs : List Formal) (types : List OccType) → IsKnownScope s → AreKnownFormals fs → AreKnownTypes types → Has NamesFunction (referent s name) → (results_side s name es fs types).faults ≡ [] → AllSound (judged_all (results_side s name es fs types).terms) (results_side s name es fs types).drafts
 unfolding results_side
-results_sound s name es fs types known h g e =
+results_sound s name es fs types known formals h g e =
     let xs = in_scope s (expr_views es) in
     let x = matched fs (judged_all (terms xs)) in
     let call = call_of_first types (referent s name) fs (item_drafts s (expr_views es)) in
     let clean = after_faults x.is_faulty (own_faults xs ++ x.faults) call types e in
-    let z = matched_reads fs (judged_all (terms xs)) (item_drafts s (expr_views es)) (every_expr_known s es known (front_clean (own_faults xs) x.faults clean)) (back_clean (own_faults xs) x.faults clean) in
+    let z = matched_reads fs (judged_all (terms xs)) (item_drafts s (expr_views es)) formals (every_expr_known s es known (front_clean (own_faults xs) x.faults clean)) (back_clean (own_faults xs) x.faults clean) in
     if_side x.is_faulty (own_faults xs ++ x.faults) call types z.0 (some_results types (referent s name) fs (item_drafts s (expr_views es)) h g z.1)
 
 call_sound : (s : Scope) (all : List Expr) (name : List ℕ) (es : List Expr) (found : Option Meaning) → IsKnownScope s → PerhapsKnown found → visible s name ≡ found → (call_side s all name es found).faults ≡ [] → AllSound (judged_all (call_side s all name es found).terms) (call_side s all name es found).drafts
@@ -169,7 +172,7 @@ call_sound s all name es (Some m.Faulty) known h is e = absurd h
 call_sound s all name es (Some (m.Type of)) known h is e = every_expr_known s all known e
 call_sound s all name es (Some (m.Protocol c)) known h is e = every_expr_known s all known e
 call_sound s all name es (Some (m.Procedure fs)) known h is e = every_expr_known s all known e
-call_sound s all name es (Some (m.Function fs types)) known h is e = results_sound s name es fs types known h.1 (referent_there s name (m.Function fs types) is) e
+call_sound s all name es (Some (m.Function fs types)) known h is e = results_sound s name es fs types known h.0 h.1 (function_named s name fs types is h.0 h.1) e
 call_sound s all name es (Some (m.Element whole)) known h is e = every_expr_known s all known e
 
 by_sound : (s : Scope) (all : List Expr) (call : Option Called) → IsKnownScope s → (side_by s all call).faults ≡ [] → AllSound (judged_all (side_by s all call).terms) (side_by s all call).drafts
@@ -185,9 +188,9 @@ side_sound s es known e = by_sound s es (one_call es) known e
 abbrev KindOf : Kind → OccType → Type 0
 KindOf k.Faulty of = ⊥
 KindOf (k.Free f) of = ⊥
-KindOf (k.Known x) of = x.of ≡ of
+KindOf (k.Known x) of = (x.of ≡ of) × IsKnownType x.of
 
--- of each target what is known has the type at its place
+-- of each target what is known is known to have the type at its place
 abbrev KindsOf : List Kind → List OccType → Type 0
 KindsOf [] [] = Unit {0}
 KindsOf [] (of ∷ types) = ⊥
@@ -198,28 +201,29 @@ record TargetsRead (xs : List Kind) (found : Option (List TypedElement)) : Type 
   els : List TypedElement
   is : found ≡ Some els
   typed : KindsOf xs (types_of els)
+  whole : AllAre IsWholeElement els
 
 one_more : (kind : Kind) (ks : List Kind) (el : Option TypedElement) (found : Option (List TypedElement)) → ElementReads kind el → TargetsRead ks found → TargetsRead (kind ∷ ks) (with_elements (one_element el) found)
 one_more k.Faulty ks el found h g = absurd h
 one_more (k.Free f) ks el found h g = absurd h
 one_more (k.Known x) ks None found h g = absurd h
 one_more (k.Known x) ks (Some el) found h g =
-    record { els = el ∷ g.els; is = ap (λ (o : Option (List TypedElement)). with_elements (Some (el ∷ [])) o) g.is; typed = (ap (λ (y : Known). y.of) (sym h.1), g.typed) }
+    record { els = el ∷ g.els; is = ap (λ (o : Option (List TypedElement)). with_elements (Some (el ∷ [])) o) g.is; typed = ((ap (λ (y : Known). y.of) (sym h.1), h.0), g.typed); whole = (h.2, g.whole) }
 
 targets_read : (s : Scope) (els : List Element) → IsKnownScope s → all_faults (targets s els) ≡ [] → TargetsRead (kinds (targets s els)) (target_trees s els)
-targets_read s [] known e = record { els = []; is = refl; typed = tt }
+targets_read s [] known e = record { els = []; is = refl; typed = tt; whole = tt }
 targets_read s (el ∷ els) known e =
     let x = target_of s el in
     one_more x.kind (kinds (targets s els)) ((element_view el).tree s) (target_trees s els) (target_sound s el known (front_clean x.faults (all_faults (targets s els)) e)) (targets_read s els known (back_clean x.faults (all_faults (targets s els)) e))
 
-value_if : (b : Bool) (of : OccType) (j : Judged) (d : Draft) → Sound j d → (if b then (j.under of).faults else nameless code.T2 ∷ []) ≡ [] → IsThere (placed d of)
-value_if true of j d h e = placed_as of (j.under of).kind d (h.wanted of e)
-value_if false of j d h e = absurd cc
+value_if : (b : Bool) (of : OccType) (j : Judged) (d : Draft) → IsKnownType of → Sound j d → (if b then (j.under of).faults else nameless code.T2 ∷ []) ≡ [] → Has IsWholeExpr (placed d of)
+value_if true of j d known h e = placed_as of (j.under of).kind d known (h.wanted of e)
+value_if false of j d known h e = absurd cc
 
-pair_read : (kind : Kind) (of : OccType) (j : Judged) (d : Draft) → KindOf kind of → Sound j d → pair kind j ≡ [] → IsThere (placed d of)
+pair_read : (kind : Kind) (of : OccType) (j : Judged) (d : Draft) → KindOf kind of → Sound j d → pair kind j ≡ [] → Has IsWholeExpr (placed d of)
 pair_read k.Faulty of j d h g e = absurd h
 pair_read (k.Free f) of j d h g e = absurd h
-pair_read (k.Known x) of j d h g e = subst (λ (u : OccType). IsThere (placed d u)) h (value_if (is_data x.of) x.of j d g e)
+pair_read (k.Known x) of j d h g e = subst (λ (u : OccType). Has IsWholeExpr (placed d u)) h.0 (value_if (is_data x.of) x.of j d h.1 g e)
 
 pairs_read : (ks : List Kind) (types : List OccType) (js : List Judged) (ds : List Draft) → length ks ≡ length js → KindsOf ks types → AllSound js ds → pairs ks js ≡ [] → EachTree ds types
 pairs_read [] [] [] [] same h g e = tt
@@ -256,14 +260,17 @@ assigned_if false ks types js ds same h g e =
     let rest : of_another_number false (map alone js) ≡ [] = sym (ap (λ (b : Bool). of_another_number b (map alone js)) (holdings_faultless ks types h clean)) ∙ back_clean (all_faults ts) (of_another_number (any_faulty ts) (map alone js)) e in
     absurd (another_told js ds g rest)
 
-values_there : (els : List TypedElement) (ts : Option (List TypedExpr)) → IsThere ts → IsThere (assigned_values els ts)
-values_there els None h = h
-values_there els (Some ts) h = tt
+abbrev pub IsWholeAssignment : TypedAssignment → Type 0
+IsWholeAssignment x = AllAre IsWholeElement x.targets × AreWholeExprs x.values
 
-assigned_there : (found : Option (List TypedElement)) (els : List TypedElement) (ds : List Draft) → found ≡ Some els → EachTree ds (types_of els) → IsThere (assigned found ds)
-assigned_there found els ds is h = subst (λ (o : Option (List TypedElement)). IsThere (assigned o ds)) (sym is) (values_there els (each_placed ds (types_of els)) (each_there ds (types_of els) h))
+values_there : (els : List TypedElement) (ts : Option (List TypedExpr)) → AllAre IsWholeElement els → Has AreWholeExprs ts → Has IsWholeAssignment (assigned_values els ts)
+values_there els None h g = g
+values_there els (Some ts) h g = (h, g)
 
-pub assignment_there : (s : Scope) (els : List Element) (es : List Expr) → IsKnownScope s → assignment s els es ≡ [] → IsThere (assignment_tree s els es)
+assigned_there : (found : Option (List TypedElement)) (els : List TypedElement) (ds : List Draft) → found ≡ Some els → AllAre IsWholeElement els → EachTree ds (types_of els) → Has IsWholeAssignment (assigned found ds)
+assigned_there found els ds is h g = subst (λ (o : Option (List TypedElement)). Has IsWholeAssignment (assigned o ds)) (sym is) (values_there els (each_placed ds (types_of els)) h (each_there ds (types_of els) g))
+
+pub assignment_there : (s : Scope) (els : List Element) (es : List Expr) → IsKnownScope s → assignment s els es ≡ [] → Has IsWholeAssignment (assignment_tree s els es)
 assignment_there s els es known e =
     let ts = targets s els in
     let x = side s es in
@@ -271,7 +278,7 @@ assignment_there s els es known e =
     let behind = back_clean (all_faults ts) (x.faults ++ rest) e in
     let r = targets_read s els known (front_clean (all_faults ts) (x.faults ++ rest) e) in
     let g = side_sound s es known (front_clean x.faults rest behind) in
-    assigned_there (target_trees s els) r.els x.drafts r.is
+    assigned_there (target_trees s els) r.els x.drafts r.is r.whole
     (assigned_if (length (kinds ts) == length (judged_all x.terms)) (kinds ts) (types_of r.els) (judged_all x.terms) x.drafts (same_number (length (kinds ts)) (length (judged_all x.terms))) r.typed g (back_clean x.faults rest behind))
 
 -- ---- conditions and selectors
@@ -284,91 +291,86 @@ bool_told : (b : Bool) → (if b then [] else nameless code.T7 ∷ []) ≡ [] �
 bool_told true e = refl
 bool_told false e = absurd cc
 
-condition_read : (kind : Kind) (d : Draft) (of : OccType) → Reads kind d → choosing.no_condition kind ≡ [] → IsThere (placed d of)
-condition_read k.Faulty d of h e = absurd h
-condition_read (k.Free f) d of h e = absurd h
-condition_read (k.Known x) d of h e = let z = bool_flat x.of (as_primitive x.of) refl (bool_told (is_bool (as_primitive x.of)) e) in h.1 of (omega (arith, z))
+condition_read : (kind : Kind) (d : Draft) (of : OccType) → IsKnownType of → Reads kind d → choosing.no_condition kind ≡ [] → Has IsWholeExpr (placed d of)
+condition_read k.Faulty d of known h e = absurd h
+condition_read (k.Free f) d of known h e = absurd h
+condition_read (k.Known x) d of known h e = let z = bool_flat x.of (as_primitive x.of) refl (bool_told (is_bool (as_primitive x.of)) e) in h.1 of (omega (arith, z)) known
 
-pub condition_there : (s : Scope) (e : Expr) → IsKnownScope s → condition s e ≡ [] → IsThere (condition_tree s e)
+pub condition_there : (s : Scope) (e : Expr) → IsKnownScope s → condition s e ≡ [] → Has IsWholeExpr (condition_tree s e)
 condition_there s e known c =
     let x = (expr_view e).said s in
     let y = (judged x.term).alone in
     let rest = back_clean x.faults (y.faults ++ choosing.no_condition y.kind) c in
     let r = (said_sound s e known (front_clean x.faults (y.faults ++ choosing.no_condition y.kind) c)).by_itself (front_clean y.faults (choosing.no_condition y.kind) rest) in
-    condition_read y.kind ((expr_view e).draft s) (t.Primitive p.Bool) r (back_clean y.faults (choosing.no_condition y.kind) rest)
+    condition_read y.kind ((expr_view e).draft s) (t.Primitive p.Bool) (unknown_primitive p.Bool) r (back_clean y.faults (choosing.no_condition y.kind) rest)
 
 number_flat : (of : OccType) (base : Option Primitive) → as_primitive of ≡ base → is_there (number base) ≡ true → depth of ≡ 0
 number_flat of None is e = absurd cc
 number_flat of (Some x) is e = flat_primitive of x is
 
-selecting_if : (b : Bool) (x : Known) (d : Draft) (of : OccType) → (b ≡ true → depth x.of ≡ 0) → Reads (k.Known x) d → (chosen b (record { faults = []; kind = k.Known x }) (fault_of code.T7)).faults ≡ []
-    → IsKnown (chosen b (record { faults = []; kind = k.Known x }) (fault_of code.T7)).kind × IsThere (placed d of)
-selecting_if true x d of z h e = let n = z refl in (h.0, h.1 of (omega (arith, n)))
-selecting_if false x d of z h e = absurd cc
+selecting_if : (b : Bool) (x : Known) (d : Draft) (of : OccType) → IsKnownType of → (b ≡ true → depth x.of ≡ 0) → Reads (k.Known x) d → (chosen b (record { faults = []; kind = k.Known x }) (fault_of code.T7)).faults ≡ []
+    → IsKnown (chosen b (record { faults = []; kind = k.Known x }) (fault_of code.T7)).kind × Has IsWholeExpr (placed d of)
+selecting_if true x d of known z h e = let n = z refl in (h.0, h.1 of (omega (arith, n)) known)
+selecting_if false x d of known z h e = absurd cc
 
-selector_read : (kind : Kind) (d : Draft) (of : OccType) → Reads kind d → (choosing.selecting kind).faults ≡ [] → IsKnown (choosing.selecting kind).kind × IsThere (placed d of)
-selector_read k.Faulty d of h e = absurd h
-selector_read (k.Free f) d of h e = absurd h
-selector_read (k.Known x) d of h e = selecting_if (is_there (number (as_primitive x.of))) x d of (number_flat x.of (as_primitive x.of) refl) h e
+selector_read : (kind : Kind) (d : Draft) (of : OccType) → IsKnownType of → Reads kind d → (choosing.selecting kind).faults ≡ [] → IsKnown (choosing.selecting kind).kind × Has IsWholeExpr (placed d of)
+selector_read k.Faulty d of known h e = absurd h
+selector_read (k.Free f) d of known h e = absurd h
+selector_read (k.Known x) d of known h e = selecting_if (is_there (number (as_primitive x.of))) x d of known (number_flat x.of (as_primitive x.of) refl) h e
 
--- what the options are compared with is known, and the selector has its tree
-pub selector_reads : (s : Scope) (e : Expr) → IsKnownScope s → (selector s e).faults ≡ [] → IsKnown (selector s e).kind × IsThere (selector_tree s e)
+-- what the options are compared with is known, and the selector has its whole tree
+pub selector_reads : (s : Scope) (e : Expr) → IsKnownScope s → (selector s e).faults ≡ [] → IsKnown (selector s e).kind × Has IsWholeExpr (selector_tree s e)
 selector_reads s e known c =
     let x = (expr_view e).said s in
     let y = (judged x.term).alone in
     let rest = back_clean x.faults (y.faults ++ (choosing.selecting y.kind).faults) c in
     let r = (said_sound s e known (front_clean x.faults (y.faults ++ (choosing.selecting y.kind).faults) c)).by_itself (front_clean y.faults (choosing.selecting y.kind).faults rest) in
-    selector_read y.kind ((expr_view e).draft s) int r (back_clean y.faults (choosing.selecting y.kind).faults rest)
+    selector_read y.kind ((expr_view e).draft s) int int_known r (back_clean y.faults (choosing.selecting y.kind).faults rest)
 
 -- ---- options
 
-first_there : (x : Option TypedExpr) (xs : Option (List TypedExpr)) → IsThere x → IsThere xs → IsThere (with_first x xs)
-first_there None xs h g = h
-first_there (Some x) None h g = g
-first_there (Some x) (Some xs) h g = tt
-
-options_read : (of : OccType) (before : BTreeSet ℤ) (js : List Judged) (ds : List Draft) → AllSound js ds → (choosing.options of before js).faults ≡ [] → IsThere (all_placed ds of)
-options_read of before [] [] h e = tt
-options_read of before [] (d ∷ ds) h e = absurd h
-options_read of before (j ∷ js) [] h e = absurd h
-options_read of before (j ∷ js) (d ∷ ds) h e =
+options_read : (of : OccType) (before : BTreeSet ℤ) (js : List Judged) (ds : List Draft) → IsKnownType of → AllSound js ds → (choosing.options of before js).faults ≡ [] → Has AreWholeExprs (all_placed ds of)
+options_read of before [] [] known h e = no_expr
+options_read of before [] (d ∷ ds) known h e = absurd h
+options_read of before (j ∷ js) [] known h e = absurd h
+options_read of before (j ∷ js) (d ∷ ds) known h e =
     let y = choosing.option of before j in
     let z = choosing.options of y.numbers js in
     let x = j.under of in
     let own = front_clean y.faults z.faults e in
-    first_there (placed d of) (all_placed ds of) (placed_as of x.kind d (h.0.wanted of (front_clean x.faults (choosing.chosen before x.kind).faults own))) (options_read of y.numbers js ds h.1 (back_clean y.faults z.faults e))
+    first_there (placed d of) (all_placed ds of) (placed_as of x.kind d known (h.0.wanted of (front_clean x.faults (choosing.chosen before x.kind).faults own))) (options_read of y.numbers js ds known h.1 (back_clean y.faults z.faults e))
 
 same_drafts : (s : Scope) (es : List Expr) → drafts s es ≡ item_drafts s (expr_views es)
 same_drafts s [] = refl
 same_drafts s (e ∷ es) = ap (λ (ds : List Draft). (expr_view e).draft s ∷ ds) (same_drafts s es)
 
-pub options_there : (s : Scope) (kind : Kind) (before : BTreeSet ℤ) (es : List Expr) → IsKnownScope s → IsKnown kind → (options s kind before es).faults ≡ [] → IsThere (options_trees s kind es)
+pub options_there : (s : Scope) (kind : Kind) (before : BTreeSet ℤ) (es : List Expr) → IsKnownScope s → IsKnown kind → (options s kind before es).faults ≡ [] → Has AreWholeExprs (options_trees s kind es)
 options_there s k.Faulty before es known h e = absurd h
 options_there s (k.Free f) before es known h e = absurd h
 options_there s (k.Known x) before es known h e =
     let xs = in_scope s (expr_views es) in
     let y = choosing.options x.of before (judged_all (terms xs)) in
-    subst (λ (ds : List Draft). IsThere (all_placed ds x.of)) (sym (same_drafts s es))
-    (options_read x.of before (judged_all (terms xs)) (item_drafts s (expr_views es)) (every_expr_known s es known (front_clean (own_faults xs) y.faults e)) (back_clean (own_faults xs) y.faults e))
+    subst (λ (ds : List Draft). Has AreWholeExprs (all_placed ds x.of)) (sym (same_drafts s es))
+    (options_read x.of before (judged_all (terms xs)) (item_drafts s (expr_views es)) h (every_expr_known s es known (front_clean (own_faults xs) y.faults e)) (back_clean (own_faults xs) y.faults e))
 
 -- ---- results
 
-results_read : (types : List OccType) (js : List Judged) (ds : List Draft) → length types ≡ length js → AllSound js ds → each_under types js ≡ [] → EachTree ds types
-results_read [] [] [] same h e = tt
-results_read [] [] (d ∷ ds) same h e = absurd h
-results_read [] (j ∷ js) ds same h e = absurd (omega (arith, same))
-results_read (of ∷ types) [] ds same h e = absurd (omega (arith, same))
-results_read (of ∷ types) (j ∷ js) [] same h e = absurd h
-results_read (of ∷ types) (j ∷ js) (d ∷ ds) same h e =
-    (placed_as of (j.under of).kind d (h.0.wanted of (front_clean (j.under of).faults (each_under types js) e)), results_read types js ds (omega (arith, same)) h.1 (back_clean (j.under of).faults (each_under types js) e))
+results_read : (types : List OccType) (js : List Judged) (ds : List Draft) → AreKnownTypes types → length types ≡ length js → AllSound js ds → each_under types js ≡ [] → EachTree ds types
+results_read [] [] [] known same h e = tt
+results_read [] [] (d ∷ ds) known same h e = absurd h
+results_read [] (j ∷ js) ds known same h e = absurd (omega (arith, same))
+results_read (of ∷ types) [] ds known same h e = absurd (omega (arith, same))
+results_read (of ∷ types) (j ∷ js) [] known same h e = absurd h
+results_read (of ∷ types) (j ∷ js) (d ∷ ds) known same h e =
+    (placed_as of (j.under of).kind d known.0 (h.0.wanted of (front_clean (j.under of).faults (each_under types js) e)), results_read types js ds known.1 (omega (arith, same)) h.1 (back_clean (j.under of).faults (each_under types js) e))
 
-results_if : (b : Bool) (types : List OccType) (js : List Judged) (ds : List Draft) → (b ≡ true → length types ≡ length js) → AllSound js ds → (if b then each_under types js else of_another_number false (map alone js)) ≡ [] → EachTree ds types
-results_if true types js ds same h e = results_read types js ds (same refl) h e
-results_if false types js ds same h e = absurd (another_told js ds h e)
+results_if : (b : Bool) (types : List OccType) (js : List Judged) (ds : List Draft) → AreKnownTypes types → (b ≡ true → length types ≡ length js) → AllSound js ds → (if b then each_under types js else of_another_number false (map alone js)) ≡ [] → EachTree ds types
+results_if true types js ds known same h e = results_read types js ds known (same refl) h e
+results_if false types js ds known same h e = absurd (another_told js ds h e)
 
-pub results_there : (s : Scope) (types : List OccType) (es : List Expr) → IsKnownScope s → results s types es ≡ [] → IsThere (results_trees s types es)
-results_there s types es known e =
+pub results_there : (s : Scope) (types : List OccType) (es : List Expr) → IsKnownScope s → AreKnownTypes types → results s types es ≡ [] → Has AreWholeExprs (results_trees s types es)
+results_there s types es known h e =
     let x = side s es in
     let js = judged_all x.terms in
     each_there x.drafts types
-    (results_if (length types == length js) types js x.drafts (same_number (length types) (length js)) (side_sound s es known (front_clean x.faults (told_results types js) e)) (back_clean x.faults (told_results types js) e))
+    (results_if (length types == length js) types js x.drafts h (same_number (length types) (length js)) (side_sound s es known (front_clean x.faults (told_results types js) e)) (back_clean x.faults (told_results types js) e))

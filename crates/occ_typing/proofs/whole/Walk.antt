@@ -23,7 +23,7 @@ use Rattle.occ_typing.specs.declared.tree.TypedLine.{TypedLine}
 use Rattle.occ_typing.specs.declared.tree.TypedLine.TheViews.{out-roll-TypedLine}
 use Rattle.occ_typing.specs.declared.unit.Typed.{Typed}
 use Rattle.occ_typing.specs.Known.{AreKnownEntries, IsKnownScope}
-use Rattle.occ_typing.specs.Whole.{AreKnownAdds, AreKnownImports, AreWhole, IsKnownForm, no_line, one_line}
+use Rattle.occ_typing.specs.Whole.{AreKnownAdds, AreKnownImports, AreWhole, IsWholeForm, no_line, one_line}
 use Rattle.occ_typing.proofs.whole.Bodies.{placed_clean}
 use Rattle.occ_typing.proofs.whole.Clean.{back_clean, front_clean}
 use Rattle.occ_typing.proofs.whole.Lines.{LineKnown, line_known}
@@ -31,11 +31,11 @@ use Rattle.occ_typing.proofs.whole.Names.{with_all_known}
 use Rattle.occ_typing.proofs.whole.Rows.{StandIn, Suits, fits_stand}
 
 -- the line that is made of what is judged
-line_is : (p : Parent) (n : ℕ) (l : ExpandedLine) (x : Judged) (under behind : List TypedLine) → IsKnownForm x.line.form → AreKnownEntries x.line.enters → AreKnownAdds x.line.adds → AreWhole under → AreWhole behind → AreWhole (typed_line p n l x under ∷ behind)
+line_is : (p : Parent) (n : ℕ) (l : ExpandedLine) (x : Judged) (under behind : List TypedLine) → IsWholeForm x.line.form → AreKnownEntries x.line.enters → AreKnownAdds x.line.adds → AreWhole under → AreWhole behind → AreWhole (typed_line p n l x under ∷ behind)
 line_is p n l x under behind f g h u b =
     let is = out-roll-TypedLine (record { place = place_of l; process = process_number n p l; form = x.line.form; enters = x.line.enters; adds = x.line.adds; under = under }) in
     one_line (typed_line p n l x under) behind
-    (subst (λ z. IsKnownForm z.form × AreKnownEntries z.enters × AreKnownAdds z.adds) (sym is) (f, g, h))
+    (subst (λ z. IsWholeForm z.form × AreKnownEntries z.enters × AreKnownAdds z.adds) (sym is) (f, g, h))
     (subst (λ z. AreWhole z.under) (sym is) u)
     b
 
