@@ -2,6 +2,7 @@ ghost use Rattle.occ_typed_lines.specs.declared.using.Import.{Import as AnImport
 ghost use Rattle.std.specs.Prelude.{List, [], ◌∷◌, ◌≡◌, None, false};
 ghost use Rattle.occ_base.specs.Errors.{error_at};
 ghost use Rattle.occ_base.specs.declared.code.Code.TheVariants as code;
+ghost use Rattle.occ_expr.specs.Literals.{byte};
 ghost use Rattle.occ_forms.specs.declared.tree.Action.TheVariants as action;
 ghost use Rattle.occ_forms.specs.declared.tree.Construct.TheVariants as construct;
 ghost use Rattle.occ_forms.specs.declared.tree.Form.TheVariants as form;
@@ -11,7 +12,10 @@ ghost use Rattle.occ_names.specs.declared.scope.Scope.{Scope};
 ghost use Rattle.occ_operands.specs.Settling.{int, known};
 ghost use Rattle.occ_tree.specs.Forest.{Empty, Tree};
 ghost use Rattle.occ_typing.specs.Samples.{at, unit};
+ghost use Rattle.occ_typed.specs.declared.expr.TypedExpr.TheVariants as typed;
+ghost use Rattle.occ_types.specs.declared.types.OccType.TheVariants as types;
 ghost use Rattle.occ_typing.specs.Units.{lines};
+ghost use Rattle.occ_typing.specs.WholeTrees.{IsWholeExpr};
 ghost use Rattle.occ_typed_lines.specs.Lines.{body_of};
 ghost use Rattle.occ_typed_lines.specs.declared.parent.Role.TheVariants as role;
 
@@ -26,4 +30,13 @@ pub fn else_rows()
 pub fn construct_rows()
     ensures known { (is : List AnImport) → (s : Scope) → lines is (body_of role.Process) s s (Tree (at 2 (form.Construct (construct.Replicable word.Sequence None))) (Tree (at 3 (form.Action action.Skip)) Empty Empty) Empty) ≡ [] }
     ensures alternation { (is : List AnImport) → (s : Scope) → lines is (body_of role.Process) s s (Tree (at 2 (form.Construct (construct.Replicable word.Alternation None))) Empty Empty) ≡ [] }
+{}
+
+/// A literal of an INT is whole, and so is its conversion to a BYTE; a literal of an unknown type is not whole, and no
+/// conversion of it is.
+pub fn whole_rows()
+    ensures literal { IsWholeExpr (typed.Literal (record { of = int; value = None })) }
+    ensures converted { IsWholeExpr (typed.Converted (record { of = byte; value = None }) (typed.Literal (record { of = int; value = None }))) }
+    ensures unknown { IsWholeExpr (typed.Literal (record { of = types.Unknown; value = None })) → ⊥ }
+    ensures inside { IsWholeExpr (typed.Converted (record { of = byte; value = None }) (typed.Literal (record { of = types.Unknown; value = None }))) → ⊥ }
 {}
