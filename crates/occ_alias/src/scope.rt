@@ -134,6 +134,7 @@ fn chosen_faults(
 }
 
 /// What is told of uses where these specifications are in scope: by those that concern the uses, since the others tell nothing.
+#[tactic(auto, using(crate::proofs::Elements::all_tell))]
 pub(crate) fn scope_faults(
     alloc: Global,
     env: &Scope,

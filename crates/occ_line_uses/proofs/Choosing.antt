@@ -1,12 +1,14 @@
 -- The specifications that concern uses are among those that are noted with their roots.
-use Rattle.std.specs.Prelude.{◌==◌, ◌+◌, ◌-◌, slice_get}
-use Rattle.std.specs.BTreeSet.{insert_key}
+use Rattle.std.specs.Prelude.{◌==◌, ◌+◌, ◌-◌, eqb, slice_get, IsPermutation, IsSorted}
 use Rattle.std.specs.Cmp.{ranked}
-use Rattle.std.specs.List.{AllByRecursion, filter, list_any}
+use Rattle.std.specs.List.{dedup, dedup_from, filter, list_any}
+use Rattle.std.specs.List.Retain.{DiffersFromLast, IsFiltered}
 use Rattle.std.specs.List.Sorted.{IsStrictlySortedBy}
-use Rattle.std.specs.Ordering.{match_ordering, nat_cmp}
-use Rattle.std.specs.declared.cmp.Ordering.{Ordering}
-use Rattle.std.specs.declared.cmp.Ordering.TheVariants.{Less, Equal, Greater}
+use Rattle.std.specs.Ordering.{nat_cmp}
+use Rattle.std.specs.declared.cmp.Ordering.TheVariants.{Less}
+use Rattle.std.proofs.lemmas.List.Filters.{dedup_is}
+use Rattle.std.proofs.lemmas.List.Sorted.{list_any-IsPermutation}
+use Rattle.std.proofs.lemmas.Map.Keys.{IsStrictlyIncreasing-dedup, sorted_from_strictly_increasing}
 use Rattle.std.proofs.Common.{arith, ◌≡◌, ◌∙◌, ◌<◌, ◌≤◌, ◌⊎◌, inl, inr, ℕ, zero, suc, Bool, true, false, ◌||◌, ◌&&◌, Option, Some, None, List, [], ◌∷◌, ◌++◌, length, refl, ap, sym, subst, if◌then◌else◌, Result, Ok, Err, IfOk}
 use Rattle.occ_bounds.specs.declared.bound.Bound.{Bound}
 use Rattle.occ_bounds.specs.declared.uses.Use.{Use}
@@ -15,37 +17,44 @@ use Rattle.occ_line_uses.specs.Concern.{concerned, concerns, concerns_some, has_
 use Rattle.occ_line_uses.specs.inside.Noting.{AreNoted, Lists, chosen, concerns_at, is_in, is_noted, may_concern}
 use Rattle.occ_line_uses.proofs.Noting.{either_cases}
 
--- ---- sets of numbers
-
-swapped : (a b c : Bool) → (a || (b || c)) ≡ ((b || c) || a)
-swapped true true c = refl
-swapped true false true = refl
-swapped true false false = refl
-swapped false true c = refl
-swapped false false true = refl
-swapped false false false = refl
+-- ---- numbers
 
 moved : (a b c : Bool) → (a || (b || c)) ≡ ((a || b) || c)
 moved true b c = refl
 moved false b c = refl
 
--- what is equal is there already
-there : (k x n : ℕ) (b : Bool) → k ≡ x → ((x == n) || b) ≡ (((x == n) || b) || (k == n))
-there k x n b e = grind (arith, e)
+pub in_both : (xs ys : List ℕ) (n : ℕ) → is_in (xs ++ ys) n ≡ (is_in xs n || is_in ys n)
+in_both [] ys n = refl
+in_both (x ∷ xs) ys n = ap (λ (b : Bool). (x == n) || b) (in_both xs ys n) ∙ moved (x == n) (is_in xs n) (is_in ys n)
 
-in_placed : (k x n : ℕ) (xs : List ℕ) (o : Ordering) → o ≡ nat_cmp k x → is_in (insert_key nat_cmp xs k) n ≡ (is_in xs n || (k == n))
-    → is_in (match_ordering o (k ∷ x ∷ xs) (x ∷ xs) (x ∷ insert_key nat_cmp xs k)) n ≡ (is_in (x ∷ xs) n || (k == n))
-in_placed k x n xs Less e h = swapped (k == n) (x == n) (is_in xs n)
-in_placed k x n xs Equal e h = there k x n (is_in xs n) (ranked k x Equal e)
-in_placed k x n xs Greater e h = ap (λ (b : Bool). (x == n) || b) h ∙ moved (x == n) (is_in xs n) (k == n)
+-- what is there twice
+twice : (a b : Bool) → (a || b) ≡ (a || (a || b))
+twice true b = refl
+twice false b = refl
 
-or_false : (b : Bool) → (b || false) ≡ b
-or_false true = refl
-or_false false = refl
+in_rest : (same : Bool) (k x n : ℕ) (xs : List ℕ) → (x == k) ≡ same → is_in (dedup_from eqb k xs) n ≡ ((k == n) || is_in xs n) → is_in (dedup_from eqb x xs) n ≡ ((x == n) || is_in xs n)
+    → is_in (if same then dedup_from eqb k xs else k ∷ dedup_from eqb x xs) n ≡ ((k == n) || is_in (x ∷ xs) n)
+in_rest true k x n xs e h i =
+    let is : x ≡ k = grind (arith, e) in
+    h ∙ twice (k == n) (is_in xs n) ∙ ap (λ (m : ℕ). (k == n) || ((m == n) || is_in xs n)) (sym is)
+in_rest false k x n xs e h i = ap (λ (b : Bool). (k == n) || b) i
 
-pub in_inserted : (xs : List ℕ) (k n : ℕ) → is_in (insert_key nat_cmp xs k) n ≡ (is_in xs n || (k == n))
-in_inserted [] k n = or_false (k == n)
-in_inserted (x ∷ xs) k n = in_placed k x n xs (nat_cmp k x) refl (in_inserted xs k n)
+in_dedup_from : (k n : ℕ) (xs : List ℕ) → is_in (dedup_from eqb k xs) n ≡ ((k == n) || is_in xs n)
+in_dedup_from k n [] = refl
+in_dedup_from k n (x ∷ xs) = in_rest (x == k) k x n xs refl (in_dedup_from k n xs) (in_dedup_from x n xs)
+
+in_dedup : (xs : List ℕ) (n : ℕ) → is_in (dedup eqb xs) n ≡ is_in xs n
+in_dedup [] n = refl
+in_dedup (x ∷ xs) n = in_dedup_from x n xs
+
+-- in order, each once
+pub same_in_order : (xs ys zs : List ℕ) (n : ℕ) → IsPermutation xs ys → IsFiltered (DiffersFromLast eqb) [] ys zs → is_in zs n ≡ is_in xs n
+same_in_order xs ys zs n h i =
+    ap (λ (ns : List ℕ). is_in ns n) (dedup_is eqb ys zs i) ∙ in_dedup ys n ∙ sym (list_any-IsPermutation (λ (k : ℕ). k == n) xs ys h)
+
+pub in_order_rises : (ys zs : List ℕ) → IsSorted nat_cmp ys → IsFiltered (DiffersFromLast eqb) [] ys zs → IsStrictlySortedBy nat_cmp zs
+in_order_rises ys zs h i =
+    subst (IsStrictlySortedBy nat_cmp) (sym (dedup_is eqb ys zs i)) (sorted_from_strictly_increasing (dedup eqb ys) (IsStrictlyIncreasing-dedup ys h))
 
 -- ---- rising numbers
 
@@ -169,13 +178,6 @@ may_at : (named read : Lists) (xs : List Bound) (n : ℕ) (us : List Use) (o : O
 may_at named read xs n us None h i at e = absurd (grind (arith, e))
 may_at named read xs n us (Some x) h i at e = may named read xs n x us h i at e
 
--- the first by itself
-pub first_chosen : (xs : List Bound) (us : List Use) (n : ℕ) (ns : List ℕ) → chosen xs us (n ∷ ns) ≡ chosen xs us (n ∷ []) ++ chosen xs us ns
-first_chosen xs us n ns = by_test (concerns_at (slice_get xs n) us) where
-  by_test : (b : Bool) → (if b then n ∷ chosen xs us ns else chosen xs us ns) ≡ (if b then n ∷ [] else []) ++ chosen xs us ns
-  by_test true = refl
-  by_test false = refl
-
 pub all_chosen : (named read : Lists) (xs : List Bound) (us : List Use) (ks : List ℕ) → AreNoted names_root xs named → AreNoted has_read xs read
     → ((n : ℕ) → is_in ks n ≡ list_any (may_concern named read n) us) → IsStrictlySortedBy nat_cmp ks → chosen xs us ks ≡ concerned 0 xs us
 all_chosen named read xs us ks h i among sorted =
@@ -183,6 +185,6 @@ all_chosen named read xs us ks h i among sorted =
     (rises ks sorted)
     (λ (n : ℕ) (l : 0 ≤ n) (e : concerns_at (slice_get xs n) us ≡ true). among n ∙ may_at named read xs n us (slice_get xs n) h i refl e)
 
-pub if_ok : {T E : Type 0} (r : Result T E) {P Q R : T → Type 0} → ((x : T) → P x → Q x → R x) → IfOk r P → IfOk r Q → IfOk r R
-if_ok (Ok x) f h i = f x h i
-if_ok (Err e) f h i = tt
+pub if_ok : {T E : Type 0} (r : Result T E) {P Q : T → Type 0} → ((x : T) → P x → Q x) → IfOk r P → IfOk r Q
+if_ok (Ok x) f h = f x h
+if_ok (Err e) f h = tt

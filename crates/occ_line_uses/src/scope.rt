@@ -1,7 +1,7 @@
-ghost use Rattle.std.specs.BTreeSet.{IsOrdered};
 ghost use Rattle.std.specs.List.{list_any};
+ghost use Rattle.std.specs.List.Sorted.{IsStrictlySortedBy};
 ghost use Rattle.std.specs.Ordering.{nat_cmp};
-ghost use Rattle.std.specs.Prelude.{[], length, take, true, IfOk, OnOk, slice_get, ℕ, ◌<◌, ◌≤◌, ◌≡◌, ◌++◌, ◌-◌, ◌∷◌, ◌||◌, ◌==◌};
+ghost use Rattle.std.specs.Prelude.{[], length, take, true, IfOk, OnOk, slice_get, ℕ, ◌<◌, ◌≤◌, ◌≡◌, ◌++◌, ◌-◌, ◌∷◌, ◌||◌};
 ghost use Rattle.occ_bounds.specs.declared.uses.Use.{Use as AUse};
 ghost use Rattle.occ_clashes.specs.Kinds.{is_write as tells_write};
 ghost use Rattle.occ_line_uses.specs.Concern.{are_of as tells_of, concerned as told_concerned, concerns as tells_concerns, concerns_some as tells_some, has_read as tells_read, is_of as tells_place, names_root as tells_named};
@@ -12,7 +12,6 @@ use occ_bounds::{Bound, Use};
 use occ_parts::Place;
 use occ_types::UseKind;
 use std::alloc::{AllocError, Global};
-use std::collections::BTreeSet;
 use std::marker::Model;
 
 /// The specifications in scope, the outermost first: in contracts their list.
@@ -102,8 +101,9 @@ impl Scope {
     pub fn concerned(&self, alloc: Global, uses: &[Use]) -> Result<Items<usize>, AllocError>
         ensures { IfOk result (λ numbers. numbers ≡ told_concerned 0 self.now uses.now) }
     {
-        let numbers = candidates(alloc, self.named.as_slice(), self.read.as_slice(), uses)?;
-        chosen(alloc, &numbers, self.bounds.as_slice(), uses)
+        let mut numbers = candidates(alloc, self.named.as_slice(), self.read.as_slice(), uses)?;
+        put_in_order(&mut numbers);
+        chosen(alloc, numbers.as_slice(), self.bounds.as_slice(), uses)
     }
 }
 
@@ -288,23 +288,12 @@ fn noted(lists: &[Items<usize>], root: usize) -> &[usize]
     }
 }
 
-/// Adds a number.
-#[tactic(auto, using(crate::proofs::Choosing::in_inserted))]
-fn insert(numbers: &mut BTreeSet<usize>, number: usize) -> Result<(), AllocError>
-    ensures { OnOk result ((n : ℕ) → is_in numbers.new.keys n ≡ (is_in numbers.old.keys n || (number == n))) }
-{
-    numbers.insert(number)?;
-    Ok(())
-}
-
 /// Adds numbers.
-fn add(numbers: &mut BTreeSet<usize>, more: &[usize]) -> Result<(), AllocError>
-    ensures { OnOk result ((n : ℕ) → is_in numbers.new.keys n ≡ (is_in numbers.old.keys n || is_in more.now n)) }
+#[tactic(auto, using(crate::proofs::Choosing::in_both))]
+fn add(numbers: &mut Vec<usize>, more: &[usize]) -> Result<(), AllocError>
+    ensures { OnOk result ((n : ℕ) → is_in numbers.new.items n ≡ (is_in numbers.old.items n || is_in more.now n)) }
 {
-    for number in more {
-        insert(numbers, *number)?;
-    }
-    Ok(())
+    numbers.extend_from_slice(more)
 }
 
 /// Adds the numbers that may be those of specifications that concern a use.
@@ -312,9 +301,9 @@ fn add_candidates(
     named: &[Items<usize>],
     read: &[Items<usize>],
     found: &Use,
-    numbers: &mut BTreeSet<usize>,
+    numbers: &mut Vec<usize>,
 ) -> Result<(), AllocError>
-    ensures { OnOk result ((n : ℕ) → is_in numbers.new.keys n ≡ (is_in numbers.old.keys n || may_concern named.now read.now n found.now)) }
+    ensures { OnOk result ((n : ℕ) → is_in numbers.new.items n ≡ (is_in numbers.old.items n || may_concern named.now read.now n found.now)) }
 {
     add(numbers, noted(named, found.part.root))?;
     if !is_write(found.kind) {
@@ -323,20 +312,29 @@ fn add_candidates(
     add(numbers, noted(read, found.part.root))
 }
 
-/// The numbers that may be those of specifications that concern one of these uses.
+/// The numbers that may be those of specifications that concern one of these uses, in no order, some perhaps more than once.
 fn candidates(
     alloc: Global,
     named: &[Items<usize>],
     read: &[Items<usize>],
     uses: &[Use],
-) -> Result<BTreeSet<usize>, AllocError>
-    ensures { IfOk result (λ numbers. (n : ℕ) → is_in numbers.keys n ≡ list_any (may_concern named.now read.now n) uses.now) }
+) -> Result<Vec<usize>, AllocError>
+    ensures { IfOk result (λ numbers. (n : ℕ) → is_in numbers.items n ≡ list_any (may_concern named.now read.now n) uses.now) }
 {
-    let mut numbers = BTreeSet::new(alloc);
+    let mut numbers = Vec::new(alloc);
     for found in uses {
         add_candidates(named, read, found, &mut numbers)?;
     }
     Ok(numbers)
+}
+
+/// Puts numbers in order, each once.
+fn put_in_order(numbers: &mut Vec<usize>)
+    ensures same { (n : ℕ) → is_in numbers.new.items n ≡ is_in numbers.old.items n }
+    ensures rising { IsStrictlySortedBy nat_cmp numbers.new.items }
+{
+    numbers.sort_unstable();
+    numbers.dedup();
 }
 
 /// Whether a place is of this root.
@@ -412,15 +410,14 @@ fn choose(
 /// Those of the numbers that are those of specifications that concern one of these uses.
 fn chosen(
     alloc: Global,
-    numbers: &BTreeSet<usize>,
+    numbers: &[usize],
     bounds: &[Bound],
     uses: &[Use],
 ) -> Result<Items<usize>, AllocError>
-    ensures found { IfOk result (λ found. found ≡ told_chosen bounds.now uses.now numbers.now.keys) }
-    ensures ordered { IfOk result (λ found. IsOrdered nat_cmp numbers.now) }
+    ensures { IfOk result (λ found. found ≡ told_chosen bounds.now uses.now numbers.now) }
 {
     let mut found = Items::new(alloc);
-    for number in numbers.iter() {
+    for number in numbers {
         choose(bounds, *number, uses, &mut found)?;
     }
     Ok(found)

@@ -5,4 +5,4 @@ use Rattle.occ_line_uses.proofs.scope.candidates.Given as goal
 
 abbrev pub invariant-loop-found : goal.invariant-loop-found
 invariant-loop-found l =
-    (n : ℕ) → (is_in l.numbers.keys n || list_any (may_concern l.named l.read n) (drop l.found-index l.uses)) ≡ list_any (may_concern l.named l.read n) l.uses
+    (n : ℕ) → (is_in l.numbers.items n || list_any (may_concern l.named l.read n) (drop l.found-index l.uses)) ≡ list_any (may_concern l.named l.read n) l.uses
