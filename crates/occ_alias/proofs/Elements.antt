@@ -1,6 +1,6 @@
 -- Of uses that a specification does not concern nothing is told.
-use Rattle.std.specs.Prelude.{◌+◌, ◌==◌, slice_get}
-use Rattle.std.proofs.Common.{arith, ◌≡◌, ◌∙◌, ℕ, suc, Bool, true, false, ◌||◌, ◌&&◌, Option, Some, None, List, [], ◌∷◌, ◌++◌, length, refl, ap, sym, subst, append_assoc, append-nil, if◌then◌else◌}
+use Rattle.std.specs.Prelude.{◌+◌, ◌==◌, nat_lt, slice_get}
+use Rattle.std.proofs.Common.{arith, ◌≡◌, ◌∙◌, ℕ, zero, suc, Bool, true, false, ◌||◌, ◌&&◌, Option, Some, None, List, [], ◌∷◌, ◌++◌, length, refl, ap, sym, subst, append_assoc, append-nil, if◌then◌else◌}
 use Rattle.std.specs.List.{list_any}
 use Rattle.occ_alias.specs.AbbreviationRule.{bound_faults, element_faults, graded, pair_faults, place_faults, scope_faults, written_by, written_fault, written_faults}
 use Rattle.occ_alias.specs.inside.Choosing.{chosen_faults, numbered_faults}
@@ -122,6 +122,12 @@ unconcerned n env (b.Body uses does) us e = refl
 unconcerned n env b.Other us e = refl
 
 -- ---- those in scope
+
+-- there is none behind the last
+pub none_at : (env : Env) (n : ℕ) → nat_lt n (length env) ≡ false → slice_get env n ≡ None
+none_at [] n e = refl
+none_at (x ∷ env) zero e = absurd (grind (arith, e))
+none_at (x ∷ env) (suc n) e = let f : nat_lt n (length env) ≡ false = grind (arith, e) in none_at env n f
 
 at_end : (front behind : Env) (x : Bound) → slice_get (front ++ x ∷ behind) (length front) ≡ Some x
 at_end [] behind x = refl
