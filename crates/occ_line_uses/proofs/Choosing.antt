@@ -70,7 +70,7 @@ above k (x ∷ ks) h =
     let l : k < x = ranked k x Less (sym h.0.0) in
     (omega (arith, l), above x ks h.1)
 
-pub rises : (ks : List ℕ) → IsStrictlySortedBy nat_cmp ks → Rises 0 ks
+rises : (ks : List ℕ) → IsStrictlySortedBy nat_cmp ks → Rises 0 ks
 rises [] h = tt
 rises (k ∷ ks) h = (omega arith, above k ks h)
 
@@ -162,7 +162,7 @@ one_of w true b c d f g e = ap (λ (z : Bool). z || (w && d)) (f refl)
 one_of true false b c d f g e = second_of c d (g e)
 one_of false false b c d f g e = absurd (grind (arith, e))
 
-pub may : (named read : Lists) (xs : List Bound) (n : ℕ) (x : Bound) (us : List Use) → AreNoted names_root xs named → AreNoted has_read xs read → slice_get xs n ≡ Some x
+may : (named read : Lists) (xs : List Bound) (n : ℕ) (x : Bound) (us : List Use) → AreNoted names_root xs named → AreNoted has_read xs read → slice_get xs n ≡ Some x
     → concerns_some x us ≡ true → list_any (may_concern named read n) us ≡ true
 may named read xs n x [] h i at e = absurd (grind (arith, e))
 may named read xs n x (u ∷ us) h i at e = elim (either_cases (concerns x u) (concerns_some x us) e) [

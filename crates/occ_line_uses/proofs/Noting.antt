@@ -25,19 +25,19 @@ itself : (n : ℕ) → (n == n) ≡ true
 itself n = grind arith
 
 -- what is in a list is in it with one more
-pub in_more : (ns : List ℕ) (k n : ℕ) → is_in ns n ≡ true → is_in (ns ++ k ∷ []) n ≡ true
+in_more : (ns : List ℕ) (k n : ℕ) → is_in ns n ≡ true → is_in (ns ++ k ∷ []) n ≡ true
 in_more [] k n e = absurd (grind (arith, e))
 in_more (m ∷ ns) k n e = elim (either_cases (m == n) (is_in ns n) e) [
   | inl here ↦ first_of (m == n) (is_in (ns ++ k ∷ []) n) here
   | inr behind ↦ second_of (m == n) (is_in (ns ++ k ∷ []) n) (in_more ns k n behind)
 ]
 
-pub last_in : (ns : List ℕ) (k : ℕ) → is_in (ns ++ k ∷ []) k ≡ true
+last_in : (ns : List ℕ) (k : ℕ) → is_in (ns ++ k ∷ []) k ≡ true
 last_in [] k = first_of (k == k) false (itself k)
 last_in (m ∷ ns) k = second_of (m == k) (is_in (ns ++ k ∷ []) k) (last_in ns k)
 
 -- or it is the one more
-pub in_front : (ns : List ℕ) (k n : ℕ) → is_in (ns ++ k ∷ []) n ≡ true → n < k → is_in ns n ≡ true
+in_front : (ns : List ℕ) (k n : ℕ) → is_in (ns ++ k ∷ []) n ≡ true → n < k → is_in ns n ≡ true
 in_front [] k n e l = elim (either_cases (k == n) false e) [
   | inl here ↦ absurd (grind (arith, here, l))
   | inr behind ↦ absurd (grind (arith, behind))
@@ -62,7 +62,7 @@ le_of : (a b : ℕ) → nat_le a b ≡ true → a ≤ b
 le_of a b e = grind (arith, e)
 
 -- a last one that is not below the depth goes, and no one below it
-pub last_struck : (ns : List ℕ) (k depth n : ℕ) → ends_from (ns ++ k ∷ []) depth ≡ true → n < depth → is_in (ns ++ k ∷ []) n ≡ true → is_in ns n ≡ true
+last_struck : (ns : List ℕ) (k depth n : ℕ) → ends_from (ns ++ k ∷ []) depth ≡ true → n < depth → is_in (ns ++ k ∷ []) n ≡ true → is_in ns n ≡ true
 last_struck ns k depth n from below e =
     let at : slice_get (ns ++ k ∷ []) (length (ns ++ k ∷ []) - 1) ≡ Some k
     = ap (λ (i : ℕ). slice_get (ns ++ k ∷ []) i) (one_less ns k) ∙ last_at ns k in
@@ -84,56 +84,12 @@ set_kept P (ns ∷ lists) zero old new at h (suc root) n p e = e
 set_kept P (ns ∷ lists) (suc i) old new at h zero n p e = e
 set_kept P (ns ∷ lists) (suc i) old new at h (suc root) n p e = set_kept P lists i old new at h root n p e
 
-pub set_noted : (lists : Lists) (i : ℕ) (old new : List ℕ) (n : ℕ) → slice_get lists i ≡ Some old → is_in new n ≡ true → is_noted (slice_set lists i new) i n ≡ true
+set_noted : (lists : Lists) (i : ℕ) (old new : List ℕ) (n : ℕ) → slice_get lists i ≡ Some old → is_in new n ≡ true → is_noted (slice_set lists i new) i n ≡ true
 set_noted [] i old new n at e = absurd (grind (arith, at))
 set_noted (ns ∷ lists) zero old new n at e = e
 set_noted (ns ∷ lists) (suc i) old new n at e = set_noted lists i old new n at e
 
--- one more list
-pub more_kept : (lists : Lists) (ns : List ℕ) → AreKept lists (lists ++ ns ∷ [])
-more_kept [] ns root n e = absurd (grind (arith, e))
-more_kept (ms ∷ lists) ns zero n e = e
-more_kept (ms ∷ lists) ns (suc root) n e = more_kept lists ns root n e
-
-pub kept_twice : (a b c : Lists) → AreKept a b → AreKept b c → AreKept a c
-kept_twice a b c h i root n e = i root n (h root n e)
-
-pub below_twice : (depth : ℕ) (a b c : Lists) → AreKeptBelow depth a b → AreKeptBelow depth b c → AreKeptBelow depth a c
-below_twice depth a b c h i root n l e = i root n l (h root n l e)
-
--- ---- uses
-
-pub of_more : (us : List Use) (u : Use) (root : ℕ) → are_of root (us ++ u ∷ []) ≡ true → (are_of root us ≡ true) ⊎ (root ≡ u.part.root)
-of_more [] u root e = elim (either_cases (root == u.part.root) false e) [
-  | inl here ↦ inr (grind (arith, here))
-  | inr behind ↦ absurd (grind (arith, behind))
-]
-of_more (v ∷ us) u root e = elim (either_cases (root == v.part.root) (are_of root (us ++ u ∷ [])) e) [
-  | inl here ↦ inl (first_of (root == v.part.root) (are_of root us) here)
-  | inr behind ↦ elim (of_more us u root behind) [
-    | inl h ↦ inl (second_of (root == v.part.root) (are_of root us) h)
-    | inr h ↦ inr h
-  ]
-]
-
-pub noted_more : (us : List Use) (u : Use) (number : ℕ) (old new : Lists) → ((root : ℕ) → are_of root us ≡ true → is_noted old root number ≡ true) → AreKept old new
-    → is_noted new u.part.root number ≡ true → (root : ℕ) → are_of root (us ++ u ∷ []) ≡ true → is_noted new root number ≡ true
-noted_more us u number old new h kept there root e = elim (of_more us u root e) [
-  | inl before ↦ kept root number (h root before)
-  | inr same ↦ subst (λ (r : ℕ). is_noted new r number ≡ true) (sym same) there
-]
-
 -- ---- specifications
-
-within : {X : Type 0} (xs : List X) (n : ℕ) (x : X) → slice_get xs n ≡ Some x → n < length xs
-within [] n x e = absurd (grind (arith, e))
-within (y ∷ xs) zero x e = omega arith
-within (y ∷ xs) (suc n) x e = let l : n < length xs = within xs n x e in omega (arith, l)
-
-stays : {X : Type 0} (xs ys : List X) (n : ℕ) (x : X) → slice_get xs n ≡ Some x → slice_get (xs ++ ys) n ≡ Some x
-stays [] ys n x e = absurd (grind (arith, e))
-stays (y ∷ xs) ys zero x e = e
-stays (y ∷ xs) ys (suc n) x e = stays xs ys n x e
 
 last_or : {X : Type 0} (xs : List X) (x y : X) (n : ℕ) → slice_get (xs ++ x ∷ []) n ≡ Some y → (slice_get xs n ≡ Some y) ⊎ ((n ≡ length xs) × (x ≡ y))
 last_or [] x y zero e = inr (refl, some_same x y e)
@@ -144,19 +100,15 @@ last_or (z ∷ xs) x y (suc n) e = elim (last_or xs x y n e) [
   | inr h ↦ inr (ap suc h.0, h.1)
 ]
 
-pub entered : (is_so : ℕ → Bound → Bool) (xs : List Bound) (x : Bound) (old new : Lists) → AreNoted is_so xs old → AreKept old new
+entered : (is_so : ℕ → Bound → Bool) (xs : List Bound) (x : Bound) (old new : Lists) → AreNoted is_so xs old → AreKept old new
     → ((root : ℕ) → is_so root x ≡ true → is_noted new root (length xs) ≡ true) → AreNoted is_so (xs ++ x ∷ []) new
 entered is_so xs x old new h kept there n root y at e = elim (last_or xs x y n at) [
   | inl before ↦ kept root n (h n root y before e)
   | inr same ↦ subst (λ (k : ℕ). is_noted new root k ≡ true) (sym same.0) (there root (subst (λ (z : Bound). is_so root z ≡ true) (sym same.1) e))
 ]
 
-pub refused : (is_so : ℕ → Bound → Bool) (xs : List Bound) (old new : Lists) → AreNoted is_so xs old → AreKept old new → AreNoted is_so xs new
+refused : (is_so : ℕ → Bound → Bool) (xs : List Bound) (old new : Lists) → AreNoted is_so xs old → AreKept old new → AreNoted is_so xs new
 refused is_so xs old new h kept n root y at e = kept root n (h n root y at e)
-
-pub left : (is_so : ℕ → Bound → Bool) (xs : List Bound) (x : Bound) (old new : Lists) → AreNoted is_so (xs ++ x ∷ []) old → AreKeptBelow (length xs) old new
-    → AreNoted is_so xs new
-left is_so xs x old new h kept n root y at e = kept root n (within xs n y at) (h n root y (stays xs (x ∷ []) n y at) e)
 
 -- ---- of calls
 
