@@ -9,7 +9,7 @@ use Rattle.std.specs.declared.cmp.Ordering.TheVariants.{Less}
 use Rattle.std.proofs.lemmas.List.Filters.{dedup_is}
 use Rattle.std.proofs.lemmas.List.Sorted.{list_any-IsPermutation}
 use Rattle.std.proofs.lemmas.Map.Keys.{IsStrictlyIncreasing-dedup, sorted_from_strictly_increasing}
-use Rattle.std.proofs.Common.{arith, ◌≡◌, ◌∙◌, ◌<◌, ◌≤◌, ◌⊎◌, inl, inr, ℕ, zero, suc, Bool, true, false, ◌||◌, ◌&&◌, Option, Some, None, List, [], ◌∷◌, ◌++◌, length, refl, ap, sym, subst, if◌then◌else◌, Result, Ok, Err, IfOk}
+use Rattle.std.proofs.Common.{arith, ◌≡◌, ◌∙◌, ◌<◌, ◌≤◌, ◌⊎◌, inl, inr, ℕ, zero, suc, Bool, true, false, ◌||◌, ◌&&◌, Option, Some, None, List, [], ◌∷◌, ◌++◌, refl, ap, sym, subst, if◌then◌else◌}
 use Rattle.occ_bounds.specs.declared.bound.Bound.{Bound}
 use Rattle.occ_bounds.specs.declared.uses.Use.{Use}
 use Rattle.occ_clashes.specs.Kinds.{is_write}
@@ -184,7 +184,3 @@ all_chosen named read xs us ks h i among sorted =
     chooses xs us (λ (n : ℕ). concerns_at (slice_get xs n) us) 0 ks (λ (m : ℕ). let e : 0 + m ≡ m = omega arith in ap (λ (k : ℕ). concerns_at (slice_get xs k) us) e)
     (rises ks sorted)
     (λ (n : ℕ) (l : 0 ≤ n) (e : concerns_at (slice_get xs n) us ≡ true). among n ∙ may_at named read xs n us (slice_get xs n) h i refl e)
-
-pub if_ok : {T E : Type 0} (r : Result T E) {P Q : T → Type 0} → ((x : T) → P x → Q x) → IfOk r P → IfOk r Q
-if_ok (Ok x) f h = f x h
-if_ok (Err e) f h = tt

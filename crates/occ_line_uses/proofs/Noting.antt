@@ -1,11 +1,8 @@
 -- Numbers that are noted with roots, as specifications come into scope and leave it.
-use Rattle.std.specs.Prelude.{◌==◌, ◌+◌, ◌-◌, nat_le, slice_get, slice_set}
-use Rattle.std.specs.List.{list_any}
+use Rattle.std.specs.Prelude.{◌==◌, ◌-◌, nat_le, slice_get, slice_set}
 use Rattle.std.proofs.Common.{arith, ◌≡◌, ◌∙◌, ◌<◌, ◌≤◌, ◌⊎◌, inl, inr, ℕ, zero, suc, Bool, true, false, ◌||◌, Option, Some, None, List, [], ◌∷◌, ◌++◌, length, refl, ap, sym, subst, Result, Ok, Err, OnOk, OnErr, MatchOption}
 use Rattle.occ_bounds.specs.declared.bound.Bound.{Bound}
-use Rattle.occ_bounds.specs.declared.uses.Use.{Use}
-use Rattle.occ_line_uses.specs.Concern.{are_of}
-use Rattle.occ_line_uses.specs.inside.Noting.{AreKept, AreKeptBelow, AreNoted, Lists, ends_from, is_in, is_noted}
+use Rattle.occ_line_uses.specs.inside.Noting.{AreKept, AreNoted, Lists, ends_from, is_in, is_noted}
 
 -- ---- one list
 

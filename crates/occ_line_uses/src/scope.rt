@@ -48,18 +48,21 @@ impl Scope {
         }
     }
 
+    /// How many are in scope.
     pub fn len(&self) -> usize
         ensures { result ≡ length self.now }
     {
         self.bounds.len()
     }
 
+    /// Those in scope.
     pub fn as_slice(&self) -> &[Bound]
         ensures { result.now ≡ self.now }
     {
         self.bounds.as_slice()
     }
 
+    /// Those in scope, and nothing of what was noted.
     pub fn into_bounds(self) -> Items<Bound>
         ensures { result ≡ self }
     {
@@ -103,7 +106,8 @@ impl Scope {
     {
         let mut numbers = candidates(alloc, self.named.as_slice(), self.read.as_slice(), uses)?;
         put_in_order(&mut numbers);
-        chosen(alloc, numbers.as_slice(), self.bounds.as_slice(), uses)
+        choose(&mut numbers, self.bounds.as_slice(), uses);
+        Ok(Items::from_vec(numbers))
     }
 }
 
@@ -392,33 +396,9 @@ fn concerns_at(bounds: &[Bound], number: usize, uses: &[Use]) -> bool
     }
 }
 
-/// Adds a number, if it is that of a specification that concerns one of these uses.
-fn choose(
-    bounds: &[Bound],
-    number: usize,
-    uses: &[Use],
-    found: &mut Items<usize>,
-) -> Result<(), AllocError>
-    ensures { OnOk result (found.new ≡ found.old ++ told_chosen bounds.now uses.now (number ∷ [])) }
+/// Leaves those of the numbers that are those of specifications that concern one of these uses.
+fn choose(numbers: &mut Vec<usize>, bounds: &[Bound], uses: &[Use])
+    ensures { numbers.new.items ≡ told_chosen bounds.now uses.now numbers.old.items }
 {
-    if !concerns_at(bounds, number, uses) {
-        return Ok(());
-    }
-    found.push(number)
-}
-
-/// Those of the numbers that are those of specifications that concern one of these uses.
-fn chosen(
-    alloc: Global,
-    numbers: &[usize],
-    bounds: &[Bound],
-    uses: &[Use],
-) -> Result<Items<usize>, AllocError>
-    ensures { IfOk result (λ found. found ≡ told_chosen bounds.now uses.now numbers.now) }
-{
-    let mut found = Items::new(alloc);
-    for number in numbers {
-        choose(bounds, *number, uses, &mut found)?;
-    }
-    Ok(found)
+    numbers.retain(|number| concerns_at(bounds, *number, uses));
 }

@@ -1,5 +1,5 @@
 -- For each root the numbers of specifications that are noted with it.
-use Rattle.std.specs.Prelude.{◌≡◌, ◌<◌, ◌==◌, ℕ, Bool, true, false, ◌&&◌, ◌||◌, Option, Some, None, List, [], ◌∷◌, ◌-◌, length, slice_get, nat_le}
+use Rattle.std.specs.Prelude.{◌≡◌, ◌<◌, ◌==◌, ℕ, Bool, true, false, ◌&&◌, ◌||◌, Option, Some, None, List, [], ◌-◌, length, slice_get, nat_le}
 use Rattle.std.specs.List.{filter, list_any}
 use Rattle.occ_bounds.specs.declared.bound.Bound.{Bound}
 use Rattle.occ_bounds.specs.declared.uses.Use.{Use}

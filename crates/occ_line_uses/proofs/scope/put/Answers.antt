@@ -1,4 +1,4 @@
-use Rattle.std.proofs.Common.{◌≡◌, ◌++◌, ◌∷◌, [], ℕ, Some, List, OnErr, OnOk, length, refl, slice_get}
+use Rattle.std.proofs.Common.{◌≡◌, ℕ, Some, length, refl, slice_get}
 use Rattle.std.proofs.lemmas.Option.{slice_get_read}
 use Rattle.occ_line_uses.proofs.Noting.{pushed_kept, pushed_noted, set_kept}
 use Rattle.occ_line_uses.proofs.scope.put.Goals as goal
