@@ -1,6 +1,6 @@
 -- Of uses that a specification does not concern nothing is told.
 use Rattle.std.specs.Prelude.{◌+◌, ◌==◌, nat_lt, slice_get}
-use Rattle.std.proofs.Common.{arith, ◌≡◌, ◌∙◌, ℕ, zero, suc, Bool, true, false, ◌||◌, ◌&&◌, Option, Some, None, List, [], ◌∷◌, ◌++◌, length, refl, ap, sym, subst, append_assoc, append-nil, if◌then◌else◌}
+use Rattle.std.proofs.Common.{arith, ◌≡◌, ◌∙◌, ℕ, zero, suc, Bool, true, false, ◌||◌, ◌&&◌, Option, Some, None, List, [], ◌∷◌, ◌++◌, length, refl, ap, sym, append_assoc, if◌then◌else◌}
 use Rattle.std.specs.List.{list_any}
 use Rattle.occ_alias.specs.AbbreviationRule.{bound_faults, element_faults, graded, pair_faults, place_faults, scope_faults, written_by, written_fault, written_faults}
 use Rattle.occ_alias.specs.inside.Choosing.{chosen_faults, numbered_faults}
@@ -13,7 +13,7 @@ use Rattle.occ_bounds.specs.declared.bound.Bound.TheVariants as b
 use Rattle.occ_bounds.specs.declared.uses.Use.{Use}
 use Rattle.occ_clashes.specs.Kinds.{is_read, is_write}
 use Rattle.occ_clashes.specs.ParallelRule.{root_name}
-use Rattle.occ_line_uses.specs.Concern.{are_of, concerned, concerns, concerns_some, is_of}
+use Rattle.occ_line_uses.specs.Concern.{are_of, concerned, concerns_some, is_of}
 use Rattle.occ_parts.specs.Parts.{overlap_of_selectors}
 use Rattle.occ_parts.specs.Selecting.{part_of}
 use Rattle.occ_parts.specs.declared.part.Overlap.TheVariants as o

@@ -1,5 +1,5 @@
 use Rattle.std.specs.Option.{is_some}
-use Rattle.std.proofs.Common.{◌≡◌, ◌∙◌, ◌++◌, Option, None, false, ap, append-nil, length, nat_lt, slice_get, sym}
+use Rattle.std.proofs.Common.{◌≡◌, ◌∙◌, ◌++◌, Option, false, ap, append-nil, length, nat_lt, sym}
 use Rattle.occ_alias.specs.inside.Choosing.{numbered_faults}
 use Rattle.occ_bounds.specs.declared.bound.Bound.{Bound}
 use Rattle.occ_alias.proofs.Elements.{none_at}
