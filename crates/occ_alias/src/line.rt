@@ -6,8 +6,8 @@ use super::calling::calls_faults;
 use super::line_calls::{each_calls, form_calls};
 use super::scope::scope_faults;
 use occ_base::{Diag, Items, Shared};
-use occ_bounds::{Bound, Call, Use};
-use occ_line_uses::{cut, each_uses, enter_all};
+use occ_bounds::{Call, Use};
+use occ_line_uses::{Scope, each_uses, enter_all};
 use occ_names::Entry;
 use occ_project::Place as Line;
 use occ_typed::TypedExpr;
@@ -18,7 +18,7 @@ use std::alloc::{AllocError, Global};
 fn evaluated_faults(
     alloc: Global,
     line: &Line,
-    env: &[Bound],
+    env: &Scope,
     uses: &[Use],
     calls: &[Call],
     faults: &mut Items<Diag>,
@@ -26,7 +26,7 @@ fn evaluated_faults(
     ensures { OnOk result (faults.new ≡ faults.old ++ told_evaluated line.now env.now uses.now calls.now) }
 {
     scope_faults(alloc, env, uses, faults)?;
-    calls_faults(alloc, line, env, calls, faults)
+    calls_faults(alloc, line, env.as_slice(), calls, faults)
 }
 
 /// What is told of the results of a FUNCTION of one line.
@@ -35,7 +35,7 @@ fn results_faults(
     formals: &[Entry],
     results: &[Shared<TypedExpr>],
     line: &Line,
-    env: &mut Items<Bound>,
+    env: &mut Scope,
     faults: &mut Items<Diag>,
 ) -> Result<(), AllocError>
     ensures faults { OnOk result (faults.new ≡ faults.old ++ told_results formals.now results.now env.old line.now) }
@@ -47,15 +47,8 @@ fn results_faults(
     each_uses(alloc, results, env.as_slice(), line, &mut uses)?;
     let mut calls = Items::new(alloc);
     each_calls(alloc, results, env.as_slice(), line, &mut calls)?;
-    evaluated_faults(
-        alloc,
-        line,
-        env.as_slice(),
-        uses.as_slice(),
-        calls.as_slice(),
-        faults,
-    )?;
-    cut(env, depth);
+    evaluated_faults(alloc, line, env, uses.as_slice(), calls.as_slice(), faults)?;
+    env.cut(depth);
     Ok(())
 }
 
@@ -65,13 +58,13 @@ fn form_faults(
     form: &TypedForm,
     line: &Line,
     uses: &[Use],
-    env: &[Bound],
+    env: &Scope,
     faults: &mut Items<Diag>,
 ) -> Result<(), AllocError>
     ensures { OnOk result (faults.new ≡ faults.old ++ told_evaluated line.now env.now uses.now (told_calls form.now env.now line.now)) }
 {
     let mut calls = Items::new(alloc);
-    form_calls(alloc, form, env, line, &mut calls)?;
+    form_calls(alloc, form, env.as_slice(), line, &mut calls)?;
     evaluated_faults(alloc, line, env, uses, calls.as_slice(), faults)
 }
 
@@ -81,7 +74,7 @@ pub fn line_faults(
     form: &TypedForm,
     line: &Line,
     uses: &[Use],
-    env: &mut Items<Bound>,
+    env: &mut Scope,
     faults: &mut Items<Diag>,
 ) -> Result<(), AllocError>
     ensures faults { OnOk result (faults.new ≡ faults.old ++ told_with form.now env.old line.now uses.now) }
@@ -96,6 +89,6 @@ pub fn line_faults(
             env,
             faults,
         ),
-        _ => form_faults(alloc, form, line, uses, env.as_slice(), faults),
+        _ => form_faults(alloc, form, line, uses, env, faults),
     }
 }

@@ -1,10 +1,11 @@
 ghost use Rattle.std.specs.Prelude.{◌≡◌, ◌++◌, OnOk};
 ghost use Rattle.occ_alias.specs.AbbreviationRule.{graded as told_graded, pair_faults as told_pair, written_by as told_by, written_fault as told_written, written_faults as told_all_written};
-ghost use Rattle.occ_clashes.specs.Kinds.{is_read as tells_read, is_write as tells_write};
+ghost use Rattle.occ_clashes.specs.Kinds.{is_read as tells_read};
 
 use occ_base::{Code, Diag, Grade, Items, Name};
 use occ_bounds::{Bound, Use};
 use occ_clashes::root_name;
+use occ_line_uses::is_write;
 use occ_parts::{Overlap, Part, overlap};
 use occ_project::Place as Line;
 use occ_types::UseKind;
@@ -16,17 +17,6 @@ fn is_read(kind: UseKind) -> bool
     match kind {
         UseKind::Read => true,
         UseKind::Write => false,
-        UseKind::Input => false,
-        UseKind::Output => false,
-    }
-}
-
-fn is_write(kind: UseKind) -> bool
-    ensures { result ≡ tells_write kind }
-{
-    match kind {
-        UseKind::Read => false,
-        UseKind::Write => true,
         UseKind::Input => false,
         UseKind::Output => false,
     }

@@ -1,11 +1,12 @@
 ghost use Rattle.std.specs.List.{list_any};
-ghost use Rattle.std.specs.Prelude.{◌≡◌, ◌++◌, ◌==◌, ℕ, OnOk};
-ghost use Rattle.occ_bounds.specs.declared.uses.Use.{Use as AUse};
+ghost use Rattle.std.specs.Prelude.{◌≡◌, ◌++◌, ◌==◌, ℕ, OnOk, slice_get};
 ghost use Rattle.occ_alias.specs.AbbreviationRule.{bound_faults as told_bound, element_fault as told_element, element_faults as told_elements, place_faults as told_place, scope_faults as told_scope};
+ghost use Rattle.occ_alias.specs.inside.Choosing.{chosen_faults as told_chosen, numbered_faults as told_numbered};
 
 use super::pairs::{pair_faults, written_faults};
 use occ_base::{Code, Diag, Items};
 use occ_bounds::{Bound, Use};
+use occ_line_uses::Scope;
 use occ_parts::{Part, Place};
 use std::alloc::{AllocError, Global};
 
@@ -57,13 +58,6 @@ fn element_faults(
     Ok(())
 }
 
-/// Whether one of the uses is of a part of this root.
-fn are_of(uses: &[Use], root: usize) -> bool
-    ensures { result ≡ list_any (λ (u : AUse). root == u.part.root) uses.now }
-{
-    uses.iter().any(|found| root == found.part.root)
-}
-
 /// What is told of uses in the scope of the abbreviation with this number, which has this place.
 fn place_faults(
     alloc: Global,
@@ -78,9 +72,6 @@ fn place_faults(
     let Some(place) = place else {
         return Ok(());
     };
-    if !are_of(uses, place.root) {
-        return Ok(());
-    }
     let element = place.copied(alloc)?.into_part()?;
     element_faults(alloc, number, env, &element, uses, faults)
 }
@@ -110,17 +101,48 @@ fn bound_faults(
     }
 }
 
-/// What is told of uses in the scope of these specifications.
+/// What is told of uses in the scope of the specification with this number, if there is one.
+fn numbered_faults(
+    alloc: Global,
+    number: usize,
+    env: &[Bound],
+    uses: &[Use],
+    faults: &mut Items<Diag>,
+) -> Result<(), AllocError>
+    ensures { OnOk result (faults.new ≡ faults.old ++ told_numbered number env.now (slice_get env.now number) uses.now) }
+{
+    match env.get(number) {
+        Some(bound) => bound_faults(alloc, number, env, bound, uses, faults),
+        None => Ok(()),
+    }
+}
+
+/// What is told of uses in the scope of the specifications with these numbers.
+fn chosen_faults(
+    alloc: Global,
+    numbers: &[usize],
+    env: &[Bound],
+    uses: &[Use],
+    faults: &mut Items<Diag>,
+) -> Result<(), AllocError>
+    ensures { OnOk result (faults.new ≡ faults.old ++ told_chosen env.now uses.now numbers.now) }
+{
+    for number in numbers {
+        numbered_faults(alloc, *number, env, uses, faults)?;
+    }
+    Ok(())
+}
+
+/// What is told of uses where these specifications are in scope: by those that concern the uses, since the others tell nothing.
+#[tactic(auto, using(crate::proofs::Elements::all_tell))]
 pub(crate) fn scope_faults(
     alloc: Global,
-    env: &[Bound],
+    env: &Scope,
     uses: &[Use],
     faults: &mut Items<Diag>,
 ) -> Result<(), AllocError>
     ensures { OnOk result (faults.new ≡ faults.old ++ told_scope 0 env.now env.now uses.now) }
 {
-    for (number, bound) in env.iter().enumerate() {
-        bound_faults(alloc, number, env, bound, uses, faults)?;
-    }
-    Ok(())
+    let numbers = env.concerned(alloc, uses)?;
+    chosen_faults(alloc, numbers.as_slice(), env.as_slice(), uses, faults)
 }

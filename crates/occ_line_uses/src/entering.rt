@@ -4,6 +4,7 @@ ghost use Rattle.occ_line_uses.specs.Entering.{abbreviated as told_abbreviated, 
 
 use super::effect::each_effect;
 use super::form::each_uses;
+use super::scope::Scope;
 use occ_base::{Items, Name, Shared};
 use occ_bounds::{
     Bound, Use, element_size, element_uses, expression_uses, is_timer, place, size, value,
@@ -49,11 +50,11 @@ fn of_meaning(alloc: Global, name: &Name, meaning: &Meaning) -> Result<Bound, Al
 }
 
 /// Enters names of which their line says nothing more.
-pub fn enter_all(alloc: Global, entries: &[Entry], env: &mut Items<Bound>) -> Result<(), AllocError>
+pub fn enter_all(alloc: Global, entries: &[Entry], env: &mut Scope) -> Result<(), AllocError>
     ensures { OnOk result (env.new ≡ env.old ++ entry_bounds entries.now) }
 {
     for entry in entries {
-        env.push(of_meaning(alloc, &entry.name, entry.meaning.get())?)?;
+        env.enter(alloc, of_meaning(alloc, &entry.name, entry.meaning.get())?)?;
     }
     Ok(())
 }
@@ -68,23 +69,6 @@ pub fn number_behind(number: usize, more: usize) -> Result<usize, AllocError>
     }
 }
 
-/// Takes the last one out of scope, if there is one.
-fn leave(env: &mut Items<Bound>)
-    requires { 1 ≤ length env.old }
-    ensures { env.new ≡ take (length env.old - 1) env.old }
-{
-    env.pop();
-}
-
-/// Takes out of scope what came into it behind so many.
-pub fn cut(env: &mut Items<Bound>, depth: usize)
-    ensures { env.new ≡ take depth env.old }
-{
-    while env.len() > depth {
-        leave(env);
-    }
-}
-
 /// The value of an index in one of the rounds of a replicator with this base, if it is an INT.
 pub fn index_value(base: i32, round: u32) -> Option<Value>
     ensures { result ≡ told_index base round }
@@ -96,14 +80,10 @@ pub fn index_value(base: i32, round: u32) -> Option<Value>
 }
 
 /// Enters an index, of which the value is known or not.
-pub fn enter_index(
-    alloc: Global,
-    value: Option<Value>,
-    env: &mut Items<Bound>,
-) -> Result<(), AllocError>
+pub fn enter_index(alloc: Global, value: Option<Value>, env: &mut Scope) -> Result<(), AllocError>
     ensures { OnOk result (env.new ≡ env.old ++ bounds.Value value None [] ∷ []) }
 {
-    env.push(Bound::Value(value, None, Items::new(alloc)))
+    env.enter(alloc, Bound::Value(value, None, Items::new(alloc)))
 }
 
 /// The place by the name of an abbreviation with this number.
@@ -196,7 +176,7 @@ fn one_line(
     formals: &[Entry],
     results: &[Shared<TypedExpr>],
     line: &Line,
-    env: &mut Items<Bound>,
+    env: &mut Scope,
 ) -> Result<Bound, AllocError>
     ensures bound { IfOk result (λ bound. bound ≡ told_one_line formals.now results.now env.old line.now) }
     ensures env { OnOk result (env.new ≡ env.old) }
@@ -207,7 +187,7 @@ fn one_line(
     each_uses(alloc, results, env.as_slice(), line, &mut uses)?;
     let has_effect = each_effect(results, env.as_slice());
     let uses = body_uses(alloc, uses.as_slice(), depth, env.len(), line)?;
-    cut(env, depth);
+    env.cut(depth);
     Ok(body_bound(uses, has_effect))
 }
 
@@ -252,13 +232,13 @@ fn enter_exports(
     alloc: Global,
     exports: &[Export],
     line: &Line,
-    env: &mut Items<Bound>,
+    env: &mut Scope,
 ) -> Result<(), AllocError>
     ensures { OnOk result (env.new ≡ env.old ++ export_bounds (length env.old) line.now exports.now) }
 {
     for export in exports {
         let uses = exported_uses(alloc, env.len(), line, export.uses.as_slice())?;
-        env.push(Bound::Body(uses, export.effect))?;
+        env.enter(alloc, Bound::Body(uses, export.effect))?;
     }
     Ok(())
 }
@@ -268,7 +248,7 @@ fn enter_interfaces(
     alloc: Global,
     interfaces: &[Shared<Interface>],
     line: &Line,
-    env: &mut Items<Bound>,
+    env: &mut Scope,
 ) -> Result<(), AllocError>
     ensures { OnOk result (env.new ≡ env.old ++ told_interfaces (length env.old) line.now interfaces.now) }
 {
@@ -278,13 +258,6 @@ fn enter_interfaces(
     Ok(())
 }
 
-/// Enters one more.
-pub fn enter(bound: Bound, env: &mut Items<Bound>) -> Result<(), AllocError>
-    ensures { OnOk result (env.new ≡ env.old ++ bound ∷ []) }
-{
-    env.push(bound)
-}
-
 /// Enters what a line specifies, by which these names come into scope; of a head over the lines of a body nothing more than
 /// the names.
 pub fn enter_line(
@@ -292,24 +265,30 @@ pub fn enter_line(
     form: &TypedForm,
     line: &Line,
     entries: &[Entry],
-    env: &mut Items<Bound>,
+    env: &mut Scope,
 ) -> Result<(), AllocError>
     ensures { OnOk result (env.new ≡ env.old ++ told_specified env.old line.now entries.now form.now) }
 {
     match form {
         TypedForm::Abbreviation(element) => {
-            enter(abbreviated(alloc, element, line, env.as_slice())?, env)
+            env.enter(alloc, abbreviated(alloc, element, line, env.as_slice())?)
         }
         TypedForm::Retyped(element) => {
-            enter(retyped(alloc, element, line, env.as_slice())?, env)
+            env.enter(alloc, retyped(alloc, element, line, env.as_slice())?)
         }
-        TypedForm::Value(expr) => enter(valued(alloc, expr.get(), line, env.as_slice())?, env),
+        TypedForm::Value(expr) => env.enter(
+            alloc,
+            valued(alloc, expr.get(), line, env.as_slice())?,
+        ),
         TypedForm::RetypedValue(expr) => {
-            enter(retyped_value(alloc, expr.get(), line, env.as_slice())?, env)
+            env.enter(
+                alloc,
+                retyped_value(alloc, expr.get(), line, env.as_slice())?,
+            )
         }
         TypedForm::OneLineFunction(formals, results) => {
             let bound = one_line(alloc, formals.as_slice(), results.as_slice(), line, env)?;
-            enter(bound, env)
+            env.enter(alloc, bound)
         }
         TypedForm::Uses(interfaces) => enter_interfaces(alloc, interfaces.as_slice(), line, env),
         _ => enter_all(alloc, entries, env),

@@ -5,9 +5,9 @@
 mod effect;
 mod entering;
 mod form;
+mod scope;
 
 pub use effect::{each_effect, form_effect};
-pub use entering::{
-    body_bound, cut, enter, enter_all, enter_index, enter_line, index_value, number_behind,
-};
+pub use entering::{body_bound, enter_all, enter_index, enter_line, index_value, number_behind};
 pub use form::{each_uses, form_uses, used};
+pub use scope::{Scope, is_write};

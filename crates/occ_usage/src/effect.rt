@@ -5,8 +5,7 @@ ghost use Rattle.occ_usage.specs.Effect.{effect_behind as told_behind, effect_un
 ghost use Rattle.occ_usage.specs.Trees.{head_of, trees_of, under as lines_under};
 
 use occ_base::Items;
-use occ_bounds::Bound;
-use occ_line_uses::{body_bound, cut, enter, enter_all, enter_line, form_effect};
+use occ_line_uses::{Scope, body_bound, enter_all, enter_line, form_effect};
 use occ_typed_lines::TypedForm;
 use occ_typing::TypedLine;
 use std::alloc::{AllocError, Global};
@@ -35,16 +34,16 @@ fn go_behind(
     line: &TypedLine,
     has_effect: bool,
     depth: usize,
-    env: &mut Items<Bound>,
+    env: &mut Scope,
 ) -> Result<(), AllocError>
     ensures { OnOk result (env.new ≡ told_behind (take depth env.old) env.old (head_of line.now) has_effect (head_of line.now).adds) }
 {
     let Some(entries) = &line.adds else {
-        cut(env, depth);
+        env.cut(depth);
         return Ok(());
     };
     if is_body(line.form.get()) {
-        return enter(body_bound(Items::new(alloc), has_effect), env);
+        return env.enter(alloc, body_bound(Items::new(alloc), has_effect));
     }
     enter_line(alloc, line.form.get(), &line.place, entries.as_slice(), env)
 }
@@ -54,7 +53,7 @@ fn go_behind(
 pub(crate) fn effect_under(
     alloc: Global,
     line: &TypedLine,
-    env: &mut Items<Bound>,
+    env: &mut Scope,
 ) -> Result<bool, AllocError>
     ensures found { IfOk result (λ found. found ≡ told_under (lines_under line.now) env.old (head_of line.now)) }
     ensures env { OnOk result (env.new ≡ env.old) }
@@ -62,7 +61,7 @@ pub(crate) fn effect_under(
     let depth = env.len();
     enter_all(alloc, line.enters.as_slice(), env)?;
     let found = lines_effect(alloc, line.under.as_slice(), env)?;
-    cut(env, depth);
+    env.cut(depth);
     Ok(found)
 }
 
@@ -72,7 +71,7 @@ fn line_effect(
     alloc: Global,
     line: &TypedLine,
     depth: usize,
-    env: &mut Items<Bound>,
+    env: &mut Scope,
 ) -> Result<bool, AllocError>
     ensures found { IfOk result (λ found. found ≡ told_line env.old (head_of line.now) (told_under (lines_under line.now) env.old (head_of line.now))) }
     ensures env { OnOk result (env.new ≡ told_behind (take depth env.old) env.old (head_of line.now) (told_under (lines_under line.now) env.old (head_of line.now)) (head_of line.now).adds) }
@@ -85,11 +84,7 @@ fn line_effect(
 
 /// Whether lines have an input, an output, a PAR or an ALT, or call a body with one.
 #[cycle(effect)]
-fn lines_effect(
-    alloc: Global,
-    lines: &[TypedLine],
-    env: &mut Items<Bound>,
-) -> Result<bool, AllocError>
+fn lines_effect(alloc: Global, lines: &[TypedLine], env: &mut Scope) -> Result<bool, AllocError>
     ensures found { IfOk result (λ found. found ≡ told_lines (trees_of lines.now) env.old env.old) }
     ensures env { OnOk result (env.new ≡ env.old) }
 {
@@ -99,6 +94,6 @@ fn lines_effect(
         let has_effect = line_effect(alloc, line, depth, env)?;
         found = either(found, has_effect);
     }
-    cut(env, depth);
+    env.cut(depth);
     Ok(found)
 }

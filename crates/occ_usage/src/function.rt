@@ -3,7 +3,6 @@
 ghost use Rattle.std.specs.Prelude.{◌≡◌, ◌≤◌, ◌++◌, IfOk, OnOk, length, take};
 ghost use Rattle.occ_base.specs.Errors.{error_if};
 ghost use Rattle.occ_base.specs.declared.code.Code.TheVariants.{F1};
-ghost use Rattle.occ_clashes.specs.Kinds.{is_write as tells_write};
 ghost use Rattle.occ_usage.specs.Effect.{inner as told_inner};
 ghost use Rattle.occ_usage.specs.FunctionRule.{counted as told_counted, faults as told_faults, function_faults as told_function, has_function as tells_some, is_function as tells_function, line_faults as told_line, one_line_faults as told_one_line, results_faults as told_results, whole_faults as told_whole, within_under as told_within, write_fault as told_write, write_faults as told_writes};
 ghost use Rattle.occ_usage.specs.Lines.{behind_line};
@@ -13,12 +12,11 @@ use super::walk::{Told, go_over, known_replicator};
 use occ_base::{Code, Diag, Items, Shared};
 use occ_bounds::{Bound, Use};
 use occ_clashes::root_name;
-use occ_line_uses::{cut, each_effect, each_uses, enter_all, form_effect, form_uses};
+use occ_line_uses::{Scope, each_effect, each_uses, enter_all, form_effect, form_uses, is_write};
 use occ_names::Entry;
 use occ_project::Place as Line;
 use occ_typed::TypedExpr;
 use occ_typed_lines::TypedForm;
-use occ_types::UseKind;
 use occ_typing::{Typed, TypedLine};
 use std::alloc::{AllocError, Global};
 
@@ -29,17 +27,6 @@ pub(crate) enum Within {
     Nothing,
     /// In the body of a FUNCTION round which so many specifications stand, and whether it is ever executed there.
     Function(usize, bool),
-}
-
-fn is_write(kind: UseKind) -> bool
-    ensures { result ≡ tells_write kind }
-{
-    match kind {
-        UseKind::Write => true,
-        UseKind::Read => false,
-        UseKind::Input => false,
-        UseKind::Output => false,
-    }
 }
 
 /// What is told of a use in a FUNCTION round which so many specifications stand.
@@ -113,7 +100,7 @@ fn results_faults(
     formals: &[Entry],
     results: &[Shared<TypedExpr>],
     line: &Line,
-    env: &mut Items<Bound>,
+    env: &mut Scope,
     faults: &mut Items<Diag>,
 ) -> Result<(), AllocError>
     ensures faults { OnOk result (faults.new ≡ faults.old ++ told_results formals.now results.now env.old line.now) }
@@ -125,7 +112,7 @@ fn results_faults(
     let mut uses = Items::new(alloc);
     each_uses(alloc, results, env.as_slice(), line, &mut uses)?;
     write_faults(alloc, depth, uses.as_slice(), env.as_slice(), faults)?;
-    cut(env, depth);
+    env.cut(depth);
     Ok(())
 }
 
@@ -133,7 +120,7 @@ fn results_faults(
 fn one_line_faults(
     alloc: Global,
     line: &TypedLine,
-    env: &mut Items<Bound>,
+    env: &mut Scope,
     faults: &mut Items<Diag>,
 ) -> Result<(), AllocError>
     ensures faults { OnOk result (faults.new ≡ faults.old ++ told_one_line (head_of line.now).form env.old (head_of line.now).place) }
@@ -182,12 +169,12 @@ pub(crate) fn go_behind(
     alloc: Global,
     line: &TypedLine,
     depth: usize,
-    env: &mut Items<Bound>,
+    env: &mut Scope,
 ) -> Result<(), AllocError>
     ensures { OnOk result (depth ≤ length env.old → env.new ≡ behind_line (take depth env.old) env.old (head_of line.now) (lines_under line.now)) }
 {
     if line.adds.is_none() {
-        cut(env, depth);
+        env.cut(depth);
         return Ok(());
     }
     let mut told = Told::nothing(alloc);
@@ -200,7 +187,7 @@ fn under_faults(
     alloc: Global,
     line: &TypedLine,
     within: Within,
-    env: &mut Items<Bound>,
+    env: &mut Scope,
     faults: &mut Items<Diag>,
 ) -> Result<(), AllocError>
     ensures faults { OnOk result (faults.new ≡ faults.old ++ told_faults within (lines_under line.now) (told_inner env.old (head_of line.now)) (told_inner env.old (head_of line.now))) }
@@ -209,7 +196,7 @@ fn under_faults(
     let depth = env.len();
     enter_all(alloc, line.enters.as_slice(), env)?;
     lines(alloc, line.under.as_slice(), within, env, faults)?;
-    cut(env, depth);
+    env.cut(depth);
     Ok(())
 }
 
@@ -220,7 +207,7 @@ fn line(
     line: &TypedLine,
     depth: usize,
     within: Within,
-    env: &mut Items<Bound>,
+    env: &mut Scope,
     faults: &mut Items<Diag>,
 ) -> Result<(), AllocError>
     ensures faults { OnOk result (faults.new ≡ faults.old ++ told_whole within (head_of line.now) (lines_under line.now) env.old) }
@@ -238,7 +225,7 @@ fn lines(
     alloc: Global,
     lines: &[TypedLine],
     within: Within,
-    env: &mut Items<Bound>,
+    env: &mut Scope,
     faults: &mut Items<Diag>,
 ) -> Result<(), AllocError>
     ensures faults { OnOk result (faults.new ≡ faults.old ++ told_faults within (trees_of lines.now) env.old env.old) }
@@ -248,7 +235,7 @@ fn lines(
     for one in lines {
         line(alloc, one, depth, within, env, faults)?;
     }
-    cut(env, depth);
+    env.cut(depth);
     Ok(())
 }
 
@@ -279,7 +266,7 @@ fn has_function(lines: &[TypedLine]) -> bool
 pub fn function_faults(alloc: Global, typed: &Typed) -> Result<Items<Diag>, AllocError>
     ensures { IfOk result (λ faults. faults ≡ told_function typed.now.lines) }
 {
-    let mut env = Items::new(alloc);
+    let mut env = Scope::new(alloc);
     let mut faults = Items::new(alloc);
     if !has_function(typed.lines.as_slice()) {
         return Ok(faults);

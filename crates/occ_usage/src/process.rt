@@ -9,8 +9,8 @@ ghost use Rattle.occ_usage.specs.Trees.{head_of, trees_of, under as lines_under}
 use super::function::go_behind;
 use super::walk::{Told, line as judged_line};
 use occ_base::Items;
-use occ_bounds::{Bound, Use};
-use occ_line_uses::{cut, enter_all};
+use occ_bounds::Use;
+use occ_line_uses::{Scope, enter_all};
 use occ_typing::{ProcessId, Typed, TypedLine};
 use std::alloc::{AllocError, Global};
 
@@ -22,11 +22,7 @@ pub struct Summary {
 }
 
 /// What a line uses with those under it.
-fn line_uses(
-    alloc: Global,
-    line: &TypedLine,
-    env: &mut Items<Bound>,
-) -> Result<Items<Use>, AllocError>
+fn line_uses(alloc: Global, line: &TypedLine, env: &mut Scope) -> Result<Items<Use>, AllocError>
     ensures uses { IfOk result (λ uses. uses ≡ told_line_uses env.old (head_of line.now) (items_of (lines_under line.now))) }
     ensures env { OnOk result (env.new ≡ env.old) }
 {
@@ -34,7 +30,7 @@ fn line_uses(
     let mut told = Told::nothing(alloc);
     let depth = env.len();
     judged_line(alloc, line, env, &mut uses, &mut told)?;
-    cut(env, depth);
+    env.cut(depth);
     Ok(uses)
 }
 
@@ -84,7 +80,7 @@ fn add_own_uses(
     alloc: Global,
     line: &TypedLine,
     process: ProcessId,
-    env: &mut Items<Bound>,
+    env: &mut Scope,
     found: &mut Items<Use>,
 ) -> Result<(), AllocError>
     ensures found { OnOk result (found.new ≡ found.old ++ told_own process (head_of line.now) (lines_under line.now) env.old) }
@@ -103,7 +99,7 @@ fn add_under(
     alloc: Global,
     line: &TypedLine,
     process: ProcessId,
-    env: &mut Items<Bound>,
+    env: &mut Scope,
     found: &mut Items<Use>,
 ) -> Result<(), AllocError>
     ensures found { OnOk result (found.new ≡ found.old ++ told_uses process (lines_under line.now) (told_inner env.old (head_of line.now)) (told_inner env.old (head_of line.now))) }
@@ -112,7 +108,7 @@ fn add_under(
     let depth = env.len();
     enter_all(alloc, line.enters.as_slice(), env)?;
     lines(alloc, line.under.as_slice(), process, env, found)?;
-    cut(env, depth);
+    env.cut(depth);
     Ok(())
 }
 
@@ -123,7 +119,7 @@ fn line(
     line: &TypedLine,
     depth: usize,
     process: ProcessId,
-    env: &mut Items<Bound>,
+    env: &mut Scope,
     found: &mut Items<Use>,
 ) -> Result<(), AllocError>
     ensures found { OnOk result (found.new ≡ found.old ++ told_whole process (head_of line.now) (lines_under line.now) env.old) }
@@ -140,7 +136,7 @@ fn lines(
     alloc: Global,
     lines: &[TypedLine],
     process: ProcessId,
-    env: &mut Items<Bound>,
+    env: &mut Scope,
     found: &mut Items<Use>,
 ) -> Result<(), AllocError>
     ensures found { OnOk result (found.new ≡ found.old ++ told_uses process (trees_of lines.now) env.old env.old) }
@@ -150,7 +146,7 @@ fn lines(
     for one in lines {
         line(alloc, one, depth, process, env, found)?;
     }
-    cut(env, depth);
+    env.cut(depth);
     Ok(())
 }
 
@@ -158,7 +154,7 @@ fn lines(
 pub fn uses_of(alloc: Global, typed: &Typed, process: ProcessId) -> Result<Summary, AllocError>
     ensures { IfOk result (λ summary. summary.uses ≡ uses_in typed.now.lines process) }
 {
-    let mut env = Items::new(alloc);
+    let mut env = Scope::new(alloc);
     let mut uses = Items::new(alloc);
     lines(alloc, typed.lines.as_slice(), process, &mut env, &mut uses)?;
     Ok(Summary { uses })

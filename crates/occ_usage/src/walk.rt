@@ -18,8 +18,7 @@ use occ_base::{Diag, Items};
 use occ_bounds::{Bound, Use};
 use occ_clashes::{body_uses, component_faults, distinct, joined};
 use occ_line_uses::{
-    body_bound, cut, enter, enter_all, enter_index, enter_line, form_uses, index_value,
-    number_behind,
+    Scope, body_bound, enter_all, enter_index, enter_line, form_uses, index_value, number_behind,
 };
 use occ_names::Entry;
 use occ_replicators::KnownReplicator;
@@ -74,7 +73,7 @@ fn round(
     base: i32,
     index: u32,
     lines: &[TypedLine],
-    env: &mut Items<Bound>,
+    env: &mut Scope,
     told: &mut Told,
 ) -> Result<Items<Use>, AllocError>
     ensures found { IfOk result (λ found. found ≡ told_joined (items_of (trees_of lines.now) (with_index env.old base index))) }
@@ -85,7 +84,7 @@ fn round(
     let depth = env.len();
     enter_index(alloc, index_value(base, index), env)?;
     let found = items(alloc, lines, env, told)?;
-    cut(env, depth);
+    env.cut(depth);
     joined(alloc, found)
 }
 
@@ -95,7 +94,7 @@ fn rounds(
     alloc: Global,
     known: KnownReplicator,
     lines: &[TypedLine],
-    env: &mut Items<Bound>,
+    env: &mut Scope,
     told: &mut Told,
 ) -> Result<Vec<Items<Use>>, AllocError>
     ensures found { IfOk result (λ found. found.items ≡ rounds_to known.count known.base env.old (items_of (trees_of lines.now))) }
@@ -115,7 +114,7 @@ fn rounds(
 fn inner(
     alloc: Global,
     line: &TypedLine,
-    env: &mut Items<Bound>,
+    env: &mut Scope,
     told: &mut Told,
 ) -> Result<Vec<Items<Use>>, AllocError>
     ensures found { IfOk result (λ found. found.items ≡ items_of (lines_under line.now) (told_inner env.old (head_of line.now))) }
@@ -126,7 +125,7 @@ fn inner(
     let depth = env.len();
     enter_all(alloc, line.enters.as_slice(), env)?;
     let found = items(alloc, line.under.as_slice(), env, told)?;
-    cut(env, depth);
+    env.cut(depth);
     Ok(found)
 }
 
@@ -135,7 +134,7 @@ fn inner(
 fn components(
     alloc: Global,
     line: &TypedLine,
-    env: &mut Items<Bound>,
+    env: &mut Scope,
     told: &mut Told,
 ) -> Result<Vec<Items<Use>>, AllocError>
     ensures found { IfOk result (λ found. found.items ≡ told_components env.old (head_of line.now) (items_of (lines_under line.now))) }
@@ -192,7 +191,7 @@ fn body_over(
     alloc: Global,
     line: &TypedLine,
     uses: &[Use],
-    env: &mut Items<Bound>,
+    env: &mut Scope,
 ) -> Result<Bound, AllocError>
     ensures bound { IfOk result (λ bound. bound ≡ told_body env.old (head_of line.now) uses.now (told_effect (lines_under line.now) env.old (head_of line.now))) }
     ensures env { OnOk result (env.new ≡ env.old) }
@@ -210,13 +209,13 @@ fn enter_behind(
     line: &TypedLine,
     entries: &[Entry],
     uses: &[Use],
-    env: &mut Items<Bound>,
+    env: &mut Scope,
 ) -> Result<(), AllocError>
     ensures { OnOk result (env.new ≡ env.old ++ told_entered env.old (head_of line.now) uses.now (told_effect (lines_under line.now) env.old (head_of line.now)) entries.now) }
 {
     if is_body(line.form.get()) {
         let body = body_over(alloc, line, uses, env)?;
-        return enter(body, env);
+        return env.enter(alloc, body);
     }
     enter_line(alloc, line.form.get(), &line.place, entries, env)
 }
@@ -226,7 +225,7 @@ fn go_behind(
     alloc: Global,
     line: &TypedLine,
     uses: &[Use],
-    env: &mut Items<Bound>,
+    env: &mut Scope,
 ) -> Result<(), AllocError>
     ensures { OnOk result (env.new ≡ env.old ++ told_added env.old (head_of line.now) uses.now (told_effect (lines_under line.now) env.old (head_of line.now)) (head_of line.now).adds) }
 {
@@ -258,7 +257,7 @@ fn under_uses(
 fn own_uses(
     alloc: Global,
     line: &TypedLine,
-    env: &mut Items<Bound>,
+    env: &mut Scope,
     uses: &mut Items<Use>,
     faults: &mut Items<Diag>,
 ) -> Result<(), AllocError>
@@ -279,7 +278,7 @@ fn own_uses(
 pub(crate) fn line(
     alloc: Global,
     line: &TypedLine,
-    env: &mut Items<Bound>,
+    env: &mut Scope,
     uses: &mut Items<Use>,
     told: &mut Told,
 ) -> Result<(), AllocError>
@@ -307,7 +306,7 @@ fn end_item(
     alloc: Global,
     line: &TypedLine,
     depth: usize,
-    env: &mut Items<Bound>,
+    env: &mut Scope,
     own: &mut Items<Use>,
     found: &mut Vec<Items<Use>>,
 ) -> Result<(), AllocError>
@@ -318,7 +317,7 @@ fn end_item(
     if line.adds.is_some() {
         return Ok(());
     }
-    cut(env, depth);
+    env.cut(depth);
     found.push(std::mem::replace(own, Items::new(alloc)))?;
     Ok(())
 }
@@ -328,7 +327,7 @@ fn end_item(
 fn items(
     alloc: Global,
     lines: &[TypedLine],
-    env: &mut Items<Bound>,
+    env: &mut Scope,
     told: &mut Told,
 ) -> Result<Vec<Items<Use>>, AllocError>
     ensures found { IfOk result (λ found. found.items ≡ items_of (trees_of lines.now) env.old) }
@@ -343,7 +342,7 @@ fn items(
         line(alloc, one, env, &mut own, told)?;
         end_item(alloc, one, depth, env, &mut own, &mut found)?;
     }
-    cut(env, depth);
+    env.cut(depth);
     found.push(own)?;
     Ok(found)
 }
@@ -352,7 +351,7 @@ fn items(
 fn go_through(
     alloc: Global,
     lines: &[TypedLine],
-    env: &mut Items<Bound>,
+    env: &mut Scope,
     told: &mut Told,
 ) -> Result<(), AllocError>
     ensures env { OnOk result (env.new ≡ behind_lines (trees_of lines.now) env.old env.old) }
@@ -372,7 +371,7 @@ pub(crate) fn go_over(
     alloc: Global,
     one: &TypedLine,
     depth: usize,
-    env: &mut Items<Bound>,
+    env: &mut Scope,
     told: &mut Told,
 ) -> Result<(), AllocError>
     ensures env { OnOk result (depth ≤ length env.old → env.new ≡ behind_line (take depth env.old) env.old (head_of one.now) (lines_under one.now)) }
@@ -382,7 +381,7 @@ pub(crate) fn go_over(
     let mut uses = Items::new(alloc);
     line(alloc, one, env, &mut uses, told)?;
     if one.adds.is_none() {
-        cut(env, depth);
+        env.cut(depth);
     }
     Ok(())
 }
@@ -403,9 +402,9 @@ pub fn unit_uses(alloc: Global, typed: &Typed) -> Result<UnitUses, AllocError>
     ensures abbreviations { IfOk result (λ found. found.abbreviations ≡ abbreviation_faults typed.now.lines) }
     ensures bounds { IfOk result (λ found. found.bounds ≡ behind_unit typed.now.lines) }
 {
-    let mut bounds = Items::new(alloc);
+    let mut env = Scope::new(alloc);
     let mut told = Told::nothing(alloc);
-    go_through(alloc, typed.lines.as_slice(), &mut bounds, &mut told)?;
+    go_through(alloc, typed.lines.as_slice(), &mut env, &mut told)?;
     let Told {
         parallel,
         abbreviations,
@@ -414,7 +413,7 @@ pub fn unit_uses(alloc: Global, typed: &Typed) -> Result<UnitUses, AllocError>
     Ok(UnitUses {
         parallel,
         abbreviations,
-        bounds,
+        bounds: env.into_bounds(),
     })
 }
 
