@@ -42,14 +42,6 @@ fn facts_at(all: &[Shared<Facts>], place: usize) -> Option<&Facts>
     }
 }
 
-/// The place of the file of that name, or the first.
-fn place_or_first(project: &Project, name: FileName) -> usize {
-    match project.place(name) {
-        Some(place) => place,
-        None => 0,
-    }
-}
-
 /// Whether the place is one of these.
 fn is_place_among(places: &[usize], place: usize) -> bool
     ensures { result ≡ is_place places.now place }
@@ -218,7 +210,7 @@ impl Graph {
         ensures { IfOk result (λ links. IsLinks project.now links) }
     {
         if self.project.place(edited).is_none() {
-            let new = place_or_first(project, edited);
+            let new = project.place_or_first(edited);
             return links_of(alloc, project, facts, self.all_edges(), new);
         }
         if !use_same(self.facts.as_slice(), facts) {

@@ -96,6 +96,14 @@ impl Project {
         self.find(name).ok()
     }
 
+    /// The same, or the first place: where a file is looked for first. It promises nothing: a place that is wrong costs time.
+    pub fn place_or_first(&self, name: FileName) -> usize {
+        match self.place(name) {
+            Some(place) => place,
+            None => 0,
+        }
+    }
+
     /// Whether the file of that name stands at this place.
     pub(crate) fn is_at(&self, place: usize, name: FileName) -> bool
         ensures { IsTrue result → first_place name self.now ≡ Some place }
