@@ -1,38 +1,36 @@
 -- What an edit may concern is marked.
-use Rattle.std.proofs.Common.{◌≡◌, ◌∙◌, ◌<◌, ◌≤◌, ◌+◌, ◌&&◌, ◌||◌, ◌⊎◌, ◌↔◌, ℕ, zero, suc, Bool, true, false, cond, not, List, [], ◌∷◌, length, get_or, drop, Option, Some, None, refl, sym, ap, subst, inl, inr, arith}
-use Rattle.std.proofs.lemmas.Bool.{eqb-false, eqb-true}
+use Rattle.std.proofs.Common.{◌≡◌, ◌∙◌, ◌<◌, ◌≤◌, ◌+◌, ◌&&◌, ◌||◌, ◌⊎◌, ◌↔◌, ℕ, zero, suc, Bool, true, false, cond, not, List, [], ◌∷◌, length, map, get_or, drop, Option, Some, None, refl, sym, ap, subst, inl, inr, arith}
+use Rattle.std.proofs.lemmas.Bool.{cases_lt, eqb-false, eqb-true}
 use Rattle.std.proofs.lemmas.Slice.Eq.{bytes_eq-Decides}
-use Rattle.std.specs.List.{slice_get}
-use Rattle.std.specs.List.Sorted.{IsStrictlySortedBy}
-use Rattle.std.specs.Option.{is_some, option_map}
-use Rattle.std.specs.Ordering.{match_ordering}
-use Rattle.std.specs.declared.cmp.Ordering.{Ordering}
-use Rattle.std.specs.declared.cmp.Ordering.TheVariants.{Less, Equal, Greater}
+use Rattle.std.specs.List.{filter, flat_map, list_all, slice_get}
+use Rattle.std.specs.Option.{is_some}
 use Rattle.std.specs.Prelude.{◌==◌, slice_set}
 use Rattle.std.specs.Str.{bytes_eq}
 use Rattle.occ_base.specs.FileName.{is_unit}
 use Rattle.occ_board.proofs.Places.{name_there}
 use Rattle.occ_board.proofs.Settled.{flag_at, no_flag, set_fewer, step_done}
 use Rattle.occ_board.proofs.Spread.{placed_there, set_apart, set_here, set_stays}
-use Rattle.occ_board.specs.Done.{done, done_step}
+use Rattle.occ_board.specs.Done.{done, done_step, is_kept}
 use Rattle.occ_board.specs.Edits.{IsApart, IsUnder}
 use Rattle.occ_board.specs.inside.Flagged.{AreFlags, IsFull, IsFullAt, IsSound, flag_of, unflagged}
-use Rattle.occ_board.specs.inside.Touched.{IsBehind, IsClosed, is_root}
+use Rattle.occ_board.specs.Journal.{is_open}
+use Rattle.occ_board.specs.inside.Touched.{IsClosed}
 use Rattle.occ_check.specs.Input.{Input}
 use Rattle.occ_graph.specs.Graph.{has_edge, is_among}
 use Rattle.occ_project.specs.Entries as names
 use Rattle.occ_project.specs.Expansion.{expansion}
-use Rattle.occ_project.specs.Reads.{name_cmp, place}
+use Rattle.occ_project.specs.Reads.{place}
 use Rattle.occ_project.specs.declared.reads.Read.{Read}
+use Rattle.occ_project.specs.Uses.{units_of}
+use Rattle.occ_report.specs.Checks.{checked, input, used_unit}
 use Rattle.occ_units.proofs.Edges.{absent_reads, edge, placed_user}
 use Rattle.occ_units.proofs.Finding.{place_within}
-use Rattle.occ_units.proofs.Putting.{below_found}
-use Rattle.occ_units.proofs.Rising.{turned}
-use Rattle.occ_units.proofs.Sharing.{place_stays}
+use Rattle.occ_units.proofs.Renewed.{still_long, still_placed, there_among}
 use Rattle.occ_units.specs.Along.{name_at}
-use Rattle.occ_units.specs.Places.{graph_of, users_at}
-use Rattle.occ_units.specs.Project.{IsProject, put}
-use Rattle.occ_units.specs.Units.{Reaches, Uses, UsesBy, read_names}
+use Rattle.occ_units.specs.Places.{graph_of, is_below, readers_at, rest_units, standing_of, users_at}
+use Rattle.occ_units.specs.Project.{IsProject, file_of, put}
+use Rattle.occ_units.specs.Spelled.{AreSpelled}
+use Rattle.occ_units.specs.Units.{Reaches, Uses, UsesBy, in_order, read_names}
 
 -- what marking along the first i users of the unit at a place has come to
 pub record IsTouch (files : List Read) (users : List ℕ) (old marks : List Bool) (at i : ℕ) : Type 0 where
@@ -110,10 +108,11 @@ module _ (files : List Read) where
     by true o = more p (was p q e o)
     by false o = told p q e o k
 
-  -- what all marks together say
-  pub record IsTouched (name : List ℕ) (marks : List Bool) (n : ℕ) : Type 0 where
+  -- what marking the file at a place and along the first n of its readers has come to
+  pub record IsTouched (at : ℕ) (readers : List ℕ) (marks : List Bool) (n : ℕ) : Type 0 where
     pub len : length marks ≡ length files
-    pub roots : (p : ℕ) → p < n → is_root files name p ≡ true → get_or marks p false ≡ true
+    pub here : get_or marks at false ≡ true
+    pub read : (i : ℕ) → i < n → get_or marks (get_or readers i 0) false ≡ true
     pub closed : IsClosed (graph_of files) marks
 
   last_or_less : (n p : ℕ) → p < n + 1 → (p ≡ n) ⊎ (p < n)
@@ -125,20 +124,29 @@ module _ (files : List Read) where
     | inr k ↦ inr (omega (arith, k))
   ]
 
-  pub touched_more : (name : List ℕ) (marks next : List Bool) (n : ℕ) (b : Bool) → IsTouched name marks n → b ≡ is_root files name n → length next ≡ length files → ((p : ℕ) → get_or marks p false ≡ true → get_or next p false ≡ true)
-      → (b ≡ true → get_or next n false ≡ true) → IsClosed (graph_of files) next → IsTouched name next (n + 1)
-  touched_more name marks next n b h root len more here closed = record {
+  pub touched_more : (at : ℕ) (readers : List ℕ) (marks next : List Bool) (n : ℕ) → IsTouched at readers marks n → length next ≡ length files → ((p : ℕ) → get_or marks p false ≡ true → get_or next p false ≡ true)
+      → get_or next (get_or readers n 0) false ≡ true → IsClosed (graph_of files) next → IsTouched at readers next (n + 1)
+  touched_more at readers marks next n h len more here closed = record {
     len = len;
-    roots = λ p lt r. elim (last_or_less n p lt) [
-      | inl e ↦ subst (λ (x : ℕ). get_or next x false ≡ true) (sym e) (here (root ∙ sym (ap (is_root files name) e) ∙ r))
-      | inr k ↦ more p (h.roots p k r)
+    here = more at h.here;
+    read = λ i lt. elim (last_or_less n i lt) [
+      | inl e ↦ subst (λ (x : ℕ). get_or next (get_or readers x 0) false ≡ true) (sym e) here
+      | inr k ↦ more (get_or readers i 0) (h.read i k)
     ];
     closed = closed;
   }
 
+  pub touched_all : (at : ℕ) (readers : List ℕ) (marks : List Bool) (n : ℕ) → IsTouched at readers marks n → length readers ≤ n → (p : ℕ) → is_among readers p ≡ true → get_or marks p false ≡ true
+  touched_all at readers marks n h most p k =
+      let there = there_among readers p k in
+      let lt = there.1.0 in
+      ap (λ (x : ℕ). get_or marks x false) (sym there.1.1) ∙ h.read there.0 (omega (arith, lt, most))
+
 -- a unit that is not marked is one that the edit does not concern
-module _ (files : List Read) (project : IsProject files) (name : List ℕ) (marks : List Bool) (roots : (p : ℕ) → p < length files → is_root files name p ≡ true → get_or marks p false ≡ true) (closed : IsClosed (graph_of files) marks)
-    (known : is_some (place name files) ≡ true) where
+module _ (files : List Read) (project : IsProject files) (name : List ℕ) (at : ℕ) (marks : List Bool) (e : place name files ≡ Some at) (readers : (p : ℕ) → is_among (readers_at files at) p ≡ true → get_or marks p false ≡ true)
+    (closed : IsClosed (graph_of files) marks)
+    (reading : (p q : ℕ) → IsProject files → p < length files → q < length files → is_among (readers_at files q) p ≡ names.is_among (read_names files (name_at files p)) (name_at files q))
+    (units : (u v : List ℕ) → Uses files u v → is_unit v ≡ true) where
   abbrev Unmarked : List ℕ → Type 0
   Unmarked v = (q : ℕ) → place v files ≡ Some q → get_or marks q false ≡ false
 
@@ -147,69 +155,86 @@ module _ (files : List Read) (project : IsProject files) (name : List ℕ) (mark
   false_by false f = refl
 
   next_unmarked : (u v : List ℕ) → Unmarked u → Uses files u v → Unmarked v
-  next_unmarked u v h uses q e = false_by (get_or marks q false) (λ k.
+  next_unmarked u v h uses q k = false_by (get_or marks q false) (λ m.
       let from = placed_user files u v uses in
-      let there : get_or marks from.0 false ≡ true = closed from.0 q (edge files u v from.0 q from.1 e uses) k in
+      let there : get_or marks from.0 false ≡ true = closed from.0 q (edge files u v from.0 q from.1 k uses) m in
       let none = h from.0 from.1 in
       cc (there, none))
 
-  way_unmarked : (u : List ℕ) (ws : List (List ℕ)) (v : List ℕ) → Unmarked u → UsesBy files u ws v → Unmarked v
-  way_unmarked u [] v h uses = next_unmarked u v h uses
+  way_unmarked : (u : List ℕ) (ws : List (List ℕ)) (v : List ℕ) → Unmarked u → UsesBy files u ws v → Unmarked v × (is_unit v ≡ true)
+  way_unmarked u [] v h uses = (next_unmarked u v h uses, units u v uses)
   way_unmarked u (w ∷ ws) v h uses = way_unmarked w ws v (next_unmarked u w h uses.0) uses.1
 
-  not_read : (b : Bool) (v : List ℕ) → is_unit v ≡ b → (not b || names.is_among (read_names files v) name) ≡ false → names.is_among (expansion files v).reads name ≡ false
-  not_read false v u h = absurd cc
-  not_read true v u h = sym (ap (λ (b : Bool). names.is_among (cond b (expansion files v).reads []) name) u) ∙ h
-
   not_alone : (v : List ℕ) → place v files ≡ None → names.is_among (v ∷ []) name ≡ false
-  not_alone v e = false_by (names.is_among (v ∷ []) name) (λ k. by (bytes_eq v name) refl k) where
+  not_alone v none = false_by (names.is_among (v ∷ []) name) (λ k. by (bytes_eq v name) refl k) where
     by : (b : Bool) → bytes_eq v name ≡ b → (b || false) ≡ true → ⊥
     by true h k =
         let same : v ≡ name = (bytes_eq-Decides v name).0 h in
-        let none : is_some (place name files) ≡ false = ap (λ (o : Option ℕ). is_some o) (ap (λ (n : List ℕ). place n files) (sym same) ∙ e) in
-        cc (none, known)
+        let there : place name files ≡ None = ap (λ (n : List ℕ). place n files) (sym same) ∙ none in
+        cc (there, e)
     by false h k = cc
 
-  unmarked_reads : (v : List ℕ) → Unmarked v → names.is_among (expansion files v).reads name ≡ false
-  unmarked_reads v h = by (place v files) refl where
-    by : (o : Option ℕ) → place v files ≡ o → names.is_among (expansion files v).reads name ≡ false
-    by None e = ap (λ (ns : List (List ℕ)). names.is_among ns name) (absent_reads files v e) ∙ not_alone v e
-    by (Some q) e =
-        let named : name_at files q ≡ v = name_there files v q e in
-        let none : is_root files name q ≡ false = false_by (is_root files name q) (λ r. let there = roots q (place_within v files q e) r in let not_there = h q e in cc (there, not_there)) in
-        not_read (is_unit v) v refl (sym (ap (λ (n : List ℕ). not (is_unit n) || names.is_among (read_names files n) name) named) ∙ none)
+  reads_by : (b : Bool) (v : List ℕ) → is_unit v ≡ b → b ≡ true → names.is_among (read_names files v) name ≡ false → names.is_among (expansion files v).reads name ≡ false
+  reads_by true v u t h = sym (ap (λ (b : Bool). names.is_among (cond b (expansion files v).reads []) name) u) ∙ h
+  reads_by false v u t h = cc
 
-  pub unmarked_apart : (u : List ℕ) → Unmarked u → IsApart files name u
-  unmarked_apart u h v (inl e) = unmarked_reads v (subst Unmarked (sym e) h)
-  unmarked_apart u h v (inr way) = unmarked_reads v (way_unmarked u way.0 v h way.1)
+  unmarked_reads : (v : List ℕ) → is_unit v ≡ true → Unmarked v → names.is_among (expansion files v).reads name ≡ false
+  unmarked_reads v unit h = by (place v files) refl where
+    by : (o : Option ℕ) → place v files ≡ o → names.is_among (expansion files v).reads name ≡ false
+    by None k = ap (λ (ns : List (List ℕ)). names.is_among ns name) (absent_reads files v k) ∙ not_alone v k
+    by (Some q) k =
+        let named : name_at files q ≡ v = name_there files v q k in
+        let its : name_at files at ≡ name = name_there files name at e in
+        let law = reading q at project (place_within v files q k) (place_within name files at e) in
+        let none : names.is_among (read_names files v) name ≡ false =
+        false_by (names.is_among (read_names files v) name) (λ r.
+        let reads : is_among (readers_at files at) q ≡ true = law ∙ ap (λ (n : List ℕ). names.is_among (read_names files n) (name_at files at)) named ∙ ap (names.is_among (read_names files v)) its ∙ r in
+        let there = readers q reads in
+        let not_there = h q k in
+        cc (there, not_there))
+        in
+        reads_by (is_unit v) v refl unit none
+
+  unmarked_apart : (u : List ℕ) → is_unit u ≡ true → Unmarked u → IsApart files name u
+  unmarked_apart u unit h v (inl k) = unmarked_reads v (ap is_unit k ∙ unit) (subst Unmarked (sym k) h)
+  unmarked_apart u unit h v (inr way) = let there = way_unmarked u way.0 v h way.1 in unmarked_reads v there.1 there.0
+
+  -- nor does it concern what is no unit, but for the file itself
+  no_input : (fs : List Read) (u : List ℕ) → is_unit u ≡ false → input fs u ≡ record { unit = u; reads = []; used = [] }
+  no_input fs u none = ap (λ (b : Bool). record { unit = u; reads = map (file_of fs) (cond b (expansion fs u).reads []); used = map (used_unit fs u (checked fs)) (cond b (in_order (flat_map units_of (expansion fs u).lines)) []) }) none
+
+  no_rests : (fs : List Read) (u : List ℕ) → is_unit u ≡ false → rest_units fs u ≡ []
+  no_rests fs u none = ap (λ (b : Bool). filter (λ v. is_below (standing_of fs u v)) (cond b (in_order (flat_map units_of (expansion fs u).lines)) [])) none
+
+  module _ (later : List Read) (file : Read) (kept : List Input) (named : file.name ≡ name) (put_is : later ≡ put files file) (here : get_or marks at false ≡ true)
+      (apart : (fs : List Read) (f : Read) (ks : List Input) (u : List ℕ) → IsProject fs → IsApart fs f.name u → done (put fs f) ks u ≡ done fs ks u)
+      (files_put : (fs : List Read) (f : Read) (n : List ℕ) → file_of (put fs f) n ≡ cond (bytes_eq f.name n) f (file_of fs n)) (rises : (fs : List Read) (f : Read) → IsProject fs → IsProject (put fs f))
+      (step : (fs : List Read) (ks : List Input) (u : List ℕ) → IsProject fs → done fs ks u ≡ done_step fs ks u (done fs ks)) where
+    still_open : (u : List ℕ) → Unmarked u → is_open later u ≡ is_open files u
+    still_open u h = by (bytes_eq file.name u) refl where
+      by : (b : Bool) → bytes_eq file.name u ≡ b → is_open later u ≡ is_open files u
+      by true k =
+          let same : name ≡ u = sym named ∙ (bytes_eq-Decides file.name u).0 k in
+          let none = h at (ap (λ (n : List ℕ). place n files) (sym same) ∙ e) in
+          absurd (cc (none, here))
+      by false k = ap (λ (f : Read). is_some f.source) (ap (λ (fs : List Read). file_of fs u) put_is ∙ files_put files file u ∙ ap (λ (b : Bool). cond b file (file_of files u)) k)
+
+    no_unit_step : (fs : List Read) (u : List ℕ) → is_unit u ≡ false → IsProject fs → done fs kept u ≡ (is_open fs u && (is_kept kept (record { unit = u; reads = []; used = [] }) && true))
+    no_unit_step fs u none p =
+        step fs kept u p
+        ∙ ap (λ (i : Input). is_open fs u && (is_kept kept i && list_all (done fs kept) (rest_units fs u))) (no_input fs u none)
+        ∙ ap (λ (vs : List (List ℕ)). is_open fs u && (is_kept kept (record { unit = u; reads = []; used = [] }) && list_all (done fs kept) vs)) (no_rests fs u none)
+
+    pub unmarked_same : (u : List ℕ) → Unmarked u → done later kept u ≡ done files kept u
+    unmarked_same u h = by (is_unit u) refl where
+      by : (b : Bool) → is_unit u ≡ b → done later kept u ≡ done files kept u
+      by true unit = ap (λ (fs : List Read). done fs kept u) put_is ∙ apart files file kept u project (subst (λ (n : List ℕ). IsApart files n u) (sym named) (unmarked_apart u unit h))
+      by false none =
+          no_unit_step later u none (subst IsProject (sym put_is) (rises files file project))
+          ∙ ap (λ (b : Bool). b && (is_kept kept (record { unit = u; reads = []; used = [] }) && true)) (still_open u h)
+          ∙ sym (no_unit_step files u none project)
 
 -- the flags behind the edit of a file that was there
-module _ (file : Read) where
-  pub put_long : (files : List Read) → IsProject files → is_some (place file.name files) ≡ true → length (put files file) ≡ length files
-  unfolding IsStrictlySortedBy
-  put_long [] s h = absurd cc
-  put_long (x ∷ files) s h = by (name_cmp file.name x.name) refl (bytes_eq x.name file.name) (place file.name files) refl refl (put_long files s.1) h where
-    by : (o : Ordering) → name_cmp file.name x.name ≡ o → (b : Bool) (p : Option ℕ) → bytes_eq x.name file.name ≡ b → place file.name files ≡ p → (is_some (place file.name files) ≡ true → length (put files file) ≡ length files) → is_some (cond b (Some 0) (option_map suc p)) ≡ true
-        → length (match_ordering o (file ∷ x ∷ files) (file ∷ files) (x ∷ put files file)) ≡ length (x ∷ files)
-    by Equal e b p k q rest here = refl
-    by Greater e true p k q rest here =
-        let same : x.name ≡ file.name = (bytes_eq-Decides x.name file.name).0 k in
-        let itself : name_cmp file.name file.name ≡ Greater = ap (name_cmp file.name) (sym same) ∙ e in
-        let back : name_cmp file.name file.name ≡ Less = turned file.name file.name Greater itself in
-        absurd (cc (itself, back))
-    by Greater e false None k q rest here = absurd cc
-    by Greater e false (Some n) k q rest here = ap suc (rest (ap (λ (o : Option ℕ). is_some o) q))
-    by Less e true p k q rest here =
-        let same : x.name ≡ file.name = (bytes_eq-Decides x.name file.name).0 k in
-        let itself : name_cmp file.name file.name ≡ Less = ap (name_cmp file.name) (sym same) ∙ e in
-        let back : name_cmp file.name file.name ≡ Greater = turned file.name file.name Less itself in
-        absurd (cc (itself, back))
-    by Less e false None k q rest here = absurd cc
-    by Less e false (Some n) k q rest here =
-        let above : name_cmp x.name file.name ≡ Less = below_found x.name file.name files n s.0 q in
-        let back : name_cmp file.name x.name ≡ Greater = turned x.name file.name Less above in
-        absurd (cc (e, back))
-
 left_by : (a b : Bool) → (a && not b) ≡ true → (a ≡ true) × (b ≡ false)
 left_by true true h = absurd cc
 left_by true false h = (refl, refl)
@@ -241,19 +266,58 @@ module _ (files later : List Read) (name : List ℕ) (kept : List Input) (flags 
       let is : done later kept u ≡ true = step_done later kept law next u sound_behind h in
       left p ∙ ap (λ (b : Bool). b && not (get_or marks p false)) (flagged u p e ∙ sym (same u (at_only u p e m)) ∙ is) ∙ ap not m
 
--- what is known of a file that was there
-module _ (files later : List Read) (name : List ℕ) (behind : IsBehind files later name) (project : IsProject files) (known : is_some (place name files) ≡ true) where
-  known_file : is_some (place behind.0.name files) ≡ true
-  known_file = ap (λ (n : List ℕ). is_some (place n files)) behind.1.0 ∙ known
+-- marked units lose their flags one after the other
+get_set : (flags : List Bool) (n : ℕ) (b : Bool) → n < length flags → get_or (slice_set flags n b) n false ≡ b
+get_set [] n b lt = absurd (omega (arith, lt))
+get_set (f ∷ flags) zero b lt = refl
+get_set (f ∷ flags) (suc n) b lt = get_set flags n b (omega (arith, lt))
 
-  pub places_behind : (u : List ℕ) → place u later ≡ place u files
-  places_behind u = ap (place u) behind.1.1 ∙ place_stays behind.0 u files project known_file
+get_set_apart : (flags : List Bool) (n p : ℕ) (b : Bool) → (p ≡ n → ⊥) → get_or (slice_set flags n b) p false ≡ get_or flags p false
+get_set_apart [] n p b h = refl
+get_set_apart (f ∷ flags) zero zero b h = absurd (h refl)
+get_set_apart (f ∷ flags) zero (suc p) b h = refl
+get_set_apart (f ∷ flags) (suc n) zero b h = refl
+get_set_apart (f ∷ flags) (suc n) (suc p) b h = get_set_apart flags n p b (λ e. h (ap suc e))
 
-  pub long_behind : length later ≡ length files
-  long_behind = ap (length {A = Read}) behind.1.1 ∙ put_long behind.0 files project known_file
+set_as_long : (flags : List Bool) (n : ℕ) (b : Bool) → length (slice_set flags n b) ≡ length flags
+set_as_long [] n b = refl
+set_as_long (f ∷ flags) zero b = refl
+set_as_long (f ∷ flags) (suc n) b = ap suc (set_as_long flags n b)
 
-  pub apart_behind : ((fs : List Read) (file : Read) (kept : List Input) (u : List ℕ) → IsProject fs → IsApart fs file.name u → done (put fs file) kept u ≡ done fs kept u) → (kept : List Input) (u : List ℕ) → IsApart files name u → done later kept u ≡ done files kept u
-  apart_behind law kept u apart = ap (λ (fs : List Read). done fs kept u) behind.1.1 ∙ law files behind.0 kept u project (subst (λ (n : List ℕ). IsApart files n u) (sym behind.1.0) apart)
+beyond : (flags : List Bool) (p : ℕ) → length flags ≤ p → get_or flags p false ≡ false
+beyond [] p h = refl
+beyond (f ∷ flags) zero h = absurd (omega (arith, h))
+beyond (f ∷ flags) (suc p) h = beyond flags p (omega (arith, h))
+
+-- the first n of them
+pub record IsUnflagged (old marks flags : List Bool) (n : ℕ) : Type 0 where
+  pub len : length flags ≡ length old
+  pub before : (p : ℕ) → p < n → get_or flags p false ≡ (get_or old p false && not (get_or marks p false))
+  pub behind : (p : ℕ) → n ≤ p → get_or flags p false ≡ get_or old p false
+
+pub unflag_begun : (old marks : List Bool) → IsUnflagged old marks old 0
+unflag_begun old marks = record { len = refl; before = λ p lt. absurd (omega (arith, lt)); behind = λ p le. refl }
+
+pub unflag_more : (old marks flags next : List Bool) (n : ℕ) (b : Bool) → IsUnflagged old marks flags n → n < length flags → b ≡ (get_or flags n false && not (get_or marks n false)) → next ≡ slice_set flags n b → IsUnflagged old marks next (n + 1)
+unflag_more old marks flags next n b h lt is set = record {
+  len = ap (length {A = Bool}) set ∙ set_as_long flags n b ∙ h.len;
+  before = λ p under. by p (p == n) refl under;
+  behind = λ p le. ap (λ (fs : List Bool). get_or fs p false) set ∙ get_set_apart flags n p b (λ same. omega (arith, same, le)) ∙ h.behind p (omega (arith, le));
+} where
+  by : (p : ℕ) (c : Bool) → (p == n) ≡ c → p < n + 1 → get_or next p false ≡ (get_or old p false && not (get_or marks p false))
+  by p true e under =
+      let same : p ≡ n = eqb-true p n e in
+      ap (λ (fs : List Bool). get_or fs p false) set ∙ ap (λ (q : ℕ). get_or (slice_set flags n b) q false) same ∙ get_set flags n b lt ∙ is
+      ∙ ap (λ (x : Bool). x && not (get_or marks n false)) (h.behind n (omega arith)) ∙ ap (λ (q : ℕ). get_or old q false && not (get_or marks q false)) (sym same)
+  by p false e under =
+      let other = eqb-false p n e in
+      ap (λ (fs : List Bool). get_or fs p false) set ∙ get_set_apart flags n p b other ∙ h.before p (omega (arith, other, under))
+
+pub unflag_over : (old marks flags : List Bool) (n : ℕ) → IsUnflagged old marks flags n → length old ≤ n → (p : ℕ) → get_or flags p false ≡ (get_or old p false && not (get_or marks p false))
+unflag_over old marks flags n h most p = elim (cases_lt p n) [
+  | inl lt ↦ h.before p lt
+  | inr le ↦ let none : get_or old p false ≡ false = beyond old p (omega (arith, most, le)) in h.behind p le ∙ none ∙ ap (λ (b : Bool). b && not (get_or marks p false)) (sym none)
+]
 
 -- marked units one after the other
 module _ (files : List Read) (kept : List Input) (marks : List Bool) where
@@ -274,3 +338,36 @@ module _ (files : List Read) (kept : List Input) (marks : List Bool) where
     | inl k ↦ k
     | inr k ↦ let le = k.1 in absurd (omega (arith, most, le, lt))
   ]
+
+-- the flags behind the edit of the file at a place
+module _ (files one later : List Read) (file : Read) (at : ℕ) (project : IsProject files) (same : one ≡ files) (put_is : later ≡ put one file) (e : place file.name files ≡ Some at) where
+  put_later : later ≡ put files file
+  put_later = put_is ∙ ap (λ (fs : List Read). put fs file) same
+
+  pub long_at : length later ≡ length files
+  long_at = still_long files later file at project put_later e
+
+  module _ (kept : List Input) (readers slice : List ℕ) (touched marks flags next : List Bool) (r : readers ≡ readers_at files at) (s : slice ≡ readers) (m : marks ≡ touched) (are : AreFlags files kept flags)
+      (here : get_or touched at false ≡ true) (told : (p : ℕ) → is_among slice p ≡ true → get_or touched p false ≡ true) (closed : IsClosed (graph_of one) touched)
+      (left : (p : ℕ) → get_or next p false ≡ (get_or flags p false && not (get_or marks p false)))
+      (reading : (fs : List Read) (p q : ℕ) → IsProject fs → p < length fs → q < length fs → is_among (readers_at fs q) p ≡ names.is_among (read_names fs (name_at fs p)) (name_at fs q))
+      (spelled : AreSpelled files) (units : (fs : List Read) (u v : List ℕ) → AreSpelled fs → Uses fs u v → is_unit v ≡ true)
+      (apart : (fs : List Read) (f : Read) (ks : List Input) (u : List ℕ) → IsProject fs → IsApart fs f.name u → done (put fs f) ks u ≡ done fs ks u)
+      (files_put : (fs : List Read) (f : Read) (n : List ℕ) → file_of (put fs f) n ≡ cond (bytes_eq f.name n) f (file_of fs n)) (rises : (fs : List Read) (f : Read) → IsProject fs → IsProject (put fs f))
+      (step : (fs : List Read) (ks : List Input) (u : List ℕ) → IsProject fs → done fs ks u ≡ done_step fs ks u (done fs ks)) where
+    same_at : (u : List ℕ) → ((q : ℕ) → place u files ≡ Some q → get_or marks q false ≡ false) → done later kept u ≡ done files kept u
+    same_at u h =
+        unmarked_same files project file.name at touched e (λ p k. told p (ap (λ (ws : List ℕ). is_among ws p) (s ∙ r) ∙ k)) (subst (λ (fs : List Read). IsClosed (graph_of fs) touched) same closed)
+        (λ p q. reading files p q) (λ v w. units files v w spelled) later file kept refl put_later here apart files_put rises step u (λ q k. ap (λ (ms : List Bool). get_or ms q false) (sym m) ∙ h q k)
+
+    places_at : (u : List ℕ) → place u later ≡ place u files
+    places_at u = still_placed files later file at project put_later e u
+
+    later_project : IsProject later
+    later_project = subst IsProject (sym put_later) (rises files file project)
+
+    pub sound_at : IsSound later kept next
+    sound_at = sound_behind files later file.name kept flags marks next are places_at left same_at
+
+    pub full_at : (p : ℕ) → p < length later → get_or marks p false ≡ false → IsFullAt later kept next p
+    full_at = full_behind files later file.name kept flags marks next are places_at left same_at later_project (λ u. step later kept u later_project)

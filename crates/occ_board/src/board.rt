@@ -5,9 +5,7 @@ ghost use Rattle.occ_board.specs.declared.entry.Edit.TheVariants as an_edit;
 ghost use Rattle.occ_board.specs.declared.entry.EditFault.TheVariants as fault;
 ghost use Rattle.occ_board.specs.declared.entry.EditFault.{EditFault as AFault};
 ghost use Rattle.occ_board.specs.declared.verdict.Verdict.TheVariants as verdicts;
-ghost use Rattle.occ_board.specs.inside.Flagged.{AreFlags};
 ghost use Rattle.occ_board.specs.inside.Ready.{HasJob, IsAcceptable};
-ghost use Rattle.occ_board.specs.inside.Touched.{IsBehind};
 ghost use Rattle.occ_report.specs.Checks.{input};
 ghost use Rattle.occ_units.specs.Spelled.{AreSpelled};
 ghost use Rattle.std.specs.Option.{is_some, option_map};
@@ -22,7 +20,7 @@ use super::kept::Kept;
 use super::laws::{done_law, height_law, ready_law};
 use super::report::{count_pending, rows};
 use super::taking::{job_now, next_unit};
-use super::touching::flags_behind;
+use super::touching::renew;
 use super::{Edit, EditFault, Entry, Row, Verdict};
 use occ_base::{FileName, Items, Shared};
 use occ_check::{Job, Outcome};
@@ -146,7 +144,7 @@ impl Board {
         Ok(self.accept(alloc, session, edit)?)
     }
 
-    /// Makes an edit that is not refused. All that takes memory comes before the first change.
+    /// Makes an edit that is not refused. All that takes memory comes before the first change but that of the journal.
     fn accept(&mut self, alloc: Global, session: u32, edit: Edit) -> Result<u32, AllocError>
         requires { why_refused self.old.journal edit ≡ None }
         ensures number { IfOk result (λ number. number ≡ edit_number self.old) }
@@ -156,33 +154,22 @@ impl Board {
         put_law();
         let number = self.journal.len() as u32 + 1;
         let name = edit.name();
-        let graph = self.graph.with(alloc, name, number, edit.shared()?)?;
-        let flags = self.flags_behind(alloc, &graph, name)?;
+        let source = edit.shared()?;
         self.journal.push(Entry { session, edit })?;
-        self.graph = graph;
-        self.flags = flags;
-        Ok(number)
-    }
-
-    /// The flags of the units that are done by this graph, which is of the project behind the edit of a file.
-    fn flags_behind(
-        &self,
-        alloc: Global,
-        graph: &Graph,
-        edited: FileName,
-    ) -> Result<Items<bool>, AllocError>
-        requires { IsBehind (files_of self.now) graph.now edited }
-        ensures len { IfOk result (λ flags. length flags ≡ length graph.now) }
-        ensures flags { IfOk result (λ flags. AreFlags graph.now self.now.kept flags) }
-    {
-        flags_behind(
+        let renewed = renew(
             alloc,
-            &self.graph,
-            graph,
+            &mut self.graph,
             &self.kept,
-            self.flags.as_slice(),
-            edited,
-        )
+            &mut self.flags,
+            name,
+            number,
+            source,
+        );
+        if let Err(refused) = renewed {
+            self.journal.pop();
+            return Err(refused);
+        }
+        Ok(number)
     }
 
     /// Hands out the job of the least unit that is ready and whose present job is not handed out, if there is one. There is

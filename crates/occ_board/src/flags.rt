@@ -22,11 +22,7 @@ use std::alloc::{AllocError, Global};
 pub fn no_flags(alloc: Global, count: usize) -> Result<Items<bool>, AllocError>
     ensures { IfOk result (λ flags. flags ≡ replicate count false) }
 {
-    let mut flags = Items::new(alloc);
-    for _ in 0..count {
-        flags.push(false)?;
-    }
-    Ok(flags)
+    Ok(Items::from_vec(vec![in alloc; false; count]?))
 }
 
 /// Whether the flag at a place is set.

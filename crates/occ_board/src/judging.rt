@@ -13,7 +13,7 @@ use super::Verdict;
 use super::comparing::Same;
 use super::flags::has_flag;
 use super::kept::Kept;
-use super::present::{hint_of, is_read_now, is_unit_now};
+use super::present::{is_read_now, is_unit_now};
 use occ_base::FileName;
 use occ_check::{Job, UsedUnit};
 use occ_project::Read;
@@ -128,7 +128,7 @@ pub fn judge(graph: &Graph, accepted: usize, kept: &Kept, flags: &[bool], job: &
     ensures value { result ≡ verdict_of graph.now accepted kept.now job.now }
     ensures acceptable { result ≡ verdict.Accepted → IsAcceptable graph.now kept.now job.now }
 {
-    let hint = hint_of(graph, job.unit());
+    let hint = graph.project().place_or_first(job.unit());
     match judge_reads(graph.project(), accepted, hint, job.reads().as_slice()) {
         Some(verdict) => verdict,
         None => judge_now(graph, kept, flags, hint, job),

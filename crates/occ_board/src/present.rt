@@ -18,14 +18,6 @@ use occ_report::laws::input_law;
 use occ_types::Interface;
 use occ_units::{Graph, Project, Standing};
 
-/// Where a unit is looked for first. It promises nothing: a hint that is wrong costs time.
-pub fn hint_of(graph: &Graph, unit: FileName) -> usize {
-    match graph.project().place(unit) {
-        Some(place) => place,
-        None => 0,
-    }
-}
-
 /// Whether a read is of the file of its name, which is looked for at a place first, as that is at present.
 pub fn is_read_now(project: &Project, hint: usize, read: &Read) -> bool
     ensures value { result ≡ is_as_read read.now (file_of project.now read.now.name) }

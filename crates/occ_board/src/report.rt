@@ -139,7 +139,7 @@ pub fn rows(
 pub fn is_pending(file: &Read, done: bool) -> bool
     ensures { result ≡ (is_open_unit file.now && not done) }
 {
-    file.name.is_unit() && file.source.is_some() && !done
+    !done && file.source.is_some() && file.name.is_unit()
 }
 
 /// One more, if it is counted.

@@ -11,7 +11,7 @@ ghost use Rattle.std.specs.Prelude.{◌≡◌, IfOk, IfSome, Some, map, slice_ge
 use super::flags::{are_rests_flagged, is_flagged};
 use super::kept::Kept;
 use super::laws::kept_law;
-use super::present::{hint_of, is_present};
+use super::present::is_present;
 use super::report::is_pending;
 use occ_base::{FileName, Items, Shared};
 use occ_check::{Job, Used, UsedUnit};
@@ -75,7 +75,7 @@ pub fn job_now(alloc: Global, graph: &Graph, kept: &Kept, unit: FileName) -> Res
     requires { HasJob graph.now kept.now unit }
     ensures { IfOk result (λ job. job ≡ input graph.now unit) }
 {
-    let hint = hint_of(graph, unit);
+    let hint = graph.project().place_or_first(unit);
     let reads = graph.project().reads(alloc, graph.reads_near(hint, &unit))?;
     let used = units_now(alloc, graph, kept, hint, unit, graph.uses_near(hint, unit))?;
     job_law();

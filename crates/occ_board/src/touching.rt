@@ -1,24 +1,26 @@
-ghost use Rattle.occ_base.specs.FileName.{is_unit};
 ghost use Rattle.occ_board.specs.Done.{done};
 ghost use Rattle.occ_board.specs.Edits.{IsApart};
 ghost use Rattle.occ_board.specs.inside.Flagged.{AreFlags, IsFullAt, IsSound, unflagged};
-ghost use Rattle.occ_board.specs.inside.Touched.{IsBehind, IsClosed, is_root};
+ghost use Rattle.occ_board.specs.inside.Touched.{IsClosed};
 ghost use Rattle.occ_check.specs.Input.{Input};
-ghost use Rattle.occ_graph.specs.Graph.{has_edge};
+ghost use Rattle.occ_graph.specs.Graph.{has_edge, is_among as is_place};
+ghost use Rattle.occ_project.specs.Reads.{place as place_of};
 ghost use Rattle.occ_project.specs.declared.reads.Read.{Read};
-ghost use Rattle.occ_units.specs.Along.{name_at};
-ghost use Rattle.occ_units.specs.Places.{graph_of};
+ghost use Rattle.occ_units.specs.Places.{graph_of, readers_at};
 ghost use Rattle.occ_units.specs.Project.{IsProject, put};
-ghost use Rattle.std.specs.Prelude.{◌≡◌, ◌<◌, ◌≤◌, ◌&&◌, IfOk, IsTrue, List, Some, false, get_or, length, not, slice_get, true, ℕ};
+ghost use Rattle.occ_units.specs.Spelled.{AreSpelled};
+ghost use Rattle.std.specs.Prelude.{◌≡◌, ◌<◌, ◌≤◌, ◌&&◌, IfOk, List, OnErr, OnOk, Some, false, get_or, length, not, true, ℕ};
 
 use super::flags::{is_flagged, no_flags, settle, spread};
 use super::kept::Kept;
 use super::laws::{done_law, height_law};
-use occ_base::{FileName, Items};
-use occ_project::Read;
+use occ_base::{FileName, Items, Shared};
+use occ_forms::Source;
 use occ_report::Checked;
 use occ_units::Graph;
-use occ_units::laws::{along_law, circle_law, put_law, reads_law, users_law};
+use occ_units::laws::{
+    along_law, circle_law, names_law, put_law, readers_law, reads_law, users_law,
+};
 use std::alloc::{AllocError, Global};
 
 /// An edit of a file does not change whether a unit is done, if the file is a read neither of the unit nor of a unit that it
@@ -57,55 +59,52 @@ fn touch(graph: &Graph, touched: &mut Items<bool>, place: usize)
     }
 }
 
-/// The same, if it is to be.
-fn touch_if(graph: &Graph, touched: &mut Items<bool>, place: usize, is_one: bool)
+/// The same where what uses a marked one is marked, which is so behind it.
+fn touch_also(graph: &Graph, touched: &mut Items<bool>, place: usize)
     requires within { place < length graph.now }
     requires len { length touched.old ≡ length graph.now }
     requires closed { IsClosed (graph_of graph.now) touched.old }
     ensures len { length touched.new ≡ length graph.now }
     ensures more { (p : ℕ) → get_or touched.old p false ≡ true → get_or touched.new p false ≡ true }
-    ensures here { IsTrue is_one → get_or touched.new place false ≡ true }
+    ensures here { get_or touched.new place false ≡ true }
     ensures closed { IsClosed (graph_of graph.now) touched.new }
 {
-    if !is_one {
-        return;
-    }
     touch(graph, touched, place);
 }
 
-/// Whether the file at a place is no unit, or reads the one that is edited.
-fn is_touched(graph: &Graph, place: usize, file: &Read, edited: FileName) -> bool
-    requires { slice_get graph.now place ≡ Some file.now }
-    ensures { result ≡ is_root graph.now edited place }
-{
-    !file.name.is_unit() || graph.does_read(place, edited)
-}
-
-/// Marks of the files that an edit of one may concern: what is no unit, and the units that read it or reach one that does.
-fn touched_by(alloc: Global, graph: &Graph, edited: FileName) -> Result<Items<bool>, AllocError>
+/// Marks of the files that an edit of the one at a place may concern: that file, the units that read it, and those that reach
+/// one of these.
+fn touched_by(
+    alloc: Global,
+    graph: &Graph,
+    place: usize,
+    readers: &[usize],
+) -> Result<Items<bool>, AllocError>
+    requires within { place < length graph.now }
+    requires readers { readers.now ≡ readers_at graph.now place }
     ensures len { IfOk result (λ touched. length touched ≡ length graph.now) }
-    ensures roots { IfOk result (λ touched. (p : ℕ) → p < length graph.now → is_root graph.now edited p ≡ true → get_or touched p false ≡ true) }
+    ensures here { IfOk result (λ touched. get_or touched place false ≡ true) }
+    ensures readers { IfOk result (λ touched. (p : ℕ) → is_place readers.now p ≡ true → get_or touched p false ≡ true) }
     ensures closed { IfOk result (λ touched. IsClosed (graph_of graph.now) touched) }
 {
-    let files = graph.project().files();
-    let mut touched = no_flags(alloc, files.len())?;
-    for (place, file) in files.iter().enumerate() {
-        let is_one = is_touched(graph, place, file, edited);
-        touch_if(graph, &mut touched, place, is_one);
+    readers_law();
+    let mut touched = no_flags(alloc, graph.project().files().len())?;
+    touch_also(graph, &mut touched, place);
+    for reader in readers {
+        touch_also(graph, &mut touched, *reader);
     }
     Ok(touched)
 }
 
-/// The flags but those of marked units.
-fn flags_but(alloc: Global, flags: &[bool], touched: &[bool]) -> Result<Items<bool>, AllocError>
-    ensures len { IfOk result (λ left. length left ≡ length flags.now) }
-    ensures flags { IfOk result (λ left. (p : ℕ) → get_or left p false ≡ (get_or flags.now p false && not (get_or touched.now p false))) }
+/// Takes their flags from marked units.
+fn unflag(flags: &mut Items<bool>, touched: &[bool])
+    ensures len { length flags.new ≡ length flags.old }
+    ensures flags { (p : ℕ) → get_or flags.new p false ≡ (get_or flags.old p false && not (get_or touched.now p false)) }
 {
-    let mut left = Items::new(alloc);
-    for (place, flag) in flags.iter().enumerate() {
-        left.push(*flag && !is_flagged(touched, place))?;
+    for place in 0..flags.len() {
+        let stays = is_flagged(flags.as_slice(), place) && !is_flagged(touched, place);
+        flags.set(place, stays);
     }
-    Ok(left)
 }
 
 /// Sets the flag of the unit at a place, if it is marked and done, and then so of each that rests on it.
@@ -151,32 +150,84 @@ fn all_flags(alloc: Global, graph: &Graph, kept: &Kept) -> Result<Items<bool>, A
     Ok(flags)
 }
 
-/// The flags of all units that are done behind the edit of a file, where these were those of the units that were done
-/// before it. If the file was in the project, those of the units that the edit does not concern stay.
-pub fn flags_behind(
+/// The graph and the flags behind the edit of a file that was not there.
+fn renew_all(
     alloc: Global,
-    before: &Graph,
-    graph: &Graph,
+    graph: &mut Graph,
     kept: &Kept,
-    flags: &[bool],
-    edited: FileName,
-) -> Result<Items<bool>, AllocError>
-    requires behind { IsBehind before.now graph.now edited }
-    requires len { length flags.now ≡ length before.now }
-    requires flags { AreFlags before.now kept.now flags.now }
-    ensures len { IfOk result (λ next. length next ≡ length graph.now) }
-    ensures flags { IfOk result (λ next. AreFlags graph.now kept.now next) }
+    flags: &mut Items<bool>,
+    name: FileName,
+    revision: u32,
+    source: Option<Shared<Source>>,
+) -> Result<(), AllocError>
+    ensures graph { OnOk result (graph.new ≡ put graph.old (record { name = name; revision = revision; source = source })) }
+    ensures len { OnOk result (length flags.new ≡ length graph.new) }
+    ensures flags { OnOk result (AreFlags graph.new kept.now flags.new) }
+    ensures err { OnErr result ((graph.new ≡ graph.old) × (flags.new ≡ flags.old)) }
 {
-    let _files = before.project().files();
+    let next = graph.with(alloc, name, revision, source)?;
+    let done = all_flags(alloc, &next, kept)?;
+    *graph = next;
+    *flags = done;
+    Ok(())
+}
+
+/// The graph and the flags behind the edit of the file at a place. What the edit does not concern stays where it is.
+fn renew_at(
+    alloc: Global,
+    graph: &mut Graph,
+    kept: &Kept,
+    flags: &mut Items<bool>,
+    place: usize,
+    name: FileName,
+    revision: u32,
+    source: Option<Shared<Source>>,
+) -> Result<(), AllocError>
+    requires place { place_of name graph.old ≡ Some place }
+    requires spelled { AreSpelled graph.old }
+    requires len { length flags.old ≡ length graph.old }
+    requires flags { AreFlags graph.old kept.now flags.old }
+    ensures graph { OnOk result (graph.new ≡ put graph.old (record { name = name; revision = revision; source = source })) }
+    ensures len { OnOk result (length flags.new ≡ length graph.new) }
+    ensures flags { OnOk result (AreFlags graph.new kept.now flags.new) }
+    ensures err { OnErr result ((graph.new ≡ graph.old) × (flags.new ≡ flags.old)) }
+{
+    let _files = graph.project().files();
     apart_law();
     put_law();
     done_law();
-    if before.project().place(edited).is_none() {
-        return all_flags(alloc, graph, kept);
-    }
-    let touched = touched_by(alloc, before, edited)?;
+    names_law();
+    readers_law();
+    let readers = graph.readers(alloc, place)?;
+    let touched = touched_by(alloc, graph, place, readers.as_slice())?;
+    graph.set(alloc, place, readers.as_slice(), name, revision, source)?;
     let marks = touched.as_slice();
-    let mut next = flags_but(alloc, flags, marks)?;
-    resettle(graph, kept, &mut next, marks);
-    Ok(next)
+    unflag(flags, marks);
+    resettle(graph, kept, flags, marks);
+    Ok(())
+}
+
+/// Gives a file this text, or takes it away, by the edit of that number. Where these were the flags of the units that are
+/// done, they are so behind it.
+pub fn renew(
+    alloc: Global,
+    graph: &mut Graph,
+    kept: &Kept,
+    flags: &mut Items<bool>,
+    name: FileName,
+    revision: u32,
+    source: Option<Shared<Source>>,
+) -> Result<(), AllocError>
+    requires spelled { AreSpelled graph.old }
+    requires len { length flags.old ≡ length graph.old }
+    requires flags { AreFlags graph.old kept.now flags.old }
+    ensures graph { OnOk result (graph.new ≡ put graph.old (record { name = name; revision = revision; source = source })) }
+    ensures len { OnOk result (length flags.new ≡ length graph.new) }
+    ensures flags { OnOk result (AreFlags graph.new kept.now flags.new) }
+    ensures err { OnErr result ((graph.new ≡ graph.old) × (flags.new ≡ flags.old)) }
+{
+    match graph.project().place(name) {
+        Some(place) => renew_at(alloc, graph, kept, flags, place, name, revision, source),
+        None => renew_all(alloc, graph, kept, flags, name, revision, source),
+    }
 }

@@ -60,10 +60,14 @@ fn rows(
 }
 
 /// What tells of the edges of a graph whether they stand in circles.
-fn find_circles(alloc: Global, graph: &[Items<usize>]) -> Result<Circles, AllocError>
+fn find_circles(
+    alloc: Global,
+    graph: &[Items<usize>],
+    sources: &[Items<usize>],
+) -> Result<Circles, AllocError>
     ensures { IfOk result (λ circles. IsCircles graph.now circles) }
 {
-    let order = in_order(alloc, graph)?;
+    let order = in_order(alloc, graph, sources)?;
     let ranks = find_ranks(alloc, graph, order.as_slice())?;
     let rows = rows(alloc, graph, ranks.as_slice())?;
     Ok(Circles { ranks, rows })
@@ -137,11 +141,16 @@ fn all_rests_of(
 }
 
 /// For each node of a graph those that it rests on: those to which edges lead from it that stand in no circle. It goes
-/// once along the edges that reach no circle, and once from each other node along those that do.
-pub fn find_rests(alloc: Global, graph: &[Items<usize>]) -> Result<Items<Items<usize>>, AllocError>
+/// once along the edges that reach no circle, and once from each other node along those that do. The graph turned round serves
+/// for the order of this alone: sources that are wrong cost time.
+pub fn find_rests(
+    alloc: Global,
+    graph: &[Items<usize>],
+    sources: &[Items<usize>],
+) -> Result<Items<Items<usize>>, AllocError>
     requires { IsWhole graph.now }
     ensures { IfOk result (λ rests. rests ≡ all_rests graph.now) }
 {
-    let circles = find_circles(alloc, graph)?;
+    let circles = find_circles(alloc, graph, sources)?;
     all_rests_of(alloc, graph, &circles)
 }

@@ -1,11 +1,14 @@
-use super::sources::find_sources;
 use sqlite_items::Items;
 use std::alloc::{AllocError, Global};
 
 /// The nodes in an order in which each that reaches no circle stands behind all to which edges lead from it; nodes that
-/// reach a circle are left out. It promises nothing: what it leaves out or puts wrongly costs time.
-pub fn in_order(alloc: Global, graph: &[Items<usize>]) -> Result<Vec<usize>, AllocError> {
-    let sources = find_sources(alloc, graph)?;
+/// reach a circle are left out. The sources are those of the graph turned round. It promises nothing: what it leaves out or puts
+/// wrongly costs time.
+pub fn in_order(
+    alloc: Global,
+    graph: &[Items<usize>],
+    sources: &[Items<usize>],
+) -> Result<Vec<usize>, AllocError> {
     let mut left = Vec::new(alloc);
     let mut order = Vec::new(alloc);
     for (node, targets) in graph.iter().enumerate() {

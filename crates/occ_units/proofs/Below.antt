@@ -24,7 +24,7 @@ use Rattle.occ_units.proofs.Looks.{same_bytes}
 use Rattle.occ_units.proofs.Rising.{test_equal}
 
 -- the name at the place of a name is that name
-named_at : (files : List Read) (v : List ℕ) (q : ℕ) → place v files ≡ Some q → name_at files q ≡ v
+pub named_at : (files : List Read) (v : List ℕ) (q : ℕ) → place v files ≡ Some q → name_at files q ≡ v
 named_at files v q e =
     let there = file_at files v q e in
     ap (λ (o : Option Read). unwrap_or (option_map (λ (file : Read). file.name) o) []) there.1 ∙ there.2
@@ -35,7 +35,7 @@ get_some [] p d lt = absurd (omega (arith, lt))
 get_some (x ∷ files) zero d lt = refl
 get_some (x ∷ files) (suc p) d lt = get_some files p d (omega (arith, lt))
 
-placed_name : (files : List Read) (p : ℕ) → IsProject files → p < length files → place (name_at files p) files ≡ Some p
+pub placed_name : (files : List Read) (p : ℕ) → IsProject files → p < length files → place (name_at files p) files ≡ Some p
 placed_name files p s lt =
     let name = name_at files p in
     found_at name files p s lt (λ d. subst (λ (n : List ℕ). name_cmp n name ≡ Equal) (sym (get_some files p d lt)) (test_equal name name (same_bytes name)))

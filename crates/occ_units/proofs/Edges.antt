@@ -56,7 +56,7 @@ placed_user files u v h = by (place u files) refl where
 pub file_there : (files : List Read) (name : List ℕ) (p : ℕ) → place name files ≡ Some p → slice_get files p ≡ member files name
 file_there files name p e = sym (ap (option_and_then (slice_get files)) e) ∙ member_at name files
 
-slice_some : {X : Type 0} (xs : List X) (p : ℕ) → p < length xs → (x : X) × (slice_get xs p ≡ Some x)
+pub slice_some : {X : Type 0} (xs : List X) (p : ℕ) → p < length xs → (x : X) × (slice_get xs p ≡ Some x)
 slice_some [] p lt = absurd (omega (arith, lt))
 slice_some (x ∷ xs) zero lt = (x, refl)
 slice_some (x ∷ xs) (suc p) lt = slice_some xs p (omega (arith, lt))
@@ -75,7 +75,7 @@ same_place files u v p e f =
     sym a.2 ∙ ap (λ (r : Read). r.name) both ∙ b.2
 
 -- edges lead from a place to those of the units that the unit there uses
-get_map : {X Y : Type 0} (f : X → Y) (xs : List X) (p : ℕ) (x : X) (d : Y) → slice_get xs p ≡ Some x → get_or (map f xs) p d ≡ f x
+pub get_map : {X Y : Type 0} (f : X → Y) (xs : List X) (p : ℕ) (x : X) (d : Y) → slice_get xs p ≡ Some x → get_or (map f xs) p d ≡ f x
 get_map f [] p x d e = cc
 get_map f (y ∷ xs) zero x d e = let is : y ≡ x = cc in ap f is
 get_map f (y ∷ xs) (suc p) x d e = get_map f xs p x d e
@@ -93,7 +93,7 @@ or_true true c e = refl
 or_true false c e = e
 
 -- the place of a name among these is among their places
-among_places : (files : List Read) (names : List (List ℕ)) (name : List ℕ) (q : ℕ) → place name files ≡ Some q → is_among names name ≡ true → graph.is_among (places_of files names) q ≡ true
+pub among_places : (files : List Read) (names : List (List ℕ)) (name : List ℕ) (q : ℕ) → place name files ≡ Some q → is_among names name ≡ true → graph.is_among (places_of files names) q ≡ true
 among_places files [] name q e h = cc
 among_places files (n ∷ names) name q e h = by (bytes_eq n name) (place n files) refl refl (among_places files names name q e) h where
   by : (b : Bool) (o : Option ℕ) → bytes_eq n name ≡ b → place n files ≡ o → (is_among names name ≡ true → graph.is_among (places_of files names) q ≡ true) → (b || is_among names name) ≡ true

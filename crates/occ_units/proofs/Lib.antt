@@ -12,3 +12,4 @@ pub mod Sharing
 pub mod Users
 pub mod Reading
 pub mod Near
+pub mod Renewed

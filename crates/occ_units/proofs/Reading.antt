@@ -20,7 +20,7 @@ mapped_none f [] p e lt = omega (arith, lt)
 mapped_none f (x ∷ xs) zero e lt = cc
 mapped_none f (x ∷ xs) (suc p) e lt = mapped_none f xs p e (omega (arith, lt))
 
-read_by : (b : Bool) (e : Expansion) → reads_in (cond b (Some e) None) ≡ cond b e.reads []
+pub read_by : (b : Bool) (e : Expansion) → reads_in (cond b (Some e) None) ≡ cond b e.reads []
 read_by true e = refl
 read_by false e = refl
 

@@ -146,9 +146,9 @@ linked files facts edges links f e r u =
     record { rests_are = r ∙ ap all_rests are; users_are = λ p lt. u p (omega (arith, long, lt)) ∙ ap (λ (g : Graph). sources g p) are }
 
 -- is the same where the edges are
-pub links_stay : (now files later : List Read) (facts lent found : List Facts) (kept : Option Links) (links : Links) (edited : List ℕ) → files ≡ now → IsGraph files facts kept → lent ≡ facts → found ≡ all_facts later
+pub links_stay : (now files later : List Read) (facts lent found : List Facts) (kept : Option Links) (readers : Option Graph) (links : Links) (edited : List ℕ) → files ≡ now → IsGraph files facts kept readers → lent ≡ facts → found ≡ all_facts later
     → map (λ (f : Facts). f.uses) lent ≡ map (λ (f : Facts). f.uses) found → kept ≡ Some links → is_some (place edited files) ≡ true → (is_some (place edited now) ≡ true → (name : List ℕ) → place name later ≡ place name now) → IsLinks later links
-links_stay now files later facts lent found kept links edited view graph l f uses k here same =
+links_stay now files later facts lent found kept readers links edited view graph l f uses k here same =
     let are : IsLinks files links = subst (IsLinks files) (ap (λ (o : Option Links). unwrap_or o no_links) k) graph.links_are in
     let stays : graph_of files ≡ graph_of later = graph_stays files later lent found (l ∙ graph.facts_are) f uses (λ name. same (ap (λ (fs : List Read). is_some (place edited fs)) (sym view) ∙ here) name ∙ ap (place name) (sym view)) in
     let long : length files ≡ length later = sym (graph_long files) ∙ ap (length {A = List ℕ}) stays ∙ graph_long later in

@@ -11,7 +11,7 @@ use Rattle.occ_project.specs.Reads.{place}
 use Rattle.occ_units.specs.declared.standing.Standing.{Standing}
 use Rattle.occ_units.specs.declared.standing.Standing.TheVariants as standing
 use Rattle.occ_units.specs.Project.{file_of}
-use Rattle.occ_units.specs.Units.{used_units}
+use Rattle.occ_units.specs.Units.{read_names, used_units}
 
 -- the places of the files of these names
 abbrev pub places_of : List Read → List (List ℕ) → List ℕ
@@ -24,6 +24,14 @@ graph_of files = map (λ file. places_of files (used_units files file.name)) fil
 -- the places of the units that use the one at a place, in order
 abbrev pub users_at : List Read → ℕ → List ℕ
 users_at files p = sources (graph_of files) p
+
+-- an edge from each unit to each file that its expansion looks up and that is in the project
+abbrev pub read_graph : List Read → Graph
+read_graph files = map (λ file. places_of files (read_names files file.name)) files
+
+-- the places of the units that read the file at a place, in order
+abbrev pub readers_at : List Read → ℕ → List ℕ
+readers_at files p = sources (read_graph files) p
 
 -- an edge between these places stands in a circle
 abbrev pub circular_at : Graph → Option ℕ → Option ℕ → Bool

@@ -108,7 +108,7 @@ fn is_same_name(a: FileName, b: FileName) -> bool
 }
 
 /// Whether two lists of names are one.
-fn are_same_names(a: &[FileName], b: &[FileName]) -> bool
+pub fn are_same_names(a: &[FileName], b: &[FileName]) -> bool
     ensures { IsTrue result → a.now ≡ b.now }
 {
     if a.len() != b.len() {

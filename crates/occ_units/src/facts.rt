@@ -27,7 +27,7 @@ pub struct Facts {
 }
 
 /// The names that the expansion of a file looks up, if it has one.
-fn reads(facts: &Facts) -> &[FileName]
+pub fn reads(facts: &Facts) -> &[FileName]
     ensures { result.now ≡ reads_in facts.now.expanded }
 {
     match &facts.expanded {
@@ -135,6 +135,21 @@ pub fn edges(
     for (place, facts) in all.iter().enumerate() {
         let hints = hints_at(before, new, place);
         edges.push(places_of(alloc, project, hints, facts.get().uses.as_slice())?)?;
+    }
+    Ok(edges)
+}
+
+/// An edge from each unit to each file that its expansion looks up and that is in the project.
+pub fn read_edges(
+    alloc: Global,
+    project: &Project,
+    all: &[Shared<Facts>],
+) -> Result<Items<Items<usize>>, AllocError>
+    ensures { IfOk result (λ edges. edges ≡ map (λ facts. the_places_of project.now (reads_in facts.expanded)) all.now) }
+{
+    let mut edges = Items::new(alloc);
+    for (place, facts) in all.iter().enumerate() {
+        edges.push(places_of(alloc, project, &[place], reads(facts.get()))?)?;
     }
     Ok(edges)
 }

@@ -1,21 +1,23 @@
 ghost use Rattle.occ_graph.specs.Graph.{all_rests, is_among as is_place, rests as rests_in};
 ghost use Rattle.occ_project.specs.Entries.{is_among};
-ghost use Rattle.occ_project.specs.Reads.{place};
+ghost use Rattle.occ_project.specs.Reads.{place, place as first_place};
 ghost use Rattle.occ_units.specs.Along.{name_at};
-ghost use Rattle.occ_units.specs.Places.{graph_of, is_circular as uses_in_circle, standing_of, users_at};
+ghost use Rattle.occ_units.specs.Places.{graph_of, is_circular as uses_in_circle, readers_at, standing_of, users_at};
 ghost use Rattle.occ_units.specs.Project.{put};
 ghost use Rattle.occ_units.specs.Units.{read_names, used_units};
 ghost use Rattle.occ_units.specs.inside.Keeping.{IsLinks, all_facts as all_facts_of, facts_of as the_facts_of};
 ghost use Rattle.std.specs.Option.{is_some, option_and_then, option_copied, option_map};
-ghost use Rattle.std.specs.Prelude.{[], get_or, IfOk, length, List, slice_get, true, ℕ, ◌≡◌, ◌<◌};
+ghost use Rattle.std.specs.Prelude.{[], get_or, IfOk, OnErr, OnOk, Some, length, List, slice_get, true, ℕ, ◌≡◌, ◌<◌};
 
 use super::behind::{all_facts_behind, use_same};
 use super::facts::{Facts, all_facts, does_read, is_name_among};
 use super::links::{Links, links_of};
+use super::project::share;
+use super::renewing::{find_readers, renew};
 use super::{Project, Standing};
 use occ_base::{FileName, Items, Shared};
 use occ_forms::Source;
-use occ_project::Expanded;
+use occ_project::{Expanded, Read};
 use std::alloc::{AllocError, Global};
 use std::marker::Model;
 use std::slice;
@@ -40,14 +42,6 @@ fn facts_at(all: &[Shared<Facts>], place: usize) -> Option<&Facts>
     }
 }
 
-/// The place of the file of that name, or the first.
-fn place_or_first(project: &Project, name: FileName) -> usize {
-    match project.place(name) {
-        Some(place) => place,
-        None => 0,
-    }
-}
-
 /// Whether the place is one of these.
 fn is_place_among(places: &[usize], place: usize) -> bool
     ensures { result ≡ is_place places.now place }
@@ -64,6 +58,9 @@ pub struct Graph {
     facts: Items<Shared<Facts>>,
     /// What rests on what and what uses what; nothing where there are no files.
     links: Option<Shared<Links>>,
+    /// Of each file the places of those that read it, once they were asked for; behind edits that leave all reads as they
+    /// were they are the same.
+    readers: Option<Items<Items<usize>>>,
 }
 
 impl Model for Graph {
@@ -83,7 +80,7 @@ impl Model for Graph {
 
     ghost view = { λ graph. graph.project };
 
-    ghost invariant = { λ graph. IsGraph graph.project graph.facts graph.links };
+    ghost invariant = { λ graph. IsGraph graph.project graph.facts graph.links graph.readers };
 }
 
 /// The graph of a project, which it keeps.
@@ -96,6 +93,7 @@ fn keep(alloc: Global, project: Project) -> Result<Graph, AllocError>
         project,
         facts,
         links,
+        readers: None,
     })
 }
 
@@ -108,6 +106,7 @@ impl Graph {
             project: Project::new(alloc),
             facts: Items::new(alloc),
             links: None,
+            readers: None,
         }
     }
 
@@ -142,7 +141,60 @@ impl Graph {
             project,
             facts,
             links,
+            readers: None,
         })
+    }
+
+    /// The places of the units that read the file at a place, in order. The first time all are found.
+    pub fn readers(&mut self, alloc: Global, place: usize) -> Result<Items<usize>, AllocError>
+        requires { place < length self.old }
+        ensures same { self.new ≡ self.old }
+        ensures readers { IfOk result (λ readers. readers ≡ readers_at self.old place) }
+    {
+        if let Some(rows) = &self.readers {
+            return Items::from_slice(alloc, row(rows.as_slice(), place));
+        }
+        let rows = find_readers(alloc, &self.project, self.facts.as_slice())?;
+        let readers = Items::from_slice(alloc, row(rows.as_slice(), place))?;
+        self.readers = Some(rows);
+        Ok(readers)
+    }
+
+    /// Gives the file at a place, which is read by the units at these places, this text, or takes it away, by the edit of that
+    /// number. If all these read and use the same as before, all that is kept but what is known of them stays where it is.
+    pub fn set(
+        &mut self,
+        alloc: Global,
+        place: usize,
+        readers: &[usize],
+        name: FileName,
+        revision: u32,
+        source: Option<Shared<Source>>,
+    ) -> Result<(), AllocError>
+        requires place { first_place name self.old ≡ Some place }
+        requires readers { readers.now ≡ readers_at self.old place }
+        ensures ok { OnOk result (self.new ≡ put self.old (record { name = name; revision = revision; source = source })) }
+        ensures err { OnErr result (self.new ≡ self.old) }
+    {
+        let _files = self.project.files();
+        let file = Read {
+            name,
+            revision,
+            source,
+        };
+        let again = share(&file)?;
+        if renew(
+            alloc,
+            &mut self.project,
+            &mut self.facts,
+            place,
+            readers,
+            file,
+        )? {
+            return Ok(());
+        }
+        *self = self.with(alloc, name, revision, again.source)?;
+        Ok(())
     }
 
     /// What rests on what and uses what behind the edit of a file: the same as before, if no file is new and each uses the same units.
@@ -158,7 +210,7 @@ impl Graph {
         ensures { IfOk result (λ links. IsLinks project.now links) }
     {
         if self.project.place(edited).is_none() {
-            let new = place_or_first(project, edited);
+            let new = project.place_or_first(edited);
             return links_of(alloc, project, facts, self.all_edges(), new);
         }
         if !use_same(self.facts.as_slice(), facts) {

@@ -4,11 +4,11 @@ ghost use Rattle.occ_project.specs.Entries.{is_among};
 ghost use Rattle.occ_project.specs.Expansion.{expansion, not_given};
 ghost use Rattle.occ_project.specs.Reads.{open_lines};
 ghost use Rattle.occ_project.specs.declared.reads.Read.{Read};
-ghost use Rattle.occ_units.specs.Along.{IsLocal, along};
-ghost use Rattle.occ_units.specs.Places.{graph_of, is_circular, users_at};
+ghost use Rattle.occ_units.specs.Along.{IsLocal, along, name_at};
+ghost use Rattle.occ_units.specs.Places.{graph_of, is_circular, readers_at, users_at};
 ghost use Rattle.occ_units.specs.Project.{IsProject, file_of, put};
 ghost use Rattle.occ_units.specs.Spelled.{AreSpelled, IsSpelled};
-ghost use Rattle.occ_units.specs.Units.{IsCircular, Uses, unit_reads};
+ghost use Rattle.occ_units.specs.Units.{IsCircular, Uses, read_names, unit_reads};
 ghost use Rattle.std.specs.Prelude.{List, None, ℕ, cond, length, true, ◌≡◌, ◌<◌, ◌↔◌};
 ghost use Rattle.std.specs.Str.{bytes_eq};
 
@@ -56,6 +56,14 @@ pub fn users_law()
     ensures users { (files : List Read) (p q : ℕ) → (is_place (users_at files q) p ≡ true) ↔ (has_edge (graph_of files) p q ≡ true) }
     ensures rests { (files : List Read) (p q : ℕ) → is_place (rests (graph_of files) p) q ≡ true → is_place (users_at files q) p ≡ true }
     ensures within { (files : List Read) (p q : ℕ) → is_place (users_at files q) p ≡ true → p < length files }
+{
+    laws::sources_law();
+}
+
+/// The readers of the file at a place are the places of the files whose expansions look it up, and no others.
+pub fn readers_law()
+    ensures readers { (files : List Read) (p q : ℕ) → IsProject files → p < length files → q < length files → is_place (readers_at files q) p ≡ is_among (read_names files (name_at files p)) (name_at files q) }
+    ensures within { (files : List Read) (p q : ℕ) → is_place (readers_at files q) p ≡ true → p < length files }
 {
     laws::sources_law();
 }

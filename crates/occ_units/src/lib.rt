@@ -8,6 +8,7 @@ mod graph;
 pub mod laws;
 mod links;
 mod project;
+mod renewing;
 pub mod rows;
 mod standing;
 mod uses;

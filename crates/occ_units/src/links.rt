@@ -32,8 +32,8 @@ pub fn links_of(
 {
     let edges = edges(alloc, project, facts, before, new)?;
     let graph = edges.as_slice();
-    let rests = find_rests(alloc, graph)?;
     let users = find_sources(alloc, graph)?;
+    let rests = find_rests(alloc, graph, users.as_slice())?;
     Shared::new(
         alloc,
         Links {

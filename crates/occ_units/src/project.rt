@@ -1,8 +1,9 @@
 ghost use Rattle.occ_project.specs.Reads.{member, place as first_place};
+ghost use Rattle.occ_units.specs.Along.{name_at as the_name_at};
 ghost use Rattle.occ_units.specs.Project.{IsProject, file_of, put};
 ghost use Rattle.occ_units.specs.inside.Finding.{IsGap};
 ghost use Rattle.std.specs.Option.{option_copied};
-ghost use Rattle.std.specs.Prelude.{[], map, IfOk, IsTrue, MatchResult, None, OnErr, OnOk, Some, ◌≡◌};
+ghost use Rattle.std.specs.Prelude.{[], map, IfOk, IsTrue, MatchResult, None, OnErr, OnOk, Some, length, ◌≡◌, ◌<◌};
 
 use occ_base::{FileName, Items, Shared};
 use occ_forms::Source;
@@ -38,7 +39,7 @@ impl Model for Project {
 }
 
 /// A file with the same name, revision and text, which is shared.
-fn share(file: &Read) -> Result<Read, AllocError>
+pub fn share(file: &Read) -> Result<Read, AllocError>
     ensures { IfOk result (λ shared. shared ≡ file.now) }
 {
     let source = match &file.source {
@@ -95,6 +96,14 @@ impl Project {
         self.find(name).ok()
     }
 
+    /// The same, or the first place: where a file is looked for first. It promises nothing: a place that is wrong costs time.
+    pub fn place_or_first(&self, name: FileName) -> usize {
+        match self.place(name) {
+            Some(place) => place,
+            None => 0,
+        }
+    }
+
     /// Whether the file of that name stands at this place.
     pub(crate) fn is_at(&self, place: usize, name: FileName) -> bool
         ensures { IsTrue result → first_place name self.now ≡ Some place }
@@ -141,6 +150,22 @@ impl Project {
             }
             Err(at) => Ok(self.files.insert(at, file)?),
         }
+    }
+
+    /// The name of the file at a place.
+    pub(crate) fn name_at(&self, place: usize) -> FileName
+        requires { place < length self.now }
+        ensures { result ≡ the_name_at self.now place }
+    {
+        self.files[place].name
+    }
+
+    /// Puts a file in the place of the one of its name.
+    pub(crate) fn replace(&mut self, place: usize, file: Read)
+        requires { first_place file.name self.old ≡ Some place }
+        ensures { self.new ≡ put self.old file }
+    {
+        self.files[place] = file;
     }
 
     /// The file of that name.

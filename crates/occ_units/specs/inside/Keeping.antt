@@ -1,14 +1,14 @@
 -- What a graph keeps.
-use Rattle.std.specs.Prelude.{◌≡◌, ◌<◌, ℕ, false, List, [], cond, get_or, length, map, Option, Some, None}
+use Rattle.std.specs.Prelude.{◌≡◌, ◌<◌, ℕ, false, List, [], cond, get_or, length, map, slice_get, Option, Some, None}
 use Rattle.std.specs.Option.{unwrap_or}
 use Rattle.std.specs.Str.{bytes_eq}
 use Rattle.occ_base.specs.FileName.{is_unit}
-use Rattle.occ_graph.specs.Graph.{all_rests}
+use Rattle.occ_graph.specs.Graph.{Graph, all_rests}
 use Rattle.occ_project.specs.declared.reads.Read.{Read}
 use Rattle.occ_project.specs.Expansion.{Expansion, expansion}
 use Rattle.occ_units.specs.declared.facts.Facts.{Facts}
 use Rattle.occ_units.specs.declared.links.Links.{Links}
-use Rattle.occ_units.specs.Places.{graph_of, users_at}
+use Rattle.occ_units.specs.Places.{graph_of, read_graph, readers_at, users_at}
 use Rattle.occ_units.specs.Project.{file_of}
 use Rattle.occ_units.specs.Units.{used_units}
 
@@ -36,7 +36,29 @@ pub record IsLinks (files : List Read) (links : Links) : Type 0 where
 abbrev pub no_links : Links
 no_links = record { edges = []; rests = []; users = [] }
 
+-- of each file the places of those that read it, if they were asked for
+abbrev pub AreReaders : List Read → Option Graph → Type 0
+AreReaders files None = Unit {0}
+AreReaders files (Some rows) = (p : ℕ) → p < length files → get_or rows p [] ≡ readers_at files p
+
 -- without files there are no links
-pub record IsGraph (files : List Read) (facts : List Facts) (links : Option Links) : Type 0 where
+pub record IsGraph (files : List Read) (facts : List Facts) (links : Option Links) (readers : Option Graph) : Type 0 where
   pub facts_are : facts ≡ all_facts files
   pub links_are : IsLinks files (unwrap_or links no_links)
+  pub readers_are : AreReaders files readers
+
+-- what is known of a file reads and uses what it did before
+abbrev pub IsAsBefore : Option Facts → Option Facts → Type 0
+IsAsBefore None now = ⊥
+IsAsBefore (Some before) None = ⊥
+IsAsBefore (Some before) (Some now) = (reads_in before.expanded ≡ reads_in now.expanded) × (before.uses ≡ now.uses)
+
+-- so do the files at these places, by what was found of them
+abbrev pub AreAsBefore : List Facts → List ℕ → List Facts → Type 0
+AreAsBefore facts places found = (i : ℕ) → i < length places → IsAsBefore (slice_get facts (get_or places i 0)) (slice_get found i)
+
+-- all read and use what they did before
+pub record IsRenewed (files later : List Read) : Type 0 where
+  pub len : length later ≡ length files
+  pub graph : graph_of later ≡ graph_of files
+  pub reads : read_graph later ≡ read_graph files

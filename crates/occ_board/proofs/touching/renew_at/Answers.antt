@@ -1,0 +1,43 @@
+use Rattle.std.proofs.Common.{◌≡◌, ◌∙◌, ◌<◌, Bool, List, ap, length, subst, sym}
+use Rattle.occ_board.proofs.Marked.{full_at, long_at, sound_at}
+use Rattle.occ_board.proofs.touching.renew_at.Goals as goal
+use Rattle.occ_project.specs.declared.reads.Read.{Read}
+use Rattle.occ_units.proofs.Finding.{place_within}
+use Rattle.occ_units.specs.Project.{IsProject}
+
+pub readers-requires : goal.readers-requires
+readers-requires c = place_within c.args.name c.args.graph.now c.args.place c.requires.place
+
+pub touched_by-requires-clause-within : goal.touched_by-requires-clause-within
+touched_by-requires-clause-within c = subst (λ (fs : List Read). c.args.place < length fs) (sym c.in_ok-readers.ensures.same) (place_within c.args.name c.args.graph.now c.args.place c.requires.place)
+
+pub resettle-requires-clause-len : goal.resettle-requires-clause-len
+resettle-requires-clause-len c =
+    let file : Read = record { name = c.args.name; revision = c.args.revision; source = c.args.source } in
+    let project : IsProject c.args.graph.now = subst IsProject c.project.ensures c.files-files.ensures.in_order in
+    c.unflag.ensures.len ∙ c.requires.len ∙ sym (long_at c.args.graph.now c.readers.new.self c.set.new.self file c.args.place project c.in_ok-readers.ensures.same c.in_ok-set.ensures.ok c.requires.place)
+
+pub resettle-requires-clause-marks : goal.resettle-requires-clause-marks
+resettle-requires-clause-marks c =
+    let file : Read = record { name = c.args.name; revision = c.args.revision; source = c.args.source } in
+    let project : IsProject c.args.graph.now = subst IsProject c.project.ensures c.files-files.ensures.in_order in
+    ap (length {A = Bool}) c.as_slice-marks.ensures ∙ c.in_ok-touched.ensures.len ∙ ap (length {A = Read}) c.in_ok-readers.ensures.same
+    ∙ sym (long_at c.args.graph.now c.readers.new.self c.set.new.self file c.args.place project c.in_ok-readers.ensures.same c.in_ok-set.ensures.ok c.requires.place)
+
+pub resettle-requires-clause-sound : goal.resettle-requires-clause-sound
+resettle-requires-clause-sound c =
+    let file : Read = record { name = c.args.name; revision = c.args.revision; source = c.args.source } in
+    let project : IsProject c.args.graph.now = subst IsProject c.project.ensures c.files-files.ensures.in_order in
+    sound_at c.args.graph.now c.readers.new.self c.set.new.self file c.args.place project c.in_ok-readers.ensures.same c.in_ok-set.ensures.ok c.requires.place
+    c.args.kept.now c.in_ok-readers.readers c.as_slice.result.now c.in_ok-touched.touched c.as_slice-marks.result.now c.args.flags.now c.unflag.new.flags
+    c.in_ok-readers.ensures.readers c.as_slice.ensures c.as_slice-marks.ensures c.requires.flags c.in_ok-touched.ensures.here c.in_ok-touched.ensures.readers c.in_ok-touched.ensures.closed c.unflag.ensures.flags
+    c.readers_law.ensures.readers c.requires.spelled c.names_law.ensures c.apart_law.ensures c.put_law.ensures.files c.put_law.ensures.in_order c.done_law.ensures.done
+
+pub resettle-requires-clause-full : goal.resettle-requires-clause-full
+resettle-requires-clause-full c =
+    let file : Read = record { name = c.args.name; revision = c.args.revision; source = c.args.source } in
+    let project : IsProject c.args.graph.now = subst IsProject c.project.ensures c.files-files.ensures.in_order in
+    full_at c.args.graph.now c.readers.new.self c.set.new.self file c.args.place project c.in_ok-readers.ensures.same c.in_ok-set.ensures.ok c.requires.place
+    c.args.kept.now c.in_ok-readers.readers c.as_slice.result.now c.in_ok-touched.touched c.as_slice-marks.result.now c.args.flags.now c.unflag.new.flags
+    c.in_ok-readers.ensures.readers c.as_slice.ensures c.as_slice-marks.ensures c.requires.flags c.in_ok-touched.ensures.here c.in_ok-touched.ensures.readers c.in_ok-touched.ensures.closed c.unflag.ensures.flags
+    c.readers_law.ensures.readers c.requires.spelled c.names_law.ensures c.apart_law.ensures c.put_law.ensures.files c.put_law.ensures.in_order c.done_law.ensures.done

@@ -1,0 +1,37 @@
+use Rattle.std.proofs.Common.{◌≡◌, ◌∙◌, ap, sym, subst, rules}
+use Rattle.occ_units.proofs.Renewed.{behind_long, behind_others, behind_renewed, back_is, back_placed, behind_within}
+use Rattle.occ_units.proofs.renewing.renew.Goals as goal
+use Rattle.occ_units.specs.inside.Keeping.{IsRenewed}
+
+pub renew_facts-requires-clause-within : goal.renew_facts-requires-clause-within
+renew_facts-requires-clause-within c = behind_within c.sources_law.ensures c.args.project.now c.replace.new.self c.args.file c.args.place c.requires.project c.replace.ensures c.requires.place c.args.readers.now c.requires.readers
+
+pub renew_facts-requires-clause-len : goal.renew_facts-requires-clause-len
+renew_facts-requires-clause-len c = behind_long c.sources_law.ensures c.args.project.now c.replace.new.self c.args.file c.args.place c.requires.project c.replace.ensures c.requires.place c.args.readers.now c.requires.readers c.args.facts.now c.requires.facts
+
+pub renew_facts-requires-clause-others : goal.renew_facts-requires-clause-others
+renew_facts-requires-clause-others c = behind_others c.sources_law.ensures c.args.project.now c.replace.new.self c.args.file c.args.place c.requires.project c.replace.ensures c.requires.place c.args.readers.now c.requires.readers c.args.facts.now c.requires.facts
+
+pub returns-in-Ok-true-clause-done : goal.returns-in-Ok-true-clause-done
+returns-in-Ok-true-clause-done c = λ _. (
+  subst (IsRenewed c.args.project.now) c.replace.ensures (behind_renewed c.sources_law.ensures c.args.project.now c.replace.new.self c.args.file c.args.place c.requires.project c.replace.ensures c.requires.place c.args.readers.now c.requires.readers c.args.facts.now c.requires.facts (c.in-Ok-true.ensures.same c.in-Ok-true.field-0-test)),
+  (c.replace.ensures, c.in-Ok-true.ensures.facts c.in-Ok-true.field-0-test),
+)
+
+pub replace-requires-in-Ok-false : goal.replace-requires-in-Ok-false
+replace-requires-in-Ok-false c = back_placed c.args.project.now c.replace.new.self c.args.file c.in_ok-before.before c.args.place c.requires.project c.requires.place c.replace.ensures c.in_ok-before.ensures
+
+pub replace-requires-in-Err : goal.replace-requires-in-Err
+replace-requires-in-Err c = back_placed c.args.project.now c.replace.new.self c.args.file c.in_ok-before.before c.args.place c.requires.project c.requires.place c.replace.ensures c.in_ok-before.ensures
+
+pub returns-in-Ok-false-clause-other : goal.returns-in-Ok-false-clause-other
+returns-in-Ok-false-clause-other c = λ _. (
+  back_is c.args.project.now c.replace.new.self c.replace-in-Ok-false.new.self c.args.file c.in_ok-before.before c.args.place c.requires.project c.requires.place c.replace.ensures c.in_ok-before.ensures c.replace-in-Ok-false.ensures,
+  c.in-Ok-false.ensures.other c.in-Ok-false.field-0-test,
+)
+
+pub returns-in-Err-clause-err : goal.returns-in-Err-clause-err
+returns-in-Err-clause-err c = (
+  back_is c.args.project.now c.replace.new.self c.replace-in-Err.new.self c.args.file c.in_ok-before.before c.args.place c.requires.project c.requires.place c.replace.ensures c.in_ok-before.ensures c.replace-in-Err.ensures,
+  c.in-Err.ensures.err,
+)
