@@ -1,5 +1,5 @@
 -- Which specifications in scope concern uses: those that are names for something of which a part is used, and those for which
--- something was read of which a part is written.
+-- something was used, as a rule read, of which a part is written.
 use Rattle.std.specs.Prelude.{ℕ, ◌+◌, ◌==◌, Bool, false, ◌&&◌, ◌||◌, Option, Some, None, List, [], ◌∷◌, if◌then◌else◌}
 use Rattle.std.specs.List.{list_any}
 use Rattle.occ_bounds.specs.declared.bound.Bound.{Bound}
