@@ -1,8 +1,9 @@
 -- When what a line carries is whole: its expressions, elements and actuals, what it sends and receives, its guard and its
--- replicator. No form of a tree is that of what is unknown. Each part has a type in which nothing is unknown, also what was free
--- until its place gave it one, and each name a specification of its sort: an element one of an element, a call one of a function.
--- How parts fit together is not asked. What a tree may be without is the value of what is no constant, the number of components that a segment is taken
--- of, where the array does not tell it, and the base and the count of a replicator that is not known: nothing is said of them.
+-- replicator. No form of a tree is that of what is unknown. Each part has a type in which nothing is unknown, also what was
+-- free until its place gave it one, and each name a specification of its sort: an element one of an element, a call one of a
+-- function. How parts fit together is not asked. What a tree may be without is the value of what is no constant, the number of
+-- components that a segment is taken of, where the array does not tell it, and the base and the count of a replicator that is
+-- not known: nothing is said of them.
 use Rattle.std.specs.Prelude.{ℕ, Option, List, [], ◌∷◌}
 use Rattle.occ_names.specs.declared.meaning.Referent.{Referent}
 use Rattle.occ_operands.specs.declared.kind.Known.{Known}
