@@ -672,13 +672,13 @@ shared_links_send : IsSend (shared_of.the_row links.the_row)
 shared_links_send = shared.the_send links.the_row links_send links_sync
 
 graph_field_send : IsSend graph.the_field.row
-graph_field_send = search (sendable, project_field_send, facts_list_send, shared_links_send) depth 30
+graph_field_send = search (sendable, project_field_send, facts_list_send, shared_links_send, numbers_send) depth 30
 
 shared_links_sync : IsSync (shared_of.the_row links.the_row)
 shared_links_sync = shared.the_sync links.the_row links_send links_sync
 
 graph_field_sync : IsSync graph.the_field.row
-graph_field_sync = search (sendable, project_field_sync, facts_list_sync, shared_links_sync) depth 30
+graph_field_sync = search (sendable, project_field_sync, facts_list_sync, shared_links_sync, numbers_sync) depth 30
 
 graph_send : IsSend graph.the_row
 graph_send = search (sendable, graph_field_send) depth 10
