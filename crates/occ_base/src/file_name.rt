@@ -137,13 +137,49 @@ fn held(bytes: &[u8]) -> FileName
     }
 }
 
+/// Whether the bytes of two names are the same, one after the other. Names are short, so that this costs less than a
+/// comparison of slices.
+fn are_same(a: &[u8], b: &[u8]) -> bool
+    ensures { result ≡ bytes_eq a.now b.now }
+{
+    let mut rest = b;
+    for byte in a {
+        match rest {
+            [first, more @ ..] if first == byte => rest = more,
+            _ => return false,
+        }
+    }
+    rest.is_empty()
+}
+
 impl PartialEq for FileName {
     ghost eq = { λ a b. bytes_eq a b };
 
     ghost laws = { Prim.search (comparing, rules) };
 
     fn eq(&self, other: &FileName) -> bool {
-        self.as_bytes() == other.as_bytes()
+        self.len == other.len && are_same(self.as_bytes(), other.as_bytes())
+    }
+}
+
+/// Which of two names comes first: the first bytes that differ decide, and else the longer one is behind the other.
+fn order(a: &[u8], b: &[u8]) -> Ordering
+    ensures { result ≡ slice_cmp nat_cmp a.now b.now }
+{
+    let mut rest = b;
+    for byte in a {
+        match rest {
+            [first, more @ ..] => match byte.cmp(first) {
+                Ordering::Equal => rest = more,
+                decided => return decided,
+            },
+            [] => return Ordering::Greater,
+        }
+    }
+    if rest.is_empty() {
+        Ordering::Equal
+    } else {
+        Ordering::Less
     }
 }
 
@@ -161,7 +197,7 @@ impl Ord for FileName {
     ghost matches_eq = { Prim.search (comparing, rules) };
 
     fn cmp(&self, other: &FileName) -> Ordering {
-        self.as_bytes().cmp(other.as_bytes())
+        order(self.as_bytes(), other.as_bytes())
     }
 }
 

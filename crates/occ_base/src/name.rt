@@ -7,15 +7,18 @@ ghost use Rattle.std.specs.Ordering.{as_partial_cmp, nat_cmp};
 ghost use Rattle.std.specs.Prelude.{◌≡◌, IfOk};
 ghost use Rattle.std.specs.Str.{bytes_eq};
 
-use sqlite_items::Items;
+use smallvec::SmallVec;
 use std::alloc::{AllocError, Global};
 use std::cmp::Ordering;
 use std::marker::Model;
 
+/// How long a name may be that is kept without an allocation. Most names of programs are shorter.
+const SHORT: usize = 16;
+
 /// A name in the text of a program, or what a diagnostic names: its bytes, in contracts and in order.
 #[derive(Debug, Drop)]
 pub struct Name {
-    bytes: Items<u8>,
+    bytes: SmallVec<u8, SHORT>,
 }
 
 impl Model for Name {
@@ -26,7 +29,7 @@ impl Model for Name {
 
     ghost coded = { coded_list coded_ℕ };
 
-    ghost view = { λ n. n.bytes };
+    ghost view = { λ n. n.bytes.items };
 }
 
 impl Name {
@@ -34,7 +37,7 @@ impl Name {
     pub fn from_slice(alloc: Global, bytes: &[u8]) -> Result<Name, AllocError>
         ensures { IfOk result (λ name. name ≡ bytes.now) }
     {
-        let bytes = Items::from_slice(alloc, bytes)?;
+        let bytes = SmallVec::from_slice(alloc, bytes)?;
         Ok(Name { bytes })
     }
 

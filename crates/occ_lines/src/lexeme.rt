@@ -1,15 +1,16 @@
 //! Single spellings: names, numbers and symbols.
-ghost use Rattle.std.specs.Prelude.{◌≡◌, ◌≤◌, ◌+◌, ◌*◌, SomeIff, drop, map, true};
+ghost use Rattle.std.specs.Prelude.{◌≡◌, ◌≤◌, ◌+◌, ◌*◌, ◌∷◌, [], SomeIff, drop, map, true};
 ghost use Rattle.std.specs.Char.{is_ascii_digit, is_ascii_hexdigit};
 ghost use Rattle.std.specs.List.{list_all};
 ghost use Rattle.std.specs.Str.Parse.{digits_value};
+ghost use Rattle.occ_lines.specs.inside.Scan.{may_end_pair};
 ghost use Rattle.occ_lines.specs.Lexeme.{found_in, greatest, is_hexadecimal as a_hexadecimal, is_name as a_name, is_name_byte as a_name_byte, is_number as a_number, is_symbol as a_symbol, reserved_row as the_reserved_row, starts_hexadecimal as begins_hexadecimal, starts_name as begins_name, starts_number as begins_number, symbol_row as the_symbol_row};
 
 use super::{Symbol, Word};
 use crate::quoted::digit_value;
 
-/// The spellings of symbols, each with the symbol that it is.
-const SYMBOLS: [(&[u8], Symbol); 29] = [
+/// The spellings of symbols of two bytes, each with the symbol that it is.
+const PAIRS: [(&[u8], Symbol); 10] = [
     (b":=", Symbol::Assign),
     (b"::", Symbol::Counted),
     (b"<=", Symbol::AtMost),
@@ -20,25 +21,6 @@ const SYMBOLS: [(&[u8], Symbol); 29] = [
     (b">>", Symbol::ShiftRight),
     (b"/\\", Symbol::BitAnd),
     (b"\\/", Symbol::BitOr),
-    (b"+", Symbol::Plus),
-    (b"-", Symbol::Minus),
-    (b"*", Symbol::Times),
-    (b"/", Symbol::Divide),
-    (b"\\", Symbol::Remainder),
-    (b"~", Symbol::BitNot),
-    (b"=", Symbol::Equal),
-    (b"<", Symbol::Less),
-    (b">", Symbol::Greater),
-    (b"(", Symbol::Open),
-    (b")", Symbol::Close),
-    (b"[", Symbol::OpenIndex),
-    (b"]", Symbol::CloseIndex),
-    (b",", Symbol::Comma),
-    (b";", Symbol::Semicolon),
-    (b":", Symbol::Colon),
-    (b"?", Symbol::Input),
-    (b"!", Symbol::Output),
-    (b"&", Symbol::Ampersand),
 ];
 
 /// The reserved words, each with the word that it is.
@@ -124,20 +106,63 @@ pub fn found_in<T: Copy>(table: &[(&[u8], T)], bytes: &[u8]) -> Option<T>
     None
 }
 
+/// What one byte is as a symbol, if it spells one.
+#[tactic(auto, unfolding(crate::specs::Lexeme::symbol_row))]
+fn mark(byte: u8) -> Option<Symbol>
+    ensures { result ≡ the_symbol_row (byte ∷ []) }
+{
+    match byte {
+        b'+' => Some(Symbol::Plus),
+        b'-' => Some(Symbol::Minus),
+        b'*' => Some(Symbol::Times),
+        b'/' => Some(Symbol::Divide),
+        b'\\' => Some(Symbol::Remainder),
+        b'~' => Some(Symbol::BitNot),
+        b'=' => Some(Symbol::Equal),
+        b'<' => Some(Symbol::Less),
+        b'>' => Some(Symbol::Greater),
+        b'(' => Some(Symbol::Open),
+        b')' => Some(Symbol::Close),
+        b'[' => Some(Symbol::OpenIndex),
+        b']' => Some(Symbol::CloseIndex),
+        b',' => Some(Symbol::Comma),
+        b';' => Some(Symbol::Semicolon),
+        b':' => Some(Symbol::Colon),
+        b'?' => Some(Symbol::Input),
+        b'!' => Some(Symbol::Output),
+        b'&' => Some(Symbol::Ampersand),
+        _ => None,
+    }
+}
+
+/// Whether a symbol of two bytes may end with this one.
+fn ends_pair(byte: u8) -> bool
+    ensures { result ≡ may_end_pair byte }
+{
+    matches!(byte, b'=' | b':' | b'<' | b'>' | b'/' | b'\\')
+}
+
 /// What the bytes are as a symbol, if they spell one.
 #[tactic(auto, unfolding(crate::specs::Lexeme::symbol_row))]
 pub fn symbol_row(bytes: &[u8]) -> Option<Symbol>
     ensures { result ≡ the_symbol_row bytes.now }
 {
-    found_in(&SYMBOLS, bytes)
+    match bytes {
+        [byte] => mark(*byte),
+        [_, last] if ends_pair(*last) => found_in(&PAIRS, bytes),
+        _ => None,
+    }
 }
 
-/// What the bytes are as a reserved word, if they are one.
+/// What the bytes are as a reserved word, if they are one. All of these begin with a capital letter.
 #[tactic(auto, unfolding(crate::specs::Lexeme::reserved_row))]
 pub fn reserved_row(bytes: &[u8]) -> Option<Word>
     ensures { result ≡ the_reserved_row bytes.now }
 {
-    found_in(&RESERVED, bytes)
+    match bytes {
+        [first, ..] if first.is_ascii_uppercase() => found_in(&RESERVED, bytes),
+        _ => None,
+    }
 }
 
 /// Whether the bytes spell a symbol.

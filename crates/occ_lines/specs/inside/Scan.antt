@@ -1,5 +1,5 @@
 -- What the scanner finds on its way to a token.
-use Rattle.std.specs.Prelude.{◌≡◌, ◌≤◌, ◌<◌, ℕ, Bool, true, List, ◌++◌, length, take}
+use Rattle.std.specs.Prelude.{◌≡◌, ◌≤◌, ◌<◌, ◌==◌, ◌||◌, ℕ, Bool, true, List, ◌++◌, length, take}
 use Rattle.occ_lines.specs.Lexeme.{Lexes}
 use Rattle.occ_lines.specs.Quoted.{IsQuoted}
 use Rattle.occ_lines.specs.declared.ending.Ending.{Ending}
@@ -12,6 +12,10 @@ pub record IsLongest (passes : List ℕ → Bool) (text : List ℕ) (n : ℕ) : 
   pub within : n ≤ length text
   pub passed : 0 < n → passes (take n text) ≡ true
   pub longest : (other : List ℕ) (after : List ℕ) → text ≡ other ++ after → passes other ≡ true → length other ≤ n
+
+-- a symbol of two bytes may end with this one: '=', ':', '<', '>', '/' or '\'
+abbrev pub may_end_pair : ℕ → Bool
+may_end_pair b = b == 61 || (b == 58 || (b == 60 || (b == 62 || (b == 47 || b == 92))))
 
 -- the bytes that the text spells are put behind those that are read already
 abbrev pub Gathers : List ℕ → List ℕ → List ℕ → List ℕ → Type 0
