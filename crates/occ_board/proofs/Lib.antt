@@ -26,3 +26,4 @@ pub mod Marked
 pub mod Adopted
 pub mod Least
 pub mod Working
+pub mod Newly

@@ -2,7 +2,7 @@
 use Rattle.std.proofs.Common.{◌≡◌, ◌∙◌, ◌<◌, ◌≤◌, ◌+◌, ◌&&◌, ◌||◌, ◌⊎◌, ◌↔◌, ℕ, zero, suc, Bool, true, false, cond, not, List, [], ◌∷◌, length, map, get_or, drop, Option, Some, None, refl, sym, ap, subst, inl, inr, arith}
 use Rattle.std.proofs.lemmas.Bool.{cases_lt, eqb-false, eqb-true}
 use Rattle.std.proofs.lemmas.Slice.Eq.{bytes_eq-Decides}
-use Rattle.std.specs.List.{filter, flat_map, list_all, slice_get}
+use Rattle.std.specs.List.{filter, flat_map, list_all}
 use Rattle.std.specs.Option.{is_some}
 use Rattle.std.specs.Prelude.{◌==◌, slice_set}
 use Rattle.std.specs.Str.{bytes_eq}
@@ -11,8 +11,8 @@ use Rattle.occ_board.proofs.Places.{name_there}
 use Rattle.occ_board.proofs.Settled.{flag_at, no_flag, set_fewer, step_done}
 use Rattle.occ_board.proofs.Spread.{placed_there, set_apart, set_here, set_stays}
 use Rattle.occ_board.specs.Done.{done, done_step, is_kept}
-use Rattle.occ_board.specs.Edits.{IsApart, IsUnder}
-use Rattle.occ_board.specs.inside.Flagged.{AreFlags, IsFull, IsFullAt, IsSound, flag_of, unflagged}
+use Rattle.occ_board.specs.Edits.{IsApart}
+use Rattle.occ_board.specs.inside.Flagged.{AreFlags, IsFull, IsFullAt, IsSound, unflagged}
 use Rattle.occ_board.specs.Journal.{is_open}
 use Rattle.occ_board.specs.inside.Touched.{IsClosed}
 use Rattle.occ_check.specs.Input.{Input}
@@ -30,7 +30,7 @@ use Rattle.occ_units.specs.Along.{name_at}
 use Rattle.occ_units.specs.Places.{graph_of, is_below, readers_at, rest_units, standing_of, users_at}
 use Rattle.occ_units.specs.Project.{IsProject, file_of, put}
 use Rattle.occ_units.specs.Spelled.{AreSpelled}
-use Rattle.occ_units.specs.Units.{Reaches, Uses, UsesBy, in_order, read_names}
+use Rattle.occ_units.specs.Units.{Uses, UsesBy, in_order, read_names}
 
 -- what marking along the first i users of the unit at a place has come to
 pub record IsTouch (files : List Read) (users : List ℕ) (old marks : List Bool) (at i : ℕ) : Type 0 where
@@ -142,6 +142,24 @@ module _ (files : List Read) where
       let lt = there.1.0 in
       ap (λ (x : ℕ). get_or marks x false) (sym there.1.1) ∙ h.read there.0 (omega (arith, lt, most))
 
+-- what is no unit reads and uses nothing
+no_input : (fs : List Read) (u : List ℕ) → is_unit u ≡ false → input fs u ≡ record { unit = u; reads = []; used = [] }
+no_input fs u none = ap (λ (b : Bool). record { unit = u; reads = map (file_of fs) (cond b (expansion fs u).reads []); used = map (used_unit fs u (checked fs)) (cond b (in_order (flat_map units_of (expansion fs u).lines)) []) }) none
+
+no_rests : (fs : List Read) (u : List ℕ) → is_unit u ≡ false → rest_units fs u ≡ []
+no_rests fs u none = ap (λ (b : Bool). filter (λ v. is_below (standing_of fs u v)) (cond b (in_order (flat_map units_of (expansion fs u).lines)) [])) none
+
+pub no_unit_step : (kept : List Input) (step : (fs : List Read) (ks : List Input) (u : List ℕ) → IsProject fs → done fs ks u ≡ done_step fs ks u (done fs ks)) (fs : List Read) (u : List ℕ) → is_unit u ≡ false → IsProject fs
+    → done fs kept u ≡ (is_open fs u && (is_kept kept (record { unit = u; reads = []; used = [] }) && true))
+no_unit_step kept step fs u none p =
+    step fs kept u p
+    ∙ ap (λ (i : Input). is_open fs u && (is_kept kept i && list_all (done fs kept) (rest_units fs u))) (no_input fs u none)
+    ∙ ap (λ (vs : List (List ℕ)). is_open fs u && (is_kept kept (record { unit = u; reads = []; used = [] }) && list_all (done fs kept) vs)) (no_rests fs u none)
+
+pub reads_by : (files : List Read) (name : List ℕ) (b : Bool) (v : List ℕ) → is_unit v ≡ b → b ≡ true → names.is_among (read_names files v) name ≡ false → names.is_among (expansion files v).reads name ≡ false
+reads_by files name true v u t h = sym (ap (λ (b : Bool). names.is_among (cond b (expansion files v).reads []) name) u) ∙ h
+reads_by files name false v u t h = cc
+
 -- a unit that is not marked is one that the edit does not concern
 module _ (files : List Read) (project : IsProject files) (name : List ℕ) (at : ℕ) (marks : List Bool) (e : place name files ≡ Some at) (readers : (p : ℕ) → is_among (readers_at files at) p ≡ true → get_or marks p false ≡ true)
     (closed : IsClosed (graph_of files) marks)
@@ -174,10 +192,6 @@ module _ (files : List Read) (project : IsProject files) (name : List ℕ) (at :
         cc (there, e)
     by false h k = cc
 
-  reads_by : (b : Bool) (v : List ℕ) → is_unit v ≡ b → b ≡ true → names.is_among (read_names files v) name ≡ false → names.is_among (expansion files v).reads name ≡ false
-  reads_by true v u t h = sym (ap (λ (b : Bool). names.is_among (cond b (expansion files v).reads []) name) u) ∙ h
-  reads_by false v u t h = cc
-
   unmarked_reads : (v : List ℕ) → is_unit v ≡ true → Unmarked v → names.is_among (expansion files v).reads name ≡ false
   unmarked_reads v unit h = by (place v files) refl where
     by : (o : Option ℕ) → place v files ≡ o → names.is_among (expansion files v).reads name ≡ false
@@ -193,19 +207,13 @@ module _ (files : List Read) (project : IsProject files) (name : List ℕ) (at :
         let not_there = h q k in
         cc (there, not_there))
         in
-        reads_by (is_unit v) v refl unit none
+        reads_by files name (is_unit v) v refl unit none
 
   unmarked_apart : (u : List ℕ) → is_unit u ≡ true → Unmarked u → IsApart files name u
   unmarked_apart u unit h v (inl k) = unmarked_reads v (ap is_unit k ∙ unit) (subst Unmarked (sym k) h)
   unmarked_apart u unit h v (inr way) = let there = way_unmarked u way.0 v h way.1 in unmarked_reads v there.1 there.0
 
   -- nor does it concern what is no unit, but for the file itself
-  no_input : (fs : List Read) (u : List ℕ) → is_unit u ≡ false → input fs u ≡ record { unit = u; reads = []; used = [] }
-  no_input fs u none = ap (λ (b : Bool). record { unit = u; reads = map (file_of fs) (cond b (expansion fs u).reads []); used = map (used_unit fs u (checked fs)) (cond b (in_order (flat_map units_of (expansion fs u).lines)) []) }) none
-
-  no_rests : (fs : List Read) (u : List ℕ) → is_unit u ≡ false → rest_units fs u ≡ []
-  no_rests fs u none = ap (λ (b : Bool). filter (λ v. is_below (standing_of fs u v)) (cond b (in_order (flat_map units_of (expansion fs u).lines)) [])) none
-
   module _ (later : List Read) (file : Read) (kept : List Input) (named : file.name ≡ name) (put_is : later ≡ put files file) (here : get_or marks at false ≡ true)
       (apart : (fs : List Read) (f : Read) (ks : List Input) (u : List ℕ) → IsProject fs → IsApart fs f.name u → done (put fs f) ks u ≡ done fs ks u)
       (files_put : (fs : List Read) (f : Read) (n : List ℕ) → file_of (put fs f) n ≡ cond (bytes_eq f.name n) f (file_of fs n)) (rises : (fs : List Read) (f : Read) → IsProject fs → IsProject (put fs f))
@@ -219,20 +227,14 @@ module _ (files : List Read) (project : IsProject files) (name : List ℕ) (at :
           absurd (cc (none, here))
       by false k = ap (λ (f : Read). is_some f.source) (ap (λ (fs : List Read). file_of fs u) put_is ∙ files_put files file u ∙ ap (λ (b : Bool). cond b file (file_of files u)) k)
 
-    no_unit_step : (fs : List Read) (u : List ℕ) → is_unit u ≡ false → IsProject fs → done fs kept u ≡ (is_open fs u && (is_kept kept (record { unit = u; reads = []; used = [] }) && true))
-    no_unit_step fs u none p =
-        step fs kept u p
-        ∙ ap (λ (i : Input). is_open fs u && (is_kept kept i && list_all (done fs kept) (rest_units fs u))) (no_input fs u none)
-        ∙ ap (λ (vs : List (List ℕ)). is_open fs u && (is_kept kept (record { unit = u; reads = []; used = [] }) && list_all (done fs kept) vs)) (no_rests fs u none)
-
     pub unmarked_same : (u : List ℕ) → Unmarked u → done later kept u ≡ done files kept u
     unmarked_same u h = by (is_unit u) refl where
       by : (b : Bool) → is_unit u ≡ b → done later kept u ≡ done files kept u
       by true unit = ap (λ (fs : List Read). done fs kept u) put_is ∙ apart files file kept u project (subst (λ (n : List ℕ). IsApart files n u) (sym named) (unmarked_apart u unit h))
       by false none =
-          no_unit_step later u none (subst IsProject (sym put_is) (rises files file project))
+          no_unit_step kept step later u none (subst IsProject (sym put_is) (rises files file project))
           ∙ ap (λ (b : Bool). b && (is_kept kept (record { unit = u; reads = []; used = [] }) && true)) (still_open u h)
-          ∙ sym (no_unit_step files u none project)
+          ∙ sym (no_unit_step kept step files u none project)
 
 -- the flags behind the edit of a file that was there
 left_by : (a b : Bool) → (a && not b) ≡ true → (a ≡ true) × (b ≡ false)

@@ -69,6 +69,10 @@ not_open : (o d b r h : Bool) → b ≡ d → false ≡ (o && not b) → false �
 not_open true d b r h e k = let c : not d ≡ false = ap not (sym e) ∙ sym k in ap (λ (x : Bool). x && (r && h)) (sym c)
 not_open false d b r h e k = refl
 
+pub none_left : (o : Bool) → false ≡ (o && not true)
+none_left true = refl
+none_left false = refl
+
 not_ready : (o d r h : Bool) → r ≡ false → false ≡ (o && (not d && (r && h)))
 not_ready true true r h e = refl
 not_ready true false r h e = ap (λ (x : Bool). x && h) (sym e)

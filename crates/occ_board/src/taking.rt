@@ -109,11 +109,13 @@ fn is_next(
     requires file { slice_get graph.now place ≡ Some file.now }
     ensures { result ≡ is_next_file graph.now kept.now handed.now file.now }
 {
-    let done = is_flagged(flags, place);
-    if !is_pending(file, done) {
+    if is_flagged(flags, place) {
         return false;
     }
     if !are_rests_flagged(graph, flags, place) {
+        return false;
+    }
+    if !is_pending(file, false) {
         return false;
     }
     !is_handed(graph, kept, handed, place, file.name)

@@ -6,12 +6,14 @@ ghost use Rattle.occ_check.specs.Input.{Input};
 ghost use Rattle.occ_graph.specs.Graph.{has_edge, is_among as is_place};
 ghost use Rattle.occ_project.specs.Reads.{place as place_of};
 ghost use Rattle.occ_project.specs.declared.reads.Read.{Read};
+ghost use Rattle.occ_units.specs.New.{IsNew};
 ghost use Rattle.occ_units.specs.Places.{graph_of, readers_at};
 ghost use Rattle.occ_units.specs.Project.{IsProject, put};
 ghost use Rattle.occ_units.specs.Spelled.{AreSpelled};
-ghost use Rattle.std.specs.Prelude.{◌≡◌, ◌<◌, ◌≤◌, ◌&&◌, IfOk, List, OnErr, OnOk, Some, false, get_or, length, not, true, ℕ};
+ghost use Rattle.std.specs.List.{insert};
+ghost use Rattle.std.specs.Prelude.{◌≡◌, ◌<◌, ◌≤◌, ◌&&◌, IfOk, List, None, OnErr, OnOk, Some, false, get_or, length, not, true, ℕ};
 
-use super::flags::{is_flagged, no_flags, settle, spread};
+use super::flags::{is_flagged, no_flags, settle, settle_from, spread};
 use super::kept::Kept;
 use super::laws::{done_law, height_law};
 use occ_base::{FileName, Items, Shared};
@@ -140,17 +142,50 @@ fn resettle(graph: &Graph, kept: &Kept, flags: &mut Items<bool>, touched: &[bool
     }
 }
 
-/// The flags of all units that are done.
-fn all_flags(alloc: Global, graph: &Graph, kept: &Kept) -> Result<Items<bool>, AllocError>
-    ensures len { IfOk result (λ flags. length flags ≡ length graph.now) }
-    ensures flags { IfOk result (λ flags. AreFlags graph.now kept.now flags) }
+/// The flags behind an edit by which a file comes to a place, where none is set.
+fn with_flag(alloc: Global, flags: &[bool], place: usize) -> Result<Items<bool>, AllocError>
+    requires { place ≤ length flags.now }
+    ensures { IfOk result (λ next. next ≡ insert flags.now place false) }
 {
-    let mut flags = no_flags(alloc, graph.project().files().len())?;
-    settle(graph, kept, &mut flags);
-    Ok(flags)
+    let mut next = Vec::from_slice(alloc, flags)?;
+    next.insert(place, false)?;
+    Ok(Items::from_vec(next))
 }
 
-/// The graph and the flags behind the edit of a file that was not there.
+/// The graph and the flags behind the edit of a file that was not there, and that no file looks for. What there was stays, but
+/// for its places.
+fn renew_new(
+    alloc: Global,
+    graph: &mut Graph,
+    kept: &Kept,
+    flags: &mut Items<bool>,
+    place: usize,
+    name: FileName,
+    revision: u32,
+    source: Option<Shared<Source>>,
+) -> Result<(), AllocError>
+    requires new { IsNew graph.old name place }
+    requires spelled { AreSpelled graph.old }
+    requires len { length flags.old ≡ length graph.old }
+    requires flags { AreFlags graph.old kept.now flags.old }
+    ensures graph { OnOk result (graph.new ≡ put graph.old (record { name = name; revision = revision; source = source })) }
+    ensures len { OnOk result (length flags.new ≡ length graph.new) }
+    ensures flags { OnOk result (AreFlags graph.new kept.now flags.new) }
+    ensures err { OnErr result ((graph.new ≡ graph.old) × (flags.new ≡ flags.old)) }
+{
+    let _files = graph.project().files();
+    apart_law();
+    put_law();
+    done_law();
+    names_law();
+    let next = with_flag(alloc, flags.as_slice(), place)?;
+    graph.add(alloc, place, name, revision, source)?;
+    *flags = next;
+    settle_from(graph, kept, flags, name);
+    Ok(())
+}
+
+/// The graph and the flags behind the edit of a file that was not there, and that others look for.
 fn renew_all(
     alloc: Global,
     graph: &mut Graph,
@@ -160,15 +195,16 @@ fn renew_all(
     revision: u32,
     source: Option<Shared<Source>>,
 ) -> Result<(), AllocError>
+    requires { place_of name graph.old ≡ None }
     ensures graph { OnOk result (graph.new ≡ put graph.old (record { name = name; revision = revision; source = source })) }
     ensures len { OnOk result (length flags.new ≡ length graph.new) }
     ensures flags { OnOk result (AreFlags graph.new kept.now flags.new) }
     ensures err { OnErr result ((graph.new ≡ graph.old) × (flags.new ≡ flags.old)) }
 {
-    let next = graph.with(alloc, name, revision, source)?;
-    let done = all_flags(alloc, &next, kept)?;
-    *graph = next;
-    *flags = done;
+    let mut next = no_flags(alloc, graph.project().files().len() + 1)?;
+    graph.put(alloc, name, revision, source)?;
+    settle(graph, kept, &mut next);
+    *flags = next;
     Ok(())
 }
 
@@ -226,8 +262,11 @@ pub fn renew(
     ensures flags { OnOk result (AreFlags graph.new kept.now flags.new) }
     ensures err { OnErr result ((graph.new ≡ graph.old) × (flags.new ≡ flags.old)) }
 {
-    match graph.project().place(name) {
-        Some(place) => renew_at(alloc, graph, kept, flags, place, name, revision, source),
+    if let Some(place) = graph.project().place(name) {
+        return renew_at(alloc, graph, kept, flags, place, name, revision, source);
+    }
+    match graph.place_for(name) {
+        Some(place) => renew_new(alloc, graph, kept, flags, place, name, revision, source),
         None => renew_all(alloc, graph, kept, flags, name, revision, source),
     }
 }

@@ -5,3 +5,5 @@ pub mod Searches
 pub mod Ranked
 pub mod Circled
 pub mod Turned
+pub mod Added
+pub mod Replaced

@@ -1,4 +1,5 @@
 pub mod Graph
 pub mod Along
 pub mod Sources
+pub mod Adding
 pub mod inside

@@ -2,3 +2,4 @@
 pub mod Searching
 pub mod Ranking
 pub mod Circling
+pub mod Linking

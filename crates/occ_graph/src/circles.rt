@@ -130,10 +130,10 @@ fn all_rests_of(
     alloc: Global,
     graph: &[Items<usize>],
     circles: &Circles,
-) -> Result<Items<Items<usize>>, AllocError>
-    ensures { IfOk result (λ all. all ≡ all_rests_told circles.now 0 graph.now) }
+) -> Result<Vec<Items<usize>>, AllocError>
+    ensures { IfOk result (λ all. all.items ≡ all_rests_told circles.now 0 graph.now) }
 {
-    let mut all = Items::new(alloc);
+    let mut all = Vec::new(alloc);
     for (from, targets) in graph.iter().enumerate() {
         all.push(rests_of(alloc, circles, from, targets.as_slice())?)?;
     }
@@ -147,9 +147,9 @@ pub fn find_rests(
     alloc: Global,
     graph: &[Items<usize>],
     sources: &[Items<usize>],
-) -> Result<Items<Items<usize>>, AllocError>
+) -> Result<Vec<Items<usize>>, AllocError>
     requires { IsWhole graph.now }
-    ensures { IfOk result (λ rests. rests ≡ all_rests graph.now) }
+    ensures { IfOk result (λ rests. rests.items ≡ all_rests graph.now) }
 {
     let circles = find_circles(alloc, graph, sources)?;
     all_rests_of(alloc, graph, &circles)

@@ -1,13 +1,15 @@
 //! Graphs by places, whatever their nodes are: circles, what a node rests on outside of circles, and recursion along that.
 #![tactic(auto)]
 
+mod adding;
 mod circles;
 pub mod laws;
+mod linked;
 mod order;
 mod ranks;
 pub mod rows;
 mod search;
 mod sources;
 
-pub use circles::find_rests;
+pub use linked::Linked;
 pub use sources::find_sources;

@@ -1,4 +1,5 @@
 ghost use Rattle.std.specs.Prelude.{[], ◌∷◌, ◌≡◌, true, false};
+ghost use Rattle.occ_graph.specs.Adding.{with_node};
 ghost use Rattle.occ_graph.specs.Graph.{all_rests, is_circular, reaches};
 
 /// Nodes 0, 1 and 2 in a circle, 3 with an edge to 0.
@@ -14,4 +15,11 @@ pub fn circle_rows()
 pub fn edge_rows()
     ensures itself { is_circular ((0 ∷ 1 ∷ 1 ∷ []) ∷ [] ∷ []) 0 0 ≡ true }
     ensures rests { all_rests ((0 ∷ 1 ∷ 1 ∷ []) ∷ [] ∷ []) ≡ (1 ∷ 1 ∷ []) ∷ [] ∷ [] }
+{}
+
+/// A node comes before two that lead to each other, and leads to the first of them: that has place 1 from then on.
+pub fn adding_rows()
+    ensures graph { with_node ((1 ∷ []) ∷ (0 ∷ []) ∷ []) 0 (1 ∷ []) ≡ (1 ∷ []) ∷ (2 ∷ []) ∷ (1 ∷ []) ∷ [] }
+    ensures rests { all_rests (with_node ((1 ∷ []) ∷ (0 ∷ []) ∷ []) 0 (1 ∷ [])) ≡ (1 ∷ []) ∷ [] ∷ [] ∷ [] }
+    ensures between { with_node ((1 ∷ []) ∷ (0 ∷ []) ∷ []) 1 (1 ∷ []) ≡ (2 ∷ []) ∷ (1 ∷ []) ∷ (0 ∷ []) ∷ [] }
 {}

@@ -41,16 +41,13 @@ fn add_sources(
 }
 
 /// For each node of a graph those from which edges lead to it, in order, once for each edge.
-pub fn find_sources(
-    alloc: Global,
-    graph: &[Items<usize>],
-) -> Result<Items<Items<usize>>, AllocError>
-    ensures len { IfOk result (λ rows. length rows ≡ length graph.now) }
-    ensures rows { IfOk result (λ rows. (v : ℕ) → v < length graph.now → get_or rows v [] ≡ sources graph.now v) }
+pub fn find_sources(alloc: Global, graph: &[Items<usize>]) -> Result<Vec<Items<usize>>, AllocError>
+    ensures len { IfOk result (λ rows. length rows.items ≡ length graph.now) }
+    ensures rows { IfOk result (λ rows. (v : ℕ) → v < length graph.now → get_or rows.items v [] ≡ sources graph.now v) }
 {
     let mut rows = no_sources(alloc, graph.len())?;
     for (source, nodes) in graph.iter().enumerate() {
         add_sources(&mut rows, nodes.as_slice(), source)?;
     }
-    Ok(Items::from_vec(rows))
+    Ok(rows)
 }

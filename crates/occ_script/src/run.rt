@@ -15,6 +15,7 @@ use super::status::Status;
 use super::written::write_all;
 use occ_commands::{Next, Rest, next_command};
 use std::alloc::{AllocError, Global};
+use std::mem;
 
 /// Runs a script: reads it whole, carries its commands out one after the other and writes the answer to each.
 pub fn run_script<R: ByteIn, W: ByteOut>(alloc: Global, reader: &mut R, writer: &mut W) -> Status
@@ -52,7 +53,7 @@ fn run<W: ByteOut>(alloc: Global, bytes: &[u8], over: bool, writer: &mut W) -> S
     };
     for _ in 0..bytes.len() + 1 {
         match next_command(rest) {
-            Next::End => return end_status(desk.errors),
+            Next::End => return end_run(desk),
             Next::Fault(line) => return tell_fault(alloc, line, writer),
             Next::Command(_line, command, left) => {
                 let answer = match desk.answer(alloc, command) {
@@ -67,6 +68,16 @@ fn run<W: ByteOut>(alloc: Global, bytes: &[u8], over: bool, writer: &mut W) -> S
         }
     }
     unreachable!()
+}
+
+/// Ends a run behind its last command. The program ends too: what the board keeps goes back to the system with it, and is not
+/// taken apart before.
+fn end_run(desk: Desk) -> Status
+    ensures { result ≡ cond desk.errors status.Errors status.Clean }
+{
+    let status = end_status(desk.errors);
+    mem::forget(desk);
+    status
 }
 
 /// How a script without a fault ends.

@@ -75,7 +75,7 @@ use Rattle.occ_board.specs.contracts.entry.Entry as entry
 use Rattle.occ_board.specs.contracts.kept.Kept as kept
 use Rattle.occ_units.specs.contracts.project.Project as project
 use Rattle.occ_units.specs.contracts.facts.Facts as facts
-use Rattle.occ_units.specs.contracts.links.Links as links
+use Rattle.occ_graph.specs.contracts.linked.Linked as links
 use Rattle.sqlite_items.specs.contracts.items.Items as items_of
 use Rattle.occ_base.specs.contracts.shared.Shared as shared_of
 use denote.Builtin.{usize}
@@ -638,47 +638,41 @@ facts_field_sync = search (sendable, items.the_sync, shared.the_sync, Vec-sync, 
 facts_sync : IsSync facts.the_row
 facts_sync = search (sendable, facts_field_sync) depth 10
 
-facts_list_send : IsSend (items_of.the_row (shared_of.the_row facts.the_row))
-facts_list_send = items.the_send (shared_of.the_row facts.the_row) (shared.the_send facts.the_row facts_send facts_sync)
+shared_facts_send : IsSend (shared_of.the_row facts.the_row)
+shared_facts_send = shared.the_send facts.the_row facts_send facts_sync
 
 number_send : IsSend usize
 number_send = search sendable depth 10
 
-numbers_send : IsSend (items_of.the_row (items_of.the_row usize))
-numbers_send = items.the_send (items_of.the_row usize) (items.the_send usize number_send)
+row_send : IsSend (items_of.the_row usize)
+row_send = items.the_send usize number_send
 
-facts_list_sync : IsSync (items_of.the_row (shared_of.the_row facts.the_row))
-facts_list_sync = items.the_sync (shared_of.the_row facts.the_row) (shared.the_sync facts.the_row facts_send facts_sync)
+numbers_send : IsSend (items_of.the_row (items_of.the_row usize))
+numbers_send = items.the_send (items_of.the_row usize) row_send
+
+shared_facts_sync : IsSync (shared_of.the_row facts.the_row)
+shared_facts_sync = shared.the_sync facts.the_row facts_send facts_sync
 
 number_sync : IsSync usize
 number_sync = search sendable depth 10
 
+row_sync : IsSync (items_of.the_row usize)
+row_sync = items.the_sync usize number_sync
+
 numbers_sync : IsSync (items_of.the_row (items_of.the_row usize))
-numbers_sync = items.the_sync (items_of.the_row usize) (items.the_sync usize number_sync)
+numbers_sync = items.the_sync (items_of.the_row usize) row_sync
 
 links_field_send : IsSend links.the_field.row
-links_field_send = search (sendable, numbers_send) depth 20
-
-links_send : IsSend links.the_row
-links_send = search (sendable, links_field_send) depth 10
+links_field_send = search (sendable, Vec-send, row_send) depth 30
 
 links_field_sync : IsSync links.the_field.row
-links_field_sync = search (sendable, numbers_sync) depth 20
-
-links_sync : IsSync links.the_row
-links_sync = search (sendable, links_field_sync) depth 10
-
-shared_links_send : IsSend (shared_of.the_row links.the_row)
-shared_links_send = shared.the_send links.the_row links_send links_sync
+links_field_sync = search (sendable, Vec-sync, row_sync) depth 30
 
 graph_field_send : IsSend graph.the_field.row
-graph_field_send = search (sendable, project_field_send, facts_list_send, shared_links_send, numbers_send) depth 30
-
-shared_links_sync : IsSync (shared_of.the_row links.the_row)
-shared_links_sync = shared.the_sync links.the_row links_send links_sync
+graph_field_send = search (sendable, Vec-send, project_field_send, shared_facts_send, links_field_send, numbers_send) depth 30
 
 graph_field_sync : IsSync graph.the_field.row
-graph_field_sync = search (sendable, project_field_sync, facts_list_sync, shared_links_sync, numbers_sync) depth 30
+graph_field_sync = search (sendable, Vec-sync, project_field_sync, shared_facts_sync, links_field_sync, numbers_sync) depth 30
 
 graph_send : IsSend graph.the_row
 graph_send = search (sendable, graph_field_send) depth 10

@@ -10,7 +10,7 @@ use Rattle.std.specs.declared.cmp.Ordering.TheVariants.{Less, Equal, Greater}
 use Rattle.occ_project.specs.declared.reads.Read.{Read}
 use Rattle.occ_project.specs.Reads.{is_named, member, name_cmp, place}
 use Rattle.occ_units.specs.Project.{IsProject}
-use Rattle.occ_units.specs.inside.Finding.{IsGap}
+use Rattle.occ_units.specs.New.{IsGap}
 use Rattle.occ_units.proofs.Rising.{apart, equal_names, equal_test, less_joined}
 
 -- the names behind the first are greater

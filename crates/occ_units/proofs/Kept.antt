@@ -1,10 +1,10 @@
 -- What a graph keeps is what the definitions give.
-use Rattle.std.proofs.Common.{◌≡◌, ℕ, zero, suc, ◌+◌, ◌<◌, ◌≤◌, true, false, Bool, cond, not, ◌&&◌, ◌||◌, ◌==◌, List, [], ◌∷◌, length, map, get_or, Option, Some, None, refl, sym, ap, subst, ◌∙◌, inl, inr, arith}
+use Rattle.std.proofs.Common.{◌≡◌, ℕ, zero, suc, true, false, Bool, cond, not, ◌&&◌, ◌||◌, ◌==◌, List, [], ◌∷◌, map, Option, Some, None, refl, sym, ap, subst, ◌∙◌}
 use Rattle.std.specs.List.{filter, slice_get}
 use Rattle.std.specs.Option.{option_and_then, option_map}
-use Rattle.std.proofs.lemmas.Bool.{cases_lt, eqb-true}
+use Rattle.std.proofs.lemmas.Bool.{eqb-true}
 use Rattle.occ_base.specs.FileName.{is_unit}
-use Rattle.occ_graph.specs.Graph.{Graph, IsWhole, all_rests, has_edge, rests, rests_from, targets}
+use Rattle.occ_graph.specs.Graph.{Graph, IsWhole, has_edge, rests, targets}
 use Rattle.occ_graph.specs.Graph as graph
 use Rattle.occ_project.specs.declared.reads.Read.{Read}
 use Rattle.occ_project.specs.Entries.{is_among}
@@ -14,7 +14,7 @@ use Rattle.occ_units.specs.declared.facts.Facts.{Facts}
 use Rattle.occ_units.specs.Places.{circular_at, graph_of, is_circular, places_of}
 use Rattle.occ_units.specs.Units.{read_names, used_units}
 use Rattle.occ_units.specs.inside.Keeping.{facts_of}
-use Rattle.occ_units.proofs.Edges.{edge, file_at, no_edge, read_alone, unused, whole}
+use Rattle.occ_units.proofs.Edges.{edge, file_at, read_alone, unused, whole}
 
 -- the edges
 edges_of : (files some : List Read) → map (λ (f : Facts). places_of files f.uses) (map (λ (file : Read). facts_of files file.name) some) ≡ map (λ (file : Read). places_of files (used_units files file.name)) some
@@ -70,23 +70,6 @@ reads_none files unit u e = by (place unit files) (is_unit unit) refl u e where
 
 pub reads_no_unit : (files : List Read) (unit : List ℕ) → is_unit unit ≡ false → [] ≡ read_names files unit
 reads_no_unit files unit u = sym (ap (λ (b : Bool). cond b (expansion files unit).reads []) u)
-
--- what a node rests on, by its place
-rests_below : (g : Graph) (u n p : ℕ) → p < n → get_or (rests_from g u n) p [] ≡ rests g (u + p)
-rests_below g u zero p lt = absurd (omega (arith, lt))
-rests_below g u (suc n) zero lt = let e : u ≡ u + 0 = omega arith in ap (rests g) e
-rests_below g u (suc n) (suc p) lt = let e : u + 1 + p ≡ u + suc p = omega arith in rests_below g (u + 1) n p (omega (arith, lt)) ∙ ap (rests g) e
-
-rests_above : (g : Graph) (u n p : ℕ) → n ≤ p → get_or (rests_from g u n) p [] ≡ []
-rests_above g u zero p le = refl
-rests_above g u (suc n) zero le = absurd (omega (arith, le))
-rests_above g u (suc n) (suc p) le = rests_above g (u + 1) n p (omega (arith, le))
-
-pub rests_there : (g : Graph) (p : ℕ) → get_or (all_rests g) p [] ≡ rests g p
-rests_there g p = elim (cases_lt p (length g)) [
-  | inl below ↦ let e : 0 + p ≡ p = omega arith in rests_below g 0 (length g) p below ∙ ap (rests g) e
-  | inr above ↦ rests_above g 0 (length g) p above ∙ sym (ap (filter (λ v. not (graph.is_circular g p v))) (no_edge g p above))
-]
 
 -- those that pass a test
 passing : (ws : List ℕ) (test : ℕ → Bool) (q : ℕ) → graph.is_among (filter test ws) q ≡ (graph.is_among ws q && test q)

@@ -13,3 +13,4 @@ pub mod Users
 pub mod Reading
 pub mod Near
 pub mod Renewed
+pub mod Added

@@ -12,7 +12,7 @@ use Rattle.std.specs.declared.cmp.Ordering.TheVariants.{Less, Equal, Greater}
 use Rattle.occ_project.specs.declared.reads.Read.{Read}
 use Rattle.occ_project.specs.Reads.{member, name_cmp, place}
 use Rattle.occ_units.specs.Project.{IsProject, file_of, put}
-use Rattle.occ_units.specs.inside.Finding.{IsGap}
+use Rattle.occ_units.specs.New.{IsGap}
 use Rattle.occ_units.proofs.Looks.{same_bytes}
 use Rattle.occ_units.proofs.Rising.{apart, equal_names, insert_rising, test_equal, turned}
 use Rattle.occ_units.specs.Spelled.{AreSpelled, IsSpelled}

@@ -1,22 +1,19 @@
 -- A file that is put in the place of the one of its name, and what is known then of the units that read it.
-use Rattle.std.proofs.Common.{◌≡◌, ◌∙◌, ◌+◌, ◌<◌, ◌≤◌, ◌||◌, ◌==◌, ◌⊎◌, ◌++◌, ℕ, zero, suc, Bool, true, false, cond, List, [], ◌∷◌, length, map, take, get_or, set, Option, Some, None, Result, Ok, Err, IfOk, refl, sym, ap, subst, inl, inr, arith, ◌↔◌}
+use Rattle.std.proofs.Common.{◌≡◌, ◌∙◌, ◌+◌, ◌<◌, ◌≤◌, ◌||◌, ◌==◌, ◌⊎◌, ◌++◌, ℕ, zero, suc, Bool, true, false, List, [], ◌∷◌, length, map, take, get_or, set, Option, Some, None, refl, sym, ap, subst, inl, inr, arith, ◌↔◌}
 use Rattle.std.proofs.lemmas.Bool.{cases_lt, eq-eqb, eqb-false, eqb-true}
 use Rattle.std.proofs.lemmas.List.{take_more}
-use Rattle.std.proofs.lemmas.Slice.Eq.{bytes_eq-Decides}
 use Rattle.std.specs.List.{cons_option, slice_get}
 use Rattle.std.specs.Option.{is_some, option_map, unwrap_or}
-use Rattle.std.specs.Str.{bytes_eq}
 use Rattle.occ_base.specs.FileName.{is_unit}
-use Rattle.occ_graph.specs.Graph.{Graph, all_rests, has_edge, is_among as is_place}
+use Rattle.occ_graph.specs.Graph.{Graph, has_edge, is_among as is_place}
 use Rattle.occ_graph.specs.Graph as graph
 use Rattle.occ_graph.specs.Sources.{sources}
 use Rattle.occ_project.specs.Entries.{is_among}
-use Rattle.occ_project.specs.Expansion.{Expansion, expansion}
-use Rattle.occ_project.specs.Reads.{member, place}
+use Rattle.occ_project.specs.Expansion.{expansion}
+use Rattle.occ_project.specs.Reads.{place}
 use Rattle.occ_project.specs.declared.reads.Read.{Read}
 use Rattle.occ_units.proofs.Below.{named_at, placed_name}
 use Rattle.occ_units.proofs.Edges.{among_places, file_at, file_there, get_map, graph_long, named_place, same_place, slice_some}
-use Rattle.occ_units.proofs.Finding.{place_within}
 use Rattle.occ_units.proofs.Kept.{map_at}
 use Rattle.occ_units.proofs.Putting.{put_at, put_rises}
 use Rattle.occ_units.proofs.Reading.{read_by}
@@ -26,8 +23,7 @@ use Rattle.occ_units.specs.Places.{graph_of, places_of, read_graph, readers_at}
 use Rattle.occ_units.specs.Project.{IsProject, file_of, put}
 use Rattle.occ_units.specs.Units.{read_names, used_units}
 use Rattle.occ_units.specs.declared.facts.Facts.{Facts}
-use Rattle.occ_units.specs.declared.links.Links.{Links}
-use Rattle.occ_units.specs.inside.Keeping.{AreAsBefore, AreOthers, AreReaders, IsAsBefore, IsGraph, IsLinks, IsRenewed, all_facts, facts_of, no_links, reads_in}
+use Rattle.occ_units.specs.inside.Keeping.{AreAsBefore, AreOthers, AreReaders, IsAsBefore, IsGraph, IsRenewed, all_facts, facts_of, reads_in}
 
 -- what was at a place comes back to it
 set_back : {X : Type 0} (xs : List X) (p : ℕ) (x y : X) → slice_get xs p ≡ Some x → set (set xs p y) p x ≡ xs
@@ -69,10 +65,6 @@ map_long f (x ∷ xs) = ap (λ (n : ℕ). suc n) (map_long f xs)
 
 pub read_graph_long : (files : List Read) → length (read_graph files) ≡ length files
 read_graph_long files = map_long (λ (f : Read). places_of files (read_names files f.name)) files
-
-pub if_then : {X E : Type 0} (r : Result X E) (P Q : X → Type 0) → IfOk r P → ((x : X) → P x → Q x) → IfOk r Q
-if_then (Ok x) P Q h k = k x h
-if_then (Err e) P Q h k = h
 
 pub readers_found : (files : List Read) (facts : List Facts) (edges rows : Graph) → facts ≡ all_facts files → edges ≡ map (λ (f : Facts). places_of files (reads_in f.expanded)) facts → ((p : ℕ) → p < length edges → get_or rows p [] ≡ sources edges p)
     → AreReaders files (Some rows)
@@ -405,17 +397,9 @@ module _ (law : (g : Graph) (u v : ℕ) → (is_place (sources g v) u ≡ true) 
 
 -- so the links and the readers stay
 module _ (files later : List Read) (same : IsRenewed files later) where
-  links_still : (links : Links) → IsLinks files links → IsLinks later links
-  links_still links h =
-      let len = same.len in
-      record {
-        rests_are = h.rests_are ∙ ap all_rests (sym same.graph);
-        users_are = λ p lt. h.users_are p (omega (arith, len, lt)) ∙ ap (λ (g : Graph). sources g p) (sym same.graph);
-      }
-
   readers_still : (readers : Option Graph) → AreReaders files readers → AreReaders later readers
   readers_still None h = tt
   readers_still (Some rows) h = λ p lt. let len = same.len in h p (omega (arith, len, lt)) ∙ ap (λ (g : Graph). sources g p) (sym same.reads)
 
-  pub graph_still : (next : List Facts) (links : Option Links) (readers : Option Graph) → IsLinks files (unwrap_or links no_links) → AreReaders files readers → next ≡ all_facts later → IsGraph later next links readers
-  graph_still next links readers h r n = record { facts_are = n; links_are = links_still (unwrap_or links no_links) h; readers_are = readers_still readers r }
+  pub graph_still : (next : List Facts) (links : Graph) (readers : Option Graph) → links ≡ graph_of files → AreReaders files readers → next ≡ all_facts later → IsGraph later next links readers
+  graph_still next links readers h r n = record { facts_are = n; links_are = h ∙ sym same.graph; readers_are = readers_still readers r }

@@ -1,33 +1,30 @@
 -- What an edit leaves of what a graph keeps.
-use Rattle.std.proofs.Common.{◌≡◌, ◌∙◌, ◌||◌, ◌<◌, arith, get_or, length, ℕ, zero, suc, Bool, true, false, not, cond, List, [], ◌∷◌, map, Option, Some, None, Result, Ok, Err, refl, sym, ap, subst, IfOk, IfSome}
+use Rattle.std.proofs.Common.{◌≡◌, ◌∙◌, ℕ, suc, Bool, true, false, not, cond, List, [], ◌∷◌, map, Option, Some, None, Result, Ok, Err, refl, sym, ap, subst, IfOk, IfSome}
 use Rattle.std.proofs.lemmas.Slice.Eq.{bytes_eq-Decides}
 use Rattle.std.specs.List.{cons_option, flat_map, slice_get}
 use Rattle.std.specs.List.Sorted.{IsStrictlySortedBy}
-use Rattle.std.specs.Option.{is_some, option_map, unwrap_or}
+use Rattle.std.specs.Option.{is_some, option_map}
 use Rattle.std.specs.Ordering.{match_ordering}
 use Rattle.std.specs.Str.{bytes_eq}
 use Rattle.std.specs.declared.cmp.Ordering.{Ordering}
 use Rattle.std.specs.declared.cmp.Ordering.TheVariants.{Less, Equal, Greater}
 use Rattle.occ_base.specs.FileName.{is_unit}
-use Rattle.occ_graph.specs.Graph.{Graph, all_rests}
-use Rattle.occ_graph.specs.Sources.{sources}
+use Rattle.occ_graph.specs.Graph.{Graph}
 use Rattle.occ_project.specs.Entries.{is_among}
 use Rattle.occ_project.specs.Expansion.{Expansion, expansion}
 use Rattle.occ_project.specs.Reads.{lines_of, name_cmp, open_lines, place}
 use Rattle.occ_project.specs.Uses.{units_of}
 use Rattle.occ_project.specs.declared.reads.Read.{Read}
-use Rattle.occ_units.proofs.Edges.{graph_long}
 use Rattle.occ_units.proofs.Kept.{edges_are, map_at}
-use Rattle.occ_units.proofs.Looks.{looks_at_reads, same_bytes}
+use Rattle.occ_units.proofs.Looks.{looks_at_reads}
 use Rattle.occ_units.proofs.Narrowed.{file_lines}
 use Rattle.occ_units.proofs.Putting.{below_found, file_put}
 use Rattle.occ_units.proofs.Rising.{equal_names, turned}
 use Rattle.occ_units.specs.declared.facts.Facts.{Facts}
-use Rattle.occ_units.specs.declared.links.Links.{Links}
 use Rattle.occ_units.specs.Places.{graph_of, places_of}
 use Rattle.occ_units.specs.Project.{IsProject, file_of, put}
-use Rattle.occ_units.specs.Units.{in_order, used_units}
-use Rattle.occ_units.specs.inside.Keeping.{AreOthers, IsGraph, IsLinks, all_facts, facts_of, no_links, reads_in}
+use Rattle.occ_units.specs.Units.{in_order}
+use Rattle.occ_units.specs.inside.Keeping.{AreOthers, IsGraph, all_facts, facts_of, reads_in}
 
 -- what was known at a place
 pub known_is : (files : List Read) (facts : List Facts) (p : ℕ) (file : Read) (name : List ℕ) → facts ≡ all_facts files → slice_get files p ≡ Some file → file.name ≡ name → IfSome (slice_get facts p) (λ known. known ≡ facts_of files name)
@@ -133,26 +130,12 @@ pub if_ok : {X E : Type 0} (r : Result X E) (x y : X) → IfOk r (λ z. z ≡ x)
 if_ok (Ok z) x y h e = h ∙ e
 if_ok (Err f) x y h e = h
 
-pub if_is : {X E : Type 0} (r : Result X E) (x : X) (P : X → Type 0) → IfOk r (λ z. z ≡ x) → P x → IfOk r P
-if_is (Ok z) x P h k = subst P (sym h) k
-if_is (Err f) x P h k = h
-
--- what rests on what, and what uses what
-pub linked : (files : List Read) (facts : List Facts) (edges : Graph) (links : Links) → facts ≡ all_facts files → edges ≡ map (λ (f : Facts). places_of files f.uses) facts → links.rests ≡ all_rests edges
-    → ((p : ℕ) → p < length edges → get_or links.users p [] ≡ sources edges p) → IsLinks files links
-linked files facts edges links f e r u =
-    let are = edges_are files facts edges f e in
-    let long : length edges ≡ length files = ap (length {A = List ℕ}) are ∙ graph_long files in
-    record { rests_are = r ∙ ap all_rests are; users_are = λ p lt. u p (omega (arith, long, lt)) ∙ ap (λ (g : Graph). sources g p) are }
-
--- is the same where the edges are
-pub links_stay : (now files later : List Read) (facts lent found : List Facts) (kept : Option Links) (readers : Option Graph) (links : Links) (edited : List ℕ) → files ≡ now → IsGraph files facts kept readers → lent ≡ facts → found ≡ all_facts later
-    → map (λ (f : Facts). f.uses) lent ≡ map (λ (f : Facts). f.uses) found → kept ≡ Some links → is_some (place edited files) ≡ true → (is_some (place edited now) ≡ true → (name : List ℕ) → place name later ≡ place name now) → IsLinks later links
-links_stay now files later facts lent found kept readers links edited view graph l f uses k here same =
-    let are : IsLinks files links = subst (IsLinks files) (ap (λ (o : Option Links). unwrap_or o no_links) k) graph.links_are in
-    let stays : graph_of files ≡ graph_of later = graph_stays files later lent found (l ∙ graph.facts_are) f uses (λ name. same (ap (λ (fs : List Read). is_some (place edited fs)) (sym view) ∙ here) name ∙ ap (place name) (sym view)) in
-    let long : length files ≡ length later = sym (graph_long files) ∙ ap (length {A = List ℕ}) stays ∙ graph_long later in
-    record { rests_are = are.rests_are ∙ ap all_rests stays; users_are = λ p lt. are.users_are p (omega (arith, long, lt)) ∙ ap (λ (g : Graph). sources g p) stays }
+-- what rests on what stays where each file uses the same
+pub links_stay : (now files later : List Read) (facts lent found : List Facts) (kept : Graph) (readers : Option Graph) (edited : List ℕ) → files ≡ now → IsGraph files facts kept readers → lent ≡ facts → found ≡ all_facts later
+    → map (λ (f : Facts). f.uses) lent ≡ map (λ (f : Facts). f.uses) found → is_some (place edited files) ≡ true → (is_some (place edited now) ≡ true → (name : List ℕ) → place name later ≡ place name now) → graph_of now ≡ graph_of later
+links_stay now files later facts lent found kept readers edited view graph l f uses here same =
+    ap graph_of (sym view)
+    ∙ graph_stays files later lent found (l ∙ graph.facts_are) f uses (λ name. same (ap (λ (fs : List Read). is_some (place edited fs)) (sym view) ∙ here) name ∙ ap (place name) (sym view))
 
 -- whether a file has a place
 pub placed_by : (o p : Option ℕ) (b : Bool) → o ≡ p → is_some o ≡ not b → b ≡ false → is_some p ≡ true

@@ -5,7 +5,7 @@ ghost use Rattle.std.specs.Prelude.{IfOk, IfSome, IsTrue, false, map, ◌≡◌}
 
 use super::Project;
 use super::facts::{Facts, does_read, facts_of};
-use occ_base::{FileName, Items, Shared};
+use occ_base::{FileName, Shared};
 use occ_project::Read;
 use sqlite_items::at;
 use std::alloc::{AllocError, Global};
@@ -88,12 +88,12 @@ pub fn all_facts_behind(
     facts: &[Shared<Facts>],
     project: &Project,
     edited: FileName,
-) -> Result<Items<Shared<Facts>>, AllocError>
+) -> Result<Vec<Shared<Facts>>, AllocError>
     requires facts { facts.now ≡ all_facts files.now }
     requires others { AreOthers edited files.now project.now }
-    ensures { IfOk result (λ all. all ≡ all_facts project.now) }
+    ensures { IfOk result (λ all. all.items ≡ all_facts project.now) }
 {
-    let mut all = Items::new(alloc);
+    let mut all = Vec::new(alloc);
     for (place, file) in project.files().iter().enumerate() {
         all.push(facts_behind(alloc, files, facts, project, place, file.name, edited)?)?;
     }

@@ -62,10 +62,10 @@ pub fn facts_of(alloc: Global, project: &Project, name: FileName) -> Result<Fact
 }
 
 /// What is known of each file.
-pub fn all_facts(alloc: Global, project: &Project) -> Result<Items<Shared<Facts>>, AllocError>
-    ensures { IfOk result (λ all. all ≡ map (λ file. the_facts_of project.now file.name) project.now) }
+pub fn all_facts(alloc: Global, project: &Project) -> Result<Vec<Shared<Facts>>, AllocError>
+    ensures { IfOk result (λ all. all.items ≡ map (λ file. the_facts_of project.now file.name) project.now) }
 {
-    let mut all = Items::new(alloc);
+    let mut all = Vec::new(alloc);
     for file in project.files() {
         all.push(Shared::new(alloc, facts_of(alloc, project, file.name)?)?)?;
     }
@@ -96,7 +96,7 @@ fn hint_at(hints: &[usize], place: usize) -> usize {
 }
 
 /// The places of the files of these names. Each is looked for at its hint first.
-fn places_of(
+pub fn places_of(
     alloc: Global,
     project: &Project,
     hints: &[usize],
@@ -128,10 +128,10 @@ pub fn edges(
     all: &[Shared<Facts>],
     before: &[Items<usize>],
     new: usize,
-) -> Result<Items<Items<usize>>, AllocError>
-    ensures { IfOk result (λ edges. edges ≡ map (λ facts. the_places_of project.now facts.uses) all.now) }
+) -> Result<Vec<Items<usize>>, AllocError>
+    ensures { IfOk result (λ edges. edges.items ≡ map (λ facts. the_places_of project.now facts.uses) all.now) }
 {
-    let mut edges = Items::new(alloc);
+    let mut edges = Vec::new(alloc);
     for (place, facts) in all.iter().enumerate() {
         let hints = hints_at(before, new, place);
         edges.push(places_of(alloc, project, hints, facts.get().uses.as_slice())?)?;

@@ -1,22 +1,25 @@
-ghost use Rattle.occ_graph.specs.Graph.{all_rests, is_among as is_place, rests as rests_in};
+ghost use Rattle.occ_graph.specs.Graph.{is_among as is_place, rests as rests_in};
 ghost use Rattle.occ_project.specs.Entries.{is_among};
 ghost use Rattle.occ_project.specs.Reads.{place, place as first_place};
 ghost use Rattle.occ_units.specs.Along.{name_at};
+ghost use Rattle.occ_units.specs.New.{IsNew};
 ghost use Rattle.occ_units.specs.Places.{graph_of, is_circular as uses_in_circle, readers_at, standing_of, users_at};
 ghost use Rattle.occ_units.specs.Project.{put};
 ghost use Rattle.occ_units.specs.Units.{read_names, used_units};
-ghost use Rattle.occ_units.specs.inside.Keeping.{IsLinks, all_facts as all_facts_of, facts_of as the_facts_of};
+ghost use Rattle.occ_units.specs.inside.Keeping.{all_facts as all_facts_of, facts_of as the_facts_of};
 ghost use Rattle.std.specs.Option.{is_some, option_and_then, option_copied, option_map};
-ghost use Rattle.std.specs.Prelude.{[], get_or, IfOk, OnErr, OnOk, Some, length, List, slice_get, true, ℕ, ◌≡◌, ◌<◌};
+ghost use Rattle.std.specs.Prelude.{[], false, get_or, IfOk, IfSome, IsFalse, MatchOption, None, OnErr, OnOk, Some, length, List, slice_get, true, ℕ, ◌≡◌, ◌<◌};
 
+use super::adding::{add_file, may_read, may_use};
 use super::behind::{all_facts_behind, use_same};
 use super::facts::{Facts, all_facts, does_read, is_name_among};
-use super::links::{Links, links_of};
+use super::links::links_of;
 use super::project::share;
 use super::renewing::{find_readers, renew};
 use super::{Project, Standing};
 use occ_base::{FileName, Items, Shared};
 use occ_forms::Source;
+use occ_graph::Linked;
 use occ_project::{Expanded, Read};
 use std::alloc::{AllocError, Global};
 use std::marker::Model;
@@ -55,9 +58,9 @@ fn is_place_among(places: &[usize], place: usize) -> bool
 pub struct Graph {
     project: Project,
     /// What is known of each file, in order of name.
-    facts: Items<Shared<Facts>>,
-    /// What rests on what and what uses what; nothing where there are no files.
-    links: Option<Shared<Links>>,
+    facts: Vec<Shared<Facts>>,
+    /// What rests on what and what uses what.
+    links: Linked,
     /// Of each file the places of those that read it, once they were asked for; behind edits that leave all reads as they
     /// were they are the same.
     readers: Option<Items<Items<usize>>>,
@@ -80,7 +83,7 @@ impl Model for Graph {
 
     ghost view = { λ graph. graph.project };
 
-    ghost invariant = { λ graph. IsGraph graph.project graph.facts graph.links graph.readers };
+    ghost invariant = { λ graph. IsGraph graph.project graph.facts.items graph.links graph.readers };
 }
 
 /// The graph of a project, which it keeps.
@@ -88,7 +91,7 @@ fn keep(alloc: Global, project: Project) -> Result<Graph, AllocError>
     ensures { IfOk result (λ graph. graph ≡ project) }
 {
     let facts = all_facts(alloc, &project)?;
-    let links = Some(links_of(alloc, &project, facts.as_slice(), &[], 0)?);
+    let links = links_of(alloc, &project, facts.as_slice(), &[], 0)?;
     Ok(Graph {
         project,
         facts,
@@ -104,8 +107,8 @@ impl Graph {
     {
         Graph {
             project: Project::new(alloc),
-            facts: Items::new(alloc),
-            links: None,
+            facts: Vec::new(alloc),
+            links: Linked::new(alloc),
             readers: None,
         }
     }
@@ -117,15 +120,17 @@ impl Graph {
         keep(alloc, project.share(alloc)?)
     }
 
-    /// The graph of the project in which the file of that name has this text, or is absent, by the edit of that number.
-    pub fn with(
-        &self,
+    /// Gives the file of that name this text, or takes it away, by the edit of that number. What is kept of units that do not
+    /// read it stays, and what rests on what if no file is new and each uses the same units.
+    pub fn put(
+        &mut self,
         alloc: Global,
         name: FileName,
         revision: u32,
         source: Option<Shared<Source>>,
-    ) -> Result<Graph, AllocError>
-        ensures { IfOk result (λ graph. graph ≡ put self.now (record { name = name; revision = revision; source = source })) }
+    ) -> Result<(), AllocError>
+        ensures ok { OnOk result (self.new ≡ put self.old (record { name = name; revision = revision; source = source })) }
+        ensures err { OnErr result (self.new ≡ self.old) }
     {
         let mut project = self.project.share(alloc)?;
         project.set(name, revision, source)?;
@@ -136,13 +141,93 @@ impl Graph {
             &project,
             name,
         )?;
-        let links = Some(self.links_behind(alloc, &project, facts.as_slice(), name)?);
-        Ok(Graph {
+        let Some(links) = self.links_behind(alloc, &project, facts.as_slice(), name)? else {
+            self.project = project;
+            self.facts = facts;
+            self.readers = None;
+            return Ok(());
+        };
+        *self = Graph {
             project,
             facts,
             links,
             readers: None,
-        })
+        };
+        Ok(())
+    }
+
+    /// Whether the file at a place may read or use one of that name, which is not there.
+    fn may_look_for(&self, place: usize, name: FileName) -> bool
+        requires within { place < length self.now }
+        requires absent { first_place name self.now ≡ None }
+        ensures unread { IsFalse result → is_among (read_names self.now (name_at self.now place)) name ≡ false }
+        ensures unused { IsFalse result → is_among (used_units self.now (name_at self.now place)) name ≡ false }
+    {
+        let _files = self.project.files();
+        let Some(facts) = facts_at(self.facts.as_slice(), place) else {
+            return true;
+        };
+        if may_read(facts, name) {
+            return true;
+        }
+        may_use(facts, row(self.links.edges(), place), name)
+    }
+
+    /// Whether any file may do so.
+    fn may_any_look_for(&self, name: FileName) -> bool
+        requires { first_place name self.now ≡ None }
+        ensures unread { IsFalse result → (p : ℕ) → p < length self.now → is_among (read_names self.now (name_at self.now p)) name ≡ false }
+        ensures unused { IsFalse result → (p : ℕ) → p < length self.now → is_among (used_units self.now (name_at self.now p)) name ≡ false }
+    {
+        for place in 0..self.project.files().len() {
+            if self.may_look_for(place, name) {
+                return true;
+            }
+        }
+        false
+    }
+
+    /// Where a file of that name would stand, if there is none, and no file is found to read or use one.
+    pub fn place_for(&self, name: FileName) -> Option<usize>
+        ensures { IfSome result (λ at. IsNew self.now name at) }
+    {
+        let at = self.project.gap(name)?;
+        if self.may_any_look_for(name) {
+            return None;
+        }
+        Some(at)
+    }
+
+    /// Puts a file that is new, and that no file reads or uses, where it stands from then on. What is kept of the others stays,
+    /// but for their places.
+    pub fn add(
+        &mut self,
+        alloc: Global,
+        at: usize,
+        name: FileName,
+        revision: u32,
+        source: Option<Shared<Source>>,
+    ) -> Result<(), AllocError>
+        requires { IsNew self.old name at }
+        ensures ok { OnOk result (self.new ≡ put self.old (record { name = name; revision = revision; source = source })) }
+        ensures err { OnErr result (self.new ≡ self.old) }
+    {
+        let _files = self.project.files();
+        let file = Read {
+            name,
+            revision,
+            source,
+        };
+        add_file(
+            alloc,
+            &mut self.project,
+            &mut self.facts,
+            &mut self.links,
+            at,
+            file,
+        )?;
+        self.readers = None;
+        Ok(())
     }
 
     /// The places of the units that read the file at a place, in order. The first time all are found.
@@ -193,46 +278,51 @@ impl Graph {
         )? {
             return Ok(());
         }
-        *self = self.with(alloc, name, revision, again.source)?;
-        Ok(())
+        self.put(alloc, name, revision, again.source)
     }
 
-    /// What rests on what and uses what behind the edit of a file: the same as before, if no file is new and each uses the same units.
+    /// What rests on what and uses what behind the edit of a file; nothing, if that is the same as before, since no file is new
+    /// and each uses the same units.
     fn links_behind(
         &self,
         alloc: Global,
         project: &Project,
         facts: &[Shared<Facts>],
         edited: FileName,
-    ) -> Result<Shared<Links>, AllocError>
+    ) -> Result<Option<Linked>, AllocError>
         requires facts { facts.now ≡ all_facts_of project.now }
         requires places { is_some (place edited self.now) ≡ true → (name : List ℕ) → place name project.now ≡ place name self.now }
-        ensures { IfOk result (λ links. IsLinks project.now links) }
+        ensures { IfOk result (λ found. MatchOption found (graph_of self.now ≡ graph_of project.now) (λ links. links ≡ graph_of project.now)) }
     {
         if self.project.place(edited).is_none() {
             let new = project.place_or_first(edited);
-            return links_of(alloc, project, facts, self.all_edges(), new);
+            return self.found_links(alloc, project, facts, new);
         }
         if !use_same(self.facts.as_slice(), facts) {
-            return links_of(alloc, project, facts, self.all_edges(), facts.len());
+            return self.found_links(alloc, project, facts, facts.len());
         }
-        match &self.links {
-            Some(links) => links.share(),
-            None => links_of(alloc, project, facts, &[], 0),
-        }
+        Ok(None)
     }
 
-    /// Of each file the places of those that it uses. It promises nothing, since places are only looked for there first.
-    fn all_edges(&self) -> &[Items<usize>] {
-        match &self.links {
-            Some(links) => links.get().edges.as_slice(),
-            None => &[],
-        }
+    /// What rests on what and uses what in a project of whose files this is known. It is found sooner when the file at the new
+    /// place was not there.
+    fn found_links(
+        &self,
+        alloc: Global,
+        project: &Project,
+        facts: &[Shared<Facts>],
+        new: usize,
+    ) -> Result<Option<Linked>, AllocError>
+        requires { facts.now ≡ all_facts_of project.now }
+        ensures { IfOk result (λ found. MatchOption found (graph_of self.now ≡ graph_of project.now) (λ links. links ≡ graph_of project.now)) }
+    {
+        let links = links_of(alloc, project, facts, self.links.edges(), new)?;
+        Ok(Some(links))
     }
 
     /// Where a file that the one at a place uses is looked for first.
     fn used_hint(&self, place: usize, used: FileName) -> usize {
-        for to in row(self.all_edges(), place) {
+        for to in row(self.links.edges(), place) {
             if self.project.is_at(*to, used) {
                 return *to;
             }
@@ -315,31 +405,11 @@ impl Graph {
         }
     }
 
-    /// Of each file the places of those that it rests on.
-    fn all_rests(&self) -> &[Items<usize>]
-        ensures { result.now ≡ all_rests (graph_of self.now) }
-    {
-        match &self.links {
-            Some(links) => links.get().rests.as_slice(),
-            None => &[],
-        }
-    }
-
     /// The places of the units that the unit at a place rests on.
     pub fn rests(&self, place: usize) -> &[usize]
         ensures { result.now ≡ rests_in (graph_of self.now) place }
     {
-        row(self.all_rests(), place)
-    }
-
-    /// Of each file the places of those that use it.
-    fn all_users(&self) -> &[Items<usize>]
-        ensures { (p : ℕ) → p < length self.now → get_or result.now p [] ≡ users_at self.now p }
-    {
-        match &self.links {
-            Some(links) => links.get().users.as_slice(),
-            None => &[],
-        }
+        self.links.rests(place)
     }
 
     /// The places of the units that use the one at a place, in order.
@@ -347,7 +417,7 @@ impl Graph {
         requires { place < length self.now }
         ensures { result.now ≡ users_at self.now place }
     {
-        row(self.all_users(), place)
+        self.links.sources(place)
     }
 
     /// Whether the one unit uses the other, which is the same or reaches it by units that each use the next.

@@ -1,6 +1,7 @@
 //! Many units: a project, what each of its units reads and uses, and which of them use each other in circles.
 #![tactic(auto)]
 
+mod adding;
 mod behind;
 mod expansion;
 mod facts;

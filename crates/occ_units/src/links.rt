@@ -1,22 +1,12 @@
-ghost use Rattle.occ_units.specs.inside.Keeping.{IsLinks, all_facts as all_facts_of};
+ghost use Rattle.occ_units.specs.Places.{graph_of};
+ghost use Rattle.occ_units.specs.inside.Keeping.{all_facts as all_facts_of};
 ghost use Rattle.std.specs.Prelude.{IfOk, ◌≡◌};
 
 use super::Project;
 use super::facts::{Facts, edges};
 use occ_base::{Items, Shared};
-use occ_graph::{find_rests, find_sources};
+use occ_graph::Linked;
 use std::alloc::{AllocError, Global};
-
-/// What rests on what and what uses what in a project, by places.
-#[derive(Drop)]
-pub struct Links {
-    /// Of each file the places of those that it uses.
-    pub edges: Items<Items<usize>>,
-    /// Of each file the places of those that it rests on.
-    pub rests: Items<Items<usize>>,
-    /// Of each file the places of those that use it, in order.
-    pub users: Items<Items<usize>>,
-}
 
 /// What rests on what and what uses what in a project of whose files this is known. It is found sooner with the edges of
 /// before, when the file at the new place was not there.
@@ -26,20 +16,10 @@ pub fn links_of(
     facts: &[Shared<Facts>],
     before: &[Items<usize>],
     new: usize,
-) -> Result<Shared<Links>, AllocError>
+) -> Result<Linked, AllocError>
     requires { facts.now ≡ all_facts_of project.now }
-    ensures { IfOk result (λ links. IsLinks project.now links) }
+    ensures { IfOk result (λ links. links ≡ graph_of project.now) }
 {
     let edges = edges(alloc, project, facts, before, new)?;
-    let graph = edges.as_slice();
-    let users = find_sources(alloc, graph)?;
-    let rests = find_rests(alloc, graph, users.as_slice())?;
-    Shared::new(
-        alloc,
-        Links {
-            edges,
-            rests,
-            users,
-        },
-    )
+    Linked::of(alloc, edges)
 }

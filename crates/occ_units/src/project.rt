@@ -1,9 +1,10 @@
 ghost use Rattle.occ_project.specs.Reads.{member, place as first_place};
 ghost use Rattle.occ_units.specs.Along.{name_at as the_name_at};
 ghost use Rattle.occ_units.specs.Project.{IsProject, file_of, put};
-ghost use Rattle.occ_units.specs.inside.Finding.{IsGap};
+ghost use Rattle.occ_units.specs.New.{IsGap};
+ghost use Rattle.std.specs.List.{remove};
 ghost use Rattle.std.specs.Option.{option_copied};
-ghost use Rattle.std.specs.Prelude.{[], map, IfOk, IsTrue, MatchResult, None, OnErr, OnOk, Some, length, ◌≡◌, ◌<◌};
+ghost use Rattle.std.specs.Prelude.{[], map, IfOk, IfSome, IsTrue, MatchResult, None, OnErr, OnOk, Some, length, ◌≡◌, ◌<◌};
 
 use occ_base::{FileName, Items, Shared};
 use occ_forms::Source;
@@ -150,6 +151,34 @@ impl Project {
             }
             Err(at) => Ok(self.files.insert(at, file)?),
         }
+    }
+
+    /// Where a file of that name would stand, if there is none.
+    pub(crate) fn gap(&self, name: FileName) -> Option<usize>
+        ensures { IfSome result (λ at. IsGap name self.now at) }
+    {
+        match self.find(name) {
+            Ok(_place) => None,
+            Err(at) => Some(at),
+        }
+    }
+
+    /// Puts a file of a new name where it stands from then on.
+    pub(crate) fn insert(&mut self, at: usize, file: Read) -> Result<(), AllocError>
+        requires { IsGap file.name self.old at }
+        ensures ok { OnOk result (self.new ≡ put self.old file) }
+        ensures err { OnErr result (self.new ≡ self.old) }
+    {
+        Ok(self.files.insert(at, file)?)
+    }
+
+    /// Takes away the file at a place.
+    pub(crate) fn remove(&mut self, at: usize)
+        requires within { at < length self.old }
+        requires project { IsProject (remove self.old at) }
+        ensures { self.new ≡ remove self.old at }
+    {
+        self.files.remove(at);
     }
 
     /// The name of the file at a place.

@@ -26,7 +26,8 @@ pub fn find_readers(
     ensures { IfOk result (λ rows. AreReaders project.now (Some rows)) }
 {
     let edges = read_edges(alloc, project, facts)?;
-    find_sources(alloc, edges.as_slice())
+    let rows = find_sources(alloc, edges.as_slice())?;
+    Ok(Items::from_vec(rows))
 }
 
 /// What is known of the files at these places.
@@ -72,27 +73,27 @@ pub fn are_as_before(facts: &[Shared<Facts>], places: &[usize], found: &[Shared<
 }
 
 /// Puts what is known of a file at the place that stands among these.
-fn put_at(facts: &mut Items<Shared<Facts>>, places: &[usize], i: usize, known: Shared<Facts>)
+fn put_at(facts: &mut Vec<Shared<Facts>>, places: &[usize], i: usize, known: Shared<Facts>)
     requires { i < length places.now }
-    ensures { facts.new ≡ slice_set facts.old (get_or places.now i 0) known }
+    ensures { facts.new.items ≡ slice_set facts.old.items (get_or places.now i 0) known }
 {
     let place = places[i];
     if place < facts.len() {
-        facts.set(place, known);
+        facts[place] = known;
     }
 }
 
 /// Puts what was found of the files at these places there. Of the others it was known.
 pub fn put_all(
-    facts: &mut Items<Shared<Facts>>,
+    facts: &mut Vec<Shared<Facts>>,
     project: &Project,
     places: &[usize],
     mut found: Items<Shared<Facts>>,
 )
-    requires len { length facts.old ≡ length project.now }
+    requires len { length facts.old.items ≡ length project.now }
     requires found { found ≡ map (λ place. the_facts_of project.now (name_at project.now place)) places.now }
-    requires others { (p : ℕ) → p < length project.now → is_place places.now p ≡ true ⊎ slice_get facts.old p ≡ Some (the_facts_of project.now (name_at project.now p)) }
-    ensures { facts.new ≡ all_facts_of project.now }
+    requires others { (p : ℕ) → p < length project.now → is_place places.now p ≡ true ⊎ slice_get facts.old.items p ≡ Some (the_facts_of project.now (name_at project.now p)) }
+    ensures { facts.new.items ≡ all_facts_of project.now }
 {
     while let Some(known) = found.pop() {
         put_at(facts, places, found.len(), known);
@@ -104,16 +105,16 @@ pub fn put_all(
 fn renew_facts(
     alloc: Global,
     project: &Project,
-    facts: &mut Items<Shared<Facts>>,
+    facts: &mut Vec<Shared<Facts>>,
     places: &[usize],
 ) -> Result<bool, AllocError>
     requires within { (p : ℕ) → is_place places.now p ≡ true → p < length project.now }
-    requires len { length facts.old ≡ length project.now }
-    requires others { (p : ℕ) → p < length project.now → is_place places.now p ≡ true ⊎ slice_get facts.old p ≡ Some (the_facts_of project.now (name_at project.now p)) }
-    ensures facts { IfOk result (λ done. done ≡ true → facts.new ≡ all_facts_of project.now) }
-    ensures same { IfOk result (λ done. done ≡ true → AreAsBefore facts.old places.now (map (λ place. the_facts_of project.now (name_at project.now place)) places.now)) }
-    ensures other { IfOk result (λ done. done ≡ false → facts.new ≡ facts.old) }
-    ensures err { OnErr result (facts.new ≡ facts.old) }
+    requires len { length facts.old.items ≡ length project.now }
+    requires others { (p : ℕ) → p < length project.now → is_place places.now p ≡ true ⊎ slice_get facts.old.items p ≡ Some (the_facts_of project.now (name_at project.now p)) }
+    ensures facts { IfOk result (λ done. done ≡ true → facts.new.items ≡ all_facts_of project.now) }
+    ensures same { IfOk result (λ done. done ≡ true → AreAsBefore facts.old.items places.now (map (λ place. the_facts_of project.now (name_at project.now place)) places.now)) }
+    ensures other { IfOk result (λ done. done ≡ false → facts.new.items ≡ facts.old.items) }
+    ensures err { OnErr result (facts.new.items ≡ facts.old.items) }
 {
     let found = facts_of_all(alloc, project, places)?;
     if !are_as_before(facts.as_slice(), places, found.as_slice()) {
@@ -128,7 +129,7 @@ fn renew_facts(
 pub fn renew(
     alloc: Global,
     project: &mut Project,
-    facts: &mut Items<Shared<Facts>>,
+    facts: &mut Vec<Shared<Facts>>,
     place: usize,
     readers: &[usize],
     file: Read,
@@ -136,10 +137,10 @@ pub fn renew(
     requires project { IsProject project.old }
     requires place { first_place file.name project.old ≡ Some place }
     requires readers { readers.now ≡ the_readers_at project.old place }
-    requires facts { facts.old ≡ all_facts_of project.old }
-    ensures done { IfOk result (λ done. done ≡ true → IsRenewed project.old (put project.old file) × (project.new ≡ put project.old file × facts.new ≡ all_facts_of project.new)) }
-    ensures other { IfOk result (λ done. done ≡ false → project.new ≡ project.old × facts.new ≡ facts.old) }
-    ensures err { OnErr result (project.new ≡ project.old × facts.new ≡ facts.old) }
+    requires facts { facts.old.items ≡ all_facts_of project.old }
+    ensures done { IfOk result (λ done. done ≡ true → IsRenewed project.old (put project.old file) × (project.new ≡ put project.old file × facts.new.items ≡ all_facts_of project.new)) }
+    ensures other { IfOk result (λ done. done ≡ false → project.new ≡ project.old × facts.new.items ≡ facts.old.items) }
+    ensures err { OnErr result (project.new ≡ project.old × facts.new.items ≡ facts.old.items) }
 {
     sources_law();
     let before = project.read(file.name)?;

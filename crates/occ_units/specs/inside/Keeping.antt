@@ -1,14 +1,12 @@
 -- What a graph keeps.
 use Rattle.std.specs.Prelude.{◌≡◌, ◌<◌, ℕ, false, List, [], cond, get_or, length, map, slice_get, Option, Some, None}
-use Rattle.std.specs.Option.{unwrap_or}
 use Rattle.std.specs.Str.{bytes_eq}
 use Rattle.occ_base.specs.FileName.{is_unit}
-use Rattle.occ_graph.specs.Graph.{Graph, all_rests}
+use Rattle.occ_graph.specs.Graph.{Graph}
 use Rattle.occ_project.specs.declared.reads.Read.{Read}
 use Rattle.occ_project.specs.Expansion.{Expansion, expansion}
 use Rattle.occ_units.specs.declared.facts.Facts.{Facts}
-use Rattle.occ_units.specs.declared.links.Links.{Links}
-use Rattle.occ_units.specs.Places.{graph_of, read_graph, readers_at, users_at}
+use Rattle.occ_units.specs.Places.{graph_of, read_graph, readers_at}
 use Rattle.occ_units.specs.Project.{file_of}
 use Rattle.occ_units.specs.Units.{used_units}
 
@@ -28,23 +26,14 @@ reads_in (Some expansion) = expansion.reads
 abbrev pub AreOthers : List ℕ → List Read → List Read → Type 0
 AreOthers name files later = (other : List ℕ) → bytes_eq name other ≡ false → file_of later other ≡ file_of files other
 
--- what rests on what, and what uses what
-pub record IsLinks (files : List Read) (links : Links) : Type 0 where
-  pub rests_are : links.rests ≡ all_rests (graph_of files)
-  pub users_are : (p : ℕ) → p < length files → get_or links.users p [] ≡ users_at files p
-
-abbrev pub no_links : Links
-no_links = record { edges = []; rests = []; users = [] }
-
 -- of each file the places of those that read it, if they were asked for
 abbrev pub AreReaders : List Read → Option Graph → Type 0
 AreReaders files None = Unit {0}
 AreReaders files (Some rows) = (p : ℕ) → p < length files → get_or rows p [] ≡ readers_at files p
 
--- without files there are no links
-pub record IsGraph (files : List Read) (facts : List Facts) (links : Option Links) (readers : Option Graph) : Type 0 where
+pub record IsGraph (files : List Read) (facts : List Facts) (links : Graph) (readers : Option Graph) : Type 0 where
   pub facts_are : facts ≡ all_facts files
-  pub links_are : IsLinks files (unwrap_or links no_links)
+  pub links_are : links ≡ graph_of files
   pub readers_are : AreReaders files readers
 
 -- what is known of a file reads and uses what it did before

@@ -7,7 +7,7 @@ use Rattle.occ_script.proofs.run.run.Goals as goal
 
 pub returns-in-End-clause-told : goal.returns-in-End-clause-told
 returns-in-End-clause-told g c = λ read r.
-    told_end read _ _ _ _ _ _ _ _ (c.loop.invariant.so_far read r) c.loop.invariant.left c.in-End.ensures.says refl c.end_status.ensures
+    told_end read _ _ _ _ _ _ _ _ (c.loop.invariant.so_far read r) c.loop.invariant.left c.in-End.ensures.says refl c.end_run.ensures
 
 pub returns-in-Fault-clause-told : goal.returns-in-Fault-clause-told
 returns-in-Fault-clause-told g c = λ read r.

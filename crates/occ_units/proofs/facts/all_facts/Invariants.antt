@@ -3,4 +3,4 @@ use Rattle.occ_units.specs.inside.Keeping.{facts_of}
 use Rattle.occ_units.proofs.facts.all_facts.Given as goal
 
 abbrev pub invariant-loop-file : goal.invariant-loop-file
-invariant-loop-file l = l.all ≡ map (λ file. facts_of l.project file.name) (take l.file-index l.file-items)
+invariant-loop-file l = l.all.items ≡ map (λ file. facts_of l.project file.name) (take l.file-index l.file-items)

@@ -3,4 +3,4 @@ use Rattle.occ_units.specs.Places.{places_of}
 use Rattle.occ_units.proofs.facts.edges.Given as goal
 
 abbrev pub invariant-loop-place : goal.invariant-loop-place
-invariant-loop-place l = l.edges ≡ map (λ facts. places_of l.project facts.uses) (take l.place l.all)
+invariant-loop-place l = l.edges.items ≡ map (λ facts. places_of l.project facts.uses) (take l.place l.all)

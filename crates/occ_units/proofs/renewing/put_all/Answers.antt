@@ -4,14 +4,14 @@ use Rattle.occ_units.proofs.renewing.put_all.Goals as goal
 use Rattle.occ_units.specs.declared.facts.Facts.{Facts}
 
 pub loop-known-init : goal.loop-known-init
-loop-known-init c = put_begun c.args.project.now c.args.places.now c.args.facts.now c.args.found c.requires.len c.requires.found c.requires.others
+loop-known-init c = put_begun c.args.project.now c.args.places.now c.args.facts.now.items c.args.found c.requires.len c.requires.found c.requires.others
 
 pub loop-known-preserved : goal.loop-known-preserved
 loop-known-preserved c =
-    put_more c.args.project.now c.args.places.now c.loop-known.facts c.put_at.new.facts c.loop-known.found c.pop.new.self c.in-Some.known c.loop-known.invariant c.in-Some.ensures
-    (c.put_at.ensures ∙ ap (λ (i : ℕ). set c.loop-known.facts (get_or c.args.places.now i 0) c.in-Some.known) c.len.ensures)
+    put_more c.args.project.now c.args.places.now c.loop-known.facts.items c.put_at.new.facts.items c.loop-known.found c.pop.new.self c.in-Some.known c.loop-known.invariant c.in-Some.ensures
+    (c.put_at.ensures ∙ ap (λ (i : ℕ). set c.loop-known.facts.items (get_or c.args.places.now i 0) c.in-Some.known) c.len.ensures)
 
 pub returns : goal.returns
 returns c =
     let empty : c.loop-known.found ≡ [] = search rules in
-    put_over c.args.project.now c.args.places.now c.loop-known.facts (subst (λ (xs : List Facts). IsPutting c.args.project.now c.args.places.now c.loop-known.facts xs) empty c.loop-known.invariant)
+    put_over c.args.project.now c.args.places.now c.loop-known.facts.items (subst (λ (xs : List Facts). IsPutting c.args.project.now c.args.places.now c.loop-known.facts.items xs) empty c.loop-known.invariant)

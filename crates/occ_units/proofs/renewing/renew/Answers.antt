@@ -1,4 +1,4 @@
-use Rattle.std.proofs.Common.{◌≡◌, ◌∙◌, ap, sym, subst, rules}
+use Rattle.std.proofs.Common.{subst}
 use Rattle.occ_units.proofs.Renewed.{behind_long, behind_others, behind_renewed, back_is, back_placed, behind_within}
 use Rattle.occ_units.proofs.renewing.renew.Goals as goal
 use Rattle.occ_units.specs.inside.Keeping.{IsRenewed}
@@ -7,14 +7,14 @@ pub renew_facts-requires-clause-within : goal.renew_facts-requires-clause-within
 renew_facts-requires-clause-within c = behind_within c.sources_law.ensures c.args.project.now c.replace.new.self c.args.file c.args.place c.requires.project c.replace.ensures c.requires.place c.args.readers.now c.requires.readers
 
 pub renew_facts-requires-clause-len : goal.renew_facts-requires-clause-len
-renew_facts-requires-clause-len c = behind_long c.sources_law.ensures c.args.project.now c.replace.new.self c.args.file c.args.place c.requires.project c.replace.ensures c.requires.place c.args.readers.now c.requires.readers c.args.facts.now c.requires.facts
+renew_facts-requires-clause-len c = behind_long c.sources_law.ensures c.args.project.now c.replace.new.self c.args.file c.args.place c.requires.project c.replace.ensures c.requires.place c.args.readers.now c.requires.readers c.args.facts.now.items c.requires.facts
 
 pub renew_facts-requires-clause-others : goal.renew_facts-requires-clause-others
-renew_facts-requires-clause-others c = behind_others c.sources_law.ensures c.args.project.now c.replace.new.self c.args.file c.args.place c.requires.project c.replace.ensures c.requires.place c.args.readers.now c.requires.readers c.args.facts.now c.requires.facts
+renew_facts-requires-clause-others c = behind_others c.sources_law.ensures c.args.project.now c.replace.new.self c.args.file c.args.place c.requires.project c.replace.ensures c.requires.place c.args.readers.now c.requires.readers c.args.facts.now.items c.requires.facts
 
 pub returns-in-Ok-true-clause-done : goal.returns-in-Ok-true-clause-done
 returns-in-Ok-true-clause-done c = λ _. (
-  subst (IsRenewed c.args.project.now) c.replace.ensures (behind_renewed c.sources_law.ensures c.args.project.now c.replace.new.self c.args.file c.args.place c.requires.project c.replace.ensures c.requires.place c.args.readers.now c.requires.readers c.args.facts.now c.requires.facts (c.in-Ok-true.ensures.same c.in-Ok-true.field-0-test)),
+  subst (IsRenewed c.args.project.now) c.replace.ensures (behind_renewed c.sources_law.ensures c.args.project.now c.replace.new.self c.args.file c.args.place c.requires.project c.replace.ensures c.requires.place c.args.readers.now c.requires.readers c.args.facts.now.items c.requires.facts (c.in-Ok-true.ensures.same c.in-Ok-true.field-0-test)),
   (c.replace.ensures, c.in-Ok-true.ensures.facts c.in-Ok-true.field-0-test),
 )
 

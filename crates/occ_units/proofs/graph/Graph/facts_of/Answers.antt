@@ -11,8 +11,8 @@ use Rattle.occ_units.proofs.graph.Graph.facts_of.Goals as goal
 pub returns-in-Some : goal.returns-in-Some
 returns-in-Some c =
     c.facts_at.ensures
-    ∙ ap (λ (facts : List Facts). slice_get facts c.in-Some.place) c.as_slice.ensures
-    ∙ facts_there c.self.inside.project c.self.inside.facts c.args.name c.in-Some.place c.self.invariant.facts_are (sym c.in-Some.ensures)
+    ∙ ap (λ (facts : List Facts). slice_get facts c.in-Some.place) c.as_slice.ensures.value
+    ∙ facts_there c.self.inside.project c.self.inside.facts.items c.args.name c.in-Some.place c.self.invariant.facts_are (sym c.in-Some.ensures)
     ∙ ap (λ (files : List Read). option_map (λ (at : ℕ). facts_of files c.args.name) (place c.args.name files)) c.self.view_is
 
 pub returns-in-None : goal.returns-in-None

@@ -2,7 +2,7 @@ use Rattle.std.proofs.Common.{◌≡◌, List, Some, ap, subst, sym, ◌∙◌, 
 use Rattle.occ_project.specs.declared.reads.Read.{Read}
 use Rattle.occ_project.specs.Reads.{place}
 use Rattle.occ_units.specs.Project.{IsProject, put}
-use Rattle.occ_units.specs.inside.Finding.{IsGap}
+use Rattle.occ_units.specs.New.{IsGap}
 use Rattle.occ_units.proofs.Finding.{place_within}
 use Rattle.occ_units.proofs.Putting.{put_at, put_gap, put_rises}
 use Rattle.occ_units.proofs.project.Project.set.Goals as goal

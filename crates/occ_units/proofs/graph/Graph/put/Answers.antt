@@ -1,6 +1,6 @@
 use Rattle.std.proofs.Common.{subst, sym, ◌∙◌}
 use Rattle.occ_units.proofs.Sharing.{others_behind, places_behind}
-use Rattle.occ_units.proofs.graph.Graph.with.Goals as goal
+use Rattle.occ_units.proofs.graph.Graph.put.Goals as goal
 use Rattle.occ_units.specs.Project.{IsProject}
 
 pub all_facts_behind-requires-clause-others : goal.all_facts_behind-requires-clause-others

@@ -1,0 +1,37 @@
+-- What is kept of a graph, and what of it is made anew where one node more comes to a place.
+use Rattle.std.specs.Prelude.{◌≡◌, ◌<◌, ◌+◌, ◌-◌, ◌++◌, ◌==◌, ℕ, List, [], ◌∷◌, cond, get_or, length, map, nat_lt, not, slice_set}
+use Rattle.std.specs.List.{filter}
+use Rattle.occ_graph.specs.Graph.{Graph, IsWhole, all_rests}
+use Rattle.occ_graph.specs.Sources.{once_each, sources}
+
+-- of each node those that it rests on, and those from which edges lead to it
+pub record IsLinked (g : Graph) (rests turned : Graph) : Type 0 where
+  pub whole : IsWhole g
+  pub rests_are : rests ≡ all_rests g
+  pub len : length turned ≡ length g
+  pub sources_are : (v : ℕ) → v < length g → get_or turned v [] ≡ sources g v
+
+-- those of these that are not this one
+abbrev pub others : ℕ → List ℕ → List ℕ
+others at ws = filter (λ w. not (w == at)) ws
+
+-- those of these that stand before a place, and the places of the others where one comes to it
+abbrev pub before : ℕ → List ℕ → List ℕ
+before at us = filter (λ u. nat_lt u at) us
+
+abbrev pub behind : ℕ → List ℕ → List ℕ
+behind at us = map (λ u. u + 1) (filter (λ u. not (nat_lt u at)) us)
+
+-- those from which edges led to the node that then has this place
+abbrev pub sources_till : Graph → ℕ → ℕ → List ℕ
+sources_till turned at v = cond (v == at) [] (get_or turned (cond (nat_lt v at) v (v - 1)) [])
+
+-- those from which edges lead to it then, where edges lead from the new node to these
+abbrev pub sources_then : Graph → ℕ → List ℕ → ℕ → List ℕ
+sources_then turned at ws v = before at (sources_till turned at v) ++ (once_each at ws v ++ behind at (sources_till turned at v))
+
+-- rows at these places are replaced
+abbrev pub with_rows : Graph → List ℕ → List (List ℕ) → Graph
+with_rows g [] rows = g
+with_rows g (w ∷ ws) [] = g
+with_rows g (w ∷ ws) (row ∷ rows) = slice_set (with_rows g ws rows) w row

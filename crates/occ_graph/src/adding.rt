@@ -1,0 +1,232 @@
+ghost use Rattle.occ_graph.specs.Adding.{raised as place_then, with_node};
+ghost use Rattle.occ_graph.specs.Graph.{IsWhole, is_among};
+ghost use Rattle.occ_graph.specs.Sources.{once_each};
+ghost use Rattle.occ_graph.specs.inside.Linking.{before, behind, others as others_of, sources_then, sources_till as those_till, with_rows};
+ghost use Rattle.std.specs.Prelude.{◌≡◌, ◌<◌, ◌≤◌, ◌++◌, ◌∷◌, [], ℕ, IfOk, OnOk, get_or, length, map, slice_set, true, vec_len, vec_capacity};
+
+use super::search::targets as row;
+use sqlite_items::Items;
+use std::alloc::{AllocError, Global};
+
+/// The place that a node has where one more comes to a place. There are more than so many places.
+fn raised(at: usize, node: usize, count: usize) -> usize
+    requires { node < count }
+    ensures { result ≡ place_then at node }
+{
+    if node < at { node } else { node + 1 }
+}
+
+/// One of the nodes has the place that it has then.
+fn raise(nodes: &mut Items<usize>, i: usize, at: usize, count: usize)
+    requires here { i < length nodes.old }
+    requires within { get_or nodes.old i 0 < count }
+    ensures { nodes.new ≡ slice_set nodes.old i (place_then at (get_or nodes.old i 0)) }
+{
+    let node = nodes.as_slice()[i];
+    nodes.set(i, raised(at, node, count));
+}
+
+/// The nodes have the places that they have then.
+fn raise_all(nodes: &mut Items<usize>, at: usize, count: usize)
+    requires { (v : ℕ) → is_among nodes.old v ≡ true → v < count }
+    ensures { nodes.new ≡ map (place_then at) nodes.old }
+{
+    for i in 0..nodes.len() {
+        raise(nodes, i, at, count);
+    }
+}
+
+/// The same of one of the rows.
+fn raise_row(rows: &mut Vec<Items<usize>>, node: usize, at: usize, count: usize)
+    requires here { node < length rows.old.items }
+    requires within { (v : ℕ) → is_among (get_or rows.old.items node []) v ≡ true → v < count }
+    ensures items { rows.new.items ≡ slice_set rows.old.items node (map (place_then at) (get_or rows.old.items node [])) }
+    ensures len { vec_len rows.new ≡ vec_len rows.old }
+    ensures room { vec_capacity rows.new ≡ vec_capacity rows.old }
+{
+    raise_all(&mut rows[node], at, count);
+}
+
+/// One node more comes to a place, with this row.
+pub fn add_row(rows: &mut Vec<Items<usize>>, at: usize, row: Items<usize>)
+    requires place { at ≤ vec_len rows.old }
+    requires room { vec_len rows.old < vec_capacity rows.old }
+    requires whole { IsWhole rows.old.items }
+    ensures { rows.new.items ≡ with_node rows.old.items at row }
+{
+    let count = rows.len();
+    for node in 0..count {
+        raise_row(rows, node, at, count);
+    }
+    let _ = rows.insert(at, row);
+}
+
+/// Those of the nodes that are not this one.
+pub fn others(alloc: Global, at: usize, nodes: &[usize]) -> Result<Items<usize>, AllocError>
+    ensures { IfOk result (λ others. others ≡ others_of at nodes.now) }
+{
+    let mut others = Items::new(alloc);
+    for node in nodes {
+        add_other(&mut others, at, *node)?;
+    }
+    Ok(others)
+}
+
+/// Adds a node, unless it is this one.
+fn add_other(others: &mut Items<usize>, at: usize, node: usize) -> Result<(), AllocError>
+    ensures { OnOk result (others.new ≡ others.old ++ others_of at (node ∷ [])) }
+{
+    if node == at {
+        return Ok(());
+    }
+    others.push(node)
+}
+
+/// Those from which edges led to the node that then has this place.
+fn sources_till(sources: &[Items<usize>], at: usize, node: usize) -> &[usize]
+    ensures { result.now ≡ those_till sources.now at node }
+{
+    if node == at {
+        return &[];
+    }
+    row(sources, if node < at { node } else { node - 1 })
+}
+
+/// Adds those of the nodes that stand before a place.
+fn add_before(row: &mut Items<usize>, at: usize, nodes: &[usize]) -> Result<(), AllocError>
+    ensures { OnOk result (row.new ≡ row.old ++ before at nodes.now) }
+{
+    for node in nodes {
+        add_if_before(row, at, *node)?;
+    }
+    Ok(())
+}
+
+/// Adds a node, if it stands before a place.
+fn add_if_before(row: &mut Items<usize>, at: usize, node: usize) -> Result<(), AllocError>
+    ensures { OnOk result (row.new ≡ row.old ++ before at (node ∷ [])) }
+{
+    if node < at {
+        return row.push(node);
+    }
+    Ok(())
+}
+
+/// Adds a node once for each time that another is among these.
+fn add_each(
+    row: &mut Items<usize>,
+    node: usize,
+    nodes: &[usize],
+    other: usize,
+) -> Result<(), AllocError>
+    ensures { OnOk result (row.new ≡ row.old ++ once_each node nodes.now other) }
+{
+    for each in nodes {
+        add_if_same(row, node, *each, other)?;
+    }
+    Ok(())
+}
+
+/// Adds a node, if two others are one.
+fn add_if_same(
+    row: &mut Items<usize>,
+    node: usize,
+    each: usize,
+    other: usize,
+) -> Result<(), AllocError>
+    ensures { OnOk result (row.new ≡ row.old ++ once_each node (each ∷ []) other) }
+{
+    if each == other {
+        return row.push(node);
+    }
+    Ok(())
+}
+
+/// Adds the nodes that do not stand before a place, each with the place behind its own.
+fn add_behind(
+    row: &mut Items<usize>,
+    at: usize,
+    nodes: &[usize],
+    count: usize,
+) -> Result<(), AllocError>
+    requires { (v : ℕ) → is_among nodes.now v ≡ true → v < count }
+    ensures { OnOk result (row.new ≡ row.old ++ behind at nodes.now) }
+{
+    for node in nodes {
+        add_if_behind(row, at, *node, count)?;
+    }
+    Ok(())
+}
+
+/// Adds the place behind a node, unless it stands before a place.
+fn add_if_behind(
+    row: &mut Items<usize>,
+    at: usize,
+    node: usize,
+    count: usize,
+) -> Result<(), AllocError>
+    requires { node < count }
+    ensures { OnOk result (row.new ≡ row.old ++ behind at (node ∷ [])) }
+{
+    if node < at {
+        return Ok(());
+    }
+    row.push(node + 1)
+}
+
+/// Those from which edges lead to a node, where edges lead from the new one to these.
+fn source_row(
+    alloc: Global,
+    sources: &[Items<usize>],
+    at: usize,
+    targets: &[usize],
+    node: usize,
+) -> Result<Items<usize>, AllocError>
+    requires { IsWhole sources.now }
+    ensures { IfOk result (λ row. row ≡ sources_then sources.now at targets.now node) }
+{
+    let till = sources_till(sources, at, node);
+    let mut row = Items::new(alloc);
+    add_before(&mut row, at, till)?;
+    add_each(&mut row, at, targets, node)?;
+    add_behind(&mut row, at, till, sources.len())?;
+    Ok(row)
+}
+
+/// The same of each node to which an edge leads from the new one.
+pub fn source_rows(
+    alloc: Global,
+    sources: &[Items<usize>],
+    at: usize,
+    targets: &[usize],
+) -> Result<Items<Items<usize>>, AllocError>
+    requires { IsWhole sources.now }
+    ensures { IfOk result (λ rows. rows ≡ map (sources_then sources.now at targets.now) targets.now) }
+{
+    let mut rows = Items::new(alloc);
+    for node in targets {
+        rows.push(source_row(alloc, sources, at, targets, *node)?)?;
+    }
+    Ok(rows)
+}
+
+/// Replaces the row at the place that stands among these.
+fn put_row(rows: &mut Vec<Items<usize>>, nodes: &[usize], i: usize, row: Items<usize>)
+    requires { i < length nodes.now }
+    ensures { rows.new.items ≡ slice_set rows.old.items (get_or nodes.now i 0) row }
+{
+    let node = nodes[i];
+    if node < rows.len() {
+        rows[node] = row;
+    }
+}
+
+/// Replaces the rows at these places.
+pub fn put_rows(rows: &mut Vec<Items<usize>>, nodes: &[usize], mut found: Items<Items<usize>>)
+    requires { length found ≡ length nodes.now }
+    ensures { rows.new.items ≡ with_rows rows.old.items nodes.now found }
+{
+    while let Some(row) = found.pop() {
+        put_row(rows, nodes, found.len(), row);
+    }
+}

@@ -1,0 +1,106 @@
+ghost use Rattle.occ_graph.specs.Adding.{with_node};
+ghost use Rattle.occ_graph.specs.Graph.{IsWhole, all_rests, is_among, rests as rests_in};
+ghost use Rattle.occ_graph.specs.Sources.{sources as sources_in};
+ghost use Rattle.std.specs.Prelude.{◌≡◌, ◌<◌, ◌≤◌, [], ℕ, IfOk, OnErr, OnOk, length, true};
+
+use super::adding::{add_row, others, put_rows, source_rows};
+use super::circles::find_rests;
+use super::search::targets as row;
+use super::sources::find_sources;
+use sqlite_items::Items;
+use std::alloc::{AllocError, Global};
+use std::marker::Model;
+
+/// A graph, with what its nodes rest on and from where edges lead to them. In contracts it is the graph.
+#[derive(Drop)]
+pub struct Linked {
+    /// Of each node those to which edges lead from it.
+    edges: Vec<Items<usize>>,
+    /// Of each node those that it rests on.
+    rests: Vec<Items<usize>>,
+    /// Of each node those from which edges lead to it, in order.
+    sources: Vec<Items<usize>>,
+}
+
+impl Model for Linked {
+    ghost use Rattle.occ_graph.specs.inside.Linking.{IsLinked};
+    ghost use Rattle.std.specs.Coded.{coded_list, coded_ℕ};
+    ghost use Rattle.std.specs.Prelude.{List, ℕ};
+
+    ghost Value = { List (List ℕ) };
+
+    ghost coded = { coded_list (coded_list coded_ℕ) };
+
+    ghost view = { λ linked. linked.edges.items };
+
+    ghost invariant = { λ linked. IsLinked linked.edges.items linked.rests.items linked.sources.items };
+}
+
+impl Linked {
+    /// The graph without nodes.
+    pub fn new(alloc: Global) -> Linked
+        ensures { result ≡ [] }
+    {
+        Linked {
+            edges: Vec::new(alloc),
+            rests: Vec::new(alloc),
+            sources: Vec::new(alloc),
+        }
+    }
+
+    /// The graph of these edges: for each node those to which edges lead from it.
+    pub fn of(alloc: Global, edges: Vec<Items<usize>>) -> Result<Linked, AllocError>
+        requires { IsWhole edges.items }
+        ensures { IfOk result (λ linked. linked ≡ edges.items) }
+    {
+        let sources = find_sources(alloc, edges.as_slice())?;
+        let rests = find_rests(alloc, edges.as_slice(), sources.as_slice())?;
+        Ok(Linked {
+            edges,
+            rests,
+            sources,
+        })
+    }
+
+    /// For each node those to which edges lead from it.
+    pub fn edges(&self) -> &[Items<usize>]
+        ensures { result.now ≡ self.now }
+    {
+        self.edges.as_slice()
+    }
+
+    /// Those that a node rests on.
+    pub fn rests(&self, node: usize) -> &[usize]
+        ensures { result.now ≡ rests_in self.now node }
+    {
+        row(self.rests.as_slice(), node)
+    }
+
+    /// Those from which edges lead to a node, in order, once for each edge.
+    pub fn sources(&self, node: usize) -> &[usize]
+        requires { node < length self.now }
+        ensures { result.now ≡ sources_in self.now node }
+    {
+        row(self.sources.as_slice(), node)
+    }
+
+    /// One node more comes to a place, from which edges lead to these, and to which none leads but its own. What the others
+    /// rest on and from where edges lead to them stays, but for their places. All memory is taken before the first change.
+    pub fn add(&mut self, alloc: Global, at: usize, targets: Items<usize>) -> Result<(), AllocError>
+        requires place { at ≤ length self.old }
+        requires within { (v : ℕ) → is_among targets v ≡ true → v ≤ length self.old }
+        ensures ok { OnOk result (self.new ≡ with_node self.old at targets) }
+        ensures err { OnErr result (self.new ≡ self.old) }
+    {
+        let rests = others(alloc, at, targets.as_slice())?;
+        let found = source_rows(alloc, self.sources.as_slice(), at, targets.as_slice())?;
+        self.edges.reserve(1)?;
+        self.rests.reserve(1)?;
+        self.sources.reserve(1)?;
+        add_row(&mut self.sources, at, Items::new(alloc));
+        put_rows(&mut self.sources, targets.as_slice(), found);
+        add_row(&mut self.rests, at, rests);
+        add_row(&mut self.edges, at, targets);
+        Ok(())
+    }
+}

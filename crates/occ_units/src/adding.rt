@@ -1,0 +1,83 @@
+ghost use Rattle.occ_graph.specs.Adding.{with_node};
+ghost use Rattle.occ_project.specs.Entries.{is_among};
+ghost use Rattle.occ_units.specs.Along.{name_at};
+ghost use Rattle.occ_units.specs.New.{IsNew};
+ghost use Rattle.occ_units.specs.Places.{graph_of, places_of as the_places_of};
+ghost use Rattle.occ_units.specs.Project.{IsProject, put};
+ghost use Rattle.occ_units.specs.Units.{used_units};
+ghost use Rattle.occ_units.specs.inside.Keeping.{all_facts as all_facts_of, facts_of as the_facts_of, reads_in};
+ghost use Rattle.std.specs.List.{insert};
+ghost use Rattle.std.specs.Prelude.{◌≡◌, ◌<◌, ◌≤◌, ◌+◌, ◌⊎◌, IsFalse, OnErr, OnOk, false, length};
+
+use super::Project;
+use super::facts::{Facts, facts_of, is_name_among, places_of, reads};
+use occ_base::{FileName, Shared};
+use occ_graph::Linked;
+use occ_project::Read;
+use std::alloc::{AllocError, Global};
+
+/// Whether a file may read another of that name: only one that reads more than itself does.
+pub fn may_read(facts: &Facts, name: FileName) -> bool
+    ensures { IsFalse result → length (reads_in facts.now.expanded) ≤ 1 ⊎ is_among (reads_in facts.now.expanded) name ≡ false }
+{
+    let names = reads(facts);
+    names.len() > 1 && is_name_among(names, name)
+}
+
+/// Whether a file from which edges lead to these may use one of that name that is not there: only one that uses more does.
+pub fn may_use(facts: &Facts, edges: &[usize], name: FileName) -> bool
+    ensures { IsFalse result → length edges.now ≡ length facts.now.uses ⊎ is_among facts.now.uses name ≡ false }
+{
+    edges.len() != facts.uses.len() && is_name_among(facts.uses.as_slice(), name)
+}
+
+/// Adds what is known of the file at a place, which is new. All memory is taken before the first change.
+fn add_known(
+    alloc: Global,
+    project: &Project,
+    facts: &mut Vec<Shared<Facts>>,
+    links: &mut Linked,
+    at: usize,
+) -> Result<(), AllocError>
+    requires within { at < length project.now }
+    requires facts { length project.now ≡ length facts.old.items + 1 }
+    requires links { length project.now ≡ length links.old + 1 }
+    ensures facts { OnOk result (facts.new.items ≡ insert facts.old.items at (the_facts_of project.now (name_at project.now at))) }
+    ensures links { OnOk result (links.new ≡ with_node links.old at (the_places_of project.now (used_units project.now (name_at project.now at)))) }
+    ensures err { OnErr result (facts.new.items ≡ facts.old.items × links.new ≡ links.old) }
+{
+    let known = facts_of(alloc, project, project.name_at(at))?;
+    let targets = places_of(alloc, project, &[], known.uses.as_slice())?;
+    let shared = Shared::new(alloc, known)?;
+    facts.reserve(1)?;
+    links.add(alloc, at, targets)?;
+    let _ = facts.insert(at, shared);
+    Ok(())
+}
+
+/// Puts a file into a project that is new to it and that no file looks for, with what is then known. What is known of the others
+/// stays, but for their places.
+pub fn add_file(
+    alloc: Global,
+    project: &mut Project,
+    facts: &mut Vec<Shared<Facts>>,
+    links: &mut Linked,
+    at: usize,
+    file: Read,
+) -> Result<(), AllocError>
+    requires project { IsProject project.old }
+    requires new { IsNew project.old file.name at }
+    requires facts { facts.old.items ≡ all_facts_of project.old }
+    requires links { links.old ≡ graph_of project.old }
+    ensures project { OnOk result (project.new ≡ put project.old file) }
+    ensures facts { OnOk result (facts.new.items ≡ all_facts_of project.new) }
+    ensures links { OnOk result (links.new ≡ graph_of project.new) }
+    ensures err { OnErr result (project.new ≡ project.old × (facts.new.items ≡ facts.old.items × links.new ≡ links.old)) }
+{
+    project.insert(at, file)?;
+    if let Err(refused) = add_known(alloc, project, facts, links, at) {
+        project.remove(at);
+        return Err(refused);
+    }
+    Ok(())
+}
