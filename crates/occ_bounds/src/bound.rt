@@ -1,4 +1,4 @@
-ghost use Rattle.std.specs.Prelude.{◌≡◌, IfOk, slice_get};
+ghost use Rattle.std.specs.Prelude.{◌≡◌, IfOk, None, false, slice_get};
 ghost use Rattle.occ_bounds.specs.Bounds.{body_of, effect_of, place_of, size_of, value_of};
 
 use super::uses::Use;
@@ -54,6 +54,17 @@ pub fn place_at(alloc: Global, env: &[Bound], number: usize) -> Result<Option<Pl
         Some(Bound::Root(_)) => Ok(Some(Place::whole(alloc, number))),
         Some(Bound::Abbreviation(Some(place), _, _)) => Ok(Some(place.copied(alloc)?)),
         _ => Ok(None),
+    }
+}
+
+/// Whether the name of a specification stands for something that is used.
+pub(crate) fn is_placed(env: &[Bound], number: usize) -> bool
+    ensures { result ≡ false → place_of number (slice_get env.now number) ≡ None }
+{
+    match env.get(number) {
+        Some(Bound::Root(_)) => true,
+        Some(Bound::Abbreviation(place, _, _)) => place.is_some(),
+        _ => false,
     }
 }
 

@@ -1,4 +1,4 @@
-ghost use Rattle.std.specs.Prelude.{◌≡◌, IfOk};
+ghost use Rattle.std.specs.Prelude.{◌≡◌, IfOk, OnOk};
 ghost use Rattle.occ_bounds.specs.Views.{element_view, placed, selector_view, selector_views};
 
 use super::bound::{Bound, place_at, size_at};
@@ -7,30 +7,33 @@ use occ_parts::Place;
 use occ_typed::{Selector, TypedElement};
 use std::alloc::{AllocError, Global};
 
-/// What is selected from a place of so many components, if their number is known.
+/// Selects from a place of so many components, if their number is known.
 #[tactic(auto, using(crate::proofs::Views::selector_place_rules))]
-fn selected(
+fn select(
     alloc: Global,
-    place: Place,
+    place: &mut Place,
     selector: &Selector,
     size: Option<i64>,
     env: &[Bound],
-) -> Result<Place, AllocError>
-    ensures { IfOk result (λ found. found ≡ (selector_view selector.now).place env.now size place) }
+) -> Result<(), AllocError>
+    ensures { OnOk result (place.new ≡ (selector_view selector.now).place env.now size place.old) }
 {
     match selector {
-        Selector::Field(_, name) => place.with_field(name.copied(alloc)?),
-        Selector::Component(at) => place.with_subscript(int(value(at.get(), env))),
+        Selector::Field(_, name) => place.select_field(name.copied(alloc)?),
+        Selector::Component(at) => place.select_subscript(int(value(at.get(), env))),
         Selector::From(typed, base) => {
             let base = int(value(base.get(), env));
-            Ok(place.with_segment(base, less(whole(*typed, size), base)))
+            place.select_segment(base, less(whole(*typed, size), base));
+            Ok(())
         }
         Selector::For(_, length) => {
-            Ok(place.with_segment(Some(0), count(value(length.get(), env))))
+            place.select_segment(Some(0), count(value(length.get(), env)));
+            Ok(())
         }
         Selector::FromFor(_, base, length) => {
             let base = int(value(base.get(), env));
-            Ok(place.with_segment(base, count(value(length.get(), env))))
+            place.select_segment(base, count(value(length.get(), env)));
+            Ok(())
         }
     }
 }
@@ -45,28 +48,28 @@ pub fn place(
 ) -> Result<Option<Place>, AllocError>
     ensures { IfOk result (λ found. found ≡ (element_view element.now).place env.now) }
 {
-    let Some(place) = place_at(alloc, env, element.referent.spec)? else {
+    let Some(mut place) = place_at(alloc, env, element.referent.spec)? else {
         return Ok(None);
     };
     let size = size_at(env, element.referent.spec);
-    Ok(Some(place_behind(alloc, place, element.selectors.as_slice(), size, env)?))
+    select_all(alloc, &mut place, element.selectors.as_slice(), size, env)?;
+    Ok(Some(place))
 }
 
-/// What selectors select from a place of so many components, if their number is known.
-fn place_behind(
+/// Selects by selectors from a place of so many components, if their number is known.
+fn select_all(
     alloc: Global,
-    place: Place,
+    place: &mut Place,
     selectors: &[Selector],
     size: Option<i64>,
     env: &[Bound],
-) -> Result<Place, AllocError>
-    ensures { IfOk result (λ found. found ≡ placed (selector_views selectors.now) env.now size place) }
+) -> Result<(), AllocError>
+    ensures { OnOk result (place.new ≡ placed (selector_views selectors.now) env.now size place.old) }
 {
-    let mut found = place;
     let mut number = size;
     for selector in selectors {
-        found = selected(alloc, found, selector, number, env)?;
+        select(alloc, place, selector, number, env)?;
         number = size_within(selector, number, env);
     }
-    Ok(found)
+    Ok(())
 }

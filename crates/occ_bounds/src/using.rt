@@ -3,7 +3,7 @@ ghost use Rattle.occ_bounds.specs.Bounds.{body_of};
 ghost use Rattle.occ_bounds.specs.Calls.{called_all, made as told_made};
 ghost use Rattle.occ_bounds.specs.Views.{actual_view, actual_views, call_uses as told_call_uses, element_view, expr_view, expr_views, places_of, selector_view, selector_views, actuals_uses as told_actuals_uses, each_uses as told_each_uses, selectors_uses as told_selectors_uses};
 
-use super::bound::{Bound, body_at};
+use super::bound::{Bound, body_at, is_placed};
 use super::call::{called, push_made};
 use super::placing::place;
 use super::uses::Use;
@@ -15,6 +15,7 @@ use occ_types::UseKind;
 use std::alloc::{AllocError, Global};
 
 /// A use of an element at a line, without those of its subscripts and bounds.
+#[tactic(auto, using(crate::proofs::Views::element_place_rules))]
 pub fn use_of(
     alloc: Global,
     kind: UseKind,
@@ -25,6 +26,9 @@ pub fn use_of(
 ) -> Result<(), AllocError>
     ensures { OnOk result (uses.new ≡ uses.old ++ told_made line.now kind ((element_view element.now).place env.now)) }
 {
+    if !is_placed(env, element.referent.spec) {
+        return Ok(());
+    }
     let place = place(alloc, element, env)?;
     push_made(alloc, kind, line, place, uses)
 }

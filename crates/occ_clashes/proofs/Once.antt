@@ -1,7 +1,10 @@
 -- Uses, each once, from the last to the first.
-use Rattle.std.proofs.Common.{◌≡◌, ℕ, zero, suc, Bool, true, false, ap, refl, ◌∙◌, sym, subst, List, [], ◌∷◌, ◌++◌, Some, length, slice_get, inl, inr}
-use Rattle.std.specs.Prelude.{◌↔◌, ◌⊎◌, if◌then◌else◌}
+use Rattle.std.proofs.Common.{◌≡◌, ◌<◌, arith, ℕ, zero, suc, Bool, true, false, ap, refl, ◌∙◌, sym, subst, List, [], ◌∷◌, ◌++◌, Some, length, slice_get, inl, inr}
+use Rattle.std.specs.Prelude.{◌↔◌, ◌⊎◌, if◌then◌else◌, nat_lt}
+use Rattle.std.proofs.lemmas.List.{append-nil}
 use Rattle.occ_bounds.specs.declared.uses.Use.{Use}
+use Rattle.occ_project.specs.declared.expanded.Place.{Place as Line}
+use Rattle.occ_clashes.specs.Bodies.{from_outside, outside}
 use Rattle.occ_clashes.specs.Distinct.{added, distinct, is_among, same_use}
 use Rattle.occ_clashes.specs.ParallelRule.{StandsIn}
 use Rattle.occ_clashes.proofs.Clashing.{any_found, any_given}
@@ -39,6 +42,11 @@ get_front (z ∷ xs) ys x (suc j) h = get_front xs ys x j h
 pub get_last : {X : Type 0} (xs : List X) (y : X) → slice_get (xs ++ y ∷ []) (length xs) ≡ Some y
 get_last [] y = refl
 get_last (z ∷ xs) y = get_last xs y
+
+pub got_within : {X : Type 0} (xs : List X) (k : ℕ) (x : X) → slice_get xs k ≡ Some x → k < length xs
+got_within [] k x h = cc
+got_within (y ∷ ys) zero x h = omega arith
+got_within (y ∷ ys) (suc k) x h = let w : k < length ys = got_within ys k x h in omega (arith, w)
 
 -- no two places have the same
 abbrev Once : {X : Type 0} → List X → Type 0
@@ -110,3 +118,32 @@ among_law us u = (from_distinct us u, λ (k, at). into_distinct us u k at)
 pub once_law : (us : List Use) (j k : ℕ) (u : Use) → slice_get (distinct us) j ≡ Some u → slice_get (distinct us) k ≡ Some u → j ≡ k
 once_law [] j k u a b = cc
 once_law (x ∷ us) j k u a b = once_added (is_among (distinct us) x) x (distinct us) refl (once_law us) j k u a b
+
+-- ---- uses of a body, from the last to the first
+
+outside_last : (n m : ℕ) (line : Line) (us : List Use) (u : Use) → outside n m line (us ++ u ∷ []) ≡ outside n m line us ++ (if nat_lt u.part.root m then from_outside n line u ∷ [] else [])
+outside_last n m line [] u = by_test (nat_lt u.part.root m) where
+  by_test : (t : Bool) → (if t then from_outside n line u ∷ [] else []) ≡ [] ++ (if t then from_outside n line u ∷ [] else [])
+  by_test true = refl
+  by_test false = refl
+outside_last n m line (x ∷ us) u = by_test (nat_lt x.part.root m) (outside_last n m line us u) where
+  by_test : (t : Bool) → outside n m line (us ++ u ∷ []) ≡ outside n m line us ++ (if nat_lt u.part.root m then from_outside n line u ∷ [] else [])
+      → (if t then from_outside n line x ∷ outside n m line (us ++ u ∷ []) else outside n m line (us ++ u ∷ []))
+      ≡ (if t then from_outside n line x ∷ outside n m line us else outside n m line us) ++ (if nat_lt u.part.root m then from_outside n line u ∷ [] else [])
+  by_test true e = ap (λ (xs : List Use). from_outside n line x ∷ xs) e
+  by_test false e = e
+
+pub outside_step : (n m : ℕ) (line : Line) (us : List Use) (u : Use) (found more : List Use)
+    → more ≡ (if nat_lt u.part.root m then added (from_outside n line u) found else found)
+    → distinct_onto more (outside n m line us) ≡ distinct_onto found (outside n m line (us ++ u ∷ []))
+outside_step n m line us u found more e =
+    ap (λ (xs : List Use). distinct_onto xs (outside n m line us)) e ∙ by_test (nat_lt u.part.root m) ∙ ap (distinct_onto found) (sym (outside_last n m line us u)) where
+      by_test : (t : Bool) → distinct_onto (if t then added (from_outside n line u) found else found) (outside n m line us)
+          ≡ distinct_onto found (outside n m line us ++ (if t then from_outside n line u ∷ [] else []))
+      by_test true = sym (onto_last (outside n m line us) (from_outside n line u) found)
+      by_test false = ap (distinct_onto found) (sym (append-nil (outside n m line us)))
+
+pub few_distinct : (us : List Use) → length us < 2 → distinct us ≡ us
+few_distinct [] w = refl
+few_distinct (u ∷ []) w = refl
+few_distinct (u ∷ v ∷ us) w = absurd (omega (arith, w))

@@ -1,4 +1,4 @@
 pub mod Accumulating
 pub mod Numbering
-pub mod Indexing
+pub mod Linking
 pub mod Spreading

@@ -1,6 +1,6 @@
 ghost use Rattle.std.specs.Prelude.{◌≡◌, ◌++◌, ◌∷◌, [], IfOk, List, OnOk, false, length};
 ghost use Rattle.occ_bounds.specs.declared.uses.Use.{Use as AUse};
-ghost use Rattle.occ_clashes.specs.Components.{joined};
+ghost use Rattle.occ_clashes.specs.Components.{joined, parted};
 ghost use Rattle.occ_clashes.specs.inside.Accumulating.{Adds, IsTable, breaks as told_breaks, judged, judged_by, judged_in};
 
 use super::kept::Kept;
@@ -143,4 +143,23 @@ pub(crate) fn root_uses(
         step(alloc, component.as_slice(), &mut table)?;
     }
     Ok(table)
+}
+
+/// How components use each of so many roots: their uses stand one behind the other, so many in each.
+pub(crate) fn parted_root_uses(
+    alloc: Global,
+    count: usize,
+    uses: &[Use],
+    sizes: &[usize],
+) -> Result<Vec<RootUses>, AllocError>
+    ensures { IfOk result (λ table. (length table.items ≡ count) × IsTable (parted sizes.now uses.now) (joined (parted sizes.now uses.now)) table.items) }
+{
+    let mut roots = none(alloc, count)?;
+    let mut rest = uses;
+    for size in sizes {
+        let (component, behind) = rest.split_at((*size).min(rest.len()));
+        step(alloc, component, &mut roots)?;
+        rest = behind;
+    }
+    Ok(roots)
 }

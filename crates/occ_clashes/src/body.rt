@@ -1,10 +1,11 @@
-ghost use Rattle.std.specs.Prelude.{◌≡◌, ◌++◌, ◌∷◌, [], IfOk, OnOk};
-ghost use Rattle.occ_clashes.specs.Bodies.{below as told_below, body_uses as told_body, from_outside as told_outside, outside as told_all_outside};
+ghost use Rattle.std.specs.Prelude.{◌≡◌, ◌++◌, ◌∷◌, [], if◌then◌else◌, nat_lt, IfOk, OnOk};
+ghost use Rattle.occ_clashes.specs.Bodies.{below as told_below, body_uses as told_body, from_outside as told_outside};
+ghost use Rattle.occ_clashes.specs.Distinct.{added};
+ghost use Rattle.occ_clashes.specs.inside.Linking.{IsLinked};
 
-use super::each_once::distinct;
+use super::each_once::{Links, add};
 use occ_base::Items;
 use occ_bounds::Use;
-use occ_parts::{Part, copies};
 use occ_project::Place as Line;
 use std::alloc::{AllocError, Global};
 
@@ -22,36 +23,67 @@ fn below(alloc: Global, numbers: &[usize], bound: usize) -> Result<Items<usize>,
 }
 
 /// A use in a body round which so many specifications stand, as it is seen from outside the body.
-fn from_outside(alloc: Global, found: &Use, number: usize, line: &Line) -> Result<Use, AllocError>
-    ensures { IfOk result (λ seen. seen ≡ told_outside number line.now found.now) }
+fn from_outside(alloc: Global, found: Use, number: usize, line: &Line) -> Result<Use, AllocError>
+    ensures { IfOk result (λ seen. seen ≡ told_outside number line.now found) }
 {
+    let chain = below(alloc, found.chain.as_slice(), number)?;
     Ok(Use {
-        part: Part {
-            root: found.part.root,
-            selectors: copies(alloc, found.part.selectors.as_slice())?,
-        },
+        part: found.part,
         kind: found.kind,
         line: *line,
-        chain: below(alloc, found.chain.as_slice(), number)?,
+        chain,
     })
 }
 
-/// Adds a use in a body as it is seen from outside, unless it is of what the body specifies.
-fn push_outside(
+/// Adds a use in a body as it is seen from outside, unless it is of what the body specifies or among those that are seen.
+fn add_outside(
     alloc: Global,
-    found: &Use,
+    found: Use,
     number: usize,
     locals: usize,
     line: &Line,
+    links: &mut Links,
     seen: &mut Items<Use>,
 ) -> Result<(), AllocError>
-    ensures { OnOk result (seen.new ≡ seen.old ++ told_all_outside number locals line.now (found.now ∷ [])) }
+    requires { IsLinked links.old.heads.items links.old.before.items seen.old }
+    ensures seen { OnOk result (seen.new ≡ (if nat_lt found.part.root locals then added (told_outside number line.now found) seen.old else seen.old)) }
+    ensures links { OnOk result (IsLinked links.new.heads.items links.new.before.items seen.new) }
 {
     if found.part.root < locals {
-        seen.push(from_outside(alloc, found, number, line)?)
+        add(from_outside(alloc, found, number, line)?, links, seen)
     } else {
         Ok(())
     }
+}
+
+/// The uses of a body, each once, as they are seen from outside: so many specifications stand round it, and its own have
+/// numbers from `locals` on.
+pub fn outside_uses(
+    alloc: Global,
+    mut uses: Items<Use>,
+    number: usize,
+    locals: usize,
+    line: &Line,
+) -> Result<Items<Use>, AllocError>
+    ensures { IfOk result (λ seen. seen ≡ told_body number locals line.now uses) }
+{
+    let mut links = Links::none(alloc, uses.len())?;
+    let mut seen = Items::new(alloc);
+    while let Some(found) = uses.pop() {
+        add_outside(alloc, found, number, locals, line, &mut links, &mut seen)?;
+    }
+    Ok(seen)
+}
+
+/// Copies of uses.
+fn copies(alloc: Global, uses: &[Use]) -> Result<Items<Use>, AllocError>
+    ensures { IfOk result (λ copies. copies ≡ uses.now) }
+{
+    let mut copies = Items::new(alloc);
+    for one in uses {
+        copies.push(one.at_line(alloc, &one.line)?)?;
+    }
+    Ok(copies)
 }
 
 /// The uses of a body, each once, as they are seen from outside: so many specifications stand round it, and its own have
@@ -65,9 +97,5 @@ pub fn body_uses(
 ) -> Result<Items<Use>, AllocError>
     ensures { IfOk result (λ seen. seen ≡ told_body number locals line.now uses.now) }
 {
-    let mut seen = Items::new(alloc);
-    for found in uses {
-        push_outside(alloc, found, number, locals, line, &mut seen)?;
-    }
-    distinct(alloc, seen)
+    outside_uses(alloc, copies(alloc, uses)?, number, locals, line)
 }

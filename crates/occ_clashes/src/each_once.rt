@@ -1,12 +1,58 @@
-ghost use Rattle.std.specs.Prelude.{◌≡◌, ◌<◌, [], IfOk, OnOk, length, slice_get};
+ghost use Rattle.std.specs.Prelude.{◌≡◌, ◌<◌, ◌+◌, ◌++◌, ◌∷◌, [], IfOk, OnOk, length, slice_get, slice_set};
+ghost use Rattle.occ_clashes.specs.inside.Numbering.{bucket_of as told_bucket};
 ghost use Rattle.occ_clashes.specs.Distinct.{added, distinct as told_distinct, is_among};
-ghost use Rattle.occ_clashes.specs.inside.Indexing.{AreEmpty, IsIndex, is_use, noted, stands_at as told_stands};
+ghost use Rattle.occ_clashes.specs.inside.Linking.{IsLinked, is_use, linked as told_linked};
 
 use super::numbering::bucket_of;
 use super::same::same_use;
 use occ_base::Items;
 use occ_bounds::Use;
 use std::alloc::{AllocError, Global};
+
+/// Where the uses of a list stand, by their buckets: each number is one more than a place, and 0 where there is none.
+#[derive(Drop)]
+pub(crate) struct Links {
+    /// Of each bucket the last place.
+    heads: Vec<usize>,
+    /// Of each place the one before it in its bucket.
+    before: Vec<usize>,
+}
+
+impl Links {
+    /// For a list without a use, with so many buckets, of which there is one at least.
+    pub(crate) fn none(alloc: Global, count: usize) -> Result<Links, AllocError>
+        ensures { IfOk result (λ links. IsLinked links.heads.items links.before.items []) }
+    {
+        Ok(Links {
+            heads: vec![in alloc; 0; count.max(1)]?,
+            before: Vec::with_capacity(alloc, count)?,
+        })
+    }
+
+    /// Notes the place behind the list as that of a use in this bucket.
+    fn note(&mut self, bucket: usize, place: usize) -> Result<(), AllocError>
+        requires { bucket < length self.old.heads.items }
+        ensures heads { OnOk result (self.new.heads.items ≡ slice_set self.old.heads.items bucket (place + 1)) }
+        ensures before { OnOk result (self.new.before.items ≡ self.old.before.items ++ told_linked self.old.heads.items bucket ∷ []) }
+    {
+        let Some(behind) = place.checked_add(1) else {
+            return Err(AllocError);
+        };
+        self.before.push(self.heads[bucket])?;
+        self.heads[bucket] = behind;
+        Ok(())
+    }
+}
+
+/// The number at a place among these, if there is one, or else 0.
+fn linked(numbers: &[usize], place: usize) -> usize
+    ensures { result ≡ told_linked numbers.now place }
+{
+    match numbers.get(place) {
+        Some(number) => *number,
+        None => 0,
+    }
+}
 
 /// Whether a use stands at a place.
 fn is_at(found: &[Use], place: usize, one: &Use) -> bool
@@ -18,73 +64,55 @@ fn is_at(found: &[Use], place: usize, one: &Use) -> bool
     }
 }
 
-/// Whether a use stands at one of these places.
-fn stands_at(found: &[Use], places: &[usize], one: &Use) -> bool
-    ensures { result ≡ told_stands found.now places.now one.now }
+/// The bucket of a use.
+fn bucket_in(one: &Use, links: &Links) -> usize
+    requires { 0 < length links.now.heads.items }
+    ensures value { result ≡ told_bucket one.now (length links.now.heads.items) }
+    ensures within { result < length links.now.heads.items }
 {
-    for place in places {
-        if is_at(found, *place, one) {
+    bucket_of(one, links.heads.len())
+}
+
+/// Whether a use is found already.
+fn is_found(one: &Use, links: &Links, found: &[Use]) -> bool
+    requires { IsLinked links.now.heads.items links.now.before.items found.now }
+    ensures { result ≡ is_among found.now one.now }
+{
+    let mut next = linked(links.heads.as_slice(), bucket_in(one, links));
+    while let Some(place) = next.checked_sub(1) {
+        if is_at(found, place, one) {
             return true;
         }
+        next = linked(links.before.as_slice(), place);
     }
     false
 }
 
-/// Whether a use is found already.
-fn is_found(one: &Use, index: &[Items<usize>], found: &[Use]) -> bool
-    requires { 0 < length index.now }
-    ensures { IsIndex index.now found.now → result ≡ is_among found.now one.now }
-{
-    match index.get(bucket_of(one, index.len())) {
-        Some(places) => stands_at(found, places.as_slice(), one),
-        None => false,
-    }
-}
-
-/// Notes a place in one of the lists.
-fn note(at: usize, place: usize, index: &mut Vec<Items<usize>>) -> Result<(), AllocError>
-    ensures { OnOk result (index.new.items ≡ noted index.old.items at place) }
-{
-    if let Some(places) = index.get_mut(at) {
-        places.push(place)?;
-    }
-    Ok(())
-}
-
 /// One use more, if it is not among those that are found.
-fn add(one: Use, index: &mut Vec<Items<usize>>, found: &mut Items<Use>) -> Result<(), AllocError>
-    requires { 0 < length index.old.items }
-    ensures length { OnOk result (length index.new.items ≡ length index.old.items) }
-    ensures found { OnOk result (IsIndex index.old.items found.old → found.new ≡ added one found.old) }
-    ensures index { OnOk result (IsIndex index.old.items found.old → IsIndex index.new.items found.new) }
+pub(crate) fn add(one: Use, links: &mut Links, found: &mut Items<Use>) -> Result<(), AllocError>
+    requires { IsLinked links.old.heads.items links.old.before.items found.old }
+    ensures found { OnOk result (found.new ≡ added one found.old) }
+    ensures links { OnOk result (IsLinked links.new.heads.items links.new.before.items found.new) }
 {
-    if is_found(&one, index.as_slice(), found.as_slice()) {
+    if is_found(&one, links, found.as_slice()) {
         return Ok(());
     }
-    note(bucket_of(&one, index.len()), found.len(), index)?;
+    let bucket = bucket_in(&one, links);
+    links.note(bucket, found.len())?;
     found.push(one)
-}
-
-/// So many lists of places, which are empty.
-fn no_places(alloc: Global, count: usize) -> Result<Vec<Items<usize>>, AllocError>
-    ensures length { IfOk result (λ index. length index.items ≡ count) }
-    ensures empty { IfOk result (λ index. AreEmpty index.items) }
-{
-    let mut index = Vec::new(alloc);
-    for _made in 0..count {
-        index.push(Items::new(alloc))?;
-    }
-    Ok(index)
 }
 
 /// The uses, each once, the last of them first.
 pub fn distinct(alloc: Global, mut uses: Items<Use>) -> Result<Items<Use>, AllocError>
     ensures { IfOk result (λ found. found ≡ told_distinct uses) }
 {
-    let mut index = no_places(alloc, uses.len().max(1))?;
-    let mut found = Items::new(alloc);
+    if uses.len() < 2 {
+        return Ok(uses);
+    }
+    let mut links = Links::none(alloc, uses.len())?;
+    let mut found = Items::from_vec(Vec::with_capacity(alloc, uses.len())?);
     while let Some(one) = uses.pop() {
-        add(one, &mut index, &mut found)?;
+        add(one, &mut links, &mut found)?;
     }
     Ok(found)
 }

@@ -1,17 +1,27 @@
-ghost use Rattle.std.specs.Prelude.{◌≡◌, IfOk};
+ghost use Rattle.std.specs.Prelude.{◌≡◌, ◌++◌, OnOk};
 ghost use Rattle.occ_clashes.specs.Components.{joined as told_joined};
 
 use occ_base::Items;
 use occ_bounds::Use;
-use std::alloc::{AllocError, Global};
+use std::alloc::AllocError;
 
-/// The uses of all components, one behind the other.
-pub fn joined(alloc: Global, components: Vec<Items<Use>>) -> Result<Items<Use>, AllocError>
-    ensures { IfOk result (λ all. all ≡ told_joined components.items) }
+/// Adds uses behind others.
+pub fn append(uses: &mut Items<Use>, more: Items<Use>) -> Result<(), AllocError>
+    ensures { OnOk result (uses.new ≡ uses.old ++ more) }
 {
-    let mut all = Items::new(alloc);
-    for one in components {
-        all.append(one)?;
+    if uses.is_empty() {
+        *uses = more;
+        return Ok(());
     }
-    Ok(all)
+    uses.append(more)
+}
+
+/// Adds the uses of all components, one behind the other.
+pub fn append_joined(components: Vec<Items<Use>>, all: &mut Items<Use>) -> Result<(), AllocError>
+    ensures { OnOk result (all.new ≡ all.old ++ told_joined components.items) }
+{
+    for one in components {
+        append(all, one)?;
+    }
+    Ok(())
 }

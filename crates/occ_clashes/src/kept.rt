@@ -8,7 +8,7 @@ ghost use Rattle.occ_clashes.specs.inside.Spreading.{IsSpread, list_of as told_l
 
 use super::same::same_selectors;
 use occ_base::Items;
-use occ_parts::{copies, keep, meets_kept};
+use occ_parts::{copies, keep, keep_copy, meets_kept};
 use occ_types::{Interval, PartSelector, Places};
 use std::alloc::{AllocError, Global};
 use std::marker::Model;
@@ -22,7 +22,7 @@ const LISTS: usize = 256;
 /// Parts of one root that are kept to be asked for, those that are joined to others as one.
 #[derive(Drop)]
 pub(crate) struct Kept {
-    few: Items<Items<PartSelector>>,
+    few: Vec<Items<PartSelector>>,
     /// By the place that the first selector selects, if it is one place: so that a part meets those of its own list alone.
     spread: Vec<Items<Items<PartSelector>>>,
 }
@@ -34,7 +34,7 @@ impl Model for Kept {
 
     ghost Value = { List (List PartSelector) };
 
-    ghost view = { λ k. k.few ++ all_in k.spread.items };
+    ghost view = { λ k. k.few.items ++ all_in k.spread.items };
 
     ghost invariant = { λ k. IsSpread k.spread.items };
 }
@@ -45,7 +45,7 @@ impl Kept {
         ensures { result ≡ [] }
     {
         Kept {
-            few: Items::new(alloc),
+            few: Vec::new(alloc),
             spread: Vec::new(alloc),
         }
     }
@@ -62,7 +62,7 @@ impl Kept {
         ensures { OnOk result ((q : List ASelector) → meets_some self.new q ≡ (meets_some self.old q || not (are_parted part.now q))) }
     {
         if self.few.len() < FEW {
-            return add_part(alloc, &mut self.few, part);
+            return add_few(alloc, &mut self.few, part);
         }
         make_lists(alloc, &mut self.spread)?;
         put(alloc, part, &mut self.few, &mut self.spread)
@@ -84,15 +84,15 @@ fn make_lists(alloc: Global, lists: &mut Vec<Items<Items<PartSelector>>>) -> Res
 fn put(
     alloc: Global,
     part: &[PartSelector],
-    few: &mut Items<Items<PartSelector>>,
+    few: &mut Vec<Items<PartSelector>>,
     lists: &mut Vec<Items<Items<PartSelector>>>,
 ) -> Result<(), AllocError>
     ensures spread { IsSpread lists.old.items → IsSpread lists.new.items }
-    ensures meets { OnOk result ((q : List ASelector) → (meets_some few.new q || meets_in lists.new.items q) ≡ ((meets_some few.old q || meets_in lists.old.items q) || not (are_parted part.now q))) }
+    ensures meets { OnOk result ((q : List ASelector) → (meets_some few.new.items q || meets_in lists.new.items q) ≡ ((meets_some few.old.items q || meets_in lists.old.items q) || not (are_parted part.now q))) }
 {
     match list_of(part, lists.len()) {
         Some(at) => add_at(alloc, lists, at, part),
-        None => add_part(alloc, few, part),
+        None => add_few(alloc, few, part),
     }
 }
 
@@ -187,7 +187,21 @@ fn ends_in_places(part: &[PartSelector]) -> bool {
     }
 }
 
-/// Keeps a part, if it is not kept.
+/// Keeps a part among the few, if it is not kept.
+fn add_few(
+    alloc: Global,
+    few: &mut Vec<Items<PartSelector>>,
+    part: &[PartSelector],
+) -> Result<(), AllocError>
+    ensures { OnOk result ((q : List ASelector) → meets_some few.new.items q ≡ (meets_some few.old.items q || not (are_parted part.now q))) }
+{
+    if !ends_in_places(part) && is_kept(few.as_slice(), part) {
+        return Ok(());
+    }
+    keep_copy(alloc, few, part)
+}
+
+/// Keeps a part in its list, if it is not kept.
 fn add_part(
     alloc: Global,
     kept: &mut Items<Items<PartSelector>>,

@@ -10,14 +10,15 @@ mod kept;
 pub mod laws;
 mod numbering;
 mod pairs;
+mod reach;
 pub mod rows;
 mod rule;
 mod same;
 mod telling;
 
-pub use body::body_uses;
+pub use body::{body_uses, outside_uses};
 pub use each_once::distinct;
-pub use joining::joined;
+pub use joining::{append, append_joined};
 pub use pairs::target_faults;
 pub use rule::root_name;
-pub use telling::component_faults;
+pub use telling::{component_faults, parted_faults};

@@ -1,8 +1,10 @@
-ghost use Rattle.std.specs.Prelude.{◌≡◌, ◌++◌, OnOk, Some, length};
+ghost use Rattle.std.specs.Prelude.{◌≡◌, ◌<◌, ◌≤◌, ◌++◌, ℕ, OnOk, Some, length};
+ghost use Rattle.occ_clashes.specs.Components.{parted};
 ghost use Rattle.occ_clashes.specs.ParallelRule.{below, component_faults as told_components, fault_if};
 ghost use Rattle.occ_clashes.specs.inside.Accumulating.{broken_faults, faults_in};
 
-use super::accumulate::{RootUses, root_uses};
+use super::accumulate::{RootUses, parted_root_uses, root_uses};
+use super::reach::{last_parted_root, last_root};
 use super::rule::{Rule, code, root_name};
 use occ_base::{Diag, Items};
 use occ_bounds::{Bound, Use};
@@ -84,6 +86,14 @@ fn tell(
     Ok(())
 }
 
+/// How many of so many roots there are up to one.
+fn count_to(last: usize, count: usize) -> usize
+    ensures within { result ≤ count }
+    ensures behind { (root : ℕ) → result ≤ root → root < count → last < root }
+{
+    if last < count { last + 1 } else { count }
+}
+
 /// What is told of a PAR with these components, where these specifications stand round it.
 pub fn component_faults(
     alloc: Global,
@@ -94,6 +104,33 @@ pub fn component_faults(
 ) -> Result<(), AllocError>
     ensures { OnOk result (faults.new ≡ faults.old ++ told_components line.now env.now components.now) }
 {
-    let table = root_uses(alloc, env.len(), components)?;
+    if components.len() < 2 {
+        return Ok(());
+    }
+    let table = root_uses(
+        alloc,
+        count_to(last_root(components), env.len()),
+        components,
+    )?;
+    tell(alloc, line, env, table.as_slice(), faults)
+}
+
+/// What is told of a PAR with components of which the uses stand one behind the other, so many in each, where these
+/// specifications stand round it.
+pub fn parted_faults(
+    alloc: Global,
+    line: &Line,
+    env: &[Bound],
+    uses: &[Use],
+    sizes: &[usize],
+    faults: &mut Items<Diag>,
+) -> Result<(), AllocError>
+    ensures { OnOk result (faults.new ≡ faults.old ++ told_components line.now env.now (parted sizes.now uses.now)) }
+{
+    if sizes.len() < 2 {
+        return Ok(());
+    }
+    let count = count_to(last_parted_root(uses, sizes), env.len());
+    let table = parted_root_uses(alloc, count, uses, sizes)?;
     tell(alloc, line, env, table.as_slice(), faults)
 }

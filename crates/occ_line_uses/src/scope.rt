@@ -297,6 +297,9 @@ fn noted(lists: &[Items<usize>], root: usize) -> &[usize]
 fn add(numbers: &mut Vec<usize>, more: &[usize]) -> Result<(), AllocError>
     ensures { OnOk result ((n : ℕ) → is_in numbers.new.items n ≡ (is_in numbers.old.items n || is_in more.now n)) }
 {
+    if more.is_empty() {
+        return Ok(());
+    }
     numbers.extend_from_slice(more)
 }
 

@@ -74,18 +74,15 @@ any_set f [] at x y b h e = cc
 any_set f (z ∷ zs) zero x y b h e = let same : z ≡ x = grind (arith, h) in let g : f z ≡ f x = ap f same in grind (arith, e, g)
 any_set f (z ∷ zs) (suc at) x y b h e = let rest : list_any f (slice_set zs at y) ≡ (list_any f zs || b) = any_set f zs at x y b h e in grind (arith, rest)
 
-pub joined_meets : (kept : List (List PartSelector)) (at : ℕ) (one part wide q : List PartSelector) (u : Places)
-    → slice_get kept at ≡ Some one → Joins one part u
-    → ((front : List PartSelector) (last : PartSelector) → part ≡ front ++ last ∷ [] → wide ≡ behind front (record { mark = mark.Unsure; places = u }))
+-- a kept part that is made wide meets what it met, and what the other part meets
+pub wide_meets : (kept : List (List PartSelector)) (at : ℕ) (one part wide q : List PartSelector) (u : Places)
+    → slice_get kept at ≡ Some one → (j : Joins one part u) → wide ≡ behind j.front (record { mark = mark.Unsure; places = u })
     → meets_some (slice_set kept at wide) q ≡ (meets_some kept q || not (are_apart part q))
-joined_meets kept at one part wide q u h j w =
+wide_meets kept at one part wide q u h j w =
     any_set (λ (p : List PartSelector). not (are_apart p q)) kept at one wide (not (are_apart part q)) h step where
-      k : Interval
-      k = record { mark = mark.Unsure; places = u }
-
       same : are_apart wide q ≡ (are_apart one q && are_apart part q)
       same =
-          ap (λ (x : List PartSelector). are_apart x q) (w j.front (s.Interval j.other) j.right)
+          ap (λ (x : List PartSelector). are_apart x q) w
           ∙ union_apart j.front j.one j.other (record { mark = mark.Unsure; places = u }) j.union q
           ∙ ap (λ (x : List PartSelector). are_apart x q && are_apart (behind j.front j.other) q) (sym j.left)
           ∙ ap (λ (x : List PartSelector). are_apart one q && are_apart x q) (sym j.right)
@@ -95,6 +92,12 @@ joined_meets kept at one part wide q u h j w =
         demorgan : (a b : Bool) → not (a && b) ≡ (not a || not b)
         demorgan true b = refl
         demorgan false b = refl
+
+pub joined_meets : (kept : List (List PartSelector)) (at : ℕ) (one part wide q : List PartSelector) (u : Places)
+    → slice_get kept at ≡ Some one → Joins one part u
+    → ((front : List PartSelector) (last : PartSelector) → part ≡ front ++ last ∷ [] → wide ≡ behind front (record { mark = mark.Unsure; places = u }))
+    → meets_some (slice_set kept at wide) q ≡ (meets_some kept q || not (are_apart part q))
+joined_meets kept at one part wide q u h j w = wide_meets kept at one part wide q u h j (w j.front (s.Interval j.other) j.right)
 
 -- ---- one kept part less
 
@@ -111,7 +114,7 @@ any_removed f (z ∷ zs) (suc at) x h = ap (λ (y : Bool). f z || y) (any_remove
   regrouped true b c = refl
   regrouped false b c = refl
 
-before_removed : {X : Type 0} (xs : List X) (at k : ℕ) (x : X) → slice_get (take at xs) k ≡ Some x → slice_get (remove xs at) k ≡ Some x
+pub before_removed : {X : Type 0} (xs : List X) (at k : ℕ) (x : X) → slice_get (take at xs) k ≡ Some x → slice_get (remove xs at) k ≡ Some x
 before_removed [] zero k x h = absurd (grind (arith, h))
 before_removed [] (suc at) k x h = absurd (grind (arith, h))
 before_removed (z ∷ zs) zero k x h = absurd (grind (arith, h))
@@ -125,6 +128,15 @@ pub merged_meets : (kept : List (List PartSelector)) (at k : ℕ) (other one wid
     → meets_some (slice_set (remove kept at) k wide) q ≡ meets_some kept q
 merged_meets kept at k other one wide q u h e j w =
     joined_meets (remove kept at) k other one wide q u (before_removed kept at k other e) j w
+    ∙ sym (any_removed (λ (p : List PartSelector). not (are_apart p q)) kept at one h)
+
+-- of a kept part and one before it one is made in the place of that
+pub merged_in_meets : (kept : List (List PartSelector)) (at k : ℕ) (other one wide q : List PartSelector) (u : Places)
+    → slice_get kept at ≡ Some one → slice_get (take at kept) k ≡ Some other → Joins other one u
+    → ((front : List PartSelector) (last : PartSelector) → other ≡ front ++ last ∷ [] → wide ≡ behind front (record { mark = mark.Unsure; places = u }))
+    → meets_some (slice_set (remove kept at) k wide) q ≡ meets_some kept q
+merged_in_meets kept at k other one wide q u h e j w =
+    wide_meets (remove kept at) k other one wide q u (before_removed kept at k other e) j (w j.front (s.Interval j.one) j.left)
     ∙ sym (any_removed (λ (p : List PartSelector). not (are_apart p q)) kept at one h)
 
 -- with another last selector

@@ -7,9 +7,10 @@ ghost use Rattle.occ_parts.specs.Places.{united};
 
 use super::comparing::{are_apart, hold_nothing};
 use super::places::union;
+use super::selectors::copies;
 use occ_base::Items;
 use occ_types::{Interval, Mark, PartSelector, Places};
-use std::alloc::AllocError;
+use std::alloc::{AllocError, Global};
 
 /// Whether one of the kept parts has an element in common with a part. All are parts of one root, told by their selectors.
 pub fn meets_kept(kept: &[Items<PartSelector>], part: &[PartSelector]) -> bool
@@ -61,6 +62,45 @@ fn merge(kept: &mut Items<Items<PartSelector>>, at: usize)
     };
     let one = kept.remove(at);
     kept.set(place, with_last(one, places));
+}
+
+/// Keeps a copy of a part, as `keep` keeps a part.
+pub fn keep_copy(
+    alloc: Global,
+    kept: &mut Vec<Items<PartSelector>>,
+    part: &[PartSelector],
+) -> Result<(), AllocError>
+    ensures ok { OnOk result ((q : List ASelector) → meets_some kept.new.items q ≡ (meets_some kept.old.items q || not (are_parted part.now q))) }
+    ensures err { OnErr result (kept.new.items ≡ kept.old.items) }
+{
+    if hold_nothing(part) {
+        return Ok(());
+    }
+    match find_joined(kept.as_slice(), part) {
+        Some((at, places)) => {
+            widen(&mut kept[at], places);
+            merge_in(kept, at);
+            Ok(())
+        }
+        None => {
+            kept.push(copies(alloc, part)?)?;
+            Ok(())
+        }
+    }
+}
+
+/// Makes one of the kept part at this place and one before it, if they differ in their last intervals alone, and these follow
+/// one another.
+fn merge_in(kept: &mut Vec<Items<PartSelector>>, at: usize)
+    requires { at < length kept.old.items }
+    ensures { (q : List ASelector) → meets_some kept.new.items q ≡ meets_some kept.old.items q }
+{
+    let (before, _) = kept.as_slice().split_at(at);
+    let Some((place, places)) = find_joined(before, kept[at].as_slice()) else {
+        return;
+    };
+    kept.remove(at);
+    widen(&mut kept[place], places);
 }
 
 /// The first kept part with which a part makes one, and the places of both.
@@ -127,6 +167,14 @@ fn is_same(a: &PartSelector, b: &PartSelector) -> bool
 fn with_last(mut part: Items<PartSelector>, places: Places) -> Items<PartSelector>
     ensures { (front : List ASelector) (last : ASelector) → part ≡ front ++ last ∷ [] → result ≡ behind front (record { mark = mark.Unsure; places = places }) }
 {
+    widen(&mut part, places);
+    part
+}
+
+/// Puts these places in place of the last selector of a part.
+fn widen(part: &mut Items<PartSelector>, places: Places)
+    ensures { (front : List ASelector) (last : ASelector) → part.old ≡ front ++ last ∷ [] → part.new ≡ behind front (record { mark = mark.Unsure; places = places }) }
+{
     if let Some(last) = part.len().checked_sub(1) {
         part.set(
             last,
@@ -136,5 +184,4 @@ fn with_last(mut part: Items<PartSelector>, places: Places) -> Items<PartSelecto
             }),
         );
     }
-    part
 }

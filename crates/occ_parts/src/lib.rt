@@ -13,7 +13,7 @@ pub mod rows;
 mod selectors;
 
 pub use comparing::{are_apart, overlap};
-pub use kept::{keep, meets_kept};
+pub use kept::{keep, keep_copy, meets_kept};
 pub use part::{Overlap, Part};
 pub use place::{Ending, Place};
 pub use selectors::copies;

@@ -44,51 +44,44 @@ impl Place {
         }
     }
 
-    /// The field of that name.
-    pub fn with_field(mut self, name: Name) -> Result<Place, AllocError>
-        ensures { IfOk result (λ place. place ≡ the_field self name) }
+    /// From now on it is the field of that name.
+    pub fn select_field(&mut self, name: Name) -> Result<(), AllocError>
+        ensures { OnOk result (self.new ≡ the_field self.old name) }
     {
         match self.ending {
-            Ending::Plain => {
-                self.selectors.push(PartSelector::Field(name))?;
-                Ok(self)
-            }
+            Ending::Plain => self.selectors.push(PartSelector::Field(name)),
             Ending::Segment(interval, _) => {
                 self.selectors.push(PartSelector::Interval(interval))?;
                 self.selectors.push(PartSelector::Field(name))?;
                 self.ending = Ending::Plain;
-                Ok(self)
+                Ok(())
             }
-            Ending::Whole => Ok(self),
+            Ending::Whole => Ok(()),
         }
     }
 
-    /// The component at a place, which is given if it is known.
-    pub fn with_subscript(mut self, at: Option<i32>) -> Result<Place, AllocError>
-        ensures { IfOk result (λ place. place ≡ the_subscript self at) }
+    /// From now on it is the component at a place, which is given if it is known.
+    pub fn select_subscript(&mut self, at: Option<i32>) -> Result<(), AllocError>
+        ensures { OnOk result (self.new ≡ the_subscript self.old at) }
     {
         let interval = subscript(at);
         match self.ending {
-            Ending::Plain => {
-                self.selectors.push(PartSelector::Interval(interval))?;
-                Ok(self)
-            }
+            Ending::Plain => self.selectors.push(PartSelector::Interval(interval)),
             Ending::Segment(outer, base) => {
                 let interval = inside(outer, base, interval);
                 self.selectors.push(PartSelector::Interval(interval))?;
                 self.ending = Ending::Plain;
-                Ok(self)
+                Ok(())
             }
-            Ending::Whole => Ok(self),
+            Ending::Whole => Ok(()),
         }
     }
 
-    /// The segment of a base and a count, which are given if they are known.
-    pub fn with_segment(mut self, base: Option<i32>, count: Option<i64>) -> Place
-        ensures { result ≡ the_segment self base count }
+    /// From now on it is the segment of a base and a count, which are given if they are known.
+    pub fn select_segment(&mut self, base: Option<i32>, count: Option<i64>)
+        ensures { self.new ≡ the_segment self.old base count }
     {
         self.ending = ending_with(self.ending, base, segment(base, count));
-        self
     }
 
     /// The same under a name that RETYPES or RESHAPES gives it.

@@ -1,16 +1,18 @@
 -- One line of a walk over lines.
 use Rattle.std.proofs.Common.{◌≡◌, ◌∙◌, ◌≤◌, ◌+◌, ℕ, Bool, true, false, ◌||◌, Option, Some, None, List, [], ◌∷◌, ◌++◌, length, length-append, take, if◌then◌else◌, refl, ap, sym, subst, arith, append_assoc}
 use Rattle.std.proofs.lemmas.List.{length-take-le, take-append-le, take_all}
+use Rattle.std.specs.Prelude.{drop}
 use Rattle.occ_base.specs.declared.diag.Diag.{Diag}
 use Rattle.occ_bounds.specs.Bounds.{Env}
 use Rattle.occ_bounds.specs.declared.uses.Use.{Use}
+use Rattle.occ_clashes.specs.Components.{joined}
 use Rattle.occ_line_uses.specs.Entering.{body_bound, specified}
 use Rattle.occ_names.specs.declared.meaning.Entry.{Entry}
 use Rattle.occ_usage.specs.Effect.{effect_behind, effect_under, is_body, line_effect, lines_effect}
 use Rattle.occ_usage.specs.FunctionRule.{faults, whole_faults}
-use Rattle.occ_usage.specs.Lines.{added, behind_by, behind_line, behind_lines, ends_item, items, items_of, line_uses}
+use Rattle.occ_usage.specs.Lines.{added, added_by, body_over, behind_by, behind_line, behind_lines, ends_item, items, items_of, line_uses}
 use Rattle.occ_usage.specs.Processes.{process_uses, whole_uses}
-use Rattle.occ_usage.specs.Trees.{Head, Tree, Trees}
+use Rattle.occ_usage.specs.Trees.{Empty, Head, Tree, Trees}
 use Rattle.occ_usage.specs.Walk.{Rule, line_told, told, told_of}
 use Rattle.occ_usage.specs.declared.function.Within.{Within}
 
@@ -82,6 +84,67 @@ step_items h t rest all depth outer env grown behind own more own1 found found1 
     ∙ ap (λ (z : List Use). found ++ (if ends_item h.adds then z ∷ items rest outer outer [] else items rest outer (env ++ added env h t (items_of t)) z)) used
     ∙ ap (λ (z : Trees). found ++ items z outer env own) (sym is)
     ∙ before
+
+-- ---- the uses of all items as of one
+
+pub joined_behind : (xs : List (List Use)) (ys : List Use) → joined (xs ++ ys ∷ []) ≡ joined xs ++ ys
+joined_behind [] ys = append_nil ys where
+  append_nil : (zs : List Use) → zs ++ [] ≡ zs
+  append_nil [] = refl
+  append_nil (z ∷ zs) = ap (λ (more : List Use). z ∷ more) (append_nil zs)
+joined_behind (x ∷ xs) ys = ap (λ (z : List Use). x ++ z) (joined_behind xs ys) ∙ sym (append_assoc x (joined xs) ys)
+
+pub joined_more : (old uses more used : List Use) (xs : List (List Use)) → uses ≡ old ++ joined xs → more ≡ uses ++ used → more ≡ old ++ joined (xs ++ used ∷ [])
+joined_more old uses more used xs before e =
+    e ∙ ap (λ (z : List Use). z ++ used) before ∙ append_assoc old (joined xs) used ∙ ap (λ (z : List Use). old ++ z) (sym (joined_behind xs used))
+
+joined_own : (t : Trees) (outer env : Env) (own : List Use) → joined (items t outer env own) ≡ own ++ joined (items t outer env [])
+joined_own Empty outer env own = refl
+joined_own (Tree h t behind) outer env own = by_end (ends_item h.adds) (λ (us : List Use). joined_own behind outer (env ++ added env h t (items_of t)) us) where
+  by_end : (s : Bool) → ((us : List Use) → joined (items behind outer (env ++ added env h t (items_of t)) us) ≡ us ++ joined (items behind outer (env ++ added env h t (items_of t)) []))
+      → joined (if s then (own ++ line_uses env h (items_of t)) ∷ items behind outer outer [] else items behind outer (env ++ added env h t (items_of t)) (own ++ line_uses env h (items_of t)))
+      ≡ own ++ joined (if s then line_uses env h (items_of t) ∷ items behind outer outer [] else items behind outer (env ++ added env h t (items_of t)) (line_uses env h (items_of t)))
+  by_end true more = append_assoc own (line_uses env h (items_of t)) (joined (items behind outer outer []))
+  by_end false more =
+      more (own ++ line_uses env h (items_of t))
+      ∙ append_assoc own (line_uses env h (items_of t)) (joined (items behind outer (env ++ added env h t (items_of t)) []))
+      ∙ ap (λ (z : List Use). own ++ z) (sym (more (line_uses env h (items_of t))))
+
+first_joined : (s : Bool) (t : Trees) (outer env : Env) (used : List Use)
+    → joined (if s then used ∷ items t outer outer [] else items t outer env used) ≡ used ++ joined (items t outer (if s then outer else env) [])
+first_joined true t outer env used = refl
+first_joined false t outer env used = joined_own t outer env used
+
+pub step_joined : (h : Head) (t rest all : Trees) (depth : ℕ) (outer env grown behind : Env) (uses more whole : List Use)
+    → depth ≤ length env → take depth env ≡ outer
+    → all ≡ Tree h t rest
+    → uses ++ joined (items all outer env []) ≡ whole
+    → grown ≡ env ++ added env h t (items_of t)
+    → more ≡ uses ++ line_uses env h (items_of t)
+    → behind ≡ (if ends_item h.adds then take depth grown else grown)
+    → more ++ joined (items rest outer behind []) ≡ whole
+step_joined h t rest all depth outer env grown behind uses more whole within round is before made used e =
+    let next : behind ≡ (if ends_item h.adds then outer else env ++ added env h t (items_of t)) = e ∙ ended (ends_item h.adds) depth outer env (added env h t (items_of t)) grown within round made in
+    ap (λ (z : Env). more ++ joined (items rest outer z [])) next
+    ∙ ap (λ (z : List Use). z ++ joined (items rest outer (if ends_item h.adds then outer else env ++ added env h t (items_of t)) [])) used
+    ∙ append_assoc uses (line_uses env h (items_of t)) (joined (items rest outer (if ends_item h.adds then outer else env ++ added env h t (items_of t)) []))
+    ∙ ap (λ (z : List Use). uses ++ z) (sym (first_joined (ends_item h.adds) rest outer (env ++ added env h t (items_of t)) (line_uses env h (items_of t))))
+    ∙ ap (λ (z : Trees). uses ++ joined (items z outer env [])) (sym is)
+    ∙ before
+
+-- ---- what comes into scope behind a line: of the uses under it only by a body
+
+pub added_alike : (env : Env) (h : Head) (us vs : List Use) (does : Bool) (adds : Option (List Entry)) → (is_body h.form ≡ true → us ≡ vs) → added_by env h us does adds ≡ added_by env h vs does adds
+added_alike env h us vs does None e = refl
+added_alike env h us vs does (Some entries) e = by_body (is_body h.form) refl where
+  by_body : (s : Bool) → is_body h.form ≡ s
+      → (if s then body_over env h us does ∷ [] else specified env h.place entries h.form) ≡ (if s then body_over env h vs does ∷ [] else specified env h.place entries h.form)
+  by_body true is = ap (λ (z : List Use). body_over env h z does ∷ []) (e is)
+  by_body false is = refl
+
+pub drop_own : {X : Type 0} (old own : List X) → drop (length old) (old ++ own) ≡ own
+drop_own [] own = refl
+drop_own (x ∷ old) own = drop_own old own
 
 -- ---- what a rule tells
 

@@ -8,3 +8,4 @@ pub mod FunctionRule
 pub mod Processes
 pub mod Standing
 pub mod Anew
+pub mod Comparing

@@ -58,6 +58,9 @@ pub(crate) fn effect_under(
     ensures found { IfOk result (λ found. found ≡ told_under (lines_under line.now) env.old (head_of line.now)) }
     ensures env { OnOk result (env.new ≡ env.old) }
 {
+    if line.under.is_empty() {
+        return Ok(false);
+    }
     let depth = env.len();
     enter_all(alloc, line.enters.as_slice(), env)?;
     let found = lines_effect(alloc, line.under.as_slice(), env)?;

@@ -1,10 +1,11 @@
 #![tactic(auto, using(crate::proofs::Trees::first_tree))]
 
-ghost use Rattle.std.specs.Prelude.{◌≡◌, ◌≤◌, ◌++◌, ◌∷◌, [], if◌then◌else◌, true, IfOk, OnOk, length, take};
+ghost use Rattle.std.specs.Prelude.{◌≡◌, ◌≤◌, ◌++◌, ◌∷◌, [], if◌then◌else◌, true, IfOk, None, OnOk, Some, length, take};
 ghost use Rattle.occ_alias.specs.AbbreviationRule.{line_faults as told_line_faults};
-ghost use Rattle.occ_clashes.specs.Components.{joined as told_joined};
+ghost use Rattle.occ_clashes.specs.Components.{joined as told_joined, parted};
 ghost use Rattle.occ_line_uses.specs.Forms.{form_uses as told_form_uses};
-ghost use Rattle.occ_usage.specs.Effect.{effect_under as told_effect, inner as told_inner};
+ghost use Rattle.occ_usage.specs.Comparing.{are_compared as tells_compared};
+ghost use Rattle.occ_usage.specs.Effect.{effect_under as told_effect, inner as told_inner, is_body as told_is_body};
 ghost use Rattle.occ_usage.specs.Lines.{added as told_behind, behind_line, behind_lines, behind_unit, added_by as told_added, body_over as told_body, components as told_components, ends_item, entered as told_entered, is_replicated as tells_replicated, items_of, known_replicator as told_known, line_uses as told_line_uses, rounds_to, under_uses as told_under, with_index};
 ghost use Rattle.occ_usage.specs.AbbreviationRule.{abbreviation_at, abbreviation_faults};
 ghost use Rattle.occ_usage.specs.ParallelRule.{block_faults as told_block, own_faults as told_own, parallel_at, parallel_faults};
@@ -16,7 +17,7 @@ use super::multiple::assignment_faults;
 use occ_alias::{graver, line_faults};
 use occ_base::{Diag, Items};
 use occ_bounds::{Bound, Use};
-use occ_clashes::{body_uses, component_faults, distinct, joined};
+use occ_clashes::{append, append_joined, component_faults, distinct, outside_uses, parted_faults};
 use occ_line_uses::{
     Scope, body_bound, enter_all, enter_index, enter_line, form_uses, index_value, number_behind,
 };
@@ -66,26 +67,44 @@ fn is_replicated(form: &TypedForm) -> bool
     }
 }
 
-/// The uses of the lines under a line in one round of its replicator, and what is told of them.
+/// Whether the components of a line are compared.
+fn is_parallel(form: &TypedForm) -> bool
+    ensures { result ≡ tells_compared form.now }
+{
+    match form {
+        TypedForm::Block(BlockKind::Parallel, _) => true,
+        _ => false,
+    }
+}
+
+/// Adds the uses of the lines under a line in one round of its replicator, and what is told of them.
 #[cycle(walk)]
-fn round(
+fn add_round(
     alloc: Global,
     base: i32,
     index: u32,
     lines: &[TypedLine],
     env: &mut Scope,
+    uses: &mut Items<Use>,
     told: &mut Told,
-) -> Result<Items<Use>, AllocError>
-    ensures found { IfOk result (λ found. found ≡ told_joined (items_of (trees_of lines.now) (with_index env.old base index))) }
+) -> Result<(), AllocError>
+    ensures uses { OnOk result (uses.new ≡ uses.old ++ told_joined (items_of (trees_of lines.now) (with_index env.old base index))) }
     ensures env { OnOk result (env.new ≡ env.old) }
     ensures parallel { OnOk result (told.new.parallel ≡ told.old.parallel ++ told_of parallel_at (trees_of lines.now) (with_index env.old base index)) }
     ensures abbreviations { OnOk result (told.new.abbreviations ≡ told.old.abbreviations ++ told_of abbreviation_at (trees_of lines.now) (with_index env.old base index)) }
 {
     let depth = env.len();
     enter_index(alloc, index_value(base, index), env)?;
-    let found = items(alloc, lines, env, told)?;
+    add_items(alloc, lines, env, uses, told)?;
     env.cut(depth);
-    joined(alloc, found)
+    Ok(())
+}
+
+/// The uses of the rounds of a replicator, one behind the other, and how many each has.
+#[derive(Drop)]
+struct EachRound {
+    uses: Items<Use>,
+    sizes: Vec<usize>,
 }
 
 /// The uses of the lines under a line in each round of its replicator, and what is told of them.
@@ -96,17 +115,42 @@ fn rounds(
     lines: &[TypedLine],
     env: &mut Scope,
     told: &mut Told,
-) -> Result<Vec<Items<Use>>, AllocError>
-    ensures found { IfOk result (λ found. found.items ≡ rounds_to known.count known.base env.old (items_of (trees_of lines.now))) }
+) -> Result<EachRound, AllocError>
+    ensures found { IfOk result (λ found. parted found.sizes.items found.uses ≡ rounds_to known.count known.base env.old (items_of (trees_of lines.now))) }
+    ensures uses { IfOk result (λ found. found.uses ≡ told_joined (rounds_to known.count known.base env.old (items_of (trees_of lines.now)))) }
     ensures env { OnOk result (env.new ≡ env.old) }
     ensures parallel { OnOk result (told.new.parallel ≡ told.old.parallel ++ rounds_told known.count known.base env.old (told_of parallel_at (trees_of lines.now))) }
     ensures abbreviations { OnOk result (told.new.abbreviations ≡ told.old.abbreviations ++ rounds_told known.count known.base env.old (told_of abbreviation_at (trees_of lines.now))) }
 {
-    let mut found = Vec::new(alloc);
+    let mut uses = Items::new(alloc);
+    let mut sizes = Vec::new(alloc);
     for i in 0..known.count {
-        found.push(round(alloc, known.base, i, lines, env, told)?)?;
+        let before = uses.len();
+        add_round(alloc, known.base, i, lines, env, &mut uses, told)?;
+        sizes.push(uses.len().saturating_sub(before))?;
     }
-    Ok(found)
+    Ok(EachRound { uses, sizes })
+}
+
+/// Adds the uses of the lines under a line in each round of its replicator, and what is told of them.
+#[cycle(walk)]
+fn add_rounds(
+    alloc: Global,
+    known: KnownReplicator,
+    lines: &[TypedLine],
+    env: &mut Scope,
+    uses: &mut Items<Use>,
+    told: &mut Told,
+) -> Result<(), AllocError>
+    ensures uses { OnOk result (uses.new ≡ uses.old ++ told_joined (rounds_to known.count known.base env.old (items_of (trees_of lines.now)))) }
+    ensures env { OnOk result (env.new ≡ env.old) }
+    ensures parallel { OnOk result (told.new.parallel ≡ told.old.parallel ++ rounds_told known.count known.base env.old (told_of parallel_at (trees_of lines.now))) }
+    ensures abbreviations { OnOk result (told.new.abbreviations ≡ told.old.abbreviations ++ rounds_told known.count known.base env.old (told_of abbreviation_at (trees_of lines.now))) }
+{
+    for index in 0..known.count {
+        add_round(alloc, known.base, index, lines, env, uses, told)?;
+    }
+    Ok(())
 }
 
 /// The uses of each item under a line, with what the line enters in scope, and what is told of them.
@@ -129,22 +173,44 @@ fn inner(
     Ok(found)
 }
 
-/// The components of a line, and what is told of the lines under it.
+/// Adds the uses of the items under a line, with what the line enters in scope, and what is told of them.
 #[cycle(walk)]
-fn components(
+fn add_inner(
     alloc: Global,
     line: &TypedLine,
     env: &mut Scope,
+    uses: &mut Items<Use>,
     told: &mut Told,
-) -> Result<Vec<Items<Use>>, AllocError>
-    ensures found { IfOk result (λ found. found.items ≡ told_components env.old (head_of line.now) (items_of (lines_under line.now))) }
+) -> Result<(), AllocError>
+    ensures uses { OnOk result (uses.new ≡ uses.old ++ told_joined (items_of (lines_under line.now) (told_inner env.old (head_of line.now)))) }
+    ensures env { OnOk result (env.new ≡ env.old) }
+    ensures parallel { OnOk result (told.new.parallel ≡ told.old.parallel ++ told_of parallel_at (lines_under line.now) (told_inner env.old (head_of line.now))) }
+    ensures abbreviations { OnOk result (told.new.abbreviations ≡ told.old.abbreviations ++ told_of abbreviation_at (lines_under line.now) (told_inner env.old (head_of line.now))) }
+{
+    let depth = env.len();
+    enter_all(alloc, line.enters.as_slice(), env)?;
+    add_items(alloc, line.under.as_slice(), env, uses, told)?;
+    env.cut(depth);
+    Ok(())
+}
+
+/// Adds the uses of the components of a line, and what is told of the lines under it.
+#[cycle(walk)]
+fn add_components(
+    alloc: Global,
+    line: &TypedLine,
+    env: &mut Scope,
+    uses: &mut Items<Use>,
+    told: &mut Told,
+) -> Result<(), AllocError>
+    ensures uses { OnOk result (uses.new ≡ uses.old ++ told_joined (told_components env.old (head_of line.now) (items_of (lines_under line.now)))) }
     ensures env { OnOk result (env.new ≡ env.old) }
     ensures parallel { OnOk result (told.new.parallel ≡ told.old.parallel ++ under_told env.old (head_of line.now) (told_of parallel_at (lines_under line.now))) }
     ensures abbreviations { OnOk result (told.new.abbreviations ≡ told.old.abbreviations ++ under_told env.old (head_of line.now) (told_of abbreviation_at (lines_under line.now))) }
 {
     match known_replicator(line.form.get()) {
-        Some(known) => rounds(alloc, known, line.under.as_slice(), env, told),
-        None => inner(alloc, line, env, told),
+        Some(known) => add_rounds(alloc, known, line.under.as_slice(), env, uses, told),
+        None => add_inner(alloc, line, env, uses, told),
     }
 }
 
@@ -186,20 +252,117 @@ fn own_faults(
     }
 }
 
+/// Adds the uses of the rounds of a PAR, what is told of the lines under it, and what the rounds have in common.
+#[cycle(walk)]
+fn add_compared_rounds(
+    alloc: Global,
+    known: KnownReplicator,
+    line: &TypedLine,
+    env: &mut Scope,
+    uses: &mut Items<Use>,
+    told: &mut Told,
+) -> Result<(), AllocError>
+    requires parallel { tells_compared (head_of line.now).form ≡ true }
+    requires rounds { told_known (head_of line.now).form ≡ Some known }
+    ensures uses { OnOk result (uses.new ≡ uses.old ++ told_joined (told_components env.old (head_of line.now) (items_of (lines_under line.now)))) }
+    ensures env { OnOk result (env.new ≡ env.old) }
+    ensures parallel { OnOk result (told.new.parallel ≡ told.old.parallel ++ line_told parallel_at env.old (head_of line.now) (lines_under line.now) (told_of parallel_at (lines_under line.now))) }
+    ensures abbreviations { OnOk result (told.new.abbreviations ≡ told.old.abbreviations ++ under_told env.old (head_of line.now) (told_of abbreviation_at (lines_under line.now))) }
+{
+    let EachRound { uses: found, sizes } = rounds(alloc, known, line.under.as_slice(), env, told)?;
+    parted_faults(
+        alloc,
+        &line.place,
+        env.as_slice(),
+        found.as_slice(),
+        sizes.as_slice(),
+        &mut told.parallel,
+    )?;
+    append(uses, found)
+}
+
+/// Adds the uses of the items of a line, what is told of the lines under it, and what the items have in common.
+#[cycle(walk)]
+fn add_compared_items(
+    alloc: Global,
+    line: &TypedLine,
+    env: &mut Scope,
+    uses: &mut Items<Use>,
+    told: &mut Told,
+) -> Result<(), AllocError>
+    requires { told_known (head_of line.now).form ≡ None }
+    ensures uses { OnOk result (uses.new ≡ uses.old ++ told_joined (told_components env.old (head_of line.now) (items_of (lines_under line.now)))) }
+    ensures env { OnOk result (env.new ≡ env.old) }
+    ensures parallel { OnOk result (told.new.parallel ≡ told.old.parallel ++ line_told parallel_at env.old (head_of line.now) (lines_under line.now) (told_of parallel_at (lines_under line.now))) }
+    ensures abbreviations { OnOk result (told.new.abbreviations ≡ told.old.abbreviations ++ under_told env.old (head_of line.now) (told_of abbreviation_at (lines_under line.now))) }
+{
+    let components = inner(alloc, line, env, told)?;
+    own_faults(
+        alloc,
+        line,
+        components.as_slice(),
+        env.as_slice(),
+        &mut told.parallel,
+    )?;
+    append_joined(components, uses)
+}
+
+/// Adds the uses of the components of a PAR, what is told of the lines under it, and what the components have in common.
+#[cycle(walk)]
+fn add_compared(
+    alloc: Global,
+    line: &TypedLine,
+    env: &mut Scope,
+    uses: &mut Items<Use>,
+    told: &mut Told,
+) -> Result<(), AllocError>
+    requires { tells_compared (head_of line.now).form ≡ true }
+    ensures uses { OnOk result (uses.new ≡ uses.old ++ told_joined (told_components env.old (head_of line.now) (items_of (lines_under line.now)))) }
+    ensures env { OnOk result (env.new ≡ env.old) }
+    ensures parallel { OnOk result (told.new.parallel ≡ told.old.parallel ++ line_told parallel_at env.old (head_of line.now) (lines_under line.now) (told_of parallel_at (lines_under line.now))) }
+    ensures abbreviations { OnOk result (told.new.abbreviations ≡ told.old.abbreviations ++ under_told env.old (head_of line.now) (told_of abbreviation_at (lines_under line.now))) }
+{
+    match known_replicator(line.form.get()) {
+        Some(known) => add_compared_rounds(alloc, known, line, env, uses, told),
+        None => add_compared_items(alloc, line, env, uses, told),
+    }
+}
+
+/// Adds the uses of the components of a line, what is told of the lines under it, and what the parallel rule tells of the line.
+#[cycle(walk)]
+fn add_judged(
+    alloc: Global,
+    line: &TypedLine,
+    env: &mut Scope,
+    uses: &mut Items<Use>,
+    told: &mut Told,
+) -> Result<(), AllocError>
+    ensures uses { OnOk result (uses.new ≡ uses.old ++ told_joined (told_components env.old (head_of line.now) (items_of (lines_under line.now)))) }
+    ensures env { OnOk result (env.new ≡ env.old) }
+    ensures parallel { OnOk result (told.new.parallel ≡ told.old.parallel ++ line_told parallel_at env.old (head_of line.now) (lines_under line.now) (told_of parallel_at (lines_under line.now))) }
+    ensures abbreviations { OnOk result (told.new.abbreviations ≡ told.old.abbreviations ++ under_told env.old (head_of line.now) (told_of abbreviation_at (lines_under line.now))) }
+{
+    if is_parallel(line.form.get()) {
+        return add_compared(alloc, line, env, uses, told);
+    }
+    add_components(alloc, line, env, uses, told)?;
+    own_faults(alloc, line, &[], env.as_slice(), &mut told.parallel)
+}
+
 /// A PROC or a FUNCTION over lines that use these.
 fn body_over(
     alloc: Global,
     line: &TypedLine,
-    uses: &[Use],
+    uses: Items<Use>,
     env: &mut Scope,
 ) -> Result<Bound, AllocError>
-    ensures bound { IfOk result (λ bound. bound ≡ told_body env.old (head_of line.now) uses.now (told_effect (lines_under line.now) env.old (head_of line.now))) }
+    ensures bound { IfOk result (λ bound. bound ≡ told_body env.old (head_of line.now) uses (told_effect (lines_under line.now) env.old (head_of line.now))) }
     ensures env { OnOk result (env.new ≡ env.old) }
 {
     let has_effect = effect_under(alloc, line, env)?;
     let number = env.len();
     let locals = number_behind(number, line.enters.len())?;
-    let uses = body_uses(alloc, uses, number, locals, &line.place)?;
+    let uses = outside_uses(alloc, uses, number, locals, &line.place)?;
     Ok(body_bound(uses, has_effect))
 }
 
@@ -208,10 +371,10 @@ fn enter_behind(
     alloc: Global,
     line: &TypedLine,
     entries: &[Entry],
-    uses: &[Use],
+    uses: Items<Use>,
     env: &mut Scope,
 ) -> Result<(), AllocError>
-    ensures { OnOk result (env.new ≡ env.old ++ told_entered env.old (head_of line.now) uses.now (told_effect (lines_under line.now) env.old (head_of line.now)) entries.now) }
+    ensures { OnOk result (env.new ≡ env.old ++ told_entered env.old (head_of line.now) uses (told_effect (lines_under line.now) env.old (head_of line.now)) entries.now) }
 {
     if is_body(line.form.get()) {
         let body = body_over(alloc, line, uses, env)?;
@@ -224,10 +387,10 @@ fn enter_behind(
 fn go_behind(
     alloc: Global,
     line: &TypedLine,
-    uses: &[Use],
+    uses: Items<Use>,
     env: &mut Scope,
 ) -> Result<(), AllocError>
-    ensures { OnOk result (env.new ≡ env.old ++ told_added env.old (head_of line.now) uses.now (told_effect (lines_under line.now) env.old (head_of line.now)) (head_of line.now).adds) }
+    ensures { OnOk result (env.new ≡ env.old ++ told_added env.old (head_of line.now) uses (told_effect (lines_under line.now) env.old (head_of line.now)) (head_of line.now).adds) }
 {
     match &line.adds {
         Some(entries) => enter_behind(alloc, line, entries.as_slice(), uses, env),
@@ -235,22 +398,35 @@ fn go_behind(
     }
 }
 
-/// Adds the uses of the lines under a line, as they are uses of the line.
+/// Adds the uses of the lines under a line, as they are uses of the line, and what is told of them and of the line by the
+/// parallel rule. Those of a body are no uses of the line: they are given.
+#[cycle(walk)]
 fn under_uses(
     alloc: Global,
-    form: &TypedForm,
-    under: Items<Use>,
+    line: &TypedLine,
+    env: &mut Scope,
     uses: &mut Items<Use>,
-) -> Result<(), AllocError>
-    ensures { OnOk result (uses.new ≡ uses.old ++ told_under form.now under) }
+    told: &mut Told,
+) -> Result<Items<Use>, AllocError>
+    ensures uses { OnOk result (uses.new ≡ uses.old ++ told_under (head_of line.now).form (told_joined (told_components env.old (head_of line.now) (items_of (lines_under line.now))))) }
+    ensures body { IfOk result (λ body. told_is_body (head_of line.now).form ≡ true → body ≡ told_joined (told_components env.old (head_of line.now) (items_of (lines_under line.now)))) }
+    ensures env { OnOk result (env.new ≡ env.old) }
+    ensures parallel { OnOk result (told.new.parallel ≡ told.old.parallel ++ line_told parallel_at env.old (head_of line.now) (lines_under line.now) (told_of parallel_at (lines_under line.now))) }
+    ensures abbreviations { OnOk result (told.new.abbreviations ≡ told.old.abbreviations ++ under_told env.old (head_of line.now) (told_of abbreviation_at (lines_under line.now))) }
 {
+    let form = line.form.get();
+    let mut apart = Items::new(alloc);
     if is_body(form) {
-        return Ok(());
+        add_judged(alloc, line, env, &mut apart, told)?;
+        return Ok(apart);
     }
     if is_replicated(form) {
-        return uses.append(distinct(alloc, under)?);
+        add_judged(alloc, line, env, &mut apart, told)?;
+        append(uses, distinct(alloc, apart)?)?;
+        return Ok(Items::new(alloc));
     }
-    uses.append(under)
+    add_judged(alloc, line, env, uses, told)?;
+    Ok(apart)
 }
 
 /// Adds what a line uses itself, and what the abbreviation rule tells of that.
@@ -266,10 +442,10 @@ fn own_uses(
     ensures faults { OnOk result (faults.new ≡ faults.old ++ told_line_faults (head_of line.now).form env.old (head_of line.now).place) }
 {
     let form = line.form.get();
-    let mut own = Items::new(alloc);
-    form_uses(alloc, form, env.as_slice(), &line.place, &mut own)?;
-    line_faults(alloc, form, &line.place, own.as_slice(), env, faults)?;
-    uses.append(own)
+    let before = uses.len();
+    form_uses(alloc, form, env.as_slice(), &line.place, uses)?;
+    let (_, own) = uses.as_slice().split_at(before);
+    line_faults(alloc, form, &line.place, own, env, faults)
 }
 
 /// A line with those under it: its uses, what comes into scope behind it, and what is told of them. A main line leaves what
@@ -287,18 +463,20 @@ pub(crate) fn line(
     ensures parallel { OnOk result (told.new.parallel ≡ told.old.parallel ++ line_told parallel_at env.old (head_of line.now) (lines_under line.now) (told_of parallel_at (lines_under line.now))) }
     ensures abbreviations { OnOk result (told.new.abbreviations ≡ told.old.abbreviations ++ line_told abbreviation_at env.old (head_of line.now) (lines_under line.now) (told_of abbreviation_at (lines_under line.now))) }
 {
-    let components = components(alloc, line, env, told)?;
-    own_faults(
-        alloc,
-        line,
-        components.as_slice(),
-        env.as_slice(),
-        &mut told.parallel,
-    )?;
-    own_uses(alloc, line, env, uses, &mut told.abbreviations)?;
-    let under = joined(alloc, components)?;
-    go_behind(alloc, line, under.as_slice(), env)?;
-    under_uses(alloc, line.form.get(), under, uses)
+    let mut faults = Items::new(alloc);
+    own_uses(alloc, line, env, uses, &mut faults)?;
+    let body = under_uses(alloc, line, env, uses, told)?;
+    told.abbreviations.append(faults)?;
+    go_behind(alloc, line, body, env)
+}
+
+/// Ends an item behind its main line in what stands in scope: so many specifications stand round it.
+fn end_scope(line: &TypedLine, depth: usize, env: &mut Scope)
+    ensures { env.new ≡ (if ends_item (head_of line.now).adds then take depth env.old else env.old) }
+{
+    if line.adds.is_none() {
+        env.cut(depth);
+    }
 }
 
 /// Ends an item behind its main line: so many specifications stand round it.
@@ -345,6 +523,29 @@ fn items(
     env.cut(depth);
     found.push(own)?;
     Ok(found)
+}
+
+/// Adds the uses of the items of lines, and what is told of them.
+#[cycle(walk)]
+fn add_items(
+    alloc: Global,
+    lines: &[TypedLine],
+    env: &mut Scope,
+    uses: &mut Items<Use>,
+    told: &mut Told,
+) -> Result<(), AllocError>
+    ensures uses { OnOk result (uses.new ≡ uses.old ++ told_joined (items_of (trees_of lines.now) env.old)) }
+    ensures env { OnOk result (env.new ≡ env.old) }
+    ensures parallel { OnOk result (told.new.parallel ≡ told.old.parallel ++ told_of parallel_at (trees_of lines.now) env.old) }
+    ensures abbreviations { OnOk result (told.new.abbreviations ≡ told.old.abbreviations ++ told_of abbreviation_at (trees_of lines.now) env.old) }
+{
+    let depth = env.len();
+    for one in lines {
+        line(alloc, one, env, uses, told)?;
+        end_scope(one, depth, env);
+    }
+    env.cut(depth);
+    Ok(())
 }
 
 /// What is told of lines, behind the last of which stands in scope what is in scope then.

@@ -1,0 +1,79 @@
+-- Rounds, one behind the other.
+use Rattle.std.proofs.Common.{◌≡◌, ◌∙◌, ◌≤◌, ◌+◌, ◌-◌, add-one, append_assoc, ℕ, ℤ, List, [], ◌∷◌, ◌++◌, length, length-append, drop, take, refl, ap, sym, subst, arith}
+use Rattle.std.proofs.lemmas.List.{drop-append-le, length-drop, take-append-le}
+use Rattle.occ_base.specs.declared.diag.Diag.{Diag}
+use Rattle.occ_bounds.specs.Bounds.{Env}
+use Rattle.occ_bounds.specs.declared.uses.Use.{Use}
+use Rattle.occ_clashes.specs.Components.{joined, parted}
+use Rattle.occ_usage.specs.Lines.{Under, items_of, rounds_to, with_index}
+use Rattle.occ_usage.specs.Trees.{Trees}
+use Rattle.occ_usage.specs.Walk.{Rule, Told, rounds_told, told_of}
+use Rattle.occ_usage.proofs.Walking.{joined_more}
+
+abbrev pub total : List ℕ → ℕ
+total [] = 0
+total (n ∷ ns) = n + total ns
+
+total_more : (ns : List ℕ) (n : ℕ) → total (ns ++ n ∷ []) ≡ total ns + n
+total_more [] n = omega arith
+total_more (m ∷ ns) n = let e : total (ns ++ n ∷ []) ≡ total ns + n = total_more ns n in omega (arith, e)
+
+take_whole : (us : List Use) → take (length us) us ≡ us
+take_whole [] = refl
+take_whole (u ∷ us) = ap (λ (x : List Use). u ∷ x) (take_whole us)
+
+parted_more : (ns : List ℕ) (us more : List Use) → total ns ≡ length us → parted (ns ++ length more ∷ []) (us ++ more) ≡ parted ns us ++ more ∷ []
+parted_more [] [] more h = ap (λ (x : List Use). x ∷ []) (take_whole more)
+parted_more [] (u ∷ us) more h = absurd (omega (arith, h))
+parted_more (n ∷ ns) us more h =
+    let w : n ≤ length us = omega (arith, h) in
+    let rest : total ns ≡ length (drop n us) = omega (arith, h, length-drop n us) in
+    ap (λ (x : List Use). x ∷ parted (ns ++ length more ∷ []) (drop n (us ++ more))) (take-append-le n us more w)
+    ∙ ap (λ (x : List Use). take n us ∷ parted (ns ++ length more ∷ []) x) (drop-append-le n us more w)
+    ∙ ap (λ (xs : List (List Use)). take n us ∷ xs) (parted_more ns (drop n us) more rest)
+
+-- one round more
+pub next_round : (ns ms : List ℕ) (us more new : List Use) (n : ℕ) (xs : List (List Use))
+    → parted ns us ≡ xs → total ns ≡ length us → more ≡ us ++ new → n ≡ length more - length us → ms ≡ ns ++ n ∷ []
+    → (parted ms more ≡ xs ++ new ∷ []) × (total ms ≡ length more)
+next_round ns ms us more new n xs before size is many last =
+    let long : length more ≡ length us + length new = ap length is ∙ length-append us new in
+    let own : n ≡ length new = omega (arith, many, long) in
+    let all : ms ≡ ns ++ length new ∷ [] = last ∙ ap (λ (k : ℕ). ns ++ k ∷ []) own in
+    let sum : total ms ≡ total ns + length new = ap total all ∙ total_more ns (length new) in (
+      ap (λ (k : List ℕ). parted k more) all ∙ ap (parted (ns ++ length new ∷ [])) is ∙ parted_more ns us new size ∙ ap (λ (ys : List (List Use)). ys ++ new ∷ []) before,
+      omega (arith, sum, size, long),
+    )
+
+-- ---- the rounds up to the next
+
+round_more : (i : ℕ) (base : ℤ) (env : Env) (under : Under) → rounds_to (i + 1) base env under ≡ rounds_to i base env under ++ joined (under (with_index env base i)) ∷ []
+round_more i base env under = ap (λ (k : ℕ). rounds_to k base env under) (add-one i)
+
+told_more : (i : ℕ) (base : ℤ) (env : Env) (told : Told) → rounds_told (i + 1) base env told ≡ rounds_told i base env told ++ told (with_index env base i)
+told_more i base env told = ap (λ (k : ℕ). rounds_told k base env told) (add-one i)
+
+pub uses_step : (i : ℕ) (base : ℤ) (start env : Env) (t : Trees) (old us more : List Use) → env ≡ start
+    → us ≡ old ++ joined (rounds_to i base start (items_of t)) → more ≡ us ++ joined (items_of t (with_index env base i))
+    → more ≡ old ++ joined (rounds_to (i + 1) base start (items_of t))
+uses_step i base start env t old us more same before is =
+    joined_more old us more (joined (items_of t (with_index start base i))) (rounds_to i base start (items_of t)) before (is ∙ ap (λ (e : Env). us ++ joined (items_of t (with_index e base i))) same)
+    ∙ ap (λ (xs : List (List Use)). old ++ joined xs) (sym (round_more i base start (items_of t)))
+
+pub sizes_step : (i : ℕ) (base : ℤ) (start env : Env) (t : Trees) (ns ms : List ℕ) (us more : List Use) (n : ℕ) → env ≡ start
+    → (parted ns us ≡ rounds_to i base start (items_of t)) × (total ns ≡ length us) → more ≡ us ++ joined (items_of t (with_index env base i))
+    → n ≡ length more - length us → ms ≡ ns ++ n ∷ []
+    → (parted ms more ≡ rounds_to (i + 1) base start (items_of t)) × (total ms ≡ length more)
+sizes_step i base start env t ns ms us more n same before is many last =
+    let next = next_round ns ms us more (joined (items_of t (with_index start base i))) n (rounds_to i base start (items_of t)) before.0 before.1
+    (is ∙ ap (λ (e : Env). us ++ joined (items_of t (with_index e base i))) same) many last in
+    (next.0 ∙ sym (round_more i base start (items_of t)), next.1)
+
+pub told_step : (rule : Rule) (i : ℕ) (base : ℤ) (start env : Env) (t : Trees) (old told more : List Diag) → env ≡ start
+    → told ≡ old ++ rounds_told i base start (told_of rule t) → more ≡ told ++ told_of rule t (with_index env base i)
+    → more ≡ old ++ rounds_told (i + 1) base start (told_of rule t)
+told_step rule i base start env t old told more same before is =
+    is ∙ ap (λ (e : Env). told ++ told_of rule t (with_index e base i)) same
+    ∙ ap (λ (ds : List Diag). ds ++ told_of rule t (with_index start base i)) before
+    ∙ append_assoc old (rounds_told i base start (told_of rule t)) (told_of rule t (with_index start base i))
+    ∙ ap (λ (ds : List Diag). old ++ ds) (sym (told_more i base start (told_of rule t)))

@@ -1,0 +1,17 @@
+-- Which lines have components that are compared.
+use Rattle.std.specs.Prelude.{Bool, true, false}
+use Rattle.occ_typed_lines.specs.declared.tree.BlockKind.{BlockKind}
+use Rattle.occ_typed_lines.specs.declared.tree.BlockKind.TheVariants as block
+use Rattle.occ_typed_lines.specs.declared.tree.TypedForm.{TypedForm}
+use Rattle.occ_typed_lines.specs.declared.tree.TypedForm.TheVariants as form
+
+abbrev pub is_compared : BlockKind → Bool
+is_compared block.Parallel = true
+is_compared block.Sequence = false
+is_compared block.Conditional = false
+is_compared block.Alternation = false
+
+-- the line is a PAR
+abbrev pub are_compared : TypedForm → Bool
+are_compared (form.Block kind r) = is_compared kind
+are_compared other = false
