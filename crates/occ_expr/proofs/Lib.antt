@@ -3,3 +3,4 @@ pub mod Fields
 pub mod Walking
 pub mod DraftTypes
 pub mod Layers
+pub mod Referred

@@ -36,7 +36,7 @@ pub fn literal_draft(alloc: Global, kind: &Kind) -> Result<Draft, AllocError>
 {
     match kind {
         Kind::Faulty => Ok(Draft::Faulty),
-        Kind::Free(free) => Ok(Draft::Literal(*free)),
+        Kind::Free(free) => Ok(Draft::Literal(free.share()?)),
         Kind::Known(known) => typed(alloc, TypedExpr::Literal(shared(known)?)),
     }
 }
@@ -108,7 +108,7 @@ pub fn operation_draft(
 {
     match whole {
         Kind::Faulty => Ok(Draft::Faulty),
-        Kind::Free(free) => Ok(Draft::Operation(*free, operator, operands)),
+        Kind::Free(free) => Ok(Draft::Operation(free.share()?, operator, operands)),
         Kind::Known(known) => known_operation(alloc, known, operator, operands.as_slice()),
     }
 }
@@ -116,7 +116,7 @@ pub fn operation_draft(
 /// A shift of a free operand.
 fn free_shift(
     alloc: Global,
-    free: &Free,
+    free: &Shared<Free>,
     operator: Operator,
     shifted: Draft,
     count: Option<Shared<TypedExpr>>,
@@ -127,7 +127,7 @@ fn free_shift(
         return Ok(Draft::Faulty);
     };
     let shifted = Shared::new(alloc, shifted)?;
-    Ok(Draft::Shifted(*free, operator, shifted, count))
+    Ok(Draft::Shifted(free.share()?, operator, shifted, count))
 }
 
 /// A shift of a typed operand.
@@ -190,7 +190,7 @@ pub fn front_draft(
         Kind::Faulty => Ok(Draft::Faulty),
         Kind::Free(free) => {
             let operand = Shared::new(alloc, operand)?;
-            Ok(Draft::Applied(*free, operator, operand))
+            Ok(Draft::Applied(free.share()?, operator, operand))
         }
         Kind::Known(known) => {
             let Some(tree) = placed(alloc, &operand, &known.of)? else {

@@ -11,7 +11,7 @@ use super::reading::{Reading, Readings, faulty_reading, literal_reading};
 use occ_base::{Fault, Items, Shared};
 use occ_expression_forms::{Extreme, MonadicOperator, PairOperator, RunOperator};
 use occ_operands::{
-    Free, Kind, applied as applied_to, converted as converted_to, operated, shifted,
+    Free, Kind, applied as applied_to, converted as converted_to, free, operated, shifted,
 };
 use occ_tables::{Limit, Term, alone, has_fault, most, operand, sized};
 use occ_types::{Monadic, OccType, Operator};
@@ -98,7 +98,7 @@ fn each_among(
     ensures kinds { IfOk result (λ kinds. kinds ≡ kinds_of (told_each count (judged_all operands.now))) }
     ensures faults { OnOk result (faults.new ≡ faults.old ++ all_faults (told_each count (judged_all operands.now))) }
 {
-    let mut kinds = Items::new(alloc);
+    let mut kinds = Items::from_vec(Vec::with_capacity(alloc, operands.len())?);
     for term in operands {
         let kind = operand(alloc, term, another_has_fault(count, term), faults)?;
         kinds.push(kind)?;
@@ -233,7 +233,7 @@ fn in_front(
     ensures faults { OnOk result (faults.new ≡ faults.old ++ (told_in_front operator (judged term.now)).faults) }
 {
     let kind = plain(alloc, term, faults)?;
-    applied_to(operator, &kind, faults)
+    applied_to(alloc, operator, &kind, faults)
 }
 
 /// An operator in front of an operand.
@@ -267,7 +267,7 @@ fn negated(
     ensures faults { OnOk result (faults.new ≡ faults.old ++ (told_negated digits (judged operand.term)).faults) }
 {
     match digits {
-        Some(n) => literal_reading(alloc, Kind::Free(Free::decimal(0 - i128::from(n)))),
+        Some(n) => literal_reading(alloc, free(alloc, Free::decimal(0 - i128::from(n)))?),
         None => front_of(alloc, Monadic::Negate, operand, faults),
     }
 }

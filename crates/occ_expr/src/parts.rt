@@ -7,7 +7,7 @@ ghost use Rattle.occ_typed.specs.declared.draft.Draft.TheVariants as d;
 ghost use Rattle.occ_expr.specs.Parts.{bounds_alone as told_bounds, named as told_named, no_function as told_no_function, only as only_one, segment_of as told_segment, table_as as told_table};
 ghost use Rattle.occ_expr.specs.Views.{digits_of as digits, element_view, expr_view, expr_views, operand_view};
 ghost use Rattle.occ_names.specs.Lookup.{element as told_element};
-ghost use Rattle.occ_names.specs.Visible.{visible};
+ghost use Rattle.occ_names.specs.Visible.{referent as the_referent, visible};
 ghost use Rattle.occ_tables.specs.Terms.{judged};
 ghost use Rattle.occ_tables.specs.declared.term.Term.TheVariants as v;
 
@@ -15,7 +15,7 @@ use super::operation::converted;
 use super::reading::{Reading, Readings};
 use occ_base::{Code, Fault, Items, Name, Shared};
 use occ_expression_forms::{Element, Expr, Literal, Operand};
-use occ_names::{Meaning, Scope, element};
+use occ_names::{Meaning, Referent, Scope, element};
 use occ_operands::{Kind, known};
 use occ_tables::{BoundTerms, Term, alone, decorated_table, segment, tell_hidden};
 use occ_typed::Draft;
@@ -126,7 +126,7 @@ pub fn tell_no_function(
 }
 
 /// What is known of all that a name stands for.
-pub fn named(
+fn named(
     alloc: Global,
     scope: &Scope,
     name: &Name,
@@ -138,6 +138,28 @@ pub fn named(
     match element(alloc, scope, name, faults)? {
         Some(whole) => known(&whole.of, whole.value),
         None => Ok(Kind::Faulty),
+    }
+}
+
+/// The same of a name whose nearest specification is found already, if it has one.
+#[tactic(auto, using(crate::proofs::Referred::seen))]
+pub fn referred(
+    alloc: Global,
+    scope: &Scope,
+    name: &Name,
+    found: &Option<Referent>,
+    faults: &mut Items<Fault>,
+) -> Result<Kind, AllocError>
+    requires { found.now ≡ the_referent scope.now name.now }
+    ensures kind { IfOk result (λ kind. kind ≡ (told_named (told_element name.now (visible scope.now name.now))).kind) }
+    ensures faults { OnOk result (faults.new ≡ faults.old ++ (told_named (told_element name.now (visible scope.now name.now))).faults) }
+{
+    let Some(referent) = found else {
+        return named(alloc, scope, name, faults);
+    };
+    match referent.meaning.get() {
+        Meaning::Element(whole) => known(&whole.of, whole.value),
+        _ => named(alloc, scope, name, faults),
     }
 }
 

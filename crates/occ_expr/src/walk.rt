@@ -18,7 +18,7 @@ use super::drafting::decorated_draft;
 use super::literals::{decorated_literal, literal, truth};
 use super::operation::{applied, converted, extreme_of, operation_of, pair, plain, run_operator};
 use super::parts::{
-    converted_table, digits_of, name_alone, named, only, segment_of, shared_type, table_as,
+    converted_table, digits_of, name_alone, only, referred, segment_of, shared_type, table_as,
     tell_no_function,
 };
 use super::reading::{Reading, Readings, faulty_reading, literal_reading};
@@ -542,10 +542,10 @@ fn named_element(
     ensures tree { IfOk result (λ read. read.tree ≡ the_named_tree scope.now name.now (expr_views exprs.now)) }
     ensures faults { OnOk result (faults.new ≡ faults.old ++ (told_named_element scope.now name.now (expr_views exprs.now)).faults) }
 {
-    let whole = named(alloc, scope, name, faults)?;
+    let referent = scope.referent(name)?;
+    let whole = referred(alloc, scope, name, &referent, faults)?;
     let selectors = Some(Items::new(alloc));
     let (kind, selectors) = subscripts(alloc, exprs, whole, selectors, scope, faults)?;
-    let referent = scope.referent(name)?;
     let tree = element_of(&kind, name.copied(alloc)?, referent, selectors)?;
     Ok(ElementReading { kind, tree })
 }

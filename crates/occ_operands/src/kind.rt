@@ -49,6 +49,6 @@ pub enum Kind {
     /// It has a fault, which was told, or needs something that has one.
     Faulty,
     /// It takes the type that is wanted of it.
-    Free(Free),
+    Free(Shared<Free>),
     Known(Known),
 }

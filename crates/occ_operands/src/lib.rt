@@ -12,5 +12,5 @@ mod want;
 pub use kind::{Free, Kind, Known, Outcome, Wrong};
 pub use operate::{applied, is_faulty, needs_faulty, operand_type, operated, shifted, type_in};
 pub use part::{field, subscripted};
-pub use settle::{int, known, landed, number, settled};
+pub use settle::{free, int, known, landed, number, settled};
 pub use want::{converted, fitted, wanted};

@@ -1,15 +1,18 @@
-ghost use Rattle.std.specs.Prelude.{◌≡◌, ◌++◌, IfOk, MatchOption, None, OnOk, Some};
+ghost use Rattle.std.specs.Prelude.{◌≡◌, ◌++◌, IfOk, MatchOption, None, OnOk, Some, map};
 ghost use Rattle.std.specs.List.{list_all, list_any};
 ghost use Rattle.occ_operands.specs.Operators.{allows as allowing, class_of as the_class, decided as deciding, first_bound as first_one_bound, front_operated as in_front, given as giving, is_arithmetic as arithmetic, is_faulty as faulty, is_int as int_itself, is_of as of_type, faulty_count as shift_by_faulty, known_count as shift_by_known, needs_faulty as needing_faulty, not_free as no_free, not_number as no_number, operated as operating, operand_type as type_of_operands, operated_from as operating_from, outcome_in as kind_outcome, run_in as running, shift_operated as shifting, shifted_by as shifting_by, takes as taking, type_in as type_known, value_outcome as outcome_of_value, verdict as judged};
-ghost use Rattle.occ_operands.specs.Outcomes.{applied as applied_outcome, in_each, in_type, misshifted, shifted as shifted_outcome};
+ghost use Rattle.occ_operands.specs.Outcomes.{applied as applied_outcome, if_constant, in_each, in_type, misshifted, run, shifted as shifted_outcome, worst};
+ghost use Rattle.occ_operands.specs.declared.kind.Outcome.TheVariants as o;
+ghost use Rattle.occ_operands.specs.declared.kind.Wrong.TheVariants as w;
+ghost use Rattle.occ_types.specs.declared.value.Value.{Value as AValue};
 ghost use Rattle.occ_operands.specs.declared.kind.Kind.TheVariants as k;
 ghost use Rattle.occ_types.specs.View.{as_primitive as primitive_of};
 
-use super::kind::{Free, Kind, Known, Outcome};
-use super::outcome::{Running, apply, misshift, shift};
-use super::settle::{int, landed, number, settled, tell_wrong};
+use super::kind::{Free, Kind, Known, Outcome, Wrong};
+use super::outcome::{apply, misshift, shift, worse};
+use super::settle::{free, int, landed, number, settled, tell_wrong};
 use occ_base::{Code, Fault, Items, Shared, tell};
-use occ_types::{Monadic, OccType, Operator, Primitive, Value, as_primitive, base_of, fits};
+use occ_types::{Monadic, OccType, Operator, Primitive, Value, as_primitive, base_of, fits, fold};
 use std::alloc::{AllocError, Global};
 
 /// What an operator asks of its operands, and which type it gives.
@@ -113,23 +116,75 @@ fn outcome_in(of: Primitive, kind: &Kind) -> Outcome
 {
     match kind {
         Kind::Faulty => Outcome::Varying,
-        Kind::Free(free) => free.in_type(of),
+        Kind::Free(free) => free.get().in_type(of),
         Kind::Known(known) => value_outcome(known.value),
     }
 }
 
+/// The worst of operands that are not all constant: of this and of the others.
+fn worst_of(of: Primitive, first: Outcome, others: &[Kind]) -> Outcome
+    ensures { result ≡ worst first (map (kind_outcome of) others.now) }
+{
+    let mut found = first;
+    for kind in others {
+        found = worse(found, outcome_in(of, kind));
+    }
+    found
+}
+
+/// What constants that have no value come to with these operands behind them.
+fn without_value(of: Primitive, others: &[Kind]) -> Outcome
+    ensures { (value : AValue) → result ≡ if_constant (worst (o.Constant value) (map (kind_outcome of) others.now)) (o.Faulty w.Value) }
+{
+    let mut others = others;
+    while let Some((next, rest)) = others.split_first() {
+        match outcome_in(of, next) {
+            Outcome::Constant(_) => others = rest,
+            Outcome::Unfit => return Outcome::Unfit,
+            Outcome::Faulty(wrong) => return worst_of(of, Outcome::Faulty(wrong), rest),
+            Outcome::Varying => return worst_of(of, Outcome::Varying, rest),
+        }
+    }
+    Outcome::Faulty(Wrong::Value)
+}
+
+/// What constants of this value come to with these operands behind them, and one operator between each two.
+fn with_value(op: Operator, of: Primitive, first: Value, others: &[Kind]) -> Outcome
+    ensures { result ≡ run op (o.Constant first) (map (kind_outcome of) others.now) }
+{
+    let mut value = first;
+    let mut others = others;
+    while let Some((next, rest)) = others.split_first() {
+        match outcome_in(of, next) {
+            Outcome::Constant(constant) => match fold(op, value, constant) {
+                Ok(folded) => {
+                    value = folded;
+                    others = rest;
+                }
+                Err(_) => return without_value(of, rest),
+            },
+            Outcome::Unfit => return Outcome::Unfit,
+            Outcome::Faulty(wrong) => return worst_of(of, Outcome::Faulty(wrong), rest),
+            Outcome::Varying => return worst_of(of, Outcome::Varying, rest),
+        }
+    }
+    Outcome::Constant(value)
+}
+
 /// What operands with one operator between each two come to.
+#[tactic(auto, using(crate::proofs::Runs::unfit_stays, crate::proofs::Runs::faulty_stays, crate::proofs::Runs::varying_stays))]
 fn run_in(op: Operator, of: Primitive, kinds: &[Kind]) -> Outcome
     ensures { result ≡ running op of kinds.now }
 {
-    let Some((first, rest)) = kinds.split_first() else {
+    let Some((first, others)) = kinds.split_first() else {
         return Outcome::Varying;
     };
-    let mut run = Running::begin(outcome_in(of, first));
-    for kind in rest {
-        run = run.and(op, outcome_in(of, kind));
+    match outcome_in(of, first) {
+        Outcome::Constant(value) => with_value(op, of, value, others),
+        Outcome::Unfit => Outcome::Unfit,
+        Outcome::Faulty(wrong) => worst_of(of, Outcome::Faulty(wrong), others),
+        Outcome::Varying => worst_of(of, Outcome::Varying, others),
     }
-    run.end()
 }
 
 /// Whether an operand is faulty, or will be in whatever type it takes.
@@ -138,7 +193,7 @@ pub fn needs_faulty(kind: &Kind) -> bool
 {
     match kind {
         Kind::Faulty => true,
-        Kind::Free(free) => free.is_faulty,
+        Kind::Free(free) => free.get().is_faulty,
         Kind::Known(_) => false,
     }
 }
@@ -229,7 +284,7 @@ fn decided(
     ensures kind { IfOk result (λ kind. kind ≡ (deciding op of.now kinds.now).kind) }
     ensures faults { OnOk result (faults.new ≡ faults.old ++ (deciding op of.now kinds.now).faults) }
 {
-    let mut taken = Items::new(alloc);
+    let mut taken = Items::from_vec(Vec::with_capacity(alloc, kinds.len())?);
     for kind in kinds {
         taken.push(settled(alloc, of, kind, faults)?)?;
     }
@@ -247,7 +302,7 @@ fn unbound(
     ensures faults { OnOk result (faults.new ≡ faults.old ++ (operating_from None op kinds.now).faults) }
 {
     if is_arithmetic(class_of(op)) {
-        return Ok(Kind::Free(free_run(op, kinds)));
+        return free(alloc, free_run(op, kinds));
     }
     decided(alloc, op, &int(alloc)?, kinds, faults)
 }
@@ -369,6 +424,7 @@ fn known_count(op: Operator, free: &Free, count: &Known) -> Free
 
 /// An operand that is shifted by a settled count.
 fn shifted_by(
+    alloc: Global,
     op: Operator,
     kind: &Kind,
     count: &Kind,
@@ -378,8 +434,12 @@ fn shifted_by(
     ensures faults { OnOk result (faults.new ≡ faults.old ++ (shifting_by op kind.now count.now).faults) }
 {
     match (kind, count) {
-        (Kind::Free(free), Kind::Known(count)) => Ok(Kind::Free(known_count(op, free, count))),
-        (Kind::Free(free), Kind::Faulty) => Ok(Kind::Free(free_shift(op, free, true, None))),
+        (Kind::Free(shifted), Kind::Known(count)) => {
+            free(alloc, known_count(op, shifted.get(), count))
+        }
+        (Kind::Free(shifted), Kind::Faulty) => {
+            free(alloc, free_shift(op, shifted.get(), true, None))
+        }
         (Kind::Known(known), Kind::Known(count)) => known_shift(op, known, count, faults),
         _ => Ok(Kind::Faulty),
     }
@@ -397,7 +457,7 @@ pub fn shifted(
     ensures faults { OnOk result (faults.new ≡ faults.old ++ (shifting op kind.now count.now).faults) }
 {
     let count = settled(alloc, &int(alloc)?, count, faults)?;
-    shifted_by(op, kind, &count, faults)
+    shifted_by(alloc, op, kind, &count, faults)
 }
 
 /// Whether an operator in front takes a type that is this one under its names.
@@ -452,17 +512,23 @@ fn not_free(
 }
 
 /// What an operator in front of its one operand gives; not SIZE.
-pub fn applied(op: Monadic, kind: &Kind, faults: &mut Items<Fault>) -> Result<Kind, AllocError>
+pub fn applied(
+    alloc: Global,
+    op: Monadic,
+    kind: &Kind,
+    faults: &mut Items<Fault>,
+) -> Result<Kind, AllocError>
     ensures kind { IfOk result (λ applied. applied ≡ (in_front op kind.now).kind) }
     ensures faults { OnOk result (faults.new ≡ faults.old ++ (in_front op kind.now).faults) }
 {
     match kind {
         Kind::Faulty => Ok(Kind::Faulty),
-        Kind::Free(free) => {
+        Kind::Free(operand) => {
+            let operand = operand.get();
             if op == Monadic::Not {
-                return not_free(free.is_faulty, free.int, faults);
+                return not_free(operand.is_faulty, operand.int, faults);
             }
-            Ok(Kind::Free(free_front(op, free)))
+            free(alloc, free_front(op, operand))
         }
         Kind::Known(known) => {
             if takes(op, base_of(known.of.get())) {

@@ -1,5 +1,5 @@
 ghost use Rattle.std.specs.Prelude.{◌≡◌};
-ghost use Rattle.occ_operands.specs.Outcomes.{applied as applied_to, both_wrong as wrong_with_both, decimal as decimal_free, fitting as fitting_value, hexadecimal as hexadecimal_free, if_constant, in_type as outcome_in, misshifted as wrongly_shifted, outcome_of as outcome_of_result, shifted as shifted_by, with_next, worse as worse_of};
+ghost use Rattle.occ_operands.specs.Outcomes.{applied as applied_to, both_wrong as wrong_with_both, decimal as decimal_free, fitting as fitting_value, hexadecimal as hexadecimal_free, in_type as outcome_in, misshifted as wrongly_shifted, outcome_of as outcome_of_result, shifted as shifted_by, worse as worse_of};
 ghost use Rattle.occ_types.specs.Constant.{number_value, pattern_value};
 
 use super::kind::{Free, Outcome, Wrong};
@@ -83,7 +83,7 @@ fn both_wrong(a: Wrong, b: Wrong) -> Wrong
 }
 
 /// Of operands that are not all constant: a literal that does not fit comes first, then what is wrong with them.
-fn worse(a: Outcome, b: Outcome) -> Outcome
+pub(super) fn worse(a: Outcome, b: Outcome) -> Outcome
     ensures { result ≡ worse_of a b }
 {
     match (a, b) {
@@ -126,59 +126,5 @@ pub fn misshift(a: Outcome) -> Outcome
     match a {
         Outcome::Unfit | Outcome::Faulty(_) => a,
         Outcome::Varying | Outcome::Constant(_) => Outcome::Faulty(Wrong::Count),
-    }
-}
-
-/// Operands with one operator between each two, as far as they were read.
-#[derive(Clone, Copy)]
-pub struct Running {
-    /// The worst of them.
-    worst: Outcome,
-    /// Their value, where all are constant.
-    value: Outcome,
-}
-
-impl Running {
-    /// The first of them.
-    pub fn begin(first: Outcome) -> Running
-        ensures worst { result.worst ≡ first }
-        ensures value { result.value ≡ first }
-    {
-        Running {
-            worst: first,
-            value: first,
-        }
-    }
-
-    /// And one more.
-    pub fn and(self, op: Operator, next: Outcome) -> Running
-        ensures worst { result.worst ≡ worse_of self.worst next }
-        ensures value { result.value ≡ with_next op self.value next }
-    {
-        Running {
-            worst: worse(self.worst, next),
-            value: join(op, self.value, next),
-        }
-    }
-
-    /// What they come to.
-    pub fn end(self) -> Outcome
-        ensures { result ≡ if_constant self.worst self.value }
-    {
-        match self.worst {
-            Outcome::Constant(_) => self.value,
-            _ => self.worst,
-        }
-    }
-}
-
-/// What the operator gives on what was read so far and one more.
-fn join(op: Operator, value: Outcome, next: Outcome) -> Outcome
-    ensures { result ≡ with_next op value next }
-{
-    match (value, next) {
-        (Outcome::Constant(a), Outcome::Constant(b)) => outcome_of(fold(op, a, b)),
-        (Outcome::Constant(_), _) => next,
-        _ => value,
     }
 }

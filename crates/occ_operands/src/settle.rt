@@ -1,6 +1,7 @@
 ghost use Rattle.std.specs.Prelude.{◌≡◌, ◌++◌, IfOk, OnOk, [], ◌∷◌, None};
 ghost use Rattle.occ_operands.specs.Settling.{base_of as named_base, faulty_if as told_faulty_if, int as int_type, known as known_kind, landed as landing, landed_or_int as landing_or_int, number as number_base, settled as settling, settled_free as settling_free, wrong_faults};
 ghost use Rattle.occ_base.specs.Telling.{nameless};
+ghost use Rattle.occ_operands.specs.declared.kind.Kind.TheVariants as k;
 
 use super::kind::{Free, Kind, Known, Outcome, Wrong};
 use occ_base::{Code, Fault, Items, Shared, tell};
@@ -30,6 +31,13 @@ pub fn known(of: &Shared<OccType>, value: Option<Value>) -> Result<Kind, AllocEr
 {
     let of = of.share()?;
     Ok(Kind::Known(Known { of, value }))
+}
+
+/// A free operand.
+pub fn free(alloc: Global, free: Free) -> Result<Kind, AllocError>
+    ensures { IfOk result (λ kind. kind ≡ k.Free free) }
+{
+    Ok(Kind::Free(Shared::new(alloc, free)?))
 }
 
 /// What is wrong is told.
@@ -123,6 +131,7 @@ pub fn settled(
     match kind {
         Kind::Faulty => Ok(Kind::Faulty),
         Kind::Free(free) => {
+            let free = free.get();
             let kind = settled_free(alloc, of, free, faults)?;
             Ok(faulty_if(free.is_faulty, kind))
         }

@@ -17,7 +17,7 @@ pub(super) fn shared(kind: &Kind) -> Result<Kind, AllocError>
 {
     match kind {
         Kind::Faulty => Ok(Kind::Faulty),
-        Kind::Free(free) => Ok(Kind::Free(*free)),
+        Kind::Free(free) => Ok(Kind::Free(free.share()?)),
         Kind::Known(found) => known(&found.of, found.value),
     }
 }
@@ -35,15 +35,15 @@ fn first_known(kinds: &[Kind]) -> Result<Option<Shared<OccType>>, AllocError>
 }
 
 /// The first item that is free.
-fn first_free(kinds: &[Kind]) -> Kind
-    ensures { result ≡ the_first_free kinds.now }
+fn first_free(kinds: &[Kind]) -> Result<Kind, AllocError>
+    ensures { IfOk result (λ found. found ≡ the_first_free kinds.now) }
 {
     for kind in kinds {
         if let Kind::Free(free) = kind {
-            return Kind::Free(*free);
+            return Ok(Kind::Free(free.share()?));
         }
     }
-    Kind::Faulty
+    Ok(Kind::Faulty)
 }
 
 /// What is known of a table of these items, none of which is faulty, where it is hidden what is wanted of it.
@@ -52,7 +52,7 @@ fn hidden_type(alloc: Global, kinds: &[Kind], faults: &mut Items<Fault>) -> Resu
     ensures faults { OnOk result (faults.new ≡ faults.old ++ (told_hidden_type kinds.now (the_first_known kinds.now)).faults) }
 {
     match first_known(kinds)? {
-        None => Ok(first_free(kinds)),
+        None => first_free(kinds),
         Some(of) => {
             let of = merged_all(alloc, &of, kinds)?;
             table_type(alloc, kinds.len(), of, faults)

@@ -12,13 +12,13 @@ pub enum Draft {
     Faulty,
     Typed(Shared<TypedExpr>),
     /// A free literal, with the `-` that makes one literal with it.
-    Literal(Free),
+    Literal(Shared<Free>),
     /// Free operands with one operator between each two.
-    Operation(Free, Operator, Items<Draft>),
+    Operation(Shared<Free>, Operator, Items<Draft>),
     /// An operator in front of a free operand.
-    Applied(Free, Monadic, Shared<Draft>),
+    Applied(Shared<Free>, Monadic, Shared<Draft>),
     /// A shift of a free operand by a count.
-    Shifted(Free, Operator, Shared<Draft>, Shared<TypedExpr>),
+    Shifted(Shared<Free>, Operator, Shared<Draft>, Shared<TypedExpr>),
     /// A table without its type.
     Table(Items<Draft>),
 }

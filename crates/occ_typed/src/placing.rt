@@ -82,7 +82,7 @@ pub fn all_placed(
 ) -> Result<Option<Items<Shared<TypedExpr>>>, AllocError>
     ensures { IfOk result (λ trees. trees ≡ told_all_placed drafts.now of.now) }
 {
-    let mut trees = Items::new(alloc);
+    let mut trees = Items::from_vec(Vec::with_capacity(alloc, drafts.len())?);
     for draft in drafts {
         let Some(tree) = placed(alloc, draft, of)? else {
             return Ok(None);
@@ -140,23 +140,23 @@ pub fn placed(
     match draft {
         Draft::Faulty => Ok(None),
         Draft::Typed(tree) => Ok(Some(tree.share()?)),
-        Draft::Literal(free) => whole(alloc, TypedExpr::Literal(known_in(free, of)?)),
+        Draft::Literal(free) => whole(alloc, TypedExpr::Literal(known_in(free.get(), of)?)),
         Draft::Operation(free, operator, operands) => {
             let trees = all_placed(alloc, operands.as_slice(), of)?;
-            operation(alloc, free, *operator, trees, of)
+            operation(alloc, free.get(), *operator, trees, of)
         }
         Draft::Applied(free, operator, operand) => {
             let Some(tree) = placed(alloc, operand.get(), of)? else {
                 return Ok(None);
             };
-            let known = known_in(free, of)?;
+            let known = known_in(free.get(), of)?;
             whole(alloc, TypedExpr::Applied(known, *operator, tree))
         }
         Draft::Shifted(free, operator, operand, count) => {
             let Some(tree) = placed(alloc, operand.get(), of)? else {
                 return Ok(None);
             };
-            shifted(alloc, known_in(free, of)?, *operator, tree, count)
+            shifted(alloc, known_in(free.get(), of)?, *operator, tree, count)
         }
         Draft::Table(items) => table(alloc, items.as_slice(), of),
     }
@@ -186,7 +186,7 @@ pub fn each_placed(
 ) -> Result<Option<Items<Shared<TypedExpr>>>, AllocError>
     ensures { IfOk result (λ trees. trees ≡ told_each_placed drafts.now types.now) }
 {
-    let mut trees = Items::new(alloc);
+    let mut trees = Items::from_vec(Vec::with_capacity(alloc, drafts.len())?);
     let mut types = types;
     for draft in drafts {
         let Some((of, rest)) = types.split_first() else {
