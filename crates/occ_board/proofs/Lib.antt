@@ -27,3 +27,5 @@ pub mod Adopted
 pub mod Least
 pub mod Working
 pub mod Newly
+pub mod Opened
+pub mod Counted

@@ -1,6 +1,7 @@
 -- What an edit may concern is marked.
-use Rattle.std.proofs.Common.{◌≡◌, ◌∙◌, ◌<◌, ◌≤◌, ◌+◌, ◌&&◌, ◌||◌, ◌⊎◌, ◌↔◌, ℕ, zero, suc, Bool, true, false, cond, not, List, [], ◌∷◌, length, map, get_or, drop, Option, Some, None, refl, sym, ap, subst, inl, inr, arith}
-use Rattle.std.proofs.lemmas.Bool.{cases_lt, eqb-false, eqb-true}
+use Rattle.std.proofs.Common.{◌≡◌, ◌∙◌, ◌<◌, ◌≤◌, ◌+◌, ◌&&◌, ◌||◌, ◌⊎◌, ◌↔◌, ℕ, zero, suc, Bool, true, false, cond, not, List, [], ◌∷◌, ◌++◌, length, map, get_or, drop, take, Option, Some, None, refl, sym, ap, subst, inl, inr, arith}
+use Rattle.std.proofs.lemmas.Bool.{eqb-false, eqb-true}
+use Rattle.std.proofs.lemmas.List.{take_more}
 use Rattle.std.proofs.lemmas.Slice.Eq.{bytes_eq-Decides}
 use Rattle.std.specs.List.{filter, flat_map, list_all}
 use Rattle.std.specs.Option.{is_some}
@@ -269,10 +270,18 @@ module _ (files later : List Read) (name : List ℕ) (kept : List Input) (flags 
       left p ∙ ap (λ (b : Bool). b && not (get_or marks p false)) (flagged u p e ∙ sym (same u (at_only u p e m)) ∙ is) ∙ ap not m
 
 -- marked units lose their flags one after the other
-get_set : (flags : List Bool) (n : ℕ) (b : Bool) → n < length flags → get_or (slice_set flags n b) n false ≡ b
-get_set [] n b lt = absurd (omega (arith, lt))
-get_set (f ∷ flags) zero b lt = refl
-get_set (f ∷ flags) (suc n) b lt = get_set flags n b (omega (arith, lt))
+pub among_append : (ws : List ℕ) (w p : ℕ) → is_among (ws ++ w ∷ []) p ≡ (is_among ws p || (w == p))
+among_append [] w p = or_false (w == p) where
+  or_false : (b : Bool) → (b || false) ≡ b
+  or_false true = refl
+  or_false false = refl
+among_append (x ∷ ws) w p = ap (λ (b : Bool). (x == p) || b) (among_append ws w p) ∙ either (x == p) (is_among ws p) (w == p) where
+  either : (a b c : Bool) → (a || (b || c)) ≡ ((a || b) || c)
+  either true b c = refl
+  either false b c = refl
+
+among_take : (ws : List ℕ) (n p : ℕ) → n < length ws → is_among (take (n + 1) ws) p ≡ (is_among (take n ws) p || (get_or ws n 0 == p))
+among_take ws n p lt = ap (λ (xs : List ℕ). is_among xs p) (take_more ws n 0 lt) ∙ among_append (take n ws) (get_or ws n 0) p
 
 get_set_apart : (flags : List Bool) (n p : ℕ) (b : Bool) → (p ≡ n → ⊥) → get_or (slice_set flags n b) p false ≡ get_or flags p false
 get_set_apart [] n p b h = refl
@@ -286,59 +295,93 @@ set_as_long [] n b = refl
 set_as_long (f ∷ flags) zero b = refl
 set_as_long (f ∷ flags) (suc n) b = ap suc (set_as_long flags n b)
 
-beyond : (flags : List Bool) (p : ℕ) → length flags ≤ p → get_or flags p false ≡ false
-beyond [] p h = refl
-beyond (f ∷ flags) zero h = absurd (omega (arith, h))
-beyond (f ∷ flags) (suc p) h = beyond flags p (omega (arith, h))
+get_unset : (flags : List Bool) (n : ℕ) → get_or (slice_set flags n false) n false ≡ false
+get_unset [] n = refl
+get_unset (f ∷ flags) zero = refl
+get_unset (f ∷ flags) (suc n) = get_unset flags n
 
 -- the first n of them
-pub record IsUnflagged (old marks flags : List Bool) (n : ℕ) : Type 0 where
+pub record IsUnflagged (old : List Bool) (places : List ℕ) (flags : List Bool) (n : ℕ) : Type 0 where
   pub len : length flags ≡ length old
-  pub before : (p : ℕ) → p < n → get_or flags p false ≡ (get_or old p false && not (get_or marks p false))
-  pub behind : (p : ℕ) → n ≤ p → get_or flags p false ≡ get_or old p false
+  pub each : (p : ℕ) → get_or flags p false ≡ (get_or old p false && not (is_among (take n places) p))
 
-pub unflag_begun : (old marks : List Bool) → IsUnflagged old marks old 0
-unflag_begun old marks = record { len = refl; before = λ p lt. absurd (omega (arith, lt)); behind = λ p le. refl }
+and_true : (b : Bool) → b ≡ (b && true)
+and_true true = refl
+and_true false = refl
 
-pub unflag_more : (old marks flags next : List Bool) (n : ℕ) (b : Bool) → IsUnflagged old marks flags n → n < length flags → b ≡ (get_or flags n false && not (get_or marks n false)) → next ≡ slice_set flags n b → IsUnflagged old marks next (n + 1)
-unflag_more old marks flags next n b h lt is set = record {
-  len = ap (length {A = Bool}) set ∙ set_as_long flags n b ∙ h.len;
-  before = λ p under. by p (p == n) refl under;
-  behind = λ p le. ap (λ (fs : List Bool). get_or fs p false) set ∙ get_set_apart flags n p b (λ same. omega (arith, same, le)) ∙ h.behind p (omega (arith, le));
+pub unflag_begun : (old : List Bool) (places : List ℕ) → IsUnflagged old places old 0
+unflag_begun old places = record { len = refl; each = λ p. and_true (get_or old p false) }
+
+pub unflag_more : (old : List Bool) (places : List ℕ) (flags next : List Bool) (n place : ℕ) → IsUnflagged old places flags n → n < length places → place ≡ get_or places n 0 → next ≡ slice_set flags place false → IsUnflagged old places next (n + 1)
+unflag_more old places flags next n place h lt here put = record {
+  len = ap (length {A = Bool}) put ∙ set_as_long flags place false ∙ h.len;
+  each = λ p. ap (λ (fs : List Bool). get_or fs p false) put ∙ by p (place == p) refl ∙ ap (λ (b : Bool). get_or old p false && not b) (sym (among_take places n p lt ∙ ap (λ (x : ℕ). is_among (take n places) p || (x == p)) (sym here)));
 } where
-  by : (p : ℕ) (c : Bool) → (p == n) ≡ c → p < n + 1 → get_or next p false ≡ (get_or old p false && not (get_or marks p false))
-  by p true e under =
-      let same : p ≡ n = eqb-true p n e in
-      ap (λ (fs : List Bool). get_or fs p false) set ∙ ap (λ (q : ℕ). get_or (slice_set flags n b) q false) same ∙ get_set flags n b lt ∙ is
-      ∙ ap (λ (x : Bool). x && not (get_or marks n false)) (h.behind n (omega arith)) ∙ ap (λ (q : ℕ). get_or old q false && not (get_or marks q false)) (sym same)
-  by p false e under =
-      let other = eqb-false p n e in
-      ap (λ (fs : List Bool). get_or fs p false) set ∙ get_set_apart flags n p b other ∙ h.before p (omega (arith, other, under))
+  none : (a b : Bool) → false ≡ (a && not (b || true))
+  none true true = refl
+  none true false = refl
+  none false b = refl
 
-pub unflag_over : (old marks flags : List Bool) (n : ℕ) → IsUnflagged old marks flags n → length old ≤ n → (p : ℕ) → get_or flags p false ≡ (get_or old p false && not (get_or marks p false))
-unflag_over old marks flags n h most p = elim (cases_lt p n) [
-  | inl lt ↦ h.before p lt
-  | inr le ↦ let none : get_or old p false ≡ false = beyond old p (omega (arith, most, le)) in h.behind p le ∙ none ∙ ap (λ (b : Bool). b && not (get_or marks p false)) (sym none)
-]
+  same : (a b : Bool) → (a && not b) ≡ (a && not (b || false))
+  same true true = refl
+  same true false = refl
+  same false b = refl
+
+  by : (p : ℕ) (b : Bool) → (place == p) ≡ b → get_or (slice_set flags place false) p false ≡ (get_or old p false && not (is_among (take n places) p || (place == p)))
+  by p true e = subst (λ (q : ℕ). get_or (slice_set flags place false) q false ≡ false) (eqb-true place p e) (get_unset flags place)
+      ∙ none (get_or old p false) (is_among (take n places) p) ∙ ap (λ (b : Bool). get_or old p false && not (is_among (take n places) p || b)) (sym e)
+  by p false e = get_set_apart flags place p false (λ q. eqb-false place p e (sym q)) ∙ h.each p ∙ same (get_or old p false) (is_among (take n places) p)
+      ∙ ap (λ (b : Bool). get_or old p false && not (is_among (take n places) p || b)) (sym e)
+
+take_all : (ws : List ℕ) (n : ℕ) → length ws ≤ n → take n ws ≡ ws
+take_all [] zero h = refl
+take_all [] (suc n) h = refl
+take_all (w ∷ ws) zero h = absurd (omega (arith, h))
+take_all (w ∷ ws) (suc n) h = ap (λ (xs : List ℕ). w ∷ xs) (take_all ws n (omega (arith, h)))
+
+pub unflag_over : (old marks : List Bool) (places : List ℕ) (flags : List Bool) (n : ℕ) → IsUnflagged old places flags n → length places ≤ n → ((p : ℕ) → is_among places p ≡ get_or marks p false)
+    → (p : ℕ) → get_or flags p false ≡ (get_or old p false && not (get_or marks p false))
+unflag_over old marks places flags n h most told p =
+    h.each p ∙ ap (λ (ws : List ℕ). get_or old p false && not (is_among ws p)) (take_all places n most) ∙ ap (λ (b : Bool). get_or old p false && not b) (told p)
+
+-- what is marked is there
+pub marked_there : (marks : List Bool) (p : ℕ) → get_or marks p false ≡ true → p < length marks
+marked_there [] p h = absurd cc
+marked_there (m ∷ marks) zero h = omega arith
+marked_there (m ∷ marks) (suc p) h = let k = marked_there marks p h in omega (arith, k)
 
 -- marked units one after the other
-module _ (files : List Read) (kept : List Input) (marks : List Bool) where
-  pub resettled_more : (flags next : List Bool) (n : ℕ) → ((p : ℕ) → p < length files → IsFullAt files kept flags p ⊎ ((get_or marks p false ≡ true) × (n ≤ p))) → ((p : ℕ) → p < length files → IsFullAt files kept flags p → IsFullAt files kept next p)
-      → (get_or marks n false ≡ true → IsFullAt files kept next n) → (p : ℕ) → p < length files → IsFullAt files kept next p ⊎ ((get_or marks p false ≡ true) × (n + 1 ≤ p))
-  resettled_more flags next n h more here p lt = elim (h p lt) [
-    | inl k ↦ inl (more p lt k)
-    | inr k ↦ by (n == p) refl k.0 k.1
-  ] where
-    by : (b : Bool) → (n == p) ≡ b → get_or marks p false ≡ true → n ≤ p → IsFullAt files kept next p ⊎ ((get_or marks p false ≡ true) × (n + 1 ≤ p))
-    by true e m le =
-        let same : n ≡ p = eqb-true n p e in
-        inl (subst (IsFullAt files kept next) same (here (ap (λ (q : ℕ). get_or marks q false) same ∙ m)))
-    by false e m le = let other = eqb-false n p e in inr (m, omega (arith, other, le))
+module _ (files : List Read) (kept : List Input) (places : List ℕ) where
+  -- no flag is missing but those of the units behind the first n of them
+  abbrev pub IsResettled : List Bool → ℕ → Type 0
+  IsResettled flags n = (p : ℕ) → p < length files → IsFullAt files kept flags p ⊎ (is_among (drop n places) p ≡ true)
 
-  pub all_resettled : (flags : List Bool) (n : ℕ) → length files ≤ n → ((p : ℕ) → p < length files → IsFullAt files kept flags p ⊎ ((get_or marks p false ≡ true) × (n ≤ p))) → IsFull files kept flags (length files)
+  pub resettled_begun : (marks flags : List Bool) → ((p : ℕ) → is_among places p ≡ get_or marks p false) → ((p : ℕ) → p < length files → get_or marks p false ≡ false → IsFullAt files kept flags p) → IsResettled flags 0
+  resettled_begun marks flags told full p lt = by (get_or marks p false) refl where
+    by : (b : Bool) → get_or marks p false ≡ b → IsFullAt files kept flags p ⊎ (is_among places p ≡ true)
+    by true e = inr (told p ∙ e)
+    by false e = inl (full p lt e)
+
+  pub resettled_more : (flags next : List Bool) (n place : ℕ) → IsResettled flags n → drop n places ≡ place ∷ drop (n + 1) places
+      → ((p : ℕ) → p < length files → IsFullAt files kept flags p ⊎ (place ≡ p) → IsFullAt files kept next p) → IsResettled next (n + 1)
+  resettled_more flags next n place h split more p lt = elim (h p lt) [
+    | inl k ↦ inl (more p lt (inl k))
+    | inr k ↦ by (place == p) refl (sym (ap (λ (ws : List ℕ). is_among ws p) split) ∙ k)
+  ] where
+    by : (b : Bool) → (place == p) ≡ b → (b || is_among (drop (n + 1) places) p) ≡ true → IsFullAt files kept next p ⊎ (is_among (drop (n + 1) places) p ≡ true)
+    by true e m = inl (more p lt (inr (eqb-true place p e)))
+    by false e m = inr m
+
+  none_behind : (ws : List ℕ) (n p : ℕ) → length ws ≤ n → is_among (drop n ws) p ≡ false
+  none_behind [] zero p le = refl
+  none_behind [] (suc n) p le = refl
+  none_behind (w ∷ ws) zero p le = absurd (omega (arith, le))
+  none_behind (w ∷ ws) (suc n) p le = none_behind ws n p (omega (arith, le))
+
+  pub all_resettled : (flags : List Bool) (n : ℕ) → length places ≤ n → IsResettled flags n → IsFull files kept flags (length files)
   all_resettled flags n most h p lt = elim (h p lt) [
     | inl k ↦ k
-    | inr k ↦ let le = k.1 in absurd (omega (arith, most, le, lt))
+    | inr k ↦ let none = none_behind places n p most in absurd (cc (none, k))
   ]
 
 -- the flags behind the edit of the file at a place
@@ -349,8 +392,8 @@ module _ (files one later : List Read) (file : Read) (at : ℕ) (project : IsPro
   pub long_at : length later ≡ length files
   long_at = still_long files later file at project put_later e
 
-  module _ (kept : List Input) (readers slice : List ℕ) (touched marks flags next : List Bool) (r : readers ≡ readers_at files at) (s : slice ≡ readers) (m : marks ≡ touched) (are : AreFlags files kept flags)
-      (here : get_or touched at false ≡ true) (told : (p : ℕ) → is_among slice p ≡ true → get_or touched p false ≡ true) (closed : IsClosed (graph_of one) touched)
+  module _ (kept : List Input) (readers slice : List ℕ) (marks flags next : List Bool) (r : readers ≡ readers_at files at) (s : slice ≡ readers) (are : AreFlags files kept flags)
+      (here : get_or marks at false ≡ true) (told : (p : ℕ) → is_among slice p ≡ true → get_or marks p false ≡ true) (closed : IsClosed (graph_of one) marks)
       (left : (p : ℕ) → get_or next p false ≡ (get_or flags p false && not (get_or marks p false)))
       (reading : (fs : List Read) (p q : ℕ) → IsProject fs → p < length fs → q < length fs → is_among (readers_at fs q) p ≡ names.is_among (read_names fs (name_at fs p)) (name_at fs q))
       (spelled : AreSpelled files) (units : (fs : List Read) (u v : List ℕ) → AreSpelled fs → Uses fs u v → is_unit v ≡ true)
@@ -359,8 +402,8 @@ module _ (files one later : List Read) (file : Read) (at : ℕ) (project : IsPro
       (step : (fs : List Read) (ks : List Input) (u : List ℕ) → IsProject fs → done fs ks u ≡ done_step fs ks u (done fs ks)) where
     same_at : (u : List ℕ) → ((q : ℕ) → place u files ≡ Some q → get_or marks q false ≡ false) → done later kept u ≡ done files kept u
     same_at u h =
-        unmarked_same files project file.name at touched e (λ p k. told p (ap (λ (ws : List ℕ). is_among ws p) (s ∙ r) ∙ k)) (subst (λ (fs : List Read). IsClosed (graph_of fs) touched) same closed)
-        (λ p q. reading files p q) (λ v w. units files v w spelled) later file kept refl put_later here apart files_put rises step u (λ q k. ap (λ (ms : List Bool). get_or ms q false) (sym m) ∙ h q k)
+        unmarked_same files project file.name at marks e (λ p k. told p (ap (λ (ws : List ℕ). is_among ws p) (s ∙ r) ∙ k)) (subst (λ (fs : List Read). IsClosed (graph_of fs) marks) same closed)
+        (λ p q. reading files p q) (λ v w. units files v w spelled) later file kept refl put_later here apart files_put rises step u h
 
     places_at : (u : List ℕ) → place u later ≡ place u files
     places_at u = still_placed files later file at project put_later e u

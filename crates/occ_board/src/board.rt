@@ -12,13 +12,13 @@ ghost use Rattle.std.specs.Option.{is_some, option_map};
 ghost use Rattle.std.specs.Prelude.{◌≡◌, ◌<◌, ◌⊎◌, Err, IfErr, IfOk, IfSome, None, OnErr, OnOk, length, true};
 
 use super::expanding::count_readers;
-use super::flags::settle_from;
-use super::journal::refusal;
+use super::flags::{Flags, settle_from};
+use super::journal::{refusal, units_behind};
 use super::judging::judge;
 use super::keeping::unhand;
 use super::kept::Kept;
-use super::laws::{done_law, height_law, ready_law};
-use super::report::{count_pending, rows};
+use super::laws::{done_law, height_law, ready_law, taking_law};
+use super::report::rows;
 use super::taking::{job_now, next_unit};
 use super::touching::renew;
 use super::{Edit, EditFault, Entry, Row, Verdict};
@@ -40,7 +40,9 @@ pub struct Board {
     /// The graph of the project that the edits make.
     graph: Graph,
     /// Of each file of the project whether it is a unit that is done.
-    flags: Items<bool>,
+    flags: Flags,
+    /// How many units are open.
+    units: usize,
 }
 
 impl Model for Board {
@@ -61,7 +63,7 @@ impl Model for Board {
 
     ghost view = { λ b. record { journal = b.journal.items; kept = b.kept; handed = b.handed.items } };
 
-    ghost invariant = { λ b. IsBoard b.journal.items b.kept b.graph b.flags };
+    ghost invariant = { λ b. IsBoard b.journal.items b.kept b.graph b.flags b.units };
 }
 
 impl Board {
@@ -75,7 +77,8 @@ impl Board {
             kept: Kept::new(alloc),
             handed: Vec::new(alloc),
             graph: Graph::new(alloc),
-            flags: Items::new(alloc),
+            flags: Flags::new(alloc),
+            units: 0,
         }
     }
 
@@ -152,7 +155,9 @@ impl Board {
         ensures err { OnErr result (self.new ≡ self.old) }
     {
         put_law();
+        done_law();
         let number = self.journal.len() as u32 + 1;
+        let units = units_behind(self.units, &edit);
         let name = edit.name();
         let source = edit.shared()?;
         self.journal.push(Entry { session, edit })?;
@@ -169,6 +174,7 @@ impl Board {
             self.journal.pop();
             return Err(refused);
         }
+        self.units = units;
         Ok(number)
     }
 
@@ -181,6 +187,10 @@ impl Board {
         ensures err { OnErr result (self.new ≡ self.old) }
     {
         ready_law();
+        taking_law();
+        if self.pending() == 0 {
+            return Ok(None);
+        }
         let Some(unit) = self.next_unit() else {
             return Ok(None);
         };
@@ -276,7 +286,8 @@ impl Board {
     pub fn pending(&self) -> usize
         ensures { result ≡ pending_answer self.now }
     {
-        count_pending(&self.graph, &self.kept, self.flags.as_slice())
+        done_law();
+        self.units - self.flags.count()
     }
 
     /// How many units the last edit made to be expanded anew: the open units that have its file among their reads. 0 before

@@ -1,11 +1,11 @@
 ghost use Rattle.occ_board.specs.Done.{done, done_step};
-ghost use Rattle.occ_board.specs.inside.Flagged.{AreFlags, IsFull, IsFullAt, IsSound, flag_of, rest_flag, unflagged};
+ghost use Rattle.occ_board.specs.inside.Flagged.{AreFlags, IsFull, IsFullAt, IsSound, flag_of, flagged, rest_flag, unflagged};
 ghost use Rattle.occ_graph.specs.Graph.{rests};
 ghost use Rattle.occ_units.specs.Along.{name_at};
 ghost use Rattle.occ_units.specs.Places.{graph_of, rest_units};
 ghost use Rattle.occ_units.specs.Project.{IsProject};
-ghost use Rattle.std.specs.List.{list_all};
-ghost use Rattle.std.specs.Prelude.{◌≡◌, ◌<◌, ◌≤◌, ◌⊎◌, IfOk, IsFalse, IsTrue, Some, false, get_or, length, replicate, slice_get, slice_set, true, ℕ};
+ghost use Rattle.std.specs.List.{insert, list_all};
+ghost use Rattle.std.specs.Prelude.{◌≡◌, ◌<◌, ◌≤◌, ◌⊎◌, [], IfOk, IsFalse, IsTrue, Some, false, get_or, length, replicate, slice_get, slice_set, true, ℕ};
 ghost use Rattle.std.specs.Str.{bytes_eq};
 
 use super::kept::Kept;
@@ -17,12 +17,103 @@ use occ_units::Graph;
 use occ_units::laws::users_law;
 use sqlite_items::at;
 use std::alloc::{AllocError, Global};
+use std::marker::Model;
 
 /// So many flags, none of which is set.
 pub fn no_flags(alloc: Global, count: usize) -> Result<Items<bool>, AllocError>
     ensures { IfOk result (λ flags. flags ≡ replicate count false) }
 {
     Ok(Items::from_vec(vec![in alloc; false; count]?))
+}
+
+/// A flag for each place, and how many are set. In contracts it is the list of the flags.
+#[derive(Drop)]
+pub struct Flags {
+    flags: Items<bool>,
+    set: usize,
+}
+
+impl Model for Flags {
+    ghost use Rattle.occ_board.specs.inside.Flagged.{flagged};
+    ghost use Rattle.std.specs.Coded.{coded_bool, coded_list};
+    ghost use Rattle.std.specs.Prelude.{◌≡◌, Bool, List};
+
+    ghost Value = { List Bool };
+
+    ghost coded = { coded_list coded_bool };
+
+    ghost view = { λ flags. flags.flags };
+
+    ghost invariant = { λ flags. flags.set ≡ flagged flags.flags };
+}
+
+impl Flags {
+    /// For no place.
+    pub fn new(alloc: Global) -> Flags
+        ensures { result ≡ [] }
+    {
+        Flags {
+            flags: Items::new(alloc),
+            set: 0,
+        }
+    }
+
+    /// For so many places, none of which is set.
+    pub fn none(alloc: Global, count: usize) -> Result<Flags, AllocError>
+        ensures { IfOk result (λ flags. flags ≡ replicate count false) }
+    {
+        Ok(Flags {
+            flags: no_flags(alloc, count)?,
+            set: 0,
+        })
+    }
+
+    /// These, and one that is not set where a place is new.
+    pub fn with_place(&self, alloc: Global, place: usize) -> Result<Flags, AllocError>
+        requires { place ≤ length self.now }
+        ensures { IfOk result (λ next. next ≡ insert self.now place false) }
+    {
+        let mut flags = Vec::from_slice(alloc, self.flags.as_slice())?;
+        flags.insert(place, false)?;
+        Ok(Flags {
+            flags: Items::from_vec(flags),
+            set: self.set,
+        })
+    }
+
+    /// The flags, in order of their places.
+    pub fn as_slice(&self) -> &[bool]
+        ensures { result.now ≡ self.now }
+    {
+        self.flags.as_slice()
+    }
+
+    /// How many are set.
+    pub fn count(&self) -> usize
+        ensures { result ≡ flagged self.now }
+    {
+        self.set
+    }
+
+    /// Sets the flag of a place.
+    pub fn set(&mut self, place: usize)
+        ensures { self.new ≡ slice_set self.old place true }
+    {
+        if place < self.flags.len() && !is_flagged(self.flags.as_slice(), place) {
+            self.flags.set(place, true);
+            self.set += 1;
+        }
+    }
+
+    /// Takes the flag of a place.
+    pub fn unset(&mut self, place: usize)
+        ensures { self.new ≡ slice_set self.old place false }
+    {
+        if is_flagged(self.flags.as_slice(), place) {
+            self.flags.set(place, false);
+            self.set -= 1;
+        }
+    }
 }
 
 /// Whether the flag at a place is set.
@@ -106,7 +197,7 @@ fn is_done_by(graph: &Graph, kept: &Kept, flags: &[bool], place: usize) -> bool
 }
 
 /// Sets the flag of a unit that is done by the flags that are set, and tells whether it did.
-fn advance(graph: &Graph, kept: &Kept, flags: &mut Items<bool>, place: usize) -> bool
+fn advance(graph: &Graph, kept: &Kept, flags: &mut Flags, place: usize) -> bool
     requires within { place < length graph.now }
     requires len { length flags.old ≡ length graph.now }
     requires sound { IsSound graph.now kept.now flags.old }
@@ -120,12 +211,12 @@ fn advance(graph: &Graph, kept: &Kept, flags: &mut Items<bool>, place: usize) ->
     if is_flagged(flags.as_slice(), place) || !is_done_by(graph, kept, flags.as_slice(), place) {
         return false;
     }
-    flags.set(place, true);
+    flags.set(place);
     true
 }
 
 /// Goes once through all units, and tells whether it set a flag.
-fn pass(graph: &Graph, kept: &Kept, flags: &mut Items<bool>) -> bool
+fn pass(graph: &Graph, kept: &Kept, flags: &mut Flags) -> bool
     requires len { length flags.old ≡ length graph.now }
     requires sound { IsSound graph.now kept.now flags.old }
     ensures len { length flags.new ≡ length graph.now }
@@ -134,7 +225,7 @@ fn pass(graph: &Graph, kept: &Kept, flags: &mut Items<bool>) -> bool
     ensures full { IsFalse result → IsFull graph.now kept.now flags.new (length graph.now) }
 {
     let mut advanced = false;
-    for place in 0..flags.len() {
+    for place in 0..flags.as_slice().len() {
         if advance(graph, kept, flags, place) {
             advanced = true;
         }
@@ -143,7 +234,7 @@ fn pass(graph: &Graph, kept: &Kept, flags: &mut Items<bool>) -> bool
 }
 
 /// Sets the flags of all units that are done. It takes no memory.
-pub fn settle(graph: &Graph, kept: &Kept, flags: &mut Items<bool>)
+pub fn settle(graph: &Graph, kept: &Kept, flags: &mut Flags)
     requires len { length flags.old ≡ length graph.now }
     requires sound { IsSound graph.now kept.now flags.old }
     ensures len { length flags.new ≡ length graph.now }
@@ -158,7 +249,7 @@ pub fn settle(graph: &Graph, kept: &Kept, flags: &mut Items<bool>)
 /// Sets the flag of the unit at a place, if it is done by the flags that are set, and then so of each that rests on it. If
 /// no other flag was missing, none is then. It takes no memory, and goes no deeper than there are units.
 #[cycle(spread)]
-pub fn spread(graph: &Graph, kept: &Kept, flags: &mut Items<bool>, place: usize)
+pub fn spread(graph: &Graph, kept: &Kept, flags: &mut Flags, place: usize)
     requires within { place < length graph.now }
     requires len { length flags.old ≡ length graph.now }
     requires sound { IsSound graph.now kept.now flags.old }
@@ -179,7 +270,7 @@ pub fn spread(graph: &Graph, kept: &Kept, flags: &mut Items<bool>, place: usize)
 }
 
 /// Sets the flags of all units that are done, where none was missing but that of this unit. It takes no memory.
-pub fn settle_from(graph: &Graph, kept: &Kept, flags: &mut Items<bool>, unit: FileName)
+pub fn settle_from(graph: &Graph, kept: &Kept, flags: &mut Flags, unit: FileName)
     requires len { length flags.old ≡ length graph.now }
     requires sound { IsSound graph.now kept.now flags.old }
     requires full { (p : ℕ) → p < length graph.now → bytes_eq unit (name_at graph.now p) ≡ false → IsFullAt graph.now kept.now flags.old p }

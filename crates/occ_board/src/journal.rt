@@ -1,6 +1,9 @@
 ghost use Rattle.occ_board.specs.Journal.{else_fault, if_full as if_full_behind, is_open, open_number, refusal_of};
+ghost use Rattle.occ_base.specs.FileName.{is_unit};
+ghost use Rattle.occ_board.specs.declared.entry.Edit.TheVariants as an_edit;
 ghost use Rattle.occ_board.specs.declared.entry.EditFault.TheVariants as fault;
-ghost use Rattle.std.specs.Prelude.{◌≡◌, nat_le, not};
+ghost use Rattle.occ_board.specs.inside.Holding.{units_then};
+ghost use Rattle.std.specs.Prelude.{◌≡◌, ◌<◌, ◌^◌, ℕ, List, nat_le, not, true};
 
 use super::{Edit, EditFault};
 use occ_base::FileName;
@@ -66,5 +69,21 @@ pub fn refusal(project: &Project, accepted: usize, edit: &Edit) -> Option<EditFa
     match edit {
         Edit::Added(name, _) => opening(project, accepted, *name),
         Edit::Changed(name, _) | Edit::Removed(name) => changing(project, accepted, *name),
+    }
+}
+
+/// How many units are open behind an edit that is not refused, where so many are before it.
+pub fn units_behind(units: usize, edit: &Edit) -> usize
+    requires most { units < 2 ^ 62 }
+    requires least { (name : List ℕ) → edit.now ≡ an_edit.Removed name → is_unit name ≡ true → 0 < units }
+    ensures { result ≡ units_then units edit.now }
+{
+    if !edit.name().is_unit() {
+        return units;
+    }
+    match edit {
+        Edit::Added(_, _) => units + 1,
+        Edit::Changed(_, _) => units,
+        Edit::Removed(_) => units - 1,
     }
 }

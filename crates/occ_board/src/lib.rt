@@ -17,6 +17,7 @@ mod report;
 pub mod rows;
 mod sources;
 mod taking;
+mod touched;
 mod touching;
 mod verdict;
 

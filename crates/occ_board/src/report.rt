@@ -1,10 +1,10 @@
-ghost use Rattle.occ_board.specs.Done.{done as is_done, pending_units};
+ghost use Rattle.occ_board.specs.Done.{done as is_done};
 ghost use Rattle.occ_board.specs.Machine.{row_of, rows_of};
 ghost use Rattle.occ_board.specs.declared.report.Shown.TheVariants as variants;
 ghost use Rattle.occ_board.specs.inside.Flagged.{AreFlags};
 ghost use Rattle.occ_report.specs.Checks.{diags as the_diags};
 ghost use Rattle.occ_report.specs.Report.{is_open_unit};
-ghost use Rattle.std.specs.Prelude.{◌≡◌, ◌<◌, ◌+◌, ◌^◌, ◌&&◌, ◌∷◌, ◌++◌, [], IfOk, OnOk, cond, length, not, true};
+ghost use Rattle.std.specs.Prelude.{◌≡◌, ◌&&◌, ◌∷◌, ◌++◌, [], IfOk, OnOk, cond, not, true};
 
 use super::flags::is_flagged;
 use super::kept::Kept;
@@ -140,25 +140,4 @@ pub fn is_pending(file: &Read, done: bool) -> bool
     ensures { result ≡ (is_open_unit file.now && not done) }
 {
     !done && file.source.is_some() && file.name.is_unit()
-}
-
-/// One more, if it is counted.
-fn counted(count: usize, is_one: bool) -> usize
-    requires { count < 2 ^ 62 }
-    ensures { result ≡ cond is_one (count + 1) count }
-{
-    if is_one { count + 1 } else { count }
-}
-
-/// How many open units are not done.
-pub fn count_pending(graph: &Graph, kept: &Kept, flags: &[bool]) -> usize
-    requires { AreFlags graph.now kept.now flags.now }
-    ensures { result ≡ length (pending_units graph.now kept.now) }
-{
-    let mut count = 0;
-    for (place, file) in graph.project().files().iter().enumerate() {
-        let done = is_flagged(flags, place);
-        count = counted(count, is_pending(file, done));
-    }
-    count
 }

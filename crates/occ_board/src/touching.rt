@@ -13,10 +13,11 @@ ghost use Rattle.occ_units.specs.Spelled.{AreSpelled};
 ghost use Rattle.std.specs.List.{insert};
 ghost use Rattle.std.specs.Prelude.{◌≡◌, ◌<◌, ◌≤◌, ◌&&◌, IfOk, List, None, OnErr, OnOk, Some, false, get_or, length, not, true, ℕ};
 
-use super::flags::{is_flagged, no_flags, settle, settle_from, spread};
+use super::flags::{Flags, settle, settle_from, spread};
 use super::kept::Kept;
 use super::laws::{done_law, height_law};
-use occ_base::{FileName, Items, Shared};
+use super::touched::Touched;
+use occ_base::{FileName, Shared};
 use occ_forms::Source;
 use occ_report::Checked;
 use occ_units::Graph;
@@ -38,40 +39,41 @@ fn apart_law()
     along_law::<Checked>();
 }
 
-/// Marks the unit at a place, unless it is marked, and then so each that uses it. It takes no memory, and goes no deeper
-/// than there are units.
+/// Marks the unit at a place, unless it is marked, and then so each that uses it. It goes no deeper than there are units.
 #[cycle(touch)]
-fn touch(graph: &Graph, touched: &mut Items<bool>, place: usize)
+fn touch(graph: &Graph, touched: &mut Touched, place: usize) -> Result<(), AllocError>
     requires within { place < length graph.now }
     requires len { length touched.old ≡ length graph.now }
-    ensures len { length touched.new ≡ length graph.now }
-    ensures least { unflagged touched.new ≤ unflagged touched.old }
-    ensures more { (p : ℕ) → get_or touched.old p false ≡ true → get_or touched.new p false ≡ true }
-    ensures here { get_or touched.new place false ≡ true }
-    ensures closed { (p q : ℕ) → has_edge (graph_of graph.now) p q ≡ true → get_or touched.old q false ≡ false → get_or touched.new q false ≡ true → get_or touched.new p false ≡ true }
+    ensures len { OnOk result (length touched.new ≡ length graph.now) }
+    ensures least { OnOk result (unflagged touched.new ≤ unflagged touched.old) }
+    ensures more { OnOk result ((p : ℕ) → get_or touched.old p false ≡ true → get_or touched.new p false ≡ true) }
+    ensures here { OnOk result (get_or touched.new place false ≡ true) }
+    ensures closed { OnOk result ((p q : ℕ) → has_edge (graph_of graph.now) p q ≡ true → get_or touched.old q false ≡ false → get_or touched.new q false ≡ true → get_or touched.new p false ≡ true) }
 {
     users_law();
-    if is_flagged(touched.as_slice(), place) {
-        return;
+    if touched.has(place) {
+        return Ok(());
     }
-    touched.set(place, true);
+    touched.mark(place)?;
     let users = graph.users(place);
     for user in users {
-        touch(graph, touched, *user);
+        touch(graph, touched, *user)?;
     }
+    Ok(())
 }
 
 /// The same where what uses a marked one is marked, which is so behind it.
-fn touch_also(graph: &Graph, touched: &mut Items<bool>, place: usize)
+fn touch_also(graph: &Graph, touched: &mut Touched, place: usize) -> Result<(), AllocError>
     requires within { place < length graph.now }
     requires len { length touched.old ≡ length graph.now }
     requires closed { IsClosed (graph_of graph.now) touched.old }
-    ensures len { length touched.new ≡ length graph.now }
-    ensures more { (p : ℕ) → get_or touched.old p false ≡ true → get_or touched.new p false ≡ true }
-    ensures here { get_or touched.new place false ≡ true }
-    ensures closed { IsClosed (graph_of graph.now) touched.new }
+    ensures len { OnOk result (length touched.new ≡ length graph.now) }
+    ensures more { OnOk result ((p : ℕ) → get_or touched.old p false ≡ true → get_or touched.new p false ≡ true) }
+    ensures here { OnOk result (get_or touched.new place false ≡ true) }
+    ensures closed { OnOk result (IsClosed (graph_of graph.now) touched.new) }
 {
-    touch(graph, touched, place);
+    touch(graph, touched, place)?;
+    Ok(())
 }
 
 /// Marks of the files that an edit of the one at a place may concern: that file, the units that read it, and those that reach
@@ -81,7 +83,7 @@ fn touched_by(
     graph: &Graph,
     place: usize,
     readers: &[usize],
-) -> Result<Items<bool>, AllocError>
+) -> Result<Touched, AllocError>
     requires within { place < length graph.now }
     requires readers { readers.now ≡ readers_at graph.now place }
     ensures len { IfOk result (λ touched. length touched ≡ length graph.now) }
@@ -90,43 +92,27 @@ fn touched_by(
     ensures closed { IfOk result (λ touched. IsClosed (graph_of graph.now) touched) }
 {
     readers_law();
-    let mut touched = no_flags(alloc, graph.project().files().len())?;
-    touch_also(graph, &mut touched, place);
+    let mut touched = Touched::none(alloc, graph.project().files().len())?;
+    touch_also(graph, &mut touched, place)?;
     for reader in readers {
-        touch_also(graph, &mut touched, *reader);
+        touch_also(graph, &mut touched, *reader)?;
     }
     Ok(touched)
 }
 
 /// Takes their flags from marked units.
-fn unflag(flags: &mut Items<bool>, touched: &[bool])
+fn unflag(flags: &mut Flags, touched: &Touched)
     ensures len { length flags.new ≡ length flags.old }
     ensures flags { (p : ℕ) → get_or flags.new p false ≡ (get_or flags.old p false && not (get_or touched.now p false)) }
 {
-    for place in 0..flags.len() {
-        let stays = is_flagged(flags.as_slice(), place) && !is_flagged(touched, place);
-        flags.set(place, stays);
+    let places = touched.places();
+    for place in places {
+        flags.unset(*place);
     }
-}
-
-/// Sets the flag of the unit at a place, if it is marked and done, and then so of each that rests on it.
-fn spread_if(graph: &Graph, kept: &Kept, flags: &mut Items<bool>, touched: &[bool], place: usize)
-    requires within { place < length graph.now }
-    requires len { length flags.old ≡ length graph.now }
-    requires sound { IsSound graph.now kept.now flags.old }
-    ensures len { length flags.new ≡ length graph.now }
-    ensures sound { IsSound graph.now kept.now flags.new }
-    ensures full { (p : ℕ) → p < length graph.now → IsFullAt graph.now kept.now flags.old p → IsFullAt graph.now kept.now flags.new p }
-    ensures here { get_or touched.now place false ≡ true → IsFullAt graph.now kept.now flags.new place }
-{
-    if !is_flagged(touched, place) {
-        return;
-    }
-    spread(graph, kept, flags, place);
 }
 
 /// Sets the flags of all units that are done, where none was missing but those of marked units. It takes no memory.
-fn resettle(graph: &Graph, kept: &Kept, flags: &mut Items<bool>, touched: &[bool])
+fn resettle(graph: &Graph, kept: &Kept, flags: &mut Flags, touched: &Touched)
     requires len { length flags.old ≡ length graph.now }
     requires marks { length touched.now ≡ length graph.now }
     requires sound { IsSound graph.now kept.now flags.old }
@@ -137,19 +123,10 @@ fn resettle(graph: &Graph, kept: &Kept, flags: &mut Items<bool>, touched: &[bool
     let _files = graph.project().files();
     done_law();
     height_law();
-    for place in 0..touched.len() {
-        spread_if(graph, kept, flags, touched, place);
+    let places = touched.places();
+    for place in places {
+        spread(graph, kept, flags, *place);
     }
-}
-
-/// The flags behind an edit by which a file comes to a place, where none is set.
-fn with_flag(alloc: Global, flags: &[bool], place: usize) -> Result<Items<bool>, AllocError>
-    requires { place ≤ length flags.now }
-    ensures { IfOk result (λ next. next ≡ insert flags.now place false) }
-{
-    let mut next = Vec::from_slice(alloc, flags)?;
-    next.insert(place, false)?;
-    Ok(Items::from_vec(next))
 }
 
 /// The graph and the flags behind the edit of a file that was not there, and that no file looks for. What there was stays, but
@@ -158,7 +135,7 @@ fn renew_new(
     alloc: Global,
     graph: &mut Graph,
     kept: &Kept,
-    flags: &mut Items<bool>,
+    flags: &mut Flags,
     place: usize,
     name: FileName,
     revision: u32,
@@ -178,7 +155,7 @@ fn renew_new(
     put_law();
     done_law();
     names_law();
-    let next = with_flag(alloc, flags.as_slice(), place)?;
+    let next = flags.with_place(alloc, place)?;
     graph.add(alloc, place, name, revision, source)?;
     *flags = next;
     settle_from(graph, kept, flags, name);
@@ -190,7 +167,7 @@ fn renew_all(
     alloc: Global,
     graph: &mut Graph,
     kept: &Kept,
-    flags: &mut Items<bool>,
+    flags: &mut Flags,
     name: FileName,
     revision: u32,
     source: Option<Shared<Source>>,
@@ -201,7 +178,7 @@ fn renew_all(
     ensures flags { OnOk result (AreFlags graph.new kept.now flags.new) }
     ensures err { OnErr result ((graph.new ≡ graph.old) × (flags.new ≡ flags.old)) }
 {
-    let mut next = no_flags(alloc, graph.project().files().len() + 1)?;
+    let mut next = Flags::none(alloc, graph.project().files().len() + 1)?;
     graph.put(alloc, name, revision, source)?;
     settle(graph, kept, &mut next);
     *flags = next;
@@ -213,7 +190,7 @@ fn renew_at(
     alloc: Global,
     graph: &mut Graph,
     kept: &Kept,
-    flags: &mut Items<bool>,
+    flags: &mut Flags,
     place: usize,
     name: FileName,
     revision: u32,
@@ -237,9 +214,8 @@ fn renew_at(
     let readers = graph.readers(alloc, place)?;
     let touched = touched_by(alloc, graph, place, readers.as_slice())?;
     graph.set(alloc, place, readers.as_slice(), name, revision, source)?;
-    let marks = touched.as_slice();
-    unflag(flags, marks);
-    resettle(graph, kept, flags, marks);
+    unflag(flags, &touched);
+    resettle(graph, kept, flags, &touched);
     Ok(())
 }
 
@@ -249,7 +225,7 @@ pub fn renew(
     alloc: Global,
     graph: &mut Graph,
     kept: &Kept,
-    flags: &mut Items<bool>,
+    flags: &mut Flags,
     name: FileName,
     revision: u32,
     source: Option<Shared<Source>>,

@@ -37,3 +37,8 @@ AreFlags files kept flags = (u : List ℕ) → flag_of files flags u ≡ done fi
 abbrev pub unflagged : List Bool → ℕ
 unflagged [] = 0
 unflagged (flag ∷ flags) = cond flag 0 1 + unflagged flags
+
+-- how many are set
+abbrev pub flagged : List Bool → ℕ
+flagged [] = 0
+flagged (flag ∷ flags) = cond flag 1 0 + flagged flags

@@ -1,24 +1,31 @@
 -- What a board keeps.
-use Rattle.std.specs.Prelude.{◌≡◌, ◌≤◌, ℕ, Bool, List, [], ◌∷◌, length, Option, Some, None, if◌then◌else◌}
+use Rattle.std.specs.Prelude.{◌≡◌, ◌≤◌, ◌+◌, ◌-◌, ℕ, Bool, true, cond, List, [], ◌∷◌, length, Option, Some, None, if◌then◌else◌}
+use Rattle.std.specs.List.{AllByRecursion}
 use Rattle.std.specs.BTreeMap.{BTreeMap, get}
 use Rattle.std.specs.Option.{option_map}
 use Rattle.std.specs.Str.{bytes_eq}
 use Rattle.std.specs.Prelude.{suc}
+use Rattle.occ_base.specs.FileName.{is_unit}
 use Rattle.occ_board.specs.Journal.{IsLegal, replay}
+use Rattle.occ_board.specs.declared.entry.Edit.{Edit}
+use Rattle.occ_board.specs.declared.entry.Edit.TheVariants as edit
 use Rattle.occ_board.specs.declared.entry.Entry.{Entry}
 use Rattle.occ_board.specs.inside.Flagged.{AreFlags}
 use Rattle.occ_check.specs.Input.{Input}
 use Rattle.occ_project.specs.Reads.{name_cmp}
 use Rattle.occ_project.specs.declared.reads.Read.{Read}
+use Rattle.occ_report.specs.Report.{open_units}
 use Rattle.occ_units.specs.Spelled.{AreSpelled}
 
-pub record IsBoard (journal : List Entry) (kept : List Input) (files : List Read) (flags : List Bool) : Type 0 where
+pub record IsBoard (journal : List Entry) (kept : List Input) (files : List Read) (flags : List Bool) (opened : ℕ) : Type 0 where
   pub few : length journal ≤ 10000
   pub legal : IsLegal journal
   pub files_are : files ≡ replay journal
   pub spelled : AreSpelled files
   pub len : length flags ≡ length files
   pub flags_are : AreFlags files kept flags
+  pub units : AllByRecursion (λ i. is_unit i.unit ≡ true) kept
+  pub opened_are : opened ≡ length (open_units files)
 
 -- the place of the input that is kept of a unit
 abbrev pub place_in : List Input → List ℕ → Option ℕ
@@ -28,3 +35,9 @@ place_in (i ∷ is) u = if bytes_eq i.unit u then Some 0 else option_map suc (pl
 -- of each unit the place of the input that is kept of it, by name
 abbrev pub ArePlaces : BTreeMap (List ℕ) ℕ → List Input → Type 0
 ArePlaces places kept = (u : List ℕ) → get name_cmp places u ≡ place_in kept u
+
+-- how many units are open behind an edit that is not refused, where so many are before it
+abbrev pub units_then : ℕ → Edit → ℕ
+units_then n (edit.Added name source) = n + cond (is_unit name) 1 0
+units_then n (edit.Changed name source) = n
+units_then n (edit.Removed name) = n - cond (is_unit name) 1 0

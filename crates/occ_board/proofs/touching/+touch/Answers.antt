@@ -1,4 +1,4 @@
-use Rattle.std.proofs.Common.{arith, ◌∙◌, ℕ, Bool, List, ap, false, get_or, subst, sym, ◌≡◌, true}
+use Rattle.std.proofs.Common.{arith, ℕ, List, get_or, subst, sym, ◌≡◌, true}
 use Rattle.std.proofs.lemmas.List.{drop_more}
 use Rattle.occ_board.proofs.Marked.{touch_begun, touch_more}
 use Rattle.occ_board.proofs.Spread.{among_there}
@@ -7,8 +7,7 @@ use Rattle.occ_graph.specs.Graph.{is_among}
 
 pub loop-user-init : goal.loop-user-init
 loop-user-init t c =
-    touch_begun c.args.graph.now (c.users_law.ensures.users c.args.graph.now) c.users-users.result.now c.args.touched.now _ c.args.place c.users-users.ensures c.set.ensures c.requires.len c.requires.within
-    (ap (λ (fs : List Bool). get_or fs c.args.place false) (sym c.as_slice.ensures) ∙ sym c.if-is_flagged.ensures)
+    touch_begun c.args.graph.now (c.users_law.ensures.users c.args.graph.now) c.users-users.result.now c.args.touched.now _ c.args.place c.users-users.ensures c.in_ok-mark.ensures c.requires.len c.requires.within (sym c.if-has.ensures)
 
 pub touch-requires : goal.touch-requires
 touch-requires t c =
@@ -25,4 +24,4 @@ loop-user-preserved t c =
     let i : ℕ = c.loop-user.user-index in
     touch_more c.args.graph.now users c.args.touched.now c.loop-user.touched c.touch.new.touched c.args.place i (get_or users i 0) c.loop-user.invariant
     (drop_more users i 0 c.loop-user-test.true)
-    c.touch.ensures.len c.touch.ensures.least c.touch.ensures.more c.touch.ensures.here c.touch.ensures.closed
+    c.in_ok-touch.ensures.len c.in_ok-touch.ensures.least c.in_ok-touch.ensures.more c.in_ok-touch.ensures.here c.in_ok-touch.ensures.closed

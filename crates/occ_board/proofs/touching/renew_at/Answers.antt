@@ -21,7 +21,7 @@ pub resettle-requires-clause-marks : goal.resettle-requires-clause-marks
 resettle-requires-clause-marks c =
     let file : Read = record { name = c.args.name; revision = c.args.revision; source = c.args.source } in
     let project : IsProject c.args.graph.now = subst IsProject c.project.ensures c.files-files.ensures.in_order in
-    ap (length {A = Bool}) c.as_slice-marks.ensures ∙ c.in_ok-touched.ensures.len ∙ ap (length {A = Read}) c.in_ok-readers.ensures.same
+    c.in_ok-touched.ensures.len ∙ ap (length {A = Read}) c.in_ok-readers.ensures.same
     ∙ sym (long_at c.args.graph.now c.readers.new.self c.set.new.self file c.args.place project c.in_ok-readers.ensures.same c.in_ok-set.ensures.ok c.requires.place)
 
 pub resettle-requires-clause-sound : goal.resettle-requires-clause-sound
@@ -29,8 +29,8 @@ resettle-requires-clause-sound c =
     let file : Read = record { name = c.args.name; revision = c.args.revision; source = c.args.source } in
     let project : IsProject c.args.graph.now = subst IsProject c.project.ensures c.files-files.ensures.in_order in
     sound_at c.args.graph.now c.readers.new.self c.set.new.self file c.args.place project c.in_ok-readers.ensures.same c.in_ok-set.ensures.ok c.requires.place
-    c.args.kept.now c.in_ok-readers.readers c.as_slice.result.now c.in_ok-touched.touched c.as_slice-marks.result.now c.args.flags.now c.unflag.new.flags
-    c.in_ok-readers.ensures.readers c.as_slice.ensures c.as_slice-marks.ensures c.requires.flags c.in_ok-touched.ensures.here c.in_ok-touched.ensures.readers c.in_ok-touched.ensures.closed c.unflag.ensures.flags
+    c.args.kept.now c.in_ok-readers.readers c.as_slice.result.now c.in_ok-touched.touched c.args.flags.now c.unflag.new.flags
+    c.in_ok-readers.ensures.readers c.as_slice.ensures c.requires.flags c.in_ok-touched.ensures.here c.in_ok-touched.ensures.readers c.in_ok-touched.ensures.closed c.unflag.ensures.flags
     c.readers_law.ensures.readers c.requires.spelled c.names_law.ensures c.apart_law.ensures c.put_law.ensures.files c.put_law.ensures.in_order c.done_law.ensures.done
 
 pub resettle-requires-clause-full : goal.resettle-requires-clause-full
@@ -38,6 +38,6 @@ resettle-requires-clause-full c =
     let file : Read = record { name = c.args.name; revision = c.args.revision; source = c.args.source } in
     let project : IsProject c.args.graph.now = subst IsProject c.project.ensures c.files-files.ensures.in_order in
     full_at c.args.graph.now c.readers.new.self c.set.new.self file c.args.place project c.in_ok-readers.ensures.same c.in_ok-set.ensures.ok c.requires.place
-    c.args.kept.now c.in_ok-readers.readers c.as_slice.result.now c.in_ok-touched.touched c.as_slice-marks.result.now c.args.flags.now c.unflag.new.flags
-    c.in_ok-readers.ensures.readers c.as_slice.ensures c.as_slice-marks.ensures c.requires.flags c.in_ok-touched.ensures.here c.in_ok-touched.ensures.readers c.in_ok-touched.ensures.closed c.unflag.ensures.flags
+    c.args.kept.now c.in_ok-readers.readers c.as_slice.result.now c.in_ok-touched.touched c.args.flags.now c.unflag.new.flags
+    c.in_ok-readers.ensures.readers c.as_slice.ensures c.requires.flags c.in_ok-touched.ensures.here c.in_ok-touched.ensures.readers c.in_ok-touched.ensures.closed c.unflag.ensures.flags
     c.readers_law.ensures.readers c.requires.spelled c.names_law.ensures c.apart_law.ensures c.put_law.ensures.files c.put_law.ensures.in_order c.done_law.ensures.done

@@ -1,32 +1,30 @@
-use Rattle.std.proofs.Common.{◌∙◌, Bool, List, ap, arith, false, length, subst}
-use Rattle.std.specs.List.{insert}
+use Rattle.std.proofs.Common.{arith, subst}
 use Rattle.occ_board.proofs.Newly.{new_full, new_long, new_sound}
 use Rattle.occ_board.proofs.touching.renew_new.Goals as goal
 use Rattle.occ_units.specs.Project.{IsProject}
 
-pub with_flag-requires : goal.with_flag-requires
-with_flag-requires c =
+pub with_place-requires : goal.with_place-requires
+with_place-requires c =
     let within = c.requires.new.gap.within in
-    let long = ap (length {A = Bool}) c.as_slice.ensures in
-    omega (arith, within, long, c.requires.len)
+    omega (arith, within, c.requires.len)
 
 pub settle_from-requires-clause-len : goal.settle_from-requires-clause-len
 settle_from-requires-clause-len c =
     new_long
     c.args.graph.now c.add.new.self (record { name = c.args.name; revision = c.args.revision; source = c.args.source }) c.args.place (subst IsProject c.project.ensures c.files-files.ensures.in_order) c.requires.new c.in_ok-add.ensures.ok
-    c.args.kept.now c.args.flags.now c.in_ok-next.next c.requires.len c.requires.flags (c.in_ok-next.ensures ∙ ap (λ (fs : List Bool). insert fs c.args.place false) c.as_slice.ensures)
+    c.args.kept.now c.args.flags.now c.in_ok-next.next c.requires.len c.requires.flags c.in_ok-next.ensures
     c.requires.spelled c.names_law.ensures c.apart_law.ensures c.put_law.ensures.files c.put_law.ensures.in_order c.done_law.ensures.done
 
 pub settle_from-requires-clause-sound : goal.settle_from-requires-clause-sound
 settle_from-requires-clause-sound c =
     new_sound
     c.args.graph.now c.add.new.self (record { name = c.args.name; revision = c.args.revision; source = c.args.source }) c.args.place (subst IsProject c.project.ensures c.files-files.ensures.in_order) c.requires.new c.in_ok-add.ensures.ok
-    c.args.kept.now c.args.flags.now c.in_ok-next.next c.requires.len c.requires.flags (c.in_ok-next.ensures ∙ ap (λ (fs : List Bool). insert fs c.args.place false) c.as_slice.ensures)
+    c.args.kept.now c.args.flags.now c.in_ok-next.next c.requires.len c.requires.flags c.in_ok-next.ensures
     c.requires.spelled c.names_law.ensures c.apart_law.ensures c.put_law.ensures.files c.put_law.ensures.in_order c.done_law.ensures.done
 
 pub settle_from-requires-clause-full : goal.settle_from-requires-clause-full
 settle_from-requires-clause-full c =
     new_full
     c.args.graph.now c.add.new.self (record { name = c.args.name; revision = c.args.revision; source = c.args.source }) c.args.place (subst IsProject c.project.ensures c.files-files.ensures.in_order) c.requires.new c.in_ok-add.ensures.ok
-    c.args.kept.now c.args.flags.now c.in_ok-next.next c.requires.len c.requires.flags (c.in_ok-next.ensures ∙ ap (λ (fs : List Bool). insert fs c.args.place false) c.as_slice.ensures)
+    c.args.kept.now c.args.flags.now c.in_ok-next.next c.requires.len c.requires.flags c.in_ok-next.ensures
     c.requires.spelled c.names_law.ensures c.apart_law.ensures c.put_law.ensures.files c.put_law.ensures.in_order c.done_law.ensures.done

@@ -1,8 +1,7 @@
-use Rattle.std.proofs.Common.{◌≡◌, ◌<◌, ◌⊎◌, ◌≤◌, ℕ, false, true, get_or, length}
+use Rattle.std.proofs.Common.{◌≡◌, length}
+use Rattle.occ_board.proofs.Marked.{IsResettled}
 use Rattle.occ_board.proofs.touching.resettle.Given as goal
-use Rattle.occ_board.specs.inside.Flagged.{IsFullAt, IsSound}
+use Rattle.occ_board.specs.inside.Flagged.{IsSound}
 
 abbrev pub invariant-loop-place : goal.invariant-loop-place
-invariant-loop-place l =
-    (length l.flags ≡ length l.graph) × IsSound l.graph l.kept l.flags
-    × ((p : ℕ) → p < length l.graph → IsFullAt l.graph l.kept l.flags p ⊎ ((get_or l.touched p false ≡ true) × (l.place ≤ p)))
+invariant-loop-place l = (length l.flags ≡ length l.graph) × IsSound l.graph l.kept l.flags × IsResettled l.graph l.kept l.places l.flags l.place-index

@@ -2,4 +2,4 @@ use Rattle.occ_board.proofs.Marked.{IsUnflagged}
 use Rattle.occ_board.proofs.touching.unflag.Given as goal
 
 abbrev pub invariant-loop-place : goal.invariant-loop-place
-invariant-loop-place l = IsUnflagged l.fn.flags l.touched l.flags l.place
+invariant-loop-place l = IsUnflagged l.fn.flags l.places l.flags l.place-index

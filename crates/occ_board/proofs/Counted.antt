@@ -1,0 +1,66 @@
+-- How many flags are set, and which places are marked.
+use Rattle.std.proofs.Common.{◌≡◌, ◌∙◌, ◌<◌, ◌≤◌, ◌+◌, ◌||◌, ℕ, zero, suc, Bool, true, false, cond, List, [], ◌∷◌, ◌++◌, length, get_or, replicate, refl, sym, ap, subst, arith}
+use Rattle.std.proofs.lemmas.Bool.{eqb-false, eqb-true}
+use Rattle.std.specs.List.{insert}
+use Rattle.std.specs.Prelude.{◌==◌, slice_set}
+use Rattle.occ_board.proofs.Marked.{among_append}
+use Rattle.occ_board.proofs.Spread.{set_apart, set_here}
+use Rattle.occ_board.specs.inside.Flagged.{flagged}
+use Rattle.occ_board.specs.inside.Touched.{AreMarked}
+use Rattle.occ_graph.specs.Graph.{is_among}
+
+abbrev one : Bool → ℕ
+one b = cond b 1 0
+
+pub none_flagged : (n : ℕ) → 0 ≡ flagged (replicate n false)
+none_flagged zero = refl
+none_flagged (suc n) = let rest = none_flagged n in omega (arith, rest)
+
+pub one_set : (flags : List Bool) (p : ℕ) → p < length flags → get_or flags p false ≡ false → flagged flags + 1 ≡ flagged (slice_set flags p true)
+one_set [] p lt e = absurd (omega (arith, lt))
+one_set (f ∷ flags) zero lt e = let none : one f ≡ 0 = ap one e in omega (arith, none)
+one_set (f ∷ flags) (suc p) lt e = let rest = one_set flags p (omega (arith, lt)) e in omega (arith, rest)
+
+pub one_unset : (flags : List Bool) (p : ℕ) → get_or flags p false ≡ true → flagged flags ≡ flagged (slice_set flags p false) + 1
+one_unset [] p e = absurd cc
+one_unset (f ∷ flags) zero e = let some : one f ≡ 1 = ap one e in omega (arith, some)
+one_unset (f ∷ flags) (suc p) e = let rest = one_unset flags p e in omega (arith, rest)
+
+pub one_more : (flags : List Bool) (p : ℕ) → p ≤ length flags → flagged flags ≡ flagged (insert flags p false)
+one_more [] zero le = refl
+one_more [] (suc p) le = absurd (omega (arith, le))
+one_more (f ∷ flags) zero le = let k : flagged (f ∷ flags) ≡ 0 + flagged (f ∷ flags) = omega arith in k
+one_more (f ∷ flags) (suc p) le = let rest = one_more flags p (omega (arith, le)) in omega (arith, rest)
+
+most : (b : Bool) → one b ≤ 1
+most true = omega arith
+most false = omega arith
+
+flagged_most : (flags : List Bool) → flagged flags ≤ length flags
+flagged_most [] = omega arith
+flagged_most (f ∷ flags) = let here = most f in let rest = flagged_most flags in omega (arith, here, rest)
+
+pub flagged_under : (flags : List Bool) (p : ℕ) → p < length flags → get_or flags p false ≡ false → flagged flags < length flags
+flagged_under [] p lt e = absurd (omega (arith, lt))
+flagged_under (f ∷ flags) zero lt e = let none : one f ≡ 0 = ap one e in let rest = flagged_most flags in omega (arith, none, rest)
+flagged_under (f ∷ flags) (suc p) lt e = let here = most f in let rest = flagged_under flags p (omega (arith, lt)) e in omega (arith, here, rest)
+
+-- places of marks
+pub none_marked : (n : ℕ) → AreMarked (replicate n false) []
+none_marked zero p = refl
+none_marked (suc n) zero = refl
+none_marked (suc n) (suc p) = none_marked n p
+
+pub one_marked : (marks : List Bool) (places : List ℕ) (at : ℕ) → AreMarked marks places → at < length marks → AreMarked (slice_set marks at true) (places ++ at ∷ [])
+one_marked marks places at are lt p = among_append places at p ∙ by (at == p) refl where
+  or_true : (b : Bool) → (b || true) ≡ true
+  or_true true = refl
+  or_true false = refl
+
+  or_false : (b : Bool) → (b || false) ≡ b
+  or_false true = refl
+  or_false false = refl
+
+  by : (b : Bool) → (at == p) ≡ b → (is_among places p || b) ≡ get_or (slice_set marks at true) p false
+  by true e = or_true (is_among places p) ∙ sym (subst (λ (q : ℕ). get_or (slice_set marks at true) q false ≡ true) (eqb-true at p e) (set_here marks at lt))
+  by false e = or_false (is_among places p) ∙ are p ∙ sym (set_apart marks at p (λ q. eqb-false at p e (sym q)))

@@ -1,0 +1,23 @@
+use Rattle.std.proofs.Common.{◌≡◌, ◌∙◌, ◌+◌, ◌<◌, Bool, List, ap, arith, false, get_or, length, subst, sym}
+use Rattle.occ_board.proofs.Counted.{flagged_under, one_set}
+use Rattle.occ_board.proofs.flags.Flags.set.Goals as goal
+use Rattle.occ_board.specs.inside.Flagged.{flagged}
+
+pub overflow_add-self : goal.overflow_add-self
+overflow_add-self c =
+    let within : c.args.place < length c.self.inside.flags = let under = c.if-place-len.true in let long = c.len.ensures in omega (arith, under, long) in
+    let none : get_or c.self.inside.flags c.args.place false ≡ false = ap (λ (fs : List Bool). get_or fs c.args.place false) (sym c.as_slice.ensures) ∙ sym c.if-not-is_flagged.ensures in
+    let least = flagged_under c.self.inside.flags c.args.place within none in
+    let is = c.self.invariant in
+    let long = c.len.ensures in
+    let fits = c.len.type_inv in
+    omega (arith, least, is, long, fits)
+
+pub invariant_of-self : goal.invariant_of-self
+invariant_of-self c =
+    let within : c.args.place < length c.self.inside.flags = let under = c.if-place-len.true in let long = c.len.ensures in omega (arith, under, long) in
+    let none : get_or c.self.inside.flags c.args.place false ≡ false = ap (λ (fs : List Bool). get_or fs c.args.place false) (sym c.as_slice.ensures) ∙ sym c.if-not-is_flagged.ensures in
+    let one = one_set c.self.inside.flags c.args.place within none in
+    let is = c.self.invariant in
+    let same = ap flagged c.set.ensures in
+    omega (arith, one, is, same)
