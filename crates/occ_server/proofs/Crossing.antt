@@ -72,6 +72,7 @@ use Rattle.occ_check.specs.contracts.job.Job as job
 use Rattle.occ_check.specs.contracts.outcome.Outcome as outcome
 use Rattle.occ_board.specs.contracts.entry.Edit as edit
 use Rattle.occ_board.specs.contracts.entry.Entry as entry
+use Rattle.occ_board.specs.contracts.flags.Flags as flags
 use Rattle.occ_board.specs.contracts.kept.Kept as kept
 use Rattle.occ_units.specs.contracts.project.Project as project
 use Rattle.occ_units.specs.contracts.facts.Facts as facts
@@ -680,8 +681,11 @@ graph_send = search (sendable, graph_field_send) depth 10
 kept_field_send : IsSend kept.the_field.row
 kept_field_send = search (sendable, Vec-send, BTreeMap-send, outcome_field_send, file_name_cross.the_send) depth 30
 
+flags_field_send : IsSend flags.the_field.row
+flags_field_send = search (sendable, items.the_send) depth 30
+
 board_field_send : IsSend board.the_field.row
-board_field_send = search (sendable, items.the_send, Vec-send, entry_send, kept_field_send, job_field_send, graph_field_send) depth 30
+board_field_send = search (sendable, Vec-send, entry_send, kept_field_send, job_field_send, graph_field_send, flags_field_send) depth 30
 
 board_send : IsSend board.the_row
 board_send = search (sendable, board_field_send) depth 10
