@@ -37,6 +37,17 @@ impl Readings {
         }
     }
 
+    /// Of no expression, with room for so many.
+    pub fn with_room(alloc: Global, count: usize) -> Result<Readings, AllocError>
+        ensures terms { IfOk result (λ all. all.terms ≡ []) }
+        ensures drafts { IfOk result (λ all. all.drafts ≡ []) }
+    {
+        Ok(Readings {
+            terms: Items::from_vec(Vec::with_capacity(alloc, count)?),
+            drafts: Items::from_vec(Vec::with_capacity(alloc, count)?),
+        })
+    }
+
     /// Of one expression.
     pub fn one(alloc: Global, first: Reading) -> Result<Readings, AllocError>
         ensures terms { IfOk result (λ all. all.terms ≡ first.term ∷ []) }

@@ -1,16 +1,19 @@
-ghost use Rattle.std.specs.Prelude.{◌≡◌, ◌++◌, [], IfOk, OnOk};
+ghost use Rattle.std.specs.Prelude.{◌≡◌, ◌∷◌, ◌++◌, [], IfOk, OnOk};
 ghost use Rattle.occ_expr.specs.declared.written.Opening.TheVariants as opened;
+ghost use Rattle.occ_expression_forms.specs.declared.tree.Bounds.TheVariants as bounds_form;
+ghost use Rattle.occ_expression_forms.specs.declared.tree.Expr.TheVariants as form;
 ghost use Rattle.occ_names.specs.Lookup.{data_type as data_type_named};
 ghost use Rattle.occ_names.specs.Visible.{referent, visible};
 ghost use Rattle.occ_types.specs.Fits.{unnamed as no_names};
 ghost use Rattle.occ_types.specs.View.{fields_in};
 ghost use Rattle.occ_expr.specs.Parts.{actuals as told_actuals, call as told_call, call_of_type as told_call_of_type, table_as as told_table, component as told_component, behind_a_fault as told_behind_a_fault, function_call as told_function_call, in_scope, named_element as told_named_element, no_call as told_no_call, only as only_one, own_faults, part as told_part, subscript as told_subscript, subscripts as told_subscripts, terms as terms_of, whole_element as told_whole_element};
-ghost use Rattle.occ_expr.specs.Drafts.{decorated_draft as drafted_table, operand_call as operand_drafted};
+ghost use Rattle.occ_expr.specs.Drafts.{decorated_draft as drafted_table, literal_draft as drafted_literal, operand_call as operand_drafted};
 ghost use Rattle.occ_tables.specs.Terms.{hidden_faults, judged_all};
 ghost use Rattle.occ_tables.specs.declared.term.Term.TheVariants as v;
 ghost use Rattle.occ_typed.specs.declared.draft.Draft.TheVariants as d;
-ghost use Rattle.occ_expr.specs.Elements.{component_at as selected_component, place_tree as the_place, selector as the_selector, selector_in, selectors as the_selectors, with_selectors};
-ghost use Rattle.occ_expr.specs.Views.{bounds_view, call_draft as drafted_call, converted_call, item_drafts as drafted_items, named_tree as the_named_tree, operand_drafts as drafted_operands, whole_element_draft as drafted_whole, builtin_view, dimension_view, dimension_views, each, element_view, expr_view, expr_views, named_operand_view, operand_view, operand_views, operands as said_operands, type_form_view};
+ghost use Rattle.occ_expr.specs.Literals.{literal as told_literal, truth as told_truth};
+ghost use Rattle.occ_expr.specs.Elements.{component_at as selected_component, element_draft as drafted_element, place_tree as the_place, selector as the_selector, selector_in, selectors as the_selectors, with_selectors};
+ghost use Rattle.occ_expr.specs.Views.{bounds_view, call_draft as drafted_call, converted_call, decorated as told_decorated, item_drafts as drafted_items, named_tree as the_named_tree, operand_drafts as drafted_operands, whole_element_draft as drafted_whole, builtin_view, dimension_view, dimension_views, each, element_view, expr_view, expr_views, named_operand_view, operand_view, operand_views, operands as said_operands, type_form_view};
 ghost use Rattle.occ_expr.specs.Written.{all_spanning_faults, array_behind as written_behind, array_over as written_over, array_over_more as written_over_more, channel as written_channel, data_form as written_data, extents as the_extents};
 
 use super::calling::{one_result, operand_call};
@@ -32,7 +35,8 @@ use super::written::{
 };
 use occ_base::{Fault, Items, Name, Shared, one_item};
 use occ_expression_forms::{
-    Bounds, Builtin, DataBase, Dimension, Element, Expr, NamedOperand, Operand, TypeForm,
+    Bounds, Builtin, DataBase, Dimension, Element, Expr, Extreme, Literal, MonadicOperator,
+    NamedOperand, Operand, TypeForm,
 };
 use occ_names::{Meaning, Scope, carries, data_type};
 use occ_operands::{Kind, field, subscripted};
@@ -57,9 +61,29 @@ pub fn expression(
 {
     match expr {
         Expr::Alone(behind) => whole_operand(alloc, behind.get(), scope, faults),
+        _ => composed(alloc, expr, scope, faults),
+    }
+}
+
+/// What is read of an expression that is more than an operand alone. It stands by itself since its locals are many.
+#[tactic(auto, using(crate::proofs::Views::expr_rules))]
+#[cycle(walk)]
+fn composed(
+    alloc: Global,
+    expr: &Expr,
+    scope: &Scope,
+    faults: &mut Items<Fault>,
+) -> Result<Reading, AllocError>
+    ensures term { IfOk result (λ whole. whole.term ≡ ((expr_view expr.now).said scope.now).term) }
+    ensures draft { IfOk result (λ whole. whole.draft ≡ (expr_view expr.now).draft scope.now) }
+    ensures faults { OnOk result (faults.new ≡ faults.old ++ ((expr_view expr.now).said scope.now).faults) }
+{
+    match expr {
+        Expr::Alone(behind) => whole_operand(alloc, behind.get(), scope, faults),
         Expr::Run(operator, first, second, more) => {
+            let mut readings = Readings::with_room(alloc, more.len().saturating_add(2))?;
             let first = operand(alloc, first.get(), scope, faults)?;
-            let mut readings = Readings::one(alloc, first)?;
+            readings.push(first)?;
             let second = operand(alloc, second.get(), scope, faults)?;
             readings.push(second)?;
             operands(alloc, more.as_slice(), scope, &mut readings, faults)?;
@@ -71,8 +95,7 @@ pub fn expression(
             pair(alloc, first, *operator, second, faults)
         }
         Expr::Applied(operator, behind) => {
-            let reading = operand(alloc, behind.get(), scope, faults)?;
-            applied(alloc, reading, *operator, digits_of(behind.get()), faults)
+            applied_reading(alloc, *operator, behind.get(), scope, faults)
         }
         Expr::Converted(dims, word, behind) => {
             let of = builtin(alloc, word.get(), scope, faults)?;
@@ -104,17 +127,65 @@ pub fn expression(
             let reading = operand(alloc, behind.get(), scope, faults)?;
             converted(alloc, reading, to, faults)
         }
-        Expr::Named(name, behind) => {
-            let to = named_type(alloc, name, scope, faults)?;
-            let reading = named_operand(alloc, behind.get(), scope, faults)?;
-            converted(alloc, reading, to, faults)
-        }
-        Expr::Most(extreme, of) => {
-            let of = type_form(alloc, of.get(), Opening::Refused, scope, faults)?;
-            let kind = extreme_of(*extreme, of, faults)?;
-            literal_reading(alloc, kind)
-        }
+        Expr::Named(name, behind) => named_reading(alloc, name, behind.get(), scope, faults),
+        Expr::Most(extreme, of) => most_reading(alloc, *extreme, of.get(), scope, faults),
     }
+}
+
+/// What is read of an operator in front of an operand.
+#[tactic(auto, using(crate::proofs::Views::expr_rules))]
+#[cycle(walk)]
+fn applied_reading(
+    alloc: Global,
+    operator: MonadicOperator,
+    behind: &Operand,
+    scope: &Scope,
+    faults: &mut Items<Fault>,
+) -> Result<Reading, AllocError>
+    ensures term { IfOk result (λ whole. whole.term ≡ ((expr_view (form.Applied operator behind.now)).said scope.now).term) }
+    ensures draft { IfOk result (λ whole. whole.draft ≡ (expr_view (form.Applied operator behind.now)).draft scope.now) }
+    ensures faults { OnOk result (faults.new ≡ faults.old ++ ((expr_view (form.Applied operator behind.now)).said scope.now).faults) }
+{
+    let reading = operand(alloc, behind, scope, faults)?;
+    applied(alloc, reading, operator, digits_of(behind), faults)
+}
+
+/// What is read of a conversion to the type of a name.
+#[tactic(auto, using(crate::proofs::Views::expr_rules))]
+#[cycle(walk)]
+fn named_reading(
+    alloc: Global,
+    name: &Name,
+    behind: &NamedOperand,
+    scope: &Scope,
+    faults: &mut Items<Fault>,
+) -> Result<Reading, AllocError>
+    ensures term { IfOk result (λ whole. whole.term ≡ ((expr_view (form.Named name.now behind.now)).said scope.now).term) }
+    ensures draft { IfOk result (λ whole. whole.draft ≡ (expr_view (form.Named name.now behind.now)).draft scope.now) }
+    ensures faults { OnOk result (faults.new ≡ faults.old ++ ((expr_view (form.Named name.now behind.now)).said scope.now).faults) }
+{
+    let to = named_type(alloc, name, scope, faults)?;
+    let reading = named_operand(alloc, behind, scope, faults)?;
+    converted(alloc, reading, to, faults)
+}
+
+/// What is read of the greatest or the least value of a type.
+#[tactic(auto, using(crate::proofs::Views::expr_rules))]
+#[cycle(walk)]
+fn most_reading(
+    alloc: Global,
+    extreme: Extreme,
+    of: &TypeForm,
+    scope: &Scope,
+    faults: &mut Items<Fault>,
+) -> Result<Reading, AllocError>
+    ensures term { IfOk result (λ whole. whole.term ≡ ((expr_view (form.Most extreme of.now)).said scope.now).term) }
+    ensures draft { IfOk result (λ whole. whole.draft ≡ (expr_view (form.Most extreme of.now)).draft scope.now) }
+    ensures faults { OnOk result (faults.new ≡ faults.old ++ ((expr_view (form.Most extreme of.now)).said scope.now).faults) }
+{
+    let of = type_form(alloc, of, Opening::Refused, scope, faults)?;
+    let kind = extreme_of(extreme, of, faults)?;
+    literal_reading(alloc, kind)
 }
 
 /// What is read of an operand beside an operator, or behind a type.
@@ -131,39 +202,83 @@ fn operand(
     ensures faults { OnOk result (faults.new ≡ faults.old ++ ((operand_view operand.now).said scope.now).faults) }
 {
     match operand {
-        Operand::Element(part) => {
-            let read = element(alloc, part.get(), scope, faults)?;
-            element_reading(alloc, read)
-        }
-        Operand::Literal(written) => {
-            let kind = literal(alloc, written, faults)?;
-            literal_reading(alloc, kind)
-        }
+        Operand::Element(part) => element_operand(alloc, part.get(), scope, faults),
+        Operand::Literal(written) => literal_operand(alloc, written, faults),
         Operand::Decorated(written, of) => {
-            let to = type_form(alloc, of.get(), Opening::Refused, scope, faults)?;
-            let kind = decorated_literal(alloc, written, to, faults)?;
-            literal_reading(alloc, kind)
+            decorated_operand(alloc, written, of.get(), scope, faults)
         }
-        Operand::Truth(value) => {
-            let kind = truth(alloc, *value)?;
-            literal_reading(alloc, kind)
-        }
+        Operand::Truth(value) => truth_operand(alloc, *value),
         Operand::Parens(expr) => expression(alloc, expr.get(), scope, faults),
         Operand::Table(first, more) => {
-            let first = expression(alloc, first.get(), scope, faults)?;
-            let mut items = Readings::one(alloc, first)?;
+            let mut items = first_item(alloc, first.get(), scope, faults)?;
             more_items(alloc, more.as_slice(), scope, &mut items, faults)?;
             Ok(table_reading(items))
         }
         Operand::DecoratedTable(first, more, of) => {
-            let first = expression(alloc, first.get(), scope, faults)?;
-            let mut items = Readings::one(alloc, first)?;
+            let mut items = first_item(alloc, first.get(), scope, faults)?;
             more_items(alloc, more.as_slice(), scope, &mut items, faults)?;
             let to = type_form(alloc, of.get(), Opening::Refused, scope, faults)?;
             decorated_reading(alloc, items, to, faults)
         }
         Operand::Call(name, exprs) => call(alloc, name, exprs.as_slice(), scope, faults),
     }
+}
+
+/// What is read of an element as an operand.
+#[cycle(walk)]
+fn element_operand(
+    alloc: Global,
+    part: &Element,
+    scope: &Scope,
+    faults: &mut Items<Fault>,
+) -> Result<Reading, AllocError>
+    ensures term { IfOk result (λ whole. whole.term ≡ v.Single ((element_view part.now).told scope.now).kind) }
+    ensures draft { IfOk result (λ whole. whole.draft ≡ drafted_element ((element_view part.now).tree scope.now)) }
+    ensures faults { OnOk result (faults.new ≡ faults.old ++ ((element_view part.now).told scope.now).faults) }
+{
+    let read = element(alloc, part, scope, faults)?;
+    element_reading(alloc, read)
+}
+
+/// What is read of a literal without a type of its own.
+fn literal_operand(
+    alloc: Global,
+    written: &Literal,
+    faults: &mut Items<Fault>,
+) -> Result<Reading, AllocError>
+    ensures term { IfOk result (λ whole. whole.term ≡ v.Single (told_literal written.now).kind) }
+    ensures draft { IfOk result (λ whole. whole.draft ≡ drafted_literal (told_literal written.now).kind) }
+    ensures faults { OnOk result (faults.new ≡ faults.old ++ (told_literal written.now).faults) }
+{
+    let kind = literal(alloc, written, faults)?;
+    literal_reading(alloc, kind)
+}
+
+/// What is read of a literal with its type.
+#[cycle(walk)]
+fn decorated_operand(
+    alloc: Global,
+    written: &Literal,
+    of: &TypeForm,
+    scope: &Scope,
+    faults: &mut Items<Fault>,
+) -> Result<Reading, AllocError>
+    ensures term { IfOk result (λ whole. whole.term ≡ v.Single (told_decorated (type_form_view of.now opened.Refused scope.now) written.now).kind) }
+    ensures draft { IfOk result (λ whole. whole.draft ≡ drafted_literal (told_decorated (type_form_view of.now opened.Refused scope.now) written.now).kind) }
+    ensures faults { OnOk result (faults.new ≡ faults.old ++ (told_decorated (type_form_view of.now opened.Refused scope.now) written.now).faults) }
+{
+    let to = type_form(alloc, of, Opening::Refused, scope, faults)?;
+    let kind = decorated_literal(alloc, written, to, faults)?;
+    literal_reading(alloc, kind)
+}
+
+/// What is read of `TRUE` or `FALSE`.
+fn truth_operand(alloc: Global, value: bool) -> Result<Reading, AllocError>
+    ensures term { IfOk result (λ whole. whole.term ≡ v.Single (told_truth value).kind) }
+    ensures draft { IfOk result (λ whole. whole.draft ≡ drafted_literal (told_truth value).kind) }
+{
+    let kind = truth(alloc, value)?;
+    literal_reading(alloc, kind)
 }
 
 /// The same of each operand of a list.
@@ -225,34 +340,21 @@ fn named_operand(
     ensures faults { OnOk result (faults.new ≡ faults.old ++ ((named_operand_view operand.now).said scope.now).faults) }
 {
     match operand {
-        NamedOperand::Element(part) => {
-            let read = element(alloc, part.get(), scope, faults)?;
-            element_reading(alloc, read)
-        }
-        NamedOperand::Literal(written) => {
-            let kind = literal(alloc, written, faults)?;
-            literal_reading(alloc, kind)
-        }
+        NamedOperand::Element(part) => element_operand(alloc, part.get(), scope, faults),
+        NamedOperand::Literal(written) => literal_operand(alloc, written, faults),
         NamedOperand::Decorated(written, of) => {
-            let to = type_form(alloc, of.get(), Opening::Refused, scope, faults)?;
-            let kind = decorated_literal(alloc, written, to, faults)?;
-            literal_reading(alloc, kind)
+            decorated_operand(alloc, written, of.get(), scope, faults)
         }
-        NamedOperand::Truth(value) => {
-            let kind = truth(alloc, *value)?;
-            literal_reading(alloc, kind)
-        }
+        NamedOperand::Truth(value) => truth_operand(alloc, *value),
         NamedOperand::Table(first, second, more) => {
-            let first = expression(alloc, first.get(), scope, faults)?;
-            let mut items = Readings::one(alloc, first)?;
+            let mut items = first_item(alloc, first.get(), scope, faults)?;
             let second = expression(alloc, second.get(), scope, faults)?;
             items.push(second)?;
             more_items(alloc, more.as_slice(), scope, &mut items, faults)?;
             Ok(table_reading(items))
         }
         NamedOperand::DecoratedTable(first, more, of) => {
-            let first = expression(alloc, first.get(), scope, faults)?;
-            let mut items = Readings::one(alloc, first)?;
+            let mut items = first_item(alloc, first.get(), scope, faults)?;
             more_items(alloc, more.as_slice(), scope, &mut items, faults)?;
             let to = type_form(alloc, of.get(), Opening::Refused, scope, faults)?;
             decorated_reading(alloc, items, to, faults)
@@ -291,6 +393,22 @@ fn decorated_reading(
         term: Term::Single(kind),
         draft,
     })
+}
+
+/// The first item of a table.
+#[cycle(walk)]
+fn first_item(
+    alloc: Global,
+    expr: &Expr,
+    scope: &Scope,
+    faults: &mut Items<Fault>,
+) -> Result<Readings, AllocError>
+    ensures terms { IfOk result (λ all. all.terms ≡ ((expr_view expr.now).said scope.now).term ∷ []) }
+    ensures drafts { IfOk result (λ all. all.drafts ≡ (expr_view expr.now).draft scope.now ∷ []) }
+    ensures faults { OnOk result (faults.new ≡ faults.old ++ ((expr_view expr.now).said scope.now).faults) }
+{
+    let item = expression(alloc, expr, scope, faults)?;
+    Readings::one(alloc, item)
 }
 
 /// More items of a table.
@@ -462,6 +580,25 @@ pub fn element(
 {
     match element {
         Element::Named(name, exprs) => named_element(alloc, name, exprs.as_slice(), scope, faults),
+        Element::Segment(_, _, _) => segment_reading(alloc, element, scope, faults),
+    }
+}
+
+/// What is read of an element that is a segment with subscripts. It stands by itself since its locals are many.
+#[tactic(auto, using(crate::proofs::Views::element_rules))]
+#[cycle(walk)]
+fn segment_reading(
+    alloc: Global,
+    element: &Element,
+    scope: &Scope,
+    faults: &mut Items<Fault>,
+) -> Result<ElementReading, AllocError>
+    ensures kind { IfOk result (λ read. read.kind ≡ ((element_view element.now).told scope.now).kind) }
+    ensures tree { IfOk result (λ read. read.tree ≡ (element_view element.now).tree scope.now) }
+    ensures faults { OnOk result (faults.new ≡ faults.old ++ ((element_view element.now).told scope.now).faults) }
+{
+    match element {
+        Element::Named(name, exprs) => named_element(alloc, name, exprs.as_slice(), scope, faults),
         Element::Segment(whole, part, exprs) => {
             let inner = self::element(alloc, whole.get(), scope, faults)?;
             let read = bounds(alloc, part.get(), components_of(&inner.kind), scope, faults)?;
@@ -499,10 +636,7 @@ fn whole_element(
         Element::Named(name, exprs) => {
             whole_named_element(alloc, name, exprs.as_slice(), scope, faults)
         }
-        Element::Segment(_, _, _) => {
-            let read = element(alloc, whole, scope, faults)?;
-            element_reading(alloc, read)
-        }
+        Element::Segment(_, _, _) => element_operand(alloc, whole, scope, faults),
     }
 }
 
@@ -676,22 +810,8 @@ fn bounds(
     ensures faults { OnOk result (faults.new ≡ faults.old ++ ((bounds_view bounds.now).said scope.now).faults) }
 {
     match bounds {
-        Bounds::From(base) => {
-            let base = expression(alloc, base.get(), scope, faults)?;
-            let selector = from_of(components, place_tree(alloc, &base.draft)?);
-            Ok(BoundsReading {
-                bounds: BoundTerms::From(base.term),
-                selector,
-            })
-        }
-        Bounds::For(count) => {
-            let count = expression(alloc, count.get(), scope, faults)?;
-            let selector = for_of(components, place_tree(alloc, &count.draft)?);
-            Ok(BoundsReading {
-                bounds: BoundTerms::For(count.term),
-                selector,
-            })
-        }
+        Bounds::From(base) => from_reading(alloc, base.get(), components, scope, faults),
+        Bounds::For(count) => for_reading(alloc, count.get(), components, scope, faults),
         Bounds::FromFor(base, count) => {
             let base = expression(alloc, base.get(), scope, faults)?;
             let count = expression(alloc, count.get(), scope, faults)?;
@@ -703,6 +823,50 @@ fn bounds(
             })
         }
     }
+}
+
+/// `FROM e` of so many components.
+#[tactic(auto, using(crate::proofs::Views::bounds_rules))]
+#[cycle(walk)]
+fn from_reading(
+    alloc: Global,
+    base: &Expr,
+    components: Option<u32>,
+    scope: &Scope,
+    faults: &mut Items<Fault>,
+) -> Result<BoundsReading, AllocError>
+    ensures bounds { IfOk result (λ read. read.bounds ≡ ((bounds_view (bounds_form.From base.now)).said scope.now).bounds) }
+    ensures selector { IfOk result (λ read. read.selector ≡ (bounds_view (bounds_form.From base.now)).tree scope.now components) }
+    ensures faults { OnOk result (faults.new ≡ faults.old ++ ((bounds_view (bounds_form.From base.now)).said scope.now).faults) }
+{
+    let base = expression(alloc, base, scope, faults)?;
+    let selector = from_of(components, place_tree(alloc, &base.draft)?);
+    Ok(BoundsReading {
+        bounds: BoundTerms::From(base.term),
+        selector,
+    })
+}
+
+/// `FOR e` of so many components.
+#[tactic(auto, using(crate::proofs::Views::bounds_rules))]
+#[cycle(walk)]
+fn for_reading(
+    alloc: Global,
+    count: &Expr,
+    components: Option<u32>,
+    scope: &Scope,
+    faults: &mut Items<Fault>,
+) -> Result<BoundsReading, AllocError>
+    ensures bounds { IfOk result (λ read. read.bounds ≡ ((bounds_view (bounds_form.For count.now)).said scope.now).bounds) }
+    ensures selector { IfOk result (λ read. read.selector ≡ (bounds_view (bounds_form.For count.now)).tree scope.now components) }
+    ensures faults { OnOk result (faults.new ≡ faults.old ++ ((bounds_view (bounds_form.For count.now)).said scope.now).faults) }
+{
+    let count = expression(alloc, count, scope, faults)?;
+    let selector = for_of(components, place_tree(alloc, &count.draft)?);
+    Ok(BoundsReading {
+        bounds: BoundTerms::For(count.term),
+        selector,
+    })
 }
 
 /// A type, if nothing is wrong with it.

@@ -38,52 +38,40 @@ builtin-returns-in_ok-of-in-Counted-clause-faults t c =
 
 pub operand-returns-in_ok-more_items-in-Table-clause-faults : goal.operand-returns-in_ok-more_items-in-Table-clause-faults
 operand-returns-in_ok-more_items-in-Table-clause-faults t c =
-    step.table_faults _ _ _ _ _ _ _ (c.in-Table.is ∙ ap (λ z. ov.Table z c.in-Table.more) (sym c.get-in-Table.ensures) ∙ ap (λ z. ov.Table c.get-in-Table.result.now z) (sym c.as_slice.ensures)) c.in_ok-first-in-Table.ensures.faults c.in_ok-more_items-in-Table.ensures.faults
+    step.table_faults _ _ _ _ _ _ _ (c.in-Table.is ∙ ap (λ z. ov.Table z c.in-Table.more) (sym c.get-in-Table.ensures) ∙ ap (λ z. ov.Table c.get-in-Table.result.now z) (sym c.as_slice.ensures)) c.in_ok-items-in-Table.ensures.faults c.in_ok-more_items-in-Table.ensures.faults
 
 pub named_operand-returns-in_ok-more_items-in-Table-clause-faults : goal.named_operand-returns-in_ok-more_items-in-Table-clause-faults
 named_operand-returns-in_ok-more_items-in-Table-clause-faults t c =
-    step.named_table_faults _ _ _ _ _ _ _ _ _ (c.in-Table.is ∙ ap (λ z. nv.Table z c.in-Table.second c.in-Table.more) (sym c.get-in-Table.ensures) ∙ ap (λ z. nv.Table c.get-in-Table.result.now z c.in-Table.more) (sym c.get-in-Table-2.ensures) ∙ ap (λ z. nv.Table c.get-in-Table.result.now c.get-in-Table-2.result.now z) (sym c.as_slice.ensures)) c.in_ok-first-in-Table.ensures.faults c.in_ok-second-in-Table.ensures.faults c.in_ok-more_items-in-Table.ensures.faults
+    step.named_table_faults _ _ _ _ _ _ _ _ _ (c.in-Table.is ∙ ap (λ z. nv.Table z c.in-Table.second c.in-Table.more) (sym c.get-in-Table.ensures) ∙ ap (λ z. nv.Table c.get-in-Table.result.now z c.in-Table.more) (sym c.get-in-Table-2.ensures) ∙ ap (λ z. nv.Table c.get-in-Table.result.now c.get-in-Table-2.result.now z) (sym c.as_slice.ensures)) c.in_ok-items-in-Table.ensures.faults c.in_ok-second-in-Table.ensures.faults c.in_ok-more_items-in-Table.ensures.faults
 
-pub expression-returns-in_ok-kind-in-Most-clause-faults : goal.expression-returns-in_ok-kind-in-Most-clause-faults
-expression-returns-in_ok-kind-in-Most-clause-faults t c =
-    step.whatever c.literal_reading.result (step.most_faults _ _ _ _ _ _ _ _ (c.in-Most.is ∙ ap (λ z. xv.Most c.in-Most.extreme z) (sym c.get-in-Most.ensures)) c.in_ok-of-in-Most.ensures.faults c.in_ok-of-in-Most.ensures.found c.in_ok-kind-in-Most.ensures.faults)
-
-pub expression-returns-in_ok-reading-in-Applied-clause-faults : goal.expression-returns-in_ok-reading-in-Applied-clause-faults
-expression-returns-in_ok-reading-in-Applied-clause-faults t c =
-    step.applied_faults c.applied.result _ _ _ _ _ _ _ _ _ (c.in-Applied.is ∙ ap (λ z. xv.Applied c.in-Applied.operator z) (sym c.get-in-Applied.ensures)) c.in_ok-reading-in-Applied.ensures.faults c.in_ok-reading-in-Applied.ensures.term (c.digits_of.ensures ∙ ap (λ z. (operand_view z).digits) (c.get-in-Applied-2.ensures ∙ sym c.get-in-Applied.ensures)) c.applied.ensures.faults
-
-pub expression-returns-in_ok-second-in-Pair-clause-faults : goal.expression-returns-in_ok-second-in-Pair-clause-faults
-expression-returns-in_ok-second-in-Pair-clause-faults t c =
+pub composed-returns-in_ok-second-in-Pair-clause-faults : goal.composed-returns-in_ok-second-in-Pair-clause-faults
+composed-returns-in_ok-second-in-Pair-clause-faults t c =
     step.pair_faults c.pair.result _ _ _ _ _ _ _ _ _ _ _ (c.in-Pair.is ∙ ap (λ z. xv.Pair z c.in-Pair.operator c.in-Pair.second) (sym c.get-in-Pair.ensures) ∙ ap (λ z. xv.Pair c.get-in-Pair.result.now c.in-Pair.operator z) (sym c.get-in-Pair-2.ensures)) c.in_ok-first-in-Pair.ensures.faults c.in_ok-first-in-Pair.ensures.term c.in_ok-second-in-Pair.ensures.faults c.in_ok-second-in-Pair.ensures.term c.pair.ensures.faults
 
-pub expression-returns-in_ok-reading-in-Named-clause-faults : goal.expression-returns-in_ok-reading-in-Named-clause-faults
-expression-returns-in_ok-reading-in-Named-clause-faults t c =
-    step.named_conversion_faults c.converted-in-Named.result _ _ _ _ _ _ _ _ _ _ (c.in-Named.is ∙ ap (λ z. xv.Named c.in-Named.name z) (sym c.get-in-Named.ensures)) c.in_ok-to-in-Named.ensures.faults c.in_ok-to-in-Named.ensures.found c.in_ok-reading-in-Named.ensures.faults c.in_ok-reading-in-Named.ensures.term c.converted-in-Named.ensures.faults
-
-pub expression-returns-in_ok-reading-in-Converted-clause-faults : goal.expression-returns-in_ok-reading-in-Converted-clause-faults
-expression-returns-in_ok-reading-in-Converted-clause-faults t c =
+pub composed-returns-in_ok-reading-in-Converted-clause-faults : goal.composed-returns-in_ok-reading-in-Converted-clause-faults
+composed-returns-in_ok-reading-in-Converted-clause-faults t c =
     step.conversion_faults c.converted.result _ _ _ _ _ _ _ _ _ _ _ _ _ _ (c.in-Converted.is ∙ ap (λ z. xv.Converted z c.in-Converted.word c.in-Converted.behind) (sym c.as_slice-in-Converted.ensures) ∙ ap (λ z. xv.Converted c.as_slice-in-Converted.result.now z c.in-Converted.behind) (sym c.get-in-Converted.ensures) ∙ ap (λ z. xv.Converted c.as_slice-in-Converted.result.now c.get-in-Converted.result.now z) (sym c.get-in-Converted-2.ensures)) c.in_ok-of-in-Converted.ensures.faults c.in_ok-of-in-Converted.ensures.found c.new.ensures c.in_ok-to-in-Converted.ensures.faults c.in_ok-to-in-Converted.ensures.found c.in_ok-reading-in-Converted.ensures.faults c.in_ok-reading-in-Converted.ensures.term c.converted.ensures.faults
 
-pub expression-returns-in_ok-reading-in-ArrayConverted-clause-faults : goal.expression-returns-in_ok-reading-in-ArrayConverted-clause-faults
-expression-returns-in_ok-reading-in-ArrayConverted-clause-faults t c =
+pub composed-returns-in_ok-reading-in-ArrayConverted-clause-faults : goal.composed-returns-in_ok-reading-in-ArrayConverted-clause-faults
+composed-returns-in_ok-reading-in-ArrayConverted-clause-faults t c =
     step.array_conversion_faults c.converted-in-ArrayConverted.result _ _ _ _ _ _ _ _ _ _ _ _ _ _ _ _ _ (c.in-ArrayConverted.is ∙ ap (λ z. xv.ArrayConverted z c.in-ArrayConverted.more c.in-ArrayConverted.name c.in-ArrayConverted.behind) (sym c.get-in-ArrayConverted.ensures) ∙ ap (λ z. xv.ArrayConverted c.get-in-ArrayConverted.result.now z c.in-ArrayConverted.name c.in-ArrayConverted.behind) (sym c.as_slice-in-ArrayConverted.ensures) ∙ ap (λ z. xv.ArrayConverted c.get-in-ArrayConverted.result.now c.as_slice-in-ArrayConverted.result.now c.in-ArrayConverted.name z) (sym c.get-in-ArrayConverted-2.ensures)) c.in_ok-of-in-ArrayConverted.ensures.faults c.in_ok-of-in-ArrayConverted.ensures.found c.in_ok-first-in-ArrayConverted.ensures.faults c.in_ok-first-in-ArrayConverted.ensures.extent c.in_ok-extents-in-ArrayConverted.ensures c.in_ok-to-in-ArrayConverted.ensures.faults c.in_ok-to-in-ArrayConverted.ensures.found c.in_ok-reading-in-ArrayConverted.ensures.faults c.in_ok-reading-in-ArrayConverted.ensures.term c.converted-in-ArrayConverted.ensures.faults
 
-pub expression-returns-in_ok-operands-in-Run-clause-faults : goal.expression-returns-in_ok-operands-in-Run-clause-faults
-expression-returns-in_ok-operands-in-Run-clause-faults t c =
-    step.run_faults c.operation_of.result _ _ _ _ _ _ _ _ _ _ _ _ _ _ _ _ (c.in-Run.is ∙ ap (λ z. xv.Run c.in-Run.operator z c.in-Run.second c.in-Run.more) (sym c.get-in-Run.ensures) ∙ ap (λ z. xv.Run c.in-Run.operator c.get-in-Run.result.now z c.in-Run.more) (sym c.get-in-Run-2.ensures) ∙ ap (λ z. xv.Run c.in-Run.operator c.get-in-Run.result.now c.get-in-Run-2.result.now z) (sym c.as_slice.ensures)) c.in_ok-first-in-Run.ensures.faults c.in_ok-first-in-Run.ensures.term c.in_ok-second-in-Run.ensures.faults c.in_ok-second-in-Run.ensures.term c.in_ok-operands-in-Run.ensures.faults (c.in_ok-operands-in-Run.ensures.terms ∙ ap (λ z. z ++ terms (operands c.args.scope.now (operand_views c.as_slice.result.now))) (c.in_ok-push-in-Run.ensures.terms ∙ ap (λ z. z ++ c.in_ok-second-in-Run.second.term ∷ []) c.in_ok-readings-in-Run.ensures.terms)) refl c.run_operator.ensures c.operation_of.ensures.faults
+pub composed-returns-in_ok-operands-in-Run-clause-faults : goal.composed-returns-in_ok-operands-in-Run-clause-faults
+composed-returns-in_ok-operands-in-Run-clause-faults t c =
+    step.run_faults c.operation_of.result _ _ _ _ _ _ _ _ _ _ _ _ _ _ _ _ (c.in-Run.is ∙ ap (λ z. xv.Run c.in-Run.operator z c.in-Run.second c.in-Run.more) (sym c.get-in-Run.ensures) ∙ ap (λ z. xv.Run c.in-Run.operator c.get-in-Run.result.now z c.in-Run.more) (sym c.get-in-Run-2.ensures) ∙ ap (λ z. xv.Run c.in-Run.operator c.get-in-Run.result.now c.get-in-Run-2.result.now z) (sym c.as_slice.ensures)) c.in_ok-first-in-Run.ensures.faults c.in_ok-first-in-Run.ensures.term c.in_ok-second-in-Run.ensures.faults c.in_ok-second-in-Run.ensures.term c.in_ok-operands-in-Run.ensures.faults (c.in_ok-operands-in-Run.ensures.terms ∙ ap (λ z. z ++ terms (operands c.args.scope.now (operand_views c.as_slice.result.now))) (c.in_ok-push-in-Run-2.ensures.terms ∙ ap (λ z. z ++ c.in_ok-second-in-Run.second.term ∷ []) (c.in_ok-push-in-Run.ensures.terms ∙ ap (λ z. z ++ c.in_ok-first-in-Run.first.term ∷ []) c.in_ok-readings-in-Run.ensures.terms))) refl c.run_operator.ensures c.operation_of.ensures.faults
 
 pub operand-returns-in_ok-to-in-DecoratedTable-clause-faults : goal.operand-returns-in_ok-to-in-DecoratedTable-clause-faults
 operand-returns-in_ok-to-in-DecoratedTable-clause-faults t c =
-    step.decorated_table_faults c.decorated_reading.result _ _ _ _ _ _ _ _ _ _ _ _ _ (c.in-DecoratedTable.is ∙ ap (λ z. ov.DecoratedTable z c.in-DecoratedTable.more c.in-DecoratedTable.of) (sym c.get-in-DecoratedTable.ensures) ∙ ap (λ z. ov.DecoratedTable c.get-in-DecoratedTable.result.now z c.in-DecoratedTable.of) (sym c.as_slice-in-DecoratedTable.ensures) ∙ ap (λ z. ov.DecoratedTable c.get-in-DecoratedTable.result.now c.as_slice-in-DecoratedTable.result.now z) (sym c.get-in-DecoratedTable-2.ensures)) c.in_ok-first-in-DecoratedTable.ensures.faults c.in_ok-first-in-DecoratedTable.ensures.term c.in_ok-more_items-in-DecoratedTable.ensures.faults (c.in_ok-more_items-in-DecoratedTable.ensures.terms ∙ ap (λ z. z ++ terms (in_scope c.args.scope.now (expr_views c.as_slice-in-DecoratedTable.result.now))) c.in_ok-items-in-DecoratedTable.ensures.terms) c.in_ok-to-in-DecoratedTable.ensures.faults c.in_ok-to-in-DecoratedTable.ensures.found c.decorated_reading.ensures.faults
+    step.decorated_table_faults c.decorated_reading.result _ _ _ _ _ _ _ _ _ _ _ _ _ (c.in-DecoratedTable.is ∙ ap (λ z. ov.DecoratedTable z c.in-DecoratedTable.more c.in-DecoratedTable.of) (sym c.get-in-DecoratedTable.ensures) ∙ ap (λ z. ov.DecoratedTable c.get-in-DecoratedTable.result.now z c.in-DecoratedTable.of) (sym c.as_slice-in-DecoratedTable.ensures) ∙ ap (λ z. ov.DecoratedTable c.get-in-DecoratedTable.result.now c.as_slice-in-DecoratedTable.result.now z) (sym c.get-in-DecoratedTable-2.ensures)) c.in_ok-items-in-DecoratedTable.ensures.faults refl c.in_ok-more_items-in-DecoratedTable.ensures.faults (c.in_ok-more_items-in-DecoratedTable.ensures.terms ∙ ap (λ z. z ++ terms (in_scope c.args.scope.now (expr_views c.as_slice-in-DecoratedTable.result.now))) c.in_ok-items-in-DecoratedTable.ensures.terms) c.in_ok-to-in-DecoratedTable.ensures.faults c.in_ok-to-in-DecoratedTable.ensures.found c.decorated_reading.ensures.faults
 
 pub named_operand-returns-in_ok-to-in-DecoratedTable-clause-faults : goal.named_operand-returns-in_ok-to-in-DecoratedTable-clause-faults
 named_operand-returns-in_ok-to-in-DecoratedTable-clause-faults t c =
-    step.named_decorated_table_faults c.decorated_reading.result _ _ _ _ _ _ _ _ _ _ _ _ _ (c.in-DecoratedTable.is ∙ ap (λ z. nv.DecoratedTable z c.in-DecoratedTable.more c.in-DecoratedTable.of) (sym c.get-in-DecoratedTable.ensures) ∙ ap (λ z. nv.DecoratedTable c.get-in-DecoratedTable.result.now z c.in-DecoratedTable.of) (sym c.as_slice-in-DecoratedTable.ensures) ∙ ap (λ z. nv.DecoratedTable c.get-in-DecoratedTable.result.now c.as_slice-in-DecoratedTable.result.now z) (sym c.get-in-DecoratedTable-2.ensures)) c.in_ok-first-in-DecoratedTable.ensures.faults c.in_ok-first-in-DecoratedTable.ensures.term c.in_ok-more_items-in-DecoratedTable.ensures.faults (c.in_ok-more_items-in-DecoratedTable.ensures.terms ∙ ap (λ z. z ++ terms (in_scope c.args.scope.now (expr_views c.as_slice-in-DecoratedTable.result.now))) c.in_ok-items-in-DecoratedTable.ensures.terms) c.in_ok-to-in-DecoratedTable.ensures.faults c.in_ok-to-in-DecoratedTable.ensures.found c.decorated_reading.ensures.faults
+    step.named_decorated_table_faults c.decorated_reading.result _ _ _ _ _ _ _ _ _ _ _ _ _ (c.in-DecoratedTable.is ∙ ap (λ z. nv.DecoratedTable z c.in-DecoratedTable.more c.in-DecoratedTable.of) (sym c.get-in-DecoratedTable.ensures) ∙ ap (λ z. nv.DecoratedTable c.get-in-DecoratedTable.result.now z c.in-DecoratedTable.of) (sym c.as_slice-in-DecoratedTable.ensures) ∙ ap (λ z. nv.DecoratedTable c.get-in-DecoratedTable.result.now c.as_slice-in-DecoratedTable.result.now z) (sym c.get-in-DecoratedTable-2.ensures)) c.in_ok-items-in-DecoratedTable.ensures.faults refl c.in_ok-more_items-in-DecoratedTable.ensures.faults (c.in_ok-more_items-in-DecoratedTable.ensures.terms ∙ ap (λ z. z ++ terms (in_scope c.args.scope.now (expr_views c.as_slice-in-DecoratedTable.result.now))) c.in_ok-items-in-DecoratedTable.ensures.terms) c.in_ok-to-in-DecoratedTable.ensures.faults c.in_ok-to-in-DecoratedTable.ensures.found c.decorated_reading.ensures.faults
 
-pub element-returns-in_ok-tree-in-Segment-clause-faults : goal.element-returns-in_ok-tree-in-Segment-clause-faults
-element-returns-in_ok-tree-in-Segment-clause-faults t c =
+pub segment_reading-returns-in_ok-tree-in-Segment-clause-faults : goal.segment_reading-returns-in_ok-tree-in-Segment-clause-faults
+segment_reading-returns-in_ok-tree-in-Segment-clause-faults t c =
     step.segment_faults _ _ _ _ _ _ _ _ _ _ _ _ _ (c.in-Segment.is ∙ ap (λ z. ev.Segment z c.in-Segment.part c.in-Segment.exprs) (sym c.get.ensures) ∙ ap (λ z. ev.Segment c.get.result.now z c.in-Segment.exprs) (sym c.get-in-Segment.ensures) ∙ ap (λ z. ev.Segment c.get.result.now c.get-in-Segment.result.now z) (sym c.as_slice-in-Segment.ensures)) c.in_ok-inner-in-Segment.ensures.faults c.in_ok-inner-in-Segment.ensures.kind c.in_ok-read-in-Segment.ensures.faults c.in_ok-read-in-Segment.ensures.bounds c.in_ok-segment-in-Segment.ensures.faults c.in_ok-segment-in-Segment.ensures.kind c.in_ok-kind-in-Segment.ensures.faults
 
-pub element-returns-in_ok-tree-in-Segment-clause-tree : goal.element-returns-in_ok-tree-in-Segment-clause-tree
-element-returns-in_ok-tree-in-Segment-clause-tree t c =
+pub segment_reading-returns-in_ok-tree-in-Segment-clause-tree : goal.segment_reading-returns-in_ok-tree-in-Segment-clause-tree
+segment_reading-returns-in_ok-tree-in-Segment-clause-tree t c =
     step.segment_tree_made _ _ _ _ _ _ _ _ _ _ _ _ _ _ _ (c.in-Segment.is ∙ ap (λ z. ev.Segment z c.in-Segment.part c.in-Segment.exprs) (sym c.get.ensures) ∙ ap (λ z. ev.Segment c.get.result.now z c.in-Segment.exprs) (sym c.get-in-Segment.ensures) ∙ ap (λ z. ev.Segment c.get.result.now c.get-in-Segment.result.now z) (sym c.as_slice-in-Segment.ensures)) c.in_ok-inner-in-Segment.ensures.kind c.in_ok-inner-in-Segment.ensures.tree c.components_of.ensures c.in_ok-read-in-Segment.ensures.bounds c.in_ok-read-in-Segment.ensures.selector c.in_ok-segment-in-Segment.ensures.kind (ap (λ z. Some z) c.new.ensures) c.in_ok-kind-in-Segment.ensures.kind c.in_ok-kind-in-Segment.ensures.selectors c.in_ok-tree-in-Segment.ensures
