@@ -41,8 +41,8 @@ module _ (journal : List Entry) (kept handed : List Input) (s : State) (i : Inpu
       (project : (es : List Entry) → IsProject (replay es))
       (heights : (files : List Read) → IsProject files → (height : List ℕ → ℕ) × ((u v : List ℕ) → is_among (rest_units files u) v ≡ true → height v < height u)) where
     -- what was done stays so
-    pub sound_still : (files : List Read) (flags : List Bool) (units : ℕ) → IsBoard journal kept files flags units → IsSound files better flags
-    sound_still files flags units board u h =
+    pub sound_still : (files : List Read) (flags : List Bool) (opened units : ℕ) → IsBoard journal kept files flags opened units → IsSound files better flags
+    sound_still files flags opened units board u h =
         let high = heights (replay journal) (project journal) in
         let was : done (replay journal) kept u ≡ true = ap (λ (fs : List Read). done fs kept u) (sym board.files_are) ∙ sym (board.flags_are u) ∙ h in
         ap (λ (fs : List Read). done fs better u) board.files_are
@@ -50,8 +50,8 @@ module _ (journal : List Entry) (kept handed : List Input) (s : State) (i : Inpu
         ∙ more_done (replay journal) (λ ks v. law (replay journal) ks v (project journal)) high.0 high.1 kept i fits.now u was
 
     -- and of no unit but this one a flag is missing
-    pub full_still : (files : List Read) (flags : List Bool) (units : ℕ) → IsBoard journal kept files flags units → (p : ℕ) → p < length files → bytes_eq i.unit (name_at files p) ≡ false → IsFullAt files better flags p
-    full_still files flags units board p lt other h =
+    pub full_still : (files : List Read) (flags : List Bool) (opened units : ℕ) → IsBoard journal kept files flags opened units → (p : ℕ) → p < length files → bytes_eq i.unit (name_at files p) ≡ false → IsFullAt files better flags p
+    full_still files flags opened units board p lt other h =
         let u : List ℕ = name_at files p in
         let ordered : IsProject files = subst IsProject (sym board.files_are) (project journal) in
         let have : done_step files (with_kept kept i) u (flag_of files flags) ≡ true = sym (ap (λ (ks : List Input). done_step files ks u (flag_of files flags)) same) ∙ h in

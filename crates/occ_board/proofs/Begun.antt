@@ -1,14 +1,15 @@
 -- A board without files.
-use Rattle.std.proofs.Common.{◌≡◌, ◌∙◌, ◌++◌, ◌+◌, ◌<◌, ℕ, Bool, List, [], ◌∷◌, length, length-append, Option, None, refl, sym, ap, subst, arith}
+use Rattle.std.proofs.Common.{◌≡◌, ◌∙◌, ◌++◌, ◌+◌, ◌<◌, ℕ, Bool, true, List, [], ◌∷◌, length, length-append, Option, None, refl, sym, ap, subst, arith}
+use Rattle.occ_base.specs.FileName.{is_unit}
 use Rattle.occ_board.proofs.Edits.{edited_is, legal_more, replay_more, room}
-use Rattle.occ_board.proofs.Opened.{open_after}
+use Rattle.occ_board.proofs.Opened.{open_after, units_after}
 use Rattle.occ_board.proofs.Resting.{none_is_project}
 use Rattle.occ_board.specs.Done.{done, done_step}
-use Rattle.occ_board.specs.Journal.{IsLegal, edited, refusal, refusal_of, replay}
+use Rattle.occ_board.specs.Journal.{IsLegal, edited, open_number, refusal, refusal_of, replay}
 use Rattle.occ_board.specs.declared.entry.Edit.{Edit}
 use Rattle.occ_board.specs.declared.entry.Entry.{Entry}
 use Rattle.occ_board.specs.inside.Flagged.{AreFlags}
-use Rattle.occ_board.specs.inside.Holding.{IsBoard, units_then}
+use Rattle.occ_board.specs.inside.Holding.{IsBoard, count_then}
 use Rattle.occ_check.specs.Input.{Input}
 use Rattle.occ_forms.specs.Prepared.{Prepared}
 use Rattle.occ_project.specs.declared.reads.Read.{Read}
@@ -16,20 +17,20 @@ use Rattle.occ_report.specs.Report.{open_units}
 use Rattle.occ_units.specs.Project.{IsProject, put}
 use Rattle.occ_units.specs.Spelled.{AreSpelled, IsSpelled}
 
-none : ((files : List Read) (kept : List Input) (u : List ℕ) → IsProject files → done files kept u ≡ done_step files kept u (done files kept)) → IsBoard [] [] [] [] 0
-none law = record { few = omega arith; legal = tt; files_are = refl; spelled = λ name. tt; len = refl; flags_are = λ u. sym (law [] [] u none_is_project); units = tt; opened_are = refl }
+none : ((files : List Read) (kept : List Input) (u : List ℕ) → IsProject files → done files kept u ≡ done_step files kept u (done files kept)) → IsBoard [] [] [] [] 0 0
+none law = record { few = omega arith; legal = tt; files_are = refl; spelled = λ name. tt; len = refl; flags_are = λ u. sym (law [] [] u none_is_project); of_units = tt; opened_are = refl; units_are = refl }
 
 pub begins : (journal : List Entry) (kept : List Input) (files : List Read) (flags : List Bool) → journal ≡ [] → kept ≡ [] → files ≡ [] → flags ≡ []
-    → ((files : List Read) (kept : List Input) (u : List ℕ) → IsProject files → done files kept u ≡ done_step files kept u (done files kept)) → IsBoard journal kept files flags 0
+    → ((files : List Read) (kept : List Input) (u : List ℕ) → IsProject files → done files kept u ≡ done_step files kept u (done files kept)) → IsBoard journal kept files flags 0 0
 begins journal kept files flags j k f g law =
-    subst (λ (x : List Entry). IsBoard x kept files flags 0) (sym j)
-    (subst (λ (x : List Input). IsBoard [] x files flags 0) (sym k) (subst (λ (x : List Read). IsBoard [] [] x flags 0) (sym f) (subst (λ (x : List Bool). IsBoard [] [] [] x 0) (sym g) (none law))))
+    subst (λ (x : List Entry). IsBoard x kept files flags 0 0) (sym j)
+    (subst (λ (x : List Input). IsBoard [] x files flags 0 0) (sym k) (subst (λ (x : List Read). IsBoard [] [] x flags 0 0) (sym f) (subst (λ (x : List Bool). IsBoard [] [] [] x 0 0) (sym g) (none law))))
 
 -- and one behind one more edit
-pub accepts : (journal next : List Entry) (kept : List Input) (files later : List Read) (flags now : List Bool) (units behind n session : ℕ) (e : Edit) (name : List ℕ) (source : Option Prepared) → IsBoard journal kept files flags units → refusal journal e ≡ None
+pub accepts : (journal next : List Entry) (kept : List Input) (files later : List Read) (flags now : List Bool) (opened units opened_then units_then n session : ℕ) (e : Edit) (name : List ℕ) (source : Option Prepared) → IsBoard journal kept files flags opened units → refusal journal e ≡ None
     → later ≡ put files (record { name = name; revision = n; source = source }) → n ≡ length journal + 1 → name ≡ (edited 0 e).name → source ≡ (edited 0 e).source → next ≡ journal ++ (record { session = session; edit = e }) ∷ []
-    → ((files : List Read) (file : Read) → AreSpelled files → IsSpelled file.source → AreSpelled (put files file)) → IsSpelled source → length now ≡ length later → AreFlags later kept now → behind ≡ units_then units e → IsProject files → IsBoard next kept later now behind
-accepts journal next kept files later flags now units behind n session e name source board fine put_is number named with_text more spelled told len are then project =
+    → ((files : List Read) (file : Read) → AreSpelled files → IsSpelled file.source → AreSpelled (put files file)) → IsSpelled source → length now ≡ length later → AreFlags later kept now → opened_then ≡ count_then true opened e → units_then ≡ count_then (is_unit name) units e → IsProject files → IsBoard next kept later now opened_then units_then
+accepts journal next kept files later flags now opened units opened_then units_then n session e name source board fine put_is number named with_text more spelled told len are then_opened then_units project =
     let entry : Entry = record { session = session; edit = e } in
     let under : length journal < 10000 = room (replay journal) (length journal) e fine in
     let longer : length next ≡ length journal + 1 = ap (length {A = Entry}) more ∙ length-append journal (entry ∷ []) in
@@ -51,11 +52,18 @@ accepts journal next kept files later flags now units behind n session e name so
       spelled = subst AreSpelled (sym put_is) (spelled files (record { name = name; revision = n; source = source }) board.spelled told);
       len = len;
       flags_are = are;
-      units = board.units;
+      of_units = board.of_units;
       opened_are =
-          then
-          ∙ ap (λ (m : ℕ). units_then m e) board.opened_are
-          ∙ sym (open_after files (length journal) (length journal + 1) e project (ap (λ (fs : List Read). refusal_of fs (length journal) e) board.files_are ∙ fine))
+          then_opened
+          ∙ ap (λ (m : ℕ). count_then true m e) board.opened_are
+          ∙ sym (open_after files (length journal) project (length journal + 1) e (ap (λ (fs : List Read). refusal_of fs (length journal) e) board.files_are ∙ fine))
+          ∙ ap (λ (f : Read). open_number (put files f)) whole
+          ∙ ap open_number (sym put_is);
+      units_are =
+          then_units
+          ∙ ap (λ (u : List ℕ). count_then (is_unit u) units e) named
+          ∙ ap (λ (m : ℕ). count_then (is_unit (edited 0 e).name) m e) board.units_are
+          ∙ sym (units_after files (length journal) project (length journal + 1) e (ap (λ (fs : List Read). refusal_of fs (length journal) e) board.files_are ∙ fine))
           ∙ ap (λ (f : Read). length (open_units (put files f))) whole
           ∙ ap (λ (fs : List Read). length (open_units fs)) (sym put_is);
     }

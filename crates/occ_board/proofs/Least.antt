@@ -1,5 +1,5 @@
 -- Of the units that are pending one is ready.
-use Rattle.std.proofs.Common.{◌≡◌, ◌∙◌, ◌&&◌, ◌<◌, Bool, true, false, not, cond, ℕ, suc, List, [], ◌∷◌, length, map, Option, Some, None, refl, sym, ap, subst, arith}
+use Rattle.std.proofs.Common.{◌≡◌, ◌∙◌, ◌&&◌, ◌<◌, Bool, true, false, not, cond, ℕ, suc, List, [], ◌∷◌, length, map, Some, refl, sym, ap, subst, arith}
 use Rattle.std.proofs.lemmas.Slice.Eq.{bytes_eq-Decides}
 use Rattle.std.specs.List.{filter, find, list_all, slice_get}
 use Rattle.std.specs.Option.{is_some}
@@ -9,7 +9,7 @@ use Rattle.occ_board.proofs.Accepted.{open_among}
 use Rattle.occ_board.proofs.Apart.{among_all, kept_among}
 use Rattle.occ_board.proofs.Heights.{along_rests}
 use Rattle.occ_board.proofs.Places.{filed}
-use Rattle.occ_board.proofs.Truths.{among_first, either_true, left_true, not_both, or_left, or_right, right_true}
+use Rattle.occ_board.proofs.Truths.{among_first, either_true, left_true, not_both, or_right, right_true}
 use Rattle.occ_board.specs.Done.{NoneIsHanded, done, is_input_among, pending_units, ready_units}
 use Rattle.occ_board.specs.Journal.{is_open}
 use Rattle.occ_board.specs.Machine.{next_input}

@@ -1,14 +1,15 @@
 -- How many units are open, and how many of them are done.
 use Rattle.std.proofs.Common.{◌≡◌, ◌∙◌, ◌&&◌, ◌+◌, ◌-◌, ◌<◌, ◌≤◌, ℕ, zero, suc, Bool, true, false, cond, not, List, [], ◌∷◌, length, map, set, get_or, Option, Some, None, refl, sym, ap, subst, nat_le, arith, if◌then◌else◌}
 use Rattle.std.specs.List.{AllByRecursion, filter, slice_get}
-use Rattle.std.specs.Option.{is_some, option_map}
+use Rattle.std.proofs.lemmas.List.{length-map}
+use Rattle.std.specs.Option.{is_some, option_and_then, option_map, unwrap_or}
 use Rattle.std.specs.Ordering.{match_ordering}
 use Rattle.std.specs.Str.{bytes_eq}
 use Rattle.std.proofs.lemmas.Slice.Eq.{bytes_eq-Decides}
 use Rattle.std.specs.declared.cmp.Ordering.{Ordering}
 use Rattle.std.specs.declared.cmp.Ordering.TheVariants.{Less, Equal, Greater}
 use Rattle.occ_base.specs.FileName.{is_unit}
-use Rattle.occ_board.proofs.Places.{at_place, file_named, filed, nowhere, placed}
+use Rattle.occ_board.proofs.Places.{at_place, file_named, filed, placed}
 use Rattle.occ_board.proofs.Readers.{few_files}
 use Rattle.occ_board.proofs.Settled.{flag_at, step_kept, step_open}
 use Rattle.occ_board.proofs.Truths.{both_true}
@@ -21,11 +22,12 @@ use Rattle.occ_board.specs.declared.entry.EditFault.{EditFault}
 use Rattle.occ_board.specs.declared.entry.EditFault.TheVariants as fault
 use Rattle.occ_board.specs.declared.entry.Entry.{Entry}
 use Rattle.occ_board.specs.inside.Flagged.{AreFlags, flagged}
-use Rattle.occ_board.specs.inside.Holding.{IsBoard, units_then}
+use Rattle.occ_board.specs.inside.Holding.{count_then}
 use Rattle.occ_check.specs.Input.{Input}
 use Rattle.occ_project.specs.Reads.{name_cmp, place}
 use Rattle.occ_project.specs.declared.reads.Read.{Read}
 use Rattle.occ_report.specs.Report.{is_open_unit, open_units}
+use Rattle.occ_units.proofs.Finding.{member_at}
 use Rattle.occ_units.proofs.Looks.{same_bytes}
 use Rattle.occ_units.proofs.Putting.{put_at}
 use Rattle.occ_units.proofs.Rising.{equal_names}
@@ -33,77 +35,6 @@ use Rattle.occ_units.specs.Project.{IsProject, file_of, put}
 
 abbrev one : Bool → ℕ
 one b = cond b 1 0
-
--- ---- a file more
-
-open_by : (b : Bool) (file : Read) (rest : List Read) → length (map (λ (f : Read). f.name) (cond b (file ∷ rest) rest)) ≡ one b + length (map (λ (f : Read). f.name) rest)
-open_by true file rest = let k : suc (length (map (λ (f : Read). f.name) rest)) ≡ 1 + length (map (λ (f : Read). f.name) rest) = omega arith in k
-open_by false file rest = let k : length (map (λ (f : Read). f.name) rest) ≡ 0 + length (map (λ (f : Read). f.name) rest) = omega arith in k
-
-open_more : (file : Read) (files : List Read) → length (open_units (file ∷ files)) ≡ one (is_open_unit file) + length (open_units files)
-open_more file files = open_by (is_open_unit file) file (filter is_open_unit files)
-
--- where no file has its name
-rest_none : (b : Bool) (o : Option ℕ) → cond b (Some 0) (option_map suc o) ≡ None → o ≡ None
-rest_none true o e = absurd cc
-rest_none false None e = refl
-rest_none false (Some n) e = absurd cc
-
-open_new : (files : List Read) (file : Read) → place file.name files ≡ None → length (open_units (put files file)) ≡ one (is_open_unit file) + length (open_units files)
-open_new [] file none = open_more file []
-open_new (x ∷ files) file none = by (name_cmp file.name x.name) refl (open_new files file (rest_none (bytes_eq x.name file.name) (place file.name files) none)) where
-  by : (o : Ordering) → name_cmp file.name x.name ≡ o → length (open_units (put files file)) ≡ one (is_open_unit file) + length (open_units files)
-      → length (open_units (match_ordering o (file ∷ x ∷ files) (file ∷ files) (x ∷ put files file))) ≡ one (is_open_unit file) + length (open_units (x ∷ files))
-  by Less e rest = open_more file (x ∷ files)
-  by Equal e rest =
-      let here : place file.name (x ∷ files) ≡ Some 0 = ap (λ (b : Bool). cond b (Some 0) (option_map suc (place file.name files))) (ap (bytes_eq x.name) (equal_names file.name x.name e) ∙ same_bytes x.name) in
-      absurd (cc (here, none))
-  by Greater e rest =
-      let m = open_more x (put files file) in
-      let k = open_more x files in
-      omega (arith, m, k, rest)
-
--- and in place of the one that has it
-open_set : (files : List Read) (at : ℕ) (old file : Read) → slice_get files at ≡ Some old → length (open_units (set files at file)) + one (is_open_unit old) ≡ length (open_units files) + one (is_open_unit file)
-open_set [] at old file e = absurd cc
-open_set (x ∷ files) zero old file e =
-    let is : x ≡ old = cc in
-    let m = open_more file files in
-    let k : length (open_units (x ∷ files)) ≡ one (is_open_unit old) + length (open_units files) = open_more x files ∙ ap (λ (f : Read). one (is_open_unit f) + length (open_units files)) is in
-    omega (arith, m, k)
-open_set (x ∷ files) (suc at) old file e =
-    let rest = open_set files at old file e in
-    let m = open_more x (set files at file) in
-    let k = open_more x files in
-    omega (arith, m, k, rest)
-
-and_false : (b : Bool) → (b && false) ≡ false
-and_false true = refl
-and_false false = refl
-
--- whether a unit of that name is open
-abbrev is_unit_open : List Read → List ℕ → Bool
-is_unit_open files name = is_unit name && is_open files name
-
-named_open : (files : List Read) (name : List ℕ) → is_open_unit (file_of files name) ≡ is_unit_open files name
-named_open files name = ap (λ (n : List ℕ). is_unit n && is_open files name) (file_named files name)
-
-open_put : (files : List Read) (file : Read) → IsProject files → length (open_units (put files file)) + one (is_unit_open files file.name) ≡ length (open_units files) + one (is_open_unit file)
-open_put files file project = by (place file.name files) refl where
-  by : (o : Option ℕ) → place file.name files ≡ o → length (open_units (put files file)) + one (is_unit_open files file.name) ≡ length (open_units files) + one (is_open_unit file)
-  by None e =
-      let shut : is_unit_open files file.name ≡ false = ap (λ (b : Bool). is_unit file.name && b) (nowhere files file.name e) ∙ and_false (is_unit file.name) in
-      let zero_is : one (is_unit_open files file.name) ≡ 0 = ap one shut in
-      let more = open_new files file e in
-      omega (arith, zero_is, more)
-  by (Some at) e =
-      let there = at_place files file.name at e in
-      let was : one (is_open_unit there.0) ≡ one (is_unit_open files file.name) = ap (λ (f : Read). one (is_open_unit f)) (sym there.1.1.1) ∙ ap one (named_open files file.name) in
-      let more = open_set files at there.0 file there.1.0 in
-      let same : length (open_units (set files at file)) ≡ length (open_units (put files file)) = ap (λ (fs : List Read). length (open_units fs)) (put_at files file at project e) in
-      omega (arith, was, more, same)
-
--- ---- behind an edit that is not refused
 
 passed : (b : Bool) (f : EditFault) (later : Option EditFault) → else_fault b f later ≡ None → b ≡ false
 passed true f later e = absurd cc
@@ -113,56 +44,166 @@ not_false : (b : Bool) → not b ≡ false → b ≡ true
 not_false true e = refl
 not_false false e = absurd cc
 
-one_most : (b : Bool) → one b ≤ 1
-one_most true = omega arith
-one_most false = omega arith
+-- a name without a place is of no file
+no_file : (files : List Read) (name : List ℕ) → place name files ≡ None → file_of files name ≡ record { name = name; revision = 0; source = None }
+no_file files name e = ap (λ (m : Option Read). unwrap_or m (record { name = name; revision = 0; source = None })) (sym (member_at name files) ∙ ap (option_and_then (slice_get files)) e)
 
-one_and : (b c : Bool) → one (b && c) ≤ one b
-one_and true c = one_most c
-one_and false c = omega arith
+-- ---- how many files pass a test that no absent file passes
 
-counts : (files : List Read) (n : ℕ) (name : List ℕ) (source : Bool) (was is : Bool) (now : ℕ) → is_open files name ≡ was → now + one (is_unit_open files name) ≡ length (open_units files) + one (is_unit name && is) → now + one (is_unit name && was) ≡ length (open_units files) + one (is_unit name && is)
-counts files n name source was is now e k = sym (ap (λ (b : Bool). now + one (is_unit name && b)) e) ∙ k
+module _ (q : Read → Bool) (absent : (name : List ℕ) → q (record { name = name; revision = 0; source = None }) ≡ false) where
+  more_by : (b : Bool) (file : Read) (rest : List Read) → length (cond b (file ∷ rest) rest) ≡ one b + length rest
+  more_by true file rest = let k : suc (length rest) ≡ 1 + length rest = omega arith in k
+  more_by false file rest = let k : length rest ≡ 0 + length rest = omega arith in k
 
-pub open_after : (files : List Read) (accepted n : ℕ) (e : Edit) → IsProject files → refusal_of files accepted e ≡ None → length (open_units (put files (edited n e))) ≡ units_then (length (open_units files)) e
-open_after files accepted n (edit.Added name source) project r =
-    let shut : is_open files name ≡ false = passed (is_open files name) fault.AlreadyOpen (else_fault (nat_le 1024 (open_number files)) fault.TooManyFiles (if_full accepted)) r in
-    by (is_unit name) (counts files n name true false true _ shut (open_put files (edited n (edit.Added name source)) project)) where
-      by : (b : Bool) → length (open_units (put files (edited n (edit.Added name source)))) + one (b && false) ≡ length (open_units files) + one (b && true) → length (open_units (put files (edited n (edit.Added name source)))) ≡ length (open_units files) + one b
-      by true k = omega (arith, k)
-      by false k = omega (arith, k)
-open_after files accepted n (edit.Changed name source) project r =
-    let there : is_open files name ≡ true = not_false (is_open files name) (passed (not (is_open files name)) fault.NotOpen (if_full accepted) r) in
-    let k = counts files n name true true true _ there (open_put files (edited n (edit.Changed name source)) project) in
-    omega (arith, k)
-open_after files accepted n (edit.Removed name) project r =
-    let there : is_open files name ≡ true = not_false (is_open files name) (passed (not (is_open files name)) fault.NotOpen (if_full accepted) r) in
-    by (is_unit name) (counts files n name true true false _ there (open_put files (edited n (edit.Removed name)) project)) where
-      by : (b : Bool) → length (open_units (put files (edited n (edit.Removed name)))) + one (b && true) ≡ length (open_units files) + one (b && false) → length (open_units (put files (edited n (edit.Removed name)))) ≡ length (open_units files) - one b
-      by true k = omega (arith, k)
-      by false k = omega (arith, k)
+  more : (file : Read) (files : List Read) → length (filter q (file ∷ files)) ≡ one (q file) + length (filter q files)
+  more file files = more_by (q file) file (filter q files)
 
--- a unit that is closed was open
-pub open_before : (files : List Read) (accepted : ℕ) (name : List ℕ) → IsProject files → refusal_of files accepted (edit.Removed name) ≡ None → is_unit name ≡ true → 0 < length (open_units files)
-open_before files accepted name project r unit =
-    let there : is_open files name ≡ true = not_false (is_open files name) (passed (not (is_open files name)) fault.NotOpen (if_full accepted) r) in
-    let k = counts files 0 name true true false _ there (open_put files (edited 0 (edit.Removed name)) project) in
-    let t : one (is_unit name && true) ≡ 1 = ap (λ (b : Bool). one (b && true)) unit in
-    let f : one (is_unit name && false) ≡ 0 = ap (λ (b : Bool). one (b && false)) unit in
-    omega (arith, k, t, f)
+  -- where no file has its name
+  rest_none : (b : Bool) (o : Option ℕ) → cond b (Some 0) (option_map suc o) ≡ None → o ≡ None
+  rest_none true o e = absurd cc
+  rest_none false None e = refl
+  rest_none false (Some n) e = absurd cc
+
+  new : (files : List Read) (file : Read) → place file.name files ≡ None → length (filter q (put files file)) ≡ one (q file) + length (filter q files)
+  new [] file none = more file []
+  new (x ∷ files) file none = by (name_cmp file.name x.name) refl (new files file (rest_none (bytes_eq x.name file.name) (place file.name files) none)) where
+    by : (o : Ordering) → name_cmp file.name x.name ≡ o → length (filter q (put files file)) ≡ one (q file) + length (filter q files)
+        → length (filter q (match_ordering o (file ∷ x ∷ files) (file ∷ files) (x ∷ put files file))) ≡ one (q file) + length (filter q (x ∷ files))
+    by Less e rest = more file (x ∷ files)
+    by Equal e rest =
+        let here : place file.name (x ∷ files) ≡ Some 0 = ap (λ (b : Bool). cond b (Some 0) (option_map suc (place file.name files))) (ap (bytes_eq x.name) (equal_names file.name x.name e) ∙ same_bytes x.name) in
+        absurd (cc (here, none))
+    by Greater e rest =
+        let m = more x (put files file) in
+        let k = more x files in
+        omega (arith, m, k, rest)
+
+  -- and in place of the one that has it
+  instead : (files : List Read) (at : ℕ) (old file : Read) → slice_get files at ≡ Some old → length (filter q (set files at file)) + one (q old) ≡ length (filter q files) + one (q file)
+  instead [] at old file e = absurd cc
+  instead (x ∷ files) zero old file e =
+      let is : x ≡ old = cc in
+      let m = more file files in
+      let k : length (filter q (x ∷ files)) ≡ one (q old) + length (filter q files) = more x files ∙ ap (λ (f : Read). one (q f) + length (filter q files)) is in
+      omega (arith, m, k)
+  instead (x ∷ files) (suc at) old file e =
+      let rest = instead files at old file e in
+      let m = more x (set files at file) in
+      let k = more x files in
+      omega (arith, m, k, rest)
+
+  put_counted : (files : List Read) (file : Read) → IsProject files → length (filter q (put files file)) + one (q (file_of files file.name)) ≡ length (filter q files) + one (q file)
+  put_counted files file project = by (place file.name files) refl where
+    by : (o : Option ℕ) → place file.name files ≡ o → length (filter q (put files file)) + one (q (file_of files file.name)) ≡ length (filter q files) + one (q file)
+    by None e =
+        let zero_is : one (q (file_of files file.name)) ≡ 0 = ap (λ (f : Read). one (q f)) (no_file files file.name e) ∙ ap one (absent file.name) in
+        let longer = new files file e in
+        omega (arith, zero_is, longer)
+    by (Some at) e =
+        let there = at_place files file.name at e in
+        let was : one (q there.0) ≡ one (q (file_of files file.name)) = ap (λ (f : Read). one (q f)) (sym there.1.1.1) in
+        let other = instead files at there.0 file there.1.0 in
+        let same : length (filter q (set files at file)) ≡ length (filter q (put files file)) = ap (λ (fs : List Read). length (filter q fs)) (put_at files file at project e) in
+        omega (arith, was, other, same)
+
+  -- ---- behind an edit that is not refused, where an open file passes by its name or does not
+
+  module _ (b : Bool) (files : List Read) (accepted : ℕ) (project : IsProject files) where
+    now_by : (n : ℕ) (e : Edit) (was is : Bool) → q (file_of files (edited n e).name) ≡ (b && was) → q (edited n e) ≡ (b && is)
+        → length (filter q (put files (edited n e))) + one (b && was) ≡ length (filter q files) + one (b && is)
+    now_by n e was is old new =
+        ap (λ (x : Bool). length (filter q (put files (edited n e))) + one x) (sym old) ∙ put_counted files (edited n e) project ∙ ap (λ (x : Bool). length (filter q files) + one x) new
+
+    opened_by : (c : Bool) (old new : ℕ) → new + one (c && false) ≡ old + one (c && true) → new ≡ old + one c
+    opened_by true old new k = omega (arith, k)
+    opened_by false old new k = omega (arith, k)
+
+    closed_by : (c : Bool) (old new : ℕ) → new + one (c && true) ≡ old + one (c && false) → new ≡ old - one c
+    closed_by true old new k = omega (arith, k)
+    closed_by false old new k = omega (arith, k)
+
+    pub counted_after : (n : ℕ) (e : Edit) → refusal_of files accepted e ≡ None → q (file_of files (edited 0 e).name) ≡ (b && is_open files (edited 0 e).name) → q (edited n e) ≡ (b && is_some (edited 0 e).source)
+        → length (filter q (put files (edited n e))) ≡ count_then b (length (filter q files)) e
+    counted_after n (edit.Added name source) r old new =
+        let shut : is_open files name ≡ false = passed (is_open files name) fault.AlreadyOpen (else_fault (nat_le 1024 (open_number files)) fault.TooManyFiles (if_full accepted)) r in
+        opened_by b (length (filter q files)) (length (filter q (put files (edited n (edit.Added name source))))) (now_by n (edit.Added name source) false true (old ∙ ap (λ (x : Bool). b && x) shut) new)
+    counted_after n (edit.Changed name source) r old new =
+        let there : is_open files name ≡ true = not_false (is_open files name) (passed (not (is_open files name)) fault.NotOpen (if_full accepted) r) in
+        let k = now_by n (edit.Changed name source) true true (old ∙ ap (λ (x : Bool). b && x) there) new in
+        omega (arith, k)
+    counted_after n (edit.Removed name) r old new =
+        let there : is_open files name ≡ true = not_false (is_open files name) (passed (not (is_open files name)) fault.NotOpen (if_full accepted) r) in
+        closed_by b (length (filter q files)) (length (filter q (put files (edited n (edit.Removed name))))) (now_by n (edit.Removed name) true false (old ∙ ap (λ (x : Bool). b && x) there) new)
+
+    -- what is closed was counted
+    pub counted_before : (name : List ℕ) → refusal_of files accepted (edit.Removed name) ≡ None → q (file_of files name) ≡ (b && is_open files name) → q (record { name = name; revision = 0; source = None }) ≡ (b && false) → b ≡ true → 0 < length (filter q files)
+    counted_before name r old new is =
+        let there : is_open files name ≡ true = not_false (is_open files name) (passed (not (is_open files name)) fault.NotOpen (if_full accepted) r) in
+        let k = now_by 0 (edit.Removed name) true false (old ∙ ap (λ (x : Bool). b && x) there) new in
+        let t : one (b && true) ≡ 1 = ap (λ (c : Bool). one (c && true)) is in
+        let f : one (b && false) ≡ 0 = ap (λ (c : Bool). one (c && false)) is in
+        omega (arith, k, t, f)
+
+-- ---- files and units
+
+abbrev is_opened : Read → Bool
+is_opened file = is_some file.source
+
+and_false : (b : Bool) → (b && false) ≡ false
+and_false true = refl
+and_false false = refl
+
+units_long : (files : List Read) → length (open_units files) ≡ length (filter is_open_unit files)
+units_long files = length-map (filter is_open_unit files) (λ (f : Read). f.name)
+
+edited_unit : (n : ℕ) (e : Edit) → is_open_unit (edited n e) ≡ (is_unit (edited 0 e).name && is_some (edited 0 e).source)
+edited_unit n (edit.Added name source) = refl
+edited_unit n (edit.Changed name source) = refl
+edited_unit n (edit.Removed name) = refl
+
+edited_open : (n : ℕ) (e : Edit) → is_opened (edited n e) ≡ is_some (edited 0 e).source
+edited_open n (edit.Added name source) = refl
+edited_open n (edit.Changed name source) = refl
+edited_open n (edit.Removed name) = refl
+
+named_unit : (files : List Read) (name : List ℕ) → is_open_unit (file_of files name) ≡ (is_unit name && is_open files name)
+named_unit files name = ap (λ (n : List ℕ). is_unit n && is_open files name) (file_named files name)
+
+module _ (files : List Read) (accepted : ℕ) (project : IsProject files) where
+  pub units_after : (n : ℕ) (e : Edit) → refusal_of files accepted e ≡ None → length (open_units (put files (edited n e))) ≡ count_then (is_unit (edited 0 e).name) (length (open_units files)) e
+  units_after n e r =
+      units_long (put files (edited n e))
+      ∙ counted_after is_open_unit (λ name. and_false (is_unit name)) (is_unit (edited 0 e).name) files accepted project n e r (named_unit files (edited 0 e).name) (edited_unit n e)
+      ∙ ap (λ (m : ℕ). count_then (is_unit (edited 0 e).name) m e) (sym (units_long files))
+
+  pub open_after : (n : ℕ) (e : Edit) → refusal_of files accepted e ≡ None → open_number (put files (edited n e)) ≡ count_then true (open_number files) e
+  open_after n e r = counted_after is_opened (λ name. refl) true files accepted project n e r refl (edited_open n e)
+
+  pub units_before : (name : List ℕ) → refusal_of files accepted (edit.Removed name) ≡ None → is_unit name ≡ true → 0 < length (open_units files)
+  units_before name r unit =
+      subst (λ (n : ℕ). 0 < n) (sym (units_long files)) (counted_before is_open_unit (λ m. and_false (is_unit m)) (is_unit name) files accepted project name r (named_unit files name) refl unit)
+
+  pub open_before : (name : List ℕ) → refusal_of files accepted (edit.Removed name) ≡ None → 0 < open_number files
+  open_before name r = counted_before is_opened (λ m. refl) true files accepted project name r refl refl refl
 
 -- there are no more of them than files
-open_least : (files : List Read) → length (open_units files) ≤ length files
-open_least [] = omega arith
-open_least (x ∷ files) =
-    let m = open_more x files in
-    let k = one_most (is_open_unit x) in
-    let rest = open_least files in
-    omega (arith, m, k, rest)
+least : (q : Read → Bool) (files : List Read) → length (filter q files) ≤ length files
+least q [] = omega arith
+least q (x ∷ files) = by (q x) (least q files) where
+  by : (b : Bool) → length (filter q files) ≤ length files → length (cond b (x ∷ filter q files) (filter q files)) ≤ suc (length files)
+  by true le = omega (arith, le)
+  by false le = omega (arith, le)
 
-pub open_few : (es : List Entry) → length es ≤ 10000 → length (open_units (replay es)) ≤ 10000
+pub units_few : (es : List Entry) → length es ≤ 10000 → length (open_units (replay es)) ≤ 10000
+units_few es few =
+    let a = least is_open_unit (replay es) in
+    let b = few_files es in
+    let c = units_long (replay es) in
+    omega (arith, a, b, c, few)
+
+pub open_few : (es : List Entry) → length es ≤ 10000 → open_number (replay es) ≤ 10000
 open_few es few =
-    let a = open_least (replay es) in
+    let a = least is_opened (replay es) in
     let b = few_files es in
     omega (arith, a, b, few)
 

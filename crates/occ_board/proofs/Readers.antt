@@ -1,11 +1,11 @@
 -- How many units read a file, file by file.
-use Rattle.std.proofs.Common.{◌≡◌, ◌∙◌, ◌&&◌, ◌+◌, ◌<◌, ◌≤◌, Bool, false, cond, ℕ, zero, suc, List, [], ◌∷◌, length, take, get_or, Some, refl, sym, ap, subst, length-append, arith}
+use Rattle.std.proofs.Common.{◌≡◌, ◌∙◌, ◌&&◌, ◌+◌, ◌<◌, ◌≤◌, Bool, false, cond, ℕ, suc, List, [], ◌∷◌, length, take, get_or, refl, sym, ap, subst, length-append, arith}
 use Rattle.std.proofs.lemmas.List.Elements.{filter-append}
-use Rattle.std.specs.List.{filter, slice_get}
+use Rattle.std.specs.List.{filter}
 use Rattle.std.specs.Ordering.{match_ordering}
 use Rattle.std.specs.declared.cmp.Ordering.{Ordering}
 use Rattle.std.specs.declared.cmp.Ordering.TheVariants.{Less, Equal, Greater}
-use Rattle.occ_board.proofs.Shows.{one_by, one_more, there, units_in, units_more}
+use Rattle.occ_board.proofs.Shows.{one_by, one_more, units_in, units_more}
 use Rattle.occ_board.specs.Journal.{edited, replay, replay_from}
 use Rattle.occ_board.specs.declared.entry.Entry.{Entry}
 use Rattle.occ_project.specs.Entries.{is_among}

@@ -13,7 +13,7 @@ ghost use Rattle.std.specs.Prelude.{◌≡◌, ◌<◌, ◌⊎◌, Err, IfErr, I
 
 use super::expanding::count_readers;
 use super::flags::{Flags, settle_from};
-use super::journal::{refusal, units_behind};
+use super::journal::{count_behind, refusal};
 use super::judging::judge;
 use super::keeping::unhand;
 use super::kept::Kept;
@@ -41,6 +41,8 @@ pub struct Board {
     graph: Graph,
     /// Of each file of the project whether it is a unit that is done.
     flags: Flags,
+    /// How many files are open.
+    opened: usize,
     /// How many units are open.
     units: usize,
 }
@@ -63,7 +65,7 @@ impl Model for Board {
 
     ghost view = { λ b. record { journal = b.journal.items; kept = b.kept; handed = b.handed.items } };
 
-    ghost invariant = { λ b. IsBoard b.journal.items b.kept b.graph b.flags b.units };
+    ghost invariant = { λ b. IsBoard b.journal.items b.kept b.graph b.flags b.opened b.units };
 }
 
 impl Board {
@@ -78,6 +80,7 @@ impl Board {
             handed: Vec::new(alloc),
             graph: Graph::new(alloc),
             flags: Flags::new(alloc),
+            opened: 0,
             units: 0,
         }
     }
@@ -131,7 +134,7 @@ impl Board {
     fn refusal(&self, edit: &Edit) -> Option<EditFault>
         ensures { result ≡ why_refused self.now.journal edit.now }
     {
-        refusal(self.graph.project(), self.journal.len(), edit)
+        refusal(self.graph.project(), self.opened, self.journal.len(), edit)
     }
 
     fn edit(&mut self, alloc: Global, session: u32, edit: Edit) -> Result<u32, EditFault>
@@ -157,8 +160,9 @@ impl Board {
         put_law();
         done_law();
         let number = self.journal.len() as u32 + 1;
-        let units = units_behind(self.units, &edit);
         let name = edit.name();
+        let opened = count_behind(self.opened, &edit, true);
+        let units = count_behind(self.units, &edit, name.is_unit());
         let source = edit.shared()?;
         self.journal.push(Entry { session, edit })?;
         let renewed = renew(
@@ -174,6 +178,7 @@ impl Board {
             self.journal.pop();
             return Err(refused);
         }
+        self.opened = opened;
         self.units = units;
         Ok(number)
     }

@@ -1,9 +1,8 @@
 ghost use Rattle.occ_board.specs.Journal.{else_fault, if_full as if_full_behind, is_open, open_number, refusal_of};
-ghost use Rattle.occ_base.specs.FileName.{is_unit};
 ghost use Rattle.occ_board.specs.declared.entry.Edit.TheVariants as an_edit;
 ghost use Rattle.occ_board.specs.declared.entry.EditFault.TheVariants as fault;
-ghost use Rattle.occ_board.specs.inside.Holding.{units_then};
-ghost use Rattle.std.specs.Prelude.{◌≡◌, ◌<◌, ◌^◌, ℕ, List, nat_le, not, true};
+ghost use Rattle.occ_board.specs.inside.Holding.{count_then};
+ghost use Rattle.std.specs.Prelude.{◌≡◌, ◌<◌, ◌^◌, ℕ, IsTrue, List, nat_le, not};
 
 use super::{Edit, EditFault};
 use occ_base::FileName;
@@ -13,19 +12,6 @@ use occ_units::Project;
 const EDIT_LIMIT: usize = 10_000;
 /// No more files are open.
 const FILE_LIMIT: usize = 1024;
-
-/// How many files are open.
-fn count_open(project: &Project) -> usize
-    ensures { result ≡ open_number project.now }
-{
-    let mut count = 0;
-    for file in project.files() {
-        if file.source.is_some() {
-            count += 1;
-        }
-    }
-    count
-}
 
 /// The refusal of a full journal.
 fn if_full(accepted: usize) -> Option<EditFault>
@@ -38,13 +24,14 @@ fn if_full(accepted: usize) -> Option<EditFault>
     }
 }
 
-/// Why a file is not opened.
-fn opening(project: &Project, accepted: usize, name: FileName) -> Option<EditFault>
+/// Why a file is not opened, where so many are open.
+fn opening(project: &Project, opened: usize, accepted: usize, name: FileName) -> Option<EditFault>
+    requires { opened ≡ open_number project.now }
     ensures { result ≡ else_fault (is_open project.now name) fault.AlreadyOpen (else_fault (nat_le 1024 (open_number project.now)) fault.TooManyFiles (if_full_behind accepted)) }
 {
     if project.get(name).is_some() {
         Some(EditFault::AlreadyOpen)
-    } else if count_open(project) >= FILE_LIMIT {
+    } else if opened >= FILE_LIMIT {
         Some(EditFault::TooManyFiles)
     } else {
         if_full(accepted)
@@ -62,28 +49,30 @@ fn changing(project: &Project, accepted: usize, name: FileName) -> Option<EditFa
     }
 }
 
-/// Why an edit is refused, the first that holds, where so many edits were accepted.
-pub fn refusal(project: &Project, accepted: usize, edit: &Edit) -> Option<EditFault>
+/// Why an edit is refused, the first that holds, where so many files are open and so many edits were accepted.
+pub fn refusal(project: &Project, opened: usize, accepted: usize, edit: &Edit) -> Option<EditFault>
+    requires { opened ≡ open_number project.now }
     ensures { result ≡ refusal_of project.now accepted edit.now }
 {
     match edit {
-        Edit::Added(name, _) => opening(project, accepted, *name),
+        Edit::Added(name, _) => opening(project, opened, accepted, *name),
         Edit::Changed(name, _) | Edit::Removed(name) => changing(project, accepted, *name),
     }
 }
 
-/// How many units are open behind an edit that is not refused, where so many are before it.
-pub fn units_behind(units: usize, edit: &Edit) -> usize
-    requires most { units < 2 ^ 62 }
-    requires least { (name : List ℕ) → edit.now ≡ an_edit.Removed name → is_unit name ≡ true → 0 < units }
-    ensures { result ≡ units_then units edit.now }
+/// How many files are open behind an edit that is not refused, where so many are before it, and this tells whether its own is
+/// counted.
+pub fn count_behind(count: usize, edit: &Edit, is_counted: bool) -> usize
+    requires most { count < 2 ^ 62 }
+    requires least { (name : List ℕ) → edit.now ≡ an_edit.Removed name → IsTrue is_counted → 0 < count }
+    ensures { result ≡ count_then is_counted count edit.now }
 {
-    if !edit.name().is_unit() {
-        return units;
+    if !is_counted {
+        return count;
     }
     match edit {
-        Edit::Added(_, _) => units + 1,
-        Edit::Changed(_, _) => units,
-        Edit::Removed(_) => units - 1,
+        Edit::Added(_, _) => count + 1,
+        Edit::Changed(_, _) => count,
+        Edit::Removed(_) => count - 1,
     }
 }

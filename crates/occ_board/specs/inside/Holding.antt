@@ -6,7 +6,7 @@ use Rattle.std.specs.Option.{option_map}
 use Rattle.std.specs.Str.{bytes_eq}
 use Rattle.std.specs.Prelude.{suc}
 use Rattle.occ_base.specs.FileName.{is_unit}
-use Rattle.occ_board.specs.Journal.{IsLegal, replay}
+use Rattle.occ_board.specs.Journal.{IsLegal, open_number, replay}
 use Rattle.occ_board.specs.declared.entry.Edit.{Edit}
 use Rattle.occ_board.specs.declared.entry.Edit.TheVariants as edit
 use Rattle.occ_board.specs.declared.entry.Entry.{Entry}
@@ -17,15 +17,16 @@ use Rattle.occ_project.specs.declared.reads.Read.{Read}
 use Rattle.occ_report.specs.Report.{open_units}
 use Rattle.occ_units.specs.Spelled.{AreSpelled}
 
-pub record IsBoard (journal : List Entry) (kept : List Input) (files : List Read) (flags : List Bool) (opened : ℕ) : Type 0 where
+pub record IsBoard (journal : List Entry) (kept : List Input) (files : List Read) (flags : List Bool) (opened units : ℕ) : Type 0 where
   pub few : length journal ≤ 10000
   pub legal : IsLegal journal
   pub files_are : files ≡ replay journal
   pub spelled : AreSpelled files
   pub len : length flags ≡ length files
   pub flags_are : AreFlags files kept flags
-  pub units : AllByRecursion (λ i. is_unit i.unit ≡ true) kept
-  pub opened_are : opened ≡ length (open_units files)
+  pub of_units : AllByRecursion (λ i. is_unit i.unit ≡ true) kept
+  pub opened_are : opened ≡ open_number files
+  pub units_are : units ≡ length (open_units files)
 
 -- the place of the input that is kept of a unit
 abbrev pub place_in : List Input → List ℕ → Option ℕ
@@ -36,8 +37,9 @@ place_in (i ∷ is) u = if bytes_eq i.unit u then Some 0 else option_map suc (pl
 abbrev pub ArePlaces : BTreeMap (List ℕ) ℕ → List Input → Type 0
 ArePlaces places kept = (u : List ℕ) → get name_cmp places u ≡ place_in kept u
 
--- how many units are open behind an edit that is not refused, where so many are before it
-abbrev pub units_then : ℕ → Edit → ℕ
-units_then n (edit.Added name source) = n + cond (is_unit name) 1 0
-units_then n (edit.Changed name source) = n
-units_then n (edit.Removed name) = n - cond (is_unit name) 1 0
+-- how many files are open behind an edit that is not refused, where so many are before it, and this tells whether its own is
+-- counted
+abbrev pub count_then : Bool → ℕ → Edit → ℕ
+count_then counted n (edit.Added name source) = n + cond counted 1 0
+count_then counted n (edit.Changed name source) = n
+count_then counted n (edit.Removed name) = n - cond counted 1 0

@@ -1,4 +1,4 @@
-use Rattle.std.proofs.Common.{◌∙◌, ◌≡◌, List, ℕ, Some, ap, rules, subst, sym}
+use Rattle.std.proofs.Common.{◌∙◌, ◌≡◌, Some, ap, rules, subst, sym}
 use Rattle.occ_board.proofs.Settled.{are_flags}
 use Rattle.occ_board.proofs.Spread.{full_else, full_from}
 use Rattle.occ_board.proofs.flags.settle_from.Goals as goal

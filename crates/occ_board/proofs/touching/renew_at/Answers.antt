@@ -1,4 +1,4 @@
-use Rattle.std.proofs.Common.{◌≡◌, ◌∙◌, ◌<◌, Bool, List, ap, length, subst, sym}
+use Rattle.std.proofs.Common.{◌∙◌, ◌<◌, List, ap, length, subst, sym}
 use Rattle.occ_board.proofs.Marked.{full_at, long_at, sound_at}
 use Rattle.occ_board.proofs.touching.renew_at.Goals as goal
 use Rattle.occ_project.specs.declared.reads.Read.{Read}

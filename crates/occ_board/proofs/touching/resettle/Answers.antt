@@ -1,4 +1,4 @@
-use Rattle.std.proofs.Common.{◌≡◌, ◌∙◌, ◌<◌, ℕ, Bool, List, false, get_or, length, rules, subst, sym, true}
+use Rattle.std.proofs.Common.{◌∙◌, ◌<◌, ℕ, List, get_or, rules, subst, sym}
 use Rattle.std.proofs.lemmas.List.{drop_more}
 use Rattle.occ_board.proofs.Marked.{all_resettled, marked_there, resettled_begun, resettled_more}
 use Rattle.occ_board.proofs.Settled.{are_flags}

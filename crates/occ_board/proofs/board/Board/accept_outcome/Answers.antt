@@ -1,4 +1,4 @@
-use Rattle.std.proofs.Common.{◌≡◌, ◌∙◌, List, ℕ, Some, ap, false, subst, sym}
+use Rattle.std.proofs.Common.{◌≡◌, ◌∙◌, List, ℕ, ap, subst, sym}
 use Rattle.std.specs.Str.{bytes_eq}
 use Rattle.occ_board.proofs.Adopted.{adopted, fewer_left, full_still, sound_still}
 use Rattle.occ_board.proofs.Keeps.{same_there}
@@ -13,14 +13,14 @@ at-requires c = within c.keep.new.self c.in_ok-place.place c.args.outcome c.in_o
 
 pub settle_from-requires-clause-sound : goal.settle_from-requires-clause-sound
 settle_from-requires-clause-sound c =
-    sound_still c.self.inside.journal.items c.self.inside.kept c.self.inside.handed.items c.args.self.now c.args.outcome c.self.view_is c.requires c.keep.new.self c.in_ok-place.ensures.kept c.done_law.ensures.done c.done_law.ensures.project c.height_law.ensures c.self.inside.graph c.self.inside.flags c.self.inside.units
+    sound_still c.self.inside.journal.items c.self.inside.kept c.self.inside.handed.items c.args.self.now c.args.outcome c.self.view_is c.requires c.keep.new.self c.in_ok-place.ensures.kept c.done_law.ensures.done c.done_law.ensures.project c.height_law.ensures c.self.inside.graph c.self.inside.flags c.self.inside.opened c.self.inside.units
     c.self.invariant
 
 pub settle_from-requires-clause-full : goal.settle_from-requires-clause-full
 settle_from-requires-clause-full c = λ p lt other.
     let job : c.job-job.result.now ≡ c.args.outcome = c.job-job.ensures ∙ same_there c.keep.new.self c.in_ok-place.place c.at.result.now c.args.outcome c.at.ensures c.in_ok-place.ensures.place in
     let unit : c.unit.result ≡ c.args.outcome.unit = c.unit.ensures.value ∙ ap (λ (i : Input). i.unit) job in
-    full_still c.self.inside.journal.items c.self.inside.kept c.self.inside.handed.items c.args.self.now c.args.outcome c.self.view_is c.requires c.keep.new.self c.in_ok-place.ensures.kept c.done_law.ensures.done c.done_law.ensures.project c.height_law.ensures c.self.inside.graph c.self.inside.flags c.self.inside.units
+    full_still c.self.inside.journal.items c.self.inside.kept c.self.inside.handed.items c.args.self.now c.args.outcome c.self.view_is c.requires c.keep.new.self c.in_ok-place.ensures.kept c.done_law.ensures.done c.done_law.ensures.project c.height_law.ensures c.self.inside.graph c.self.inside.flags c.self.inside.opened c.self.inside.units
     c.self.invariant p lt (ap (λ (n : List ℕ). bytes_eq n (name_at c.self.inside.graph p)) (sym unit) ∙ other)
 
 pub returns-clause-ok : goal.returns-clause-ok
@@ -40,6 +40,7 @@ invariant_of-self-2 c = record {
   spelled = c.self.invariant.spelled;
   len = c.settle_from.ensures.len;
   flags_are = c.settle_from.ensures.flags;
-  units = subst AreUnits (sym c.in_ok-place.ensures.kept) (units_with c.self.inside.kept c.args.outcome c.self.invariant.units c.requires.job.unit);
+  of_units = subst AreUnits (sym c.in_ok-place.ensures.kept) (units_with c.self.inside.kept c.args.outcome c.self.invariant.of_units c.requires.job.unit);
   opened_are = c.self.invariant.opened_are;
+  units_are = c.self.invariant.units_are;
 }

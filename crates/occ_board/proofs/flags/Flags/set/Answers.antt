@@ -1,4 +1,4 @@
-use Rattle.std.proofs.Common.{◌≡◌, ◌∙◌, ◌+◌, ◌<◌, Bool, List, ap, arith, false, get_or, length, subst, sym}
+use Rattle.std.proofs.Common.{◌≡◌, ◌∙◌, ◌<◌, Bool, List, ap, arith, false, get_or, length, sym}
 use Rattle.occ_board.proofs.Counted.{flagged_under, one_set}
 use Rattle.occ_board.proofs.flags.Flags.set.Goals as goal
 use Rattle.occ_board.specs.inside.Flagged.{flagged}

@@ -1,4 +1,4 @@
-use Rattle.std.proofs.Common.{◌≡◌, ◌∙◌, ◌+◌, Bool, List, ap, arith, false, get_or, sym, true}
+use Rattle.std.proofs.Common.{◌≡◌, ◌∙◌, Bool, List, ap, arith, false, get_or, sym, true}
 use Rattle.occ_board.proofs.Counted.{one_unset}
 use Rattle.occ_board.proofs.flags.Flags.unset.Goals as goal
 use Rattle.occ_board.specs.inside.Flagged.{flagged}

@@ -1,4 +1,4 @@
-use Rattle.std.proofs.Common.{◌∙◌, ◌≡◌, ◌≤◌, Bool, List, ap, false, length, subst, sym}
+use Rattle.std.proofs.Common.{◌∙◌, ◌≤◌, Bool, List, ap, false, length, subst, sym}
 use Rattle.std.specs.List.{insert}
 use Rattle.occ_board.proofs.Counted.{one_more}
 use Rattle.occ_board.proofs.flags.Flags.with_place.Goals as goal

@@ -1,4 +1,4 @@
-use Rattle.std.proofs.Common.{◌≡◌, ◌∙◌, List, ℕ, None, Some, ap, sym}
+use Rattle.std.proofs.Common.{◌≡◌, ◌∙◌, Some, ap, sym}
 use Rattle.occ_board.proofs.Keeps.{kept_within}
 use Rattle.occ_board.proofs.kept.Kept.keep.Goals as goal
 use Rattle.occ_board.specs.inside.Holding.{place_in}

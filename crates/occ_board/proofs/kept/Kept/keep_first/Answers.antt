@@ -1,5 +1,5 @@
-use Rattle.std.proofs.Common.{◌≡◌, ◌∙◌, ◌++◌, ◌∷◌, ℕ, List, [], None, Some, ap, cond, length, rules, sym}
-use Rattle.std.specs.BTreeMap.{Updates, get}
+use Rattle.std.proofs.Common.{◌≡◌, ◌∙◌, ◌++◌, ◌∷◌, List, [], None, Some, ap, length, rules}
+use Rattle.std.specs.BTreeMap.{Updates}
 use Rattle.std.specs.List.{slice_get}
 use Rattle.occ_board.proofs.Keeps.{kept_last, last_there, places_with}
 use Rattle.occ_board.proofs.kept.Kept.keep_first.Goals as goal
