@@ -1,10 +1,12 @@
 ghost use Rattle.occ_typed_lines.specs.Actions.{action_faults, action_form as told_form};
+ghost use Rattle.occ_forms.specs.declared.tree.Action.TheVariants as a;
 ghost use Rattle.std.specs.Prelude.{◌≡◌, ◌++◌, IfOk, OnOk};
 
 use super::form::{assignment_form, input_form, output_form};
 use super::tree::TypedForm;
 use occ_base::{Fault, Items};
-use occ_forms::Action;
+use occ_expression_forms::{Element, Expr};
+use occ_forms::{Action, Input, OutputItem};
 use occ_names::Scope;
 use occ_typed_exchanges::{input, output};
 use occ_typed_statements::assignment;
@@ -23,25 +25,65 @@ pub fn action(
     match action {
         Action::Skip => Ok(TypedForm::Skip),
         Action::Stop => Ok(TypedForm::Stop),
-        Action::Assignment(target, targets, value, values) => {
-            let tree = assignment(
-                alloc,
-                target,
-                targets.as_slice(),
-                value,
-                values.as_slice(),
-                scope,
-                faults,
-            )?;
-            Ok(assignment_form(tree))
-        }
+        Action::Assignment(target, targets, value, values) => assigning(
+            alloc,
+            target,
+            targets.as_slice(),
+            value,
+            values.as_slice(),
+            scope,
+            faults,
+        ),
         Action::Output(channel, first, more) => {
-            let tree = output(alloc, channel, first, more.as_slice(), scope, faults)?;
-            Ok(output_form(tree))
+            sending(alloc, channel, first, more.as_slice(), scope, faults)
         }
-        Action::Input(behind) => {
-            let tree = input(alloc, behind, scope, faults)?;
-            Ok(input_form(tree))
-        }
+        Action::Input(behind) => receiving(alloc, behind, scope, faults),
     }
+}
+
+/// What an assignment tells, and what it is.
+fn assigning(
+    alloc: Global,
+    target: &Element,
+    targets: &[Element],
+    value: &Expr,
+    values: &[Expr],
+    scope: &Scope,
+    faults: &mut Items<Fault>,
+) -> Result<TypedForm, AllocError>
+    ensures form { IfOk result (λ form. form ≡ told_form scope.now (a.Assignment target.now targets.now value.now values.now)) }
+    ensures faults { OnOk result (faults.new ≡ faults.old ++ action_faults scope.now (a.Assignment target.now targets.now value.now values.now)) }
+{
+    let tree = assignment(alloc, target, targets, value, values, scope, faults)?;
+    Ok(assignment_form(tree))
+}
+
+/// What an output tells, and what it is.
+fn sending(
+    alloc: Global,
+    channel: &Element,
+    first: &OutputItem,
+    more: &[OutputItem],
+    scope: &Scope,
+    faults: &mut Items<Fault>,
+) -> Result<TypedForm, AllocError>
+    ensures form { IfOk result (λ form. form ≡ told_form scope.now (a.Output channel.now first.now more.now)) }
+    ensures faults { OnOk result (faults.new ≡ faults.old ++ action_faults scope.now (a.Output channel.now first.now more.now)) }
+{
+    let tree = output(alloc, channel, first, more, scope, faults)?;
+    Ok(output_form(tree))
+}
+
+/// What an input tells, and what it is.
+fn receiving(
+    alloc: Global,
+    behind: &Input,
+    scope: &Scope,
+    faults: &mut Items<Fault>,
+) -> Result<TypedForm, AllocError>
+    ensures form { IfOk result (λ form. form ≡ told_form scope.now (a.Input behind.now)) }
+    ensures faults { OnOk result (faults.new ≡ faults.old ++ action_faults scope.now (a.Input behind.now)) }
+{
+    let tree = input(alloc, behind, scope, faults)?;
+    Ok(input_form(tree))
 }

@@ -5,7 +5,7 @@ use super::form::{case_input_form, replicated_form, selection_form, while_form};
 use super::line::{main, over, plain, with_role};
 use super::parent::{Choosing, Line, Parent, Role};
 use super::tree::{BlockKind, TypedForm};
-use occ_base::{Fault, Items};
+use occ_base::{Boxed, Fault, Items};
 use occ_forms::{Construct, ConstructKind, Replicator};
 use occ_names::Scope;
 use occ_operands::Kind;
@@ -72,7 +72,7 @@ fn replicable(
     match written {
         None => {
             let under = with_role(role_of(word), &next);
-            Ok(plain(alloc, under, TypedForm::Block(block_of(word), None), next))
+            plain(alloc, under, TypedForm::Block(block_of(word), None), next)
         }
         Some(written) => {
             let construct = replicating_of(word);
@@ -85,20 +85,22 @@ fn replicable(
                 role: role_of(word),
                 rounds,
             };
-            Ok(over(under, enters, replicated_form(block_of(word), tree), next))
+            let form = replicated_form(block_of(word), tree);
+            over(alloc, under, enters, form, next)
         }
     }
 }
 
 /// A `CASE` with this selector, before its first option.
-fn choosing(alloc: Global, selector: Kind) -> Role
-    ensures { result ≡ told_choosing selector }
+fn choosing(alloc: Global, selector: Kind) -> Result<Role, AllocError>
+    ensures { IfOk result (λ role. role ≡ told_choosing selector) }
 {
-    Role::Selection(Choosing {
+    let choosing = Choosing {
         selector,
         numbers: BTreeSet::new(alloc),
         otherwise: false,
-    })
+    };
+    Ok(Role::Selection(Boxed::new(alloc, choosing)?))
 }
 
 /// The line of a construct.
@@ -118,17 +120,17 @@ pub fn construct(
         }
         Construct::While(expr) => {
             let tree = condition(alloc, expr, scope, faults)?;
-            Ok(main(alloc, while_form(tree), next))
+            main(alloc, while_form(tree), next)
         }
         Construct::Case(expr) => {
             let (kind, tree) = selector(alloc, expr, scope, faults)?;
-            let under = with_role(choosing(alloc, kind), &next);
-            Ok(plain(alloc, under, selection_form(tree), next))
+            let under = with_role(choosing(alloc, kind)?, &next);
+            plain(alloc, under, selection_form(tree), next)
         }
         Construct::CaseInput(channel) => {
             let (input, tree) = case_input(alloc, channel, scope, faults)?;
-            let under = with_role(Role::Variants(input), &next);
-            Ok(plain(alloc, under, case_input_form(tree), next))
+            let under = with_role(Role::Variants(Boxed::new(alloc, input)?), &next);
+            plain(alloc, under, case_input_form(tree), next)
         }
     }
 }

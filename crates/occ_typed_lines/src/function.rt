@@ -126,7 +126,7 @@ fn line_of_read(
     } = heading;
     let meaning = known_unless(told, faulty, meaning);
     let adds = one_entry(alloc, name, meaning)?;
-    Ok(line_of_one(alloc, adds, form_of(formals, trees), next))
+    line_of_one(alloc, adds, form_of(formals, trees), next)
 }
 
 /// A FUNCTION of one line: `t, .. FUNCTION n (formals) IS e, ..:`

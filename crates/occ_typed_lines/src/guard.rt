@@ -5,7 +5,7 @@ ghost use Rattle.std.specs.Prelude.{◌≡◌, ◌++◌, IfOk, OnOk};
 use super::line::{plain, with_role};
 use super::parent::{Line, Parent, Role};
 use super::tree::{TypedForm, TypedGuard};
-use occ_base::{Fault, Items, Shared};
+use occ_base::{Boxed, Fault, Items, Shared};
 use occ_expression_forms::Expr;
 use occ_forms::Guarded;
 use occ_names::Scope;
@@ -47,6 +47,7 @@ fn guarded(
         }
         Guarded::CaseInput(channel) => {
             let (input, tree) = case_input(alloc, channel, scope, faults)?;
+            let input = Boxed::new(alloc, input)?;
             Ok((Role::Variants(input), case_input_guard(tree)))
         }
     }
@@ -77,5 +78,5 @@ pub fn guarding(
     let tree = condition(alloc, expr, scope, faults)?;
     let (role, guard) = guarded(alloc, behind, scope, faults)?;
     let under = with_role(role, &next);
-    Ok(plain(alloc, under, guarded_form(tree, guard), next))
+    plain(alloc, under, guarded_form(tree, guard), next)
 }

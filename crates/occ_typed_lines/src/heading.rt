@@ -11,7 +11,7 @@ use super::parent::{Line, Parent, Role};
 use super::protocol::protocol_of;
 use super::record::record_of;
 use super::tree::TypedForm;
-use occ_base::{Diag, Fault, Items, Name};
+use occ_base::{Boxed, Diag, Fault, Items, Name};
 use occ_names::{Entry, Meaning, Scope, one_entry};
 use occ_specification_forms::Head;
 use occ_tree::Node;
@@ -33,7 +33,7 @@ fn headed(
     ensures { IfOk result (λ line. line ≡ record { parent = under; enters = enters; next = next; adds = Some (told_named name.now meaning); form = form }) }
 {
     let adds = one_entry(alloc, name, meaning)?;
-    Ok(specifying(under, enters, adds, form, next))
+    specifying(alloc, under, enters, adds, form, next)
 }
 
 /// The head of a record, with what the lines of its fields tell.
@@ -121,7 +121,7 @@ pub fn heading(
         }
         Head::Function(head) => {
             let known = function_head(alloc, head, scope, faults)?;
-            let under = body_of(Role::Function(known.results));
+            let under = body_of(Role::Function(Boxed::new(alloc, known.results)?));
             headed(
                 alloc,
                 &head.name,

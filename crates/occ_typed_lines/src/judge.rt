@@ -62,10 +62,10 @@ fn form_line(
         Form::Specified(specified) => {
             specifying_line(alloc, specified, nodes, scope, parent, found, faults)
         }
-        Form::Close => Ok(line_of_one(alloc, Items::new(alloc), TypedForm::Close, parent)),
+        Form::Close => line_of_one(alloc, Items::new(alloc), TypedForm::Close, parent),
         Form::Action(behind) => {
             let form = action(alloc, behind, scope, faults)?;
-            Ok(main(alloc, form, parent))
+            main(alloc, form, parent)
         }
         Form::Construct(behind) => construct(alloc, behind, scope, parent, faults),
         Form::Part(behind) => part(alloc, behind, scope, parent, faults),
@@ -101,9 +101,9 @@ fn line(
         ExpandedBody::Uses(units) => {
             let interfaces = interfaces(alloc, imports, units.as_slice())?;
             let adds = imported(alloc, interfaces.as_slice())?;
-            Ok(line_of_one(alloc, adds, TypedForm::Uses(interfaces), parent))
+            line_of_one(alloc, adds, TypedForm::Uses(interfaces), parent)
         }
-        ExpandedBody::Fault(_) => Ok(main(alloc, TypedForm::Unknown, parent)),
+        ExpandedBody::Fault(_) => main(alloc, TypedForm::Unknown, parent),
     }
 }
 
@@ -123,8 +123,8 @@ fn is_told_with_head(role: &Role) -> bool
 }
 
 /// A line that is told with the head over it.
-fn member(alloc: Global, parent: Parent) -> Line
-    ensures { result ≡ (told_member parent).line }
+fn member(alloc: Global, parent: Parent) -> Result<Line, AllocError>
+    ensures { IfOk result (λ one. one ≡ (told_member parent).line) }
 {
     let under = with_role(Role::Members, &parent);
     plain(alloc, under, TypedForm::Member, parent)
@@ -149,7 +149,7 @@ pub fn judged(
     ensures faults { OnOk result (faults.new ≡ faults.old ++ (told_judged imports.now scope.old body.now (forest_of nodes.now) parent).faults) }
 {
     if is_told_with_head(&parent.role) {
-        return Ok(member(alloc, parent));
+        return member(alloc, parent);
     }
     line(alloc, imports, body, nodes, scope, parent, found, faults)
 }

@@ -1,11 +1,11 @@
 ghost use Rattle.occ_typed_lines.specs.Lines.{body_of as told_body, main as told_main, over as told_over, processes_in as told_processes, specifying as told_specifying, with_role as told_role};
-ghost use Rattle.std.specs.Prelude.{◌≡◌, [], Some};
+ghost use Rattle.std.specs.Prelude.{◌≡◌, [], IfOk, Some};
 
 use super::parent::{Line, Parent, Role};
 use super::tree::TypedForm;
-use occ_base::Items;
+use occ_base::{Boxed, Items};
 use occ_names::Entry;
-use std::alloc::Global;
+use std::alloc::{AllocError, Global};
 
 /// Lines that stand as often as others do, of which this is said.
 pub fn with_role(role: Role, beside: &Parent) -> Parent
@@ -32,55 +32,74 @@ pub fn body_of(role: Role) -> Parent
 }
 
 /// A main line, which says this of the lines under it.
-pub fn over(under: Parent, enters: Items<Entry>, form: TypedForm, next: Parent) -> Line
-    ensures { result ≡ (told_over [] under enters form next).line }
+pub fn over(
+    alloc: Global,
+    under: Parent,
+    enters: Items<Entry>,
+    form: TypedForm,
+    next: Parent,
+) -> Result<Line, AllocError>
+    ensures { IfOk result (λ line. line ≡ (told_over [] under enters form next).line) }
 {
-    Line {
+    let form = Boxed::new(alloc, form)?;
+    Ok(Line {
         parent: under,
         enters,
         next,
         adds: None,
         form,
-    }
+    })
 }
 
 /// A main line without names of its own, which says this of the lines under it.
-pub fn plain(alloc: Global, under: Parent, form: TypedForm, next: Parent) -> Line
-    ensures { result ≡ (told_over [] under [] form next).line }
+pub fn plain(
+    alloc: Global,
+    under: Parent,
+    form: TypedForm,
+    next: Parent,
+) -> Result<Line, AllocError>
+    ensures { IfOk result (λ line. line ≡ (told_over [] under [] form next).line) }
 {
-    over(under, Items::new(alloc), form, next)
+    over(alloc, under, Items::new(alloc), form, next)
 }
 
 /// A main line over processes, if over anything.
-pub fn main(alloc: Global, form: TypedForm, next: Parent) -> Line
-    ensures { result ≡ (told_main [] form next).line }
+pub fn main(alloc: Global, form: TypedForm, next: Parent) -> Result<Line, AllocError>
+    ensures { IfOk result (λ line. line ≡ (told_main [] form next).line) }
 {
     plain(alloc, processes_in(&next), form, next)
 }
 
 /// A specification, which says this of the lines under it.
 pub fn specifying(
+    alloc: Global,
     under: Parent,
     enters: Items<Entry>,
     adds: Items<Entry>,
     form: TypedForm,
     next: Parent,
-) -> Line
-    ensures { result ≡ record { parent = under; enters = enters; next = next; adds = Some adds; form = form } }
+) -> Result<Line, AllocError>
+    ensures { IfOk result (λ line. line ≡ record { parent = under; enters = enters; next = next; adds = Some adds; form = form }) }
 {
-    Line {
+    let form = Boxed::new(alloc, form)?;
+    Ok(Line {
         parent: under,
         enters,
         next,
         adds: Some(adds),
         form,
-    }
+    })
 }
 
 /// A specification of one line.
-pub fn line_of_one(alloc: Global, adds: Items<Entry>, form: TypedForm, next: Parent) -> Line
-    ensures { result ≡ (told_specifying [] adds form next).line }
+pub fn line_of_one(
+    alloc: Global,
+    adds: Items<Entry>,
+    form: TypedForm,
+    next: Parent,
+) -> Result<Line, AllocError>
+    ensures { IfOk result (λ line. line ≡ (told_specifying [] adds form next).line) }
 {
     let under = processes_in(&next);
-    specifying(under, Items::new(alloc), adds, form, next)
+    specifying(alloc, under, Items::new(alloc), adds, form, next)
 }

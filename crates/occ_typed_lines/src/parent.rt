@@ -1,5 +1,5 @@
 use super::tree::TypedForm;
-use occ_base::Items;
+use occ_base::{Boxed, Items};
 use occ_names::Entry;
 use occ_operands::Kind;
 use occ_typed_exchanges::CaseInput;
@@ -27,11 +27,11 @@ pub enum Role {
     /// The alternatives of an `ALT`.
     Alternation,
     /// The options of a `CASE`.
-    Selection(Choosing),
+    Selection(Boxed<Choosing>),
     /// The variants of a case input.
-    Variants(CaseInput),
+    Variants(Boxed<CaseInput>),
     /// The body of a FUNCTION, with the results that its head lets expect.
-    Function(Expected),
+    Function(Boxed<Expected>),
     /// The lines of a record or of a protocol, which are told with its head.
     Members,
 }
@@ -56,5 +56,5 @@ pub struct Line {
     /// What comes into scope behind it, if it is a specification; else it ends the scope of those of its item.
     pub adds: Option<Items<Entry>>,
     /// What it is, once its names and expressions are typed.
-    pub form: TypedForm,
+    pub form: Boxed<TypedForm>,
 }

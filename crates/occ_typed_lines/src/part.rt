@@ -8,7 +8,7 @@ use super::line::{main, plain};
 use super::parent::{Choosing, Line, Parent, Role};
 use super::tree::TypedForm;
 use super::variant::{of_role, variant_named};
-use occ_base::{Code, Fault, Items, Shared, tell};
+use occ_base::{Boxed, Code, Fault, Items, Shared, tell};
 use occ_expression_forms::Expr;
 use occ_forms::Part;
 use occ_names::Scope;
@@ -40,8 +40,8 @@ fn option(
         scope,
         faults,
     )?;
-    let next = of_role(rounds, Role::Selection(choosing));
-    Ok(main(alloc, options_form(trees), next))
+    let next = of_role(rounds, Role::Selection(Boxed::new(alloc, choosing)?));
+    main(alloc, options_form(trees), next)
 }
 
 /// T8 is told of a second `ELSE`.
@@ -70,8 +70,8 @@ fn else_option(
         numbers: choosing.numbers,
         otherwise: true,
     };
-    let next = of_role(rounds, Role::Selection(choosing));
-    Ok(main(alloc, TypedForm::Otherwise, next))
+    let next = of_role(rounds, Role::Selection(Boxed::new(alloc, choosing)?));
+    main(alloc, TypedForm::Otherwise, next)
 }
 
 /// The results of a FUNCTION, with which no types are compared where its head has a fault: whether one of them has a
@@ -110,7 +110,7 @@ fn instance_line(
     ensures faults { OnOk result (faults.new ≡ faults.old ++ (told_instance_line scope.now (first.now ∷ more.now) next).faults) }
 {
     let tree = instance(alloc, first, more, scope, faults)?;
-    Ok(main(alloc, instance_form(tree), next))
+    main(alloc, instance_form(tree), next)
 }
 
 /// A line of expressions: a condition, options, a variant without parts, or an instance of a procedure.
@@ -138,13 +138,23 @@ pub fn expressions(
         Role::Conditional => {
             let tree = condition(alloc, first, scope, faults)?;
             let next = of_role(rounds, Role::Conditional);
-            Ok(main(alloc, condition_form(tree), next))
+            main(alloc, condition_form(tree), next)
         }
-        Role::Selection(choosing) => { option(alloc, first, more, choosing, rounds, scope, faults) }
-        Role::Variants(input) => variant_named(alloc, input, rounds, first, scope, faults),
+        Role::Selection(choosing) => option(
+            alloc,
+            first,
+            more,
+            choosing.into_inner(),
+            rounds,
+            scope,
+            faults,
+        ),
+        Role::Variants(input) => {
+            variant_named(alloc, input.into_inner(), rounds, first, scope, faults)
+        }
         role => {
             tell(faults, Code::S1)?;
-            Ok(main(alloc, TypedForm::Unknown, of_role(rounds, role)))
+            main(alloc, TypedForm::Unknown, of_role(rounds, role))
         }
     }
 }
@@ -156,14 +166,14 @@ fn otherwise(alloc: Global, parent: Parent, faults: &mut Items<Fault>) -> Result
 {
     let Parent { role, rounds } = parent;
     match role {
-        Role::Selection(choosing) => else_option(alloc, choosing, rounds, faults),
-        role => Ok(main(alloc, TypedForm::Otherwise, of_role(rounds, role))),
+        Role::Selection(choosing) => else_option(alloc, choosing.into_inner(), rounds, faults),
+        role => main(alloc, TypedForm::Otherwise, of_role(rounds, role)),
     }
 }
 
 /// A `VALOF`.
-fn valued(alloc: Global, parent: Parent) -> Line
-    ensures line { result ≡ (told_valued parent).line }
+fn valued(alloc: Global, parent: Parent) -> Result<Line, AllocError>
+    ensures line { IfOk result (λ line. line ≡ (told_valued parent).line) }
     ensures faults { (told_valued parent).faults ≡ [] }
 {
     let Parent { role, rounds } = parent;
@@ -196,11 +206,11 @@ fn resulting(
     let Parent { role, rounds } = parent;
     match role {
         Role::Function(wanted) => {
-            let (_, trees) = results_of(alloc, first, more, &wanted, scope, faults)?;
+            let (_, trees) = results_of(alloc, first, more, wanted.get(), scope, faults)?;
             let next = of_role(rounds, Role::Function(wanted));
-            Ok(main(alloc, results_form(trees), next))
+            main(alloc, results_form(trees), next)
         }
-        role => Ok(main(alloc, TypedForm::Unknown, of_role(rounds, role))),
+        role => main(alloc, TypedForm::Unknown, of_role(rounds, role)),
     }
 }
 
@@ -218,15 +228,15 @@ pub fn part(
     match part {
         Part::Case => {
             tell(faults, Code::S1)?;
-            Ok(main(alloc, TypedForm::Unknown, parent))
+            main(alloc, TypedForm::Unknown, parent)
         }
         Part::Else => otherwise(alloc, parent, faults),
-        Part::ValueOf => Ok(valued(alloc, parent)),
+        Part::ValueOf => valued(alloc, parent),
         Part::Result(first, more) => {
             resulting(alloc, first, more.as_slice(), scope, parent, faults)
         }
-        Part::Record => Ok(main(alloc, TypedForm::Member, parent)),
-        Part::PackedRecord => Ok(main(alloc, TypedForm::Member, parent)),
+        Part::Record => main(alloc, TypedForm::Member, parent),
+        Part::PackedRecord => main(alloc, TypedForm::Member, parent),
         Part::Guard(condition, behind) => {
             guarding(alloc, condition, behind, scope, parent, faults)
         }

@@ -38,7 +38,7 @@ fn abbreviation_line(
     ensures faults { OnOk result (faults.new ≡ faults.old ++ (told_abbreviation scope.now of.now name.now element.now).faults) }
 {
     let ElementLine { adds, tree } = abbreviation(alloc, of, name, element, scope, faults)?;
-    Ok(line_of_one(alloc, adds, abbreviation_form(tree), next))
+    line_of_one(alloc, adds, abbreviation_form(tree), next)
 }
 
 /// A name for an element, of another type.
@@ -56,7 +56,7 @@ fn recast_element_line(
     ensures faults { OnOk result (faults.new ≡ faults.old ++ (told_recast_element scope.now how of.now name.now element.now).faults) }
 {
     let ElementLine { adds, tree } = recast_element(alloc, how, of, name, element, scope, faults)?;
-    Ok(line_of_one(alloc, adds, retyped_form(tree), next))
+    line_of_one(alloc, adds, retyped_form(tree), next)
 }
 
 /// A name for a value, of another type.
@@ -74,7 +74,7 @@ fn recast_value_line(
     ensures faults { OnOk result (faults.new ≡ faults.old ++ (told_recast_value scope.now how of.now name.now expr.now).faults) }
 {
     let ValueLine { adds, tree } = recast_value(alloc, how, of, name, expr, scope, faults)?;
-    Ok(line_of_one(alloc, adds, retyped_value_form(tree), next))
+    line_of_one(alloc, adds, retyped_value_form(tree), next)
 }
 
 /// A declaration.
@@ -91,7 +91,7 @@ fn declaration_line(
     ensures faults { OnOk result (faults.new ≡ faults.old ++ (told_declaration scope.now of.now first.now more.now).faults) }
 {
     let adds = declaration(alloc, of, first, more, scope, faults)?;
-    Ok(line_of_one(alloc, adds, TypedForm::Declaration, next))
+    line_of_one(alloc, adds, TypedForm::Declaration, next)
 }
 
 /// A `VAL` form.
@@ -108,7 +108,7 @@ fn value_line(
     ensures faults { OnOk result (faults.new ≡ faults.old ++ (told_value scope.now of.now name.now expr.now).faults) }
 {
     let ValueLine { adds, tree } = value(alloc, of, name, expr, scope, faults)?;
-    Ok(line_of_one(alloc, adds, value_form(tree), next))
+    line_of_one(alloc, adds, value_form(tree), next)
 }
 
 /// A data type of one line.
@@ -124,7 +124,7 @@ fn data_type_line(
     ensures faults { OnOk result (faults.new ≡ faults.old ++ (told_data_type scope.now name.now of.now).faults) }
 {
     let adds = data_type(alloc, name, of, scope, faults)?;
-    Ok(line_of_one(alloc, adds, TypedForm::DataType, next))
+    line_of_one(alloc, adds, TypedForm::DataType, next)
 }
 
 /// A protocol of one line.
@@ -141,7 +141,7 @@ fn protocol_line(
     ensures faults { OnOk result (faults.new ≡ faults.old ++ (told_protocol scope.now name.now (first.now ∷ more.now)).faults) }
 {
     let adds = protocol(alloc, name, first, more, scope, faults)?;
-    Ok(line_of_one(alloc, adds, TypedForm::Protocol, next))
+    line_of_one(alloc, adds, TypedForm::Protocol, next)
 }
 
 /// A specification of one line.

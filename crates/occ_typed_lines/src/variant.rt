@@ -6,7 +6,7 @@ use super::form::variant_form;
 use super::line::main;
 use super::parent::{Line, Parent, Role};
 use super::tree::TypedForm;
-use occ_base::{Code, Fault, Items, Name, tell};
+use occ_base::{Boxed, Code, Fault, Items, Name, tell};
 use occ_expr::name_alone;
 use occ_expression_forms::Expr;
 use occ_forms::Detail;
@@ -37,8 +37,8 @@ fn variant(
     ensures faults { OnOk result (faults.new ≡ faults.old ++ (told_variant scope.now input rounds tag.now (first.now ++ more.now)).faults) }
 {
     let tree = judge_variant(alloc, &mut input, tag, first, more, scope, faults)?;
-    let next = of_role(rounds, Role::Variants(input));
-    Ok(main(alloc, variant_form(tree), next))
+    let next = of_role(rounds, Role::Variants(Boxed::new(alloc, input)?));
+    main(alloc, variant_form(tree), next)
 }
 
 /// A variant that is a name alone.
@@ -57,8 +57,8 @@ pub fn variant_named(
         Some(tag) => variant(alloc, input, rounds, tag, &[], &[], scope, faults),
         None => {
             tell(faults, Code::S1)?;
-            let next = of_role(rounds, Role::Variants(input));
-            Ok(main(alloc, TypedForm::Unknown, next))
+            let next = of_role(rounds, Role::Variants(Boxed::new(alloc, input)?));
+            main(alloc, TypedForm::Unknown, next)
         }
     }
 }
@@ -80,11 +80,20 @@ pub fn tagged(
     match role {
         Role::Variants(input) => {
             let first = slice::from_ref(first);
-            variant(alloc, input, rounds, name, first, more, scope, faults)
+            variant(
+                alloc,
+                input.into_inner(),
+                rounds,
+                name,
+                first,
+                more,
+                scope,
+                faults,
+            )
         }
         role => {
             tell(faults, Code::S1)?;
-            Ok(main(alloc, TypedForm::Unknown, of_role(rounds, role)))
+            main(alloc, TypedForm::Unknown, of_role(rounds, role))
         }
     }
 }

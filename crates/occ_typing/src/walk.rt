@@ -148,7 +148,6 @@ fn open(
         adds,
         form,
     } = line;
-    let form = Boxed::new(alloc, form)?;
     let opened = Opened {
         place: node.line.place(),
         process,
