@@ -113,7 +113,7 @@ abbrev pub expanded_number : List Read → Option Entry → ℕ
 expanded_number files None = 0
 expanded_number files (Some e) = length (readers files (edited 0 e.edit).name)
 
--- how many units the last edit made to be expanded anew: those that have its file among their reads; 0 before any edit
+-- how many open units have the file of the last edit among their reads, and so had to be expanded anew; 0 before any edit
 abbrev pub expanded_answer : State → ℕ
 expanded_answer s = expanded_number (files_of s) (slice_get s.journal (length s.journal - 1))
 

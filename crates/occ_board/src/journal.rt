@@ -60,8 +60,8 @@ pub fn refusal(project: &Project, opened: usize, accepted: usize, edit: &Edit) -
     }
 }
 
-/// How many files are open behind an edit that is not refused, where so many are before it, and this tells whether its own is
-/// counted.
+/// How many open files of a sort there are behind an edit that is not refused, where there are so many before it, and this
+/// tells whether the edit's file is of that sort.
 pub fn count_behind(count: usize, edit: &Edit, is_counted: bool) -> usize
     requires most { count < 2 ^ 62 }
     requires least { (name : List ℕ) → edit.now ≡ an_edit.Removed name → IsTrue is_counted → 0 < count }

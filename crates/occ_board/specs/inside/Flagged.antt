@@ -33,12 +33,12 @@ IsFull files kept flags n = (p : ℕ) → p < n → IsFullAt files kept flags p
 abbrev pub AreFlags : List Read → List Input → List Bool → Type 0
 AreFlags files kept flags = (u : List ℕ) → flag_of files flags u ≡ done files kept u
 
--- how many are not set
+-- how many are not set: those of includes and of absent files too
 abbrev pub unflagged : List Bool → ℕ
 unflagged [] = 0
 unflagged (flag ∷ flags) = cond flag 0 1 + unflagged flags
 
--- how many are set
+-- how many are set: of those of the units that are done, so many open units are not pending
 abbrev pub flagged : List Bool → ℕ
 flagged [] = 0
 flagged (flag ∷ flags) = cond flag 1 0 + flagged flags

@@ -1,10 +1,9 @@
--- What a board keeps.
-use Rattle.std.specs.Prelude.{◌≡◌, ◌≤◌, ◌+◌, ◌-◌, ℕ, Bool, true, cond, List, [], ◌∷◌, length, Option, Some, None, if◌then◌else◌}
+-- What holds of what a board keeps.
+use Rattle.std.specs.Prelude.{◌≡◌, ◌≤◌, ◌+◌, ◌-◌, ℕ, suc, Bool, true, cond, List, [], ◌∷◌, length, Option, Some, None, if◌then◌else◌}
 use Rattle.std.specs.List.{AllByRecursion}
 use Rattle.std.specs.BTreeMap.{BTreeMap, get}
 use Rattle.std.specs.Option.{option_map}
 use Rattle.std.specs.Str.{bytes_eq}
-use Rattle.std.specs.Prelude.{suc}
 use Rattle.occ_base.specs.FileName.{is_unit}
 use Rattle.occ_board.specs.Journal.{IsLegal, open_number, replay}
 use Rattle.occ_board.specs.declared.entry.Edit.{Edit}
@@ -24,7 +23,9 @@ pub record IsBoard (journal : List Entry) (kept : List Input) (files : List Read
   pub spelled : AreSpelled files
   pub len : length flags ≡ length files
   pub flags_are : AreFlags files kept flags
+  -- of units alone, open or not
   pub of_units : AllByRecursion (λ i. is_unit i.unit ≡ true) kept
+  -- how many files are open, includes too, and how many of them are units
   pub opened_are : opened ≡ open_number files
   pub units_are : units ≡ length (open_units files)
 
@@ -37,9 +38,8 @@ place_in (i ∷ is) u = if bytes_eq i.unit u then Some 0 else option_map suc (pl
 abbrev pub ArePlaces : BTreeMap (List ℕ) ℕ → List Input → Type 0
 ArePlaces places kept = (u : List ℕ) → get name_cmp places u ≡ place_in kept u
 
--- how many files are open behind an edit that is not refused, where so many are before it, and this tells whether its own is
--- counted
+-- how many open files of a sort there are behind an edit that is not refused, n before it; the edit's file is of that sort, or is not
 abbrev pub count_then : Bool → ℕ → Edit → ℕ
-count_then counted n (edit.Added name source) = n + cond counted 1 0
-count_then counted n (edit.Changed name source) = n
-count_then counted n (edit.Removed name) = n - cond counted 1 0
+count_then of_it n (edit.Added name source) = n + cond of_it 1 0
+count_then of_it n (edit.Changed name source) = n
+count_then of_it n (edit.Removed name) = n - cond of_it 1 0

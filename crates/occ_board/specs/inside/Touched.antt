@@ -1,4 +1,4 @@
--- Marks of the files that an edit may concern.
+-- Marks of files, among them at least those that an edit may concern.
 use Rattle.std.specs.Prelude.{◌≡◌, ℕ, Bool, true, false, List, get_or}
 use Rattle.occ_graph.specs.Graph.{Graph, has_edge, is_among}
 
@@ -6,6 +6,6 @@ use Rattle.occ_graph.specs.Graph.{Graph, has_edge, is_among}
 abbrev pub IsClosed : Graph → List Bool → Type 0
 IsClosed g marks = (p q : ℕ) → has_edge g p q ≡ true → get_or marks q false ≡ true → get_or marks p false ≡ true
 
--- the places are those of the marks
+-- the places are exactly the marked ones, in any order
 abbrev pub AreMarked : List Bool → List ℕ → Type 0
 AreMarked marks places = (p : ℕ) → is_among places p ≡ get_or marks p false
