@@ -5,7 +5,7 @@ ghost use Rattle.std.specs.Cmp.Lexicographic.{slice_cmp};
 ghost use Rattle.std.specs.Cmp.Rules.{comparing};
 ghost use Rattle.std.specs.List.{list_all};
 ghost use Rattle.std.specs.Ordering.{as_partial_cmp, nat_cmp};
-ghost use Rattle.std.specs.Prelude.{◌≡◌, ◌≤◌, IfOk, length};
+ghost use Rattle.std.specs.Prelude.{◌≡◌, ◌≤◌, ◌↔◌, IfOk, IsTrue, length};
 ghost use Rattle.std.specs.Result.{result_err};
 ghost use Rattle.std.specs.Str.{bytes_eq};
 ghost use Rattle.occ_base.specs.FileName.{IsFileName, has_length as a_length, has_suffix as a_suffix, is_file_byte as a_file_byte, is_unit, name_fault};
@@ -137,9 +137,28 @@ fn held(bytes: &[u8]) -> FileName
     }
 }
 
-/// Whether the bytes of two names are the same, one after the other. Names are short, so that this costs less than a
-/// comparison of slices.
+/// Whether eight bytes are the same as eight others.
+fn are_same_word(a: &[u8; 8], b: &[u8; 8]) -> bool
+    ensures { IsTrue result ↔ (a.now ≡ b.now) }
+{
+    u64::from_le_bytes(*a) == u64::from_le_bytes(*b)
+}
+
+/// Whether the bytes of two names are the same: where both have eight the first eight at once, the others one after the other.
+/// Names are short, so that this costs less than a comparison of slices.
 fn are_same(a: &[u8], b: &[u8]) -> bool
+    ensures { result ≡ bytes_eq a.now b.now }
+{
+    match (a.split_first_chunk::<8>(), b.split_first_chunk::<8>()) {
+        (Some((word, rest)), Some((other, others))) => {
+            are_same_word(word, other) && are_same_bytes(rest, others)
+        }
+        _ => are_same_bytes(a, b),
+    }
+}
+
+/// Whether the bytes are the same, one after the other.
+fn are_same_bytes(a: &[u8], b: &[u8]) -> bool
     ensures { result ≡ bytes_eq a.now b.now }
 {
     let mut rest = b;

@@ -7,7 +7,7 @@ use std::alloc::{AllocError, Global};
 pub fn one_item<T: Drop>(alloc: Global, item: T) -> Result<Items<T>, AllocError>
     ensures { IfOk result (λ items. items ≡ item ∷ []) }
 {
-    let mut items = Items::new(alloc);
+    let mut items = Items::from_vec(Vec::with_capacity(alloc, 1)?);
     items.push(item)?;
     Ok(items)
 }

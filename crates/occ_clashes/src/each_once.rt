@@ -73,12 +73,13 @@ fn bucket_in(one: &Use, links: &Links) -> usize
     bucket_of(one, links.heads.len())
 }
 
-/// Whether a use is found already.
-fn is_found(one: &Use, links: &Links, found: &[Use]) -> bool
-    requires { IsLinked links.now.heads.items links.now.before.items found.now }
+/// Whether a use, which belongs in this bucket, is found already.
+fn is_found(one: &Use, bucket: usize, links: &Links, found: &[Use]) -> bool
+    requires linked { IsLinked links.now.heads.items links.now.before.items found.now }
+    requires bucket { bucket ≡ told_bucket one.now (length links.now.heads.items) }
     ensures { result ≡ is_among found.now one.now }
 {
-    let mut next = linked(links.heads.as_slice(), bucket_in(one, links));
+    let mut next = linked(links.heads.as_slice(), bucket);
     while let Some(place) = next.checked_sub(1) {
         if is_at(found, place, one) {
             return true;
@@ -94,10 +95,10 @@ pub(crate) fn add(one: Use, links: &mut Links, found: &mut Items<Use>) -> Result
     ensures found { OnOk result (found.new ≡ added one found.old) }
     ensures links { OnOk result (IsLinked links.new.heads.items links.new.before.items found.new) }
 {
-    if is_found(&one, links, found.as_slice()) {
+    let bucket = bucket_in(&one, links);
+    if is_found(&one, bucket, links, found.as_slice()) {
         return Ok(());
     }
-    let bucket = bucket_in(&one, links);
     links.note(bucket, found.len())?;
     found.push(one)
 }

@@ -383,3 +383,18 @@ module _ (g : Graph) (p : ℕ) (ws : List ℕ) (h : p ≤ length g) where
       ∙ ap (λ (us : List ℕ). map (raised p) (sources_from 0 (take p g) v) ++ us) (behind_is v ∙ from_next p (drop p g) v ∙ from_mapped (λ u. u + 1) (raised p) p (drop p g) v (λ u a b. sym (raised_above p u a)))
       ∙ sym (map-append (raised p) (sources_from 0 (take p g) v) (sources_from p (drop p g) v))
       ∙ ap (map (raised p)) (sym (split v))
+
+-- behind the last node one comes without moving any
+stay : (p : ℕ) (ws : List ℕ) → ((v : ℕ) → is_among ws v ≡ true → v < p) → map (raised p) ws ≡ ws
+stay p [] few = refl
+stay p (w ∷ ws) few =
+    ap (λ (v : ℕ). v ∷ map (raised p) ws) (raised_below p w (few w (ap (λ (b : Bool). b || is_among ws w) (eq-eqb w w refl))))
+    ∙ ap (λ (vs : List ℕ). w ∷ vs) (stay p ws (λ v h. few v (later (w == v) (is_among ws v) h)))
+  where
+    later : (b c : Bool) → c ≡ true → (b || c) ≡ true
+    later true c h = refl
+    later false c h = h
+
+pub all_stay : (p : ℕ) (g : Graph) → ((u v : ℕ) → has_edge g u v ≡ true → v < p) → map (map (raised p)) g ≡ g
+all_stay p [] few = refl
+all_stay p (ws ∷ g) few = ap (λ (vs : List ℕ). vs ∷ map (map (raised p)) g) (stay p ws (few 0)) ∙ ap (λ (h : Graph). ws ∷ h) (all_stay p g (λ u. few (suc u)))

@@ -47,6 +47,23 @@ fn raise_row(rows: &mut Vec<Items<usize>>, node: usize, at: usize, count: usize)
     raise_all(&mut rows[node], at, count);
 }
 
+/// The nodes of all rows have the places that they have then. Behind the last node one comes without moving any.
+fn raise_rows(rows: &mut Vec<Items<usize>>, at: usize)
+    requires place { at ≤ vec_len rows.old }
+    requires whole { IsWhole rows.old.items }
+    ensures items { rows.new.items ≡ map (map (place_then at)) rows.old.items }
+    ensures len { vec_len rows.new ≡ vec_len rows.old }
+    ensures room { vec_capacity rows.new ≡ vec_capacity rows.old }
+{
+    let count = rows.len();
+    if at == count {
+        return;
+    }
+    for node in 0..count {
+        raise_row(rows, node, at, count);
+    }
+}
+
 /// One node more comes to a place, with this row.
 pub fn add_row(rows: &mut Vec<Items<usize>>, at: usize, row: Items<usize>)
     requires place { at ≤ vec_len rows.old }
@@ -54,10 +71,7 @@ pub fn add_row(rows: &mut Vec<Items<usize>>, at: usize, row: Items<usize>)
     requires whole { IsWhole rows.old.items }
     ensures { rows.new.items ≡ with_node rows.old.items at row }
 {
-    let count = rows.len();
-    for node in 0..count {
-        raise_row(rows, node, at, count);
-    }
+    raise_rows(rows, at);
     let _ = rows.insert(at, row);
 }
 

@@ -18,6 +18,9 @@ use crate::tokens;
 use occ_base::{Code, Items};
 use std::alloc::{AllocError, Global};
 
+/// For so many tokens there is room where a line begins: more than most lines have.
+const ROOM: usize = 16;
+
 /// The logical lines that are found, and the statement that is open behind them.
 type Found = (Items<Logical>, Option<Statement>);
 
@@ -112,7 +115,10 @@ fn fresh(
     }
     match directive_of(after_blanks(line)) {
         Some(directive) => Ok((directed(alloc, found, number, directive, line)?, None)),
-        None => continued(alloc, found, number, column(line), Items::new(alloc), line),
+        None => {
+            let tokens = Items::from_vec(Vec::with_capacity(alloc, ROOM)?);
+            continued(alloc, found, number, column(line), tokens, line)
+        }
     }
 }
 

@@ -108,20 +108,21 @@ fn find_joined(kept: &[Items<PartSelector>], part: &[PartSelector]) -> Option<(u
     ensures within { IfSome result (λ found. found.0 < length kept.now) }
     ensures joins { IfSome result (λ found. (one : List ASelector) × (slice_get kept.now found.0 ≡ Some one) × Joins one part.now found.1) }
 {
+    let (front, last) = split(part)?;
     for (at, one) in kept.iter().enumerate() {
-        if let Some(places) = join(one.as_slice(), part) {
+        if let Some(places) = join(one.as_slice(), front, last) {
             return Some((at, places));
         }
     }
     None
 }
 
-/// The places of the last intervals of two parts that agree before these, if they follow one another.
-fn join(a: &[PartSelector], b: &[PartSelector]) -> Option<Places>
-    ensures { IfSome result (λ both. Joins a.now b.now both) }
+/// The places of the last intervals of two parts, the second behind its front, if they agree before these and the intervals
+/// follow one another.
+fn join(a: &[PartSelector], other_front: &[PartSelector], other: Interval) -> Option<Places>
+    ensures { IfSome result (λ both. Joins a.now (behind other_front.now other) both) }
 {
     let (front, one) = split(a)?;
-    let (other_front, other) = split(b)?;
     if !are_same(front, other_front) {
         return None;
     }

@@ -44,6 +44,18 @@ impl Place {
         }
     }
 
+    /// The same, with room for so many selectors.
+    pub fn with_room(alloc: Global, root: usize, room: usize) -> Result<Place, AllocError>
+        ensures { IfOk result (λ place. place ≡ the_whole root) }
+    {
+        Ok(Place {
+            root,
+            chain: Items::new(alloc),
+            selectors: Items::from_vec(Vec::with_capacity(alloc, room)?),
+            ending: Ending::Plain,
+        })
+    }
+
     /// From now on it is the field of that name.
     pub fn select_field(&mut self, name: Name) -> Result<(), AllocError>
         ensures { OnOk result (self.new ≡ the_field self.old name) }

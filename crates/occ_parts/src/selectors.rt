@@ -32,7 +32,7 @@ pub(crate) fn add_copies(
 pub fn copies(alloc: Global, selectors: &[PartSelector]) -> Result<Items<PartSelector>, AllocError>
     ensures { IfOk result (λ copies. copies ≡ selectors.now) }
 {
-    let mut all = Items::new(alloc);
+    let mut all = Items::from_vec(Vec::with_capacity(alloc, selectors.len())?);
     add_copies(alloc, selectors, &mut all)?;
     Ok(all)
 }

@@ -35,7 +35,7 @@ pub fn nest(alloc: Global, lines: Items<ExpandedLine>) -> Result<Stack<Node>, Al
     ensures { IfOk result (λ roots. forest_of roots ≡ nested lines) }
 {
     let mut left = lines;
-    let mut roots = Stack::new(alloc);
+    let mut roots = Stack::with_room(alloc, left.len())?;
     while let Some(line) = left.pop() {
         let children = take_deeper(alloc, line.depth, &mut roots)?;
         roots.push(Node { line, children })?;

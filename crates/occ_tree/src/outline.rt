@@ -269,7 +269,7 @@ impl Outline {
 pub fn find_outlines(alloc: Global, lines: &[ExpandedLine]) -> Result<Items<Outline>, AllocError>
     ensures { IfOk result (λ found. found ≡ outlines lines.now) }
 {
-    let mut found = Items::new(alloc);
+    let mut found = Items::from_vec(Vec::with_capacity(alloc, lines.len())?);
     for line in lines {
         found.push(Outline::of(line))?;
     }

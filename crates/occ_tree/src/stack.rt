@@ -30,6 +30,15 @@ impl<T> Stack<T> {
         }
     }
 
+    /// With room for so many.
+    pub fn with_room(alloc: Global, room: usize) -> Result<Stack<T>, AllocError>
+        ensures { IfOk result (λ stack. stack ≡ []) }
+    {
+        Ok(Stack {
+            items: Items::from_vec(Vec::with_capacity(alloc, room)?),
+        })
+    }
+
     /// What lies on top.
     #[tactic(auto, using(crate::proofs::Reversed::reversed_last))]
     pub fn top(&self) -> Option<&T>

@@ -1,4 +1,4 @@
-use Rattle.std.proofs.Common.{rules, ◌≡◌, ◌+◌, ℕ, true, false, sym, subst, length, slice_get}
+use Rattle.std.proofs.Common.{rules, ◌≡◌, ◌∙◌, ◌+◌, ℕ, true, false, ap, sym, subst, length, slice_get}
 use Rattle.occ_clashes.specs.inside.Linking.{is_use, linked}
 use Rattle.occ_clashes.specs.inside.Numbering.{bucket_of}
 use Rattle.occ_clashes.proofs.Looking.{IsClear, clear_first, clear_found, clear_next, clear_none}
@@ -6,9 +6,11 @@ use Rattle.occ_clashes.proofs.each_once.is_found.Goals as goal
 
 pub loop-place-init : goal.loop-place-init
 loop-place-init c =
-    let is : c.linked-next.result ≡ linked c.args.links.now.heads.items (bucket_of c.args.one.now (length c.args.links.now.heads.items)) = search rules in
+    let heads = c.args.links.now.heads.items in
+    let told : c.linked-next.result ≡ linked heads c.args.bucket = search rules in
+    let is : c.linked-next.result ≡ linked heads (bucket_of c.args.one.now (length heads)) = told ∙ ap (linked heads) c.requires.bucket in
     subst (λ (n : ℕ). IsClear c.args.one.now (length c.args.links.now.heads.items) c.args.found.now n) (sym is)
-    (clear_first c.args.links.now.heads.items c.args.links.now.before.items c.args.found.now c.args.one.now c.requires)
+    (clear_first c.args.links.now.heads.items c.args.links.now.before.items c.args.found.now c.args.one.now c.requires.linked)
 
 pub returns-then-is_at : goal.returns-then-is_at
 returns-then-is_at c =
@@ -21,7 +23,7 @@ loop-place-preserved c =
     let next : c.loop-place.next ≡ c.in-Some.place + 1 = search rules in
     let is : c.linked-next-in-Some.result ≡ linked c.args.links.now.before.items c.in-Some.place = search rules in
     subst (λ (n : ℕ). IsClear c.args.one.now (length c.args.links.now.heads.items) c.args.found.now n) (sym is)
-    (clear_next c.args.links.now.heads.items c.args.links.now.before.items c.args.found.now c.args.one.now c.loop-place.next c.in-Some.place c.requires c.loop-place.invariant next other)
+    (clear_next c.args.links.now.heads.items c.args.links.now.before.items c.args.found.now c.args.one.now c.loop-place.next c.in-Some.place c.requires.linked c.loop-place.invariant next other)
 
 pub returns : goal.returns
 returns c =

@@ -1,6 +1,7 @@
-use Rattle.std.proofs.Common.{rules}
+use Rattle.std.proofs.Common.{rules, refl}
+use Rattle.occ_parts.specs.Keeping.{behind}
 use Rattle.occ_parts.proofs.Joining.{joins}
 use Rattle.occ_parts.proofs.kept.join.Goals as goal
 
 pub returns : goal.returns
-returns c = joins c.union.result c.args.a.now c.args.b.now c.in_ok-front.front.now c.in_ok-other_front.other_front.now c.in_ok-front.one c.in_ok-other_front.other (search rules) (search rules) (search rules) (search rules)
+returns c = joins c.union.result c.args.a.now (behind c.args.other_front.now c.args.other) c.in_ok-front.front.now c.args.other_front.now c.in_ok-front.one c.args.other (search rules) refl (search rules) (search rules)

@@ -1,7 +1,7 @@
 use Rattle.std.proofs.Common.{◌≡◌, ◌++◌, drop, map, take}
 use Rattle.std.specs.Prelude.{vec_capacity, vec_len}
 use Rattle.occ_graph.specs.Adding.{raised}
-use Rattle.occ_graph.proofs.adding.add_row.Given as goal
+use Rattle.occ_graph.proofs.adding.raise_rows.Given as goal
 
 abbrev pub invariant-loop-node : goal.invariant-loop-node
 invariant-loop-node l =
