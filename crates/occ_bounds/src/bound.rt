@@ -57,6 +57,21 @@ pub fn place_at(alloc: Global, env: &[Bound], number: usize) -> Result<Option<Pl
     }
 }
 
+/// The same. Of a root, which has no selectors yet, there is room for so many.
+pub(crate) fn place_with_room(
+    alloc: Global,
+    env: &[Bound],
+    number: usize,
+    room: usize,
+) -> Result<Option<Place>, AllocError>
+    ensures { IfOk result (λ place. place ≡ place_of number (slice_get env.now number)) }
+{
+    match env.get(number) {
+        Some(Bound::Root(_)) => Ok(Some(Place::with_room(alloc, number, room)?)),
+        _ => place_at(alloc, env, number),
+    }
+}
+
 /// Whether the name of a specification stands for something that is used.
 pub(crate) fn is_placed(env: &[Bound], number: usize) -> bool
     ensures { result ≡ false → place_of number (slice_get env.now number) ≡ None }

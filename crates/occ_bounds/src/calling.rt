@@ -88,7 +88,10 @@ fn each_calls(
     ensures { OnOk result (calls.new ≡ calls.old ++ told_each_calls (expr_views exprs.now) env.now line.now) }
 {
     for expr in exprs {
-        expression_calls(alloc, expr.get(), env, line, calls)?;
+        match expr.get() {
+            TypedExpr::Literal(_) => {}
+            one => expression_calls(alloc, one, env, line, calls)?,
+        }
     }
     Ok(())
 }

@@ -31,8 +31,13 @@ fn each_effect(exprs: &[Shared<TypedExpr>], env: &[Bound]) -> bool
     ensures { result ≡ told_each (expr_views exprs.now) env.now }
 {
     for expr in exprs {
-        if expression_effect(expr.get(), env) {
-            return true;
+        match expr.get() {
+            TypedExpr::Literal(_) => {}
+            one => {
+                if expression_effect(one, env) {
+                    return true;
+                }
+            }
         }
     }
     false

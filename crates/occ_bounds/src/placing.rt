@@ -1,7 +1,7 @@
 ghost use Rattle.std.specs.Prelude.{◌≡◌, IfOk, OnOk};
 ghost use Rattle.occ_bounds.specs.Views.{element_view, placed, selector_view, selector_views};
 
-use super::bound::{Bound, place_at, size_at};
+use super::bound::{Bound, place_with_room, size_at};
 use super::valuing::{count, int, less, size_within, value, whole};
 use occ_parts::Place;
 use occ_typed::{Selector, TypedElement};
@@ -48,10 +48,12 @@ pub fn place(
 ) -> Result<Option<Place>, AllocError>
     ensures { IfOk result (λ found. found ≡ (element_view element.now).place env.now) }
 {
-    let Some(mut place) = place_at(alloc, env, element.referent.spec)? else {
+    let spec = element.referent.spec;
+    let room = element.selectors.len();
+    let Some(mut place) = place_with_room(alloc, env, spec, room)? else {
         return Ok(None);
     };
-    let size = size_at(env, element.referent.spec);
+    let size = size_at(env, spec);
     select_all(alloc, &mut place, element.selectors.as_slice(), size, env)?;
     Ok(Some(place))
 }

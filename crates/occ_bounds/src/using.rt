@@ -111,7 +111,10 @@ fn each_uses(
     ensures { OnOk result (uses.new ≡ uses.old ++ told_each_uses (expr_views exprs.now) env.now line.now) }
 {
     for expr in exprs {
-        expression_uses(alloc, expr.get(), env, line, uses)?;
+        match expr.get() {
+            TypedExpr::Literal(_) => {}
+            one => expression_uses(alloc, one, env, line, uses)?,
+        }
     }
     Ok(())
 }

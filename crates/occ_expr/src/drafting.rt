@@ -7,7 +7,7 @@ ghost use Rattle.occ_typed.specs.declared.draft.Draft.TheVariants as d;
 ghost use Rattle.occ_types.specs.View.{fields_in};
 
 use occ_base::{Items, Shared, one_item};
-use occ_operands::{Free, Kind, Known, int};
+use occ_operands::{Kind, Known, Loose, int};
 use occ_typed::{Draft, TypedExpr, all_placed, each_placed, known_of, placed};
 use occ_types::{Field, Monadic, OccType, Operator, array_of, fields_of, unnamed};
 use std::alloc::{AllocError, Global};
@@ -116,7 +116,7 @@ pub fn operation_draft(
 /// A shift of a free operand.
 fn free_shift(
     alloc: Global,
-    free: &Shared<Free>,
+    free: &Loose,
     operator: Operator,
     shifted: Draft,
     count: Option<Shared<TypedExpr>>,

@@ -3,7 +3,7 @@ ghost use Rattle.occ_expr.specs.Literals.{byte as byte_type, decorated_kind as k
 
 use occ_base::{Fault, Items, Shared};
 use occ_expression_forms::Literal;
-use occ_operands::{Free, Kind, free, known, wanted};
+use occ_operands::{Free, Kind, Loose, free, known, wanted};
 use occ_tables::{decorated, table_type};
 use occ_types::{OccType, Primitive, Value};
 use std::alloc::{AllocError, Global};
@@ -25,7 +25,7 @@ pub fn literal(
     ensures faults { OnOk result (faults.new ≡ faults.old ++ (told_literal literal.now).faults) }
 {
     match literal {
-        Literal::Decimal(n) => free(alloc, Free::decimal(i128::from(*n))),
+        Literal::Decimal(n) => Ok(Kind::Free(Loose::decimal(*n))),
         Literal::Hexadecimal(n) => free(alloc, Free::hexadecimal(*n)),
         Literal::Character(byte_of) => known(&byte(alloc)?, Some(Value::Byte(*byte_of))),
         Literal::String(bytes) => table_type(alloc, bytes.len(), Some(byte(alloc)?), faults),

@@ -1,7 +1,9 @@
-ghost use Rattle.std.specs.Prelude.{◌≡◌, ◌∷◌, ◌++◌, [], IfOk, OnOk, Some};
-ghost use Rattle.occ_expr.specs.Drafts.{applied_draft as drafted_applied, conversion_draft, converted_to as drafted_converted, front_draft as drafted_front, negated_draft as drafted_negated, operation_draft as drafted_operation, pair_draft as drafted_pair, shift_draft as drafted_shift, size_draft as drafted_size};
+ghost use Rattle.std.specs.Prelude.{◌≡◌, ◌∷◌, ◌++◌, ◌-ℤ◌, [], IfOk, OnOk, Some, pos};
+ghost use Rattle.occ_expr.specs.Drafts.{applied_draft as drafted_applied, conversion_draft, converted_to as drafted_converted, front_draft as drafted_front, literal_draft as drafted_literal, negated_draft as drafted_negated, operation_draft as drafted_operation, pair_draft as drafted_pair, shift_draft as drafted_shift, size_draft as drafted_size};
 ghost use Rattle.occ_expr.specs.Operations.{another_has_fault as another, applied as told_applied, converted as told_converted, each_among as told_each, extreme_of as told_extreme, in_front as told_in_front, limit_of as the_limit, negated as told_negated, number_of_faulty as the_number_of_faulty, operation as told_operation, pair as told_pair, pair_operator as meaning_of_pair, plain as told_plain, run_operator as meaning_of_run, shift as told_shift};
 ghost use Rattle.occ_operands.specs.Operators.{all_faults, kinds as kinds_of};
+ghost use Rattle.occ_operands.specs.Outcomes.{decimal};
+ghost use Rattle.occ_operands.specs.declared.kind.Kind.TheVariants as k;
 ghost use Rattle.occ_tables.specs.Measuring.{sized as told_sized};
 ghost use Rattle.occ_tables.specs.Terms.{and_then, judged, judged_all};
 ghost use Rattle.occ_tables.specs.declared.term.Term.TheVariants as v;
@@ -255,6 +257,14 @@ fn front_of(
     })
 }
 
+/// `-` in front of an integer in decimal digits: one literal.
+fn negative(alloc: Global, n: u64) -> Result<Reading, AllocError>
+    ensures term { IfOk result (λ whole. whole.term ≡ v.Single (k.Free (decimal (pos 0 -ℤ pos n)))) }
+    ensures draft { IfOk result (λ whole. whole.draft ≡ drafted_literal (k.Free (decimal (pos 0 -ℤ pos n)))) }
+{
+    literal_reading(alloc, free(alloc, Free::decimal(0 - i128::from(n)))?)
+}
+
 /// `-` in front of an operand, which may be an integer in decimal digits.
 fn negated(
     alloc: Global,
@@ -267,7 +277,7 @@ fn negated(
     ensures faults { OnOk result (faults.new ≡ faults.old ++ (told_negated digits (judged operand.term)).faults) }
 {
     match digits {
-        Some(n) => literal_reading(alloc, free(alloc, Free::decimal(0 - i128::from(n)))?),
+        Some(n) => negative(alloc, n),
         None => front_of(alloc, Monadic::Negate, operand, faults),
     }
 }

@@ -1,4 +1,5 @@
-ghost use Rattle.std.specs.Prelude.{◌≡◌, ◌∷◌, ◌++◌, [], IfOk, OnOk};
+ghost use Rattle.std.specs.Prelude.{◌≡◌, ◌∷◌, ◌++◌, [], IfOk, OnOk, pos};
+ghost use Rattle.occ_operands.specs.Outcomes.{decimal};
 ghost use Rattle.occ_expr.specs.Drafts.{literal_draft as drafted_literal};
 ghost use Rattle.occ_operands.specs.declared.kind.Kind.TheVariants as k;
 ghost use Rattle.occ_tables.specs.declared.term.Term.TheVariants as v;
@@ -6,7 +7,7 @@ ghost use Rattle.occ_typed.specs.declared.draft.Draft.TheVariants as d;
 
 use super::drafting::literal_draft;
 use occ_base::{Items, one_item};
-use occ_operands::Kind;
+use occ_operands::{Kind, Loose};
 use occ_tables::Term;
 use occ_typed::Draft;
 use std::alloc::{AllocError, Global};
@@ -65,6 +66,16 @@ impl Readings {
     {
         self.terms.push(next.term)?;
         self.drafts.push(next.draft)
+    }
+
+    /// Of one literal in decimal digits more.
+    pub fn push_decimal(&mut self, n: u64) -> Result<(), AllocError>
+        ensures terms { OnOk result (self.new.terms ≡ self.old.terms ++ v.Single (k.Free (decimal (pos n))) ∷ []) }
+        ensures drafts { OnOk result (self.new.drafts ≡ self.old.drafts ++ d.Literal (decimal (pos n)) ∷ []) }
+    {
+        self.terms
+            .push(Term::Single(Kind::Free(Loose::decimal(n))))?;
+        self.drafts.push(Draft::Literal(Loose::decimal(n)))
     }
 }
 

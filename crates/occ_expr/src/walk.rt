@@ -254,6 +254,27 @@ fn literal_operand(
     literal_reading(alloc, kind)
 }
 
+/// What is read of one literal more, without a type of its own. Undecorated decimal digits are put where they belong at once.
+#[tactic(auto, unfolding(crate::specs::Literals::literal))]
+fn literal_more(
+    alloc: Global,
+    written: &Literal,
+    readings: &mut Readings,
+    faults: &mut Items<Fault>,
+) -> Result<(), AllocError>
+    ensures terms { OnOk result (readings.new.terms ≡ readings.old.terms ++ v.Single (told_literal written.now).kind ∷ []) }
+    ensures drafts { OnOk result (readings.new.drafts ≡ readings.old.drafts ++ drafted_literal (told_literal written.now).kind ∷ []) }
+    ensures faults { OnOk result (faults.new ≡ faults.old ++ (told_literal written.now).faults) }
+{
+    match written {
+        Literal::Decimal(n) => readings.push_decimal(*n),
+        _ => {
+            let reading = literal_operand(alloc, written, faults)?;
+            readings.push(reading)
+        }
+    }
+}
+
 /// What is read of a literal with its type.
 #[cycle(walk)]
 fn decorated_operand(
@@ -295,10 +316,32 @@ fn operands(
     ensures faults { OnOk result (faults.new ≡ faults.old ++ own_faults (said_operands scope.now (operand_views operands.now))) }
 {
     for one in operands {
-        let reading = operand(alloc, one, scope, faults)?;
-        readings.push(reading)?;
+        operand_more(alloc, one, scope, readings, faults)?;
     }
     Ok(())
+}
+
+/// The same of one operand more.
+#[tactic(auto, using(crate::proofs::Views::operand_rules))]
+#[cycle(walk)]
+fn operand_more(
+    alloc: Global,
+    one: &Operand,
+    scope: &Scope,
+    readings: &mut Readings,
+    faults: &mut Items<Fault>,
+) -> Result<(), AllocError>
+    ensures terms { OnOk result (readings.new.terms ≡ readings.old.terms ++ ((operand_view one.now).said scope.now).term ∷ []) }
+    ensures drafts { OnOk result (readings.new.drafts ≡ readings.old.drafts ++ (operand_view one.now).draft scope.now ∷ []) }
+    ensures faults { OnOk result (faults.new ≡ faults.old ++ ((operand_view one.now).said scope.now).faults) }
+{
+    match one {
+        Operand::Literal(written) => literal_more(alloc, written, readings, faults),
+        _ => {
+            let reading = operand(alloc, one, scope, faults)?;
+            readings.push(reading)
+        }
+    }
 }
 
 /// What is read of an operand that is a whole expression.

@@ -16,7 +16,7 @@ unfit_is_worst [] = refl
 unfit_is_worst (b ∷ bs) = unfit_is_worst bs
 
 -- which constant was read last does not matter
-any_constant : (a b : Value) (bs : List Outcome) (x : Outcome) → if_constant (worst (o.Constant a) bs) x ≡ if_constant (worst (o.Constant b) bs) x
+pub any_constant : (a b : Value) (bs : List Outcome) (x : Outcome) → if_constant (worst (o.Constant a) bs) x ≡ if_constant (worst (o.Constant b) bs) x
 any_constant a b [] x = refl
 any_constant a b (c ∷ bs) x = refl
 

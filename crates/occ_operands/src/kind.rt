@@ -1,3 +1,4 @@
+use super::loose::Loose;
 use occ_base::Shared;
 use occ_types::{OccType, Value};
 
@@ -49,6 +50,6 @@ pub enum Kind {
     /// It has a fault, which was told, or needs something that has one.
     Faulty,
     /// It takes the type that is wanted of it.
-    Free(Shared<Free>),
+    Free(Loose),
     Known(Known),
 }

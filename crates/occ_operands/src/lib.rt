@@ -2,14 +2,17 @@
 #![tactic(auto)]
 
 mod kind;
+mod loose;
 mod operate;
 mod outcome;
 mod part;
 pub mod rows;
 mod settle;
+mod sum;
 mod want;
 
 pub use kind::{Free, Kind, Known, Outcome, Wrong};
+pub use loose::Loose;
 pub use operate::{applied, is_faulty, needs_faulty, operand_type, operated, shifted, type_in};
 pub use part::{field, subscripted};
 pub use settle::{free, int, known, landed, number, settled};

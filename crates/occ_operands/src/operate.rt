@@ -11,6 +11,7 @@ ghost use Rattle.occ_types.specs.View.{as_primitive as primitive_of};
 use super::kind::{Free, Kind, Known, Outcome, Wrong};
 use super::outcome::{apply, misshift, shift, worse};
 use super::settle::{free, int, landed, number, settled, tell_wrong};
+use super::sum::literal_sum;
 use occ_base::{Code, Fault, Items, Shared, tell};
 use occ_types::{Monadic, OccType, Operator, Primitive, Value, as_primitive, base_of, fits, fold};
 use std::alloc::{AllocError, Global};
@@ -116,7 +117,7 @@ fn outcome_in(of: Primitive, kind: &Kind) -> Outcome
 {
     match kind {
         Kind::Faulty => Outcome::Varying,
-        Kind::Free(free) => free.get().in_type(of),
+        Kind::Free(free) => free.in_type(of),
         Kind::Known(known) => value_outcome(known.value),
     }
 }
@@ -193,7 +194,7 @@ pub fn needs_faulty(kind: &Kind) -> bool
 {
     match kind {
         Kind::Faulty => true,
-        Kind::Free(free) => free.get().is_faulty,
+        Kind::Free(free) => free.is_faulty(),
         Kind::Known(_) => false,
     }
 }
@@ -204,8 +205,8 @@ fn any_needs_faulty(kinds: &[Kind]) -> bool
     kinds.iter().any(|kind| needs_faulty(kind))
 }
 
-/// What free operands with one operator between each two come to in each type.
-fn free_run(op: Operator, kinds: &[Kind]) -> Free
+/// What free operands with one operator between each two come to in each type, found one type after the other.
+fn each_run(op: Operator, kinds: &[Kind]) -> Free
     ensures { result ≡ in_each (list_any needing_faulty kinds.now) (λ of. running op of kinds.now) }
 {
     Free {
@@ -215,6 +216,19 @@ fn free_run(op: Operator, kinds: &[Kind]) -> Free
         int: run_in(op, Primitive::Int, kinds),
         int32: run_in(op, Primitive::Int32, kinds),
         int64: run_in(op, Primitive::Int64, kinds),
+    }
+}
+
+/// What free operands with one operator between each two come to in each type.
+fn free_run(op: Operator, kinds: &[Kind]) -> Free
+    ensures { result ≡ in_each (list_any needing_faulty kinds.now) (λ of. running op of kinds.now) }
+{
+    match op {
+        Operator::Add => match literal_sum(kinds) {
+            Some(free) => free,
+            None => each_run(op, kinds),
+        },
+        _ => each_run(op, kinds),
     }
 }
 
@@ -435,10 +449,10 @@ fn shifted_by(
 {
     match (kind, count) {
         (Kind::Free(shifted), Kind::Known(count)) => {
-            free(alloc, known_count(op, shifted.get(), count))
+            free(alloc, known_count(op, &shifted.get(), count))
         }
         (Kind::Free(shifted), Kind::Faulty) => {
-            free(alloc, free_shift(op, shifted.get(), true, None))
+            free(alloc, free_shift(op, &shifted.get(), true, None))
         }
         (Kind::Known(known), Kind::Known(count)) => known_shift(op, known, count, faults),
         _ => Ok(Kind::Faulty),
@@ -528,7 +542,7 @@ pub fn applied(
             if op == Monadic::Not {
                 return not_free(operand.is_faulty, operand.int, faults);
             }
-            free(alloc, free_front(op, operand))
+            free(alloc, free_front(op, &operand))
         }
         Kind::Known(known) => {
             if takes(op, base_of(known.of.get())) {

@@ -52,7 +52,7 @@ impl Free {
     }
 }
 
-fn fitting(value: Option<Value>) -> Outcome
+pub(super) fn fitting(value: Option<Value>) -> Outcome
     ensures { result ≡ fitting_value value }
 {
     match value {

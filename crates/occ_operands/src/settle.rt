@@ -4,6 +4,7 @@ ghost use Rattle.occ_base.specs.Telling.{nameless};
 ghost use Rattle.occ_operands.specs.declared.kind.Kind.TheVariants as k;
 
 use super::kind::{Free, Kind, Known, Outcome, Wrong};
+use super::loose::Loose;
 use occ_base::{Code, Fault, Items, Shared, tell};
 use occ_types::{OccType, Primitive, Value, base_of};
 use std::alloc::{AllocError, Global};
@@ -37,7 +38,7 @@ pub fn known(of: &Shared<OccType>, value: Option<Value>) -> Result<Kind, AllocEr
 pub fn free(alloc: Global, free: Free) -> Result<Kind, AllocError>
     ensures { IfOk result (λ kind. kind ≡ k.Free free) }
 {
-    Ok(Kind::Free(Shared::new(alloc, free)?))
+    Ok(Kind::Free(Loose::found(alloc, free)?))
 }
 
 /// What is wrong is told.
@@ -81,7 +82,7 @@ pub fn landed(
 fn landed_or_int(
     alloc: Global,
     of: &Shared<OccType>,
-    free: &Free,
+    free: &Loose,
     outcome: Outcome,
     faults: &mut Items<Fault>,
 ) -> Result<Kind, AllocError>
@@ -89,7 +90,7 @@ fn landed_or_int(
     ensures faults { OnOk result (faults.new ≡ faults.old ++ (landing_or_int of.now free.now outcome).faults) }
 {
     match outcome {
-        Outcome::Unfit => landed(&int(alloc)?, free.int, faults),
+        Outcome::Unfit => landed(&int(alloc)?, free.in_type(Primitive::Int), faults),
         _ => landed(of, outcome, faults),
     }
 }
@@ -98,7 +99,7 @@ fn landed_or_int(
 fn settled_free(
     alloc: Global,
     of: &Shared<OccType>,
-    free: &Free,
+    free: &Loose,
     faults: &mut Items<Fault>,
 ) -> Result<Kind, AllocError>
     ensures kind { IfOk result (λ kind. kind ≡ (settling_free of.now free.now (number_base (named_base of.now))).kind) }
@@ -106,7 +107,7 @@ fn settled_free(
 {
     match number(base_of(of.get())) {
         Some(base) => landed_or_int(alloc, of, free, free.in_type(base), faults),
-        None => landed(&int(alloc)?, free.int, faults),
+        None => landed(&int(alloc)?, free.in_type(Primitive::Int), faults),
     }
 }
 
@@ -131,9 +132,8 @@ pub fn settled(
     match kind {
         Kind::Faulty => Ok(Kind::Faulty),
         Kind::Free(free) => {
-            let free = free.get();
             let kind = settled_free(alloc, of, free, faults)?;
-            Ok(faulty_if(free.is_faulty, kind))
+            Ok(faulty_if(free.is_faulty(), kind))
         }
         Kind::Known(found) => known(&found.of, found.value),
     }

@@ -1,6 +1,6 @@
 use super::TypedExpr;
 use occ_base::{Items, Shared};
-use occ_operands::Free;
+use occ_operands::Loose;
 use occ_types::{Monadic, Operator};
 
 /// An expression before its place gives a type to what is free in it, and to its tables. What does not depend on the
@@ -12,13 +12,13 @@ pub enum Draft {
     Faulty,
     Typed(Shared<TypedExpr>),
     /// A free literal, with the `-` that makes one literal with it.
-    Literal(Shared<Free>),
+    Literal(Loose),
     /// Free operands with one operator between each two.
-    Operation(Shared<Free>, Operator, Items<Draft>),
+    Operation(Loose, Operator, Items<Draft>),
     /// An operator in front of a free operand.
-    Applied(Shared<Free>, Monadic, Shared<Draft>),
+    Applied(Loose, Monadic, Shared<Draft>),
     /// A shift of a free operand by a count.
-    Shifted(Shared<Free>, Operator, Shared<Draft>, Shared<TypedExpr>),
+    Shifted(Loose, Operator, Shared<Draft>, Shared<TypedExpr>),
     /// A table without its type.
     Table(Items<Draft>),
 }

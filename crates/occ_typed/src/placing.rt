@@ -7,7 +7,7 @@ ghost use Rattle.occ_typed.specs.declared.expr.TypedExpr.TheVariants as typed;
 
 use super::{Draft, TypedExpr};
 use occ_base::{Items, Shared, one_item};
-use occ_operands::{Free, Known, Outcome, number};
+use occ_operands::{Known, Loose, Outcome, number};
 use occ_types::{OccType, Operator, Value, array_of, base_of};
 use std::alloc::{AllocError, Global};
 
@@ -24,7 +24,7 @@ fn constant(outcome: Outcome) -> Option<Value>
 }
 
 /// The value of a free expression in a type, if it has one there.
-pub fn value_in(free: &Free, of: &OccType) -> Option<Value>
+pub fn value_in(free: &Loose, of: &OccType) -> Option<Value>
     ensures { result ≡ told_value_in free.now of.now }
 {
     match number(base_of(of)) {
@@ -34,7 +34,7 @@ pub fn value_in(free: &Free, of: &OccType) -> Option<Value>
 }
 
 /// A free expression as one of this type.
-fn known_in(free: &Free, of: &Shared<OccType>) -> Result<Known, AllocError>
+fn known_in(free: &Loose, of: &Shared<OccType>) -> Result<Known, AllocError>
     ensures { IfOk result (λ known. known ≡ told_known_in free.now of.now) }
 {
     let value = value_in(free, of.get());
@@ -52,7 +52,7 @@ fn whole(alloc: Global, tree: TypedExpr) -> Result<Option<Shared<TypedExpr>>, Al
 /// Free operands, of which this type is wanted, with one operator between each two.
 fn operation(
     alloc: Global,
-    free: &Free,
+    free: &Loose,
     operator: Operator,
     operands: Option<Items<Shared<TypedExpr>>>,
     of: &Shared<OccType>,
@@ -140,23 +140,23 @@ pub fn placed(
     match draft {
         Draft::Faulty => Ok(None),
         Draft::Typed(tree) => Ok(Some(tree.share()?)),
-        Draft::Literal(free) => whole(alloc, TypedExpr::Literal(known_in(free.get(), of)?)),
+        Draft::Literal(free) => whole(alloc, TypedExpr::Literal(known_in(free, of)?)),
         Draft::Operation(free, operator, operands) => {
             let trees = all_placed(alloc, operands.as_slice(), of)?;
-            operation(alloc, free.get(), *operator, trees, of)
+            operation(alloc, free, *operator, trees, of)
         }
         Draft::Applied(free, operator, operand) => {
             let Some(tree) = placed(alloc, operand.get(), of)? else {
                 return Ok(None);
             };
-            let known = known_in(free.get(), of)?;
+            let known = known_in(free, of)?;
             whole(alloc, TypedExpr::Applied(known, *operator, tree))
         }
         Draft::Shifted(free, operator, operand, count) => {
             let Some(tree) = placed(alloc, operand.get(), of)? else {
                 return Ok(None);
             };
-            shifted(alloc, known_in(free.get(), of)?, *operator, tree, count)
+            shifted(alloc, known_in(free, of)?, *operator, tree, count)
         }
         Draft::Table(items) => table(alloc, items.as_slice(), of),
     }

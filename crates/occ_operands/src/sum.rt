@@ -1,0 +1,90 @@
+ghost use Rattle.std.specs.List.{list_any};
+ghost use Rattle.std.specs.Prelude.{IfSome, false, pos, ◌∷◌, ◌≡◌};
+ghost use Rattle.occ_operands.specs.Operators.{needs_faulty as needing_faulty, run_in as running};
+ghost use Rattle.occ_operands.specs.Outcomes.{decimal as decimal_free, in_each};
+ghost use Rattle.occ_operands.specs.declared.kind.Kind.TheVariants as k;
+ghost use Rattle.occ_operands.specs.inside.Sums.{sum_in as the_sum, total_in as the_total};
+ghost use Rattle.occ_types.specs.declared.constant.Operator.TheVariants as op;
+ghost use Rattle.occ_types.specs.declared.value.Primitive.{Primitive as APrimitive};
+
+use super::kind::{Free, Kind, Outcome, Wrong};
+use super::loose::decimal_in;
+use occ_types::{Operator, Primitive, value_of_number};
+
+/// Literals in decimal digits with `+` between each two.
+#[derive(Clone, Copy)]
+struct Sum {
+    total: u64,
+    /// The greatest of them.
+    most: u64,
+}
+
+/// The number of an operand that is a literal in decimal digits.
+fn number(kind: &Kind) -> Option<u64>
+    ensures { IfSome result (λ n. kind.now ≡ k.Free (decimal_free (pos n))) }
+{
+    match kind {
+        Kind::Free(loose) => loose.number(),
+        Kind::Faulty => None,
+        Kind::Known(_) => None,
+    }
+}
+
+/// The sum of operands that are all literals in decimal digits, unless it is too large.
+fn sum_of(first: &Kind, others: &[Kind]) -> Option<Sum>
+    ensures value { IfSome result (λ sum. (of : APrimitive) → the_sum of sum.total sum.most ≡ running op.Add of (first.now ∷ others.now)) }
+    ensures clean { IfSome result (λ _. list_any needing_faulty (first.now ∷ others.now) ≡ false) }
+{
+    let mut total = number(first)?;
+    let mut most = total;
+    for kind in others {
+        let next = number(kind)?;
+        total = total.checked_add(next)?;
+        most = most.max(next);
+    }
+    Some(Sum { total, most })
+}
+
+/// The total, as a value of the type.
+fn total_in(total: u64, of: Primitive) -> Outcome
+    ensures { result ≡ the_total of total }
+{
+    match value_of_number(of, i128::from(total)) {
+        Some(value) => Outcome::Constant(value),
+        None => Outcome::Faulty(Wrong::Value),
+    }
+}
+
+/// What a sum comes to in a type: no literal may be too large for it, nor the whole.
+fn sum_in(sum: Sum, of: Primitive) -> Outcome
+    ensures { result ≡ the_sum of sum.total sum.most }
+{
+    match decimal_in(sum.most, of) {
+        Outcome::Constant(_) => total_in(sum.total, of),
+        most => most,
+    }
+}
+
+/// What a sum comes to in each type.
+fn sum_in_each(sum: Sum) -> Free
+    ensures { result ≡ in_each false (λ of. the_sum of sum.total sum.most) }
+{
+    Free {
+        is_faulty: false,
+        byte: sum_in(sum, Primitive::Byte),
+        int16: sum_in(sum, Primitive::Int16),
+        int: sum_in(sum, Primitive::Int),
+        int32: sum_in(sum, Primitive::Int32),
+        int64: sum_in(sum, Primitive::Int64),
+    }
+}
+
+/// What operands come to in each type with `+` between each two, where all of them are literals in decimal digits
+/// and their total is within 64 bits.
+pub(super) fn literal_sum(kinds: &[Kind]) -> Option<Free>
+    ensures { IfSome result (λ free. free ≡ in_each (list_any needing_faulty kinds.now) (λ of. running op.Add of kinds.now)) }
+{
+    let (first, others) = kinds.split_first()?;
+    let sum = sum_of(first, others)?;
+    Some(sum_in_each(sum))
+}
