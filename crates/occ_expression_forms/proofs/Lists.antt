@@ -1,5 +1,5 @@
 -- What follows the items of each kind of list, and readings behind a first token.
-use Rattle.std.proofs.Common.{◌≡◌, ◌≤◌, ◌<◌, List, [], ◌∷◌, length, refl, sym, ◌∙◌, arith}
+use Rattle.std.proofs.Common.{◌≡◌, ◌≤◌, ◌<◌, List, [], ◌∷◌, ◌++◌, length, ap, refl, sym, ◌∙◌, arith}
 use Rattle.occ_lines.specs.declared.token.Token.{Token}
 use Rattle.occ_expression_forms.specs.Reading.{IsEnd, IsEndOfItems}
 use Rattle.occ_expression_forms.specs.Spelling.{Spelling, next_item_of}
@@ -16,6 +16,10 @@ anything_within spells Ends xs k ends = tt
 pub item_within : Within next_item_of IsEnd IsEndOfItems
 item_within [] k ends = ends.ends
 item_within (e ∷ es) k ends = refl
+
+-- a list that begins with one item, and then gets more
+pub first_and_more : {X : Type 0} (none one all more : List X) (first : X) → none ≡ [] → one ≡ none ++ first ∷ [] → all ≡ one ++ more → all ≡ first ∷ more
+first_and_more none one all more first empty pushed appended = appended ∙ ap (λ xs. xs ++ more) (pushed ∙ ap (λ xs. xs ++ first ∷ []) empty)
 
 -- what is read behind a token
 pub behind : (token : Token) (rest begun read : List Token) → rest ≡ token ∷ begun → begun ≡ read → rest ≡ token ∷ read

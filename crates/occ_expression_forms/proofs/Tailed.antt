@@ -155,6 +155,10 @@ no_second tokens rest d is none (ta.Run operator o os) k ends e = none o _ (oper
 abbrev pub IsSecondRead : List Token → Operand → List Token → Type 0
 IsSecondRead rest second left = (o : Operand) (k : List Token) → IsAfter k → rest ≡ operand_then o k → (second ≡ o) × (left ≡ k)
 
+-- and put into a box
+pub boxed_read : (rest : List Token) (second boxed : Operand) (left : List Token) → boxed ≡ second → IsSecondRead rest second left → IsSecondRead rest boxed left
+boxed_read rest second boxed left same read = λ o k after e. let h = read o k after e in (same ∙ h.0, h.1)
+
 pub pair_only : (tokens rest : List Token) (d : Dyadic) (operator : PairOperator) (second : Operand) (left : List Token) → tokens ≡ dyadic_token d ∷ rest → d ≡ dy.Pair operator → IsSecondRead rest second left
     → (x : Tail) (k : List Token) → IsEndOfRun k → tokens ≡ tail_then x k → (ta.Pair operator second ≡ x) × (left ≡ k)
 pair_only tokens rest d operator second left is pair read ta.Nothing k ends e = absurd (dyadic_no_end d tokens rest is (rw e ends))

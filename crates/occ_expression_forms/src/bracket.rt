@@ -25,9 +25,9 @@ use std::alloc::{AllocError, Global};
 #[derive(Drop)]
 pub enum Closing {
     /// Further items of a table, perhaps none, and the type of the table, if it has one.
-    Items(Items<Expr>, Option<TypeForm>),
+    Items(Items<Expr>, Option<Boxed<TypeForm>>),
     /// The bounds of a segment, and its subscripts.
-    Segment(Bounds, Items<Expr>),
+    Segment(Boxed<Bounds>, Items<Expr>),
 }
 
 /// What stands in square brackets, up to its end.
@@ -36,7 +36,7 @@ pub enum Bracket {
     /// `[]`
     Open,
     /// An expression, and what is behind it.
-    Closed(Expr, Closing),
+    Closed(Boxed<Expr>, Closing),
 }
 
 /// The bounds of a segment of which `FROM` is read, and their bracket.
@@ -126,6 +126,7 @@ pub fn segment_end<'a, F: Fn(Global, &[Token]) -> Result<Option<(Expr, &[Token])
     let Some((bounds, rest)) = bounds(alloc, tokens, inner)? else {
         return Ok(None);
     };
+    let bounds = Boxed::new(alloc, bounds)?;
     let Some((found, rest)) = subscripts(alloc, rest, inner)? else {
         return Ok(None);
     };
@@ -175,6 +176,7 @@ pub fn in_brackets<'a, F: Fn(Global, &[Token]) -> Result<Option<(Expr, &[Token])
     let Some((first, rest)) = inner(alloc, tokens)? else {
         return Ok(None);
     };
+    let first = Boxed::new(alloc, first)?;
     let Some((closing, rest)) = behind_first(alloc, rest, inner)? else {
         return Ok(None);
     };

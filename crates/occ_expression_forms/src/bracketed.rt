@@ -49,7 +49,7 @@ fn is_dimension(closing: &Closing, tokens: &[Token]) -> bool
 /// else a table or a segment, and what stands behind it.
 pub fn behind_brackets<'a, F: Fn(Global, &[Token]) -> Result<Option<(Expr, &[Token])>, AllocError>>(
     alloc: Global,
-    first: Expr,
+    first: Boxed<Expr>,
     closing: Closing,
     tokens: &'a [Token],
     inner: &F,
@@ -62,8 +62,7 @@ pub fn behind_brackets<'a, F: Fn(Global, &[Token]) -> Result<Option<(Expr, &[Tok
     ensures builtin { IfOk result (λ r. (ds : List ADimension) (b : ABuiltin) (o : AnOperand) (k : List AToken) → IsAfter k → closing ≡ cl.Items [] None → tokens.now ≡ many dimension_then ds (builtin_then b (operand_then o k)) → Reads r (x.Converted (d.Sized first ∷ ds) b o) k) }
 {
     if is_dimension(&closing, tokens) {
-        let size = Dimension::Sized(Boxed::new(alloc, first)?);
-        return behind_dimension(alloc, size, tokens, inner);
+        return behind_dimension(alloc, Dimension::Sized(first), tokens, inner);
     }
     let Some(operand) = bracket_operand(alloc, first, closing)? else {
         return Ok(None);

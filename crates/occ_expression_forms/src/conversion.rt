@@ -36,10 +36,10 @@ pub fn converted<'a, F: Fn(Global, &[Token]) -> Result<Option<(Expr, &[Token])>,
     let Some((form, rest)) = builtin(alloc, Behind::More, tokens, inner)? else {
         return Ok(None);
     };
+    let form = Boxed::new(alloc, form)?;
     let Some((operand, rest)) = operand(alloc, rest, inner)? else {
         return Ok(None);
     };
-    let form = Boxed::new(alloc, form)?;
     let operand = Boxed::new(alloc, operand)?;
     Ok(Some((Expr::Converted(dimensions, form, operand), rest)))
 }
@@ -61,8 +61,8 @@ pub fn array_converted<'a, F: Fn(Global, &[Token]) -> Result<Option<(Expr, &[Tok
     let Some((operand, rest)) = operand(alloc, tokens, inner)? else {
         return Ok(None);
     };
-    let first = Boxed::new(alloc, first)?;
     let operand = Boxed::new(alloc, operand)?;
+    let first = Boxed::new(alloc, first)?;
     Ok(Some((Expr::ArrayConverted(first, more, name, operand), rest)))
 }
 
@@ -116,7 +116,7 @@ pub fn name_converted<'a, F: Fn(Global, &[Token]) -> Result<Option<(Expr, &[Toke
 pub fn bracket_converted(
     alloc: Global,
     name: Name,
-    first: Expr,
+    first: Boxed<Expr>,
     closing: Closing,
 ) -> Result<Option<Expr>, AllocError>
     ensures found { IfOk result (λ r. IfSome r (λ e. (k : List AToken) → t.Name name ∷ t.Symbol s.OpenIndex ∷ expr_then first (closing_then closing k) ≡ expr_then e k)) }

@@ -97,13 +97,16 @@ pub fn arguments<'a, F: Fn(Global, &[Token]) -> Result<Option<(Expr, &[Token])>,
     let Some((first, rest)) = inner(alloc, tokens)? else {
         return Ok(None);
     };
+    let mut found = Items::new(alloc);
+    found.push(first)?;
     let Some((more, rest)) = more_items(alloc, rest, inner)? else {
         return Ok(None);
     };
     let Some(rest) = after(rest, Symbol::Close) else {
         return Ok(None);
     };
-    Ok(Some((joined(alloc, first, more)?, rest)))
+    found.append(more)?;
+    Ok(Some((found, rest)))
 }
 
 /// The list of the first and those behind it.

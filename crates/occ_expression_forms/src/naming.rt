@@ -20,12 +20,12 @@ ghost use Rattle.std.specs.Prelude.{IfOk, IfSome, IsTrue, List, None, Some, [], 
 use super::begin::{Begin, begins};
 use super::bracket::{Bracket, Closing, in_brackets};
 use super::conversion::{bracket_converted, name_converted};
-use super::list::{joined, subscripts};
+use super::list::subscripts;
 use super::operand::behind_name;
 use super::tail::behind_first;
 use super::token_reader::{after, name};
 use super::{Element, Expr, Operand};
-use occ_base::{Boxed, Name};
+use occ_base::{Boxed, Items, Name};
 use occ_lines::{Symbol, Token};
 use std::alloc::{AllocError, Global};
 
@@ -64,10 +64,12 @@ pub fn behind_subscript<
     ensures shorter { IfOk result (λ r. IfSome r (λ y. length y.1.now ≤ length tokens.now)) }
     ensures only { IfOk result (λ r. (es : List AnExpr) (z : ATail) (k : List AToken) → IsEndOfRun k → tokens.now ≡ many subscript_of es (tail_then z k) → Reads r (joined (o.Element (e.Named name (index ∷ es))) z) k) }
 {
+    let mut all = Items::new(alloc);
+    all.push(index)?;
     let Some((more, rest)) = subscripts(alloc, tokens, inner)? else {
         return Ok(None);
     };
-    let all = joined(alloc, index, more)?;
+    all.append(more)?;
     let element = Boxed::new(alloc, Element::Named(name, all))?;
     behind_first(alloc, Operand::Element(element), rest, inner)
 }
@@ -87,7 +89,7 @@ pub fn is_single(closing: &Closing) -> bool
 pub fn behind_index<'a, F: Fn(Global, &[Token]) -> Result<Option<(Expr, &[Token])>, AllocError>>(
     alloc: Global,
     name: Name,
-    first: Expr,
+    first: Boxed<Expr>,
     closing: Closing,
     tokens: &'a [Token],
     inner: &F,
@@ -99,7 +101,7 @@ pub fn behind_index<'a, F: Fn(Global, &[Token]) -> Result<Option<(Expr, &[Token]
     ensures converted { IfOk result (λ r. (p : AnOperand) (q : ANamedOperand) → IsBracketed first closing (Some p) → narrow_of p ≡ Some q → Reads r (x.Named name q) tokens.now) }
 {
     if is_single(&closing) {
-        return behind_subscript(alloc, name, first, tokens, inner);
+        return behind_subscript(alloc, name, first.into_inner(), tokens, inner);
     }
     let Some(found) = bracket_converted(alloc, name, first, closing)? else {
         return Ok(None);

@@ -42,26 +42,23 @@ pub fn element_in(expr: Expr) -> Option<Element>
 /// The operand that stands in square brackets: a table, or a segment if the first expression is an element.
 pub fn bracket_operand(
     alloc: Global,
-    first: Expr,
+    first: Boxed<Expr>,
     closing: Closing,
 ) -> Result<Option<Operand>, AllocError>
     ensures { IfOk result (λ r. IsBracketed first closing r) }
 {
     match closing {
         Closing::Items(more, decoration) => {
-            let first = Boxed::new(alloc, first)?;
             let Some(form) = decoration else {
                 return Ok(Some(Operand::Table(first, more)));
             };
-            let form = Boxed::new(alloc, form)?;
             Ok(Some(Operand::DecoratedTable(first, more, form)))
         }
         Closing::Segment(bounds, found) => {
-            let Some(element) = element_in(first) else {
+            let Some(element) = element_in(first.into_inner()) else {
                 return Ok(None);
             };
             let element = Boxed::new(alloc, element)?;
-            let bounds = Boxed::new(alloc, bounds)?;
             let segment = Element::Segment(element, bounds, found);
             Ok(Some(Operand::Element(Boxed::new(alloc, segment)?)))
         }
@@ -137,10 +134,7 @@ pub fn behind_literal<'a, F: Fn(Global, &[Token]) -> Result<Option<(Expr, &[Toke
     };
     match decoration {
         None => Ok(Some((Operand::Literal(literal), rest))),
-        Some(form) => {
-            let form = Boxed::new(alloc, form)?;
-            Ok(Some((Operand::Decorated(literal, form), rest)))
-        }
+        Some(form) => Ok(Some((Operand::Decorated(literal, form), rest))),
     }
 }
 

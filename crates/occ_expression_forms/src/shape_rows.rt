@@ -1,5 +1,3 @@
-#![tactic(auto, using(crate::proofs::Counts::dimension_rules))]
-
 ghost use Rattle.occ_expression_forms.specs.Depth.{builtin_dimensions, expr_dimensions, most_open, type_form_dimensions};
 ghost use Rattle.occ_expression_forms.specs.Marks.{first_mark};
 ghost use Rattle.occ_expression_forms.specs.declared.tree.Builtin.TheVariants as u;
@@ -34,6 +32,7 @@ pub fn bracket_rows()
 
 /// The greatest number of dimensions in some trees, in the order of the clauses: `[][1]T`, `[]CHAN OF [][]BYTE`,
 /// `CHAN OF INT::[][]BYTE`, `[][]T 1`, `T 1`, `[[][]T 1]T`, `5 ([]T)`, `a[[][]T 1]`.
+#[tactic(auto, using(crate::proofs::Counts::dimension_rules))]
 pub fn dimension_rows()
     ensures array { type_form_dimensions (ty.Named (d.Open ∷ d.Sized (e.Alone (o.Literal (l.Decimal 1))) ∷ []) (84 ∷ [])) ≡ 2 }
     ensures channels { type_form_dimensions (ty.Builtin (d.Open ∷ []) (u.Channel c.ChanOf (d.Open ∷ d.Open ∷ []) (da.Primitive pr.Byte))) ≡ 2 }

@@ -19,8 +19,8 @@ use std::alloc::{AllocError, Global};
 #[derive(Drop)]
 pub enum Tail {
     Nothing,
-    Pair(PairOperator, Operand),
-    Run(RunOperator, Operand, Items<Operand>),
+    Pair(PairOperator, Boxed<Operand>),
+    Run(RunOperator, Boxed<Operand>, Items<Operand>),
 }
 
 /// What follows the operator, where it stands first.
@@ -75,6 +75,7 @@ pub fn behind_operand<'a, F: Fn(Global, &[Token]) -> Result<Option<(Expr, &[Toke
     let Some((second, rest)) = operand(alloc, rest, inner)? else {
         return Ok(None);
     };
+    let second = Boxed::new(alloc, second)?;
     match operator {
         Dyadic::Pair(operator) => Ok(Some((Tail::Pair(operator, second), rest))),
         Dyadic::Run(operator) => {
@@ -96,20 +97,13 @@ pub fn operator(tokens: &[Token]) -> Option<(Dyadic, &[Token])>
 }
 
 /// The expression of its first operand and of what stands behind it.
-fn together(alloc: Global, first: Operand, tail: Tail) -> Result<Expr, AllocError>
-    ensures { IfOk result (λ e. e ≡ joined first tail) }
+fn together(first: Boxed<Operand>, tail: Tail) -> Expr
+    ensures { result ≡ joined first tail }
 {
-    let first = Boxed::new(alloc, first)?;
     match tail {
-        Tail::Nothing => Ok(Expr::Alone(first)),
-        Tail::Pair(operator, second) => {
-            let second = Boxed::new(alloc, second)?;
-            Ok(Expr::Pair(first, operator, second))
-        }
-        Tail::Run(operator, second, more) => {
-            let second = Boxed::new(alloc, second)?;
-            Ok(Expr::Run(operator, first, second, more))
-        }
+        Tail::Nothing => Expr::Alone(first),
+        Tail::Pair(operator, second) => Expr::Pair(first, operator, second),
+        Tail::Run(operator, second, more) => Expr::Run(operator, first, second, more),
     }
 }
 
@@ -125,10 +119,11 @@ pub fn behind_first<'a, F: Fn(Global, &[Token]) -> Result<Option<(Expr, &[Token]
     ensures shorter { IfOk result (λ r. IfSome r (λ y. length y.1.now ≤ length tokens.now)) }
     ensures only { IfOk result (λ r. (x : ATail) (k : List AToken) → IsEndOfRun k → tokens.now ≡ tail_then x k → Reads r (joined first x) k) }
 {
+    let first = Boxed::new(alloc, first)?;
     let Some((tail, rest)) = behind_operand(alloc, tokens, inner)? else {
         return Ok(None);
     };
-    Ok(Some((together(alloc, first, tail)?, rest)))
+    Ok(Some((together(first, tail), rest)))
 }
 
 /// An expression that begins with an operand.

@@ -289,7 +289,7 @@ pub fn perhaps_decoration<
     alloc: Global,
     tokens: &'a [Token],
     inner: &F,
-) -> Result<Option<(Option<TypeForm>, &'a [Token])>, AllocError>
+) -> Result<Option<(Option<Boxed<TypeForm>>, &'a [Token])>, AllocError>
     requires inner { ReadsExpr (length tokens.now) (F.pre inner.now) (F.post inner.now) }
     ensures found { IfOk result (λ r. IfSome r (λ x. tokens.now ≡ perhaps_decoration_of x.0 x.1.now)) }
     ensures shorter { IfOk result (λ r. IfSome r (λ x. length x.1.now ≤ length tokens.now)) }
@@ -301,6 +301,7 @@ pub fn perhaps_decoration<
     let Some((form, rest)) = type_form(alloc, Behind::More, begun, inner)? else {
         return Ok(None);
     };
+    let form = Boxed::new(alloc, form)?;
     let Some(rest) = after(rest, Symbol::Close) else {
         return Ok(None);
     };

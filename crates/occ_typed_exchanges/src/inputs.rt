@@ -1,4 +1,4 @@
-ghost use Rattle.std.specs.Prelude.{◌≡◌, ◌∷◌, ◌++◌, IfOk, OnOk};
+ghost use Rattle.std.specs.Prelude.{MatchOption, ◌≡◌, ◌≢◌, [], ◌∷◌, ◌++◌, IfOk, OnOk};
 ghost use Rattle.occ_typed_exchanges.specs.Inputs.{after_faults as told_after, after_input as told_after_input, after_tree as told_after_tree, input_faults as told_faults, input_tree as told_tree, plain_faults as told_plain, plain_input as told_plain_input, plain_of as told_plain_of, plain_tree as told_plain_tree, tagged_at as told_tagged_at, tagged_faults as told_tagged, tagged_input as told_tagged_input, tagged_tree as told_tagged_tree, time_faults as told_time_faults, time_of as told_time, time_tree as told_time_tree};
 
 use super::receiving::{items_received, nothing_received};
@@ -16,16 +16,21 @@ use occ_typed::{TypedElement, TypedExpr, placed};
 use std::alloc::{AllocError, Global};
 use std::slice;
 
+/// The item of a list of one.
+#[tactic(auto, using(crate::proofs::Times::one_rules))]
+fn only<T: Drop>(mut items: Items<T>) -> Option<T>
+    ensures { MatchOption result ((item : T) → items ≢ item ∷ []) (λ item. items ≡ item ∷ []) }
+{
+    let item = items.pop()?;
+    if items.is_empty() { Some(item) } else { None }
+}
+
 /// The one target of an input from a timer.
 #[tactic(auto, using(crate::proofs::Times::time_rules))]
-fn time_of(timer: TypedElement, mut targets: Items<TypedTarget>) -> Option<TypedInput>
+fn time_of(timer: TypedElement, targets: Items<TypedTarget>) -> Option<TypedInput>
     ensures { result ≡ told_time timer targets }
 {
-    let target = targets.pop()?;
-    if !targets.is_empty() {
-        return None;
-    }
-    match target {
+    match only(targets)? {
         TypedTarget::Single(target) => Some(TypedInput::Time(timer, target)),
         TypedTarget::Counted(_, _) => None,
     }
@@ -100,8 +105,8 @@ fn time(
     ensures tree { IfOk result (λ tree. tree ≡ told_time_tree scope.now expr.now) }
     ensures faults { OnOk result (faults.new ≡ faults.old ++ told_time_faults scope.now expr.now) }
 {
-    let read = expression(alloc, expr, scope, faults)?;
     let of = int(alloc)?;
+    let read = expression(alloc, expr, scope, faults)?;
     under(alloc, &read.term, &of, faults)?;
     placed(alloc, &read.draft, &of)
 }

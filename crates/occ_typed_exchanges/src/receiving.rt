@@ -143,13 +143,14 @@ pub fn nothing_received(alloc: Global) -> ReceivedAll
 }
 
 /// One more.
-fn with_received(mut all: ReceivedAll, one: ReceivedOne) -> Result<ReceivedAll, AllocError>
+fn with_received(all: ReceivedAll, one: ReceivedOne) -> Result<ReceivedAll, AllocError>
     ensures givens { IfOk result (λ more. more.givens ≡ all.givens ++ one.given ∷ []) }
     ensures trees { IfOk result (λ more. more.trees ≡ joined all.trees (one_part one.tree)) }
 {
-    all.givens.push(one.given)?;
-    all.trees = with_part(all.trees, one.tree)?;
-    Ok(all)
+    let ReceivedAll { mut givens, trees } = all;
+    let trees = with_part(trees, one.tree)?;
+    givens.push(one.given)?;
+    Ok(ReceivedAll { givens, trees })
 }
 
 /// What an input receives, behind what it received before.

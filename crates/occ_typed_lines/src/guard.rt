@@ -57,9 +57,9 @@ fn guarded(
 fn guarded_form(condition: Option<Shared<TypedExpr>>, guard: Option<TypedGuard>) -> TypedForm
     ensures { result ≡ told_form condition guard }
 {
-    match (condition, guard) {
-        (Some(condition), Some(guard)) => TypedForm::Guard(condition, guard),
-        _ => TypedForm::Unknown,
+    match condition.zip(guard) {
+        Some((condition, guard)) => TypedForm::Guard(condition, guard),
+        None => TypedForm::Unknown,
     }
 }
 

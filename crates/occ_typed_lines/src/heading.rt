@@ -6,7 +6,7 @@ ghost use Rattle.occ_typed_lines.specs.Records.{record_of as told_record};
 ghost use Rattle.occ_typed_lines.specs.Specifying.{heading as told_heading, named as told_named, protocol_head as told_protocol_head, record_head as told_record_head};
 ghost use Rattle.std.specs.Prelude.{◌≡◌, ◌++◌, [], Some, IfOk, OnOk};
 
-use super::line::{body_of, specifying, with_role};
+use super::line::{body_of, with_role};
 use super::parent::{Line, Parent, Role};
 use super::protocol::protocol_of;
 use super::record::record_of;
@@ -32,8 +32,15 @@ fn headed(
 ) -> Result<Line, AllocError>
     ensures { IfOk result (λ line. line ≡ record { parent = under; enters = enters; next = next; adds = Some (told_named name.now meaning); form = form }) }
 {
+    let form = Boxed::new(alloc, form)?;
     let adds = one_entry(alloc, name, meaning)?;
-    specifying(alloc, under, enters, adds, form, next)
+    Ok(Line {
+        parent: under,
+        enters,
+        next,
+        adds: Some(adds),
+        form,
+    })
 }
 
 /// The head of a record, with what the lines of its fields tell.

@@ -1,20 +1,18 @@
-use Rattle.std.proofs.Common.{ap}
-use Rattle.occ_expression_forms.specs.declared.tree.Dimension.TheVariants as dv
-use Rattle.occ_expression_forms.specs.declared.tree.Expr.{Expr}
+use Rattle.std.proofs.Common.{refl}
 use Rattle.occ_expression_forms.proofs.Bracketing.{dimension_builtin, dimension_found, dimension_named, dimension_no_operand, no_dimension_here, operand_behind, operand_found, operand_no_builtin, operand_no_named}
 use Rattle.occ_expression_forms.proofs.bracketed.behind_brackets.Goals as goal
 
 pub returns-then-is_dimension-clause-found : goal.returns-then-is_dimension-clause-found
-returns-then-is_dimension-clause-found g c = dimension_found _ _ _ _ _ (c.is_dimension.ensures.0 c.if-is_dimension.true).0 (ap (λ (y : Expr). dv.Sized y) c.in_ok-new.ensures) c.behind_dimension.ensures.found
+returns-then-is_dimension-clause-found g c = dimension_found _ _ _ _ _ (c.is_dimension.ensures.0 c.if-is_dimension.true).0 refl c.behind_dimension.ensures.found
 
 pub returns-then-is_dimension-clause-operand : goal.returns-then-is_dimension-clause-operand
 returns-then-is_dimension-clause-operand g c = dimension_no_operand _ _ _ _ (c.is_dimension.ensures.0 c.if-is_dimension.true).1
 
 pub returns-then-is_dimension-clause-named : goal.returns-then-is_dimension-clause-named
-returns-then-is_dimension-clause-named g c = dimension_named _ _ _ _ _ (ap (λ (y : Expr). dv.Sized y) c.in_ok-new.ensures) c.behind_dimension.ensures.named
+returns-then-is_dimension-clause-named g c = dimension_named _ _ _ _ _ refl c.behind_dimension.ensures.named
 
 pub returns-then-is_dimension-clause-builtin : goal.returns-then-is_dimension-clause-builtin
-returns-then-is_dimension-clause-builtin g c = dimension_builtin _ _ _ _ _ (ap (λ (y : Expr). dv.Sized y) c.in_ok-new.ensures) c.behind_dimension.ensures.builtin
+returns-then-is_dimension-clause-builtin g c = dimension_builtin _ _ _ _ _ refl c.behind_dimension.ensures.builtin
 
 pub returns-clause-found : goal.returns-clause-found
 returns-clause-found g c = operand_found _ _ _ _ _ (rw c.in-Some.is at c.in_ok-operand.ensures) c.behind_first.ensures.found

@@ -1,4 +1,4 @@
-use Rattle.std.proofs.Common.{None, Some}
+use Rattle.std.proofs.Common.{None, Some, refl}
 use Rattle.occ_expression_forms.proofs.Named.{decorated_same, plain_is_not_decorated}
 use Rattle.occ_expression_forms.proofs.operand.behind_literal.Goals as goal
 
@@ -12,6 +12,6 @@ pub returns-in-None-clause-decorated : goal.returns-in-None-clause-decorated
 returns-in-None-clause-decorated g c ty k ends e = let h = rw c.in-Some.is at c.in_ok-decoration.ensures.only (Some ty) k ends e in
     plain_is_not_decorated ty _ c.in-None.is h.0
 
-pub returns-in_ok-form-in-Some-decoration-clause-decorated : goal.returns-in_ok-form-in-Some-decoration-clause-decorated
-returns-in_ok-form-in-Some-decoration-clause-decorated g c ty k ends e = let h = rw c.in-Some.is at c.in_ok-decoration.ensures.only (Some ty) k ends e in
-    (decorated_same _ _ _ ty _ c.in_ok-form-in-Some-decoration.ensures c.in-Some-decoration.is h.0, h.1)
+pub returns-in-Some-decoration-clause-decorated : goal.returns-in-Some-decoration-clause-decorated
+returns-in-Some-decoration-clause-decorated g c ty k ends e = let h = rw c.in-Some.is at c.in_ok-decoration.ensures.only (Some ty) k ends e in
+    (decorated_same _ _ _ ty _ refl c.in-Some-decoration.is h.0, h.1)
