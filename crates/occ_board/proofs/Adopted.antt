@@ -1,9 +1,10 @@
 -- A board that keeps an outcome more.
-use Rattle.std.proofs.Common.{◌≡◌, ◌∙◌, ◌<◌, Bool, true, false, ℕ, List, length, Option, sym, ap, subst}
+use Rattle.std.proofs.Common.{◌≡◌, ◌∙◌, ◌<◌, ◌+◌, Bool, true, false, cond, ℕ, List, length, Option, sym, ap, subst}
 use Rattle.std.specs.Str.{bytes_eq}
 use Rattle.occ_board.proofs.Accepted.{fewer_pending, kept_other, more_done}
 use Rattle.occ_board.proofs.Settled.{flag_at, is_step, step_done, step_kept, step_open, step_rests}
 use Rattle.occ_board.proofs.Spread.{placed_there}
+use Rattle.occ_board.proofs.Told.{before_with, revisions_few, told_with}
 use Rattle.occ_board.specs.Done.{done, done_step, is_kept, is_that, pending_units}
 use Rattle.occ_board.specs.Journal.{replay}
 use Rattle.occ_board.specs.Machine.{State, files_of, pending_answer, unhanded, with_kept}
@@ -11,13 +12,14 @@ use Rattle.occ_board.specs.declared.entry.Entry.{Entry}
 use Rattle.occ_board.specs.inside.Flagged.{IsFullAt, IsSound, flag_of}
 use Rattle.occ_board.specs.inside.Holding.{IsBoard}
 use Rattle.occ_board.specs.inside.Ready.{IsAcceptable}
+use Rattle.occ_board.specs.inside.Told.{AllTold, AreBefore}
 use Rattle.occ_check.specs.Input.{Input}
 use Rattle.occ_project.specs.Entries.{is_among}
 use Rattle.occ_project.specs.declared.reads.Read.{Read}
 use Rattle.occ_report.specs.Checks.{input}
 use Rattle.occ_units.specs.Along.{name_at}
 use Rattle.occ_units.specs.Places.{rest_units}
-use Rattle.occ_units.specs.Project.{IsProject}
+use Rattle.occ_units.specs.Project.{IsProject, file_of, put}
 
 module _ (journal : List Entry) (kept handed : List Input) (s : State) (i : Input) (view : record { journal = journal; kept = kept; handed = handed } ≡ s) (fit : IsAcceptable (files_of s) s.kept i)
     (better : List Input) (same : better ≡ with_kept kept i) where
@@ -36,6 +38,17 @@ module _ (journal : List Entry) (kept handed : List Input) (s : State) (i : Inpu
       ap (λ (ks : List Input). state ks left) same
       ∙ ap (state (with_kept kept i)) (e ∙ ap (unhanded handed) j)
       ∙ ap (λ (t : State). later t.journal (with_kept t.kept i) (unhanded t.handed i)) view
+
+  -- what was told of revisions is so of its reads too
+  pub told_still : (files : List Read) (flags : List Bool) (opened units : ℕ) → IsBoard journal kept files flags opened units → AllTold files better
+  told_still files flags opened units board =
+      let now : i ≡ input files i.unit = subst (λ (fs : List Read). i ≡ input fs i.unit) (sym board.files_are) fits.now in
+      subst (AllTold files) (sym same) (told_with files kept i now board.told)
+
+  pub before_still : ((files : List Read) (file : Read) (name : List ℕ) → file_of (put files file) name ≡ cond (bytes_eq file.name name) file (file_of files name)) → (files : List Read) (flags : List Bool) (opened units : ℕ)
+      → IsBoard journal kept files flags opened units → AreBefore (length journal + 1) better
+  before_still put_law files flags opened units board =
+      subst (AreBefore (length journal + 1)) (sym same) (before_with (replay journal) kept i (length journal + 1) fits.now (revisions_few put_law journal) board.before)
 
   module _ (law : (files : List Read) (kept : List Input) (u : List ℕ) → IsProject files → done files kept u ≡ done_step files kept u (done files kept))
       (project : (es : List Entry) → IsProject (replay es))

@@ -1,16 +1,16 @@
 -- The inputs that are kept, where one comes in place of that of its unit.
-use Rattle.std.proofs.Common.{◌≡◌, ◌∙◌, ◌++◌, ◌<◌, Bool, true, false, cond, ℕ, zero, suc, List, [], ◌∷◌, length, Option, Some, None, refl, sym, ap, arith, if◌then◌else◌}
+use Rattle.std.proofs.Common.{◌≡◌, ◌∙◌, ◌++◌, ◌<◌, ◌⊎◌, inl, inr, Bool, true, false, cond, ℕ, zero, suc, List, [], ◌∷◌, length, Option, Some, None, refl, sym, ap, subst, arith, if◌then◌else◌}
 use Rattle.std.proofs.lemmas.Map.Text.{is_eq-slice_cmp}
 use Rattle.std.proofs.lemmas.Slice.Eq.{bytes_eq-Decides}
 use Rattle.std.specs.BTreeMap.{BTreeMap, get}
 use Rattle.std.specs.List.{slice_get}
-use Rattle.std.specs.Prelude.{slice_set}
+use Rattle.std.specs.Prelude.{slice_set, take}
 use Rattle.std.specs.Option.{option_and_then, option_map}
 use Rattle.std.specs.Ordering.{is_eq}
 use Rattle.std.specs.Str.{bytes_eq}
 use Rattle.occ_board.specs.Machine.{with_kept}
 use Rattle.occ_board.specs.Done.{kept_of}
-use Rattle.occ_board.specs.inside.Holding.{ArePlaces, place_in}
+use Rattle.occ_board.specs.inside.Holding.{ArePlaces, AreSingle, place_in}
 use Rattle.occ_check.specs.Input.{Input}
 use Rattle.occ_project.specs.Reads.{name_cmp}
 
@@ -46,6 +46,12 @@ set_there (j ∷ js) i (suc p) lt = set_there js i p (omega (arith, lt))
 pub last_there : (js : List Input) (i : Input) → slice_get (js ++ i ∷ []) (length js) ≡ Some i
 last_there [] i = refl
 last_there (j ∷ js) i = last_there js i
+
+pub all_but_last : (js : List Input) (i : Input) (n : ℕ) → n ≡ length js → take n (js ++ i ∷ []) ≡ js
+all_but_last [] i zero e = refl
+all_but_last [] i (suc n) e = absurd (omega (arith, e))
+all_but_last (j ∷ js) i zero e = absurd (omega (arith, e))
+all_but_last (j ∷ js) i (suc n) e = ap (λ (is : List Input). j ∷ is) (all_but_last js i n (omega (arith, e)))
 
 -- what is kept of a unit stands at its place
 behind : (j : Input) (js : List Input) (o : Option ℕ) → option_and_then (slice_get (j ∷ js)) (option_map suc o) ≡ option_and_then (slice_get js) o
@@ -116,3 +122,59 @@ pub same_there : (js : List Input) (p : ℕ) (i j : Input) → slice_get js p �
 same_there js p i j e f = one i j (sym e ∙ f) where
   one : (a b : Input) → Some a ≡ Some b → a ≡ b
   one a b s = cc
+
+-- what is found where one was put, or one more is, is that or was there
+set_or : (js : List Input) (i : Input) (p q : ℕ) (k : Input) → slice_get (slice_set js p i) q ≡ Some k → ((p ≡ q) × (i ≡ k)) ⊎ (slice_get js q ≡ Some k)
+set_or [] i p q k h = inr h
+set_or (j ∷ js) i zero zero k h = inl (refl, one i k h) where
+  one : (a b : Input) → Some a ≡ Some b → a ≡ b
+  one a b s = cc
+set_or (j ∷ js) i zero (suc q) k h = inr h
+set_or (j ∷ js) i (suc p) zero k h = inr h
+set_or (j ∷ js) i (suc p) (suc q) k h = elim (set_or js i p q k h) [
+  | inl e ↦ inl (ap suc e.0, e.1)
+  | inr e ↦ inr e
+]
+
+last_or : (js : List Input) (i : Input) (q : ℕ) (k : Input) → slice_get (js ++ i ∷ []) q ≡ Some k → ((q ≡ length js) × (i ≡ k)) ⊎ (slice_get js q ≡ Some k)
+last_or [] i zero k h = inl (refl, one i k h) where
+  one : (a b : Input) → Some a ≡ Some b → a ≡ b
+  one a b s = cc
+last_or [] i (suc q) k h = inr h
+last_or (j ∷ js) i zero k h = inr h
+last_or (j ∷ js) i (suc q) k h = elim (last_or js i q k h) [
+  | inl e ↦ inl (ap suc e.0, e.1)
+  | inr e ↦ inr e
+]
+
+-- none of a unit stands twice, where one comes in place of that of its unit, or is the first of its unit
+pub single_set : (js : List Input) (i : Input) (p : ℕ) → place_in js i.unit ≡ Some p → AreSingle js → AreSingle (slice_set js p i)
+single_set js i p e single q k got = ap (λ (is : List Input). place_in is k.unit) (kept_at js i p e) ∙ places_stay js i k.unit p e ∙ elim (set_or js i p q k got) [
+  | inl h ↦ ap (λ (x : Input). place_in js x.unit) (sym h.1) ∙ e ∙ ap (λ (n : ℕ). Some n) h.0
+  | inr h ↦ single q k h
+]
+
+pub single_last : (js : List Input) (i : Input) → place_in js i.unit ≡ None → AreSingle js → AreSingle (js ++ i ∷ [])
+single_last js i none single q k got = place_more js i k.unit none ∙ elim (last_or js i q k got) [
+  | inl h ↦
+      let same : bytes_eq i.unit k.unit ≡ true = (bytes_eq-Decides i.unit k.unit).1 (ap (λ (x : Input). x.unit) h.1) in
+      ap (λ (b : Bool). cond b (Some (length js)) (place_in js k.unit)) same ∙ ap (λ (n : ℕ). Some n) (sym h.0)
+  | inr h ↦
+      let there : place_in js k.unit ≡ Some q = single q k h in
+      ap (λ (b : Bool). cond b (Some (length js)) (place_in js k.unit)) (other (bytes_eq i.unit k.unit) (λ t. apart ((bytes_eq-Decides i.unit k.unit).0 t) there)) ∙ there
+] where
+  other : (b : Bool) → (b ≡ true → ⊥) → b ≡ false
+  other true f = absurd (f refl)
+  other false f = refl
+
+  apart : i.unit ≡ k.unit → place_in js k.unit ≡ Some q → ⊥
+  apart same there =
+      let gone : place_in js k.unit ≡ None = ap (place_in js) (sym same) ∙ none in
+      cc (gone, there)
+
+-- so what stands at a place is what is kept of its unit
+pub kept_single : (js : List Input) (u : List ℕ) (p : ℕ) (i : Input) → AreSingle js → slice_get js p ≡ Some i → bytes_eq i.unit u ≡ true → kept_of js u ≡ Some i
+kept_single js u p i single got same =
+    let unit : i.unit ≡ u = (bytes_eq-Decides i.unit u).0 same in
+    let there : place_in js u ≡ Some p = ap (place_in js) (sym unit) ∙ single p i got in
+    sym (kept_there js u) ∙ ap (option_and_then (slice_get js)) there ∙ got

@@ -29,3 +29,4 @@ pub mod Working
 pub mod Newly
 pub mod Opened
 pub mod Counted
+pub mod Told

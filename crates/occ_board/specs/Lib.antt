@@ -1,3 +1,4 @@
+pub mod Rules
 pub mod Journal
 pub mod Same
 pub mod Done

@@ -2,4 +2,5 @@
 pub mod Flagged
 pub mod Holding
 pub mod Ready
+pub mod Told
 pub mod Touched

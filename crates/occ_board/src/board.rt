@@ -180,6 +180,7 @@ impl Board {
         }
         self.opened = opened;
         self.units = units;
+        self.kept.follow(self.graph.project(), name);
         Ok(number)
     }
 
@@ -250,12 +251,14 @@ impl Board {
         ensures fewer { OnOk result (pending_answer self.new < pending_answer self.old) }
         ensures err { IfErr result (λ refused. (refused.0 ≡ outcome) × (self.new ≡ self.old)) }
     {
+        put_law();
         done_law();
         height_law();
-        let place = self.kept.keep(outcome)?;
+        let file = self.graph.project().place_or_first(outcome.job().unit());
+        let place = self.kept.keep(file, outcome)?;
         let job = self.kept.at(place).job();
         unhand(&mut self.handed, job);
-        settle_from(&self.graph, &self.kept, &mut self.flags, job.unit());
+        settle_from(&self.graph, &self.kept, &mut self.flags, file, job.unit());
         Ok(())
     }
 

@@ -1,5 +1,6 @@
 ghost use Rattle.occ_board.specs.Done.{done, done_step};
 ghost use Rattle.occ_board.specs.inside.Flagged.{AreFlags, IsFull, IsFullAt, IsSound, flag_of, flagged, rest_flag, unflagged};
+ghost use Rattle.occ_board.specs.inside.Told.{AllTold};
 ghost use Rattle.occ_graph.specs.Graph.{rests};
 ghost use Rattle.occ_units.specs.Along.{name_at};
 ghost use Rattle.occ_units.specs.Places.{graph_of, rest_units};
@@ -126,11 +127,11 @@ pub fn is_flagged(flags: &[bool], place: usize) -> bool
     }
 }
 
-/// Whether a unit has its flag.
-pub fn has_flag(graph: &Graph, flags: &[bool], unit: FileName) -> bool
+/// Whether a unit, which is looked for at a place first, has its flag.
+pub fn has_flag(graph: &Graph, flags: &[bool], hint: usize, unit: FileName) -> bool
     ensures { result ≡ flag_of graph.now flags.now unit }
 {
-    match graph.project().place(unit) {
+    match graph.project().place_near(hint, unit) {
         Some(place) => is_flagged(flags, place),
         None => false,
     }
@@ -171,6 +172,7 @@ fn is_file_done(graph: &Graph, kept: &Kept, flags: &[bool], place: usize, file: 
     requires project { IsProject graph.now }
     requires file { slice_get graph.now place ≡ Some file.now }
     requires sound { IsSound graph.now kept.now flags.now }
+    requires told { AllTold graph.now kept.now }
     ensures { result ≡ done_step graph.now kept.now file.now.name (flag_of graph.now flags.now) }
 {
     if file.source.is_none() {
@@ -186,6 +188,7 @@ fn is_file_done(graph: &Graph, kept: &Kept, flags: &[bool], place: usize, file: 
 fn is_done_by(graph: &Graph, kept: &Kept, flags: &[bool], place: usize) -> bool
     requires within { place < length graph.now }
     requires sound { IsSound graph.now kept.now flags.now }
+    requires told { AllTold graph.now kept.now }
     ensures value { result ≡ done_step graph.now kept.now (name_at graph.now place) (flag_of graph.now flags.now) }
     ensures done { IsTrue result → done graph.now kept.now (name_at graph.now place) ≡ true }
 {
@@ -201,6 +204,7 @@ fn advance(graph: &Graph, kept: &Kept, flags: &mut Flags, place: usize) -> bool
     requires within { place < length graph.now }
     requires len { length flags.old ≡ length graph.now }
     requires sound { IsSound graph.now kept.now flags.old }
+    requires told { AllTold graph.now kept.now }
     ensures len { length flags.new ≡ length graph.now }
     ensures sound { IsSound graph.now kept.now flags.new }
     ensures fewer { IsTrue result → unflagged flags.new < unflagged flags.old }
@@ -219,6 +223,7 @@ fn advance(graph: &Graph, kept: &Kept, flags: &mut Flags, place: usize) -> bool
 fn pass(graph: &Graph, kept: &Kept, flags: &mut Flags) -> bool
     requires len { length flags.old ≡ length graph.now }
     requires sound { IsSound graph.now kept.now flags.old }
+    requires told { AllTold graph.now kept.now }
     ensures len { length flags.new ≡ length graph.now }
     ensures sound { IsSound graph.now kept.now flags.new }
     ensures fewer { IsTrue result → unflagged flags.new < unflagged flags.old }
@@ -237,6 +242,7 @@ fn pass(graph: &Graph, kept: &Kept, flags: &mut Flags) -> bool
 pub fn settle(graph: &Graph, kept: &Kept, flags: &mut Flags)
     requires len { length flags.old ≡ length graph.now }
     requires sound { IsSound graph.now kept.now flags.old }
+    requires told { AllTold graph.now kept.now }
     ensures len { length flags.new ≡ length graph.now }
     ensures flags { AreFlags graph.now kept.now flags.new }
 {
@@ -253,6 +259,7 @@ pub fn spread(graph: &Graph, kept: &Kept, flags: &mut Flags, place: usize)
     requires within { place < length graph.now }
     requires len { length flags.old ≡ length graph.now }
     requires sound { IsSound graph.now kept.now flags.old }
+    requires told { AllTold graph.now kept.now }
     ensures len { length flags.new ≡ length graph.now }
     ensures sound { IsSound graph.now kept.now flags.new }
     ensures least { unflagged flags.new ≤ unflagged flags.old }
@@ -269,10 +276,12 @@ pub fn spread(graph: &Graph, kept: &Kept, flags: &mut Flags, place: usize)
     }
 }
 
-/// Sets the flags of all units that are done, where none was missing but that of this unit. It takes no memory.
-pub fn settle_from(graph: &Graph, kept: &Kept, flags: &mut Flags, unit: FileName)
+/// Sets the flags of all units that are done, where none was missing but that of this unit, which is looked for at a place
+/// first. It takes no memory.
+pub fn settle_from(graph: &Graph, kept: &Kept, flags: &mut Flags, hint: usize, unit: FileName)
     requires len { length flags.old ≡ length graph.now }
     requires sound { IsSound graph.now kept.now flags.old }
+    requires told { AllTold graph.now kept.now }
     requires full { (p : ℕ) → p < length graph.now → bytes_eq unit (name_at graph.now p) ≡ false → IsFullAt graph.now kept.now flags.old p }
     ensures len { length flags.new ≡ length graph.now }
     ensures flags { AreFlags graph.now kept.now flags.new }
@@ -280,7 +289,7 @@ pub fn settle_from(graph: &Graph, kept: &Kept, flags: &mut Flags, unit: FileName
     let _files = graph.project().files();
     done_law();
     height_law();
-    let Some(place) = graph.project().place(unit) else {
+    let Some(place) = graph.project().place_near(hint, unit) else {
         return;
     };
     spread(graph, kept, flags, place);

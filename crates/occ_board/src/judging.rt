@@ -44,12 +44,20 @@ fn judge_reads(project: &Project, accepted: usize, hint: usize, reads: &[Read]) 
     None
 }
 
-/// Whether a used unit is open, in no circle with its user and without its flag.
-fn is_waiting(graph: &Graph, flags: &[bool], hint: usize, user: FileName, unit: FileName) -> bool
+/// Whether a used unit is open, in no circle with its user and without its flag. The user and the unit are looked for at these
+/// places first.
+fn is_waiting(
+    graph: &Graph,
+    flags: &[bool],
+    hint: usize,
+    used_hint: usize,
+    user: FileName,
+    unit: FileName,
+) -> bool
     ensures { result ≡ (is_below (standing_of graph.now user unit) && not (flag_of graph.now flags.now unit)) }
 {
-    match graph.standing_near(hint, user, unit) {
-        Standing::Below => !has_flag(graph, flags, unit),
+    match graph.standing_near(hint, used_hint, user, unit) {
+        Standing::Below => !has_flag(graph, flags, used_hint, unit),
         _ => false,
     }
 }
@@ -60,16 +68,17 @@ fn is_off(
     kept: &Kept,
     flags: &[bool],
     hint: usize,
+    used_hint: usize,
     user: FileName,
     one: &UsedUnit,
 ) -> bool
     requires { AreFlags graph.now kept.now flags.now }
     ensures { result ≡ is_off_now graph.now kept.now user one.now }
 {
-    if is_waiting(graph, flags, hint, user, one.unit) {
+    if is_waiting(graph, flags, hint, used_hint, user, one.unit) {
         return true;
     }
-    !is_unit_now(graph, kept, hint, user, one)
+    !is_unit_now(graph, kept, hint, used_hint, user, one)
 }
 
 /// What the first used unit decides that is so.
@@ -84,19 +93,20 @@ fn judge_used(
     requires { AreFlags graph.now kept.now flags.now }
     ensures { result ≡ option_map (λ one. verdict.Stale one.unit) (find (is_off_now graph.now kept.now user) used.now) }
 {
-    for one in used {
-        if is_off(graph, kept, flags, hint, user, one) {
+    for (number, one) in used.iter().enumerate() {
+        let used_hint = graph.used_hint(hint, number);
+        if is_off(graph, kept, flags, hint, used_hint, user, one) {
             return Some(Verdict::Stale(one.unit));
         }
     }
     None
 }
 
-/// Whether the outcome that is kept of its unit is of the same job.
-fn is_repeated(kept: &Kept, job: &Job) -> bool
+/// Whether the outcome that is kept of its unit, which is looked for at a place first, is of the same job.
+fn is_repeated(kept: &Kept, hint: usize, job: &Job) -> bool
     ensures { result ≡ is_kept kept.now job.now }
 {
-    match kept.get(job.unit()) {
+    match kept.get_near(hint, job.unit()) {
         Some(outcome) => outcome.job().is_same(job),
         None => false,
     }
@@ -113,7 +123,7 @@ fn judge_now(graph: &Graph, kept: &Kept, flags: &[bool], hint: usize, job: &Job)
     match judge_used(graph, kept, flags, hint, job.unit(), job.used()) {
         Some(verdict) => verdict,
         None => {
-            if is_repeated(kept, job) {
+            if is_repeated(kept, hint, job) {
                 Verdict::Repeated
             } else {
                 Verdict::Accepted

@@ -3,11 +3,12 @@ ghost use Rattle.occ_board.specs.Machine.{with_kept};
 ghost use Rattle.occ_board.specs.inside.Holding.{place_in};
 ghost use Rattle.occ_check.specs.Diagnostics.{interface_of};
 ghost use Rattle.std.specs.Option.{option_and_then, option_copied};
-ghost use Rattle.std.specs.Prelude.{◌≡◌, ◌<◌, [], IfErr, IfOk, None, Some, length, slice_get};
+ghost use Rattle.std.specs.Prelude.{◌≡◌, ◌<◌, [], IfErr, IfOk, IfSome, None, Some, length, slice_get};
 
 use occ_base::{FileName, Shared};
 use occ_check::Outcome;
 use occ_types::Interface;
+use occ_units::Project;
 use sqlite_items::at;
 use std::alloc::{AllocError, Global};
 use std::collections::BTreeMap;
@@ -19,6 +20,9 @@ pub struct Kept {
     outcomes: Vec<Outcome>,
     /// The place of the outcome of each unit that has one.
     places: BTreeMap<FileName, usize>,
+    /// Where the outcome of the unit at each place of the project is looked for first. It promises nothing: a hint that is
+    /// wrong costs time.
+    hints: Vec<usize>,
 }
 
 impl Model for Kept {
@@ -36,11 +40,11 @@ impl Model for Kept {
 
     ghost coded = { Prim.hlevel (codes, builtins.the_row.coded, dimensions.the_row.coded, elements.the_row.coded, expressions.the_row.coded, type_forms.the_row.coded, types.the_row.coded) };
 
-    ghost use Rattle.occ_board.specs.inside.Holding.{ArePlaces};
+    ghost use Rattle.occ_board.specs.inside.Holding.{IsKeeping};
 
     ghost view = { λ kept. kept.outcomes.items };
 
-    ghost invariant = { λ kept. ArePlaces kept.places kept.outcomes.items };
+    ghost invariant = { λ kept. IsKeeping kept.places kept.outcomes.items };
 }
 
 impl Kept {
@@ -51,7 +55,58 @@ impl Kept {
         Kept {
             outcomes: Vec::new(alloc),
             places: BTreeMap::new(alloc),
+            hints: Vec::new(alloc),
         }
+    }
+
+    /// Lets the places where outcomes are looked for first follow the places of a project behind an edit of a file, which may
+    /// be new to it.
+    pub fn follow(&mut self, project: &Project, edited: FileName)
+        ensures { self.new ≡ self.old }
+    {
+        let file = project.place_or_first(edited);
+        if self.hints.len() < project.files().len() && file <= self.hints.len() {
+            let _ = self.hints.insert(file, 0);
+        }
+    }
+
+    /// The outcome of the unit that stands at a place of the project is looked for first at this place among the outcomes.
+    fn hint(&mut self, file: usize, place: usize)
+        ensures { self.new ≡ self.old }
+    {
+        if file < self.hints.len() {
+            self.hints[file] = place;
+        }
+    }
+
+    /// The outcome that is kept of a unit, if it stands where it is looked for first.
+    fn hinted(&self, file: usize, unit: FileName) -> Option<&Outcome>
+        ensures { IfSome result (λ outcome. kept_of self.now unit ≡ Some outcome.now) }
+    {
+        let hint = self.hints.get(file)?;
+        let outcome = at(self.outcomes.as_slice(), *hint)?;
+        if outcome.job().unit() == unit {
+            Some(outcome)
+        } else {
+            None
+        }
+    }
+
+    /// The outcome that is kept of a unit, which is looked for at a place of the project first.
+    pub fn get_near(&self, file: usize, unit: FileName) -> Option<&Outcome>
+        ensures { option_copied result ≡ kept_of self.now unit }
+    {
+        match self.hinted(file, unit) {
+            Some(outcome) => Some(outcome),
+            None => self.get(unit),
+        }
+    }
+
+    /// What a unit, which is looked for at a place of the project first, shows by the outcome that is kept of it.
+    pub fn shown_near(&self, file: usize, unit: FileName) -> Option<&Shared<Interface>>
+        ensures { option_copied result ≡ option_and_then interface_of (kept_of self.now unit) }
+    {
+        self.get_near(file, unit)?.interface()
     }
 
     /// The place of the outcome that is kept of a unit.
@@ -74,13 +129,6 @@ impl Kept {
         }
     }
 
-    /// What a unit shows by the outcome that is kept of it.
-    pub fn shown(&self, unit: FileName) -> Option<&Shared<Interface>>
-        ensures { option_copied result ≡ option_and_then interface_of (kept_of self.now unit) }
-    {
-        self.get(unit)?.interface()
-    }
-
     /// The outcome at a place.
     pub fn at(&self, place: usize) -> &Outcome
         requires { place < length self.now }
@@ -89,9 +137,9 @@ impl Kept {
         &self.outcomes[place]
     }
 
-    /// Keeps an outcome, in place of the one that is kept of its unit if one is, and tells its place. Where memory is
-    /// refused it comes back.
-    pub fn keep(&mut self, outcome: Outcome) -> Result<usize, (Outcome, AllocError)>
+    /// Keeps an outcome of the unit at a place of the project, in place of the one that is kept of its unit if one is, and tells
+    /// its place. Where memory is refused it comes back.
+    pub fn keep(&mut self, file: usize, outcome: Outcome) -> Result<usize, (Outcome, AllocError)>
         ensures kept { IfOk result (λ _. self.new ≡ with_kept self.old outcome) }
         ensures place { IfOk result (λ place. slice_get self.new place ≡ Some outcome) }
         ensures err { IfErr result (λ refused. (refused.0 ≡ outcome) × (self.new ≡ self.old)) }
@@ -99,9 +147,14 @@ impl Kept {
         match self.place(outcome.job().unit()) {
             Some(place) => {
                 self.replace(place, outcome);
+                self.hint(file, place);
                 Ok(place)
             }
-            None => self.keep_first(outcome),
+            None => {
+                let place = self.keep_first(outcome)?;
+                self.hint(file, place);
+                Ok(place)
+            }
         }
     }
 

@@ -2,6 +2,7 @@ ghost use Rattle.occ_board.specs.Done.{done, is_kept};
 ghost use Rattle.occ_board.specs.Same.{same_input};
 ghost use Rattle.occ_board.specs.Verdicts.{is_as_read};
 ghost use Rattle.occ_board.specs.inside.Ready.{AreRested, is_rested};
+ghost use Rattle.occ_board.specs.inside.Told.{AllTold, AreTold, IsTold};
 ghost use Rattle.occ_report.specs.Checks.{checked, input, used_as, used_unit};
 ghost use Rattle.occ_units.specs.Places.{is_below, standing_of};
 ghost use Rattle.occ_units.specs.Project.{file_of};
@@ -27,22 +28,42 @@ pub fn is_read_now(project: &Project, hint: usize, read: &Read) -> bool
         && are_same_sources(read.source.as_ref(), project.get_near(hint, read.name))
 }
 
-/// Whether a read is of the file of that name as that is at present.
-fn is_read_of(project: &Project, hint: usize, read: &Read, name: FileName) -> bool
-    ensures { IsTrue result ↔ (read.now ≡ file_of project.now name) }
+/// The same. `told` says that a file with the revision of the read is that read; then no texts are compared.
+fn is_read_still(project: &Project, hint: usize, read: &Read, told: bool) -> bool
+    requires { told ≡ true → IsTold project.now read.now }
+    ensures { IsTrue result ↔ (read.now ≡ file_of project.now read.now.name) }
 {
-    read.name == name && is_read_now(project, hint, read)
+    if told {
+        project.revision_near(hint, read.name) == read.revision
+    } else {
+        is_read_now(project, hint, read)
+    }
 }
 
-/// Whether the reads are of the files of these names as they are at present.
-fn are_reads_now(project: &Project, hint: usize, reads: &[Read], names: &[FileName]) -> bool
+/// Whether a read is of the file of that name as that is at present. `told` is as above.
+fn is_read_of(project: &Project, hint: usize, read: &Read, told: bool, name: FileName) -> bool
+    requires { told ≡ true → IsTold project.now read.now }
+    ensures { IsTrue result ↔ (read.now ≡ file_of project.now name) }
+{
+    read.name == name && is_read_still(project, hint, read, told)
+}
+
+/// Whether the reads are of the files of these names as they are at present. `told` is as above, of each read.
+fn are_reads_now(
+    project: &Project,
+    hint: usize,
+    reads: &[Read],
+    told: bool,
+    names: &[FileName],
+) -> bool
+    requires { told ≡ true → AreTold project.now reads.now }
     ensures { IsTrue result ↔ (reads.now ≡ map (file_of project.now) names.now) }
 {
     if reads.len() != names.len() {
         return false;
     }
     for i in 0..reads.len() {
-        if !is_read_of(project, hint, &reads[i], names[i]) {
+        if !is_read_of(project, hint, &reads[i], told, names[i]) {
             return false;
         }
     }
@@ -64,9 +85,16 @@ fn is_used_as(used: &Used, standing: Standing, shown: Option<&Shared<Interface>>
     }
 }
 
-/// Whether a used unit stands to its user, which is looked for at a place first, as it does at present. If the user rests on
-/// it, it is done.
-pub fn is_unit_now(graph: &Graph, kept: &Kept, hint: usize, user: FileName, one: &UsedUnit) -> bool
+/// Whether a used unit stands to its user as it does at present, where the user and the unit are looked for at these places
+/// first. If the user rests on it, it is done.
+pub fn is_unit_now(
+    graph: &Graph,
+    kept: &Kept,
+    hint: usize,
+    used_hint: usize,
+    user: FileName,
+    one: &UsedUnit,
+) -> bool
     requires done { is_below (standing_of graph.now user one.now.unit) ≡ true → done graph.now kept.now one.now.unit ≡ true }
     ensures { IsTrue result ↔ (one.now ≡ used_unit graph.now user (checked graph.now) one.now.unit) }
 {
@@ -75,8 +103,8 @@ pub fn is_unit_now(graph: &Graph, kept: &Kept, hint: usize, user: FileName, one:
     input_law();
     is_used_as(
         &one.used,
-        graph.standing_near(hint, user, one.unit),
-        kept.shown(one.unit),
+        graph.standing_near(hint, used_hint, user, one.unit),
+        kept.shown_near(used_hint, one.unit),
     )
 }
 
@@ -86,6 +114,7 @@ fn is_unit_of(
     graph: &Graph,
     kept: &Kept,
     hint: usize,
+    used_hint: usize,
     user: FileName,
     one: &UsedUnit,
     name: FileName,
@@ -93,7 +122,7 @@ fn is_unit_of(
     requires done { is_below (standing_of graph.now user name) ≡ true → done graph.now kept.now name ≡ true }
     ensures { IsTrue result ↔ (one.now ≡ used_unit graph.now user (checked graph.now) name) }
 {
-    one.unit == name && is_unit_now(graph, kept, hint, user, one)
+    one.unit == name && is_unit_now(graph, kept, hint, used_hint, user, one)
 }
 
 /// Whether the used units are those of these names, and stand to their user as they do at present.
@@ -112,7 +141,8 @@ fn are_units_now(
         return false;
     }
     for i in 0..used.len() {
-        if !is_unit_of(graph, kept, hint, user, &used[i], names[i]) {
+        let used_hint = graph.used_hint(hint, i);
+        if !is_unit_of(graph, kept, hint, used_hint, user, &used[i], names[i]) {
             return false;
         }
     }
@@ -120,9 +150,17 @@ fn are_units_now(
 }
 
 /// Whether a job looks at what is so at present of a unit, which is looked for at a place first. All that the unit rests on is
-/// done.
-pub fn is_present(graph: &Graph, kept: &Kept, hint: usize, unit: FileName, job: &Job) -> bool
-    requires { is_rested graph.now kept.now unit ≡ true }
+/// done. `told` says that a file with the revision of one of the job's reads is that read; then no texts are compared.
+pub fn is_present(
+    graph: &Graph,
+    kept: &Kept,
+    hint: usize,
+    unit: FileName,
+    job: &Job,
+    told: bool,
+) -> bool
+    requires rested { is_rested graph.now kept.now unit ≡ true }
+    requires told { told ≡ true → AreTold graph.now job.now.reads }
     ensures { result ≡ same_input job.now (input graph.now unit) }
 {
     job.unit() == unit
@@ -130,6 +168,7 @@ pub fn is_present(graph: &Graph, kept: &Kept, hint: usize, unit: FileName, job: 
             graph.project(),
             hint,
             job.reads().as_slice(),
+            told,
             graph.reads_near(hint, &unit),
         )
         && are_units_now(
@@ -144,11 +183,12 @@ pub fn is_present(graph: &Graph, kept: &Kept, hint: usize, unit: FileName, job: 
 
 /// Whether the outcome that is kept of a unit, which is looked for at a place first, looked at what is so at present.
 pub fn is_kept_now(graph: &Graph, kept: &Kept, hint: usize, unit: FileName) -> bool
-    requires { is_rested graph.now kept.now unit ≡ true }
+    requires rested { is_rested graph.now kept.now unit ≡ true }
+    requires told { AllTold graph.now kept.now }
     ensures { result ≡ is_kept kept.now (input graph.now unit) }
 {
-    match kept.get(unit) {
-        Some(outcome) => is_present(graph, kept, hint, unit, outcome.job()),
+    match kept.get_near(hint, unit) {
+        Some(outcome) => is_present(graph, kept, hint, unit, outcome.job(), true),
         None => false,
     }
 }

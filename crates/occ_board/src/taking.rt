@@ -33,11 +33,13 @@ fn used_as(standing: Standing, shown: Option<&Shared<Interface>>) -> Result<Used
     }
 }
 
-/// A used unit as it stands at present to its user, which is looked for at a place first. If the user rests on it, it is done.
+/// A used unit as it stands at present to its user, where the user and the unit are looked for at these places first. If the
+/// user rests on it, it is done.
 fn unit_now(
     graph: &Graph,
     kept: &Kept,
     hint: usize,
+    used_hint: usize,
     user: FileName,
     unit: FileName,
 ) -> Result<UsedUnit, AllocError>
@@ -47,7 +49,8 @@ fn unit_now(
     let _files = graph.project().files();
     kept_law();
     input_law();
-    let used = used_as(graph.standing_near(hint, user, unit), kept.shown(unit))?;
+    let standing = graph.standing_near(hint, used_hint, user, unit);
+    let used = used_as(standing, kept.shown_near(used_hint, unit))?;
     Ok(UsedUnit { unit, used })
 }
 
@@ -64,8 +67,9 @@ fn units_now(
     ensures { IfOk result (λ used. used ≡ map (used_unit graph.now user (checked graph.now)) units.now) }
 {
     let mut used = Items::new(alloc);
-    for unit in units {
-        used.push(unit_now(graph, kept, hint, user, *unit)?)?;
+    for (number, unit) in units.iter().enumerate() {
+        let used_hint = graph.used_hint(hint, number);
+        used.push(unit_now(graph, kept, hint, used_hint, user, *unit)?)?;
     }
     Ok(used)
 }
@@ -88,7 +92,7 @@ fn is_handed(graph: &Graph, kept: &Kept, handed: &[Job], hint: usize, unit: File
     ensures { result ≡ is_input_among handed.now (input graph.now unit) }
 {
     for job in handed {
-        if is_present(graph, kept, hint, unit, job) {
+        if is_present(graph, kept, hint, unit, job, false) {
             return true;
         }
     }

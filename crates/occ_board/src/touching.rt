@@ -1,6 +1,7 @@
 ghost use Rattle.occ_board.specs.Done.{done};
 ghost use Rattle.occ_board.specs.Edits.{IsApart};
 ghost use Rattle.occ_board.specs.inside.Flagged.{AreFlags, IsFullAt, IsSound, unflagged};
+ghost use Rattle.occ_board.specs.inside.Told.{AllTold, AreBefore};
 ghost use Rattle.occ_board.specs.inside.Touched.{IsClosed};
 ghost use Rattle.occ_check.specs.Input.{Input};
 ghost use Rattle.occ_graph.specs.Graph.{has_edge, is_among as is_place};
@@ -116,6 +117,7 @@ fn resettle(graph: &Graph, kept: &Kept, flags: &mut Flags, touched: &Touched)
     requires len { length flags.old ≡ length graph.now }
     requires marks { length touched.now ≡ length graph.now }
     requires sound { IsSound graph.now kept.now flags.old }
+    requires told { AllTold graph.now kept.now }
     requires full { (p : ℕ) → p < length graph.now → get_or touched.now p false ≡ false → IsFullAt graph.now kept.now flags.old p }
     ensures len { length flags.new ≡ length graph.now }
     ensures flags { AreFlags graph.now kept.now flags.new }
@@ -145,6 +147,8 @@ fn renew_new(
     requires spelled { AreSpelled graph.old }
     requires len { length flags.old ≡ length graph.old }
     requires flags { AreFlags graph.old kept.now flags.old }
+    requires told { AllTold graph.old kept.now }
+    requires before { AreBefore revision kept.now }
     ensures graph { OnOk result (graph.new ≡ put graph.old (record { name = name; revision = revision; source = source })) }
     ensures len { OnOk result (length flags.new ≡ length graph.new) }
     ensures flags { OnOk result (AreFlags graph.new kept.now flags.new) }
@@ -158,7 +162,7 @@ fn renew_new(
     let next = flags.with_place(alloc, place)?;
     graph.add(alloc, place, name, revision, source)?;
     *flags = next;
-    settle_from(graph, kept, flags, name);
+    settle_from(graph, kept, flags, place, name);
     Ok(())
 }
 
@@ -172,12 +176,15 @@ fn renew_all(
     revision: u32,
     source: Option<Shared<Source>>,
 ) -> Result<(), AllocError>
-    requires { place_of name graph.old ≡ None }
+    requires new { place_of name graph.old ≡ None }
+    requires told { AllTold graph.old kept.now }
+    requires before { AreBefore revision kept.now }
     ensures graph { OnOk result (graph.new ≡ put graph.old (record { name = name; revision = revision; source = source })) }
     ensures len { OnOk result (length flags.new ≡ length graph.new) }
     ensures flags { OnOk result (AreFlags graph.new kept.now flags.new) }
     ensures err { OnErr result ((graph.new ≡ graph.old) × (flags.new ≡ flags.old)) }
 {
+    put_law();
     let mut next = Flags::none(alloc, graph.project().files().len() + 1)?;
     graph.put(alloc, name, revision, source)?;
     settle(graph, kept, &mut next);
@@ -200,6 +207,8 @@ fn renew_at(
     requires spelled { AreSpelled graph.old }
     requires len { length flags.old ≡ length graph.old }
     requires flags { AreFlags graph.old kept.now flags.old }
+    requires told { AllTold graph.old kept.now }
+    requires before { AreBefore revision kept.now }
     ensures graph { OnOk result (graph.new ≡ put graph.old (record { name = name; revision = revision; source = source })) }
     ensures len { OnOk result (length flags.new ≡ length graph.new) }
     ensures flags { OnOk result (AreFlags graph.new kept.now flags.new) }
@@ -233,6 +242,8 @@ pub fn renew(
     requires spelled { AreSpelled graph.old }
     requires len { length flags.old ≡ length graph.old }
     requires flags { AreFlags graph.old kept.now flags.old }
+    requires told { AllTold graph.old kept.now }
+    requires before { AreBefore revision kept.now }
     ensures graph { OnOk result (graph.new ≡ put graph.old (record { name = name; revision = revision; source = source })) }
     ensures len { OnOk result (length flags.new ≡ length graph.new) }
     ensures flags { OnOk result (AreFlags graph.new kept.now flags.new) }

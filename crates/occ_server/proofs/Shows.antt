@@ -10,8 +10,7 @@ use Rattle.occ_board.specs.declared.report.Row.{Row}
 use Rattle.occ_board.specs.declared.report.Shown.TheVariants as shown
 use Rattle.occ_check.specs.Input.{Input}
 use Rattle.occ_project.specs.declared.reads.Read.{Read}
-use Rattle.occ_report.specs.Checks.{diags}
-use Rattle.occ_report.specs.Report.{open_units}
+use Rattle.occ_board.specs.Rules.{diags, open_units}
 use Rattle.occ_server.specs.Snapshots.{IsShown, IsSnapshot}
 
 units_are : (files : List Read) (kept : List Input) (us : List (List ℕ)) → map (λ (row : Row). row.unit) (map (row_of files kept) us) ≡ us

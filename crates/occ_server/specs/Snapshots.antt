@@ -5,8 +5,7 @@ use Rattle.occ_board.specs.declared.entry.Entry.{Entry}
 use Rattle.occ_board.specs.declared.report.Row.{Row}
 use Rattle.occ_board.specs.declared.report.Shown.TheVariants as shown
 use Rattle.occ_project.specs.declared.reads.Read.{Read}
-use Rattle.occ_report.specs.Checks.{diags}
-use Rattle.occ_report.specs.Report.{open_units, whole_report}
+use Rattle.occ_board.specs.Rules.{diags, open_units, whole_report}
 use Rattle.occ_server.specs.Receipts.{Numbered, entry_at}
 use Rattle.occ_server.specs.declared.fault.ReportFault.{ReportFault}
 use Rattle.occ_server.specs.declared.fault.ReportFault.TheVariants as fault

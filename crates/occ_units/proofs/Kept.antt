@@ -1,7 +1,7 @@
 -- What a graph keeps is what the definitions give.
 use Rattle.std.proofs.Common.{◌≡◌, ℕ, zero, suc, true, false, Bool, cond, not, ◌&&◌, ◌||◌, ◌==◌, List, [], ◌∷◌, map, Option, Some, None, refl, sym, ap, subst, ◌∙◌}
 use Rattle.std.specs.List.{filter, slice_get}
-use Rattle.std.specs.Option.{option_and_then, option_map}
+use Rattle.std.specs.Option.{is_some, option_and_then, option_map, unwrap_or}
 use Rattle.std.proofs.lemmas.Bool.{eqb-true}
 use Rattle.occ_base.specs.FileName.{is_unit}
 use Rattle.occ_graph.specs.Graph.{Graph, IsWhole, has_edge, rests, targets}
@@ -9,12 +9,15 @@ use Rattle.occ_graph.specs.Graph as graph
 use Rattle.occ_project.specs.declared.reads.Read.{Read}
 use Rattle.occ_project.specs.Entries.{is_among}
 use Rattle.occ_project.specs.Expansion.{Expansion, expansion}
-use Rattle.occ_project.specs.Reads.{place}
+use Rattle.occ_project.specs.Reads.{member, place}
 use Rattle.occ_units.specs.declared.facts.Facts.{Facts}
-use Rattle.occ_units.specs.Places.{circular_at, graph_of, is_circular, places_of}
+use Rattle.occ_units.specs.declared.standing.Standing.TheVariants as standing
+use Rattle.occ_units.specs.Places.{circular_at, graph_of, is_circular, places_of, standing_of}
+use Rattle.occ_units.specs.Project.{file_of}
 use Rattle.occ_units.specs.Units.{read_names, used_units}
 use Rattle.occ_units.specs.inside.Keeping.{facts_of}
-use Rattle.occ_units.proofs.Edges.{edge, file_at, read_alone, unused, whole}
+use Rattle.occ_units.proofs.Finding.{member_at}
+use Rattle.occ_units.proofs.Edges.{edge, file_at, file_there, read_alone, same_place, unused, used_by_edge, whole}
 
 -- the edges
 edges_of : (files some : List Read) → map (λ (f : Facts). places_of files f.uses) (map (λ (file : Read). facts_of files file.name) some) ≡ map (λ (file : Read). places_of files (used_units files file.name)) some
@@ -54,22 +57,20 @@ uses_none files unit e = by (place unit files) refl e where
   by (Some p) q h = cc
 
 -- what it reads
-pub reads_found : (files : List Read) (unit : List ℕ) (found : Expansion) → is_unit unit ≡ true → Some found ≡ option_and_then (λ (at : ℕ). (facts_of files unit).expanded) (place unit files) → found.reads ≡ read_names files unit
-reads_found files unit found u e = by (place unit files) (is_unit unit) u e where
-  by : (o : Option ℕ) (b : Bool) → b ≡ true → Some found ≡ option_and_then (λ (at : ℕ). cond b (Some (expansion files unit)) None) o → found.reads ≡ cond b (expansion files unit).reads []
-  by None b t h = cc
-  by (Some p) true t h = let is : found ≡ expansion files unit = cc in ap (λ (x : Expansion). x.reads) is
-  by (Some p) false t h = cc
+pub reads_found : (files : List Read) (unit : List ℕ) (found : Expansion) → Some found ≡ option_and_then (λ (at : ℕ). (facts_of files unit).expanded) (place unit files) → found.reads ≡ read_names files unit
+reads_found files unit found e = by (place unit files) (is_unit unit) e where
+  by : (o : Option ℕ) (b : Bool) → Some found ≡ option_and_then (λ (at : ℕ). cond b (Some (expansion files unit)) None) o → found.reads ≡ cond b (expansion files unit).reads []
+  by None b h = cc
+  by (Some p) true h = let is : found ≡ expansion files unit = cc in ap (λ (x : Expansion). x.reads) is
+  by (Some p) false h = cc
 
-pub reads_none : (files : List Read) (unit : List ℕ) → is_unit unit ≡ true → None ≡ option_and_then (λ (at : ℕ). (facts_of files unit).expanded) (place unit files) → unit ∷ [] ≡ read_names files unit
-reads_none files unit u e = by (place unit files) (is_unit unit) refl u e where
-  by : (o : Option ℕ) (b : Bool) → place unit files ≡ o → b ≡ true → None ≡ option_and_then (λ (at : ℕ). cond b (Some (expansion files unit)) None) o → unit ∷ [] ≡ read_names files unit
-  by None b p t h = sym (read_alone files unit p u)
+pub reads_none : (files : List Read) (unit : List ℕ) → None ≡ option_and_then (λ (at : ℕ). (facts_of files unit).expanded) (place unit files) → cond (is_unit unit) (unit ∷ []) [] ≡ read_names files unit
+reads_none files unit e = by (place unit files) (is_unit unit) refl refl e where
+  by : (o : Option ℕ) (b : Bool) → place unit files ≡ o → is_unit unit ≡ b → None ≡ option_and_then (λ (at : ℕ). cond b (Some (expansion files unit)) None) o → cond b (unit ∷ []) [] ≡ read_names files unit
+  by None true p t h = sym (read_alone files unit p t)
+  by None false p t h = sym (ap (λ (b : Bool). cond b (expansion files unit).reads []) t)
   by (Some p) true q t h = cc
-  by (Some p) false q t h = cc
-
-pub reads_no_unit : (files : List Read) (unit : List ℕ) → is_unit unit ≡ false → [] ≡ read_names files unit
-reads_no_unit files unit u = sym (ap (λ (b : Bool). cond b (expansion files unit).reads []) u)
+  by (Some p) false q t h = sym (ap (λ (b : Bool). cond b (expansion files unit).reads []) t)
 
 -- those that pass a test
 passing : (ws : List ℕ) (test : ℕ → Bool) (q : ℕ) → graph.is_among (filter test ws) q ≡ (graph.is_among ws q && test q)
@@ -101,6 +102,19 @@ in_circle files u v p q e f = by (is_among (used_units files u) v) refl ∙ ap (
   by true h = ap not (resting (graph_of files) p q (edge files u v p q e f h)) ∙ twice (graph.is_circular (graph_of files) p q)
   by false h = refl
 
+-- an edge leads where one uses the other
+pub edge_used : (files : List Read) (u v : List ℕ) (p q : ℕ) → place u files ≡ Some p → place v files ≡ Some q → has_edge (graph_of files) p q ≡ is_among (used_units files u) v
+edge_used files u v p q e f = by (has_edge (graph_of files) p q) (is_among (used_units files u) v) back (edge files u v p q e f) where
+  back : has_edge (graph_of files) p q ≡ true → is_among (used_units files u) v ≡ true
+  back h =
+      let used = used_by_edge files u p q e h in
+      subst (λ (w : List ℕ). is_among (used_units files u) w ≡ true) (same_place files used.0 v q used.2 f) used.1
+
+  by : (b c : Bool) → (b ≡ true → c ≡ true) → (c ≡ true → b ≡ true) → b ≡ c
+  by true c k l = sym (k refl)
+  by false true k l = l refl
+  by false false k l = refl
+
 and_none : (b c : Bool) → c ≡ false → false ≡ (b && c)
 and_none true c e = sym e
 and_none false c e = refl
@@ -119,3 +133,22 @@ pub used_in_circle : (files : List Read) (u v : List ℕ) (p q : ℕ) (among : B
     → among ≡ graph.is_among (rests (graph_of files) p) q → not among ≡ is_circular files u v
 used_in_circle files u v p q among e f h a =
     ap not a ∙ ap (λ (b : Bool). b && not (graph.is_among (rests (graph_of files) p) q)) (sym h) ∙ in_circle files u v p q e f
+
+pub no_circle_without : (files : List Read) (u v : List ℕ) (p q : ℕ) (used : Bool) → place u files ≡ Some p → place v files ≡ Some q → used ≡ has_edge (graph_of files) p q → used ≡ false → used ≡ is_circular files u v
+no_circle_without files u v p q used e f h none = none ∙ without (is_among (used_units files u) v) (circular_at (graph_of files) (place u files) (place v files)) (sym (edge_used files u v p q e f) ∙ sym h ∙ none) where
+  without : (b c : Bool) → b ≡ false → false ≡ (b && c)
+  without true c k = cc
+  without false c k = refl
+
+-- a file at its place, and one that has none
+pub open_there : (files : List Read) (name : List ℕ) (p : ℕ) (file : Read) → place name files ≡ Some p → Some file ≡ slice_get files p → is_some file.source ≡ is_some (file_of files name).source
+open_there files name p file e h =
+    ap (λ (o : Option Read). is_some (unwrap_or o (record { name = name; revision = 0; source = None })).source) (h ∙ file_there files name p e)
+
+pub closed_there : (files : List Read) (name : List ℕ) (p : ℕ) → place name files ≡ Some p → None ≡ slice_get files p → false ≡ is_some (file_of files name).source
+closed_there files name p e h = ap (λ (o : Option Read). is_some (unwrap_or o (record { name = name; revision = 0; source = None })).source) (h ∙ file_there files name p e)
+
+pub absent_standing : (files : List Read) (u v : List ℕ) → place v files ≡ None → standing.Absent ≡ standing_of files u v
+absent_standing files u v e =
+    let none : None ≡ member files v = sym (ap (option_and_then (slice_get files)) e) ∙ member_at v files in
+    ap (λ (o : Option Read). cond (is_some (unwrap_or o (record { name = v; revision = 0; source = None })).source) (cond (is_circular files u v) standing.Circular standing.Below) standing.Absent) none

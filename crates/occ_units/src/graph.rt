@@ -1,4 +1,5 @@
-ghost use Rattle.occ_graph.specs.Graph.{is_among as is_place, rests as rests_in};
+ghost use Rattle.occ_base.specs.FileName.{is_unit};
+ghost use Rattle.occ_graph.specs.Graph.{is_among as is_place, rests as rests_in, targets};
 ghost use Rattle.occ_project.specs.Entries.{is_among};
 ghost use Rattle.occ_project.specs.Reads.{place, place as first_place};
 ghost use Rattle.occ_units.specs.Along.{name_at};
@@ -8,11 +9,11 @@ ghost use Rattle.occ_units.specs.Project.{put};
 ghost use Rattle.occ_units.specs.Units.{read_names, used_units};
 ghost use Rattle.occ_units.specs.inside.Keeping.{all_facts as all_facts_of, facts_of as the_facts_of};
 ghost use Rattle.std.specs.Option.{is_some, option_and_then, option_copied, option_map};
-ghost use Rattle.std.specs.Prelude.{[], false, get_or, IfOk, IfSome, IsFalse, MatchOption, None, OnErr, OnOk, Some, length, List, slice_get, true, ℕ, ◌≡◌, ◌<◌};
+ghost use Rattle.std.specs.Prelude.{[], ◌∷◌, cond, false, get_or, IfOk, IfSome, IsFalse, MatchOption, None, OnErr, OnOk, Some, length, List, slice_get, true, ℕ, ◌≡◌, ◌<◌};
 
 use super::adding::{add_file, may_read, may_use};
 use super::behind::{all_facts_behind, use_same};
-use super::facts::{Facts, all_facts, does_read, is_name_among};
+use super::facts::{Facts, all_facts, does_read};
 use super::links::links_of;
 use super::project::share;
 use super::renewing::{find_readers, renew};
@@ -42,6 +43,17 @@ fn facts_at(all: &[Shared<Facts>], place: usize) -> Option<&Facts>
     match all.get(place) {
         Some(facts) => Some(facts.get()),
         None => None,
+    }
+}
+
+/// The name of a unit, and of an include nothing: what the expansion looks up of a file that is not there.
+fn own_name(unit: &FileName) -> &[FileName]
+    ensures { result.now ≡ cond (is_unit unit.now) (unit.now ∷ []) [] }
+{
+    if unit.is_unit() {
+        slice::from_ref(unit)
+    } else {
+        &[]
     }
 }
 
@@ -320,14 +332,13 @@ impl Graph {
         Ok(Some(links))
     }
 
-    /// Where a file that the one at a place uses is looked for first.
-    fn used_hint(&self, place: usize, used: FileName) -> usize {
-        for to in row(self.links.edges(), place) {
-            if self.project.is_at(*to, used) {
-                return *to;
-            }
+    /// Where the file that the one at a place uses under this number, from 0, is looked for first. It promises nothing: a place
+    /// that is wrong costs time.
+    pub fn used_hint(&self, place: usize, number: usize) -> usize {
+        match row(self.links.edges(), place).get(number) {
+            Some(to) => *to,
+            None => 0,
         }
-        0
     }
 
     /// The project that it is of.
@@ -385,12 +396,9 @@ impl Graph {
     pub fn reads_near<'a>(&'a self, hint: usize, unit: &'a FileName) -> &'a [FileName]
         ensures { result.now ≡ read_names self.now unit.now }
     {
-        if !unit.is_unit() {
-            return &[];
-        }
         match self.expanded(hint, *unit) {
             Some(expanded) => expanded.reads(),
-            None => slice::from_ref(unit),
+            None => own_name(unit),
         }
     }
 
@@ -424,43 +432,53 @@ impl Graph {
     pub fn is_circular(&self, unit: FileName, used: FileName) -> bool
         ensures { result ≡ uses_in_circle self.now unit used }
     {
-        self.is_circular_near(0, 0, unit, used)
+        match self.project.place(used) {
+            Some(to) => self.is_circular_to(0, unit, used, to),
+            None => false,
+        }
     }
 
-    /// The same of units that are looked for at these places first.
-    fn is_circular_near(
-        &self,
-        hint: usize,
-        used_hint: usize,
-        unit: FileName,
-        used: FileName,
-    ) -> bool
+    /// The same where the one that is used stands at this place, and the one that uses it is looked for at a place first.
+    fn is_circular_to(&self, hint: usize, unit: FileName, used: FileName, to: usize) -> bool
+        requires { first_place used self.now ≡ Some to }
         ensures { result ≡ uses_in_circle self.now unit used }
     {
-        let Some(from) = self.project.place_near(hint, unit) else {
-            return false;
-        };
-        let Some(to) = self.project.place_near(used_hint, used) else {
-            return false;
-        };
-        is_name_among(self.uses_near(from, unit), used) && !is_place_among(self.rests(from), to)
+        match self.project.place_near(hint, unit) {
+            Some(from) => self.does_use(from, to) && !is_place_among(self.rests(from), to),
+            None => false,
+        }
+    }
+
+    /// Whether an edge leads from the one place to the other.
+    fn does_use(&self, from: usize, to: usize) -> bool
+        ensures { result ≡ is_place (targets (graph_of self.now) from) to }
+    {
+        is_place_among(row(self.links.edges(), from), to)
     }
 
     /// How a unit stands to one that uses it.
     pub fn standing(&self, unit: FileName, used: FileName) -> Standing
         ensures { result ≡ standing_of self.now unit used }
     {
-        self.standing_near(0, unit, used)
+        self.standing_near(0, 0, unit, used)
     }
 
-    /// The same where the one that uses it is looked for at a place first.
-    pub fn standing_near(&self, hint: usize, unit: FileName, used: FileName) -> Standing
+    /// The same where the one that uses it, and the one that is used, are looked for at these places first.
+    pub fn standing_near(
+        &self,
+        hint: usize,
+        used_hint: usize,
+        unit: FileName,
+        used: FileName,
+    ) -> Standing
         ensures { result ≡ standing_of self.now unit used }
     {
-        let used_hint = self.used_hint(hint, used);
-        if self.project.get_near(used_hint, used).is_none() {
+        let Some(to) = self.project.place_near(used_hint, used) else {
+            return Standing::Absent;
+        };
+        if !self.project.is_open_at(to) {
             Standing::Absent
-        } else if self.is_circular_near(hint, used_hint, unit, used) {
+        } else if self.is_circular_to(hint, unit, used, to) {
             Standing::Circular
         } else {
             Standing::Below

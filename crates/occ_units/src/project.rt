@@ -3,8 +3,8 @@ ghost use Rattle.occ_units.specs.Along.{name_at as the_name_at};
 ghost use Rattle.occ_units.specs.Project.{IsProject, file_of, put};
 ghost use Rattle.occ_units.specs.New.{IsGap};
 ghost use Rattle.std.specs.List.{remove};
-ghost use Rattle.std.specs.Option.{option_copied};
-ghost use Rattle.std.specs.Prelude.{[], map, IfOk, IfSome, IsTrue, MatchResult, None, OnErr, OnOk, Some, length, ◌≡◌, ◌<◌};
+ghost use Rattle.std.specs.Option.{is_some, option_copied};
+ghost use Rattle.std.specs.Prelude.{[], map, IfOk, IfSome, IsTrue, MatchResult, List, None, OnErr, OnOk, Some, length, ℕ, ◌≡◌, ◌<◌};
 
 use occ_base::{FileName, Items, Shared};
 use occ_forms::Source;
@@ -211,6 +211,16 @@ impl Project {
         match self.place_near(hint, name) {
             Some(place) => at(self.files.as_slice(), place),
             None => None,
+        }
+    }
+
+    /// Whether the file at a place is open.
+    pub(crate) fn is_open_at(&self, place: usize) -> bool
+        ensures { (name : List ℕ) → first_place name self.now ≡ Some place → result ≡ is_some (file_of self.now name).source }
+    {
+        match at(self.files.as_slice(), place) {
+            Some(file) => file.source.is_some(),
+            None => false,
         }
     }
 

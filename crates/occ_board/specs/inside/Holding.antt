@@ -1,5 +1,5 @@
 -- What holds of what a board keeps.
-use Rattle.std.specs.Prelude.{◌≡◌, ◌≤◌, ◌+◌, ◌-◌, ℕ, suc, Bool, true, cond, List, [], ◌∷◌, length, Option, Some, None, if◌then◌else◌}
+use Rattle.std.specs.Prelude.{◌≡◌, ◌≤◌, ◌+◌, ◌-◌, ℕ, suc, Bool, true, cond, List, [], ◌∷◌, length, slice_get, Option, Some, None, if◌then◌else◌}
 use Rattle.std.specs.List.{AllByRecursion}
 use Rattle.std.specs.BTreeMap.{BTreeMap, get}
 use Rattle.std.specs.Option.{option_map}
@@ -10,6 +10,7 @@ use Rattle.occ_board.specs.declared.entry.Edit.{Edit}
 use Rattle.occ_board.specs.declared.entry.Edit.TheVariants as edit
 use Rattle.occ_board.specs.declared.entry.Entry.{Entry}
 use Rattle.occ_board.specs.inside.Flagged.{AreFlags}
+use Rattle.occ_board.specs.inside.Told.{AllTold, AreBefore}
 use Rattle.occ_check.specs.Input.{Input}
 use Rattle.occ_project.specs.Reads.{name_cmp}
 use Rattle.occ_project.specs.declared.reads.Read.{Read}
@@ -25,6 +26,10 @@ pub record IsBoard (journal : List Entry) (kept : List Input) (files : List Read
   pub flags_are : AreFlags files kept flags
   -- of units alone, open or not
   pub of_units : AllByRecursion (λ i. is_unit i.unit ≡ true) kept
+  -- of what kept inputs looked at, a file that has the same revision has the same text
+  pub told : AllTold files kept
+  -- and none has the revision of the next edit, or a later one
+  pub before : AreBefore (length journal + 1) kept
   -- how many files are open, includes too, and how many of them are units
   pub opened_are : opened ≡ open_number files
   pub units_are : units ≡ length (open_units files)
@@ -37,6 +42,14 @@ place_in (i ∷ is) u = if bytes_eq i.unit u then Some 0 else option_map suc (pl
 -- of each unit the place of the input that is kept of it, by name
 abbrev pub ArePlaces : BTreeMap (List ℕ) ℕ → List Input → Type 0
 ArePlaces places kept = (u : List ℕ) → get name_cmp places u ≡ place_in kept u
+
+-- each stands at the place of its unit, so none of a unit stands twice
+abbrev pub AreSingle : List Input → Type 0
+AreSingle kept = (p : ℕ) (i : Input) → slice_get kept p ≡ Some i → place_in kept i.unit ≡ Some p
+
+pub record IsKeeping (places : BTreeMap (List ℕ) ℕ) (kept : List Input) : Type 0 where
+  pub places_are : ArePlaces places kept
+  pub single : AreSingle kept
 
 -- how many open files of a sort there are behind an edit that is not refused, n before it; the edit's file is of that sort, or is not
 abbrev pub count_then : Bool → ℕ → Edit → ℕ

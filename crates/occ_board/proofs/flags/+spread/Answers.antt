@@ -21,7 +21,7 @@ spread-requires t c =
     let among = subst (λ (ws : List ℕ). is_among ws (get_or users i 0) ≡ true) c.users-users.ensures (among_there users i c.loop-user-test.true) in
     let fewer = c.loop-user.invariant.fewer in
     let least = c.decreases in
-    (omega (arith, fewer, least), (c.users_law.ensures.within c.args.graph.now (get_or users i 0) c.args.place among, (c.loop-user.invariant.len, c.loop-user.invariant.sound)))
+    (omega (arith, fewer, least), (c.users_law.ensures.within c.args.graph.now (get_or users i 0) c.args.place among, (c.loop-user.invariant.len, (c.loop-user.invariant.sound, c.requires.told))))
 
 pub loop-user-preserved : goal.loop-user-preserved
 loop-user-preserved t c =

@@ -6,8 +6,8 @@ use Rattle.occ_board.proofs.flags.is_file_done.Goals as goal
 pub are_rests_flagged-requires : goal.are_rests_flagged-requires
 are_rests_flagged-requires c = within c.args.graph.now c.args.place c.args.file.now c.requires.file
 
-pub is_kept_now-requires : goal.is_kept_now-requires
-is_kept_now-requires c = file_rested c.args.graph.now c.args.kept.now c.args.flags.now c.args.place c.args.file.now c.requires.file c.requires.sound (sym c.if-not-are_rests_flagged.ensures)
+pub is_kept_now-requires-clause-rested : goal.is_kept_now-requires-clause-rested
+is_kept_now-requires-clause-rested c = file_rested c.args.graph.now c.args.kept.now c.args.flags.now c.args.place c.args.file.now c.requires.file c.requires.sound (sym c.if-not-are_rests_flagged.ensures)
 
 pub returns-then-is_none : goal.returns-then-is_none
 returns-then-is_none c = step_closed c.args.graph.now c.args.kept.now c.args.flags.now c.args.place c.args.file.now c.requires.project c.requires.file (search rules)

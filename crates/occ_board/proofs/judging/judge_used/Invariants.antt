@@ -3,5 +3,5 @@ use Rattle.std.specs.List.{find}
 use Rattle.occ_board.specs.Verdicts.{is_off}
 use Rattle.occ_board.proofs.judging.judge_used.Given as goal
 
-abbrev pub invariant-loop-one : goal.invariant-loop-one
-invariant-loop-one l = find (is_off l.graph l.kept l.user) (drop l.one-index l.used) ≡ find (is_off l.graph l.kept l.user) l.used
+abbrev pub invariant-loop-number : goal.invariant-loop-number
+invariant-loop-number l = find (is_off l.graph l.kept l.user) (drop l.number l.used) ≡ find (is_off l.graph l.kept l.user) l.used

@@ -1,9 +1,15 @@
 use Rattle.std.proofs.Common.{◌∙◌, ◌+◌, List, ap, length}
 use Rattle.occ_board.proofs.Newly.{all_long}
+use Rattle.occ_board.proofs.Told.{told_then}
 use Rattle.occ_board.proofs.touching.renew_all.Goals as goal
 use Rattle.occ_project.specs.declared.reads.Read.{Read}
 
 pub settle-requires-clause-len : goal.settle-requires-clause-len
 settle-requires-clause-len c =
     all_long c.args.graph.now c.put.new.self (record { name = c.args.name; revision = c.args.revision; source = c.args.source }) c.in_ok-next.next (length c.files.result.now + 1) c.in_ok-next.ensures
-    (ap (λ (files : List Read). length files + 1) (c.files.ensures.files ∙ c.project.ensures)) c.in_ok-put.ensures.ok c.requires
+    (ap (λ (files : List Read). length files + 1) (c.files.ensures.files ∙ c.project.ensures)) c.in_ok-put.ensures.ok c.requires.new
+
+pub settle-requires-clause-told : goal.settle-requires-clause-told
+settle-requires-clause-told c =
+    let file : Read = record { name = c.args.name; revision = c.args.revision; source = c.args.source } in
+    told_then c.args.graph.now c.put.new.self file c.args.kept.now (c.put_law.ensures.files c.args.graph.now file) c.in_ok-put.ensures.ok c.requires.told c.requires.before

@@ -1,6 +1,8 @@
 use Rattle.std.proofs.Common.{◌∙◌, ◌<◌, List, ap, length, subst, sym}
 use Rattle.occ_board.proofs.Marked.{full_at, long_at, sound_at}
+use Rattle.occ_board.proofs.Told.{told_then}
 use Rattle.occ_board.proofs.touching.renew_at.Goals as goal
+use Rattle.occ_board.specs.inside.Told.{AllTold}
 use Rattle.occ_project.specs.declared.reads.Read.{Read}
 use Rattle.occ_units.proofs.Finding.{place_within}
 use Rattle.occ_units.specs.Project.{IsProject}
@@ -41,3 +43,8 @@ resettle-requires-clause-full c =
     c.args.kept.now c.in_ok-readers.readers c.as_slice.result.now c.in_ok-touched.touched c.args.flags.now c.unflag.new.flags
     c.in_ok-readers.ensures.readers c.as_slice.ensures c.requires.flags c.in_ok-touched.ensures.here c.in_ok-touched.ensures.readers c.in_ok-touched.ensures.closed c.unflag.ensures.flags
     c.readers_law.ensures.readers c.requires.spelled c.names_law.ensures c.apart_law.ensures c.put_law.ensures.files c.put_law.ensures.in_order c.done_law.ensures.done
+
+pub resettle-requires-clause-told : goal.resettle-requires-clause-told
+resettle-requires-clause-told c =
+    let file : Read = record { name = c.args.name; revision = c.args.revision; source = c.args.source } in
+    told_then c.readers.new.self c.set.new.self file c.args.kept.now (c.put_law.ensures.files c.readers.new.self file) c.in_ok-set.ensures.ok (subst (λ (fs : List Read). AllTold fs c.args.kept.now) (sym c.in_ok-readers.ensures.same) c.requires.told) c.requires.before

@@ -1,6 +1,6 @@
 use Rattle.std.proofs.Common.{◌≡◌, ◌∙◌, List, ℕ, ap, subst, sym}
 use Rattle.std.specs.Str.{bytes_eq}
-use Rattle.occ_board.proofs.Adopted.{adopted, fewer_left, full_still, sound_still}
+use Rattle.occ_board.proofs.Adopted.{adopted, before_still, fewer_left, full_still, sound_still, told_still}
 use Rattle.occ_board.proofs.Keeps.{same_there}
 use Rattle.occ_board.proofs.Opened.{AreUnits, units_with}
 use Rattle.occ_board.proofs.Places.{within}
@@ -16,10 +16,14 @@ settle_from-requires-clause-sound c =
     sound_still c.self.inside.journal.items c.self.inside.kept c.self.inside.handed.items c.args.self.now c.args.outcome c.self.view_is c.requires c.keep.new.self c.in_ok-place.ensures.kept c.done_law.ensures.done c.done_law.ensures.project c.height_law.ensures c.self.inside.graph c.self.inside.flags c.self.inside.opened c.self.inside.units
     c.self.invariant
 
+pub settle_from-requires-clause-told : goal.settle_from-requires-clause-told
+settle_from-requires-clause-told c =
+    told_still c.self.inside.journal.items c.self.inside.kept c.self.inside.handed.items c.args.self.now c.args.outcome c.self.view_is c.requires c.keep.new.self c.in_ok-place.ensures.kept c.self.inside.graph c.self.inside.flags c.self.inside.opened c.self.inside.units c.self.invariant
+
 pub settle_from-requires-clause-full : goal.settle_from-requires-clause-full
 settle_from-requires-clause-full c = λ p lt other.
     let job : c.job-job.result.now ≡ c.args.outcome = c.job-job.ensures ∙ same_there c.keep.new.self c.in_ok-place.place c.at.result.now c.args.outcome c.at.ensures c.in_ok-place.ensures.place in
-    let unit : c.unit.result ≡ c.args.outcome.unit = c.unit.ensures.value ∙ ap (λ (i : Input). i.unit) job in
+    let unit : c.unit-2.result ≡ c.args.outcome.unit = c.unit-2.ensures.value ∙ ap (λ (i : Input). i.unit) job in
     full_still c.self.inside.journal.items c.self.inside.kept c.self.inside.handed.items c.args.self.now c.args.outcome c.self.view_is c.requires c.keep.new.self c.in_ok-place.ensures.kept c.done_law.ensures.done c.done_law.ensures.project c.height_law.ensures c.self.inside.graph c.self.inside.flags c.self.inside.opened c.self.inside.units
     c.self.invariant p lt (ap (λ (n : List ℕ). bytes_eq n (name_at c.self.inside.graph p)) (sym unit) ∙ other)
 
@@ -41,6 +45,11 @@ invariant_of-self-2 c = record {
   len = c.settle_from.ensures.len;
   flags_are = c.settle_from.ensures.flags;
   of_units = subst AreUnits (sym c.in_ok-place.ensures.kept) (units_with c.self.inside.kept c.args.outcome c.self.invariant.of_units c.requires.job.unit);
+  told =
+      told_still c.self.inside.journal.items c.self.inside.kept c.self.inside.handed.items c.args.self.now c.args.outcome c.self.view_is c.requires c.keep.new.self c.in_ok-place.ensures.kept c.self.inside.graph c.self.inside.flags c.self.inside.opened c.self.inside.units c.self.invariant;
+  before =
+      before_still c.self.inside.journal.items c.self.inside.kept c.self.inside.handed.items c.args.self.now c.args.outcome c.self.view_is c.requires c.keep.new.self c.in_ok-place.ensures.kept c.put_law.ensures.files c.self.inside.graph c.self.inside.flags c.self.inside.opened c.self.inside.units
+      c.self.invariant;
   opened_are = c.self.invariant.opened_are;
   units_are = c.self.invariant.units_are;
 }

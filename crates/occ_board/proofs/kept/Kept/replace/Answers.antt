@@ -1,5 +1,5 @@
 use Rattle.std.proofs.Common.{◌≡◌, ◌∙◌, ◌<◌, List, Some, ap, length, subst, sym}
-use Rattle.occ_board.proofs.Keeps.{kept_at, places_stay, set_there}
+use Rattle.occ_board.proofs.Keeps.{kept_at, places_stay, set_there, single_set}
 use Rattle.occ_board.proofs.kept.Kept.replace.Goals as goal
 use Rattle.occ_board.specs.Machine.{with_kept}
 use Rattle.occ_board.specs.inside.Holding.{place_in}
@@ -9,7 +9,10 @@ pub invariant_of-self : goal.invariant_of-self
 invariant_of-self c =
     let items : List Input = c.self.inside.outcomes.items in
     let there : place_in items c.args.outcome.unit ≡ Some c.args.place = ap (λ (is : List Input). place_in is c.args.outcome.unit) c.self.view_is ∙ c.requires.place in
-    λ u. c.self.invariant u ∙ sym (places_stay items c.args.outcome u c.args.place there) ∙ ap (λ (is : List Input). place_in is u) (sym (kept_at items c.args.outcome c.args.place there))
+    record {
+      places_are = λ u. c.self.invariant.places_are u ∙ sym (places_stay items c.args.outcome u c.args.place there) ∙ ap (λ (is : List Input). place_in is u) (sym (kept_at items c.args.outcome c.args.place there));
+      single = single_set items c.args.outcome c.args.place there c.self.invariant.single;
+    }
 
 pub returns-clause-kept : goal.returns-clause-kept
 returns-clause-kept c =
