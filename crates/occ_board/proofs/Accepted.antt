@@ -13,7 +13,7 @@ use Rattle.occ_board.specs.Done.{done, done_step, is_kept, is_that, kept_of, pen
 use Rattle.occ_board.specs.Journal.{is_open}
 use Rattle.occ_board.specs.Machine.{with_kept}
 use Rattle.occ_board.specs.inside.Ready.{is_rested}
-use Rattle.occ_check.specs.Input.{Input}
+use Rattle.occ_report.specs.Inputs.{Input}
 use Rattle.occ_project.specs.Entries.{is_among}
 use Rattle.occ_project.specs.Reads.{member}
 use Rattle.occ_project.specs.declared.reads.Read.{Read}

@@ -13,7 +13,7 @@ use Rattle.occ_board.specs.inside.Flagged.{IsFullAt, IsSound, flag_of}
 use Rattle.occ_board.specs.inside.Holding.{IsBoard}
 use Rattle.occ_board.specs.inside.Ready.{IsAcceptable}
 use Rattle.occ_board.specs.inside.Told.{AllTold, AreBefore}
-use Rattle.occ_check.specs.Input.{Input}
+use Rattle.occ_report.specs.Inputs.{Input}
 use Rattle.occ_project.specs.Entries.{is_among}
 use Rattle.occ_project.specs.declared.reads.Read.{Read}
 use Rattle.occ_report.specs.Checks.{input}

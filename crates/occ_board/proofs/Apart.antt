@@ -13,8 +13,7 @@ use Rattle.occ_board.proofs.Truths.{among_first, either_true, not_both, or_left,
 use Rattle.occ_board.specs.Done.{done, done_step, is_kept}
 use Rattle.occ_board.specs.Edits.{IsApart, IsUnder}
 use Rattle.occ_board.specs.Journal.{is_open}
-use Rattle.occ_check.specs.Input.{Input}
-use Rattle.occ_check.specs.declared.used.UsedUnit.{UsedUnit}
+use Rattle.occ_report.specs.Inputs.{Input, UsedUnit}
 use Rattle.occ_project.specs.Entries.{is_among}
 use Rattle.occ_project.specs.Expansion.{Expansion, expansion}
 use Rattle.occ_project.specs.Reads.{lines_of, open_lines}

@@ -15,9 +15,7 @@ use Rattle.occ_board.specs.Verdicts.{is_as_read, is_off, off_read, reads_verdict
 use Rattle.occ_board.specs.declared.verdict.Verdict.{Verdict}
 use Rattle.occ_board.specs.declared.verdict.Verdict.TheVariants as verdict
 use Rattle.occ_board.specs.inside.Ready.{IsAcceptable, is_rested}
-use Rattle.occ_check.specs.Input.{Input, IsInput, expansion_in}
-use Rattle.occ_check.specs.Order.{names_in_order}
-use Rattle.occ_check.specs.declared.used.UsedUnit.{UsedUnit}
+use Rattle.occ_report.specs.Inputs.{Input, IsInput, UsedUnit, expansion_in, names_in_order}
 use Rattle.occ_forms.specs.Prepared.{Prepared}
 use Rattle.occ_forms.specs.declared.source.SourceLine.{SourceLine}
 use Rattle.occ_project.specs.Entries.{is_among}

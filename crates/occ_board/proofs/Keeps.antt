@@ -11,7 +11,7 @@ use Rattle.std.specs.Str.{bytes_eq}
 use Rattle.occ_board.specs.Machine.{with_kept}
 use Rattle.occ_board.specs.Done.{kept_of}
 use Rattle.occ_board.specs.inside.Holding.{ArePlaces, AreSingle, place_in}
-use Rattle.occ_check.specs.Input.{Input}
+use Rattle.occ_report.specs.Inputs.{Input}
 use Rattle.occ_project.specs.Reads.{name_cmp}
 
 pub kept_within : (js : List Input) (u : List ℕ) (p : ℕ) → place_in js u ≡ Some p → p < length js

@@ -13,7 +13,7 @@ use Rattle.occ_board.proofs.Truths.{among_first, either_true, left_true, not_bot
 use Rattle.occ_board.specs.Done.{NoneIsHanded, done, is_input_among, pending_units, ready_units}
 use Rattle.occ_board.specs.Journal.{is_open}
 use Rattle.occ_board.specs.Machine.{next_input}
-use Rattle.occ_check.specs.Input.{Input}
+use Rattle.occ_report.specs.Inputs.{Input}
 use Rattle.occ_project.specs.Entries.{is_among}
 use Rattle.occ_project.specs.declared.reads.Read.{Read}
 use Rattle.occ_report.specs.Checks.{input}

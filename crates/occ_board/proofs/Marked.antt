@@ -16,7 +16,7 @@ use Rattle.occ_board.specs.Edits.{IsApart}
 use Rattle.occ_board.specs.inside.Flagged.{AreFlags, IsFull, IsFullAt, IsSound, unflagged}
 use Rattle.occ_board.specs.Journal.{is_open}
 use Rattle.occ_board.specs.inside.Touched.{IsClosed}
-use Rattle.occ_check.specs.Input.{Input}
+use Rattle.occ_report.specs.Inputs.{Input}
 use Rattle.occ_graph.specs.Graph.{has_edge, is_among}
 use Rattle.occ_project.specs.Entries as names
 use Rattle.occ_project.specs.Expansion.{expansion}

@@ -16,7 +16,7 @@ use Rattle.occ_board.specs.Done.{done, done_step, is_kept}
 use Rattle.occ_board.specs.Edits.{IsApart}
 use Rattle.occ_board.specs.Journal.{is_open}
 use Rattle.occ_board.specs.inside.Flagged.{AreFlags, IsFullAt, IsSound, flag_of}
-use Rattle.occ_check.specs.Input.{Input}
+use Rattle.occ_report.specs.Inputs.{Input}
 use Rattle.occ_graph.specs.Adding.{raised}
 use Rattle.occ_graph.proofs.Added.{raised_above, raised_below}
 use Rattle.occ_project.specs.Entries.{is_among}

@@ -13,7 +13,7 @@ use Rattle.occ_board.specs.Done.{done, is_input_among}
 use Rattle.occ_board.specs.Machine.{next_input}
 use Rattle.occ_board.specs.inside.Flagged.{AreFlags, flag_of}
 use Rattle.occ_board.specs.inside.Ready.{HasJob, is_next, is_rested}
-use Rattle.occ_check.specs.Input.{Input}
+use Rattle.occ_report.specs.Inputs.{Input}
 use Rattle.occ_project.specs.declared.reads.Read.{Read}
 use Rattle.occ_report.specs.Checks.{input}
 use Rattle.occ_report.specs.Report.{is_open_unit}

@@ -23,7 +23,7 @@ use Rattle.occ_board.specs.declared.entry.EditFault.TheVariants as fault
 use Rattle.occ_board.specs.declared.entry.Entry.{Entry}
 use Rattle.occ_board.specs.inside.Flagged.{AreFlags, flagged}
 use Rattle.occ_board.specs.inside.Holding.{count_then}
-use Rattle.occ_check.specs.Input.{Input}
+use Rattle.occ_report.specs.Inputs.{Input}
 use Rattle.occ_project.specs.Reads.{name_cmp, place}
 use Rattle.occ_project.specs.declared.reads.Read.{Read}
 use Rattle.occ_report.specs.Report.{is_open_unit, open_units}

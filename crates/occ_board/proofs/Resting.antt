@@ -7,7 +7,7 @@ use Rattle.std.specs.Str.{bytes_eq}
 use Rattle.occ_board.specs.Done.{done_step, is_kept}
 use Rattle.occ_board.specs.Journal.{edited, is_open, replay_from}
 use Rattle.occ_board.specs.declared.entry.Entry.{Entry}
-use Rattle.occ_check.specs.Input.{Input}
+use Rattle.occ_report.specs.Inputs.{Input}
 use Rattle.occ_project.specs.Entries.{is_among}
 use Rattle.occ_project.specs.declared.reads.Read.{Read}
 use Rattle.occ_report.specs.Checks.{input}

@@ -11,9 +11,8 @@ use Rattle.occ_board.specs.Samples.{checked_unit, its_input, one_unit}
 use Rattle.occ_board.specs.Verdicts.{or_else, verdict_of}
 use Rattle.occ_board.specs.declared.verdict.Verdict.{Verdict}
 use Rattle.occ_board.specs.declared.verdict.Verdict.TheVariants as verdict
-use Rattle.occ_check.specs.Input.{Input}
-use Rattle.occ_check.specs.declared.used.Used.TheVariants as how
-use Rattle.occ_check.specs.declared.used.UsedUnit.{UsedUnit}
+use Rattle.occ_report.specs.Inputs.{Input, UsedUnit}
+use Rattle.occ_report.specs.UsedVariants as how
 use Rattle.occ_project.specs.Entries.{entries}
 use Rattle.occ_project.specs.Expansion.{expansion}
 use Rattle.occ_report.specs.Checks.{input}

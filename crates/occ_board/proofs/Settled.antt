@@ -10,7 +10,7 @@ use Rattle.occ_board.specs.Done.{done, done_step, is_kept}
 use Rattle.occ_board.specs.Journal.{is_open}
 use Rattle.occ_board.specs.inside.Flagged.{AreFlags, IsFull, IsFullAt, IsSound, flag_of, unflagged}
 use Rattle.occ_board.specs.inside.Ready.{is_rested}
-use Rattle.occ_check.specs.Input.{Input}
+use Rattle.occ_report.specs.Inputs.{Input}
 use Rattle.occ_project.specs.Entries.{is_among}
 use Rattle.occ_project.specs.Reads.{place}
 use Rattle.occ_project.specs.declared.reads.Read.{Read}

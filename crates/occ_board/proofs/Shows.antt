@@ -10,7 +10,7 @@ use Rattle.occ_board.specs.Done.{done}
 use Rattle.occ_board.specs.Machine.{row_of}
 use Rattle.occ_board.specs.declared.report.Row.{Row}
 use Rattle.occ_board.specs.inside.Flagged.{AreFlags}
-use Rattle.occ_check.specs.Input.{Input}
+use Rattle.occ_report.specs.Inputs.{Input}
 use Rattle.occ_project.specs.declared.reads.Read.{Read}
 use Rattle.occ_report.specs.Report.{is_open_unit}
 use Rattle.occ_units.specs.Project.{IsProject}

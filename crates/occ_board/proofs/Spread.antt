@@ -10,7 +10,7 @@ use Rattle.occ_board.proofs.Rests.{rests_flagged}
 use Rattle.occ_board.specs.Done.{done_step, is_kept}
 use Rattle.occ_board.specs.Journal.{is_open}
 use Rattle.occ_board.specs.inside.Flagged.{IsFull, IsFullAt, IsSound, absent_or, flag_of, rest_flag, unflagged}
-use Rattle.occ_check.specs.Input.{Input}
+use Rattle.occ_report.specs.Inputs.{Input}
 use Rattle.occ_graph.specs.Graph.{is_among, rests}
 use Rattle.occ_project.specs.Reads.{place}
 use Rattle.occ_project.specs.declared.reads.Read.{Read}

@@ -2,11 +2,10 @@
 use Rattle.std.proofs.Common.{◌≡◌, ◌↔◌, ◌∙◌, ◌&&◌, ◌||◌, Bool, true, false, not, ℕ, List, map, Option, Some, None, refl, sym, ap, subst}
 use Rattle.std.proofs.lemmas.Slice.Eq.{bytes_eq-Decides}
 use Rattle.std.specs.Str.{bytes_eq}
-use Rattle.occ_forms.specs.Prepared.{IsPrepared}
+use Rattle.occ_forms.specs.Prepared.{IsPrepared, Prepared}
 use Rattle.occ_forms.specs.declared.source.SourceLine.{SourceLine}
 use Rattle.std.specs.Option.{option_and_then}
 use Rattle.occ_board.proofs.Places.{file_named}
-use Rattle.occ_forms.specs.Prepared.{Prepared}
 use Rattle.std.specs.List.{slice_get}
 use Rattle.occ_board.proofs.Settled.{step_kept}
 use Rattle.occ_board.proofs.Trees.{inputs_are_one, used_are_one}
@@ -15,9 +14,7 @@ use Rattle.occ_board.specs.Done.{done, done_step, is_kept, is_that, kept_of}
 use Rattle.occ_board.specs.Same.{same_input, same_used}
 use Rattle.occ_board.specs.Verdicts.{is_off}
 use Rattle.occ_board.specs.inside.Ready.{AreRested, is_rested}
-use Rattle.occ_check.specs.Diagnostics.{interface_of}
-use Rattle.occ_check.specs.Input.{Input}
-use Rattle.occ_check.specs.declared.used.UsedUnit.{UsedUnit}
+use Rattle.occ_report.specs.Inputs.{Input, UsedUnit, interface_of}
 use Rattle.occ_project.specs.declared.reads.Read.{Read}
 use Rattle.occ_report.specs.Checks.{checked, input, interface, used_as, used_unit}
 use Rattle.occ_types.specs.declared.interface.Interface.{Interface}

@@ -16,8 +16,7 @@ use Rattle.occ_board.specs.declared.entry.Entry.{Entry}
 use Rattle.occ_board.specs.declared.verdict.Verdict.{Verdict}
 use Rattle.occ_board.specs.declared.verdict.Verdict.TheVariants as verdict
 use Rattle.occ_board.specs.inside.Ready.{IsAcceptable}
-use Rattle.occ_check.specs.Input.{Input}
-use Rattle.occ_check.specs.declared.used.UsedUnit.{UsedUnit}
+use Rattle.occ_report.specs.Inputs.{Input, UsedUnit}
 use Rattle.occ_forms.specs.Prepared.{IsPrepared, Prepared}
 use Rattle.occ_forms.specs.declared.source.SourceLine.{SourceLine}
 use Rattle.occ_project.specs.Entries.{is_among}

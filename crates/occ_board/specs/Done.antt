@@ -4,7 +4,7 @@ use Rattle.std.specs.List.{filter, find, list_all, list_any}
 use Rattle.std.specs.Str.{bytes_eq}
 use Rattle.occ_board.specs.Journal.{is_open}
 use Rattle.occ_board.specs.Same.{same_input}
-use Rattle.occ_check.specs.Input.{Input}
+use Rattle.occ_report.specs.Inputs.{Input}
 use Rattle.occ_project.specs.Entries.{is_among}
 use Rattle.occ_project.specs.declared.reads.Read.{Read}
 use Rattle.occ_report.specs.Checks.{input}

@@ -3,8 +3,7 @@
 use base.Stored.{Coded, Gv, gnil, gnum, gcons}
 use Rattle.std.specs.Prelude.{Bool, true, false, ◌&&◌, ◌==◌}
 use Rattle.std.specs.Coded.{codes}
-use Rattle.occ_check.specs.Input.{Input}
-use Rattle.occ_check.specs.declared.used.UsedUnit.{UsedUnit}
+use Rattle.occ_report.specs.Inputs.{Input, UsedUnit}
 use Rattle.occ_expression_forms.specs.contracts.tree.Builtin as builtins
 use Rattle.occ_expression_forms.specs.contracts.tree.Dimension as dimensions
 use Rattle.occ_expression_forms.specs.contracts.tree.Element as elements

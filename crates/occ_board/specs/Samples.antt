@@ -4,7 +4,7 @@ use Rattle.occ_board.specs.Machine.{Event, State, after, after_all, files_of, st
 use Rattle.occ_board.specs.declared.entry.Edit.{Edit}
 use Rattle.occ_board.specs.declared.entry.Edit.TheVariants as edit
 use Rattle.occ_board.specs.declared.entry.Entry.{Entry}
-use Rattle.occ_check.specs.Input.{Input}
+use Rattle.occ_report.specs.Inputs.{Input}
 use Rattle.occ_forms.specs.Prepared.{Prepared}
 use Rattle.occ_project.specs.Samples.{use_at}
 use Rattle.occ_report.specs.Checks.{input}

@@ -7,8 +7,7 @@ use Rattle.occ_board.specs.Done.{done, is_kept}
 use Rattle.occ_board.specs.Same.{same_used}
 use Rattle.occ_board.specs.declared.verdict.Verdict.{Verdict}
 use Rattle.occ_board.specs.declared.verdict.Verdict.TheVariants as verdict
-use Rattle.occ_check.specs.Input.{Input}
-use Rattle.occ_check.specs.declared.used.UsedUnit.{UsedUnit}
+use Rattle.occ_report.specs.Inputs.{Input, UsedUnit}
 use Rattle.occ_forms.specs.Prepared.{Prepared}
 use Rattle.occ_project.specs.declared.reads.Read.{Read}
 use Rattle.occ_report.specs.Checks.{checked, used_unit}

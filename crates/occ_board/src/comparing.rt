@@ -5,9 +5,9 @@ ghost use Rattle.std.specs.Prelude.{◌≡◌, ◌↔◌, IsTrue};
 
 use super::sources::source_law;
 use occ_base::Shared;
-use occ_check::{Job, Used, UsedUnit};
 use occ_forms::Source;
 use occ_project::Read;
+use occ_report::{Job, Used, UsedUnit};
 use occ_types::{Export, Formal, FormalUse, Interface, OccType, PartSelector, same_type};
 
 /// What is compared whole.

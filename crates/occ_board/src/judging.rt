@@ -15,8 +15,8 @@ use super::flags::has_flag;
 use super::kept::Kept;
 use super::present::{is_read_now, is_unit_now};
 use occ_base::FileName;
-use occ_check::{Job, UsedUnit};
 use occ_project::Read;
+use occ_report::{Job, UsedUnit};
 use occ_units::laws::reads_law;
 use occ_units::{Graph, Project, Standing};
 

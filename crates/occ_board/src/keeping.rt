@@ -3,7 +3,7 @@ ghost use Rattle.occ_board.specs.Same.{same_input};
 ghost use Rattle.std.specs.Prelude.{◌≡◌};
 
 use super::comparing::Same;
-use occ_check::Job;
+use occ_report::Job;
 
 /// Whether two jobs are one.
 fn is_job(one: &Job, other: &Job) -> bool

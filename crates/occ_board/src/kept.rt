@@ -1,12 +1,12 @@
 ghost use Rattle.occ_board.specs.Done.{kept_of};
 ghost use Rattle.occ_board.specs.Machine.{with_kept};
 ghost use Rattle.occ_board.specs.inside.Holding.{place_in};
-ghost use Rattle.occ_check.specs.Diagnostics.{interface_of};
+ghost use Rattle.occ_report.specs.Inputs.{interface_of};
 ghost use Rattle.std.specs.Option.{option_and_then, option_copied};
 ghost use Rattle.std.specs.Prelude.{◌≡◌, ◌<◌, [], IfErr, IfOk, IfSome, None, Some, length, slice_get};
 
 use occ_base::{FileName, Shared};
-use occ_check::Outcome;
+use occ_report::Outcome;
 use occ_types::Interface;
 use occ_units::Project;
 use sqlite_items::at;
@@ -32,7 +32,7 @@ impl Model for Kept {
     ghost use Rattle.occ_expression_forms.specs.contracts.tree.Expr as expressions;
     ghost use Rattle.occ_expression_forms.specs.contracts.tree.TypeForm as type_forms;
     ghost use Rattle.occ_types.specs.contracts.types.OccType as types;
-    ghost use Rattle.occ_check.specs.Input.{Input};
+    ghost use Rattle.occ_report.specs.Inputs.{Input};
     ghost use Rattle.std.specs.Coded.{codes};
     ghost use Rattle.std.specs.Prelude.{List};
 

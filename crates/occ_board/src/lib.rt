@@ -23,5 +23,6 @@ mod verdict;
 
 pub use board::Board;
 pub use entry::{Edit, EditFault, Entry};
+pub use occ_report::{Job, Outcome, check};
 pub use report::{Row, Shown};
 pub use verdict::Verdict;

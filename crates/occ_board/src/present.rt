@@ -13,9 +13,9 @@ use super::comparing::{Same, are_same_sources};
 use super::kept::Kept;
 use super::laws::kept_law;
 use occ_base::{FileName, Shared};
-use occ_check::{Job, Used, UsedUnit};
 use occ_project::Read;
 use occ_report::laws::input_law;
+use occ_report::{Job, Used, UsedUnit};
 use occ_types::Interface;
 use occ_units::{Graph, Project, Standing};
 

@@ -3,7 +3,7 @@ ghost use Rattle.occ_board.specs.Edits.{IsApart};
 ghost use Rattle.occ_board.specs.inside.Flagged.{AreFlags, IsFullAt, IsSound, unflagged};
 ghost use Rattle.occ_board.specs.inside.Told.{AllTold, AreBefore};
 ghost use Rattle.occ_board.specs.inside.Touched.{IsClosed};
-ghost use Rattle.occ_check.specs.Input.{Input};
+ghost use Rattle.occ_report.specs.Inputs.{Input};
 ghost use Rattle.occ_graph.specs.Graph.{has_edge, is_among as is_place};
 ghost use Rattle.occ_project.specs.Reads.{place as place_of};
 ghost use Rattle.occ_project.specs.declared.reads.Read.{Read};

@@ -12,10 +12,7 @@ use Rattle.occ_interfaces.specs.Exports.{interface_in}
 use Rattle.occ_project.specs.declared.expanded.ExpandedLine.{ExpandedLine}
 use Rattle.occ_tree.specs.Faults.{shape_faults}
 use Rattle.occ_tree.specs.Forest.{nested}
-use Rattle.occ_typing.specs.TypedLines.{typed_unit}
-use Rattle.occ_typing.specs.Units.{type_faults}
-use Rattle.occ_typed_lines.specs.declared.using.Import.{Import}
-use Rattle.occ_typing.specs.declared.tree.TypedLine.{TypedLine}
+use Rattle.occ_usage.specs.Typing.{Import, TypedLine, type_faults, typed_unit}
 use Rattle.occ_usage.specs.FunctionRule.{function_faults}
 use Rattle.occ_usage.specs.Lines.{behind_unit}
 use Rattle.occ_usage.specs.ParallelRule.{parallel_faults}

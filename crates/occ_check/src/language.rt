@@ -1,18 +1,15 @@
 ghost use Rattle.std.specs.Prelude.{◌≡◌, IfOk, None, Some};
 ghost use Rattle.occ_check.specs.Language.{behind, imports as shown_imports, lines_judged, uses_judged};
 ghost use Rattle.occ_tree.specs.Forest.{forest_of};
-ghost use Rattle.occ_typing.specs.TypedLines.{typed_unit};
-ghost use Rattle.occ_typing.specs.Units.{type_faults};
+ghost use Rattle.occ_usage.specs.Typing.{type_faults, typed_unit};
 
 use super::used::{Used, UsedUnit};
 use occ_base::{Diag, Items};
 use occ_interfaces::interface_of;
 use occ_project::ExpandedLine;
 use occ_tree::{ShapeFault, Unit, shape};
-use occ_typed_lines::Import;
 use occ_types::Interface;
-use occ_typing::{TypeFault, Typed, type_unit};
-use occ_usage::{UnitUses, function_faults, unit_uses};
+use occ_usage::{Import, TypeFault, Typed, UnitUses, function_faults, type_unit, unit_uses};
 use std::alloc::{AllocError, Global};
 
 /// What is said of a unit.

@@ -7,7 +7,7 @@ use Rattle.occ_interfaces.specs.Exports.{entries_exports, entries_of as line_add
 use Rattle.occ_names.specs.declared.meaning.Entry.{Entry}
 use Rattle.occ_names.specs.declared.meaning.Meaning.{Meaning}
 use Rattle.occ_names.specs.declared.meaning.Meaning.TheVariants as m
-use Rattle.occ_typed_lines.specs.Using.{entries_of}
+use Rattle.occ_typing.specs.Forms.{entries_of}
 use Rattle.occ_typing.specs.Known.{AreKnownEntries, IsKnownMeaning}
 use Rattle.occ_typing.specs.Whole.{AreKnownAdds, AreWhole, IsKnownInterface, no_line, one_line}
 use Rattle.occ_typing.specs.declared.tree.TypedLine.{TypedLine, out-TypedLine}

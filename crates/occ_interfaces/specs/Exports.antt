@@ -8,8 +8,8 @@ use Rattle.occ_line_uses.specs.Entering.{effect_if}
 use Rattle.occ_names.specs.declared.meaning.Entry.{Entry}
 use Rattle.occ_names.specs.declared.meaning.Meaning.{Meaning}
 use Rattle.occ_names.specs.declared.meaning.Meaning.TheVariants as meaning
-use Rattle.occ_typed_lines.specs.declared.tree.TypedForm.{TypedForm}
-use Rattle.occ_typed_lines.specs.declared.tree.TypedForm.TheVariants as form
+use Rattle.occ_typing.specs.Forms.{TypedForm}
+use Rattle.occ_typing.specs.FormVariants as form
 use Rattle.occ_typing.specs.declared.tree.TypedLine.{TypedLine, out-TypedLine}
 use Rattle.occ_types.specs.declared.interface.Export.{Export}
 use Rattle.occ_types.specs.declared.interface.ExportKind.{ExportKind}

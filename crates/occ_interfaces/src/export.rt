@@ -8,9 +8,8 @@ use occ_base::{Items, Name, Shared};
 use occ_bounds::{Bound, body_at, effect_at};
 use occ_line_uses::number_behind;
 use occ_names::{Entry, Meaning};
-use occ_typed_lines::{TypedForm, shared_formals, shared_types};
 use occ_types::{Effect, Export, ExportKind, Formal, Interface, OccType};
-use occ_typing::TypedLine;
+use occ_typing::{TypedForm, TypedLine, shared_formals, shared_types};
 use std::alloc::{AllocError, Global};
 
 /// An effect, if there is one.

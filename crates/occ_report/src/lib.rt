@@ -6,3 +6,4 @@ mod checked;
 pub mod laws;
 
 pub use checked::Checked;
+pub use occ_check::{Job, Outcome, Used, UsedUnit, check};

@@ -2,8 +2,7 @@
 use super::devices::{NEVER, Page, Paper};
 use occ_base::FileName;
 use occ_script::Status;
-use occ_server::Gate;
-use occ_sessions::run_sessions;
+use occ_sessions::{Gate, run_sessions};
 use std::alloc::Global;
 use std::sync::Wait;
 use std::sync::atomic::{AtomicBool, Ordering};

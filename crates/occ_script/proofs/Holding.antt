@@ -3,7 +3,7 @@ use Rattle.std.proofs.Common.{◌≡◌, ◌∙◌, ◌+◌, ◌≤◌, ◌<◌,
 use Rattle.std.proofs.lemmas.Bool.{ltb-false, ltb-true}
 use Rattle.std.specs.List.{position, position_or_len, remove}
 use Rattle.std.specs.Option.{is_some, option_map}
-use Rattle.occ_check.specs.Input.{Input}
+use Rattle.occ_board.specs.Rules.{Input}
 use Rattle.occ_board.specs.Machine.{State, after as after_event, take_answer}
 use Rattle.occ_board.specs.Machine.Event.{Take}
 use Rattle.occ_script.specs.Machine.{after_take, job_of, take_text, taken_text, told, with_job, without}

@@ -5,8 +5,7 @@ use Rattle.occ_board.specs.Done.{NoneIsHanded, is_input_among}
 use Rattle.occ_board.specs.Machine.{State, after, files_of, handed_out, pending_answer, take_answer, unhanded}
 use Rattle.occ_board.specs.Machine.Event.{Finish, Take}
 use Rattle.occ_board.specs.Same.{same_input}
-use Rattle.occ_check.specs.Input.{Input}
-use Rattle.occ_board.specs.Rules.{input}
+use Rattle.occ_board.specs.Rules.{Input, input}
 use Rattle.occ_script.specs.Settling.{Settles, settled_in, with_next}
 use Rattle.occ_units.specs.Spelled.{AreSpelled}
 

@@ -2,7 +2,7 @@
 use Rattle.std.proofs.Common.{◌≡◌, ◌∙◌, ℕ, zero, suc, Bool, true, false, Option, Some, None, refl, ap, sym, subst}
 use Rattle.occ_board.specs.Machine.{State, after, take_answer}
 use Rattle.occ_board.specs.Machine.Event.{Finish, Take}
-use Rattle.occ_check.specs.Input.{Input}
+use Rattle.occ_board.specs.Rules.{Input}
 use Rattle.occ_script.specs.Settling.{settled_in, with_next}
 use Rattle.occ_script.specs.inside.Seen.{IsNext}
 

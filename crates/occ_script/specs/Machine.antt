@@ -21,7 +21,7 @@ use Rattle.occ_board.specs.declared.report.Shown.{Shown}
 use Rattle.occ_board.specs.declared.report.Shown.TheVariants as shown
 use Rattle.occ_board.specs.declared.verdict.Verdict.{Verdict}
 use Rattle.occ_board.specs.declared.verdict.Verdict.TheVariants as verdict
-use Rattle.occ_check.specs.Input.{Input}
+use Rattle.occ_board.specs.Rules.{Input}
 use Rattle.occ_commands.specs.Script.{Command, Placed}
 use Rattle.occ_commands.specs.Script.Command.{Change, Drop, Open, Remove, Report, Settle, Take as TakeBy, Finish as FinishBy}
 use Rattle.occ_forms.specs.Prepared.{IsPrepared, Prepared}

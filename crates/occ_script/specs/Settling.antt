@@ -2,7 +2,7 @@
 use Rattle.std.specs.Prelude.{◌≡◌, ℕ, zero, suc, Option, Some, None}
 use Rattle.occ_board.specs.Machine.{State, after, pending_answer, take_answer}
 use Rattle.occ_board.specs.Machine.Event.{Finish, Take}
-use Rattle.occ_check.specs.Input.{Input}
+use Rattle.occ_board.specs.Rules.{Input}
 
 -- the one board settles to the other
 pub data Settles : State → State → Type 0 where

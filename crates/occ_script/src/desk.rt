@@ -10,8 +10,7 @@ use super::jobs::{checked, verdict_line};
 use super::report::{report_lines, tells_errors};
 use super::settling::settle;
 use occ_base::Items;
-use occ_board::Board;
-use occ_check::Job;
+use occ_board::{Board, Job};
 use occ_commands::Command;
 use std::alloc::{AllocError, Global};
 

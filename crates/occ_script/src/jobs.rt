@@ -3,8 +3,7 @@ ghost use Rattle.std.specs.Prelude.{◌≡◌, IfOk};
 
 use super::answer::line_naming;
 use occ_base::FileName;
-use occ_board::Verdict;
-use occ_check::{Job, Outcome, check};
+use occ_board::{Job, Outcome, Verdict, check};
 use std::alloc::{AllocError, Global};
 
 /// The outcome of a job.

@@ -19,4 +19,6 @@ mod session;
 mod talk;
 mod telling;
 
+pub use occ_script::{Status, StdIn, StdOut, run_script};
+pub use occ_server::Gate;
 pub use run::run_sessions;

@@ -8,3 +8,7 @@ pub mod Rounds
 pub mod Known
 pub mod WholeTrees
 pub mod Whole
+-- what is passed on
+pub mod Forms
+pub mod FormVariants
+pub mod BlockVariants

@@ -8,5 +8,6 @@ mod unit;
 mod walk;
 
 pub use laws::{place_law, scope_law, whole_law};
+pub use occ_typed_lines::{BlockKind, Import, TypedForm, shared_formals, shared_types};
 pub use tree::{ProcessId, TypedLine};
 pub use unit::{TypeFault, Typed, type_unit};

@@ -4,10 +4,9 @@ use Rattle.occ_base.specs.declared.diag.Diag.{Diag}
 use Rattle.occ_bounds.specs.Bounds.{Env}
 use Rattle.occ_bounds.specs.declared.uses.Use.{Use}
 use Rattle.occ_project.specs.declared.expanded.Place.{Place as Line}
-use Rattle.occ_typed_lines.specs.declared.tree.BlockKind.{BlockKind}
-use Rattle.occ_typed_lines.specs.declared.tree.BlockKind.TheVariants as block
-use Rattle.occ_typed_lines.specs.declared.tree.TypedForm.{TypedForm}
-use Rattle.occ_typed_lines.specs.declared.tree.TypedForm.TheVariants as form
+use Rattle.occ_typing.specs.Forms.{BlockKind, TypedForm}
+use Rattle.occ_typing.specs.BlockVariants as block
+use Rattle.occ_typing.specs.FormVariants as form
 use Rattle.occ_usage.specs.Comparing.{are_compared, is_compared}
 use Rattle.occ_clashes.specs.ParallelRule.{component_faults}
 use Rattle.occ_replicators.specs.declared.tree.KnownReplicator.{KnownReplicator}

@@ -3,8 +3,8 @@ use Rattle.std.proofs.Common.{arith, ◌≡◌, ◌∙◌, ℕ, Bool, true, fals
 use Rattle.occ_base.specs.declared.diag.Diag.{Diag}
 use Rattle.occ_bounds.specs.Bounds.{Env}
 use Rattle.occ_project.specs.declared.expanded.Place.{Place as Line}
-use Rattle.occ_typed_lines.specs.declared.tree.TypedForm.{TypedForm}
-use Rattle.occ_typed_lines.specs.declared.tree.TypedForm.TheVariants as form
+use Rattle.occ_typing.specs.Forms.{TypedForm}
+use Rattle.occ_typing.specs.FormVariants as form
 use Rattle.occ_replicators.specs.declared.tree.KnownReplicator.{KnownReplicator}
 use Rattle.occ_usage.specs.Effect.{inner}
 use Rattle.occ_usage.specs.FunctionRule.{counted_by, faults, has_function, is_function, one_line_faults, within_under}

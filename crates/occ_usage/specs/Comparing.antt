@@ -1,9 +1,8 @@
 -- Which lines have components that are compared.
 use Rattle.std.specs.Prelude.{Bool, true, false}
-use Rattle.occ_typed_lines.specs.declared.tree.BlockKind.{BlockKind}
-use Rattle.occ_typed_lines.specs.declared.tree.BlockKind.TheVariants as block
-use Rattle.occ_typed_lines.specs.declared.tree.TypedForm.{TypedForm}
-use Rattle.occ_typed_lines.specs.declared.tree.TypedForm.TheVariants as form
+use Rattle.occ_typing.specs.Forms.{BlockKind, TypedForm}
+use Rattle.occ_typing.specs.BlockVariants as block
+use Rattle.occ_typing.specs.FormVariants as form
 
 abbrev pub is_compared : BlockKind → Bool
 is_compared block.Parallel = true

@@ -5,8 +5,8 @@ use Rattle.occ_bounds.specs.Bounds.{Env}
 use Rattle.occ_line_uses.specs.Effects.{form_effect}
 use Rattle.occ_line_uses.specs.Entering.{body_bound, entry_bounds, specified}
 use Rattle.occ_names.specs.declared.meaning.Entry.{Entry}
-use Rattle.occ_typed_lines.specs.declared.tree.TypedForm.{TypedForm}
-use Rattle.occ_typed_lines.specs.declared.tree.TypedForm.TheVariants as form
+use Rattle.occ_typing.specs.Forms.{TypedForm}
+use Rattle.occ_typing.specs.FormVariants as form
 use Rattle.occ_usage.specs.Trees.{Empty, Head, Tree, Trees}
 
 -- the head of a PROC or of a FUNCTION: the lines under it are a body, and no part of what the line does

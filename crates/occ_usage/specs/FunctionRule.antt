@@ -17,8 +17,8 @@ use Rattle.occ_names.specs.declared.meaning.Entry.{Entry}
 use Rattle.occ_project.specs.declared.expanded.Place.{Place as Line}
 use Rattle.occ_replicators.specs.declared.tree.KnownReplicator.{KnownReplicator}
 use Rattle.occ_typed.specs.declared.expr.TypedExpr.{TypedExpr}
-use Rattle.occ_typed_lines.specs.declared.tree.TypedForm.{TypedForm}
-use Rattle.occ_typed_lines.specs.declared.tree.TypedForm.TheVariants as form
+use Rattle.occ_typing.specs.Forms.{TypedForm}
+use Rattle.occ_typing.specs.FormVariants as form
 use Rattle.occ_typing.specs.declared.tree.TypedLine.{TypedLine}
 use Rattle.occ_usage.specs.Effect.{inner}
 use Rattle.occ_usage.specs.Lines.{behind_line, known_of}

@@ -9,3 +9,5 @@ pub mod Processes
 pub mod Standing
 pub mod Anew
 pub mod Comparing
+-- what is passed on
+pub mod Typing

@@ -13,8 +13,8 @@ use Rattle.occ_line_uses.specs.Forms.{form_uses}
 use Rattle.occ_names.specs.declared.meaning.Entry.{Entry}
 use Rattle.occ_replicators.specs.declared.tree.KnownReplicator.{KnownReplicator}
 use Rattle.occ_replicators.specs.declared.tree.TypedReplicator.{TypedReplicator}
-use Rattle.occ_typed_lines.specs.declared.tree.TypedForm.{TypedForm}
-use Rattle.occ_typed_lines.specs.declared.tree.TypedForm.TheVariants as form
+use Rattle.occ_typing.specs.Forms.{TypedForm}
+use Rattle.occ_typing.specs.FormVariants as form
 use Rattle.occ_usage.specs.Effect.{effect_under, inner, is_body}
 use Rattle.occ_typing.specs.declared.tree.TypedLine.{TypedLine}
 use Rattle.occ_usage.specs.Trees.{Empty, Head, Tree, Trees, trees_of}

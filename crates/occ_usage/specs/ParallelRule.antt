@@ -8,10 +8,9 @@ use Rattle.occ_clashes.specs.ParallelRule.{component_faults, target_faults}
 use Rattle.occ_line_uses.specs.Forms.{used}
 use Rattle.occ_project.specs.declared.expanded.Place.{Place as Line}
 use Rattle.occ_typed.specs.declared.expr.TypedElement.{TypedElement}
-use Rattle.occ_typed_lines.specs.declared.tree.BlockKind.{BlockKind}
-use Rattle.occ_typed_lines.specs.declared.tree.BlockKind.TheVariants as block
-use Rattle.occ_typed_lines.specs.declared.tree.TypedForm.{TypedForm}
-use Rattle.occ_typed_lines.specs.declared.tree.TypedForm.TheVariants as form
+use Rattle.occ_typing.specs.Forms.{BlockKind, TypedForm}
+use Rattle.occ_typing.specs.BlockVariants as block
+use Rattle.occ_typing.specs.FormVariants as form
 use Rattle.occ_types.specs.declared.interface.UseKind.TheVariants as kind
 use Rattle.occ_typing.specs.declared.tree.TypedLine.{TypedLine}
 use Rattle.occ_usage.specs.Lines.{components, items_of}

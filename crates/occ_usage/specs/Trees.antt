@@ -2,7 +2,7 @@
 use Rattle.std.specs.Prelude.{ℕ, Option, List, [], ◌∷◌, map}
 use Rattle.occ_names.specs.declared.meaning.Entry.{Entry}
 use Rattle.occ_project.specs.declared.expanded.Place.{Place as Line}
-use Rattle.occ_typed_lines.specs.declared.tree.TypedForm.{TypedForm}
+use Rattle.occ_typing.specs.Forms.{TypedForm}
 use Rattle.occ_typing.specs.declared.tree.TypedLine.{TypedLine, out-TypedLine}
 use Rattle.occ_typing.specs.declared.tree.TypedLine.TheFolds.{fold-TypedLine}
 use Rattle.occ_typing.specs.declared.tree.TypedLine.TheOpen.{TypedLine-F}

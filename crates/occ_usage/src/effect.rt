@@ -6,8 +6,7 @@ ghost use Rattle.occ_usage.specs.Trees.{head_of, trees_of, under as lines_under}
 
 use occ_base::Items;
 use occ_line_uses::{Scope, body_bound, enter_all, enter_line, form_effect};
-use occ_typed_lines::TypedForm;
-use occ_typing::TypedLine;
+use occ_typing::{TypedForm, TypedLine};
 use std::alloc::{AllocError, Global};
 
 /// Whether a line is the head of a PROC or of a FUNCTION: the lines under it are a body, and no part of what the line does.

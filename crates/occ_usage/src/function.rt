@@ -16,8 +16,7 @@ use occ_line_uses::{Scope, each_effect, each_uses, enter_all, form_effect, form_
 use occ_names::Entry;
 use occ_project::Place as Line;
 use occ_typed::TypedExpr;
-use occ_typed_lines::TypedForm;
-use occ_typing::{Typed, TypedLine};
+use occ_typing::{Typed, TypedForm, TypedLine};
 use std::alloc::{AllocError, Global};
 
 /// Where a line stands.

@@ -23,8 +23,7 @@ use occ_line_uses::{
 };
 use occ_names::Entry;
 use occ_replicators::KnownReplicator;
-use occ_typed_lines::{BlockKind, TypedForm};
-use occ_typing::{Typed, TypedLine};
+use occ_typing::{BlockKind, Typed, TypedForm, TypedLine};
 use std::alloc::{AllocError, Global};
 
 /// What the rules of uses tell of lines, in no order, some perhaps more than once.

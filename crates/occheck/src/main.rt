@@ -9,9 +9,7 @@ ghost use Rattle.std.specs.Prelude.{◌≡◌, IfOk, false, length};
 
 use input::Input;
 use occ_base::FileName;
-use occ_script::{Status, StdIn, StdOut, run_script};
-use occ_server::Gate;
-use occ_sessions::run_sessions;
+use occ_sessions::{Gate, Status, StdIn, StdOut, run_script, run_sessions};
 use occ_words::{Mode, WordsFault, read_words};
 use std::alloc::AllocError;
 use std::env::{self, Env};

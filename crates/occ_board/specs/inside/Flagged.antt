@@ -2,7 +2,7 @@
 use Rattle.std.specs.Prelude.{◌≡◌, ◌<◌, ◌+◌, ◌||◌, ℕ, Bool, true, false, cond, not, List, [], ◌∷◌, get_or, Option, Some, None, slice_get}
 use Rattle.std.specs.Option.{is_some}
 use Rattle.occ_board.specs.Done.{done, done_step}
-use Rattle.occ_check.specs.Input.{Input}
+use Rattle.occ_report.specs.Inputs.{Input}
 use Rattle.occ_project.specs.declared.reads.Read.{Read}
 use Rattle.occ_units.specs.Along.{by_place, name_at}
 

@@ -4,7 +4,7 @@ use Rattle.std.specs.List.{list_all}
 use Rattle.occ_base.specs.FileName.{is_unit}
 use Rattle.occ_board.specs.Done.{done, is_input_among, is_kept}
 use Rattle.occ_board.specs.Journal.{is_open}
-use Rattle.occ_check.specs.Input.{Input}
+use Rattle.occ_report.specs.Inputs.{Input}
 use Rattle.occ_project.specs.declared.reads.Read.{Read}
 use Rattle.occ_report.specs.Checks.{input}
 use Rattle.occ_report.specs.Report.{is_open_unit}

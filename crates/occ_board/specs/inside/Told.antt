@@ -1,6 +1,6 @@
 -- What a board knows of the texts that kept inputs looked at: a file that has the revision of a read has its text.
 use Rattle.std.specs.Prelude.{◌≡◌, ◌<◌, ℕ, Bool, true, List, slice_get, Some}
-use Rattle.occ_check.specs.Input.{Input}
+use Rattle.occ_report.specs.Inputs.{Input}
 use Rattle.occ_project.specs.declared.reads.Read.{Read}
 use Rattle.occ_units.specs.Project.{file_of}
 

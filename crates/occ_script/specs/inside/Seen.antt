@@ -4,7 +4,7 @@ use Rattle.std.specs.Borrow.{Bor}
 use Rattle.occ_board.specs.Machine.{State, after}
 use Rattle.occ_board.specs.Machine.Event.{Finish, Take}
 use Rattle.occ_board.specs.declared.entry.EditFault.{EditFault}
-use Rattle.occ_check.specs.Input.{Input}
+use Rattle.occ_board.specs.Rules.{Input}
 use Rattle.occ_forms.specs.Prepared.{Prepared}
 use Rattle.occ_script.specs.Machine.{board_word}
 use Rattle.occ_script.specs.declared.edit.Given.{Given}

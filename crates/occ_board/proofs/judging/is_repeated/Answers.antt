@@ -1,7 +1,7 @@
 use Rattle.std.proofs.Common.{◌≡◌, ◌↔◌, true, subst}
 use Rattle.occ_board.proofs.Stands.{kept_that}
 use Rattle.occ_board.proofs.judging.is_repeated.Goals as goal
-use Rattle.occ_check.specs.Input.{Input}
+use Rattle.occ_report.specs.Inputs.{Input}
 
 pub returns-in-Some : goal.returns-in-Some
 returns-in-Some c =

@@ -2,7 +2,7 @@ use Rattle.std.proofs.Common.{subst, sym}
 use Rattle.occ_board.proofs.Told.{told_kept}
 use Rattle.occ_board.proofs.present.is_kept_now.Goals as goal
 use Rattle.occ_board.specs.inside.Told.{AreTold}
-use Rattle.occ_check.specs.Input.{Input}
+use Rattle.occ_report.specs.Inputs.{Input}
 
 pub is_present-requires-clause-told : goal.is_present-requires-clause-told
 is_present-requires-clause-told c _ =

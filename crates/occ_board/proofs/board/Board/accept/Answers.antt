@@ -8,7 +8,7 @@ use Rattle.occ_board.specs.Machine.{State}
 use Rattle.occ_board.specs.declared.entry.Edit.{Edit}
 use Rattle.occ_board.specs.declared.entry.Edit.TheVariants as edit
 use Rattle.occ_board.specs.inside.Holding.{IsBoard, count_then}
-use Rattle.occ_check.specs.Input.{Input}
+use Rattle.occ_report.specs.Inputs.{Input}
 use Rattle.occ_project.specs.declared.reads.Read.{Read}
 use Rattle.occ_report.specs.Report.{open_units}
 use Rattle.occ_units.specs.Project.{IsProject}

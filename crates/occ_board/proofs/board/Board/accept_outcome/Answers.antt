@@ -5,7 +5,7 @@ use Rattle.occ_board.proofs.Keeps.{same_there}
 use Rattle.occ_board.proofs.Opened.{AreUnits, units_with}
 use Rattle.occ_board.proofs.Places.{within}
 use Rattle.occ_board.proofs.board.Board.accept_outcome.Goals as goal
-use Rattle.occ_check.specs.Input.{Input}
+use Rattle.occ_report.specs.Inputs.{Input}
 use Rattle.occ_units.specs.Along.{name_at}
 
 pub at-requires : goal.at-requires

@@ -3,7 +3,7 @@ use Rattle.std.specs.List.{slice_get}
 use Rattle.std.specs.Option.{option_and_then}
 use Rattle.occ_board.proofs.Keeps.{kept_there}
 use Rattle.occ_board.proofs.kept.Kept.get.Goals as goal
-use Rattle.occ_check.specs.Input.{Input}
+use Rattle.occ_report.specs.Inputs.{Input}
 
 pub returns-in-Some : goal.returns-in-Some
 returns-in-Some c =

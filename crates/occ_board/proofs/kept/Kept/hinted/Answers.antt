@@ -4,7 +4,7 @@ use Rattle.std.specs.List.{slice_get}
 use Rattle.occ_board.proofs.Keeps.{kept_single}
 use Rattle.occ_board.proofs.kept.Kept.hinted.Goals as goal
 use Rattle.occ_board.specs.inside.Holding.{AreSingle}
-use Rattle.occ_check.specs.Input.{Input}
+use Rattle.occ_report.specs.Inputs.{Input}
 
 pub returns-then-eq : goal.returns-then-eq
 returns-then-eq c =

@@ -2,7 +2,7 @@ use Rattle.std.proofs.Common.{◌≡◌, ◌∙◌, Some, ap, sym}
 use Rattle.occ_board.proofs.Keeps.{kept_within}
 use Rattle.occ_board.proofs.kept.Kept.keep.Goals as goal
 use Rattle.occ_board.specs.inside.Holding.{place_in}
-use Rattle.occ_check.specs.Input.{Input}
+use Rattle.occ_report.specs.Inputs.{Input}
 
 pub replace-requires : goal.replace-requires
 replace-requires c =

@@ -6,7 +6,7 @@ use Rattle.occ_board.proofs.Keeps.{all_but_last, kept_last, last_there, places_w
 use Rattle.occ_board.proofs.kept.Kept.keep_first.Goals as goal
 use Rattle.occ_board.specs.Machine.{with_kept}
 use Rattle.occ_board.specs.inside.Holding.{ArePlaces, AreSingle, place_in}
-use Rattle.occ_check.specs.Input.{Input}
+use Rattle.occ_report.specs.Inputs.{Input}
 use Rattle.occ_project.specs.Reads.{name_cmp}
 
 pub invariant_of-self-else-is_err : goal.invariant_of-self-else-is_err

@@ -3,7 +3,7 @@ use Rattle.occ_board.proofs.Keeps.{kept_at, places_stay, set_there, single_set}
 use Rattle.occ_board.proofs.kept.Kept.replace.Goals as goal
 use Rattle.occ_board.specs.Machine.{with_kept}
 use Rattle.occ_board.specs.inside.Holding.{place_in}
-use Rattle.occ_check.specs.Input.{Input}
+use Rattle.occ_report.specs.Inputs.{Input}
 
 pub invariant_of-self : goal.invariant_of-self
 invariant_of-self c =

@@ -1,5 +1,5 @@
 use Rattle.std.proofs.Common.{◌≡◌, ◌∙◌, Option, ap, sym}
-use Rattle.occ_check.specs.Input.{Input}
+use Rattle.occ_board.specs.Rules.{Input}
 use Rattle.occ_script.specs.Machine.{after_drop}
 use Rattle.occ_script.proofs.Holding.{always, none_held, same_desk}
 use Rattle.occ_script.proofs.desk.Desk.drop_job.Goals as goal

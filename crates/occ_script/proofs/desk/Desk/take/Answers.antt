@@ -1,7 +1,7 @@
 use Rattle.std.proofs.Common.{◌≡◌, ◌∙◌, ℕ, List, ◌++◌, IfOk, Option, Some, None, ap, codes, subst, sym}
 use Rattle.std.specs.Option.{is_some}
 use Rattle.occ_board.specs.Machine.{Answer, take_answer}
-use Rattle.occ_check.specs.Input.{Input}
+use Rattle.occ_board.specs.Rules.{Input}
 use Rattle.occ_script.specs.Machine.{told}
 use Rattle.occ_script.proofs.Holding.{always, busy_after, busy_text, free_after, free_text}
 use Rattle.occ_script.proofs.desk.Desk.take.Goals as goal

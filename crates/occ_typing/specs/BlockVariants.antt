@@ -1,0 +1,2 @@
+-- The kinds of blocks one by one, passed on.
+pub use Rattle.occ_typed_lines.specs.declared.tree.BlockKind.TheVariants.{Sequence, Parallel, Conditional, Alternation}
