@@ -65,7 +65,7 @@ rank_falls g ranks is (w ∷ ws) u v p h =
     let b = rank_falls g ranks is ws w v p.1 a.0 in
     (b.0, omega (arith, a, b))
 
-falls : (g : Graph) (ranks : List ℕ) → IsRanked g ranks → (u v : ℕ) → reaches g u v ≡ true → 0 < rank_at ranks u → (0 < rank_at ranks v) × (rank_at ranks v < rank_at ranks u)
+pub falls : (g : Graph) (ranks : List ℕ) → IsRanked g ranks → (u v : ℕ) → reaches g u v ≡ true → 0 < rank_at ranks u → (0 < rank_at ranks v) × (rank_at ranks v < rank_at ranks u)
 falls g ranks is u v h r = let p = reaches_path g (length g) u v h in rank_falls g ranks is p.0 u v p.1 r
 
 positive : (n : ℕ) → (n == 0) ≡ false → 0 < n

@@ -7,3 +7,4 @@ pub mod Circled
 pub mod Turned
 pub mod Added
 pub mod Replaced
+pub mod Free

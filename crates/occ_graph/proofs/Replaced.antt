@@ -1,5 +1,5 @@
 -- Rows that are replaced, and all that is kept of a graph with one node more.
-use Rattle.std.proofs.Common.{◌≡◌, ◌∙◌, ◌+◌, ◌-◌, ◌<◌, ◌≤◌, ◌++◌, ◌||◌, ◌==◌, ℕ, zero, suc, Bool, true, false, cond, not, List, [], ◌∷◌, length, map, take, drop, get_or, set, refl, sym, ap, subst, inl, inr, arith}
+use Rattle.std.proofs.Common.{◌≡◌, ◌∙◌, ◌+◌, ◌-◌, ◌<◌, ◌≤◌, ◌++◌, ◌||◌, ◌==◌, ℕ, zero, suc, Bool, true, false, cond, not, List, [], ◌∷◌, None, Some, slice_get, length, map, take, drop, get_or, set, refl, sym, ap, subst, inl, inr, arith}
 use Rattle.std.specs.Prelude.{nat_lt, slice_set}
 use Rattle.std.proofs.lemmas.Bool.{cases_lt, eq-eqb, eqb-false, eqb-true, le-ltb, lt-ltb}
 use Rattle.std.proofs.lemmas.List.{append-nil, length-take-le, take_more}
@@ -24,13 +24,13 @@ left_at f [] i d lt = absurd (omega (arith, lt))
 left_at f (x ∷ xs) zero d lt = refl
 left_at f (x ∷ xs) (suc i) d lt = left_at f xs i d (omega (arith, lt))
 
-parts_long : {X : Type 0} (f : X → X) (xs : List X) (i : ℕ) → length (map f (take i xs) ++ drop i xs) ≡ length xs
+pub parts_long : {X : Type 0} (f : X → X) (xs : List X) (i : ℕ) → length (map f (take i xs) ++ drop i xs) ≡ length xs
 parts_long f [] zero = refl
 parts_long f [] (suc i) = refl
 parts_long f (x ∷ xs) zero = refl
 parts_long f (x ∷ xs) (suc i) = ap suc (parts_long f xs i)
 
-same_default : {X : Type 0} (xs : List X) (i : ℕ) (d e : X) → i < length xs → get_or xs i d ≡ get_or xs i e
+pub same_default : {X : Type 0} (xs : List X) (i : ℕ) (d e : X) → i < length xs → get_or xs i d ≡ get_or xs i e
 same_default [] i d e lt = absurd (omega (arith, lt))
 same_default (x ∷ xs) zero d e lt = refl
 same_default (x ∷ xs) (suc i) d e lt = same_default xs i d e (omega (arith, lt))
@@ -39,6 +39,35 @@ pub replaced_more : {X : Type 0} (f : X → X) (xs ys next : List X) (i : ℕ) (
 replaced_more {X} f xs ys next i d lt y n =
     let long : length ys ≡ length xs = ap (length {A = X}) y ∙ parts_long f xs i in
     n ∙ map_over_more f xs ys i (get_or ys i d) lt y (same_default ys i d (get_or ys i d) (omega (arith, lt, long)))
+
+-- the next of the nodes that are replaced
+pub got : (xs : List ℕ) (i x : ℕ) → Some x ≡ slice_get xs i → get_or xs i 0 ≡ x
+got [] i x e = absurd cc
+got (y ∷ xs) zero x e = cc
+got (y ∷ xs) (suc i) x e = got xs i x e
+
+pub next_node : (f : ℕ → ℕ) (xs ys : List ℕ) (i x : ℕ) → ys ≡ map f (take i xs) ++ drop i xs → Some x ≡ slice_get ys i → i < length ys → (i < length xs) × (get_or xs i 0 ≡ x)
+next_node f xs ys i x y e lt =
+    let long : length ys ≡ length xs = ap (length {A = ℕ}) y ∙ parts_long f xs i in
+    let within : i < length xs = omega (arith, lt, long) in
+    (within, sym (left_at f xs i 0 within) ∙ sym (ap (λ (zs : List ℕ). get_or zs i 0) y) ∙ got ys i x e)
+
+-- where none is left all are replaced
+pub none_left : (f : ℕ → ℕ) (xs ys : List ℕ) (i : ℕ) → ys ≡ map f (take i xs) ++ drop i xs → i ≤ length xs → None ≡ slice_get ys i → ys ≡ map f xs
+none_left f xs ys i y le e = y ∙ all_there f xs i (omega (arith, le, over ys i e, long)) where
+  long : length ys ≡ length xs
+  long = ap (length {A = ℕ}) y ∙ parts_long f xs i
+
+  over : (zs : List ℕ) (k : ℕ) → None ≡ slice_get zs k → length zs ≤ k
+  over [] k h = omega arith
+  over (z ∷ zs) zero h = absurd cc
+  over (z ∷ zs) (suc k) h = let more = over zs k h in omega (arith, more)
+
+  all_there : (g : ℕ → ℕ) (zs : List ℕ) (k : ℕ) → k ≡ length zs → map g (take k zs) ++ drop k zs ≡ map g zs
+  all_there g [] zero h = refl
+  all_there g [] (suc k) h = refl
+  all_there g (z ∷ zs) zero h = absurd (omega (arith, h))
+  all_there g (z ∷ zs) (suc k) h = ap (λ (ws : List ℕ). g z ∷ ws) (all_there g zs k (omega (arith, h)))
 
 -- the last of the rows is put first
 pub rows_last : (g : Graph) (ws : List ℕ) (rows : List (List ℕ)) (w : ℕ) (row : List ℕ) → length ws ≡ length rows → with_rows g (ws ++ w ∷ []) (rows ++ row ∷ []) ≡ with_rows (slice_set g w row) ws rows

@@ -1,7 +1,7 @@
 ghost use Rattle.occ_graph.specs.Adding.{raised as place_then, with_node};
 ghost use Rattle.occ_graph.specs.Graph.{IsWhole, is_among};
 ghost use Rattle.occ_graph.specs.Sources.{once_each};
-ghost use Rattle.occ_graph.specs.inside.Linking.{before, behind, others as others_of, sources_then, sources_till as those_till, with_rows};
+ghost use Rattle.occ_graph.specs.inside.Linking.{before, behind, sources_then, sources_till as those_till, with_rows};
 ghost use Rattle.std.specs.Prelude.{◌≡◌, ◌<◌, ◌≤◌, ◌++◌, ◌∷◌, [], ℕ, IfOk, OnOk, get_or, length, map, slice_set, true, vec_len, vec_capacity};
 
 use super::search::targets as row;
@@ -16,38 +16,32 @@ fn raised(at: usize, node: usize, count: usize) -> usize
     if node < at { node } else { node + 1 }
 }
 
-/// One of the nodes has the place that it has then.
-fn raise(nodes: &mut Items<usize>, i: usize, at: usize, count: usize)
-    requires here { i < length nodes.old }
-    requires within { get_or nodes.old i 0 < count }
-    ensures { nodes.new ≡ slice_set nodes.old i (place_then at (get_or nodes.old i 0)) }
-{
-    let node = nodes.as_slice()[i];
-    nodes.set(i, raised(at, node, count));
-}
-
 /// The nodes have the places that they have then.
 fn raise_all(nodes: &mut Items<usize>, at: usize, count: usize)
     requires { (v : ℕ) → is_among nodes.old v ≡ true → v < count }
     ensures { nodes.new ≡ map (place_then at) nodes.old }
 {
-    for i in 0..nodes.len() {
-        raise(nodes, i, at, count);
+    let _len = nodes.len();
+    let mut i = 0;
+    while let Some(node) = nodes.get(i) {
+        let node = raised(at, *node, count);
+        nodes.set(i, node);
+        i += 1;
     }
 }
 
-/// The same of one of the rows.
-fn raise_row(rows: &mut Vec<Items<usize>>, node: usize, at: usize, count: usize)
-    requires here { node < length rows.old.items }
-    requires within { (v : ℕ) → is_among (get_or rows.old.items node []) v ≡ true → v < count }
-    ensures items { rows.new.items ≡ slice_set rows.old.items node (map (place_then at) (get_or rows.old.items node [])) }
-    ensures len { vec_len rows.new ≡ vec_len rows.old }
-    ensures room { vec_capacity rows.new ≡ vec_capacity rows.old }
+/// The nodes of these rows have the places that they have then.
+fn raise_each(rows: &mut [Items<usize>], at: usize)
+    requires { IsWhole rows.old }
+    ensures { rows.new ≡ map (map (place_then at)) rows.old }
 {
-    raise_all(&mut rows[node], at, count);
+    let count = rows.len();
+    for row in rows.iter_mut() {
+        raise_all(row, at, count);
+    }
 }
 
-/// The nodes of all rows have the places that they have then. Behind the last node one comes without moving any.
+/// The same of all rows. Behind the last node one comes without moving any.
 fn raise_rows(rows: &mut Vec<Items<usize>>, at: usize)
     requires place { at ≤ vec_len rows.old }
     requires whole { IsWhole rows.old.items }
@@ -55,13 +49,10 @@ fn raise_rows(rows: &mut Vec<Items<usize>>, at: usize)
     ensures len { vec_len rows.new ≡ vec_len rows.old }
     ensures room { vec_capacity rows.new ≡ vec_capacity rows.old }
 {
-    let count = rows.len();
-    if at == count {
+    if at == rows.len() {
         return;
     }
-    for node in 0..count {
-        raise_row(rows, node, at, count);
-    }
+    raise_each(rows.as_mut_slice(), at);
 }
 
 /// One node more comes to a place, with this row.
@@ -73,27 +64,6 @@ pub fn add_row(rows: &mut Vec<Items<usize>>, at: usize, row: Items<usize>)
 {
     raise_rows(rows, at);
     let _ = rows.insert(at, row);
-}
-
-/// Those of the nodes that are not this one.
-pub fn others(alloc: Global, at: usize, nodes: &[usize]) -> Result<Items<usize>, AllocError>
-    ensures { IfOk result (λ others. others ≡ others_of at nodes.now) }
-{
-    let mut others = Items::new(alloc);
-    for node in nodes {
-        add_other(&mut others, at, *node)?;
-    }
-    Ok(others)
-}
-
-/// Adds a node, unless it is this one.
-fn add_other(others: &mut Items<usize>, at: usize, node: usize) -> Result<(), AllocError>
-    ensures { OnOk result (others.new ≡ others.old ++ others_of at (node ∷ [])) }
-{
-    if node == at {
-        return Ok(());
-    }
-    others.push(node)
 }
 
 /// Those from which edges led to the node that then has this place.

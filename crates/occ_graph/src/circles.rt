@@ -3,11 +3,12 @@
 ghost use Rattle.std.specs.Prelude.{[], ◌∷◌, ◌≡◌, ◌<◌, ◌++◌, ℕ, length, IfOk, OnOk};
 ghost use Rattle.occ_graph.specs.Graph.{IsWhole, all_rests};
 ghost use Rattle.occ_graph.specs.inside.Circling.{IsCircles, IsRow, all_rests_by as all_rests_told, is_circle as stands_in_circle, rests_by as rests_told, row_at};
+ghost use Rattle.occ_graph.specs.inside.Linking.{rests_kept};
 ghost use Rattle.occ_graph.specs.inside.Ranking.{IsRanked, rank_at, ranked_marks};
 ghost use Rattle.occ_graph.specs.inside.Searching.{mark_at};
 
 use super::order::in_order;
-use super::ranks::{find_ranks, marks_of};
+use super::ranks::{find_ranks, have_all_ranks, marks_of};
 use super::search::{is_marked, number_at, search};
 use sqlite_items::Items;
 use std::alloc::{AllocError, Global};
@@ -63,12 +64,12 @@ fn rows(
 fn find_circles(
     alloc: Global,
     graph: &[Items<usize>],
-    sources: &[Items<usize>],
+    ranks: Items<usize>,
 ) -> Result<Circles, AllocError>
+    requires ranked { IsRanked graph.now ranks }
+    requires len { length ranks ≡ length graph.now }
     ensures { IfOk result (λ circles. IsCircles graph.now circles) }
 {
-    let order = in_order(alloc, graph, sources)?;
-    let ranks = find_ranks(alloc, graph, order.as_slice())?;
     let rows = rows(alloc, graph, ranks.as_slice())?;
     Ok(Circles { ranks, rows })
 }
@@ -140,17 +141,22 @@ fn all_rests_of(
     Ok(all)
 }
 
-/// For each node of a graph those that it rests on: those to which edges lead from it that stand in no circle. It goes
-/// once along the edges that reach no circle, and once from each other node along those that do. The graph turned round serves
-/// for the order of this alone: sources that are wrong cost time.
+/// For each node of a graph those that it rests on: those to which edges lead from it that stand in no circle; nothing, if these
+/// are all. It goes once along the edges that reach no circle, and once from each other node along those that do. The graph
+/// turned round serves for the order of this alone: sources that are wrong cost time.
 pub fn find_rests(
     alloc: Global,
     graph: &[Items<usize>],
     sources: &[Items<usize>],
-) -> Result<Vec<Items<usize>>, AllocError>
+) -> Result<Option<Vec<Items<usize>>>, AllocError>
     requires { IsWhole graph.now }
-    ensures { IfOk result (λ rests. rests.items ≡ all_rests graph.now) }
+    ensures { IfOk result (λ rests. rests_kept graph.now rests ≡ all_rests graph.now) }
 {
-    let circles = find_circles(alloc, graph, sources)?;
-    all_rests_of(alloc, graph, &circles)
+    let order = in_order(alloc, graph, sources)?;
+    let ranks = find_ranks(alloc, graph, order.as_slice())?;
+    if have_all_ranks(ranks.as_slice()) {
+        return Ok(None);
+    }
+    let circles = find_circles(alloc, graph, ranks)?;
+    Ok(Some(all_rests_of(alloc, graph, &circles)?))
 }

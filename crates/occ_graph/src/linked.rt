@@ -3,8 +3,9 @@ ghost use Rattle.occ_graph.specs.Graph.{IsWhole, all_rests, is_among, rests as r
 ghost use Rattle.occ_graph.specs.Sources.{sources as sources_in};
 ghost use Rattle.std.specs.Prelude.{◌≡◌, ◌<◌, ◌≤◌, [], ℕ, IfOk, OnErr, OnOk, length, true};
 
-use super::adding::{add_row, others, put_rows, source_rows};
+use super::adding::{add_row, put_rows, source_rows};
 use super::circles::find_rests;
+use super::resting::add_rests;
 use super::search::targets as row;
 use super::sources::find_sources;
 use sqlite_items::Items;
@@ -16,14 +17,14 @@ use std::marker::Model;
 pub struct Linked {
     /// Of each node those to which edges lead from it.
     edges: Vec<Items<usize>>,
-    /// Of each node those that it rests on.
-    rests: Vec<Items<usize>>,
+    /// Of each node those that it rests on; nothing, if these are all to which edges lead from it.
+    rests: Option<Vec<Items<usize>>>,
     /// Of each node those from which edges lead to it, in order.
     sources: Vec<Items<usize>>,
 }
 
 impl Model for Linked {
-    ghost use Rattle.occ_graph.specs.inside.Linking.{IsLinked};
+    ghost use Rattle.occ_graph.specs.inside.Linking.{IsLinked, rests_kept};
     ghost use Rattle.std.specs.Coded.{coded_list, coded_ℕ};
     ghost use Rattle.std.specs.Prelude.{List, ℕ};
 
@@ -33,7 +34,7 @@ impl Model for Linked {
 
     ghost view = { λ linked. linked.edges.items };
 
-    ghost invariant = { λ linked. IsLinked linked.edges.items linked.rests.items linked.sources.items };
+    ghost invariant = { λ linked. IsLinked linked.edges.items (rests_kept linked.edges.items linked.rests) linked.sources.items };
 }
 
 impl Linked {
@@ -43,7 +44,7 @@ impl Linked {
     {
         Linked {
             edges: Vec::new(alloc),
-            rests: Vec::new(alloc),
+            rests: None,
             sources: Vec::new(alloc),
         }
     }
@@ -73,7 +74,10 @@ impl Linked {
     pub fn rests(&self, node: usize) -> &[usize]
         ensures { result.now ≡ rests_in self.now node }
     {
-        row(self.rests.as_slice(), node)
+        match &self.rests {
+            Some(rests) => row(rests.as_slice(), node),
+            None => row(self.edges.as_slice(), node),
+        }
     }
 
     /// Those from which edges lead to a node, in order, once for each edge.
@@ -92,14 +96,18 @@ impl Linked {
         ensures ok { OnOk result (self.new ≡ with_node self.old at targets) }
         ensures err { OnErr result (self.new ≡ self.old) }
     {
-        let rests = others(alloc, at, targets.as_slice())?;
         let found = source_rows(alloc, self.sources.as_slice(), at, targets.as_slice())?;
         self.edges.reserve(1)?;
-        self.rests.reserve(1)?;
         self.sources.reserve(1)?;
+        add_rests(
+            alloc,
+            &mut self.rests,
+            self.edges.as_slice(),
+            at,
+            targets.as_slice(),
+        )?;
         add_row(&mut self.sources, at, Items::new(alloc));
         put_rows(&mut self.sources, targets.as_slice(), found);
-        add_row(&mut self.rests, at, rests);
         add_row(&mut self.edges, at, targets);
         Ok(())
     }

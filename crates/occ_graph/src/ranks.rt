@@ -1,6 +1,6 @@
 #![tactic(auto, using(crate::proofs::Ranked::none_at, crate::proofs::Ranked::none_ranked, crate::proofs::Ranked::set_ranked, crate::proofs::Ranked::set_most))]
 
-ghost use Rattle.std.specs.Prelude.{◌≡◌, ◌<◌, ◌≤◌, ℕ, true, length, replicate, IfOk, IsTrue};
+ghost use Rattle.std.specs.Prelude.{◌≡◌, ◌↔◌, ◌<◌, ◌≤◌, ℕ, true, length, replicate, slice_index, EachIndex, IfOk, IsTrue};
 ghost use Rattle.std.specs.List.{list_all};
 ghost use Rattle.occ_graph.specs.Graph.{targets as targets_of};
 ghost use Rattle.occ_graph.specs.inside.Ranking.{IsRanked, all_ranked as all_have_ranks, rank_at, ranked_marks};
@@ -65,6 +65,13 @@ pub fn find_ranks(
         rank(graph, *node, place + 1, &mut ranks);
     }
     Ok(ranks)
+}
+
+/// Whether each node has a rank.
+pub fn have_all_ranks(ranks: &[usize]) -> bool
+    ensures { IsTrue result ↔ EachIndex ranks.now (λ node. 0 < slice_index ranks.now node) }
+{
+    ranks.iter().all(|rank| *rank > 0)
 }
 
 /// The marks of the nodes that have a rank.

@@ -1,5 +1,5 @@
 -- A file that is new to a project, and what is known then.
-use Rattle.std.proofs.Common.{◌≡◌, ◌∙◌, ◌+◌, ◌<◌, ◌≤◌, ◌++◌, ◌||◌, ◌⊎◌, ℕ, zero, suc, Bool, true, false, cond, List, [], ◌∷◌, length, map, take, drop, get_or, Option, Some, None, refl, sym, ap, inl, inr, arith}
+use Rattle.std.proofs.Common.{◌≡◌, ◌∙◌, ◌+◌, ◌<◌, ◌≤◌, ◌++◌, ◌||◌, ◌⊎◌, ℕ, zero, suc, Bool, true, false, cond, List, [], ◌∷◌, length, map, take, drop, get_or, Option, Some, None, refl, sym, ap, subst, inl, inr, arith}
 use Rattle.std.specs.List.{cons_option, insert, remove, slice_get}
 use Rattle.std.specs.Option.{option_map, unwrap_or}
 use Rattle.std.specs.Ordering.{match_ordering}
@@ -14,7 +14,7 @@ use Rattle.occ_base.specs.FileName.{is_unit}
 use Rattle.occ_graph.specs.Adding.{raised, with_node}
 use Rattle.occ_graph.specs.Graph.{Graph}
 use Rattle.occ_graph.specs.Graph as graph
-use Rattle.occ_graph.proofs.Added.{raised_above, raised_below}
+use Rattle.occ_graph.proofs.Added.{here_or, raised_above, raised_below}
 use Rattle.occ_project.specs.Entries.{is_among}
 use Rattle.occ_project.specs.Expansion.{expansion}
 use Rattle.occ_project.specs.Reads.{name_cmp, place}
@@ -34,7 +34,7 @@ use Rattle.occ_units.specs.Places.{graph_of, places_of}
 use Rattle.occ_units.specs.Project.{IsProject, put}
 use Rattle.occ_units.specs.Units.{read_names, used_units}
 use Rattle.occ_units.specs.declared.facts.Facts.{Facts}
-use Rattle.occ_units.specs.inside.Keeping.{all_facts, facts_of}
+use Rattle.occ_units.specs.inside.Keeping.{IsLookingForNone, IsSettled, all_facts, facts_of, reads_in}
 
 none_by : (b : Bool) → (b ≡ true → ⊥) → b ≡ false
 none_by true f = absurd (f refl)
@@ -231,6 +231,68 @@ module _ (files : List Read) (project : IsProject files) (name : List ℕ) (none
         let same = ap (length {A = List ℕ}) e in
         all_placed files (used_units files (name_at files p)) name (omega (arith, all, long, same)) none
     | inr k ↦ ap (λ (ns : List (List ℕ)). is_among ns name) (sym e) ∙ k
+  ]
+
+-- the file at a place looks for none, by what is known of it
+pub none_looked : (files : List Read) → IsProject files → (p : ℕ) → p < length files → (known : Facts) → known ≡ facts_of files (name_at files p) → (nodes : List ℕ) → nodes ≡ places_of files known.uses → (length (reads_in known.expanded) ≤ 1) × (length nodes ≡ length known.uses) → IsLookingForNone files (name_at files p)
+none_looked files project p lt known is nodes to few name none =
+    let reads : reads_in known.expanded ≡ read_names files (name_at files p) = ap (λ (f : Facts). reads_in f.expanded) is ∙ read_by (is_unit (name_at files p)) (expansion files (name_at files p)) in
+    let uses : known.uses ≡ used_units files (name_at files p) = ap (λ (f : Facts). f.uses) is in
+    let all : length (places_of files (used_units files (name_at files p))) ≡ length (used_units files (name_at files p)) =
+    ap (λ (names : List (List ℕ)). length (places_of files names)) (sym uses) ∙ ap (length {A = ℕ}) (sym to) ∙ few.1 ∙ ap (length {A = List ℕ}) uses in
+    (unread_there files project name none p lt (reads_in known.expanded) reads (inl few.0), all_placed files (used_units files (name_at files p)) name all none)
+
+mapped_none : (f : ℕ → ℕ) (o : Option ℕ) → option_map f o ≡ None → o ≡ None
+mapped_none f None h = refl
+mapped_none f (Some x) h = absurd cc
+
+-- where no file looks for one that is not there, and a new one does not either, none does then
+module _ (files : List Read) (file : Read) (at : ℕ) (new : IsNew files file.name at) (project : IsProject files) where
+  facts_same : (p : ℕ) → p < length files → facts_of (put files file) (name_at files p) ≡ facts_of files (name_at files p)
+  facts_same p lt = sym (facts_stay files (put files file) (name_at files p) file.name (put_others files file)
+      (ap (λ (names : List (List ℕ)). is_among names file.name) (read_by (is_unit (name_at files p)) (expansion files (name_at files p))) ∙ new.unread p lt))
+
+  reads_same : (p : ℕ) → p < length files → read_names (put files file) (name_at files p) ≡ read_names files (name_at files p)
+  reads_same p lt =
+      sym (read_by (is_unit (name_at files p)) (expansion (put files file) (name_at files p)))
+      ∙ ap (λ (f : Facts). reads_in f.expanded) (facts_same p lt)
+      ∙ read_by (is_unit (name_at files p)) (expansion files (name_at files p))
+
+  name_then : (p : ℕ) → p < length files → name_at (put files file) (raised at p) ≡ name_at files p
+  name_then p lt =
+      named_at (put files file) (name_at files p) (raised at p)
+      (place_then files file at new (name_at files p) (apart_names (name_at files p) file.name (other_there files project file.name new.gap.absent p lt))
+      ∙ ap (option_map (raised at)) (placed_name files p project lt))
+
+  absent_before : (name : List ℕ) → place name (put files file) ≡ None → place name files ≡ None
+  absent_before name none =
+      let other : bytes_eq file.name name ≡ false = none_by (bytes_eq file.name name) (λ k.
+      let here : place name (put files file) ≡ Some at = ap (λ (n : List ℕ). place n (put files file)) (sym ((bytes_eq-Decides file.name name).0 k)) ∙ place_new files file at new in
+      cc (here, none)) in
+      mapped_none (raised at) (place name files) (sym (place_then files file at new name other) ∙ none)
+
+  still_none : IsSettled files → (p : ℕ) → p < length files → IsLookingForNone (put files file) (name_at (put files file) (raised at p))
+  still_none before p lt = subst (IsLookingForNone (put files file)) (sym (name_then p lt)) (λ name none.
+      let was = before p lt name (absent_before name none) in (
+        ap (λ (names : List (List ℕ)). is_among names name) (reads_same p lt) ∙ was.0,
+        ap (λ (f : Facts). is_among f.uses name) (facts_same p lt) ∙ was.1,
+      ))
+
+  place_before : (p : ℕ) → raised at p < length (put files file) → p < length files
+  place_before p lt =
+      let long = put_long files file at new in
+      let within = new.gap.within in
+      elim (cases_lt p at) [
+        | inl below ↦ omega (arith, below, within)
+        | inr above ↦ let e = raised_above at p above in omega (arith, lt, e, long)
+      ]
+
+  pub settled_then : IsSettled files → IsLookingForNone (put files file) (name_at (put files file) at) → IsSettled (put files file)
+  settled_then before own p lt = elim (here_or at p) [
+    | inl e ↦ subst (λ (q : ℕ). IsLookingForNone (put files file) (name_at (put files file) q)) (sym e) own
+    | inr there ↦
+        let same = there.1 in
+        subst (λ (q : ℕ). IsLookingForNone (put files file) (name_at (put files file) q)) there.1 (still_none before there.0 (place_before there.0 (omega (arith, lt, same))))
   ]
 
 -- a file that has no place comes to those that are there

@@ -131,9 +131,9 @@ if_ok (Ok z) x y h e = h ∙ e
 if_ok (Err f) x y h e = h
 
 -- what rests on what stays where each file uses the same
-pub links_stay : (now files later : List Read) (facts lent found : List Facts) (kept : Graph) (readers : Option Graph) (edited : List ℕ) → files ≡ now → IsGraph files facts kept readers → lent ≡ facts → found ≡ all_facts later
+pub links_stay : (now files later : List Read) (facts lent found : List Facts) (kept : Graph) (readers : Option Graph) (settled : Bool) (edited : List ℕ) → files ≡ now → IsGraph files facts kept readers settled → lent ≡ facts → found ≡ all_facts later
     → map (λ (f : Facts). f.uses) lent ≡ map (λ (f : Facts). f.uses) found → is_some (place edited files) ≡ true → (is_some (place edited now) ≡ true → (name : List ℕ) → place name later ≡ place name now) → graph_of now ≡ graph_of later
-links_stay now files later facts lent found kept readers edited view graph l f uses here same =
+links_stay now files later facts lent found kept readers settled edited view graph l f uses here same =
     ap graph_of (sym view)
     ∙ graph_stays files later lent found (l ∙ graph.facts_are) f uses (λ name. same (ap (λ (fs : List Read). is_some (place edited fs)) (sym view) ∙ here) name ∙ ap (place name) (sym view))
 

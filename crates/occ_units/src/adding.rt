@@ -5,9 +5,9 @@ ghost use Rattle.occ_units.specs.New.{IsNew};
 ghost use Rattle.occ_units.specs.Places.{graph_of, places_of as the_places_of};
 ghost use Rattle.occ_units.specs.Project.{IsProject, put};
 ghost use Rattle.occ_units.specs.Units.{used_units};
-ghost use Rattle.occ_units.specs.inside.Keeping.{all_facts as all_facts_of, facts_of as the_facts_of, reads_in};
+ghost use Rattle.occ_units.specs.inside.Keeping.{IsLookingForNone, IsSettled, all_facts as all_facts_of, facts_of as the_facts_of, reads_in};
 ghost use Rattle.std.specs.List.{insert};
-ghost use Rattle.std.specs.Prelude.{◌≡◌, ◌<◌, ◌≤◌, ◌+◌, ◌⊎◌, IsFalse, OnErr, OnOk, false, length};
+ghost use Rattle.std.specs.Prelude.{◌≡◌, ◌<◌, ◌≤◌, ◌+◌, ◌⊎◌, IfOk, IsFalse, IsTrue, OnErr, OnOk, false, length, true};
 
 use super::Project;
 use super::facts::{Facts, facts_of, is_name_among, places_of, reads};
@@ -31,32 +31,45 @@ pub fn may_use(facts: &Facts, edges: &[usize], name: FileName) -> bool
     edges.len() != facts.uses.len() && is_name_among(facts.uses.as_slice(), name)
 }
 
-/// Adds what is known of the file at a place, which is new. All memory is taken before the first change.
+/// Whether it was known before that no file looks for one that is not there, and a file from which edges lead to these does not
+/// either: it reads itself alone, and all that it uses are there.
+fn is_still_settled(settled: bool, facts: &Facts, edges: &[usize]) -> bool
+    ensures { IsTrue result → (settled ≡ true) × ((length (reads_in facts.now.expanded) ≤ 1) × (length edges.now ≡ length facts.now.uses)) }
+{
+    settled && reads(facts).len() <= 1 && edges.len() == facts.uses.len()
+}
+
+/// Adds what is known of the file at a place, which is new, and tells whether it was known that no file looks for one that is not
+/// there and this one does not either. All memory is taken before the first change.
 fn add_known(
     alloc: Global,
     project: &Project,
     facts: &mut Vec<Shared<Facts>>,
     links: &mut Linked,
     at: usize,
-) -> Result<(), AllocError>
+    settled: bool,
+) -> Result<bool, AllocError>
     requires within { at < length project.now }
     requires facts { length project.now ≡ length facts.old.items + 1 }
     requires links { length project.now ≡ length links.old + 1 }
+    ensures settled { IfOk result (λ still. still ≡ true → (settled ≡ true) × IsLookingForNone project.now (name_at project.now at)) }
     ensures facts { OnOk result (facts.new.items ≡ insert facts.old.items at (the_facts_of project.now (name_at project.now at))) }
     ensures links { OnOk result (links.new ≡ with_node links.old at (the_places_of project.now (used_units project.now (name_at project.now at)))) }
     ensures err { OnErr result (facts.new.items ≡ facts.old.items × links.new ≡ links.old) }
 {
-    let known = facts_of(alloc, project, project.name_at(at))?;
+    let _files = project.files();
+    let known = facts_of(alloc, project, at, project.name_at(at))?;
     let targets = places_of(alloc, project, &[], known.uses.as_slice())?;
+    let still = is_still_settled(settled, &known, targets.as_slice());
     let shared = Shared::new(alloc, known)?;
     facts.reserve(1)?;
     links.add(alloc, at, targets)?;
     let _ = facts.insert(at, shared);
-    Ok(())
+    Ok(still)
 }
 
 /// Puts a file into a project that is new to it and that no file looks for, with what is then known. What is known of the others
-/// stays, but for their places.
+/// stays, but for their places. It is told whether it is known that no file looks for one that is not there, and tells the same.
 pub fn add_file(
     alloc: Global,
     project: &mut Project,
@@ -64,20 +77,25 @@ pub fn add_file(
     links: &mut Linked,
     at: usize,
     file: Read,
-) -> Result<(), AllocError>
+    settled: bool,
+) -> Result<bool, AllocError>
     requires project { IsProject project.old }
     requires new { IsNew project.old file.name at }
     requires facts { facts.old.items ≡ all_facts_of project.old }
     requires links { links.old ≡ graph_of project.old }
+    requires settled { settled ≡ true → IsSettled project.old }
+    ensures settled { IfOk result (λ still. still ≡ true → IsSettled project.new) }
     ensures project { OnOk result (project.new ≡ put project.old file) }
     ensures facts { OnOk result (facts.new.items ≡ all_facts_of project.new) }
     ensures links { OnOk result (links.new ≡ graph_of project.new) }
     ensures err { OnErr result (project.new ≡ project.old × (facts.new.items ≡ facts.old.items × links.new ≡ links.old)) }
 {
     project.insert(at, file)?;
-    if let Err(refused) = add_known(alloc, project, facts, links, at) {
-        project.remove(at);
-        return Err(refused);
+    match add_known(alloc, project, facts, links, at, settled) {
+        Ok(still) => Ok(still),
+        Err(refused) => {
+            project.remove(at);
+            Err(refused)
+        }
     }
-    Ok(())
 }

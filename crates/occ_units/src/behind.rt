@@ -77,7 +77,7 @@ fn facts_behind(
 {
     match still_known(files, facts, place, name, edited) {
         Some(known) => known.share(),
-        None => Shared::new(alloc, facts_of(alloc, project, name)?),
+        None => Shared::new(alloc, facts_of(alloc, project, place, name)?),
     }
 }
 

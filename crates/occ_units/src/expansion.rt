@@ -44,10 +44,12 @@ impl LookUps {
     }
 }
 
-/// The unit, what it includes, what that includes, and so on. It promises nothing: a name that is left out costs time.
+/// The unit, what it includes, what that includes, and so on. Each is looked for at a place first. It promises nothing: a name
+/// that is left out costs time.
 fn look_ups(
     alloc: Global,
     project: &Project,
+    hint: usize,
     unit: FileName,
 ) -> Result<Items<FileName>, AllocError> {
     let mut found = LookUps::new(alloc);
@@ -56,20 +58,25 @@ fn look_ups(
         let Some(name) = found.names.get(place) else {
             break;
         };
-        if let Some(source) = project.get(*name) {
+        if let Some(source) = project.get_near(hint, *name) {
             found.add_included(source.get().lines())?;
         }
     }
     Ok(found.names)
 }
 
-/// The expansion of a unit over the files of a project. It is made over those that it may look up, so that what it costs
-/// does not grow with the project.
-pub fn expansion(alloc: Global, project: &Project, unit: FileName) -> Result<Expanded, AllocError>
+/// The expansion of a unit, which is looked for at a place first, over the files of a project. It is made over those that it
+/// may look up, so that what it costs does not grow with the project.
+pub fn expansion(
+    alloc: Global,
+    project: &Project,
+    hint: usize,
+    unit: FileName,
+) -> Result<Expanded, AllocError>
     ensures { IfOk result (λ expanded. expanded ≡ unit_expansion project.now unit) }
 {
-    let names = look_ups(alloc, project, unit)?;
-    let reads = project.reads(alloc, names.as_slice())?;
+    let names = look_ups(alloc, project, hint, unit)?;
+    let reads = project.reads_near(alloc, hint, names.as_slice())?;
     match expand(alloc, &reads, unit) {
         Ok(expanded) => Ok(expanded),
         Err(ExpandFault::NotGiven(_)) => expand_over(alloc, &project.all_reads(alloc)?, unit),

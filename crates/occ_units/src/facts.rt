@@ -43,8 +43,13 @@ pub fn does_read(facts: &Facts, name: FileName) -> bool
     is_name_among(reads(facts), name)
 }
 
-/// What is known of the file of that name.
-pub fn facts_of(alloc: Global, project: &Project, name: FileName) -> Result<Facts, AllocError>
+/// What is known of the file of that name, which is looked for at a place first.
+pub fn facts_of(
+    alloc: Global,
+    project: &Project,
+    hint: usize,
+    name: FileName,
+) -> Result<Facts, AllocError>
     ensures { IfOk result (λ facts. facts ≡ the_facts_of project.now name) }
 {
     if !name.is_unit() {
@@ -53,7 +58,7 @@ pub fn facts_of(alloc: Global, project: &Project, name: FileName) -> Result<Fact
             uses: Items::new(alloc),
         });
     }
-    let expanded = expansion(alloc, project, name)?;
+    let expanded = expansion(alloc, project, hint, name)?;
     let uses = used_units(alloc, expanded.lines())?;
     Ok(Facts {
         expanded: Some(Shared::new(alloc, expanded)?),
@@ -66,8 +71,8 @@ pub fn all_facts(alloc: Global, project: &Project) -> Result<Vec<Shared<Facts>>,
     ensures { IfOk result (λ all. all.items ≡ map (λ file. the_facts_of project.now file.name) project.now) }
 {
     let mut all = Vec::new(alloc);
-    for file in project.files() {
-        all.push(Shared::new(alloc, facts_of(alloc, project, file.name)?)?)?;
+    for (place, file) in project.files().iter().enumerate() {
+        all.push(Shared::new(alloc, facts_of(alloc, project, place, file.name)?)?)?;
     }
     Ok(all)
 }

@@ -76,6 +76,8 @@ pub struct Graph {
     /// Of each file the places of those that read it, once they were asked for; behind edits that leave all reads as they
     /// were they are the same.
     readers: Option<Items<Items<usize>>>,
+    /// Whether it is known that no file reads or uses one that is not there.
+    settled: bool,
 }
 
 impl Model for Graph {
@@ -95,7 +97,7 @@ impl Model for Graph {
 
     ghost view = { λ graph. graph.project };
 
-    ghost invariant = { λ graph. IsGraph graph.project graph.facts.items graph.links graph.readers };
+    ghost invariant = { λ graph. IsGraph graph.project graph.facts.items graph.links graph.readers graph.settled };
 }
 
 /// The graph of a project, which it keeps.
@@ -109,6 +111,7 @@ fn keep(alloc: Global, project: Project) -> Result<Graph, AllocError>
         facts,
         links,
         readers: None,
+        settled: false,
     })
 }
 
@@ -122,6 +125,7 @@ impl Graph {
             facts: Vec::new(alloc),
             links: Linked::new(alloc),
             readers: None,
+            settled: true,
         }
     }
 
@@ -157,6 +161,7 @@ impl Graph {
             self.project = project;
             self.facts = facts;
             self.readers = None;
+            self.settled = false;
             return Ok(());
         };
         *self = Graph {
@@ -164,6 +169,7 @@ impl Graph {
             facts,
             links,
             readers: None,
+            settled: false,
         };
         Ok(())
     }
@@ -191,6 +197,9 @@ impl Graph {
         ensures unread { IsFalse result → (p : ℕ) → p < length self.now → is_among (read_names self.now (name_at self.now p)) name ≡ false }
         ensures unused { IsFalse result → (p : ℕ) → p < length self.now → is_among (used_units self.now (name_at self.now p)) name ≡ false }
     {
+        if self.settled {
+            return false;
+        }
         for place in 0..self.project.files().len() {
             if self.may_look_for(place, name) {
                 return true;
@@ -230,13 +239,14 @@ impl Graph {
             revision,
             source,
         };
-        add_file(
+        self.settled = add_file(
             alloc,
             &mut self.project,
             &mut self.facts,
             &mut self.links,
             at,
             file,
+            self.settled,
         )?;
         self.readers = None;
         Ok(())
@@ -280,6 +290,7 @@ impl Graph {
             source,
         };
         let again = share(&file)?;
+        self.settled = false;
         if renew(
             alloc,
             &mut self.project,

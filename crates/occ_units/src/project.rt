@@ -197,14 +197,7 @@ impl Project {
         self.files[place] = file;
     }
 
-    /// The file of that name.
-    fn file(&self, name: FileName) -> Option<&Read>
-        ensures { option_copied result ≡ member self.now name }
-    {
-        self.file_near(0, name)
-    }
-
-    /// The same where it is looked for at a place first.
+    /// The file of that name, which is looked for at a place first.
     fn file_near(&self, hint: usize, name: FileName) -> Option<&Read>
         ensures { option_copied result ≡ member self.now name }
     {
@@ -258,11 +251,11 @@ impl Project {
         }
     }
 
-    /// The file of that name as it is read: its revision, and its text unless it is absent.
-    pub(crate) fn read(&self, name: FileName) -> Result<Read, AllocError>
+    /// The file of that name as it is read: its revision, and its text unless it is absent. It is looked for at a place first.
+    pub(crate) fn read_near(&self, hint: usize, name: FileName) -> Result<Read, AllocError>
         ensures { IfOk result (λ read. read ≡ file_of self.now name) }
     {
-        match self.file(name) {
+        match self.file_near(hint, name) {
             Some(file) => share(file),
             None => Ok(Read {
                 name,
@@ -276,9 +269,21 @@ impl Project {
     pub fn reads(&self, alloc: Global, names: &[FileName]) -> Result<Reads, AllocError>
         ensures { IfOk result (λ reads. reads ≡ map (file_of self.now) names.now) }
     {
+        self.reads_near(alloc, 0, names)
+    }
+
+    /// The same where each is looked for at a place first.
+    pub fn reads_near(
+        &self,
+        alloc: Global,
+        hint: usize,
+        names: &[FileName],
+    ) -> Result<Reads, AllocError>
+        ensures { IfOk result (λ reads. reads ≡ map (file_of self.now) names.now) }
+    {
         let mut reads = Items::new(alloc);
         for name in names {
-            reads.push(self.read(*name)?)?;
+            reads.push(self.read_near(hint, *name)?)?;
         }
         Ok(reads)
     }

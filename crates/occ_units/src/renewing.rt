@@ -42,7 +42,7 @@ pub fn facts_of_all(
     let mut found = Items::new(alloc);
     for place in places {
         let name = project.name_at(*place);
-        found.push(Shared::new(alloc, facts_of(alloc, project, name)?)?)?;
+        found.push(Shared::new(alloc, facts_of(alloc, project, *place, name)?)?)?;
     }
     Ok(found)
 }
@@ -143,7 +143,7 @@ pub fn renew(
     ensures err { OnErr result (project.new ≡ project.old × facts.new.items ≡ facts.old.items) }
 {
     sources_law();
-    let before = project.read(file.name)?;
+    let before = project.read_near(place, file.name)?;
     project.replace(place, file);
     match renew_facts(alloc, project, facts, readers) {
         Ok(true) => Ok(true),

@@ -1,8 +1,14 @@
 -- What is kept of a graph, and what of it is made anew where one node more comes to a place.
-use Rattle.std.specs.Prelude.{◌≡◌, ◌<◌, ◌+◌, ◌-◌, ◌++◌, ◌==◌, ℕ, List, [], ◌∷◌, cond, get_or, length, map, nat_lt, not, slice_set}
+use Rattle.std.specs.Global.{Global}
+use Rattle.std.specs.Prelude.{◌≡◌, ◌<◌, ◌+◌, ◌-◌, ◌++◌, ◌==◌, ℕ, List, [], ◌∷◌, None, Option, Some, Vec, cond, get_or, length, map, nat_lt, not, slice_set}
 use Rattle.std.specs.List.{filter}
 use Rattle.occ_graph.specs.Graph.{Graph, IsWhole, all_rests}
 use Rattle.occ_graph.specs.Sources.{once_each, sources}
+
+-- what the nodes of a graph rest on: what is kept, or, if nothing is, all to which edges lead
+abbrev pub rests_kept : Graph → Option (Vec (List ℕ) Global) → Graph
+rests_kept g None = g
+rests_kept g (Some rows) = rows.items
 
 -- of each node those that it rests on, and those from which edges lead to it
 pub record IsLinked (g : Graph) (rests turned : Graph) : Type 0 where

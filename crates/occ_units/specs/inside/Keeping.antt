@@ -1,14 +1,17 @@
 -- What a graph keeps.
-use Rattle.std.specs.Prelude.{◌≡◌, ◌<◌, ℕ, false, List, [], cond, get_or, length, map, slice_get, Option, Some, None}
+use Rattle.std.specs.Prelude.{◌≡◌, ◌<◌, ℕ, Bool, false, true, List, [], cond, get_or, length, map, slice_get, Option, Some, None}
 use Rattle.std.specs.Str.{bytes_eq}
 use Rattle.occ_base.specs.FileName.{is_unit}
 use Rattle.occ_graph.specs.Graph.{Graph}
 use Rattle.occ_project.specs.declared.reads.Read.{Read}
+use Rattle.occ_project.specs.Entries.{is_among}
 use Rattle.occ_project.specs.Expansion.{Expansion, expansion}
+use Rattle.occ_project.specs.Reads.{place}
+use Rattle.occ_units.specs.Along.{name_at}
 use Rattle.occ_units.specs.declared.facts.Facts.{Facts}
 use Rattle.occ_units.specs.Places.{graph_of, read_graph, readers_at}
 use Rattle.occ_units.specs.Project.{file_of}
-use Rattle.occ_units.specs.Units.{used_units}
+use Rattle.occ_units.specs.Units.{read_names, used_units}
 
 -- what is known of a file
 abbrev pub facts_of : List Read → List ℕ → Facts
@@ -31,10 +34,19 @@ abbrev pub AreReaders : List Read → Option Graph → Type 0
 AreReaders files None = Unit {0}
 AreReaders files (Some rows) = (p : ℕ) → p < length files → get_or rows p [] ≡ readers_at files p
 
-pub record IsGraph (files : List Read) (facts : List Facts) (links : Graph) (readers : Option Graph) : Type 0 where
+-- a unit reads and uses no file that is not there
+abbrev pub IsLookingForNone : List Read → List ℕ → Type 0
+IsLookingForNone files unit = (name : List ℕ) → place name files ≡ None → (is_among (read_names files unit) name ≡ false) × (is_among (used_units files unit) name ≡ false)
+
+-- so does each
+abbrev pub IsSettled : List Read → Type 0
+IsSettled files = (p : ℕ) → p < length files → IsLookingForNone files (name_at files p)
+
+pub record IsGraph (files : List Read) (facts : List Facts) (links : Graph) (readers : Option Graph) (settled : Bool) : Type 0 where
   pub facts_are : facts ≡ all_facts files
   pub links_are : links ≡ graph_of files
   pub readers_are : AreReaders files readers
+  pub settled_is : settled ≡ true → IsSettled files
 
 -- what is known of a file reads and uses what it did before
 abbrev pub IsAsBefore : Option Facts → Option Facts → Type 0

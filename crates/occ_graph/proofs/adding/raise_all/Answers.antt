@@ -1,16 +1,25 @@
-use Rattle.std.proofs.Common.{◌≡◌, ◌∙◌, ◌<◌, ℕ, List, ap, arith, get_or, length, subst, sym}
+use Rattle.std.proofs.Common.{◌<◌, ◌∙◌, ℕ, ap, arith, slice_set, subst, sym}
 use Rattle.occ_graph.specs.Adding.{raised}
-use Rattle.occ_graph.proofs.Replaced.{among_there, left_at, replaced_more}
+use Rattle.occ_graph.proofs.Replaced.{among_there, got, next_node, none_left, replaced_more}
 use Rattle.occ_graph.proofs.adding.raise_all.Goals as goal
 
-pub raise-requires-clause-within : goal.raise-requires-clause-within
-raise-requires-clause-within c =
-    let i : ℕ = c.loop-i.i in
-    let within : i < length c.args.nodes.now = omega (arith, c.loop-i-test.true, c.len-i-end.ensures) in
-    let here : get_or c.loop-i.nodes i 0 ≡ get_or c.args.nodes.now i 0 = ap (λ (xs : List ℕ). get_or xs i 0) c.loop-i.invariant ∙ left_at (raised c.args.at) c.args.nodes.now i 0 within in
-    subst (λ (v : ℕ). v < c.args.count) (sym here) (c.requires (get_or c.args.nodes.now i 0) (among_there c.args.nodes.now i within))
+pub raised-node-requires : goal.raised-node-requires
+raised-node-requires c =
+    let next = next_node (raised c.args.at) c.args.nodes.now c.loop-node.nodes c.loop-node.i c.in-Some.node.now c.loop-node.invariant.0 c.in-Some.ensures.value c.in-Some.ensures.within in
+    subst (λ (v : ℕ). v < c.args.count) next.1 (c.requires _ (among_there c.args.nodes.now c.loop-node.i next.0))
 
-pub loop-i-preserved : goal.loop-i-preserved
-loop-i-preserved c =
-    let within : c.loop-i.i < length c.args.nodes.now = omega (arith, c.loop-i-test.true, c.len-i-end.ensures) in
-    replaced_more (raised c.args.at) c.args.nodes.now c.loop-i.nodes c.raise.new.nodes c.loop-i.i 0 within c.loop-i.invariant c.raise.ensures
+pub overflow_add-i : goal.overflow_add-i
+overflow_add-i c =
+    let next = next_node (raised c.args.at) c.args.nodes.now c.loop-node.nodes c.loop-node.i c.in-Some.node.now c.loop-node.invariant.0 c.in-Some.ensures.value c.in-Some.ensures.within in
+    let long = c.len-len.ensures in
+    let fits = c.len-len.type_inv in
+    omega (arith, next, long, fits)
+
+pub loop-node-preserved : goal.loop-node-preserved
+loop-node-preserved c =
+    let next = next_node (raised c.args.at) c.args.nodes.now c.loop-node.nodes c.loop-node.i c.in-Some.node.now c.loop-node.invariant.0 c.in-Some.ensures.value c.in-Some.ensures.within in
+    let node = c.raised-node.ensures ∙ ap (raised c.args.at) (sym (got c.loop-node.nodes c.loop-node.i c.in-Some.node.now c.in-Some.ensures.value)) in
+    (replaced_more (raised c.args.at) c.args.nodes.now c.loop-node.nodes c.set.new.self c.loop-node.i 0 next.0 c.loop-node.invariant.0 (c.set.ensures ∙ ap (slice_set c.loop-node.nodes c.loop-node.i) node), omega (arith, next))
+
+pub returns : goal.returns
+returns c = none_left (raised c.args.at) c.args.nodes.now c.loop-node.nodes c.loop-node.i c.loop-node.invariant.0 c.loop-node.invariant.1 c.in_default.ensures.value
