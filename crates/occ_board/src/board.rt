@@ -200,8 +200,9 @@ impl Board {
         let Some(unit) = self.next_unit() else {
             return Ok(None);
         };
-        let job = self.job(alloc, unit)?;
-        let same = self.job(alloc, unit)?;
+        let file = self.graph.project().place_or_first(unit);
+        let job = self.job(alloc, file, unit)?;
+        let same = self.job(alloc, file, unit)?;
         self.handed.push(same)?;
         Ok(Some(job))
     }
@@ -219,12 +220,12 @@ impl Board {
         )
     }
 
-    /// The job of an open unit that looks at what is so at present.
-    fn job(&self, alloc: Global, unit: FileName) -> Result<Job, AllocError>
+    /// The job of an open unit, which is looked for at a place first, that looks at what is so at present.
+    fn job(&self, alloc: Global, file: usize, unit: FileName) -> Result<Job, AllocError>
         requires { HasJob (files_of self.now) self.now.kept unit }
         ensures { IfOk result (λ job. job ≡ input (files_of self.now) unit) }
     {
-        job_now(alloc, &self.graph, &self.kept, unit)
+        job_now(alloc, &self.graph, &self.kept, file, unit)
     }
 
     /// Judges an outcome, and keeps it if it is accepted. Its job is handed out no more. Where memory is refused, which
@@ -236,16 +237,18 @@ impl Board {
         ensures fewer { IfOk result (λ verdict. verdict ≡ verdicts.Accepted → pending_answer self.new < pending_answer self.old) }
         ensures err { IfErr result (λ refused. (refused.0 ≡ outcome) × ((self.new ≡ self.old) × (finish_answer self.old outcome ≡ verdicts.Accepted))) }
     {
-        let verdict = self.judge(outcome.job());
+        let file = self.graph.project().place_or_first(outcome.job().unit());
+        let verdict = self.judge(file, outcome.job());
         match verdict {
-            Verdict::Accepted => self.accept_outcome(outcome)?,
+            Verdict::Accepted => self.accept_outcome(file, outcome)?,
             _ => unhand(&mut self.handed, outcome.job()),
         }
         Ok(verdict)
     }
 
-    /// Keeps an outcome that looked at what is so at present, and hands its job out no more. What was done stays so.
-    fn accept_outcome(&mut self, outcome: Outcome) -> Result<(), (Outcome, AllocError)>
+    /// Keeps an outcome that looked at what is so at present, and hands its job out no more. What was done stays so. Its unit is
+    /// looked for at a place first.
+    fn accept_outcome(&mut self, file: usize, outcome: Outcome) -> Result<(), (Outcome, AllocError)>
         requires { IsAcceptable (files_of self.old) self.old.kept outcome }
         ensures ok { OnOk result (self.new ≡ record { journal = self.old.journal; kept = with_kept self.old.kept outcome; handed = unhanded self.old.handed outcome }) }
         ensures fewer { OnOk result (pending_answer self.new < pending_answer self.old) }
@@ -254,7 +257,6 @@ impl Board {
         put_law();
         done_law();
         height_law();
-        let file = self.graph.project().place_or_first(outcome.job().unit());
         let place = self.kept.keep(file, outcome)?;
         let job = self.kept.at(place).job();
         unhand(&mut self.handed, job);
@@ -262,8 +264,8 @@ impl Board {
         Ok(())
     }
 
-    /// What becomes of the outcome of a job.
-    fn judge(&self, job: &Job) -> Verdict
+    /// What becomes of the outcome of a job, whose unit is looked for at a place first.
+    fn judge(&self, file: usize, job: &Job) -> Verdict
         ensures value { result ≡ finish_answer self.now job.now }
         ensures acceptable { result ≡ verdicts.Accepted → IsAcceptable (files_of self.now) self.now.kept job.now }
     {
@@ -272,6 +274,7 @@ impl Board {
             self.journal.len(),
             &self.kept,
             self.flags.as_slice(),
+            file,
             job,
         )
     }

@@ -132,13 +132,19 @@ fn judge_now(graph: &Graph, kept: &Kept, flags: &[bool], hint: usize, job: &Job)
     }
 }
 
-/// What becomes of an outcome of a job, where so many edits were accepted.
-pub fn judge(graph: &Graph, accepted: usize, kept: &Kept, flags: &[bool], job: &Job) -> Verdict
+/// What becomes of an outcome of a job, where so many edits were accepted. Its unit is looked for at a place first.
+pub fn judge(
+    graph: &Graph,
+    accepted: usize,
+    kept: &Kept,
+    flags: &[bool],
+    hint: usize,
+    job: &Job,
+) -> Verdict
     requires { AreFlags graph.now kept.now flags.now }
     ensures value { result ≡ verdict_of graph.now accepted kept.now job.now }
     ensures acceptable { result ≡ verdict.Accepted → IsAcceptable graph.now kept.now job.now }
 {
-    let hint = graph.project().place_or_first(job.unit());
     match judge_reads(graph.project(), accepted, hint, job.reads().as_slice()) {
         Some(verdict) => verdict,
         None => judge_now(graph, kept, flags, hint, job),

@@ -74,13 +74,19 @@ fn units_now(
     Ok(used)
 }
 
-/// The job of an open unit that looks at what is so at present.
-pub fn job_now(alloc: Global, graph: &Graph, kept: &Kept, unit: FileName) -> Result<Job, AllocError>
+/// The job of an open unit, which is looked for at a place first, that looks at what is so at present.
+pub fn job_now(
+    alloc: Global,
+    graph: &Graph,
+    kept: &Kept,
+    hint: usize,
+    unit: FileName,
+) -> Result<Job, AllocError>
     requires { HasJob graph.now kept.now unit }
     ensures { IfOk result (λ job. job ≡ input graph.now unit) }
 {
-    let hint = graph.project().place_or_first(unit);
-    let reads = graph.project().reads(alloc, graph.reads_near(hint, &unit))?;
+    let names = graph.reads_near(hint, &unit);
+    let reads = graph.project().reads_near(alloc, hint, names)?;
     let used = units_now(alloc, graph, kept, hint, unit, graph.uses_near(hint, unit))?;
     job_law();
     Ok(Job::of(unit, reads, used))

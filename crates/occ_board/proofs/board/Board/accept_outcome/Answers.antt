@@ -23,7 +23,7 @@ settle_from-requires-clause-told c =
 pub settle_from-requires-clause-full : goal.settle_from-requires-clause-full
 settle_from-requires-clause-full c = λ p lt other.
     let job : c.job-job.result.now ≡ c.args.outcome = c.job-job.ensures ∙ same_there c.keep.new.self c.in_ok-place.place c.at.result.now c.args.outcome c.at.ensures c.in_ok-place.ensures.place in
-    let unit : c.unit-2.result ≡ c.args.outcome.unit = c.unit-2.ensures.value ∙ ap (λ (i : Input). i.unit) job in
+    let unit : c.unit.result ≡ c.args.outcome.unit = c.unit.ensures.value ∙ ap (λ (i : Input). i.unit) job in
     full_still c.self.inside.journal.items c.self.inside.kept c.self.inside.handed.items c.args.self.now c.args.outcome c.self.view_is c.requires c.keep.new.self c.in_ok-place.ensures.kept c.done_law.ensures.done c.done_law.ensures.project c.height_law.ensures c.self.inside.graph c.self.inside.flags c.self.inside.opened c.self.inside.units
     c.self.invariant p lt (ap (λ (n : List ℕ). bytes_eq n (name_at c.self.inside.graph p)) (sym unit) ∙ other)
 
