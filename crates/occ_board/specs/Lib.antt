@@ -1,4 +1,3 @@
-pub mod Rules
 pub mod Journal
 pub mod Same
 pub mod Done
@@ -7,3 +6,5 @@ pub mod Verdicts
 pub mod Machine
 pub mod Samples
 pub mod inside
+-- what is passed on
+pub mod Rules

@@ -1,4 +1,5 @@
--- What the rules give for units from nothing but the texts, passed on to those who read what a board shows.
+-- What a check looks at, what the rules give for units from nothing but the texts, and the report of that, passed on to those who
+-- run a board.
 pub use Rattle.occ_report.specs.Checks.{diags, input}
 pub use Rattle.occ_report.specs.Inputs.{Input}
 pub use Rattle.occ_report.specs.Report.{open_units, whole_report}

@@ -141,8 +141,8 @@ fn all_rests_of(
     Ok(all)
 }
 
-/// For each node of a graph those that it rests on: those to which edges lead from it that stand in no circle; nothing, if these
-/// are all. It goes once along the edges that reach no circle, and once from each other node along those that do. The graph
+/// For each node of a graph those that it rests on: those to which edges lead from it that stand in no circle; nothing, only if
+/// these are all. It goes once along the edges that reach no circle, and once from each other node along those that do. The graph
 /// turned round serves for the order of this alone: sources that are wrong cost time.
 pub fn find_rests(
     alloc: Global,

@@ -17,7 +17,7 @@ use std::marker::Model;
 pub struct Linked {
     /// Of each node those to which edges lead from it.
     edges: Vec<Items<usize>>,
-    /// Of each node those that it rests on; nothing, if these are all to which edges lead from it.
+    /// Of each node those that it rests on; nothing says that these are all to which edges lead from it.
     rests: Option<Vec<Items<usize>>>,
     /// Of each node those from which edges lead to it, in order.
     sources: Vec<Items<usize>>,

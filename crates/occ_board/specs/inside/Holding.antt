@@ -47,6 +47,7 @@ ArePlaces places kept = (u : List ℕ) → get name_cmp places u ≡ place_in ke
 abbrev pub AreSingle : List Input → Type 0
 AreSingle kept = (p : ℕ) (i : Input) → slice_get kept p ≡ Some i → place_in kept i.unit ≡ Some p
 
+-- the places by name are those of these inputs, and no two of them are of one unit
 pub record IsKeeping (places : BTreeMap (List ℕ) ℕ) (kept : List Input) : Type 0 where
   pub places_are : ArePlaces places kept
   pub single : AreSingle kept

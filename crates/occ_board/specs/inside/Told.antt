@@ -1,4 +1,5 @@
--- What a board knows of the texts that kept inputs looked at: a file that has the revision of a read has its text.
+-- What a board knows of what kept inputs looked at: the file of a read's name, if it has the revision of the read, is the read, text
+-- or absence alike.
 use Rattle.std.specs.Prelude.{◌≡◌, ◌<◌, ℕ, Bool, true, List, slice_get, Some}
 use Rattle.occ_report.specs.Inputs.{Input}
 use Rattle.occ_project.specs.declared.reads.Read.{Read}

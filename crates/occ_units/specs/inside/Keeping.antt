@@ -34,11 +34,11 @@ abbrev pub AreReaders : List Read → Option Graph → Type 0
 AreReaders files None = Unit {0}
 AreReaders files (Some rows) = (p : ℕ) → p < length files → get_or rows p [] ≡ readers_at files p
 
--- a unit reads and uses no file that is not there
+-- a file reads and uses none that is not there
 abbrev pub IsLookingForNone : List Read → List ℕ → Type 0
 IsLookingForNone files unit = (name : List ℕ) → place name files ≡ None → (is_among (read_names files unit) name ≡ false) × (is_among (used_units files unit) name ≡ false)
 
--- so does each
+-- this holds of each of these
 abbrev pub IsSettled : List Read → Type 0
 IsSettled files = (p : ℕ) → p < length files → IsLookingForNone files (name_at files p)
 
