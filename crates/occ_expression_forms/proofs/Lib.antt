@@ -1,6 +1,7 @@
 pub mod Arguments
 pub mod Begins
 pub mod Behind
+pub mod BoundsRead
 pub mod Bracketing
 pub mod Cases
 pub mod Classes

@@ -63,7 +63,8 @@ pub fn bounds_from<'a, F: Fn(Global, &[Token]) -> Result<Option<(Expr, &[Token])
     let Some((count, rest)) = closed(alloc, rest, Symbol::CloseIndex, inner)? else {
         return Ok(None);
     };
-    Ok(Some((Bounds::FromFor(from, Boxed::new(alloc, count)?), rest)))
+    let count = Boxed::new(alloc, count)?;
+    Ok(Some((Bounds::FromFor(from, count), rest)))
 }
 
 /// The bounds of a segment, and their bracket.
