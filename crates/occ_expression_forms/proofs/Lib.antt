@@ -9,6 +9,7 @@ pub mod Closings
 pub mod Conversions
 pub mod Counts
 pub mod Dimensions
+pub mod Greatest
 pub mod Induction
 pub mod Inner
 pub mod Lists

@@ -1,5 +1,8 @@
-use Rattle.std.proofs.Common.{arith}
+use Rattle.std.proofs.Common.{arith, refl}
+use Rattle.std.proofs.lemmas.Bool.{false≢true}
+use Rattle.occ_expression_forms.specs.Depth.{dimension_dimensions, expr_dimensions, operand_dimensions}
 use Rattle.occ_expression_forms.proofs.Counts.{bounds_for_count, bounds_from_count, bounds_from_for_count, builtin_any_channel_count, builtin_channel_count, builtin_counted_count, builtin_primitive_count, builtin_timer_count, dimension_open_count, dimension_sized_count, element_named_count, element_segment_count, expr_alone_count, expr_applied_count, expr_array_converted_count, expr_converted_count, expr_most_count, expr_named_count, expr_pair_count, expr_run_count, named_operand_call_count, named_operand_decorated_count, named_operand_decorated_table_count, named_operand_element_count, named_operand_literal_count, named_operand_table_count, named_operand_truth_count, operand_call_count, operand_decorated_count, operand_decorated_table_count, operand_element_count, operand_literal_count, operand_parens_count, operand_table_count, operand_truth_count, type_form_builtin_count, type_form_named_count}
+use Rattle.occ_expression_forms.proofs.Greatest.{large, none, small}
 use Rattle.occ_expression_forms.proofs.depth.+depth.Goals as goal
 
 pub bounds_have_many_dimensions-returns-then-expr_has_many_dimensions : goal.bounds_have_many_dimensions-returns-then-expr_has_many_dimensions
@@ -142,3 +145,30 @@ type_form_has_many_dimensions-returns-then-are_many_dimensions t c = grind (arit
 
 pub type_form_has_many_dimensions-returns-else-are_many_dimensions : goal.type_form_has_many_dimensions-returns-else-are_many_dimensions
 type_form_has_many_dimensions-returns-else-are_many_dimensions t c = grind (arith, type_form_builtin_count)
+
+pub exprs_have_many_dimensions-returns-then-expr_has_many_dimensions : goal.exprs_have_many_dimensions-returns-then-expr_has_many_dimensions
+exprs_have_many_dimensions-returns-then-expr_has_many_dimensions t c = (λ h. large expr_dimensions _ _ _ c.loop-expr-test.true c.expr-item.is c.loop-expr.invariant (c.expr_has_many_dimensions.ensures.0 c.if-expr_has_many_dimensions.true), λ h. refl)
+
+pub exprs_have_many_dimensions-loop-expr-preserved : goal.exprs_have_many_dimensions-loop-expr-preserved
+exprs_have_many_dimensions-loop-expr-preserved t c = small expr_dimensions _ _ _ _ c.loop-expr-test.true c.expr-item.is c.loop-expr.invariant c.expr_has_many_dimensions.ensures c.if-expr_has_many_dimensions.false
+
+pub exprs_have_many_dimensions-returns : goal.exprs_have_many_dimensions-returns
+exprs_have_many_dimensions-returns t c = (λ h. absurd (false≢true h), λ h. absurd (none expr_dimensions _ _ c.loop-expr-test.false c.loop-expr.invariant h))
+
+pub operands_have_many_dimensions-returns-then-operand_has_many_dimensions : goal.operands_have_many_dimensions-returns-then-operand_has_many_dimensions
+operands_have_many_dimensions-returns-then-operand_has_many_dimensions t c = (λ h. large operand_dimensions _ _ _ c.loop-operand-test.true c.operand-item.is c.loop-operand.invariant (c.operand_has_many_dimensions.ensures.0 c.if-operand_has_many_dimensions.true), λ h. refl)
+
+pub operands_have_many_dimensions-loop-operand-preserved : goal.operands_have_many_dimensions-loop-operand-preserved
+operands_have_many_dimensions-loop-operand-preserved t c = small operand_dimensions _ _ _ _ c.loop-operand-test.true c.operand-item.is c.loop-operand.invariant c.operand_has_many_dimensions.ensures c.if-operand_has_many_dimensions.false
+
+pub operands_have_many_dimensions-returns : goal.operands_have_many_dimensions-returns
+operands_have_many_dimensions-returns t c = (λ h. absurd (false≢true h), λ h. absurd (none operand_dimensions _ _ c.loop-operand-test.false c.loop-operand.invariant h))
+
+pub sizes_have_many_dimensions-returns-then-dimension_has_many_dimensions : goal.sizes_have_many_dimensions-returns-then-dimension_has_many_dimensions
+sizes_have_many_dimensions-returns-then-dimension_has_many_dimensions t c = (λ h. large dimension_dimensions _ _ _ c.loop-dimension-test.true c.dimension-item.is c.loop-dimension.invariant (c.dimension_has_many_dimensions.ensures.0 c.if-dimension_has_many_dimensions.true), λ h. refl)
+
+pub sizes_have_many_dimensions-loop-dimension-preserved : goal.sizes_have_many_dimensions-loop-dimension-preserved
+sizes_have_many_dimensions-loop-dimension-preserved t c = small dimension_dimensions _ _ _ _ c.loop-dimension-test.true c.dimension-item.is c.loop-dimension.invariant c.dimension_has_many_dimensions.ensures c.if-dimension_has_many_dimensions.false
+
+pub sizes_have_many_dimensions-returns : goal.sizes_have_many_dimensions-returns
+sizes_have_many_dimensions-returns t c = (λ h. absurd (false≢true h), λ h. absurd (none dimension_dimensions _ _ c.loop-dimension-test.false c.loop-dimension.invariant h))
