@@ -1,4 +1,5 @@
-use Rattle.std.proofs.Common.{◌∙◌}
+use Rattle.std.proofs.lemmas.Grind.{common_steps}
+use Rattle.std.proofs.Common.{arith, ◌∙◌}
 use Rattle.occ_expression_forms.proofs.Closings.{both, closing_ends, no_closed}
 use Rattle.occ_expression_forms.proofs.bracket.in_brackets.Goals as goal
 
@@ -15,3 +16,15 @@ returns-in_default-3-clause-only g c e x k fit q = let h = rw c.in-Some-2.is at 
 pub returns-clause-only : goal.returns-clause-only
 returns-clause-only g c e x k fit q = let h = rw c.in-Some-2.is at (c.requires.inner.only _ _ _ c.in_ok-first.ensures) e _ (closing_ends x k) q in
     let m = rw c.in-Some-3.is at c.in_ok-closing.ensures.only x k fit h.1 in (both _ _ _ _ (c.in_ok-first-2.ensures ∙ h.0) m.0, m.1)
+
+pub returns-clause-found : goal.returns-clause-found
+returns-clause-found g c = grind (arith, common_steps)
+
+pub returns-clause-shorter : goal.returns-clause-shorter
+returns-clause-shorter g c = grind (arith, common_steps)
+
+pub returns-in-Some-clause-found : goal.returns-in-Some-clause-found
+returns-in-Some-clause-found g c = grind (arith, common_steps)
+
+pub returns-in-Some-clause-shorter : goal.returns-in-Some-clause-shorter
+returns-in-Some-clause-shorter g c = grind (arith, common_steps)
