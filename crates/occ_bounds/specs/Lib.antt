@@ -6,3 +6,4 @@ pub mod Calls
 pub mod Views
 pub mod Making
 pub mod Examples
+pub mod inside

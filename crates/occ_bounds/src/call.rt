@@ -1,6 +1,7 @@
 ghost use Rattle.std.specs.Prelude.{◌≡◌, ◌++◌, MatchOption, None, OnOk, Some, slice_get};
 ghost use Rattle.occ_bounds.specs.Calls.{called as told_called, called_all as told_called_all, made as told_made, named_by as told_named_by, of_actual as told_of_actual};
 
+use super::chain::Chain;
 use super::uses::Use;
 use occ_base::Items;
 use occ_parts::Place;
@@ -34,7 +35,7 @@ pub(crate) fn push_made(
     let Some(place) = place else {
         return Ok(());
     };
-    let chain = Items::from_slice(alloc, place.chain.as_slice())?;
+    let chain = Chain::from_slice(alloc, place.chain.as_slice())?;
     let part = place.into_part()?;
     uses.push(Use {
         part,
@@ -58,7 +59,7 @@ fn push_of_actual(
         part: place.followed_by(alloc, found.part.selectors.as_slice())?,
         kind: found.kind,
         line: *line,
-        chain: Items::from_slice(alloc, place.chain.as_slice())?,
+        chain: Chain::from_slice(alloc, place.chain.as_slice())?,
     })
 }
 

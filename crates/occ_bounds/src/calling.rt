@@ -90,6 +90,7 @@ fn each_calls(
     for expr in exprs {
         match expr.get() {
             TypedExpr::Literal(_) => {}
+            TypedExpr::Element(element) => element_calls(alloc, element.get(), env, line, calls)?,
             one => expression_calls(alloc, one, env, line, calls)?,
         }
     }

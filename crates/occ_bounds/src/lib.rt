@@ -5,6 +5,7 @@
 mod bound;
 mod call;
 mod calling;
+mod chain;
 mod effect;
 pub mod laws;
 mod placing;
@@ -17,6 +18,7 @@ mod valuing;
 pub use bound::{Bound, body_at, effect_at, place_at};
 pub use call::{Call, called};
 pub use calling::{element_calls, expression_calls, instance_calls};
+pub use chain::Chain;
 pub use effect::{element_effect, expression_effect, instance_effect};
 pub use placing::place;
 pub use timing::is_timer;

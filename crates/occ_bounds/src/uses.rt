@@ -1,7 +1,7 @@
 ghost use Rattle.std.specs.Prelude.{◌≡◌, IfOk};
 ghost use Rattle.occ_bounds.specs.Uses.{at_line};
 
-use occ_base::Items;
+use super::chain::Chain;
 use occ_parts::{Part, copies};
 use occ_project::Place as Line;
 use occ_types::UseKind;
@@ -15,7 +15,7 @@ pub struct Use {
     /// The line at which it stands.
     pub line: Line,
     /// The abbreviations by whose names it is made, by the numbers of their specifications.
-    pub chain: Items<usize>,
+    pub chain: Chain,
 }
 
 impl Use {
@@ -30,7 +30,7 @@ impl Use {
             },
             kind: self.kind,
             line: *line,
-            chain: Items::from_slice(alloc, self.chain.as_slice())?,
+            chain: Chain::from_slice(alloc, self.chain.as_slice())?,
         })
     }
 }

@@ -5,7 +5,7 @@ ghost use Rattle.occ_clashes.specs.inside.Linking.{IsLinked};
 
 use super::each_once::{Links, add};
 use occ_base::Items;
-use occ_bounds::Use;
+use occ_bounds::{Chain, Use};
 use occ_project::Place as Line;
 use std::alloc::{AllocError, Global};
 
@@ -26,7 +26,7 @@ fn below(alloc: Global, numbers: &[usize], bound: usize) -> Result<Items<usize>,
 fn from_outside(alloc: Global, found: Use, number: usize, line: &Line) -> Result<Use, AllocError>
     ensures { IfOk result (λ seen. seen ≡ told_outside number line.now found) }
 {
-    let chain = below(alloc, found.chain.as_slice(), number)?;
+    let chain = Chain::of(alloc, below(alloc, found.chain.as_slice(), number)?)?;
     Ok(Use {
         part: found.part,
         kind: found.kind,

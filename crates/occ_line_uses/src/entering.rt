@@ -7,7 +7,7 @@ use super::form::each_uses;
 use super::scope::Scope;
 use occ_base::{Items, Name, Shared};
 use occ_bounds::{
-    Bound, Use, element_size, element_uses, expression_uses, is_timer, place, size, value,
+    Bound, Chain, Use, element_size, element_uses, expression_uses, is_timer, place, size, value,
 };
 use occ_clashes::body_uses;
 use occ_names::{Access, Entry, Meaning};
@@ -207,7 +207,7 @@ fn exported_use(
         },
         kind: found.kind,
         line: *line,
-        chain: Items::new(alloc),
+        chain: Chain::none(),
     })
 }
 

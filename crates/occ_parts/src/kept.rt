@@ -103,16 +103,21 @@ fn merge_in(kept: &mut Vec<Items<PartSelector>>, at: usize)
     widen(&mut kept[place], places);
 }
 
-/// The first kept part with which a part makes one, and the places of both.
+/// The last kept part with which a part makes one, and the places of both: uses mostly follow the one before them.
 fn find_joined(kept: &[Items<PartSelector>], part: &[PartSelector]) -> Option<(usize, Places)>
     ensures within { IfSome result (λ found. found.0 < length kept.now) }
     ensures joins { IfSome result (λ found. (one : List ASelector) × (slice_get kept.now found.0 ≡ Some one) × Joins one part.now found.1) }
 {
+    if kept.is_empty() {
+        return None;
+    }
     let (front, last) = split(part)?;
-    for (at, one) in kept.iter().enumerate() {
-        if let Some(places) = join(one.as_slice(), front, last) {
+    let mut behind = kept.len();
+    while let Some(at) = behind.checked_sub(1) {
+        if let Some(places) = join(kept[at].as_slice(), front, last) {
             return Some((at, places));
         }
+        behind = at;
     }
     None
 }
