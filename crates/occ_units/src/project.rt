@@ -265,14 +265,7 @@ impl Project {
         }
     }
 
-    /// The files of these names as they are read.
-    pub fn reads(&self, alloc: Global, names: &[FileName]) -> Result<Reads, AllocError>
-        ensures { IfOk result (λ reads. reads ≡ map (file_of self.now) names.now) }
-    {
-        self.reads_near(alloc, 0, names)
-    }
-
-    /// The same where each is looked for at a place first.
+    /// The files of these names as they are read. Each is looked for at a place first.
     pub fn reads_near(
         &self,
         alloc: Global,
