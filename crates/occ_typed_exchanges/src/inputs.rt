@@ -1,11 +1,10 @@
-ghost use Rattle.std.specs.Prelude.{MatchOption, None, Some, ◌≡◌, ◌≢◌, [], ◌∷◌, ◌++◌, IfOk, OnOk};
+ghost use Rattle.std.specs.Prelude.{MatchOption, Some, ◌≡◌, ◌≢◌, [], ◌∷◌, ◌++◌, IfOk, OnOk};
 ghost use Rattle.occ_operands.specs.Settling.{int as int_type};
 ghost use Rattle.occ_protocol.specs.Carrying.{carrier};
 ghost use Rattle.occ_protocol.specs.Lines.{awaited as told_awaited, exchanged as told_exchanged, received as told_received};
 ghost use Rattle.occ_tables.specs.Terms.{judged};
 ghost use Rattle.occ_typed.specs.Placing.{placed as told_placed};
 ghost use Rattle.occ_typed_exchanges.specs.Receiving.{givens as told_givens, items_received as told_items, received_faults as told_receiving, received_trees as told_trees};
-ghost use Rattle.occ_typed_exchanges.specs.declared.tree.TypedTarget.TheVariants as target;
 ghost use Rattle.occ_typed_exchanges.specs.Inputs.{after_faults as told_after, after_input as told_after_input, after_tree as told_after_tree, input_faults as told_faults, input_tree as told_tree, plain_faults as told_plain, plain_input as told_plain_input, plain_of as told_plain_of, plain_tree as told_plain_tree, tagged_at as told_tagged_at, tagged_faults as told_tagged, tagged_input as told_tagged_input, tagged_tree as told_tagged_tree, time_faults as told_time_faults, time_of as told_time, time_tree as told_time_tree};
 
 use super::receiving::{items_received, nothing_received};
@@ -32,24 +31,14 @@ fn only<T: Drop>(mut items: Items<T>) -> Option<T>
     if items.is_empty() { Some(item) } else { None }
 }
 
-/// The one target of an input from a timer, if it is one that such an input can have.
+/// The one target of an input from a timer.
 #[tactic(auto, using(crate::proofs::Times::time_rules))]
-fn target_of_time(targets: Items<TypedTarget>) -> Option<TypedElement>
-    ensures { MatchOption result ((timer : TypedElement) → told_time timer targets ≡ None) (λ element. targets ≡ target.Single element ∷ []) }
-{
-    match only(targets)? {
-        TypedTarget::Single(target) => Some(target),
-        TypedTarget::Counted(_, _) => None,
-    }
-}
-
-/// An input from a timer, if it has one target.
 fn time_of(timer: TypedElement, targets: Items<TypedTarget>) -> Option<TypedInput>
     ensures { result ≡ told_time timer targets }
 {
-    match target_of_time(targets) {
-        Some(target) => Some(TypedInput::Time(timer, target)),
-        None => None,
+    match only(targets)? {
+        TypedTarget::Single(target) => Some(TypedInput::Time(timer, target)),
+        TypedTarget::Counted(_, _) => None,
     }
 }
 
