@@ -148,7 +148,9 @@ pub fn condition(
     ensures faults { OnOk result (faults.new ≡ faults.old ++ told_condition scope.now expr.now) }
 {
     let read = expression(alloc, expr, scope, faults)?;
-    condition_of(alloc, &read, faults)
+    let tree = condition_of(alloc, &read, faults);
+    drop(read);
+    tree
 }
 
 /// What is known of a selector of which this is read, and its tree.
@@ -178,7 +180,9 @@ pub fn selector(
     ensures faults { OnOk result (faults.new ≡ faults.old ++ (told_selector scope.now expr.now).faults) }
 {
     let read = expression(alloc, expr, scope, faults)?;
-    selector_of(alloc, &read, faults)
+    let selected = selector_of(alloc, &read, faults);
+    drop(read);
+    selected
 }
 
 /// The options of one line of a `CASE` with this selector; `before` holds the numbers of those on the lines before.
