@@ -82,7 +82,9 @@ fn value_alone(
     ensures faults { OnOk result (faults.new ≡ faults.old ++ (told_alone scope.now expr.now).faults) }
 {
     let read = expression(alloc, expr, scope, faults)?;
-    valued_alone(alloc, &read, faults)
+    let value = valued_alone(alloc, &read, faults);
+    drop(read);
+    value
 }
 
 /// The value of `VAL t n IS e`, of which this is read, for a name of this type, if the type is known.
@@ -116,7 +118,9 @@ fn value_with_type(
 {
     let of = type_form(alloc, of, Opening::Allowed, scope, faults)?;
     let read = expression(alloc, expr, scope, faults)?;
-    valued_as(alloc, &of, &read, faults)
+    let value = valued_as(alloc, &of, &read, faults);
+    drop(read);
+    value
 }
 
 /// The value, with a type or without.
