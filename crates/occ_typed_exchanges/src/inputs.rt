@@ -144,7 +144,9 @@ fn time(
     ensures faults { OnOk result (faults.new ≡ faults.old ++ told_time_faults scope.now expr.now) }
 {
     let read = expression(alloc, expr, scope, faults)?;
-    as_time(alloc, &read, faults)
+    let tree = as_time(alloc, &read, faults);
+    drop(read);
+    tree
 }
 
 /// What stands behind `AFTER`, and what is told of the timer in front of it, of which this is known.
