@@ -1,10 +1,13 @@
 ghost use Rattle.std.specs.Prelude.{◌≡◌, ◌++◌, IfOk, OnOk};
 ghost use Rattle.occ_expr.specs.Views.{element_view, expr_view};
+ghost use Rattle.occ_tables.specs.Terms.{judged};
+ghost use Rattle.occ_type_rules.specs.Abbreviating.{abbreviated as told_abbreviated};
+ghost use Rattle.occ_typed_specifications.specs.Valuing.{tree_of as told_tree};
 ghost use Rattle.occ_abbreviations.specs.Recasting.{element_told as told_element, of_found as told_found, recast as told_recast, recast_as as told_as, recast_element as told_recast_element, recast_value as told_recast_value, source as told_source, source_tree as told_source_tree, value_told as told_value};
 
 use super::abbreviating::{ElementLine, named};
 use occ_base::{Fault, Items, Name, Shared};
-use occ_expr::{ElementReading, Opening, expression, type_form};
+use occ_expr::{ElementReading, Opening, Reading, expression, type_form};
 use occ_expression_forms::{Element, Expr, TypeForm};
 use occ_names::{Scope, one_entry};
 use occ_operands::{Kind, known};
@@ -114,6 +117,21 @@ struct Source {
     tree: Option<Shared<TypedExpr>>,
 }
 
+/// A value of which this is read, in its own type.
+fn source_of(
+    alloc: Global,
+    read: &Reading,
+    faults: &mut Items<Fault>,
+) -> Result<Source, AllocError>
+    ensures kind { IfOk result (λ value. value.kind ≡ (told_abbreviated (judged read.now.term)).kind) }
+    ensures tree { IfOk result (λ value. value.tree ≡ told_tree (told_abbreviated (judged read.now.term)).kind read.now.draft) }
+    ensures faults { OnOk result (faults.new ≡ faults.old ++ (told_abbreviated (judged read.now.term)).faults) }
+{
+    let kind = abbreviated(alloc, &read.term, faults)?;
+    let tree = tree_of(alloc, &kind, &read.draft)?;
+    Ok(Source { kind, tree })
+}
+
 /// The value of `VAL t n RETYPES e`, in its own type.
 #[tactic(auto, unfolding(crate::specs::Recasting::source, crate::specs::Recasting::source_tree))]
 fn source_read(
@@ -127,9 +145,9 @@ fn source_read(
     ensures faults { OnOk result (faults.new ≡ faults.old ++ (told_source scope.now expr.now).faults) }
 {
     let read = expression(alloc, expr, scope, faults)?;
-    let kind = abbreviated(alloc, &read.term, faults)?;
-    let tree = tree_of(alloc, &kind, &read.draft)?;
-    Ok(Source { kind, tree })
+    let source = source_of(alloc, &read, faults);
+    drop(read);
+    source
 }
 
 /// What is known of the name of `VAL t n RETYPES e`, and the tree of the value.

@@ -1,16 +1,17 @@
 ghost use Rattle.std.specs.Prelude.{◌≡◌, ◌++◌, IfOk, OnOk};
 ghost use Rattle.occ_expr.specs.Sides.{each_one as told_each_one};
 ghost use Rattle.occ_expr.specs.Views.{element_view, expr_view};
+ghost use Rattle.occ_tables.specs.Terms.{alone as told_alone, judged};
 ghost use Rattle.occ_typed.specs.Placing.{placed as told_placed};
-ghost use Rattle.occ_typed_calls.specs.Actuals.{actual_faults, actual_tree, actuals_faults, actuals_tree, another_number as told_another_number, each_faults, each_tree, element_faults, element_in as told_element, misplaced_value as told_misplaced, one_actual, reference_faults, reference_tree, taken as told_taken, value_by, value_of, variable_of, with_actuals};
+ghost use Rattle.occ_typed_calls.specs.Actuals.{actual_faults, actual_tree, actuals_faults, actuals_tree, another_number as told_another_number, each_faults, each_tree, element_faults, element_in as told_element, misplaced_value as told_misplaced, no_element, one_actual, reference_faults, reference_tree, taken as told_taken, value_by, value_of, variable_of, with_actuals};
 
 use super::takes::{element_in, takes};
 use occ_base::{Code, Fault, Items, Shared, tell};
-use occ_expr::{each_one, expression};
+use occ_expr::{Reading, each_one, expression};
 use occ_expression_forms::{Element, Expr};
 use occ_names::Scope;
 use occ_operands::{Kind, is_faulty};
-use occ_tables::{alone, under};
+use occ_tables::{Term, alone, under};
 use occ_type_rules::of_another_number;
 use occ_typed::{TypedActual, TypedElement, placed};
 use occ_typed_statements::target_of;
@@ -56,6 +57,17 @@ fn element_actual(
     variable_of(alloc, read.tree)
 }
 
+/// An operand for a formal that is not VAL: T3 is told, unless it has a fault.
+fn tell_misplaced(alloc: Global, term: &Term, faults: &mut Items<Fault>) -> Result<(), AllocError>
+    ensures { OnOk result (faults.new ≡ faults.old ++ no_element (told_alone (judged term.now))) }
+{
+    let kind = alone(alloc, term, faults)?;
+    if is_faulty(&kind) {
+        return Ok(());
+    }
+    tell(faults, Code::T3)
+}
+
 /// A value for a formal that is not VAL.
 fn misplaced_value(
     alloc: Global,
@@ -66,11 +78,9 @@ fn misplaced_value(
     ensures { OnOk result (faults.new ≡ faults.old ++ told_misplaced ((expr_view expr.now).said scope.now)) }
 {
     let read = expression(alloc, expr, scope, faults)?;
-    let kind = alone(alloc, &read.term, faults)?;
-    if is_faulty(&kind) {
-        return Ok(());
-    }
-    tell(faults, Code::T3)
+    let told = tell_misplaced(alloc, &read.term, faults);
+    drop(read);
+    told
 }
 
 /// An actual for a formal of this type that is not VAL.
@@ -93,6 +103,23 @@ fn reference_actual(
     }
 }
 
+/// An actual of which this is read, for a VAL formal of this type.
+fn value_as(
+    alloc: Global,
+    of: &Shared<OccType>,
+    read: &Reading,
+    faults: &mut Items<Fault>,
+) -> Result<Option<TypedActual>, AllocError>
+    ensures tree { IfOk result (λ actual. actual ≡ value_of (told_placed read.now.draft of.now)) }
+    ensures faults { OnOk result (faults.new ≡ faults.old ++ ((judged read.now.term).under of.now).faults) }
+{
+    under(alloc, &read.term, of, faults)?;
+    let Some(tree) = placed(alloc, &read.draft, of)? else {
+        return Ok(None);
+    };
+    Ok(Some(TypedActual::Value(tree)))
+}
+
 /// An actual for a VAL formal of this type.
 fn value_actual(
     alloc: Global,
@@ -105,11 +132,9 @@ fn value_actual(
     ensures faults { OnOk result (faults.new ≡ faults.old ++ value_by of.now ((expr_view expr.now).said scope.now)) }
 {
     let read = expression(alloc, expr, scope, faults)?;
-    under(alloc, &read.term, of, faults)?;
-    let Some(tree) = placed(alloc, &read.draft, of)? else {
-        return Ok(None);
-    };
-    Ok(Some(TypedActual::Value(tree)))
+    let actual = value_as(alloc, of, &read, faults);
+    drop(read);
+    actual
 }
 
 /// An actual for a formal.

@@ -1,15 +1,21 @@
-ghost use Rattle.std.specs.Prelude.{MatchOption, ◌≡◌, ◌≢◌, [], ◌∷◌, ◌++◌, IfOk, OnOk};
+ghost use Rattle.std.specs.Prelude.{MatchOption, Some, ◌≡◌, ◌≢◌, [], ◌∷◌, ◌++◌, IfOk, OnOk};
+ghost use Rattle.occ_operands.specs.Settling.{int as int_type};
+ghost use Rattle.occ_protocol.specs.Carrying.{carrier};
+ghost use Rattle.occ_protocol.specs.Lines.{awaited as told_awaited, exchanged as told_exchanged, received as told_received};
+ghost use Rattle.occ_tables.specs.Terms.{judged};
+ghost use Rattle.occ_typed.specs.Placing.{placed as told_placed};
+ghost use Rattle.occ_typed_exchanges.specs.Receiving.{givens as told_givens, items_received as told_items, received_faults as told_receiving, received_trees as told_trees};
 ghost use Rattle.occ_typed_exchanges.specs.Inputs.{after_faults as told_after, after_input as told_after_input, after_tree as told_after_tree, input_faults as told_faults, input_tree as told_tree, plain_faults as told_plain, plain_input as told_plain_input, plain_of as told_plain_of, plain_tree as told_plain_tree, tagged_at as told_tagged_at, tagged_faults as told_tagged, tagged_input as told_tagged_input, tagged_tree as told_tagged_tree, time_faults as told_time_faults, time_of as told_time, time_tree as told_time_tree};
 
 use super::receiving::{items_received, nothing_received};
 use super::through::root_of;
 use super::tree::{TypedInput, TypedTarget};
 use occ_base::{Fault, Items, Name, Shared};
-use occ_expr::{element, expression};
+use occ_expr::{Reading, element, expression};
 use occ_expression_forms::{Element, Expr};
 use occ_forms::{Input, InputItem};
 use occ_names::Scope;
-use occ_operands::int;
+use occ_operands::{Kind, int};
 use occ_protocol::{awaited, exchanged, is_timer, received, tag_place};
 use occ_tables::under;
 use occ_typed::{TypedElement, TypedExpr, placed};
@@ -64,6 +70,27 @@ fn plain_input(
     plain_of(of_timer, channel, targets)
 }
 
+/// The targets of `el ? i; ..` and what is told of them and of what they are received through, of which this is known.
+#[tactic(auto, using(occ_lists::proofs::Fronts::front_rules))]
+fn plain_targets(
+    alloc: Global,
+    channel: &Kind,
+    root: &Name,
+    first: &InputItem,
+    more: &[InputItem],
+    scope: &Scope,
+    faults: &mut Items<Fault>,
+) -> Result<Option<Items<TypedTarget>>, AllocError>
+    ensures targets { IfOk result (λ targets. targets ≡ told_trees (told_items scope.now (first.now ∷ more.now))) }
+    ensures faults { OnOk result (faults.new ≡ faults.old ++ (told_receiving (told_items scope.now (first.now ∷ more.now)) ++ told_received (carrier channel.now) root.now (told_givens (told_items scope.now (first.now ∷ more.now))))) }
+{
+    let all = nothing_received(alloc);
+    let all = items_received(alloc, slice::from_ref(first), all, scope, faults)?;
+    let all = items_received(alloc, more, all, scope, faults)?;
+    received(alloc, channel, root, all.givens.as_slice(), faults)?;
+    Ok(all.trees)
+}
+
 /// `el ? i; ..`
 #[tactic(auto, using(occ_lists::proofs::Fronts::front_rules), unfolding(crate::specs::Inputs::plain_faults, crate::specs::Inputs::plain_tree))]
 fn plain(
@@ -79,11 +106,8 @@ fn plain(
 {
     let read = element(alloc, channel, scope, faults)?;
     let root = root_of(scope, channel);
-    let all = nothing_received(alloc);
-    let all = items_received(alloc, slice::from_ref(first), all, scope, faults)?;
-    let all = items_received(alloc, more, all, scope, faults)?;
-    received(alloc, &read.kind, root, all.givens.as_slice(), faults)?;
-    Ok(plain_input(is_timer(&read.kind), read.tree, all.trees))
+    let targets = plain_targets(alloc, &read.kind, root, first, more, scope, faults)?;
+    Ok(plain_input(is_timer(&read.kind), read.tree, targets))
 }
 
 /// `el ? AFTER e`, if the timer and the INT have trees.
@@ -92,6 +116,20 @@ fn after_input(timer: Option<TypedElement>, time: Option<Shared<TypedExpr>>) -> 
 {
     let timer = timer?;
     Some(TypedInput::After(timer, time?))
+}
+
+/// The tree of an INT of which this is read, if it has no fault.
+fn as_time(
+    alloc: Global,
+    read: &Reading,
+    faults: &mut Items<Fault>,
+) -> Result<Option<Shared<TypedExpr>>, AllocError>
+    ensures tree { IfOk result (λ tree. tree ≡ told_placed read.now.draft int_type) }
+    ensures faults { OnOk result (faults.new ≡ faults.old ++ ((judged read.now.term).under int_type).faults) }
+{
+    let of = int(alloc)?;
+    under(alloc, &read.term, &of, faults)?;
+    placed(alloc, &read.draft, &of)
 }
 
 /// What stands behind `AFTER`, which is an INT: its tree, if it has no fault.
@@ -105,10 +143,27 @@ fn time(
     ensures tree { IfOk result (λ tree. tree ≡ told_time_tree scope.now expr.now) }
     ensures faults { OnOk result (faults.new ≡ faults.old ++ told_time_faults scope.now expr.now) }
 {
-    let of = int(alloc)?;
     let read = expression(alloc, expr, scope, faults)?;
-    under(alloc, &read.term, &of, faults)?;
-    placed(alloc, &read.draft, &of)
+    let tree = as_time(alloc, &read, faults);
+    drop(read);
+    tree
+}
+
+/// What stands behind `AFTER`, and what is told of the timer in front of it, of which this is known.
+fn time_behind(
+    alloc: Global,
+    timer: &Kind,
+    root: &Name,
+    expr: &Expr,
+    scope: &Scope,
+    faults: &mut Items<Fault>,
+) -> Result<Option<Shared<TypedExpr>>, AllocError>
+    ensures tree { IfOk result (λ tree. tree ≡ told_time_tree scope.now expr.now) }
+    ensures faults { OnOk result (faults.new ≡ faults.old ++ (told_time_faults scope.now expr.now ++ told_awaited (carrier timer.now) root.now)) }
+{
+    let tree = time(alloc, expr, scope, faults)?;
+    awaited(alloc, timer, root, faults)?;
+    Ok(tree)
 }
 
 /// `el ? AFTER e`
@@ -124,8 +179,8 @@ fn after(
     ensures faults { OnOk result (faults.new ≡ faults.old ++ told_after scope.now timer.now expr.now) }
 {
     let read = element(alloc, timer, scope, faults)?;
-    let tree = time(alloc, expr, scope, faults)?;
-    awaited(alloc, &read.kind, root_of(scope, timer), faults)?;
+    let root = root_of(scope, timer);
+    let tree = time_behind(alloc, &read.kind, root, expr, scope, faults)?;
     Ok(after_input(read.tree, tree))
 }
 
@@ -162,6 +217,33 @@ fn tagged_input(
     tagged_at(alloc, channel, place, tag, targets)
 }
 
+/// The targets of `el ? CASE n; i; ..` and what is told of them and of what they are received through, of which this is
+/// known.
+#[tactic(auto, using(occ_lists::proofs::Fronts::front_rules))]
+fn tagged_targets(
+    alloc: Global,
+    channel: &Kind,
+    root: &Name,
+    tag: &Name,
+    items: &[InputItem],
+    scope: &Scope,
+    faults: &mut Items<Fault>,
+) -> Result<Option<Items<TypedTarget>>, AllocError>
+    ensures targets { IfOk result (λ targets. targets ≡ told_trees (told_items scope.now items.now)) }
+    ensures faults { OnOk result (faults.new ≡ faults.old ++ (told_receiving (told_items scope.now items.now) ++ told_exchanged (carrier channel.now) root.now (Some tag.now) (told_givens (told_items scope.now items.now)))) }
+{
+    let all = items_received(alloc, items, nothing_received(alloc), scope, faults)?;
+    exchanged(
+        alloc,
+        channel,
+        root,
+        Some(tag),
+        all.givens.as_slice(),
+        faults,
+    )?;
+    Ok(all.trees)
+}
+
 /// `el ? CASE n; i; ..`
 #[tactic(auto, using(occ_lists::proofs::Fronts::front_rules), unfolding(crate::specs::Inputs::tagged_faults, crate::specs::Inputs::tagged_tree))]
 fn tagged(
@@ -177,17 +259,9 @@ fn tagged(
 {
     let read = element(alloc, channel, scope, faults)?;
     let root = root_of(scope, channel);
-    let all = items_received(alloc, items, nothing_received(alloc), scope, faults)?;
-    exchanged(
-        alloc,
-        &read.kind,
-        root,
-        Some(tag),
-        all.givens.as_slice(),
-        faults,
-    )?;
+    let targets = tagged_targets(alloc, &read.kind, root, tag, items, scope, faults)?;
     let place = tag_place(&read.kind, tag);
-    tagged_input(alloc, read.tree, place, tag, all.trees)
+    tagged_input(alloc, read.tree, place, tag, targets)
 }
 
 /// An input, as a process or as a guard.

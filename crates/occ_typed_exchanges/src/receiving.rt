@@ -148,9 +148,12 @@ fn with_received(all: ReceivedAll, one: ReceivedOne) -> Result<ReceivedAll, Allo
     ensures trees { IfOk result (λ more. more.trees ≡ joined all.trees (one_part one.tree)) }
 {
     let ReceivedAll { mut givens, trees } = all;
-    let trees = with_part(trees, one.tree)?;
+    let trees = with_part(trees, one.tree);
     givens.push(one.given)?;
-    Ok(ReceivedAll { givens, trees })
+    Ok(ReceivedAll {
+        givens,
+        trees: trees?,
+    })
 }
 
 /// What an input receives, behind what it received before.

@@ -43,12 +43,12 @@ pub fn case_input(
     ensures tree { IfOk result (λ r. r.1 ≡ through_tree scope.now channel.now) }
     ensures faults { OnOk result (faults.new ≡ faults.old ++ told_case scope.now channel.now) }
 {
+    let root = root_of(scope, channel).copied(alloc)?;
     let read = element(alloc, channel, scope, faults)?;
-    let root = root_of(scope, channel);
-    cased(alloc, &read.kind, root, faults)?;
+    cased(alloc, &read.kind, &root, faults)?;
     let input = CaseInput {
         channel: read.kind,
-        root: root.copied(alloc)?,
+        root,
         tags: Scopes::new(alloc),
     };
     Ok((input, read.tree))

@@ -2,9 +2,10 @@ ghost use Rattle.std.specs.Prelude.{◌≡◌, ◌∷◌, ◌++◌, [], IfOk, On
 ghost use Rattle.occ_expr.specs.Views.{expr_view};
 ghost use Rattle.occ_typed_specifications.specs.Valuing.{kind_unless_told as known_unless_told, tree_of as told_tree, value as told_value, value_alone as told_alone, value_as as told_as, value_name as told_name, value_told, value_tree as told_value_tree, value_with_type as told_with_type};
 ghost use Rattle.occ_tables.specs.Terms.{judged};
+ghost use Rattle.occ_type_rules.specs.Abbreviating.{abbreviated as told_abbreviated};
 
 use occ_base::{Fault, Items, Name, Shared};
-use occ_expr::{Opening, expression, type_form};
+use occ_expr::{Opening, Reading, expression, type_form};
 use occ_expression_forms::{Expr, TypeForm};
 use occ_names::{Access, Entry, Meaning, Scope, Whole, one_entry};
 use occ_operands::Kind;
@@ -53,6 +54,21 @@ pub fn tree_of(
     }
 }
 
+/// The value of `VAL n IS e`, of which this is read.
+fn valued_alone(
+    alloc: Global,
+    read: &Reading,
+    faults: &mut Items<Fault>,
+) -> Result<Valued, AllocError>
+    ensures kind { IfOk result (λ value. value.kind ≡ (told_abbreviated (judged read.now.term)).kind) }
+    ensures tree { IfOk result (λ value. value.tree ≡ told_tree (told_abbreviated (judged read.now.term)).kind read.now.draft) }
+    ensures faults { OnOk result (faults.new ≡ faults.old ++ (told_abbreviated (judged read.now.term)).faults) }
+{
+    let kind = abbreviated(alloc, &read.term, faults)?;
+    let tree = tree_of(alloc, &kind, &read.draft)?;
+    Ok(Valued { kind, tree })
+}
+
 /// The value of `VAL n IS e`.
 #[tactic(auto, unfolding(crate::specs::Valuing::value_alone))]
 fn value_alone(
@@ -66,7 +82,23 @@ fn value_alone(
     ensures faults { OnOk result (faults.new ≡ faults.old ++ (told_alone scope.now expr.now).faults) }
 {
     let read = expression(alloc, expr, scope, faults)?;
-    let kind = abbreviated(alloc, &read.term, faults)?;
+    let value = valued_alone(alloc, &read, faults);
+    drop(read);
+    value
+}
+
+/// The value of `VAL t n IS e`, of which this is read, for a name of this type, if the type is known.
+fn valued_as(
+    alloc: Global,
+    of: &Option<Shared<OccType>>,
+    read: &Reading,
+    faults: &mut Items<Fault>,
+) -> Result<Valued, AllocError>
+    ensures kind { IfOk result (λ value. value.kind ≡ (told_as of.now (judged read.now.term)).kind) }
+    ensures tree { IfOk result (λ value. value.tree ≡ told_tree (told_as of.now (judged read.now.term)).kind read.now.draft) }
+    ensures faults { OnOk result (faults.new ≡ faults.old ++ (told_as of.now (judged read.now.term)).faults) }
+{
+    let kind = value_as(alloc, of, &read.term, faults)?;
     let tree = tree_of(alloc, &kind, &read.draft)?;
     Ok(Valued { kind, tree })
 }
@@ -86,9 +118,9 @@ fn value_with_type(
 {
     let of = type_form(alloc, of, Opening::Allowed, scope, faults)?;
     let read = expression(alloc, expr, scope, faults)?;
-    let kind = value_as(alloc, &of, &read.term, faults)?;
-    let tree = tree_of(alloc, &kind, &read.draft)?;
-    Ok(Valued { kind, tree })
+    let value = valued_as(alloc, &of, &read, faults);
+    drop(read);
+    value
 }
 
 /// The value, with a type or without.

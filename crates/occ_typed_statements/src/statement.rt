@@ -1,11 +1,17 @@
 ghost use Rattle.std.specs.Prelude.{◌≡◌, ◌∷◌, ◌++◌, IfOk, OnOk};
 ghost use Rattle.occ_expr.specs.Parts.{own_faults, terms as terms_of};
+ghost use Rattle.occ_operands.specs.Settling.{int as int_type};
+ghost use Rattle.occ_tables.specs.Terms.{judged};
+ghost use Rattle.occ_type_rules.specs.Choosing.{condition as told_no_condition, selector as told_selecting};
+ghost use Rattle.occ_typed.specs.Placing.{placed as told_placed};
+ghost use Rattle.occ_types.specs.declared.types.OccType.TheVariants as t;
+ghost use Rattle.occ_types.specs.declared.value.Primitive.TheVariants as p;
 ghost use Rattle.occ_typed_statements.specs.StatementTrees.{assigned as told_assigned, assignment_tree as told_assignment_tree, condition_tree as told_condition_tree, drafts as drafts_of, options_trees as told_options_trees, results_trees as told_results_trees, selector_tree as told_selector_tree, types_of as told_types};
 ghost use Rattle.occ_typed_statements.specs.Statements.{assignment as told_assignment, condition as told_condition, hidden_results as told_hidden_results, is_any_faulty, options as told_options, results as told_results, said, selector as told_selector};
 
 use super::target::all_targets;
 use occ_base::{Fault, Items, Shared};
-use occ_expr::{Readings, expression, side};
+use occ_expr::{Reading, Readings, expression, side};
 use occ_expression_forms::{Element, Expr};
 use occ_names::Scope;
 use occ_operands::{Kind, int};
@@ -117,6 +123,20 @@ pub fn assignment(
     assignment_tree(alloc, targets.trees, values.drafts.as_slice())
 }
 
+/// The tree of a condition of which this is read, if it has no fault.
+fn condition_of(
+    alloc: Global,
+    read: &Reading,
+    faults: &mut Items<Fault>,
+) -> Result<Option<Shared<TypedExpr>>, AllocError>
+    ensures tree { IfOk result (λ tree. tree ≡ told_placed read.now.draft (t.Primitive p.Bool)) }
+    ensures faults { OnOk result (faults.new ≡ faults.old ++ told_no_condition (judged read.now.term)) }
+{
+    judge_condition(alloc, &read.term, faults)?;
+    let bool = Shared::new(alloc, OccType::Primitive(Primitive::Bool))?;
+    placed(alloc, &read.draft, &bool)
+}
+
 /// The condition of an `IF` or a `WHILE`.
 pub fn condition(
     alloc: Global,
@@ -128,9 +148,24 @@ pub fn condition(
     ensures faults { OnOk result (faults.new ≡ faults.old ++ told_condition scope.now expr.now) }
 {
     let read = expression(alloc, expr, scope, faults)?;
-    judge_condition(alloc, &read.term, faults)?;
-    let bool = Shared::new(alloc, OccType::Primitive(Primitive::Bool))?;
-    placed(alloc, &read.draft, &bool)
+    let tree = condition_of(alloc, &read, faults);
+    drop(read);
+    tree
+}
+
+/// What is known of a selector of which this is read, and its tree.
+fn selector_of(
+    alloc: Global,
+    read: &Reading,
+    faults: &mut Items<Fault>,
+) -> Result<(Kind, Option<Shared<TypedExpr>>), AllocError>
+    ensures kind { IfOk result (λ r. r.0 ≡ (told_selecting (judged read.now.term)).kind) }
+    ensures tree { IfOk result (λ r. r.1 ≡ told_placed read.now.draft int_type) }
+    ensures faults { OnOk result (faults.new ≡ faults.old ++ (told_selecting (judged read.now.term)).faults) }
+{
+    let kind = select(alloc, &read.term, faults)?;
+    let tree = placed(alloc, &read.draft, &int(alloc)?)?;
+    Ok((kind, tree))
 }
 
 /// The selector of a `CASE`: what is known of it, and its tree.
@@ -145,9 +180,9 @@ pub fn selector(
     ensures faults { OnOk result (faults.new ≡ faults.old ++ (told_selector scope.now expr.now).faults) }
 {
     let read = expression(alloc, expr, scope, faults)?;
-    let kind = select(alloc, &read.term, faults)?;
-    let tree = placed(alloc, &read.draft, &int(alloc)?)?;
-    Ok((kind, tree))
+    let selected = selector_of(alloc, &read, faults);
+    drop(read);
+    selected
 }
 
 /// The options of one line of a `CASE` with this selector; `before` holds the numbers of those on the lines before.
