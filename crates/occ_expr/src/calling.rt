@@ -113,7 +113,7 @@ fn called_tree(
     let callee = scope.referent(name)?;
     let types = formal_types(alloc, formals)?;
     let values = each_placed(alloc, actuals, types.as_slice())?;
-    let (Some(callee), Some(values)) = (callee, values) else {
+    let Some((callee, values)) = callee.zip(values) else {
         return Ok(None);
     };
     let actuals = by_value(alloc, values.as_slice())?;

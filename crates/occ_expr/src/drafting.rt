@@ -1,16 +1,28 @@
 #![tactic(auto, using(crate::proofs::DraftTypes::type_rules))]
 
-ghost use Rattle.std.specs.Prelude.{◌≡◌, IfOk, None, Some, MatchOption, if◌then◌else◌};
+ghost use Rattle.std.specs.Prelude.{◌≡◌, ◌∷◌, [], IfOk, None, Some, MatchOption, if◌then◌else◌};
 ghost use Rattle.occ_expr.specs.Drafts.{converted_to as drafted_converted, decorated_draft as drafted_decorated, drafted as the_draft, front_draft as drafted_front, items_placed as told_items, literal_draft as drafted_literal, operands_type as type_of_operands, operation_draft as drafted_operation, own_type as the_own_type, shift_draft as drafted_shift, shifted_free, shifted_known, size_draft as drafted_size, type_alone as the_type_alone, types_of as told_types, values_placed as told_values};
+ghost use Rattle.occ_operands.specs.Settling.{int as int_type};
 ghost use Rattle.occ_operands.specs.declared.kind.Kind.TheVariants as k;
+ghost use Rattle.occ_typed.specs.Placing.{placed as told_placed};
 ghost use Rattle.occ_typed.specs.declared.draft.Draft.TheVariants as d;
 ghost use Rattle.occ_types.specs.View.{fields_in};
 
-use occ_base::{Items, Shared, one_item};
+use occ_base::{Items, Shared};
 use occ_operands::{Kind, Known, Loose, int};
 use occ_typed::{Draft, TypedExpr, all_placed, each_placed, known_of, placed};
 use occ_types::{Field, Monadic, OccType, Operator, array_of, fields_of, unnamed};
 use std::alloc::{AllocError, Global};
+
+/// A list of two items.
+pub fn two_items<T: Drop>(alloc: Global, first: T, second: T) -> Result<Items<T>, AllocError>
+    ensures { IfOk result (λ items. items ≡ first ∷ second ∷ []) }
+{
+    let mut items = Items::from_vec(Vec::with_capacity(alloc, 2)?);
+    items.push(first)?;
+    items.push(second)?;
+    Ok(items)
+}
 
 /// The same once more.
 fn shared(known: &Known) -> Result<Known, AllocError>
@@ -113,20 +125,27 @@ pub fn operation_draft(
     }
 }
 
+/// The tree of a place or a count, which is an INT.
+pub fn place_tree(alloc: Global, draft: &Draft) -> Result<Option<Shared<TypedExpr>>, AllocError>
+    ensures { IfOk result (λ tree. tree ≡ told_placed draft.now int_type) }
+{
+    placed(alloc, draft, &int(alloc)?)
+}
+
 /// A shift of a free operand.
 fn free_shift(
     alloc: Global,
     free: &Loose,
     operator: Operator,
     shifted: Draft,
-    count: Option<Shared<TypedExpr>>,
+    count: &Draft,
 ) -> Result<Draft, AllocError>
-    ensures { IfOk result (λ draft. draft ≡ shifted_free free.now operator shifted count) }
+    ensures { IfOk result (λ draft. draft ≡ shifted_free free.now operator shifted (told_placed count.now int_type)) }
 {
-    let Some(count) = count else {
+    let shifted = Shared::new(alloc, shifted)?;
+    let Some(count) = place_tree(alloc, count)? else {
         return Ok(Draft::Faulty);
     };
-    let shifted = Shared::new(alloc, shifted)?;
     Ok(Draft::Shifted(free.share()?, operator, shifted, count))
 }
 
@@ -140,15 +159,30 @@ fn known_shift(
 ) -> Result<Draft, AllocError>
     ensures { IfOk result (λ draft. draft ≡ the_draft (shifted_known known.now operator shifted count)) }
 {
-    let (Some(shifted), Some(count)) = (shifted, count) else {
+    let Some((shifted, count)) = shifted.zip(count) else {
         return Ok(Draft::Faulty);
     };
-    let mut operands = one_item(alloc, shifted)?;
-    operands.push(count)?;
+    let operands = two_items(alloc, shifted, count)?;
     typed(
         alloc,
         TypedExpr::Operation(shared(known)?, operator, operands),
     )
+}
+
+/// A shift by a count, of a type that is known.
+#[tactic(auto, unfolding(crate::specs::Drafts::shift_draft))]
+fn shifted_as(
+    alloc: Global,
+    known: &Known,
+    operator: Operator,
+    shifted: &Draft,
+    count: &Draft,
+) -> Result<Draft, AllocError>
+    ensures { IfOk result (λ draft. draft ≡ drafted_shift (k.Known known.now) operator shifted.now count.now) }
+{
+    let count = place_tree(alloc, count)?;
+    let shifted = placed(alloc, shifted, &known.of)?;
+    known_shift(alloc, known, operator, shifted, count)
 }
 
 /// A shift by a count, of whose whole this is known.
@@ -163,17 +197,33 @@ pub fn shift_draft(
     ensures { IfOk result (λ draft. draft ≡ drafted_shift whole.now operator shifted count.now) }
 {
     match whole {
-        Kind::Faulty => Ok(Draft::Faulty),
-        Kind::Free(free) => {
-            let count = placed(alloc, count, &int(alloc)?)?;
-            free_shift(alloc, free, operator, shifted, count)
+        Kind::Faulty => {
+            drop(shifted);
+            Ok(Draft::Faulty)
         }
+        Kind::Free(free) => free_shift(alloc, free, operator, shifted, count),
         Kind::Known(known) => {
-            let count = placed(alloc, count, &int(alloc)?)?;
-            let shifted = placed(alloc, &shifted, &known.of)?;
-            known_shift(alloc, known, operator, shifted, count)
+            let whole = shifted_as(alloc, known, operator, &shifted, count);
+            drop(shifted);
+            whole
         }
     }
+}
+
+/// An operator in front of an operand, of a type that is known.
+#[tactic(auto, unfolding(crate::specs::Drafts::front_draft))]
+fn applied_as(
+    alloc: Global,
+    known: &Known,
+    operator: Monadic,
+    operand: &Draft,
+) -> Result<Draft, AllocError>
+    ensures { IfOk result (λ draft. draft ≡ drafted_front (k.Known known.now) operator operand.now) }
+{
+    let Some(tree) = placed(alloc, operand, &known.of)? else {
+        return Ok(Draft::Faulty);
+    };
+    typed(alloc, TypedExpr::Applied(shared(known)?, operator, tree))
 }
 
 /// An operator in front of an operand, of whose whole this is known.
@@ -187,16 +237,18 @@ pub fn front_draft(
     ensures { IfOk result (λ draft. draft ≡ drafted_front whole.now operator operand) }
 {
     match whole {
-        Kind::Faulty => Ok(Draft::Faulty),
+        Kind::Faulty => {
+            drop(operand);
+            Ok(Draft::Faulty)
+        }
         Kind::Free(free) => {
             let operand = Shared::new(alloc, operand)?;
             Ok(Draft::Applied(free.share()?, operator, operand))
         }
         Kind::Known(known) => {
-            let Some(tree) = placed(alloc, &operand, &known.of)? else {
-                return Ok(Draft::Faulty);
-            };
-            typed(alloc, TypedExpr::Applied(shared(known)?, operator, tree))
+            let whole = applied_as(alloc, known, operator, &operand);
+            drop(operand);
+            whole
         }
     }
 }

@@ -1,4 +1,4 @@
-ghost use Rattle.std.specs.Prelude.{◌≡◌, ◌∷◌, ◌++◌, ◌-ℤ◌, [], IfOk, OnOk, Some, pos};
+ghost use Rattle.std.specs.Prelude.{◌≡◌, ◌∷◌, ◌++◌, ◌-ℤ◌, [], IfOk, None, OnOk, Some, pos};
 ghost use Rattle.occ_expr.specs.Drafts.{applied_draft as drafted_applied, conversion_draft, converted_to as drafted_converted, front_draft as drafted_front, literal_draft as drafted_literal, negated_draft as drafted_negated, operation_draft as drafted_operation, pair_draft as drafted_pair, shift_draft as drafted_shift, size_draft as drafted_size};
 ghost use Rattle.occ_expr.specs.Operations.{another_has_fault as another, applied as told_applied, converted as told_converted, each_among as told_each, extreme_of as told_extreme, in_front as told_in_front, limit_of as the_limit, negated as told_negated, number_of_faulty as the_number_of_faulty, operation as told_operation, pair as told_pair, pair_operator as meaning_of_pair, plain as told_plain, run_operator as meaning_of_run, shift as told_shift};
 ghost use Rattle.occ_operands.specs.Operators.{all_faults, kinds as kinds_of};
@@ -148,6 +148,30 @@ fn shift(
     shifted(alloc, operator, &kind, &count, faults)
 }
 
+/// A shift by a count, which is lent.
+fn shifted_by(
+    alloc: Global,
+    operator: Operator,
+    shifted: Reading,
+    count: &Reading,
+    faults: &mut Items<Fault>,
+) -> Result<Reading, AllocError>
+    ensures term { IfOk result (λ whole. whole.term ≡ v.Single (told_shift operator (judged shifted.term) (judged count.now.term)).kind) }
+    ensures draft { IfOk result (λ whole. whole.draft ≡ drafted_shift (told_shift operator (judged shifted.term) (judged count.now.term)).kind operator shifted.draft count.now.draft) }
+    ensures faults { OnOk result (faults.new ≡ faults.old ++ (told_shift operator (judged shifted.term) (judged count.now.term)).faults) }
+{
+    let Ok(kind) = shift(alloc, operator, &shifted.term, &count.term, faults) else {
+        drop(shifted);
+        return Err(AllocError);
+    };
+    drop(shifted.term);
+    let draft = shift_draft(alloc, &kind, operator, shifted.draft, &count.draft)?;
+    Ok(Reading {
+        term: Term::Single(kind),
+        draft,
+    })
+}
+
 /// A shift by a count.
 fn shift_of(
     alloc: Global,
@@ -160,12 +184,9 @@ fn shift_of(
     ensures draft { IfOk result (λ whole. whole.draft ≡ drafted_shift (told_shift operator (judged shifted.term) (judged count.term)).kind operator shifted.draft count.draft) }
     ensures faults { OnOk result (faults.new ≡ faults.old ++ (told_shift operator (judged shifted.term) (judged count.term)).faults) }
 {
-    let kind = shift(alloc, operator, &shifted.term, &count.term, faults)?;
-    let draft = shift_draft(alloc, &kind, operator, shifted.draft, &count.draft)?;
-    Ok(Reading {
-        term: Term::Single(kind),
-        draft,
-    })
+    let whole = shifted_by(alloc, operator, shifted, &count, faults);
+    drop(count);
+    whole
 }
 
 /// Operands with one operator between each two.
@@ -199,8 +220,7 @@ fn operation_of_two(
     ensures draft { IfOk result (λ whole. whole.draft ≡ drafted_operation (told_operation operator (judged_all (first.term ∷ second.term ∷ []))).kind operator (first.draft ∷ second.draft ∷ [])) }
     ensures faults { OnOk result (faults.new ≡ faults.old ++ (told_operation operator (judged_all (first.term ∷ second.term ∷ []))).faults) }
 {
-    let mut operands = Readings::one(alloc, first)?;
-    operands.push(second)?;
+    let operands = Readings::two(alloc, first, second)?;
     operation_of(alloc, operands, operator, faults)
 }
 
@@ -249,7 +269,11 @@ fn front_of(
     ensures draft { IfOk result (λ whole. whole.draft ≡ drafted_front (told_in_front operator (judged operand.term)).kind operator operand.draft) }
     ensures faults { OnOk result (faults.new ≡ faults.old ++ (told_in_front operator (judged operand.term)).faults) }
 {
-    let kind = in_front(alloc, operator, &operand.term, faults)?;
+    let Ok(kind) = in_front(alloc, operator, &operand.term, faults) else {
+        drop(operand);
+        return Err(AllocError);
+    };
+    drop(operand.term);
     let draft = front_draft(alloc, &kind, operator, operand.draft)?;
     Ok(Reading {
         term: Term::Single(kind),
@@ -277,7 +301,10 @@ fn negated(
     ensures faults { OnOk result (faults.new ≡ faults.old ++ (told_negated digits (judged operand.term)).faults) }
 {
     match digits {
-        Some(n) => negative(alloc, n),
+        Some(n) => {
+            drop(operand);
+            negative(alloc, n)
+        }
         None => front_of(alloc, Monadic::Negate, operand, faults),
     }
 }
@@ -285,12 +312,12 @@ fn negated(
 /// `SIZE` of an operand.
 fn size_of(
     alloc: Global,
-    operand: Reading,
+    operand: &Reading,
     faults: &mut Items<Fault>,
 ) -> Result<Reading, AllocError>
-    ensures term { IfOk result (λ whole. whole.term ≡ v.Single (and_then (judged operand.term).alone told_sized).kind) }
-    ensures draft { IfOk result (λ whole. whole.draft ≡ drafted_size (and_then (judged operand.term).alone told_sized).kind (judged operand.term).alone.kind operand.draft) }
-    ensures faults { OnOk result (faults.new ≡ faults.old ++ (and_then (judged operand.term).alone told_sized).faults) }
+    ensures term { IfOk result (λ whole. whole.term ≡ v.Single (and_then (judged operand.now.term).alone told_sized).kind) }
+    ensures draft { IfOk result (λ whole. whole.draft ≡ drafted_size (and_then (judged operand.now.term).alone told_sized).kind (judged operand.now.term).alone.kind operand.now.draft) }
+    ensures faults { OnOk result (faults.new ≡ faults.old ++ (and_then (judged operand.now.term).alone told_sized).faults) }
 {
     let of = alone(alloc, &operand.term, faults)?;
     let kind = sized(alloc, &of, faults)?;
@@ -320,7 +347,11 @@ pub fn applied(
         MonadicOperator::BitNot => front_of(alloc, Monadic::BitNot, operand, faults),
         MonadicOperator::BitNotWord => front_of(alloc, Monadic::BitNot, operand, faults),
         MonadicOperator::Not => front_of(alloc, Monadic::Not, operand, faults),
-        MonadicOperator::Size => size_of(alloc, operand, faults),
+        MonadicOperator::Size => {
+            let size = size_of(alloc, &operand, faults);
+            drop(operand);
+            size
+        }
     }
 }
 
@@ -328,13 +359,13 @@ pub fn applied(
 #[tactic(auto, unfolding(crate::specs::Operations::converted, crate::specs::Drafts::conversion_draft))]
 fn converted_as(
     alloc: Global,
-    operand: Reading,
+    operand: &Reading,
     to: &Shared<OccType>,
     faults: &mut Items<Fault>,
 ) -> Result<Reading, AllocError>
-    ensures term { IfOk result (λ whole. whole.term ≡ v.Single (told_converted (Some to.now) (judged operand.term)).kind) }
-    ensures draft { IfOk result (λ whole. whole.draft ≡ conversion_draft (Some to.now) (judged operand.term) operand.draft) }
-    ensures faults { OnOk result (faults.new ≡ faults.old ++ (told_converted (Some to.now) (judged operand.term)).faults) }
+    ensures term { IfOk result (λ whole. whole.term ≡ v.Single (told_converted (Some to.now) (judged operand.now.term)).kind) }
+    ensures draft { IfOk result (λ whole. whole.draft ≡ conversion_draft (Some to.now) (judged operand.now.term) operand.now.draft) }
+    ensures faults { OnOk result (faults.new ≡ faults.old ++ (told_converted (Some to.now) (judged operand.now.term)).faults) }
 {
     let of = plain(alloc, &operand.term, faults)?;
     let kind = converted_to(alloc, to, &of, faults)?;
@@ -343,6 +374,21 @@ fn converted_as(
         term: Term::Single(kind),
         draft,
     })
+}
+
+/// A conversion of an operand to a type that has a fault: the operand is judged all the same.
+#[tactic(auto, unfolding(crate::specs::Operations::converted, crate::specs::Drafts::conversion_draft))]
+fn converted_to_none(
+    alloc: Global,
+    operand: &Reading,
+    faults: &mut Items<Fault>,
+) -> Result<Reading, AllocError>
+    ensures term { IfOk result (λ whole. whole.term ≡ v.Single (told_converted None (judged operand.now.term)).kind) }
+    ensures draft { IfOk result (λ whole. whole.draft ≡ conversion_draft None (judged operand.now.term) operand.now.draft) }
+    ensures faults { OnOk result (faults.new ≡ faults.old ++ (told_converted None (judged operand.now.term)).faults) }
+{
+    drop(alone(alloc, &operand.term, faults)?);
+    Ok(faulty_reading())
 }
 
 /// A conversion of an operand to a type. Where that has a fault the operand is judged all the same.
@@ -357,11 +403,12 @@ pub fn converted(
     ensures draft { IfOk result (λ whole. whole.draft ≡ conversion_draft to (judged operand.term) operand.draft) }
     ensures faults { OnOk result (faults.new ≡ faults.old ++ (told_converted to (judged operand.term)).faults) }
 {
-    let Some(to) = to else {
-        alone(alloc, &operand.term, faults)?;
-        return Ok(faulty_reading());
+    let whole = match &to {
+        Some(to) => converted_as(alloc, &operand, to, faults),
+        None => converted_to_none(alloc, &operand, faults),
     };
-    converted_as(alloc, operand, &to, faults)
+    drop(operand);
+    whole
 }
 
 /// What is known of the greatest or the least value of a type, if that has no fault.

@@ -1,24 +1,32 @@
 #![tactic(auto, using(crate::proofs::Views::name_rules))]
 
 ghost use Rattle.std.specs.Prelude.{◌≡◌, ◌∷◌, ◌++◌, [], IfOk, IfSome, MatchOption, None, OnOk, Some};
-ghost use Rattle.occ_expr.specs.Operations.{converted as told_converted};
+ghost use Rattle.occ_expr.specs.Elements.{component_at as selected_component};
+ghost use Rattle.occ_expr.specs.Operations.{converted as told_converted, plain as told_plain};
 ghost use Rattle.occ_expr.specs.Drafts.{conversion_draft};
 ghost use Rattle.occ_typed.specs.declared.draft.Draft.TheVariants as d;
 ghost use Rattle.occ_expr.specs.Parts.{bounds_alone as told_bounds, named as told_named, no_function as told_no_function, only as only_one, segment_of as told_segment, table_as as told_table};
+ghost use Rattle.occ_expr.specs.Written.{extent_of as the_extent};
+ghost use Rattle.occ_operands.specs.Parts.{subscripted as told_subscripted};
+ghost use Rattle.occ_operands.specs.Settling.{int as int_type};
+ghost use Rattle.occ_tables.specs.Dimensions.{size as told_size};
+ghost use Rattle.occ_typed.specs.Placing.{placed as told_placed};
 ghost use Rattle.occ_expr.specs.Views.{digits_of as digits, element_view, expr_view, expr_views, operand_view};
 ghost use Rattle.occ_names.specs.Lookup.{element as told_element};
 ghost use Rattle.occ_names.specs.Visible.{referent as the_referent, visible};
-ghost use Rattle.occ_tables.specs.Terms.{judged};
+ghost use Rattle.occ_tables.specs.Terms.{and_then, judged};
 ghost use Rattle.occ_tables.specs.declared.term.Term.TheVariants as v;
 
-use super::operation::converted;
+use super::operation::{converted, plain};
 use super::reading::{Reading, Readings};
+use super::selecting::component_at;
+use super::written::{Extent, extent_of};
 use occ_base::{Code, Fault, Items, Name, Shared};
 use occ_expression_forms::{Element, Expr, Literal, Operand};
 use occ_names::{Meaning, Referent, Scope, element};
-use occ_operands::{Kind, known};
-use occ_tables::{BoundTerms, Term, alone, decorated_table, segment, tell_hidden};
-use occ_typed::Draft;
+use occ_operands::{Kind, known, subscripted};
+use occ_tables::{BoundTerms, Term, alone, decorated_table, segment, size, tell_hidden};
+use occ_typed::{Draft, Selector};
 use occ_types::OccType;
 use std::alloc::{AllocError, Global};
 
@@ -163,6 +171,14 @@ pub fn referred(
     }
 }
 
+/// What is told of an operand that stands alone.
+pub fn tell_alone(alloc: Global, term: &Term, faults: &mut Items<Fault>) -> Result<(), AllocError>
+    ensures { OnOk result (faults.new ≡ faults.old ++ (judged term.now).alone.faults) }
+{
+    drop(alone(alloc, term, faults)?);
+    Ok(())
+}
+
 /// What is told of each bound by itself.
 fn bounds_alone(
     alloc: Global,
@@ -172,20 +188,43 @@ fn bounds_alone(
     ensures { OnOk result (faults.new ≡ faults.old ++ told_bounds bounds.now) }
 {
     match bounds {
-        BoundTerms::From(base) => {
-            alone(alloc, base, faults)?;
-            Ok(())
-        }
-        BoundTerms::For(count) => {
-            alone(alloc, count, faults)?;
-            Ok(())
-        }
+        BoundTerms::From(base) => tell_alone(alloc, base, faults),
+        BoundTerms::For(count) => tell_alone(alloc, count, faults),
         BoundTerms::FromFor(base, count) => {
-            alone(alloc, base, faults)?;
-            alone(alloc, count, faults)?;
-            Ok(())
+            tell_alone(alloc, base, faults)?;
+            tell_alone(alloc, count, faults)
         }
     }
+}
+
+/// The component at a place of which this is read.
+pub fn component_of(
+    alloc: Global,
+    place: &Reading,
+    of: &OccType,
+    faults: &mut Items<Fault>,
+) -> Result<(Kind, Option<Selector>), AllocError>
+    ensures kind { IfOk result (λ r. r.0 ≡ (and_then (told_plain (judged place.now.term)) (told_subscripted of.now)).kind) }
+    ensures selector { IfOk result (λ r. r.1 ≡ selected_component (told_placed place.now.draft int_type)) }
+    ensures faults { OnOk result (faults.new ≡ faults.old ++ (and_then (told_plain (judged place.now.term)) (told_subscripted of.now)).faults) }
+{
+    let index = plain(alloc, &place.term, faults)?;
+    let kind = subscripted(alloc, of, &index, faults)?;
+    let selector = component_at(alloc, &place.draft)?;
+    Ok((kind, selector))
+}
+
+/// A dimension of this size.
+pub fn sized_dimension(
+    alloc: Global,
+    count: &Term,
+    faults: &mut Items<Fault>,
+) -> Result<Extent, AllocError>
+    ensures extent { IfOk result (λ extent. extent ≡ the_extent (told_size (judged count.now)).count) }
+    ensures faults { OnOk result (faults.new ≡ faults.old ++ (told_size (judged count.now)).faults) }
+{
+    let count = size(alloc, count, faults)?;
+    Ok(extent_of(count))
 }
 
 /// A segment of what is known; of what is faulty none, and each bound is judged by itself.

@@ -5,7 +5,7 @@ ghost use Rattle.occ_operands.specs.declared.kind.Kind.TheVariants as k;
 ghost use Rattle.occ_tables.specs.declared.term.Term.TheVariants as v;
 ghost use Rattle.occ_typed.specs.declared.draft.Draft.TheVariants as d;
 
-use super::drafting::literal_draft;
+use super::drafting::{literal_draft, two_items};
 use occ_base::{Items, one_item};
 use occ_operands::{Kind, Loose};
 use occ_tables::Term;
@@ -54,9 +54,25 @@ impl Readings {
         ensures terms { IfOk result (λ all. all.terms ≡ first.term ∷ []) }
         ensures drafts { IfOk result (λ all. all.drafts ≡ first.draft ∷ []) }
     {
-        let terms = one_item(alloc, first.term)?;
+        let terms = one_item(alloc, first.term);
         let drafts = one_item(alloc, first.draft)?;
-        Ok(Readings { terms, drafts })
+        Ok(Readings {
+            terms: terms?,
+            drafts,
+        })
+    }
+
+    /// Of two expressions.
+    pub fn two(alloc: Global, first: Reading, second: Reading) -> Result<Readings, AllocError>
+        ensures terms { IfOk result (λ all. all.terms ≡ first.term ∷ second.term ∷ []) }
+        ensures drafts { IfOk result (λ all. all.drafts ≡ first.draft ∷ second.draft ∷ []) }
+    {
+        let terms = two_items(alloc, first.term, second.term);
+        let drafts = two_items(alloc, first.draft, second.draft)?;
+        Ok(Readings {
+            terms: terms?,
+            drafts,
+        })
     }
 
     /// Of one expression more.
@@ -64,8 +80,9 @@ impl Readings {
         ensures terms { OnOk result (self.new.terms ≡ self.old.terms ++ next.term ∷ []) }
         ensures drafts { OnOk result (self.new.drafts ≡ self.old.drafts ++ next.draft ∷ []) }
     {
-        self.terms.push(next.term)?;
-        self.drafts.push(next.draft)
+        let pushed = self.terms.push(next.term);
+        self.drafts.push(next.draft)?;
+        pushed
     }
 
     /// Of one literal in decimal digits more.

@@ -8,12 +8,13 @@ ghost use Rattle.occ_operands.specs.declared.kind.Kind.TheVariants as k;
 ghost use Rattle.occ_tables.specs.declared.term.Term.TheVariants as v;
 ghost use Rattle.occ_typed.specs.Placing.{placed as told_placed};
 
+use super::drafting::place_tree;
 use super::reading::Reading;
 use occ_base::{Items, Name, Shared};
 use occ_names::Referent;
-use occ_operands::{Kind, Known, int};
+use occ_operands::{Kind, Known};
 use occ_tables::{BoundTerms, Term};
-use occ_typed::{Draft, Selector, TypedElement, TypedExpr, placed};
+use occ_typed::{Draft, Selector, TypedElement, TypedExpr};
 use occ_types::{Field, array_of, unnamed};
 use std::alloc::{AllocError, Global};
 
@@ -40,13 +41,6 @@ fn shared(known: &Known) -> Result<Known, AllocError>
         of,
         value: known.value,
     })
-}
-
-/// The tree of a place or a count, which is an INT.
-pub fn place_tree(alloc: Global, draft: &Draft) -> Result<Option<Shared<TypedExpr>>, AllocError>
-    ensures { IfOk result (λ tree. tree ≡ told_placed draft.now int_type) }
-{
-    placed(alloc, draft, &int(alloc)?)
 }
 
 /// The component at a place.
@@ -94,7 +88,7 @@ pub fn with_selector(
 ) -> Result<Option<Items<Selector>>, AllocError>
     ensures { IfOk result (λ all. all ≡ with_selectors selectors (one_selector next)) }
 {
-    let (Some(mut selectors), Some(next)) = (selectors, next) else {
+    let Some((mut selectors, next)) = selectors.zip(next) else {
         return Ok(None);
     };
     selectors.push(next)?;
@@ -108,7 +102,7 @@ fn with_more(
 ) -> Result<Option<Items<Selector>>, AllocError>
     ensures { IfOk result (λ all. all ≡ with_selectors selectors more) }
 {
-    let (Some(mut selectors), Some(more)) = (selectors, more) else {
+    let Some((mut selectors, more)) = selectors.zip(more) else {
         return Ok(None);
     };
     selectors.append(more)?;
@@ -157,9 +151,7 @@ pub fn from_for_of(
 ) -> Option<Selector>
     ensures { result ≡ told_from_for components base count }
 {
-    let (Some(base), Some(count)) = (base, count) else {
-        return None;
-    };
+    let (base, count) = base.zip(count)?;
     Some(Selector::FromFor(components, base, count))
 }
 
@@ -173,7 +165,7 @@ pub fn element_of(
 ) -> Result<Option<TypedElement>, AllocError>
     ensures { IfOk result (λ tree. tree ≡ told_element kind.now name referent selectors) }
 {
-    let (Kind::Known(known), Some(referent), Some(selectors)) = (kind, referent, selectors) else {
+    let (Kind::Known(known), Some((referent, selectors))) = (kind, referent.zip(selectors)) else {
         return Ok(None);
     };
     Ok(Some(TypedElement {

@@ -17,20 +17,20 @@ ghost use Rattle.occ_expr.specs.Views.{bounds_view, call_draft as drafted_call, 
 ghost use Rattle.occ_expr.specs.Written.{all_spanning_faults, array_behind as written_behind, array_over as written_over, array_over_more as written_over_more, channel as written_channel, data_form as written_data, extents as the_extents};
 
 use super::calling::{one_result, operand_call};
-use super::drafting::decorated_draft;
+use super::drafting::{decorated_draft, place_tree};
 use super::literals::{decorated_literal, literal, truth};
-use super::operation::{applied, converted, extreme_of, operation_of, pair, plain, run_operator};
+use super::operation::{applied, converted, extreme_of, operation_of, pair, run_operator};
 use super::parts::{
-    converted_table, digits_of, name_alone, only, referred, segment_of, shared_type, table_as,
-    tell_no_function,
+    component_of, converted_table, digits_of, name_alone, only, referred, segment_of, shared_type,
+    sized_dimension, table_as, tell_alone, tell_no_function,
 };
 use super::reading::{Reading, Readings, faulty_reading, literal_reading};
 use super::selecting::{
-    BoundsReading, ElementReading, component_at, components_of, element_of, element_reading,
-    field_selector, for_of, from_for_of, from_of, part_of, place_tree, with_selector,
+    BoundsReading, ElementReading, components_of, element_of, element_reading, field_selector,
+    for_of, from_for_of, from_of, part_of, with_selector,
 };
 use super::written::{
-    Extent, Opening, array_type, base_type, count_type, counted_type, extent_of, named_channel,
+    Extent, Opening, array_type, base_type, count_type, counted_type, named_channel,
     open_dimension, primitive_of, values_channel,
 };
 use occ_base::{Fault, Items, Name, Shared, one_item};
@@ -39,10 +39,10 @@ use occ_expression_forms::{
     NamedOperand, Operand, TypeForm,
 };
 use occ_names::{Meaning, Scope, carries, data_type};
-use occ_operands::{Kind, field, subscripted};
-use occ_tables::{BoundTerms, Term, alone, size, tell_hidden};
+use occ_operands::{Kind, field};
+use occ_tables::{BoundTerms, Term, tell_hidden};
 use occ_type_rules::matched;
-use occ_typed::{Draft, Selector};
+use occ_typed::{Draft, Selector, TypedExpr};
 use occ_types::{Formal, OccType, Protocol, fields_of, unnamed};
 use std::alloc::{AllocError, Global};
 
@@ -572,8 +572,9 @@ fn call_of_type(
         no_call(alloc, name, exprs, scope, faults)?;
         return Ok(faulty_reading());
     };
+    let to = shared_type(to)?;
     let read = expression(alloc, expr, scope, faults)?;
-    converted(alloc, read, shared_type(to)?, faults)
+    converted(alloc, read, to, faults)
 }
 
 /// What is read of a call: of a function, or a conversion, if it names a data type and has one argument.
@@ -701,8 +702,9 @@ fn whole_named_element(
         let read = named_element(alloc, name, exprs, scope, faults)?;
         return element_reading(alloc, read);
     };
+    let to = shared_type(to)?;
     let item = expression(alloc, expr, scope, faults)?;
-    converted_table(alloc, item, shared_type(to)?, faults)
+    converted_table(alloc, item, to, faults)
 }
 
 /// A name with subscripts.
@@ -788,11 +790,13 @@ fn behind_a_fault(
 ) -> Result<(), AllocError>
     ensures { OnOk result (faults.new ≡ faults.old ++ told_behind_a_fault scope.now (expr_view expr.now)) }
 {
-    if name_alone(expr).is_none() {
-        let read = expression(alloc, expr, scope, faults)?;
-        alone(alloc, &read.term, faults)?;
+    if name_alone(expr).is_some() {
+        return Ok(());
     }
-    Ok(())
+    let read = expression(alloc, expr, scope, faults)?;
+    let told = tell_alone(alloc, &read.term, faults);
+    drop(read);
+    told
 }
 
 /// What a subscript selects of a value of a type, and how: of a record, a field.
@@ -831,11 +835,10 @@ fn component(
     ensures selector { IfOk result (λ r. r.1 ≡ selected_component (the_place scope.now (expr_view expr.now))) }
     ensures faults { OnOk result (faults.new ≡ faults.old ++ (told_component scope.now of.now (expr_view expr.now)).faults) }
 {
-    let read = expression(alloc, expr, scope, faults)?;
-    let index = plain(alloc, &read.term, faults)?;
-    let kind = subscripted(alloc, of, &index, faults)?;
-    let selector = component_at(alloc, &read.draft)?;
-    Ok((kind, selector))
+    let place = expression(alloc, expr, scope, faults)?;
+    let selected = component_of(alloc, &place, of, faults);
+    drop(place);
+    selected
 }
 
 /// The bounds of a segment of so many components, if their number is known.
@@ -856,16 +859,32 @@ fn bounds(
         Bounds::From(base) => from_reading(alloc, base.get(), components, scope, faults),
         Bounds::For(count) => for_reading(alloc, count.get(), components, scope, faults),
         Bounds::FromFor(base, count) => {
-            let base = expression(alloc, base.get(), scope, faults)?;
-            let count = expression(alloc, count.get(), scope, faults)?;
-            let first = place_tree(alloc, &base.draft)?;
-            let selector = from_for_of(components, first, place_tree(alloc, &count.draft)?);
+            let (base, first) = place_reading(alloc, base.get(), scope, faults)?;
+            let (count, number) = place_reading(alloc, count.get(), scope, faults)?;
             Ok(BoundsReading {
-                bounds: BoundTerms::FromFor(base.term, count.term),
-                selector,
+                bounds: BoundTerms::FromFor(base, count),
+                selector: from_for_of(components, first, number),
             })
         }
     }
+}
+
+/// A place or a count: what it is before a type is wanted of it, and its tree as an INT, if it has no fault.
+#[cycle(walk)]
+fn place_reading(
+    alloc: Global,
+    expr: &Expr,
+    scope: &Scope,
+    faults: &mut Items<Fault>,
+) -> Result<(Term, Option<Shared<TypedExpr>>), AllocError>
+    ensures term { IfOk result (λ r. r.0 ≡ ((expr_view expr.now).said scope.now).term) }
+    ensures tree { IfOk result (λ r. r.1 ≡ the_place scope.now (expr_view expr.now)) }
+    ensures faults { OnOk result (faults.new ≡ faults.old ++ ((expr_view expr.now).said scope.now).faults) }
+{
+    let Reading { term, draft } = expression(alloc, expr, scope, faults)?;
+    let tree = place_tree(alloc, &draft);
+    drop(draft);
+    Ok((term, tree?))
 }
 
 /// `FROM e` of so many components.
@@ -882,11 +901,10 @@ fn from_reading(
     ensures selector { IfOk result (λ read. read.selector ≡ (bounds_view (bounds_form.From base.now)).tree scope.now components) }
     ensures faults { OnOk result (faults.new ≡ faults.old ++ ((bounds_view (bounds_form.From base.now)).said scope.now).faults) }
 {
-    let base = expression(alloc, base, scope, faults)?;
-    let selector = from_of(components, place_tree(alloc, &base.draft)?);
+    let (base, first) = place_reading(alloc, base, scope, faults)?;
     Ok(BoundsReading {
-        bounds: BoundTerms::From(base.term),
-        selector,
+        bounds: BoundTerms::From(base),
+        selector: from_of(components, first),
     })
 }
 
@@ -904,11 +922,10 @@ fn for_reading(
     ensures selector { IfOk result (λ read. read.selector ≡ (bounds_view (bounds_form.For count.now)).tree scope.now components) }
     ensures faults { OnOk result (faults.new ≡ faults.old ++ ((bounds_view (bounds_form.For count.now)).said scope.now).faults) }
 {
-    let count = expression(alloc, count, scope, faults)?;
-    let selector = for_of(components, place_tree(alloc, &count.draft)?);
+    let (count, number) = place_reading(alloc, count, scope, faults)?;
     Ok(BoundsReading {
-        bounds: BoundTerms::For(count.term),
-        selector,
+        bounds: BoundTerms::For(count),
+        selector: for_of(components, number),
     })
 }
 
@@ -1024,8 +1041,9 @@ fn dimension(
         Dimension::Open => open_dimension(opening, faults),
         Dimension::Sized(expr) => {
             let read = expression(alloc, expr.get(), scope, faults)?;
-            let count = size(alloc, &read.term, faults)?;
-            Ok(extent_of(count))
+            let extent = sized_dimension(alloc, &read.term, faults);
+            drop(read);
+            extent
         }
     }
 }
