@@ -118,11 +118,7 @@ struct Source {
 }
 
 /// A value of which this is read, in its own type.
-fn source_of(
-    alloc: Global,
-    read: &Reading,
-    faults: &mut Items<Fault>,
-) -> Result<Source, AllocError>
+fn source_of(alloc: Global, read: &Reading, faults: &mut Items<Fault>) -> Result<Source, AllocError>
     ensures kind { IfOk result (λ value. value.kind ≡ (told_abbreviated (judged read.now.term)).kind) }
     ensures tree { IfOk result (λ value. value.tree ≡ told_tree (told_abbreviated (judged read.now.term)).kind read.now.draft) }
     ensures faults { OnOk result (faults.new ≡ faults.old ++ (told_abbreviated (judged read.now.term)).faults) }

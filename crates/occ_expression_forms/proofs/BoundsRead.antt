@@ -22,6 +22,7 @@ behind_from : (tokens : List Token) (b : Bounds) (k : List Token) → t.Word w.F
 behind_from tokens b k e = by (bounds_is b) where
   spelled : (y : Bounds) → b ≡ y → t.Word w.From ∷ tokens ≡ bounds_then y (t.Symbol s.CloseIndex ∷ k)
   spelled y q = e ∙ ap (λ (x : Bounds). bounds_then x (t.Symbol s.CloseIndex ∷ k)) q
+
   by : BoundsIs b → BehindFrom tokens b k
   by (bounds_is_from x q) = from_alone x q (behind_same (t.Word w.From) (t.Word w.From ∷ tokens) tokens (expr_then x (t.Symbol s.CloseIndex ∷ k)) refl (spelled (bv.From x) q ∙ bounds_from_spells x (t.Symbol s.CloseIndex ∷ k)))
   by (bounds_is_for x q) = let h : t.Word w.From ∷ tokens ≡ t.Word w.For ∷ expr_then x (t.Symbol s.CloseIndex ∷ k) = spelled (bv.For x) q ∙ bounds_for_spells x (t.Symbol s.CloseIndex ∷ k) in absurd cc
@@ -47,7 +48,7 @@ from_only tokens from boxed rest left one same is b k e = by (behind_from tokens
   by : BehindFrom tokens b k → (bv.From boxed ≡ b) × (left ≡ k)
   by (from_alone x q r) = let h = one x (t.Symbol s.CloseIndex ∷ k) refl r in (ap (λ (y : Expr). bv.From y) (same ∙ h.0) ∙ sym q, behind_same (t.Symbol s.CloseIndex) rest left k is h.1)
   by (from_and_for x f q r) = let h = one x (t.Word w.For ∷ expr_then f (t.Symbol s.CloseIndex ∷ k)) refl r in
-    let m : t.Symbol s.CloseIndex ∷ left ≡ t.Word w.For ∷ expr_then f (t.Symbol s.CloseIndex ∷ k) = sym is ∙ h.1 in absurd cc
+      let m : t.Symbol s.CloseIndex ∷ left ≡ t.Word w.For ∷ expr_then f (t.Symbol s.CloseIndex ∷ k) = sym is ∙ h.1 in absurd cc
 
 pub no_end : (tokens : List Token) (from : Expr) (rest : List Token) → IsFirstRead tokens from rest → ((k : List Token) → rest ≢ t.Symbol s.CloseIndex ∷ k) → ((k : List Token) → rest ≢ t.Word w.For ∷ k)
     → (b : Bounds) (k : List Token) → t.Word w.From ∷ tokens ≡ bounds_then b (t.Symbol s.CloseIndex ∷ k) → ⊥
@@ -79,5 +80,5 @@ from_for_only tokens from boxed rest begun count counted left one same no_close 
   by : BehindFrom tokens b k → (bv.FromFor boxed counted ≡ b) × (left ≡ k)
   by (from_alone x q r) = absurd (no_close k (one x (t.Symbol s.CloseIndex ∷ k) refl r).1)
   by (from_and_for x f q r) = let h = one x (t.Word w.For ∷ expr_then f (t.Symbol s.CloseIndex ∷ k)) refl r in
-    let m = read f k (behind_same (t.Word w.For) rest begun (expr_then f (t.Symbol s.CloseIndex ∷ k)) is h.1) in
-    (ap (λ (y : Expr). bv.FromFor y counted) (same ∙ h.0) ∙ ap (λ (y : Expr). bv.FromFor x y) (alike ∙ m.0) ∙ sym q, m.1)
+      let m = read f k (behind_same (t.Word w.For) rest begun (expr_then f (t.Symbol s.CloseIndex ∷ k)) is h.1) in
+      (ap (λ (y : Expr). bv.FromFor y counted) (same ∙ h.0) ∙ ap (λ (y : Expr). bv.FromFor x y) (alike ∙ m.0) ∙ sym q, m.1)
