@@ -26,14 +26,19 @@ fn outcome(alloc: Global, job: Job) -> Result<Outcome, Fail> {
     }
 }
 
-/// What becomes of the outcome of a job that looked at this text of a.occ under this revision.
-fn forged(alloc: Global, board: &mut Board, text: &str, revision: u32) -> Result<Verdict, Fail> {
+/// The outcome of a job that looked at this text of a.occ under this revision.
+fn forged(alloc: Global, text: &str, revision: u32) -> Result<Outcome, Fail> {
     let mut read = open(alloc, "a.occ", text)?;
     read.revision = revision;
     let mut reads = Items::new(alloc);
     reads.push(read)?;
     let job = Job::new(alloc, FileName::read(b"a.occ")?, reads, Items::new(alloc))?;
-    match board.finish(outcome(alloc, job)?) {
+    outcome(alloc, job)
+}
+
+/// What becomes of the outcome of a job that looked at this text of a.occ under this revision.
+fn finish(alloc: Global, board: &mut Board, text: &str, revision: u32) -> Result<Verdict, Fail> {
+    match board.finish(forged(alloc, text, revision)?) {
         Ok(verdict) => Ok(verdict),
         Err((_outcome, refused)) => Err(refused)?,
     }
@@ -50,20 +55,40 @@ fn is_settled(alloc: Global, board: &Board) -> Result<bool, Fail> {
     Ok(board.pending() == 0 && matches!(report.as_slice(), [row] if is_clean(row)))
 }
 
+/// Whether the first outcome of the job is accepted, and one that looked at another text is foreign before it.
+fn is_accepted(alloc: Global, board: &mut Board) -> Result<bool, Fail> {
+    Ok(
+        matches!(finish(alloc, board, "", 1)?, Verdict::Foreign(_))
+            && board.pending() == 1
+            && matches!(finish(alloc, board, PLAIN, 1)?, Verdict::Accepted)
+            && is_settled(alloc, board)?,
+    )
+}
+
+/// Whether then an equal one is repeated, and each other is foreign and changes nothing.
+fn is_repeated(alloc: Global, board: &mut Board) -> Result<bool, Fail> {
+    Ok(
+        matches!(finish(alloc, board, PLAIN, 1)?, Verdict::Repeated)
+            && matches!(finish(alloc, board, "", 1)?, Verdict::Foreign(_))
+            && matches!(finish(alloc, board, PLAIN, 2)?, Verdict::Foreign(_))
+            && is_settled(alloc, board)?,
+    )
+}
+
+/// Whether both hold.
+fn is_told_apart(alloc: Global, board: &mut Board) -> Result<bool, Fail> {
+    Ok(is_accepted(alloc, board)? && is_repeated(alloc, board)?)
+}
+
 #[test]
 fn an_outcome_of_an_equal_job_is_repeated_and_a_forged_one_foreign(
     rt: HostRuntime,
 ) -> Result<(), Fail> {
     let a = rt.alloc();
     let mut board = board(a)?;
-    assert!(rt; matches!(forged(a, &mut board, "", 1)?, Verdict::Foreign(_)));
-    assert_eq!(rt; board.pending(), 1);
-    assert!(rt; matches!(forged(a, &mut board, PLAIN, 1)?, Verdict::Accepted));
-    assert!(rt; is_settled(a, &board)?);
-    assert!(rt; matches!(forged(a, &mut board, PLAIN, 1)?, Verdict::Repeated));
-    assert!(rt; matches!(forged(a, &mut board, "", 1)?, Verdict::Foreign(_)));
-    assert!(rt; matches!(forged(a, &mut board, PLAIN, 2)?, Verdict::Foreign(_)));
-    assert!(rt; is_settled(a, &board)?);
+    let is_told = is_told_apart(a, &mut board);
+    drop(board);
+    assert!(rt; is_told?);
     Ok(())
 }
 
@@ -78,13 +103,22 @@ fn takes(alloc: Global, board: &mut Board, back: bool) -> Result<bool, Fail> {
     Ok(true)
 }
 
+/// Whether the one job is handed out, again once it was given back, and then no more.
+fn is_handed_out_once(alloc: Global, board: &mut Board) -> Result<bool, Fail> {
+    Ok(
+        takes(alloc, board, true)?
+            && takes(alloc, board, false)?
+            && !takes(alloc, board, false)?
+            && board.entries().len() == 1,
+    )
+}
+
 #[test]
 fn a_job_is_handed_out_once_until_it_is_given_back(rt: HostRuntime) -> Result<(), Fail> {
     let a = rt.alloc();
     let mut board = board(a)?;
-    assert!(rt; takes(a, &mut board, true)?);
-    assert!(rt; takes(a, &mut board, false)?);
-    assert!(rt; !takes(a, &mut board, false)?);
-    assert_eq!(rt; board.entries().len(), 1);
+    let is_once = is_handed_out_once(a, &mut board);
+    drop(board);
+    assert!(rt; is_once?);
     Ok(())
 }

@@ -24,36 +24,56 @@ fn edit(
     Ok(board.expanded())
 }
 
-/// A board with 20 units that include k.inc, which is absent, and 20 that include nothing.
-fn board(alloc: Global) -> Result<Board, Fail> {
-    let mut board = Board::new(alloc);
+/// Opens a unit that includes k.inc, which is absent, and one that includes nothing.
+fn open_two(alloc: Global, board: &mut Board, number: usize) -> Result<(), Fail> {
+    let with = format!(in alloc; "a{number}.occ")?;
+    edit(alloc, board, with.as_str(), "#INCLUDE \"k.inc\"\n", true)?;
+    let without = format!(in alloc; "b{number}.occ")?;
+    edit(alloc, board, without.as_str(), "", true)?;
+    Ok(())
+}
+
+/// Opens 20 of each.
+fn open_all(alloc: Global, board: &mut Board) -> Result<(), Fail> {
     for number in 0..20usize {
-        let with = format!(in alloc; "a{number}.occ")?;
-        edit(
-            alloc,
-            &mut board,
-            with.as_str(),
-            "#INCLUDE \"k.inc\"\n",
-            true,
-        )?;
-        let without = format!(in alloc; "b{number}.occ")?;
-        edit(alloc, &mut board, without.as_str(), "", true)?;
+        open_two(alloc, board, number)?;
     }
-    Ok(board)
+    Ok(())
+}
+
+/// Whether an edit of the included file expands those that include it, and one of another its own unit.
+fn expands_readers(alloc: Global, board: &mut Board) -> Result<bool, Fail> {
+    Ok(
+        edit(alloc, board, "k.inc", "", true)? == 20
+            && edit(alloc, board, "k.inc", "-- other\n", false)? == 20
+            && edit(alloc, board, "b7.occ", "-- other\n", false)? == 1,
+    )
+}
+
+/// Whether the opening of a file that two units include expands these, and taking a job leaves the number.
+fn expands_two(alloc: Global, board: &mut Board) -> Result<bool, Fail> {
+    edit(alloc, board, "b1.occ", "#INCLUDE \"j.inc\"\n", false)?;
+    edit(alloc, board, "b2.occ", "#INCLUDE \"j.inc\"\n", false)?;
+    Ok(
+        edit(alloc, board, "j.inc", "", true)? == 2
+            && board.take(alloc)?.is_some()
+            && board.expanded() == 2,
+    )
+}
+
+/// Whether all that holds of a board with those units.
+fn expands_all(alloc: Global, board: &mut Board) -> Result<bool, Fail> {
+    open_all(alloc, board)?;
+    Ok(expands_readers(alloc, board)? && expands_two(alloc, board)?)
 }
 
 #[test]
 fn an_edit_expands_the_open_units_that_read_its_file(rt: HostRuntime) -> Result<(), Fail> {
     let a = rt.alloc();
-    assert_eq!(rt; Board::new(a).expanded(), 0);
-    let mut board = board(a)?;
-    assert_eq!(rt; edit(a, &mut board, "k.inc", "", true)?, 20);
-    assert_eq!(rt; edit(a, &mut board, "k.inc", "-- other\n", false)?, 20);
-    assert_eq!(rt; edit(a, &mut board, "b7.occ", "-- other\n", false)?, 1);
-    edit(a, &mut board, "b1.occ", "#INCLUDE \"j.inc\"\n", false)?;
-    edit(a, &mut board, "b2.occ", "#INCLUDE \"j.inc\"\n", false)?;
-    assert_eq!(rt; edit(a, &mut board, "j.inc", "", true)?, 2);
-    assert!(rt; board.take(a)?.is_some());
-    assert_eq!(rt; board.expanded(), 2);
+    let mut board = Board::new(a);
+    assert_eq!(rt; board.expanded(), 0);
+    let expands = expands_all(a, &mut board);
+    drop(board);
+    assert!(rt; expands?);
     Ok(())
 }

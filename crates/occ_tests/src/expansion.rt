@@ -1,6 +1,6 @@
 use occ_base::{FileName, Items, Shared};
 use occ_forms::prepare;
-use occ_project::{ExpandFault, ExpandedLine, Read, Reads, expand};
+use occ_project::{ExpandFault, Expanded, ExpandedLine, Read, Reads, expand};
 use std::alloc::Global;
 use std::test::Fail;
 
@@ -52,17 +52,28 @@ fn a_file_that_is_not_given_is_told(rt: HostRuntime) -> Result<(), Fail> {
     Ok(())
 }
 
+/// The files of a unit.
+fn files(alloc: Global) -> Result<Reads, Fail> {
+    let mut reads = Items::new(alloc);
+    reads.push(open(alloc, "a.occ", "  #INCLUDE \"k.inc\"\n#USE \"b\"\n")?)?;
+    reads.push(open(alloc, "k.inc", "\n  SKIP\n")?)?;
+    Ok(reads)
+}
+
+/// Whether that is the expansion of that unit.
+fn is_whole(expanded: &Expanded) -> bool {
+    expanded.faults().is_empty()
+        && expanded.reads().len() == 2
+        && expanded.lines().len() == 2
+        && matches!(expanded.lines().first(), Some(line) if stands_at(line, b"k.inc", 2, 2))
+        && matches!(expanded.lines().last(), Some(line) if uses(line, b"b.occ"))
+}
+
 #[test]
 fn a_unit_is_expanded_once_its_files_are_given(rt: HostRuntime) -> Result<(), Fail> {
     let a = rt.alloc();
-    let mut reads = Items::new(a);
-    reads.push(open(a, "a.occ", "  #INCLUDE \"k.inc\"\n#USE \"b\"\n")?)?;
-    reads.push(open(a, "k.inc", "\n  SKIP\n")?)?;
+    let reads = files(a)?;
     let expanded = expand(a, &reads, FileName::read(b"a.occ")?)?;
-    assert!(rt; expanded.faults().is_empty());
-    assert_eq!(rt; expanded.reads().len(), 2);
-    assert_eq!(rt; expanded.lines().len(), 2);
-    assert!(rt; matches!(expanded.lines().first(), Some(line) if stands_at(line, b"k.inc", 2, 2)));
-    assert!(rt; matches!(expanded.lines().last(), Some(line) if uses(line, b"b.occ")));
+    assert!(rt; is_whole(&expanded));
     Ok(())
 }

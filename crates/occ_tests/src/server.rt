@@ -94,32 +94,33 @@ fn works<R: Wait>(rt: &R, alloc: Global, server: &Server, units: usize) -> bool 
         && server.settle(rt) == Settled::Clear
 }
 
+/// Whether the report behind a receipt has its edit, and shows a.occ as done or not.
+fn shows<R: Wait>(rt: &R, alloc: Global, server: &Server, receipt: &Receipt, done: bool) -> bool {
+    match server.report(rt, alloc, Some(receipt)) {
+        Ok(seen) => has(seen.entries(), receipt) && is_done(&seen, b"a.occ") == done,
+        Err(_) => false,
+    }
+}
+
+/// Whether a server refuses a receipt of another.
+fn is_refused<R: Wait>(rt: &R, alloc: Global, server: &Server, receipt: &Receipt) -> bool {
+    matches!(
+        server.report(rt, alloc, Some(receipt)),
+        Err(ReportFault::Behind(None))
+    )
+}
+
 #[test]
 fn a_report_behind_an_edit_has_seen_it(rt: HostRuntime) -> Result<(), Fail> {
     let a = rt.alloc();
     let server = Server::new(a);
-    let other = Server::new(a);
     let Some(receipt) = added(&rt, a, &server, "a.occ", PLAIN)? else {
         return Ok(assert!(rt; false));
     };
-    assert!(rt;
-        matches!(
-            other.report(&rt, a, Some(&receipt)),
-            Err(ReportFault::Behind(None))
-        )
-    );
-    match server.report(&rt, a, Some(&receipt)) {
-        Ok(seen) => {
-            assert!(rt; has(seen.entries(), &receipt));
-            assert!(rt; !is_done(&seen, b"a.occ"));
-        }
-        Err(_) => assert!(rt; false),
-    }
+    assert!(rt; is_refused(&rt, a, &Server::new(a), &receipt));
+    assert!(rt; shows(&rt, a, &server, &receipt, false));
     assert!(rt; works(&rt, a, &server, 1));
-    match server.report(&rt, a, Some(&receipt)) {
-        Ok(seen) => assert!(rt; is_done(&seen, b"a.occ")),
-        Err(_) => assert!(rt; false),
-    }
+    assert!(rt; shows(&rt, a, &server, &receipt, true));
     Ok(())
 }
 
