@@ -110,9 +110,7 @@ fn is_ready(graph: &Graph, flags: &[bool], place: usize, file: &Read) -> bool
     requires { slice_get graph.now place ≡ Some file.now }
     ensures { result ≡ is_ready_file graph.now flags.now place file.now }
 {
-    !is_flagged(flags, place)
-        && are_rests_flagged(graph, flags, place)
-        && is_pending(file, false)
+    !is_flagged(flags, place) && are_rests_flagged(graph, flags, place) && is_pending(file, false)
 }
 
 /// The first place, from one before which no unit is ready, where one is; if there is none, how many files there are.

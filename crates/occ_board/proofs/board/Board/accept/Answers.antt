@@ -16,14 +16,14 @@ use Rattle.occ_units.specs.Project.{IsProject}
 
 pub invariant_of-self-2 : goal.invariant_of-self-2
 invariant_of-self-2 c =
-    let number : c.len.result + 1 ≡ length c.self.inside.journal.items + 1 = omega (arith, c.len.ensures, c.self.inside.journal.ok.0) in
-    (
-    subst (λ (ks : List Input). IsBoard c.push.new.self.items ks c.renew-renewed.new.graph c.renew-renewed.new.flags c.count_behind-opened.result c.count_behind-units.result) (sym c.follow.ensures)
-    (accepts c.self.inside.journal.items c.push.new.self.items c.self.inside.kept c.self.inside.graph c.renew-renewed.new.graph c.self.inside.flags c.renew-renewed.new.flags c.self.inside.opened c.self.inside.units c.count_behind-opened.result c.count_behind-units.result (c.len.result + 1)
-    c.args.session c.args.edit c.name-name.result c.in_ok-source.source c.self.invariant.0 (ap (λ (s : State). refusal s.journal c.args.edit) c.self.view_is ∙ c.requires) c.in_default.ensures.graph number c.name-name.ensures c.in_ok-source.ensures.value c.in_ok-push.ensures.items
-    c.put_law.ensures.spelled c.put_law.ensures.files c.in_ok-source.ensures.spelled c.in_default.ensures.len c.in_default.ensures.flags c.count_behind-opened.ensures (c.count_behind-units.ensures ∙ ap (λ (b : Bool). count_then b c.self.inside.units c.args.edit) c.is_unit.ensures)
-    (subst IsProject (sym c.self.invariant.0.files_are) (c.done_law.ensures.project c.self.inside.journal.items))),
-    first_waits _ _)
+    let number : c.len.result + 1 ≡ length c.self.inside.journal.items + 1 = omega (arith, c.len.ensures, c.self.inside.journal.ok.0) in (
+      subst (λ (ks : List Input). IsBoard c.push.new.self.items ks c.renew-renewed.new.graph c.renew-renewed.new.flags c.count_behind-opened.result c.count_behind-units.result) (sym c.follow.ensures)
+          (accepts c.self.inside.journal.items c.push.new.self.items c.self.inside.kept c.self.inside.graph c.renew-renewed.new.graph c.self.inside.flags c.renew-renewed.new.flags c.self.inside.opened c.self.inside.units c.count_behind-opened.result c.count_behind-units.result (c.len.result + 1)
+          c.args.session c.args.edit c.name-name.result c.in_ok-source.source c.self.invariant.0 (ap (λ (s : State). refusal s.journal c.args.edit) c.self.view_is ∙ c.requires) c.in_default.ensures.graph number c.name-name.ensures c.in_ok-source.ensures.value c.in_ok-push.ensures.items
+          c.put_law.ensures.spelled c.put_law.ensures.files c.in_ok-source.ensures.spelled c.in_default.ensures.len c.in_default.ensures.flags c.count_behind-opened.ensures (c.count_behind-units.ensures ∙ ap (λ (b : Bool). count_then b c.self.inside.units c.args.edit) c.is_unit.ensures)
+          (subst IsProject (sym c.self.invariant.0.files_are) (c.done_law.ensures.project c.self.inside.journal.items))),
+      first_waits _ _,
+    )
 
 pub count_behind-opened-requires-clause-most : goal.count_behind-opened-requires-clause-most
 count_behind-opened-requires-clause-most c =

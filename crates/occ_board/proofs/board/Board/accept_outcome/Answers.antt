@@ -46,19 +46,22 @@ returns-clause-fewer c =
     fewer_left c.self.inside.journal.items c.self.inside.kept c.self.inside.handed.items c.args.self.now c.args.outcome c.self.view_is c.requires c.keep.new.self c.in_ok-place.ensures.kept c.done_law.ensures.done c.done_law.ensures.project c.height_law.ensures c.unhand.new.handed.items
 
 pub invariant_of-self-2 : goal.invariant_of-self-2
-invariant_of-self-2 c = (record {
-  few = c.self.invariant.0.few;
-  legal = c.self.invariant.0.legal;
-  files_are = c.self.invariant.0.files_are;
-  spelled = c.self.invariant.0.spelled;
-  len = c.settle_kept-self-inside.ensures.len;
-  flags_are = c.settle_kept-self-inside.ensures.flags;
-  of_units = subst AreUnits (sym c.in_ok-place.ensures.kept) (units_with c.self.inside.kept c.args.outcome c.self.invariant.0.of_units c.requires.job.unit);
-  told =
-      told_still c.self.inside.journal.items c.self.inside.kept c.self.inside.handed.items c.args.self.now c.args.outcome c.self.view_is c.requires c.keep.new.self c.in_ok-place.ensures.kept c.self.inside.graph c.self.inside.flags c.self.inside.opened c.self.inside.units c.self.invariant.0;
-  before =
-      before_still c.self.inside.journal.items c.self.inside.kept c.self.inside.handed.items c.args.self.now c.args.outcome c.self.view_is c.requires c.keep.new.self c.in_ok-place.ensures.kept c.put_law.ensures.files c.self.inside.graph c.self.inside.flags c.self.inside.opened c.self.inside.units
-      c.self.invariant.0;
-  opened_are = c.self.invariant.0.opened_are;
-  units_are = c.self.invariant.0.units_are;
-}, c.settle_kept-self-inside.ensures.from)
+invariant_of-self-2 c = (
+  record {
+    few = c.self.invariant.0.few;
+    legal = c.self.invariant.0.legal;
+    files_are = c.self.invariant.0.files_are;
+    spelled = c.self.invariant.0.spelled;
+    len = c.settle_kept-self-inside.ensures.len;
+    flags_are = c.settle_kept-self-inside.ensures.flags;
+    of_units = subst AreUnits (sym c.in_ok-place.ensures.kept) (units_with c.self.inside.kept c.args.outcome c.self.invariant.0.of_units c.requires.job.unit);
+    told =
+        told_still c.self.inside.journal.items c.self.inside.kept c.self.inside.handed.items c.args.self.now c.args.outcome c.self.view_is c.requires c.keep.new.self c.in_ok-place.ensures.kept c.self.inside.graph c.self.inside.flags c.self.inside.opened c.self.inside.units c.self.invariant.0;
+    before =
+        before_still c.self.inside.journal.items c.self.inside.kept c.self.inside.handed.items c.args.self.now c.args.outcome c.self.view_is c.requires c.keep.new.self c.in_ok-place.ensures.kept c.put_law.ensures.files c.self.inside.graph c.self.inside.flags c.self.inside.opened c.self.inside.units
+        c.self.invariant.0;
+    opened_are = c.self.invariant.0.opened_are;
+    units_are = c.self.invariant.0.units_are;
+  },
+  c.settle_kept-self-inside.ensures.from,
+)
