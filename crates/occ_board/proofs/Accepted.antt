@@ -109,7 +109,7 @@ module _ (files : List Read) (law : (kept : List Input) (u : List ℕ) → done 
     pub more_done : (u : List ℕ) → done files kept u ≡ true → done files (with_kept kept i) u ≡ true
     more_done = done_more kept (with_kept kept i) better
 
-    now_done : is_open files i.unit ≡ true → is_rested files kept i.unit ≡ true → done files (with_kept kept i) i.unit ≡ true
+    pub now_done : is_open files i.unit ≡ true → is_rested files kept i.unit ≡ true → done files (with_kept kept i) i.unit ≡ true
     now_done opened rested =
         law (with_kept kept i) i.unit
         ∙ is_step files (with_kept kept i) i.unit (done files (with_kept kept i)) opened

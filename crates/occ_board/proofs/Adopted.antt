@@ -1,7 +1,7 @@
 -- A board that keeps an outcome more.
 use Rattle.std.proofs.Common.{◌≡◌, ◌∙◌, ◌<◌, ◌+◌, Bool, true, false, cond, ℕ, List, length, Option, sym, ap, subst}
 use Rattle.std.specs.Str.{bytes_eq}
-use Rattle.occ_board.proofs.Accepted.{fewer_pending, kept_other, more_done}
+use Rattle.occ_board.proofs.Accepted.{fewer_pending, kept_other, more_done, now_done}
 use Rattle.occ_board.proofs.Settled.{flag_at, is_step, step_done, step_kept, step_open, step_rests}
 use Rattle.occ_board.proofs.Spread.{placed_there}
 use Rattle.occ_board.proofs.Told.{before_with, revisions_few, told_with}
@@ -61,6 +61,14 @@ module _ (journal : List Entry) (kept handed : List Input) (s : State) (i : Inpu
         ap (λ (fs : List Read). done fs better u) board.files_are
         ∙ ap (λ (ks : List Input). done (replay journal) ks u) same
         ∙ more_done (replay journal) (λ ks v. law (replay journal) ks v (project journal)) high.0 high.1 kept i fits.now u was
+
+    -- the unit is done
+    pub done_now : (files : List Read) (flags : List Bool) (opened units : ℕ) → IsBoard journal kept files flags opened units → done files better i.unit ≡ true
+    done_now files flags opened units board =
+        let high = heights (replay journal) (project journal) in
+        ap (λ (fs : List Read). done fs better i.unit) board.files_are
+        ∙ ap (λ (ks : List Input). done (replay journal) ks i.unit) same
+        ∙ now_done (replay journal) (λ ks v. law (replay journal) ks v (project journal)) high.0 high.1 kept i fits.now fits.job.opened fits.job.rested
 
     -- and of no unit but this one a flag is missing
     pub full_still : (files : List Read) (flags : List Bool) (opened units : ℕ) → IsBoard journal kept files flags opened units → (p : ℕ) → p < length files → bytes_eq i.unit (name_at files p) ≡ false → IsFullAt files better flags p

@@ -30,3 +30,4 @@ pub mod Newly
 pub mod Opened
 pub mod Counted
 pub mod Told
+pub mod Waits

@@ -350,6 +350,13 @@ marked_there [] p h = absurd cc
 marked_there (m ∷ marks) zero h = omega arith
 marked_there (m ∷ marks) (suc p) h = let k = marked_there marks p h in omega (arith, k)
 
+-- none is behind all of them
+pub none_behind : (ws : List ℕ) (n p : ℕ) → length ws ≤ n → is_among (drop n ws) p ≡ false
+none_behind [] zero p le = refl
+none_behind [] (suc n) p le = refl
+none_behind (w ∷ ws) zero p le = absurd (omega (arith, le))
+none_behind (w ∷ ws) (suc n) p le = none_behind ws n p (omega (arith, le))
+
 -- marked units one after the other
 module _ (files : List Read) (kept : List Input) (places : List ℕ) where
   -- no flag is missing but those of the units behind the first n of them
@@ -371,12 +378,6 @@ module _ (files : List Read) (kept : List Input) (places : List ℕ) where
     by : (b : Bool) → (place == p) ≡ b → (b || is_among (drop (n + 1) places) p) ≡ true → IsFullAt files kept next p ⊎ (is_among (drop (n + 1) places) p ≡ true)
     by true e m = inl (more p lt (inr (eqb-true place p e)))
     by false e m = inr m
-
-  none_behind : (ws : List ℕ) (n p : ℕ) → length ws ≤ n → is_among (drop n ws) p ≡ false
-  none_behind [] zero p le = refl
-  none_behind [] (suc n) p le = refl
-  none_behind (w ∷ ws) zero p le = absurd (omega (arith, le))
-  none_behind (w ∷ ws) (suc n) p le = none_behind ws n p (omega (arith, le))
 
   pub all_resettled : (flags : List Bool) (n : ℕ) → length places ≤ n → IsResettled flags n → IsFull files kept flags (length files)
   all_resettled flags n most h p lt = elim (h p lt) [

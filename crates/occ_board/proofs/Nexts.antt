@@ -1,5 +1,5 @@
 -- The least unit that is ready and not handed out, by the files of a project.
-use Rattle.std.proofs.Common.{◌≡◌, ◌∙◌, ◌&&◌, ◌<◌, ◌≤◌, ◌+◌, Bool, true, false, not, cond, ℕ, List, [], ◌∷◌, length, map, drop, get_or, Option, Some, None, refl, sym, ap, subst}
+use Rattle.std.proofs.Common.{◌≡◌, ◌∙◌, ◌&&◌, ◌<◌, ◌≤◌, ◌+◌, Bool, true, false, not, cond, ℕ, List, [], ◌∷◌, length, map, drop, get_or, zero, suc, arith, Option, Some, None, refl, sym, ap, subst}
 use Rattle.std.proofs.lemmas.List.{drop_all, drop_more}
 use Rattle.std.specs.List.{filter, find, list_all, slice_get}
 use Rattle.std.specs.Option.{is_some, option_map}
@@ -12,7 +12,7 @@ use Rattle.occ_board.proofs.Truths.{left_true, right_true}
 use Rattle.occ_board.specs.Done.{done, is_input_among}
 use Rattle.occ_board.specs.Machine.{next_input}
 use Rattle.occ_board.specs.inside.Flagged.{AreFlags, flag_of}
-use Rattle.occ_board.specs.inside.Ready.{HasJob, is_next, is_rested}
+use Rattle.occ_board.specs.inside.Ready.{HasJob, NoneIsReady, is_next, is_ready, is_rested}
 use Rattle.occ_report.specs.Inputs.{Input}
 use Rattle.occ_project.specs.declared.reads.Read.{Read}
 use Rattle.occ_report.specs.Checks.{input}
@@ -64,47 +64,57 @@ next_has_job files kept handed file here h =
       rested = left_true (is_rested files kept file.name) (not (is_input_among handed (input files file.name))) ready;
     }
 
+-- nothing before a place passes the test
+pub none_before : {X : Type 0} (t : X → Bool) (xs : List X) (n : ℕ) → ((p : ℕ) (x : X) → p < n → slice_get xs p ≡ Some x → t x ≡ false) → find t (drop n xs) ≡ find t xs
+none_before t xs zero h = refl
+none_before t [] (suc n) h = refl
+none_before t (x ∷ xs) (suc n) h = none_before t xs n (λ p y lt e. h (suc p) y (omega (arith, lt)) e) ∙ sym (ap (λ (b : Bool). cond b (Some x) (find t xs)) (h 0 x (omega arith) refl))
+
 -- whether a file is next, by its parts
-not_open : (o d b r h : Bool) → b ≡ d → false ≡ (o && not b) → false ≡ (o && (not d && (r && h)))
-not_open true d b r h e k = let c : not d ≡ false = ap not (sym e) ∙ sym k in ap (λ (x : Bool). x && (r && h)) (sym c)
-not_open false d b r h e k = refl
-
-pub none_left : (o : Bool) → false ≡ (o && not true)
-none_left true = refl
-none_left false = refl
-
-not_ready : (o d r h : Bool) → r ≡ false → false ≡ (o && (not d && (r && h)))
+not_ready : (o d r h : Bool) → (not d && (r && o)) ≡ false → (o && (not d && (r && h))) ≡ false
 not_ready true true r h e = refl
-not_ready true false r h e = ap (λ (x : Bool). x && h) (sym e)
+not_ready true false true h e = absurd cc
+not_ready true false false h e = refl
 not_ready false d r h e = refl
 
-is_ready : (o d b r h : Bool) → b ≡ d → true ≡ (o && not b) → r ≡ true → h ≡ (o && (not d && (r && h)))
-is_ready true d b r h e k f =
-    let c : not d ≡ true = ap not (sym e) ∙ sym k in
-    sym (ap (λ (x : Bool). x && (r && h)) c ∙ ap (λ (x : Bool). x && h) f)
-is_ready false d b r h e k f = absurd cc
+if_ready : (o d r h : Bool) → (not d && (r && o)) ≡ true → h ≡ (o && (not d && (r && h)))
+if_ready true true r h e = absurd cc
+if_ready true false true h e = refl
+if_ready true false false h e = absurd cc
+if_ready false true r h e = absurd cc
+if_ready false false true h e = absurd cc
+if_ready false false false h e = absurd cc
+
+ready_rests : (o d r : Bool) → (not d && (r && o)) ≡ true → r ≡ true
+ready_rests o true r e = absurd cc
+ready_rests o false true e = refl
+ready_rests o false false e = absurd cc
 
 module _ (files : List Read) (kept handed : List Input) (flags : List Bool) (p : ℕ) (file : Read) (project : IsProject files) (are : AreFlags files kept flags) (here : slice_get files p ≡ Some file) where
   -- the flag at the place
-  flagged : (b : Bool) → b ≡ get_or flags p false → b ≡ done files kept file.name
-  flagged b e = e ∙ sym (flag_at files flags file.name p (placed files p file project here)) ∙ are file.name
+  flag_here : get_or flags p false ≡ done files kept file.name
+  flag_here = sym (flag_at files flags file.name p (placed files p file project here)) ∙ are file.name
 
   pub rested_here : list_all (flag_of files flags) (rest_units files (name_at files p)) ≡ is_rested files kept file.name
   rested_here =
       ap (λ (n : List ℕ). list_all (flag_of files flags) (rest_units files n)) (named files p file here)
       ∙ same_all (flag_of files flags) (done files kept) (rest_units files file.name) (λ v a. are v)
 
-  pub next_closed : (b : Bool) → b ≡ get_or flags p false → false ≡ (is_open_unit file && not b) → false ≡ is_next files kept handed file
-  next_closed b e k = not_open (is_open_unit file) (done files kept file.name) b (is_rested files kept file.name) (not (is_input_among handed (input files file.name))) (flagged b e) k
+  ready_is : is_ready files flags p file ≡ (not (done files kept file.name) && (is_rested files kept file.name && is_open_unit file))
+  ready_is =
+      ap (λ (b : Bool). not b && (list_all (flag_of files flags) (rest_units files (name_at files p)) && is_open_unit file)) flag_here
+      ∙ ap (λ (b : Bool). not (done files kept file.name) && (b && is_open_unit file)) rested_here
 
-  pub next_waits : list_all (flag_of files flags) (rest_units files (name_at files p)) ≡ false → false ≡ is_next files kept handed file
-  next_waits k = not_ready (is_open_unit file) (done files kept file.name) (is_rested files kept file.name) (not (is_input_among handed (input files file.name))) (sym rested_here ∙ k)
+  pub rested_by : is_ready files flags p file ≡ true → is_rested files kept file.name ≡ true
+  rested_by e = ready_rests (is_open_unit file) (done files kept file.name) (is_rested files kept file.name) (sym ready_is ∙ e)
 
-  pub next_by : (b h : Bool) → b ≡ get_or flags p false → true ≡ (is_open_unit file && not b) → list_all (flag_of files flags) (rest_units files (name_at files p)) ≡ true → h ≡ is_input_among handed (input files file.name)
-      → not h ≡ is_next files kept handed file
-  next_by b h e k r g =
+  pub next_waits : is_ready files flags p file ≡ false → is_next files kept handed file ≡ false
+  next_waits e = not_ready (is_open_unit file) (done files kept file.name) (is_rested files kept file.name) (not (is_input_among handed (input files file.name))) (sym ready_is ∙ e)
+
+  pub next_by : (h : Bool) → is_ready files flags p file ≡ true → h ≡ is_input_among handed (input files file.name) → not h ≡ is_next files kept handed file
+  next_by h e g =
       ap not g
-      ∙ is_ready (is_open_unit file) (done files kept file.name) b (is_rested files kept file.name) (not (is_input_among handed (input files file.name))) (flagged b e) k (sym rested_here ∙ r)
+      ∙ if_ready (is_open_unit file) (done files kept file.name) (is_rested files kept file.name) (not (is_input_among handed (input files file.name))) (sym ready_is ∙ e)
 
 -- the first file that is next
 module _ {X : Type 0} (t : X → Bool) (xs ys : List X) (same : ys ≡ xs) (p : ℕ) (sofar : find t (drop p xs) ≡ find t xs) where
@@ -127,3 +137,11 @@ pub job_there : (files ys : List Read) (kept handed : List Input) (p : ℕ) (fil
 job_there files ys kept handed p file project same lt e h =
     let here : file ≡ get_or files p file = e ∙ ap (λ (zs : List Read). get_or zs p file) same in
     next_has_job files kept handed file (filed files p file project (there files p file (subst (λ (zs : List Read). p < length zs) same lt) here)) h
+
+-- where no unit before a place is ready, none there is next
+pub next_from : (files : List Read) (kept handed : List Input) (flags : List Bool) (n : ℕ) → IsProject files → AreFlags files kept flags → NoneIsReady files flags n → find (is_next files kept handed) (drop n files) ≡ find (is_next files kept handed) files
+next_from files kept handed flags n project are none = none_before (is_next files kept handed) files n (λ p file lt e. next_waits files kept handed flags p file project are e (none p file lt e))
+
+-- the file at a place of the same files
+pub file_there : (files ys : List Read) (p : ℕ) (file : Read) → ys ≡ files → p < length ys → file ≡ get_or ys p file → slice_get files p ≡ Some file
+file_there files ys p file same lt e = there files p file (subst (λ (zs : List Read). p < length zs) same lt) (e ∙ ap (λ (zs : List Read). get_or zs p file) same)

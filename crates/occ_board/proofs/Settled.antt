@@ -119,7 +119,7 @@ pub record IsPass (files : List Read) (kept : List Input) (old flags : List Bool
 pub begun : (files : List Read) (kept : List Input) (flags : List Bool) → length flags ≡ length files → IsSound files kept flags → IsPass files kept flags flags false 0
 begun files kept flags len sound = record { len = len; sound = sound; least = omega arith; fewer = λ e. absurd cc; full = λ e p lt. absurd (omega (arith, lt)) }
 
-last_or_less : (n p : ℕ) → p < n + 1 → (p ≡ n) ⊎ (p < n)
+pub last_or_less : (n p : ℕ) → p < n + 1 → (p ≡ n) ⊎ (p < n)
 last_or_less zero zero h = inl refl
 last_or_less zero (suc p) h = absurd (omega (arith, h))
 last_or_less (suc n) zero h = inr (omega arith)

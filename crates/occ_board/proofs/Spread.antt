@@ -16,7 +16,7 @@ use Rattle.occ_project.specs.Reads.{place}
 use Rattle.occ_project.specs.declared.reads.Read.{Read}
 use Rattle.occ_report.specs.Checks.{input}
 use Rattle.occ_units.specs.Along.{name_at}
-use Rattle.occ_units.specs.Places.{graph_of, users_at}
+use Rattle.occ_units.specs.Places.{graph_of, rest_units, users_at}
 use Rattle.occ_units.specs.Project.{IsProject}
 
 -- setting one flag
@@ -77,6 +77,11 @@ module _ (files : List Read) (kept : List Input) (project : IsProject files) whe
       by false e = refl
       by true e = let there = users p w e in absurd (cc (there, none))
 
+    -- nor to what the units that do not use it rest on
+    pub rests_same : (flags : List Bool) (w p : ℕ) → p < length files → is_among (users_at files w) p ≡ false
+        → list_all (flag_of files (slice_set flags w true)) (rest_units files (name_at files p)) ≡ list_all (flag_of files flags) (rest_units files (name_at files p))
+    rests_same flags w p lt none = sym (rests_flagged files (slice_set flags w true) p project lt) ∙ rests_stay flags w (rests (graph_of files) p) (apart p w none) ∙ rests_flagged files flags p project lt
+
     -- so with one flag more none is missing but of what rests on it
     pub set_full : (flags : List Bool) (w p : ℕ) → p < length files → w < length flags → IsFullAt files kept flags p ⊎ (w ≡ p) → IsFullAt files kept (slice_set flags w true) p ⊎ (is_among (users_at files w) p ≡ true)
     set_full flags w p lt within full = by (is_among (users_at files w) p) refl where
@@ -111,7 +116,7 @@ module _ (files : List Read) (kept : List Input) (project : IsProject files) whe
         absurd (cc (none, k))
   ]
 
-  some_is : (m n : ℕ) → Some m ≡ Some n → m ≡ n
+  pub some_is : (m n : ℕ) → Some m ≡ Some n → m ≡ n
   some_is m n s = cc
 
   -- from one unit all are come to

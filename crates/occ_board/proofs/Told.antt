@@ -12,7 +12,7 @@ use Rattle.occ_board.specs.Journal.{edited, replay, replay_from}
 use Rattle.occ_board.specs.Machine.{with_kept}
 use Rattle.occ_board.specs.declared.entry.Entry.{Entry}
 use Rattle.occ_board.specs.inside.Holding.{place_in}
-use Rattle.occ_board.specs.inside.Told.{AllTold, AreBefore, AreTold, IsTold}
+use Rattle.occ_board.specs.inside.Told.{AllTold, AreBefore, AreTold}
 use Rattle.occ_report.specs.Inputs.{Input}
 use Rattle.occ_project.specs.declared.reads.Read.{Read}
 use Rattle.occ_report.specs.Checks.{input}

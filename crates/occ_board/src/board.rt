@@ -11,15 +11,16 @@ ghost use Rattle.occ_units.specs.Spelled.{AreSpelled};
 ghost use Rattle.std.specs.Option.{is_some, option_map};
 ghost use Rattle.std.specs.Prelude.{◌≡◌, ◌<◌, ◌⊎◌, Err, IfErr, IfOk, IfSome, None, OnErr, OnOk, length, true};
 
+use super::copying::copied_job;
 use super::expanding::count_readers;
-use super::flags::{Flags, settle_from};
+use super::flags::{Flags, settle_kept};
 use super::journal::{count_behind, refusal};
 use super::judging::judge;
 use super::keeping::unhand;
 use super::kept::Kept;
 use super::laws::{done_law, height_law, ready_law, taking_law};
 use super::report::rows;
-use super::taking::{job_now, next_unit};
+use super::taking::{first_ready, job_now, next_unit};
 use super::touching::renew;
 use super::{Edit, EditFault, Entry, Row, Verdict};
 use occ_base::{FileName, Items, Shared};
@@ -45,6 +46,8 @@ pub struct Board {
     opened: usize,
     /// How many units are open.
     units: usize,
+    /// A place before which no unit is ready.
+    waiting: usize,
 }
 
 impl Model for Board {
@@ -62,10 +65,11 @@ impl Model for Board {
     ghost coded = { Prim.hlevel (codes, builtins.the_row.coded, dimensions.the_row.coded, elements.the_row.coded, expressions.the_row.coded, type_forms.the_row.coded, types.the_row.coded) };
 
     ghost use Rattle.occ_board.specs.inside.Holding.{IsBoard};
+    ghost use Rattle.occ_board.specs.inside.Ready.{NoneIsReady};
 
     ghost view = { λ b. record { journal = b.journal.items; kept = b.kept; handed = b.handed.items } };
 
-    ghost invariant = { λ b. IsBoard b.journal.items b.kept b.graph b.flags b.opened b.units };
+    ghost invariant = { λ b. IsBoard b.journal.items b.kept b.graph b.flags b.opened b.units × NoneIsReady b.graph b.flags b.waiting };
 }
 
 impl Board {
@@ -82,6 +86,7 @@ impl Board {
             flags: Flags::new(alloc),
             opened: 0,
             units: 0,
+            waiting: 0,
         }
     }
 
@@ -180,6 +185,7 @@ impl Board {
         }
         self.opened = opened;
         self.units = units;
+        self.waiting = 0;
         self.kept.follow(self.graph.project(), name);
         Ok(number)
     }
@@ -197,13 +203,12 @@ impl Board {
         if self.pending() == 0 {
             return Ok(None);
         }
+        self.waiting = first_ready(&self.graph, self.flags.as_slice(), self.waiting);
         let Some(unit) = self.next_unit() else {
             return Ok(None);
         };
-        let file = self.graph.project().place_or_first(unit);
-        let job = self.job(alloc, file, unit)?;
-        let same = self.job(alloc, file, unit)?;
-        self.handed.push(same)?;
+        let job = self.job(alloc, self.waiting, unit)?;
+        self.handed.push(copied_job(alloc, &job)?)?;
         Ok(Some(job))
     }
 
@@ -217,6 +222,7 @@ impl Board {
             &self.kept,
             self.handed.as_slice(),
             self.flags.as_slice(),
+            self.waiting,
         )
     }
 
@@ -237,13 +243,21 @@ impl Board {
         ensures fewer { IfOk result (λ verdict. verdict ≡ verdicts.Accepted → pending_answer self.new < pending_answer self.old) }
         ensures err { IfErr result (λ refused. (refused.0 ≡ outcome) × ((self.new ≡ self.old) × (finish_answer self.old outcome ≡ verdicts.Accepted))) }
     {
-        let file = self.graph.project().place_or_first(outcome.job().unit());
+        let file = self.hint(outcome.job().unit());
         let verdict = self.judge(file, outcome.job());
         match verdict {
             Verdict::Accepted => self.accept_outcome(file, outcome)?,
             _ => unhand(&mut self.handed, outcome.job()),
         }
         Ok(verdict)
+    }
+
+    /// Where a unit is looked for first. It promises nothing: a place that is wrong costs time.
+    fn hint(&self, unit: FileName) -> usize {
+        match self.graph.project().place_near(self.waiting, unit) {
+            Some(place) => place,
+            None => 0,
+        }
     }
 
     /// Keeps an outcome that looked at what is so at present, and hands its job out no more. What was done stays so. Its unit is
@@ -260,7 +274,14 @@ impl Board {
         let place = self.kept.keep(file, outcome)?;
         let job = self.kept.at(place).job();
         unhand(&mut self.handed, job);
-        settle_from(&self.graph, &self.kept, &mut self.flags, file, job.unit());
+        self.waiting = settle_kept(
+            &self.graph,
+            &self.kept,
+            &mut self.flags,
+            self.waiting,
+            file,
+            job.unit(),
+        );
         Ok(())
     }
 

@@ -1,7 +1,8 @@
 ghost use Rattle.occ_board.specs.Done.{done, done_step};
 ghost use Rattle.occ_board.specs.inside.Flagged.{AreFlags, IsFull, IsFullAt, IsSound, flag_of, flagged, rest_flag, unflagged};
+ghost use Rattle.occ_board.specs.inside.Ready.{NoneIsReady};
 ghost use Rattle.occ_board.specs.inside.Told.{AllTold};
-ghost use Rattle.occ_graph.specs.Graph.{rests};
+ghost use Rattle.occ_graph.specs.Graph.{is_among as is_place, rests};
 ghost use Rattle.occ_units.specs.Along.{name_at};
 ghost use Rattle.occ_units.specs.Places.{graph_of, rest_units};
 ghost use Rattle.occ_units.specs.Project.{IsProject};
@@ -255,7 +256,7 @@ pub fn settle(graph: &Graph, kept: &Kept, flags: &mut Flags)
 /// Sets the flag of the unit at a place, if it is done by the flags that are set, and then so of each that rests on it. If
 /// no other flag was missing, none is then. It takes no memory, and goes no deeper than there are units.
 #[cycle(spread)]
-pub fn spread(graph: &Graph, kept: &Kept, flags: &mut Flags, place: usize)
+fn spread(graph: &Graph, kept: &Kept, flags: &mut Flags, place: usize)
     requires within { place < length graph.now }
     requires len { length flags.old ≡ length graph.now }
     requires sound { IsSound graph.now kept.now flags.old }
@@ -273,6 +274,101 @@ pub fn spread(graph: &Graph, kept: &Kept, flags: &mut Flags, place: usize)
     let users = graph.users(place);
     for user in users {
         spread(graph, kept, flags, *user);
+    }
+}
+
+/// Sets the flags of all units that are done, where none was missing but those of the units at these places. It takes no
+/// memory.
+pub fn settle_among(graph: &Graph, kept: &Kept, flags: &mut Flags, places: &[usize])
+    requires within { (p : ℕ) → is_place places.now p ≡ true → p < length graph.now }
+    requires len { length flags.old ≡ length graph.now }
+    requires sound { IsSound graph.now kept.now flags.old }
+    requires told { AllTold graph.now kept.now }
+    requires full { (p : ℕ) → p < length graph.now → IsFullAt graph.now kept.now flags.old p ⊎ (is_place places.now p ≡ true) }
+    ensures len { length flags.new ≡ length graph.now }
+    ensures flags { AreFlags graph.now kept.now flags.new }
+{
+    let _files = graph.project().files();
+    done_law();
+    height_law();
+    for place in places {
+        spread(graph, kept, flags, *place);
+    }
+}
+
+/// Sets the flags of all units that are done, where none was missing but that of the unit at a place, which is done, and those
+/// of units that rest on it. It tells whether no other was. It takes no memory.
+fn settle_done(graph: &Graph, kept: &Kept, flags: &mut Flags, place: usize) -> bool
+    requires within { place < length graph.now }
+    requires len { length flags.old ≡ length graph.now }
+    requires sound { IsSound graph.now kept.now flags.old }
+    requires told { AllTold graph.now kept.now }
+    requires done { done graph.now kept.now (name_at graph.now place) ≡ true }
+    requires full { (p : ℕ) → p < length graph.now → IsFullAt graph.now kept.now flags.old p ⊎ (place ≡ p) }
+    ensures len { length flags.new ≡ length graph.now }
+    ensures flags { AreFlags graph.now kept.now flags.new }
+    ensures alone { IsTrue result → flags.new ≡ slice_set flags.old place true }
+{
+    let _files = graph.project().files();
+    users_law();
+    flags.set(place);
+    let count = flags.count();
+    settle_among(graph, kept, flags, graph.users(place));
+    flags.count() == count
+}
+
+/// The lower of two places.
+fn lower(a: usize, b: usize) -> usize
+    ensures first { result ≤ a }
+    ensures second { result ≤ b }
+{
+    if a < b { a } else { b }
+}
+
+/// The least of these places, or this one, if it is less.
+fn least_of(places: &[usize], least: usize) -> usize
+    ensures most { result ≤ least }
+    ensures each { (p : ℕ) → is_place places.now p ≡ true → result ≤ p }
+{
+    let mut found = least;
+    for place in places {
+        found = lower(*place, found);
+    }
+    found
+}
+
+/// Sets the flags of all units that are done, where none was missing but that of this unit, which is done and looked for at a
+/// place first, and those of units that rest on it. No unit before a place was ready; it tells one before which none is then.
+/// It takes no memory.
+pub fn settle_kept(
+    graph: &Graph,
+    kept: &Kept,
+    flags: &mut Flags,
+    from: usize,
+    hint: usize,
+    unit: FileName,
+) -> usize
+    requires len { length flags.old ≡ length graph.now }
+    requires sound { IsSound graph.now kept.now flags.old }
+    requires told { AllTold graph.now kept.now }
+    requires from { NoneIsReady graph.now flags.old from }
+    requires done { done graph.now kept.now unit ≡ true }
+    requires full { (p : ℕ) → p < length graph.now → bytes_eq unit (name_at graph.now p) ≡ false → IsFullAt graph.now kept.now flags.old p }
+    ensures len { length flags.new ≡ length graph.now }
+    ensures flags { AreFlags graph.now kept.now flags.new }
+    ensures from { NoneIsReady graph.now flags.new result }
+{
+    let _files = graph.project().files();
+    done_law();
+    height_law();
+    users_law();
+    let Some(place) = graph.project().place_near(hint, unit) else {
+        return 0;
+    };
+    if settle_done(graph, kept, flags, place) {
+        least_of(graph.users(place), from)
+    } else {
+        0
     }
 }
 

@@ -4,6 +4,7 @@
 
 mod board;
 mod comparing;
+mod copying;
 mod entry;
 mod expanding;
 mod flags;

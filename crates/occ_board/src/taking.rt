@@ -1,7 +1,7 @@
 ghost use Rattle.occ_board.specs.Done.{done, is_input_among};
 ghost use Rattle.occ_board.specs.Machine.{next_input};
 ghost use Rattle.occ_board.specs.inside.Flagged.{AreFlags};
-ghost use Rattle.occ_board.specs.inside.Ready.{AreRested, HasJob, is_next as is_next_file, is_rested};
+ghost use Rattle.occ_board.specs.inside.Ready.{AreRested, HasJob, NoneIsReady, is_next as is_next_file, is_ready as is_ready_file, is_rested};
 ghost use Rattle.occ_report.specs.Checks.{checked, input, used_as as as_used, used_unit};
 ghost use Rattle.occ_units.specs.Places.{is_below, standing_of};
 ghost use Rattle.occ_units.specs.Project.{IsProject};
@@ -105,6 +105,28 @@ fn is_handed(graph: &Graph, kept: &Kept, handed: &[Job], hint: usize, unit: File
     false
 }
 
+/// Whether the file at a place is a unit that is ready, as far as the flags tell.
+fn is_ready(graph: &Graph, flags: &[bool], place: usize, file: &Read) -> bool
+    requires { slice_get graph.now place ≡ Some file.now }
+    ensures { result ≡ is_ready_file graph.now flags.now place file.now }
+{
+    !is_flagged(flags, place) && are_rests_flagged(graph, flags, place) && is_pending(file, false)
+}
+
+/// The first place, from one before which no unit is ready, where one is; if there is none, how many files there are.
+pub fn first_ready(graph: &Graph, flags: &[bool], from: usize) -> usize
+    requires { NoneIsReady graph.now flags.now from }
+    ensures { NoneIsReady graph.now flags.now result }
+{
+    let files = graph.project().files();
+    for place in from..files.len() {
+        if is_ready(graph, flags, place, &files[place]) {
+            return place;
+        }
+    }
+    files.len()
+}
+
 /// Whether the file at a place is a unit that is ready and whose present job is not handed out.
 fn is_next(
     graph: &Graph,
@@ -119,26 +141,28 @@ fn is_next(
     requires file { slice_get graph.now place ≡ Some file.now }
     ensures { result ≡ is_next_file graph.now kept.now handed.now file.now }
 {
-    if is_flagged(flags, place) {
-        return false;
-    }
-    if !are_rests_flagged(graph, flags, place) {
-        return false;
-    }
-    if !is_pending(file, false) {
+    if !is_ready(graph, flags, place, file) {
         return false;
     }
     !is_handed(graph, kept, handed, place, file.name)
 }
 
-/// The least unit that is ready and whose present job is not handed out.
-pub fn next_unit(graph: &Graph, kept: &Kept, handed: &[Job], flags: &[bool]) -> Option<FileName>
-    requires { AreFlags graph.now kept.now flags.now }
+/// The least unit that is ready and whose present job is not handed out. None before the place is ready.
+pub fn next_unit(
+    graph: &Graph,
+    kept: &Kept,
+    handed: &[Job],
+    flags: &[bool],
+    from: usize,
+) -> Option<FileName>
+    requires flags { AreFlags graph.now kept.now flags.now }
+    requires from { NoneIsReady graph.now flags.now from }
     ensures next { option_map (input graph.now) result ≡ next_input graph.now kept.now handed.now }
     ensures job { IfSome result (λ unit. HasJob graph.now kept.now unit) }
 {
     let files = graph.project().files();
-    for (place, file) in files.iter().enumerate() {
+    for place in from..files.len() {
+        let file = &files[place];
         if is_next(graph, kept, handed, flags, place, file) {
             return Some(file.name);
         }

@@ -14,7 +14,7 @@ ghost use Rattle.occ_units.specs.Spelled.{AreSpelled};
 ghost use Rattle.std.specs.List.{insert};
 ghost use Rattle.std.specs.Prelude.{◌≡◌, ◌<◌, ◌≤◌, ◌&&◌, IfOk, List, None, OnErr, OnOk, Some, false, get_or, length, not, true, ℕ};
 
-use super::flags::{Flags, settle, settle_from, spread};
+use super::flags::{Flags, settle, settle_among, settle_from};
 use super::kept::Kept;
 use super::laws::{done_law, height_law};
 use super::touched::Touched;
@@ -122,13 +122,7 @@ fn resettle(graph: &Graph, kept: &Kept, flags: &mut Flags, touched: &Touched)
     ensures len { length flags.new ≡ length graph.now }
     ensures flags { AreFlags graph.now kept.now flags.new }
 {
-    let _files = graph.project().files();
-    done_law();
-    height_law();
-    let places = touched.places();
-    for place in places {
-        spread(graph, kept, flags, *place);
-    }
+    settle_among(graph, kept, flags, touched.places());
 }
 
 /// The graph and the flags behind the edit of a file that was not there, and that no file looks for. What there was stays, but

@@ -1,16 +1,51 @@
+ghost use Rattle.occ_project.specs.Reads.{name_cmp};
 ghost use Rattle.occ_project.specs.Uses.{units_of};
 ghost use Rattle.occ_units.specs.Units.{in_order as names_in_order};
 ghost use Rattle.std.specs.List.{flat_map};
-ghost use Rattle.std.specs.Prelude.{IfOk, OnOk, ◌++◌, ◌≡◌};
+ghost use Rattle.std.specs.Prelude.{IfOk, IsTrue, OnOk, ◌++◌, ◌≡◌};
+ghost use Rattle.std.specs.declared.cmp.Ordering.TheVariants.{Less};
 
 use occ_base::{FileName, Items};
 use occ_project::ExpandedLine;
 use std::alloc::{AllocError, Global};
+use std::cmp::Ordering;
 use std::collections::BTreeSet;
 
+/// Whether the one name stands before the other.
+fn is_before(a: FileName, b: FileName) -> bool
+    ensures { IsTrue result → name_cmp a b ≡ Less }
+{
+    match a.cmp(&b) {
+        Ordering::Less => true,
+        _ => false,
+    }
+}
+
+/// Whether each of the names stands before the next.
+fn do_rise(names: &[FileName]) -> bool
+    ensures { IsTrue result → names_in_order names.now ≡ names.now }
+{
+    for i in 1..names.len() {
+        if !is_before(names[i - 1], names[i]) {
+            return false;
+        }
+    }
+    true
+}
+
 /// The names, each once, in order.
+fn in_order(alloc: Global, names: Items<FileName>) -> Result<Items<FileName>, AllocError>
+    ensures { IfOk result (λ ordered. ordered ≡ names_in_order names) }
+{
+    if do_rise(names.as_slice()) {
+        return Ok(names);
+    }
+    put_in_order(alloc, names)
+}
+
+/// The same by a set.
 #[tactic(auto, using(crate::proofs::Rising::placed_last, crate::proofs::Rising::placed_all))]
-fn in_order(alloc: Global, mut names: Items<FileName>) -> Result<Items<FileName>, AllocError>
+fn put_in_order(alloc: Global, mut names: Items<FileName>) -> Result<Items<FileName>, AllocError>
     ensures { IfOk result (λ ordered. ordered ≡ names_in_order names) }
 {
     let mut set = BTreeSet::new(alloc);

@@ -1,5 +1,5 @@
 -- Units for which there may be a job.
-use Rattle.std.specs.Prelude.{◌≡◌, ◌&&◌, ℕ, Bool, true, false, not, List, slice_get, Some}
+use Rattle.std.specs.Prelude.{◌≡◌, ◌<◌, ◌&&◌, ℕ, Bool, true, false, not, List, get_or, slice_get, Some}
 use Rattle.std.specs.List.{list_all}
 use Rattle.occ_base.specs.FileName.{is_unit}
 use Rattle.occ_board.specs.Done.{done, is_input_among, is_kept}
@@ -8,6 +8,8 @@ use Rattle.occ_report.specs.Inputs.{Input}
 use Rattle.occ_project.specs.declared.reads.Read.{Read}
 use Rattle.occ_report.specs.Checks.{input}
 use Rattle.occ_report.specs.Report.{is_open_unit}
+use Rattle.occ_board.specs.inside.Flagged.{flag_of}
+use Rattle.occ_units.specs.Along.{name_at}
 use Rattle.occ_units.specs.Places.{is_below, rest_units, standing_of}
 
 -- all that the unit rests on is done
@@ -34,3 +36,11 @@ pub record IsAcceptable (files : List Read) (kept : List Input) (i : Input) : Ty
 abbrev pub is_next : List Read → List Input → List Input → Read → Bool
 is_next files kept handed file =
     is_open_unit file && (not (done files kept file.name) && (is_rested files kept file.name && not (is_input_among handed (input files file.name))))
+
+-- the file at this place is a ready unit, as far as the flags tell
+abbrev pub is_ready : List Read → List Bool → ℕ → Read → Bool
+is_ready files flags p file = not (get_or flags p false) && (list_all (flag_of files flags) (rest_units files (name_at files p)) && is_open_unit file)
+
+-- none before this place is
+abbrev pub NoneIsReady : List Read → List Bool → ℕ → Type 0
+NoneIsReady files flags n = (p : ℕ) (file : Read) → p < n → slice_get files p ≡ Some file → is_ready files flags p file ≡ false

@@ -1,6 +1,6 @@
 -- What a board knows of what kept inputs looked at: the file of a read's name, if it has the revision of the read, is the read, text
 -- or absence alike.
-use Rattle.std.specs.Prelude.{◌≡◌, ◌<◌, ℕ, Bool, true, List, slice_get, Some}
+use Rattle.std.specs.Prelude.{◌≡◌, ◌<◌, ℕ, List, slice_get, Some}
 use Rattle.occ_report.specs.Inputs.{Input}
 use Rattle.occ_project.specs.declared.reads.Read.{Read}
 use Rattle.occ_units.specs.Project.{file_of}

@@ -1,11 +1,14 @@
 use Rattle.std.proofs.Common.{arith, ap, sym, subst, ◌∙◌, ◌≤◌, length, Option}
 use Rattle.std.specs.Option.{option_map}
-use Rattle.occ_board.proofs.Nexts.{first_found, first_none, first_passed, job_there, next_is}
+use Rattle.occ_board.proofs.Nexts.{first_found, first_none, first_passed, job_there, next_from, next_is}
 use Rattle.occ_board.proofs.taking.next_unit.Goals as goal
 use Rattle.occ_board.specs.inside.Ready.{is_next}
 use Rattle.occ_project.specs.declared.reads.Read.{Read}
 use Rattle.occ_report.specs.Checks.{input}
 use Rattle.occ_units.specs.Project.{IsProject}
+
+pub loop-place-init : goal.loop-place-init
+loop-place-init c = next_from c.args.graph.now c.args.kept.now c.args.handed.now c.args.flags.now c.args.from (subst IsProject c.project.ensures c.files-files.ensures.in_order) c.requires.flags c.requires.from
 
 pub returns-then-is_next-clause-next : goal.returns-then-is_next-clause-next
 returns-then-is_next-clause-next c =

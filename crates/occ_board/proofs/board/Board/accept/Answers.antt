@@ -1,6 +1,7 @@
 use Rattle.std.proofs.Common.{arith, ap, subst, sym, ◌∙◌, ◌≡◌, ◌+◌, ◌<◌, ℕ, Bool, List, None, length, true}
 use Rattle.occ_base.specs.FileName.{is_unit}
 use Rattle.occ_board.proofs.Begun.{accepts}
+use Rattle.occ_board.proofs.Waits.{first_waits}
 use Rattle.occ_board.proofs.Opened.{open_before, open_few, units_before, units_few}
 use Rattle.occ_board.proofs.board.Board.accept.Goals as goal
 use Rattle.occ_board.specs.Journal.{edited, open_number, refusal, refusal_of, replay}
@@ -15,38 +16,40 @@ use Rattle.occ_units.specs.Project.{IsProject}
 
 pub invariant_of-self-2 : goal.invariant_of-self-2
 invariant_of-self-2 c =
-    let number : c.len.result + 1 ≡ length c.self.inside.journal.items + 1 = omega (arith, c.len.ensures, c.self.inside.journal.ok.0) in
-    subst (λ (ks : List Input). IsBoard c.push.new.self.items ks c.renew-renewed.new.graph c.renew-renewed.new.flags c.count_behind-opened.result c.count_behind-units.result) (sym c.follow.ensures)
-    (accepts c.self.inside.journal.items c.push.new.self.items c.self.inside.kept c.self.inside.graph c.renew-renewed.new.graph c.self.inside.flags c.renew-renewed.new.flags c.self.inside.opened c.self.inside.units c.count_behind-opened.result c.count_behind-units.result (c.len.result + 1)
-    c.args.session c.args.edit c.name-name.result c.in_ok-source.source c.self.invariant (ap (λ (s : State). refusal s.journal c.args.edit) c.self.view_is ∙ c.requires) c.in_default.ensures.graph number c.name-name.ensures c.in_ok-source.ensures.value c.in_ok-push.ensures.items
-    c.put_law.ensures.spelled c.put_law.ensures.files c.in_ok-source.ensures.spelled c.in_default.ensures.len c.in_default.ensures.flags c.count_behind-opened.ensures (c.count_behind-units.ensures ∙ ap (λ (b : Bool). count_then b c.self.inside.units c.args.edit) c.is_unit.ensures)
-    (subst IsProject (sym c.self.invariant.files_are) (c.done_law.ensures.project c.self.inside.journal.items)))
+    let number : c.len.result + 1 ≡ length c.self.inside.journal.items + 1 = omega (arith, c.len.ensures, c.self.inside.journal.ok.0) in (
+      subst (λ (ks : List Input). IsBoard c.push.new.self.items ks c.renew-renewed.new.graph c.renew-renewed.new.flags c.count_behind-opened.result c.count_behind-units.result) (sym c.follow.ensures)
+          (accepts c.self.inside.journal.items c.push.new.self.items c.self.inside.kept c.self.inside.graph c.renew-renewed.new.graph c.self.inside.flags c.renew-renewed.new.flags c.self.inside.opened c.self.inside.units c.count_behind-opened.result c.count_behind-units.result (c.len.result + 1)
+          c.args.session c.args.edit c.name-name.result c.in_ok-source.source c.self.invariant.0 (ap (λ (s : State). refusal s.journal c.args.edit) c.self.view_is ∙ c.requires) c.in_default.ensures.graph number c.name-name.ensures c.in_ok-source.ensures.value c.in_ok-push.ensures.items
+          c.put_law.ensures.spelled c.put_law.ensures.files c.in_ok-source.ensures.spelled c.in_default.ensures.len c.in_default.ensures.flags c.count_behind-opened.ensures (c.count_behind-units.ensures ∙ ap (λ (b : Bool). count_then b c.self.inside.units c.args.edit) c.is_unit.ensures)
+          (subst IsProject (sym c.self.invariant.0.files_are) (c.done_law.ensures.project c.self.inside.journal.items))),
+      first_waits _ _,
+    )
 
 pub count_behind-opened-requires-clause-most : goal.count_behind-opened-requires-clause-most
 count_behind-opened-requires-clause-most c =
-    let few = open_few c.self.inside.journal.items c.self.invariant.few in
-    let same : c.self.inside.opened ≡ open_number (replay c.self.inside.journal.items) = c.self.invariant.opened_are ∙ ap open_number c.self.invariant.files_are in
+    let few = open_few c.self.inside.journal.items c.self.invariant.0.few in
+    let same : c.self.inside.opened ≡ open_number (replay c.self.inside.journal.items) = c.self.invariant.0.opened_are ∙ ap open_number c.self.invariant.0.files_are in
     omega (arith, few, same)
 
 pub count_behind-opened-requires-clause-least : goal.count_behind-opened-requires-clause-least
 count_behind-opened-requires-clause-least c name is counted =
     let fine : refusal_of c.self.inside.graph (length c.self.inside.journal.items) (edit.Removed name) ≡ None =
-    ap (λ (fs : List Read). refusal_of fs (length c.self.inside.journal.items) (edit.Removed name)) c.self.invariant.files_are ∙ ap (λ (e : Edit). refusal c.self.inside.journal.items e) (sym is) ∙ ap (λ (s : State). refusal s.journal c.args.edit) c.self.view_is ∙ c.requires
+    ap (λ (fs : List Read). refusal_of fs (length c.self.inside.journal.items) (edit.Removed name)) c.self.invariant.0.files_are ∙ ap (λ (e : Edit). refusal c.self.inside.journal.items e) (sym is) ∙ ap (λ (s : State). refusal s.journal c.args.edit) c.self.view_is ∙ c.requires
     in
-    subst (λ (n : ℕ). 0 < n) (sym c.self.invariant.opened_are)
-    (open_before c.self.inside.graph (length c.self.inside.journal.items) (subst IsProject (sym c.self.invariant.files_are) (c.done_law.ensures.project c.self.inside.journal.items)) name fine)
+    subst (λ (n : ℕ). 0 < n) (sym c.self.invariant.0.opened_are)
+    (open_before c.self.inside.graph (length c.self.inside.journal.items) (subst IsProject (sym c.self.invariant.0.files_are) (c.done_law.ensures.project c.self.inside.journal.items)) name fine)
 
 pub count_behind-units-requires-clause-most : goal.count_behind-units-requires-clause-most
 count_behind-units-requires-clause-most c =
-    let few = units_few c.self.inside.journal.items c.self.invariant.few in
-    let same : c.self.inside.units ≡ length (open_units (replay c.self.inside.journal.items)) = c.self.invariant.units_are ∙ ap (λ (fs : List Read). length (open_units fs)) c.self.invariant.files_are in
+    let few = units_few c.self.inside.journal.items c.self.invariant.0.few in
+    let same : c.self.inside.units ≡ length (open_units (replay c.self.inside.journal.items)) = c.self.invariant.0.units_are ∙ ap (λ (fs : List Read). length (open_units fs)) c.self.invariant.0.files_are in
     omega (arith, few, same)
 
 pub count_behind-units-requires-clause-least : goal.count_behind-units-requires-clause-least
 count_behind-units-requires-clause-least c name is counted =
     let fine : refusal_of c.self.inside.graph (length c.self.inside.journal.items) (edit.Removed name) ≡ None =
-    ap (λ (fs : List Read). refusal_of fs (length c.self.inside.journal.items) (edit.Removed name)) c.self.invariant.files_are ∙ ap (λ (e : Edit). refusal c.self.inside.journal.items e) (sym is) ∙ ap (λ (s : State). refusal s.journal c.args.edit) c.self.view_is ∙ c.requires
+    ap (λ (fs : List Read). refusal_of fs (length c.self.inside.journal.items) (edit.Removed name)) c.self.invariant.0.files_are ∙ ap (λ (e : Edit). refusal c.self.inside.journal.items e) (sym is) ∙ ap (λ (s : State). refusal s.journal c.args.edit) c.self.view_is ∙ c.requires
     in
     let unit : is_unit name ≡ true = ap is_unit (sym (c.name-name.ensures ∙ ap (λ (e : Edit). (edited 0 e).name) is)) ∙ sym c.is_unit.ensures ∙ counted in
-    subst (λ (n : ℕ). 0 < n) (sym c.self.invariant.units_are)
-    (units_before c.self.inside.graph (length c.self.inside.journal.items) (subst IsProject (sym c.self.invariant.files_are) (c.done_law.ensures.project c.self.inside.journal.items)) name fine unit)
+    subst (λ (n : ℕ). 0 < n) (sym c.self.invariant.0.units_are)
+    (units_before c.self.inside.graph (length c.self.inside.journal.items) (subst IsProject (sym c.self.invariant.0.files_are) (c.done_law.ensures.project c.self.inside.journal.items)) name fine unit)

@@ -7,6 +7,6 @@ use Rattle.occ_project.specs.declared.reads.Read.{Read}
 pub count_readers-requires : goal.count_readers-requires
 count_readers-requires c =
     let fewer = few_files c.self.inside.journal.items in
-    let same : length c.self.inside.graph ≡ length (replay c.self.inside.journal.items) = ap (length {A = Read}) c.self.invariant.files_are in
-    let few = c.self.invariant.few in
+    let same : length c.self.inside.graph ≡ length (replay c.self.inside.journal.items) = ap (length {A = Read}) c.self.invariant.0.files_are in
+    let few = c.self.invariant.0.few in
     omega (arith, fewer, same, few)

@@ -8,19 +8,19 @@ use Rattle.occ_units.specs.Project.{IsProject}
 
 pub overflow_sub-result : goal.overflow_sub-result
 overflow_sub-result c =
-    let project : IsProject c.self.inside.graph = subst IsProject (sym c.self.invariant.files_are) (c.done_law.ensures.project c.self.inside.journal.items) in
-    let all = done_counted c.self.inside.graph c.self.inside.kept c.self.inside.flags project c.self.invariant.of_units (λ u. c.done_law.ensures.done c.self.inside.graph c.self.inside.kept u project) c.self.invariant.flags_are c.self.invariant.len in
-    let units = c.self.invariant.units_are in
+    let project : IsProject c.self.inside.graph = subst IsProject (sym c.self.invariant.0.files_are) (c.done_law.ensures.project c.self.inside.journal.items) in
+    let all = done_counted c.self.inside.graph c.self.inside.kept c.self.inside.flags project c.self.invariant.0.of_units (λ u. c.done_law.ensures.done c.self.inside.graph c.self.inside.kept u project) c.self.invariant.0.flags_are c.self.invariant.0.len in
+    let units = c.self.invariant.0.units_are in
     let set = c.count.ensures in
     omega (arith, all, units, set)
 
 pub returns : goal.returns
 returns c =
-    let project : IsProject c.self.inside.graph = subst IsProject (sym c.self.invariant.files_are) (c.done_law.ensures.project c.self.inside.journal.items) in
-    let all = done_counted c.self.inside.graph c.self.inside.kept c.self.inside.flags project c.self.invariant.of_units (λ u. c.done_law.ensures.done c.self.inside.graph c.self.inside.kept u project) c.self.invariant.flags_are c.self.invariant.len in
-    let units = c.self.invariant.units_are in
+    let project : IsProject c.self.inside.graph = subst IsProject (sym c.self.invariant.0.files_are) (c.done_law.ensures.project c.self.inside.journal.items) in
+    let all = done_counted c.self.inside.graph c.self.inside.kept c.self.inside.flags project c.self.invariant.0.of_units (λ u. c.done_law.ensures.done c.self.inside.graph c.self.inside.kept u project) c.self.invariant.0.flags_are c.self.invariant.0.len in
+    let units = c.self.invariant.0.units_are in
     let set = c.count.ensures in
     let same : length (pending_units c.self.inside.graph c.self.inside.kept) ≡ pending_answer c.args.self.now =
-    ap (λ (fs : List Read). length (pending_units fs c.self.inside.kept)) c.self.invariant.files_are ∙ ap (λ (s : State). pending_answer s) c.self.view_is
+    ap (λ (fs : List Read). length (pending_units fs c.self.inside.kept)) c.self.invariant.0.files_are ∙ ap (λ (s : State). pending_answer s) c.self.view_is
     in
     omega (arith, all, units, set, same)

@@ -1,6 +1,6 @@
 use Rattle.std.proofs.Common.{◌≡◌, length}
 use Rattle.occ_board.proofs.Marked.{IsResettled}
-use Rattle.occ_board.proofs.touching.resettle.Given as goal
+use Rattle.occ_board.proofs.flags.settle_among.Given as goal
 use Rattle.occ_board.specs.inside.Flagged.{IsSound}
 
 abbrev pub invariant-loop-place : goal.invariant-loop-place

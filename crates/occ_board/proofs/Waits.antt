@@ -1,0 +1,124 @@
+-- Places before which no unit is ready, as far as flags tell.
+use Rattle.std.proofs.Common.{◌≡◌, ◌∙◌, ◌<◌, ◌≤◌, ◌+◌, ◌&&◌, ◌||◌, ◌⊎◌, ℕ, suc, Bool, true, false, not, List, [], ◌∷◌, drop, length, get_or, Some, refl, sym, ap, subst, arith, inl, inr}
+use Rattle.std.specs.List.{list_all, slice_get}
+use Rattle.std.specs.Prelude.{◌==◌, slice_set}
+use Rattle.std.proofs.lemmas.Bool.{eqb-true}
+use Rattle.std.specs.Str.{bytes_eq}
+use Rattle.std.proofs.lemmas.Slice.Eq.{bytes_eq-Decides}
+use Rattle.occ_board.proofs.Marked.{marked_there, none_behind}
+use Rattle.occ_board.proofs.Places.{within}
+use Rattle.occ_board.proofs.Settled.{flag_at, last_or_less}
+use Rattle.occ_board.proofs.Spread.{placed_there, rests_same, set_stays, some_is}
+use Rattle.occ_board.specs.inside.Flagged.{AreFlags, IsFullAt, IsSound, flag_of, flagged}
+use Rattle.occ_board.specs.inside.Ready.{NoneIsReady, is_ready}
+use Rattle.occ_report.specs.Inputs.{Input}
+use Rattle.occ_graph.specs.Graph.{is_among, rests}
+use Rattle.occ_project.specs.Reads.{place}
+use Rattle.occ_project.specs.declared.reads.Read.{Read}
+use Rattle.occ_report.specs.Report.{is_open_unit}
+use Rattle.occ_units.specs.Along.{name_at}
+use Rattle.occ_units.specs.Places.{graph_of, rest_units, users_at}
+use Rattle.occ_units.specs.Project.{IsProject}
+
+-- before the first place there is none
+pub first_waits : (files : List Read) (flags : List Bool) → NoneIsReady files flags 0
+first_waits files flags p file lt e = absurd (omega (arith, lt))
+
+-- one place more
+pub one_waits : (files : List Read) (flags : List Bool) (n : ℕ) (here : Read) → slice_get files n ≡ Some here → is_ready files flags n here ≡ false → NoneIsReady files flags n → NoneIsReady files flags (n + 1)
+one_waits files flags n here e none before p file lt is = elim (last_or_less n p lt) [
+  | inl s ↦
+      let same : Some here ≡ Some file = sym e ∙ ap (slice_get files) (sym s) ∙ is in
+      subst (λ (q : ℕ). is_ready files flags q file ≡ false) (sym s) (subst (λ (f : Read). is_ready files flags n f ≡ false) (one_file here file same) none)
+  | inr k ↦ before p file k is
+] where
+  one_file : (x y : Read) → Some x ≡ Some y → x ≡ y
+  one_file x y s = cc
+
+pub fewer_wait : (files : List Read) (flags : List Bool) (m n : ℕ) → m ≤ n → NoneIsReady files flags n → NoneIsReady files flags m
+fewer_wait files flags m n le before p file lt e = before p file (omega (arith, lt, le)) e
+
+-- flags that have each other's, and as many
+more_flagged : (fs gs : List Bool) → length fs ≡ length gs → ((p : ℕ) → get_or fs p false ≡ true → get_or gs p false ≡ true) → flagged fs ≤ flagged gs
+more_flagged [] gs l h = omega arith
+more_flagged (f ∷ fs) [] l h = absurd (omega (arith, l))
+more_flagged (true ∷ fs) (true ∷ gs) l h =
+    let k = more_flagged fs gs (omega (arith, l)) (λ p. h (suc p)) in
+    let more : 1 + flagged fs ≤ 1 + flagged gs = omega (arith, k) in more
+more_flagged (true ∷ fs) (false ∷ gs) l h = let k : false ≡ true = h 0 refl in absurd cc
+more_flagged (false ∷ fs) (true ∷ gs) l h =
+    let k = more_flagged fs gs (omega (arith, l)) (λ p. h (suc p)) in
+    let more : 0 + flagged fs ≤ 1 + flagged gs = omega (arith, k) in more
+more_flagged (false ∷ fs) (false ∷ gs) l h =
+    let k = more_flagged fs gs (omega (arith, l)) (λ p. h (suc p)) in
+    let more : 0 + flagged fs ≤ 0 + flagged gs = omega (arith, k) in more
+
+pub same_flags : (fs gs : List Bool) → length fs ≡ length gs → ((p : ℕ) → get_or fs p false ≡ true → get_or gs p false ≡ true) → flagged gs ≡ flagged fs → gs ≡ fs
+same_flags [] [] l h e = refl
+same_flags [] (g ∷ gs) l h e = absurd (omega (arith, l))
+same_flags (f ∷ fs) [] l h e = absurd (omega (arith, l))
+same_flags (true ∷ fs) (true ∷ gs) l h e =
+    let d : 1 + flagged gs ≡ 1 + flagged fs = e in
+    ap (λ (xs : List Bool). true ∷ xs) (same_flags fs gs (omega (arith, l)) (λ p. h (suc p)) (omega (arith, d)))
+same_flags (true ∷ fs) (false ∷ gs) l h e = let k : false ≡ true = h 0 refl in absurd cc
+same_flags (false ∷ fs) (true ∷ gs) l h e =
+    let d : 1 + flagged gs ≡ 0 + flagged fs = e in
+    let k = more_flagged fs gs (omega (arith, l)) (λ p. h (suc p)) in
+    absurd (omega (arith, d, k))
+same_flags (false ∷ fs) (false ∷ gs) l h e =
+    let d : 0 + flagged gs ≡ 0 + flagged fs = e in
+    ap (λ (xs : List Bool). false ∷ xs) (same_flags fs gs (omega (arith, l)) (λ p. h (suc p)) (omega (arith, d)))
+
+-- what is ready by more flags
+still_unready : (b c r t o : Bool) → (b ≡ true → c ≡ true) → t ≡ r → (not b && (r && o)) ≡ false → (not c && (t && o)) ≡ false
+still_unready true c r t o more same e = ap (λ (x : Bool). not x && (t && o)) (more refl)
+still_unready false true r t o more same e = refl
+still_unready false false r t o more same e = ap (λ (x : Bool). x && o) same ∙ e
+
+no_truth : (b : Bool) → (b ≡ true → ⊥) → b ≡ false
+no_truth true f = absurd (f refl)
+no_truth false f = refl
+
+module _ (files : List Read) (kept : List Input) (project : IsProject files) where
+  -- a flag that is set stays where all are those of the units that are done
+  pub stays_set : (flags next : List Bool) → length flags ≡ length files → IsSound files kept flags → AreFlags files kept next → (p : ℕ) → get_or flags p false ≡ true → get_or next p false ≡ true
+  stays_set flags next len sound are p h =
+      let long = marked_there flags p h in
+      let at = placed_there files kept project p (omega (arith, long, len)) in
+      sym (flag_at files next (name_at files p) p at) ∙ (are (name_at files p) ∙ sound (name_at files p) (flag_at files flags (name_at files p) p at ∙ h))
+
+  -- with one flag more no unit is ready but what rests on that one
+  pub still_waits : ((p q : ℕ) → is_among (rests (graph_of files) p) q ≡ true → is_among (users_at files q) p ≡ true) → (flags next : List Bool) (w from n : ℕ) → next ≡ slice_set flags w true → NoneIsReady files flags from → n ≤ from
+      → ((p : ℕ) → is_among (users_at files w) p ≡ true → n ≤ p) → NoneIsReady files next n
+  still_waits users flags next w from n same before most least p file lt e =
+      let none : is_among (users_at files w) p ≡ false = no_truth (is_among (users_at files w) p) (λ h. let k = least p h in omega (arith, k, lt)) in
+      ap (λ (fs : List Bool). is_ready files fs p file) same
+      ∙ still_unready (get_or flags p false) (get_or (slice_set flags w true) p false) (list_all (flag_of files flags) (rest_units files (name_at files p))) (list_all (flag_of files (slice_set flags w true)) (rest_units files (name_at files p))) (is_open_unit file)
+      (set_stays flags w p) (rests_same files kept project users flags w p (within files p file e) none) (before p file (omega (arith, lt, most)) e)
+
+  -- of each place a flag is not missing, or it is that of the unit
+  pub full_or : (flags : List Bool) (unit : List ℕ) (at : ℕ) → place unit files ≡ Some at → ((p : ℕ) → p < length files → bytes_eq unit (name_at files p) ≡ false → IsFullAt files kept flags p)
+      → (p : ℕ) → p < length files → IsFullAt files kept flags p ⊎ (at ≡ p)
+  full_or flags unit at e others p lt = by (bytes_eq unit (name_at files p)) refl where
+    by : (b : Bool) → bytes_eq unit (name_at files p) ≡ b → IsFullAt files kept flags p ⊎ (at ≡ p)
+    by true h =
+        let same : unit ≡ name_at files p = (bytes_eq-Decides unit (name_at files p)).0 h in
+        let here : Some at ≡ Some p = sym e ∙ ap (λ (n : List ℕ). place n files) same ∙ placed_there files kept project p lt in
+        inr (some_is files kept project at p here)
+    by false h = inl (others p lt h)
+
+-- the least of the places that were gone through is no more than each
+pub least_more : (ws vs : List ℕ) (x p m n : ℕ) → ws ≡ x ∷ vs → n ≤ m → n ≤ x → (m ≤ p) ⊎ (is_among ws p ≡ true) → (n ≤ p) ⊎ (is_among vs p ≡ true)
+least_more ws vs x p m n split less here h = elim h [
+  | inl k ↦ inl (omega (arith, k, less))
+  | inr k ↦ by (x == p) refl (sym (ap (λ (zs : List ℕ). is_among zs p) split) ∙ k)
+] where
+  by : (b : Bool) → (x == p) ≡ b → (b || is_among vs p) ≡ true → (n ≤ p) ⊎ (is_among vs p ≡ true)
+  by true e k = let same = eqb-true x p e in inl (omega (arith, same, here))
+  by false e k = inr k
+
+pub least_over : (ws : List ℕ) (i p n : ℕ) → length ws ≤ i → (n ≤ p) ⊎ (is_among (drop i ws) p ≡ true) → n ≤ p
+least_over ws i p n over h = elim h [
+  | inl k ↦ k
+  | inr k ↦ let none = none_behind ws i p over in absurd (cc (none, k))
+]

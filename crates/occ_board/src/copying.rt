@@ -1,0 +1,75 @@
+ghost use Rattle.std.specs.Prelude.{◌≡◌, IfOk};
+
+use occ_base::Items;
+use occ_project::{Read, Reads};
+use occ_report::{Job, Used, UsedUnit};
+use std::alloc::{AllocError, Global};
+
+/// The same read, which shares its text.
+fn copied_read(read: &Read) -> Result<Read, AllocError>
+    ensures { IfOk result (λ copy. copy ≡ read.now) }
+{
+    let source = match &read.source {
+        Some(source) => Some(source.share()?),
+        None => None,
+    };
+    Ok(Read {
+        name: read.name,
+        revision: read.revision,
+        source,
+    })
+}
+
+/// The same reads.
+fn copied_reads(alloc: Global, reads: &[Read]) -> Result<Reads, AllocError>
+    ensures { IfOk result (λ copies. copies ≡ reads.now) }
+{
+    let mut copies = Items::new(alloc);
+    for read in reads {
+        copies.push(copied_read(read)?)?;
+    }
+    Ok(copies)
+}
+
+/// How a unit is used, which shares what it shows.
+fn copied_use(used: &Used) -> Result<Used, AllocError>
+    ensures { IfOk result (λ copy. copy ≡ used.now) }
+{
+    match used {
+        Used::Absent => Ok(Used::Absent),
+        Used::Circular => Ok(Used::Circular),
+        Used::Faulty => Ok(Used::Faulty),
+        Used::Clean(shown) => Ok(Used::Clean(shown.share()?)),
+    }
+}
+
+/// The same used unit.
+fn copied_unit(one: &UsedUnit) -> Result<UsedUnit, AllocError>
+    ensures { IfOk result (λ copy. copy ≡ one.now) }
+{
+    Ok(UsedUnit {
+        unit: one.unit,
+        used: copied_use(&one.used)?,
+    })
+}
+
+/// The same used units.
+fn copied_units(alloc: Global, used: &[UsedUnit]) -> Result<Items<UsedUnit>, AllocError>
+    ensures { IfOk result (λ copies. copies ≡ used.now) }
+{
+    let mut copies = Items::new(alloc);
+    for one in used {
+        copies.push(copied_unit(one)?)?;
+    }
+    Ok(copies)
+}
+
+/// The same job, which shares what it looks at.
+pub fn copied_job(alloc: Global, job: &Job) -> Result<Job, AllocError>
+    ensures { IfOk result (λ copy. copy ≡ job.now) }
+{
+    let unit = job.unit();
+    let reads = copied_reads(alloc, job.reads().as_slice())?;
+    let used = copied_units(alloc, job.used())?;
+    Ok(Job::of(unit, reads, used))
+}
