@@ -3,22 +3,8 @@ ghost use Rattle.std.specs.Prelude.{◌≡◌, IfOk};
 use occ_base::Items;
 use occ_project::{Read, Reads};
 use occ_report::{Job, Used, UsedUnit};
+use occ_units::share;
 use std::alloc::{AllocError, Global};
-
-/// The same read, which shares its text.
-fn copied_read(read: &Read) -> Result<Read, AllocError>
-    ensures { IfOk result (λ copy. copy ≡ read.now) }
-{
-    let source = match &read.source {
-        Some(source) => Some(source.share()?),
-        None => None,
-    };
-    Ok(Read {
-        name: read.name,
-        revision: read.revision,
-        source,
-    })
-}
 
 /// The same reads.
 fn copied_reads(alloc: Global, reads: &[Read]) -> Result<Reads, AllocError>
@@ -26,7 +12,7 @@ fn copied_reads(alloc: Global, reads: &[Read]) -> Result<Reads, AllocError>
 {
     let mut copies = Items::new(alloc);
     for read in reads {
-        copies.push(copied_read(read)?)?;
+        copies.push(share(read)?)?;
     }
     Ok(copies)
 }

@@ -15,5 +15,5 @@ mod standing;
 mod uses;
 
 pub use graph::Graph;
-pub use project::Project;
+pub use project::{Project, share};
 pub use standing::Standing;
