@@ -33,7 +33,6 @@ use std::marker::Model;
 
 /// The state of everything. In contracts it is the state of the machine: the edits that were accepted, the inputs of the
 /// outcomes that are kept, and those that are handed out.
-#[derive(Drop)]
 pub struct Board {
     journal: Vec<Entry>,
     kept: Kept,
@@ -48,6 +47,21 @@ pub struct Board {
     units: usize,
     /// A place before which no unit is ready.
     waiting: usize,
+}
+
+/// Written out: crates above call it, where each would prove a derived one anew.
+impl Drop for Board {
+    fn drop(self) {
+        let Board {
+            journal: _,
+            kept: _,
+            handed: _,
+            graph: _,
+            flags: _,
+            opened: _,
+            units: _,
+        } = self;
+    }
 }
 
 impl Model for Board {

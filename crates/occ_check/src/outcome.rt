@@ -13,11 +13,21 @@ use std::alloc::{AllocError, Global};
 use std::marker::Model;
 
 /// What the check of a job gave: in contracts what the job looks at, which decides all the rest.
-#[derive(Drop)]
 pub struct Outcome {
     job: Job,
     diags: Items<Diag>,
     interface: Option<Shared<Interface>>,
+}
+
+/// Written out: crates above call it, where each would prove a derived one anew.
+impl Drop for Outcome {
+    fn drop(self) {
+        let Outcome {
+            job: _,
+            diags: _,
+            interface: _,
+        } = self;
+    }
 }
 
 impl Model for Outcome {

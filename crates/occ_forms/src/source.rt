@@ -29,10 +29,16 @@ pub struct SourceLine {
 }
 
 /// A text with its lines: they are those that the text spells, each with its form.
-#[derive(Drop)]
 pub struct Source {
     text: Items<u8>,
     lines: Items<SourceLine>,
+}
+
+/// Written out: crates above call it, where each would prove a derived one anew.
+impl Drop for Source {
+    fn drop(self) {
+        let Source { text: _, lines: _ } = self;
+    }
 }
 
 impl Model for Source {

@@ -3,7 +3,6 @@ use occ_expression_forms::{Builtin, DataForm, Dimension, Element, Expr};
 use occ_specification_forms::Specified;
 
 /// The form of a line.
-#[derive(Drop)]
 pub enum Form {
     /// A specification of one line, or the head of one.
     Specified(Specified),
@@ -18,6 +17,21 @@ pub enum Form {
     /// `n; d; ..`: a tag of a protocol or a variant of a selecting input, with the first of its parts and perhaps
     /// more.
     Tagged(Name, Detail, Items<Detail>),
+}
+
+/// Written out: crates above call it, where each would prove a derived one anew.
+impl Drop for Form {
+    fn drop(self) {
+        match self {
+            Form::Specified(_) => {}
+            Form::Close => {}
+            Form::Action(_) => {}
+            Form::Construct(_) => {}
+            Form::Part(_) => {}
+            Form::Expressions(_, _) => {}
+            Form::Tagged(_, _, _) => {}
+        }
+    }
 }
 
 /// A process that stands on one line.

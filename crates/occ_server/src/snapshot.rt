@@ -6,10 +6,19 @@ use occ_board::{Entry, Row};
 use std::marker::Model;
 
 /// A report, with the edits that were accepted until then: it is one of the files that they make.
-#[derive(Drop)]
 pub struct Snapshot {
     entries: Items<Entry>,
     rows: Items<Row>,
+}
+
+/// Written out: crates above call it, where each would prove a derived one anew.
+impl Drop for Snapshot {
+    fn drop(self) {
+        let Snapshot {
+            entries: _,
+            rows: _,
+        } = self;
+    }
 }
 
 impl Model for Snapshot {
@@ -56,10 +65,19 @@ impl Snapshot {
 }
 
 /// What a server ends with: all edits that were accepted, and the report from nothing of the files that they make.
-#[derive(Drop)]
 pub struct Ended {
     entries: Items<Entry>,
     rows: Items<Row>,
+}
+
+/// Written out: crates above call it, where each would prove a derived one anew.
+impl Drop for Ended {
+    fn drop(self) {
+        let Ended {
+            entries: _,
+            rows: _,
+        } = self;
+    }
 }
 
 impl Model for Ended {
