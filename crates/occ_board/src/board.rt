@@ -60,6 +60,7 @@ impl Drop for Board {
             flags: _,
             opened: _,
             units: _,
+            waiting: _,
         } = self;
     }
 }
