@@ -27,13 +27,12 @@ use Rattle.occ_names.specs.declared.scope.Scope.{Scope}
 use Rattle.occ_base.specs.declared.fault.Fault.{Fault}
 use Rattle.occ_operands.specs.declared.kind.Kind.{Kind}
 use Rattle.occ_tables.specs.Terms.{judged, judged_all}
-use Rattle.occ_tables.specs.declared.selection.BoundTerms.{BoundTerms}
 use Rattle.occ_tables.specs.declared.term.Term.{Term}
 use Rattle.occ_types.specs.declared.constant.Operator.{Operator}
 use Rattle.occ_types.specs.declared.types.OccType.{OccType}
 use Rattle.occ_types.specs.declared.value.Primitive.{Primitive}
 use Rattle.occ_expr.specs.Operations.{applied, converted, extreme_of, operation, pair, run_operator}
-use Rattle.occ_expr.specs.Parts.{in_scope, own_faults, segment_of, subscripts, table_as, terms}
+use Rattle.occ_expr.specs.Parts.{in_scope, own_faults, segment_within, subscripts, table_as, terms}
 use Rattle.occ_typed.specs.declared.expr.Selector.{Selector}
 use Rattle.occ_typed.specs.declared.expr.TypedElement.{TypedElement}
 use Rattle.occ_expr.specs.Elements.{selectors, with_selectors}
@@ -202,19 +201,30 @@ run_faults r x op operator a b os s ta tb its all old m n p e is h t i u j g v w
     subst (λ (y : Expr). e ≡ old ++ ((expr_view y).said s).faults) (sym is)
     (two _ _ _ _ _ (three_right _ _ _ _ _ _ _ h i j) (k ∙ ap (λ (z : Operator). p ++ (operation z (judged_all all)).faults) w ∙ ap (λ (z : List Term). p ++ (operation (run_operator op) (judged_all z)).faults) (v ∙ g ∙ ap (λ (z : Term). z ∷ tb ∷ terms (operands s (operand_views os))) t ∙ ap (λ (z : Term). ((operand_view a).said s).term ∷ z ∷ terms (operands s (operand_views os))) u)) ∙ ap (λ z. old ++ z.faults) (sym (views.expr_run_said op a b os s)))) told
 
-pub segment_faults : (x : Element) (el : Element) (part : Bounds) (es : List Expr) (s : Scope) (k1 k2 : Kind) (bs : BoundTerms) (old m n p e : List Fault)
+pub segment_faults : (x el : Element) (part : Bounds) (es : List Expr) (s : Scope) (k1 k2 : Kind) (old m n e : List Fault)
     → x ≡ ev.Segment el part es
     → m ≡ old ++ ((element_view el).told s).faults
     → k1 ≡ ((element_view el).told s).kind
-    → n ≡ m ++ ((bounds_view part).said s).faults
-    → bs ≡ ((bounds_view part).said s).bounds
-    → p ≡ n ++ (segment_of k1 bs).faults
-    → k2 ≡ (segment_of k1 bs).kind
-    → e ≡ p ++ (subscripts s (expr_views es) k2).faults
+    → n ≡ m ++ (segment_within ((bounds_view part).said s) k1).faults
+    → k2 ≡ (segment_within ((bounds_view part).said s) k1).kind
+    → e ≡ n ++ (subscripts s (expr_views es) k2).faults
     → e ≡ old ++ ((element_view x).told s).faults
-segment_faults x el part es s k1 k2 bs old m n p e is h f i g j u k =
+segment_faults x el part es s k1 k2 old m n e is h f i u k =
+    let b = (bounds_view part).said s in
+    let whole = (element_view el).told s in
+    let w = segment_within b whole.kind in
     subst (λ (y : Element). e ≡ old ++ ((element_view y).told s).faults) (sym is)
-    (two _ _ _ _ _ (three_right _ _ _ _ _ _ _ h i (j ∙ ap (λ (z : Kind). n ++ (segment_of z bs).faults) f ∙ ap (λ (z : BoundTerms). n ++ (segment_of ((element_view el).told s).kind z).faults) g)) (k ∙ ap (λ (z : Kind). p ++ (subscripts s (expr_views es) z).faults) (u ∙ ap (λ (z : Kind). (segment_of z bs).kind) f ∙ ap (λ (z : BoundTerms). (segment_of ((element_view el).told s).kind z).kind) g)) ∙ ap (λ z. old ++ z.faults) (sym (views.element_segment_told el part es s)))
+    (three old whole.faults w.faults (subscripts s (expr_views es) w.kind).faults m n e h (i ∙ ap (λ (z : Kind). m ++ (segment_within b z).faults) f) (k ∙ ap (λ (z : Kind). n ++ (subscripts s (expr_views es) z).faults) (u ∙ ap (λ (z : Kind). (segment_within b z).kind) f)) ∙ ap (λ z. old ++ z.faults) (sym (views.element_segment_told el part es s)))
+
+pub segment_kind : (x el : Element) (part : Bounds) (es : List Expr) (s : Scope) (k1 k2 v : Kind)
+    → x ≡ ev.Segment el part es
+    → k1 ≡ ((element_view el).told s).kind
+    → k2 ≡ (segment_within ((bounds_view part).said s) k1).kind
+    → v ≡ (subscripts s (expr_views es) k2).kind
+    → v ≡ ((element_view x).told s).kind
+segment_kind x el part es s k1 k2 v is f u k =
+    subst (λ (y : Element). v ≡ ((element_view y).told s).kind) (sym is)
+    (k ∙ ap (λ (z : Kind). (subscripts s (expr_views es) z).kind) (u ∙ ap (λ (z : Kind). (segment_within ((bounds_view part).said s) z).kind) f) ∙ ap (λ z. z.kind) (sym (views.element_segment_told el part es s)))
 
 pub named_type_faults : {T E : Type 0} (r : Result T E) (x : TypeForm) (ds : List Dimension) (name : List ℕ) (o : Opening) (s : Scope) (of : Option OccType) (front : List Extent) (old m e : List Fault)
     → x ≡ tv.Named ds name
@@ -283,25 +293,24 @@ counted_found r x words ds base es other s of to count is f g i told =
     subst (λ (y : Builtin). found ≡ (builtin_view y s).found) (sym is)
     (k ∙ ap (λ (z : Option Primitive). counted_type z to) (g ∙ ap (λ (z : Option OccType). (count_type z).found) f) ∙ ap (λ (z : Option OccType). counted_type (count_type (data_form s (each opening.Refused s (dimension_views ds)) base).found).found z) i ∙ ap (λ z. z.found) (sym (views.builtin_counted_view words ds base es other s)))) told
 
-pub segment_tree_made : (x el : Element) (part : Bounds) (es : List Expr) (s : Scope) (k1 k2 kind : Kind) (inner : Option TypedElement) (n : Option ℕ) (bs : BoundTerms) (sel : Option Selector) (start behind : Option (List Selector)) (v : Option TypedElement)
+pub segment_tree_made : (x el : Element) (part : Bounds) (es : List Expr) (s : Scope) (k1 k2 kind : Kind) (inner : Option TypedElement) (sel : Option Selector) (start behind : Option (List Selector)) (v : Option TypedElement)
     → x ≡ ev.Segment el part es
     → k1 ≡ ((element_view el).told s).kind
     → inner ≡ (element_view el).tree s
-    → n ≡ components_of k1
-    → bs ≡ ((bounds_view part).said s).bounds
-    → sel ≡ (bounds_view part).tree s n
-    → k2 ≡ (segment_of k1 bs).kind
+    → sel ≡ (bounds_view part).tree s (components_of k1)
+    → k2 ≡ (segment_within ((bounds_view part).said s) k1).kind
     → start ≡ Some []
     → kind ≡ (subscripts s (expr_views es) k2).kind
     → behind ≡ with_selectors start (selectors s (expr_views es) k2)
     → v ≡ part_of kind inner sel behind
     → v ≡ (element_view x).tree s
-segment_tree_made x el part es s k1 k2 kind inner n bs sel start behind v is h1 hi hn hb hs h2 hz hk he hv =
+segment_tree_made x el part es s k1 k2 kind inner sel start behind v is h1 hi hs h2 hz hk he hv =
     let whole = (element_view el).told s in
-    let segment = (segment_of whole.kind ((bounds_view part).said s).bounds).kind in
-    let k2_is : k2 ≡ segment = h2 ∙ ap (λ (z : Kind). (segment_of z bs).kind) h1 ∙ ap (λ (z : BoundTerms). (segment_of whole.kind z).kind) hb in
+    let b = (bounds_view part).said s in
+    let segment = (segment_within b whole.kind).kind in
+    let k2_is : k2 ≡ segment = h2 ∙ ap (λ (z : Kind). (segment_within b z).kind) h1 in
     let kind_is : kind ≡ (subscripts s (expr_views es) segment).kind = hk ∙ ap (λ (z : Kind). (subscripts s (expr_views es) z).kind) k2_is in
-    let sel_is : sel ≡ (bounds_view part).tree s (components_of whole.kind) = hs ∙ ap (λ (z : Option ℕ). (bounds_view part).tree s z) (hn ∙ ap components_of h1) in
+    let sel_is : sel ≡ (bounds_view part).tree s (components_of whole.kind) = hs ∙ ap (λ (z : Kind). (bounds_view part).tree s (components_of z)) h1 in
     let behind_is : behind ≡ selectors s (expr_views es) segment
     = he
     ∙ ap (λ (z : Option (List Selector)). with_selectors z (selectors s (expr_views es) k2)) hz

@@ -6,6 +6,7 @@ ghost use Rattle.occ_expr.specs.Parts.{one_result as told_result};
 ghost use Rattle.occ_expr.specs.Sides.{call_in as told_call, call_of_first, one_call as told_one_call, operand_layer, result_drafts as drafts_of_results, result_terms as terms_of_results};
 ghost use Rattle.occ_expression_forms.specs.declared.tree.Operand.{out-Operand};
 ghost use Rattle.occ_names.specs.Visible.{referent};
+ghost use Rattle.occ_typed.specs.Placing.{each_placed as told_each_placed};
 
 use super::reading::{Reading, Readings};
 use occ_base::{Code, Fault, Items, Name, Shared, tell};
@@ -98,6 +99,20 @@ fn by_value(alloc: Global, values: &[Shared<TypedExpr>]) -> Result<Items<TypedAc
     Ok(actuals)
 }
 
+/// Actuals as values of the types of the formals, if each is one.
+fn values_of(
+    alloc: Global,
+    formals: &[Formal],
+    actuals: &[Draft],
+) -> Result<Option<Items<Shared<TypedExpr>>>, AllocError>
+    ensures { IfOk result (λ values. values ≡ told_each_placed actuals.now (types_of_formals formals.now)) }
+{
+    let types = formal_types(alloc, formals)?;
+    let values = each_placed(alloc, actuals, types.as_slice());
+    drop(types);
+    values
+}
+
 /// A call of what a name stands for, whose first result is of this type.
 #[tactic(auto, unfolding(crate::specs::Drafts::called_tree))]
 fn called_tree(
@@ -110,13 +125,13 @@ fn called_tree(
 ) -> Result<Option<Shared<TypedExpr>>, AllocError>
     ensures { IfOk result (λ tree. tree ≡ told_tree of.now (referent scope.now name.now) formals.now actuals.now) }
 {
-    let callee = scope.referent(name)?;
-    let types = formal_types(alloc, formals)?;
-    let values = each_placed(alloc, actuals, types.as_slice())?;
-    let Some((callee, values)) = callee.zip(values) else {
+    let values = values_of(alloc, formals, actuals)?;
+    let Some((callee, values)) = scope.referent(name)?.zip(values) else {
         return Ok(None);
     };
-    let actuals = by_value(alloc, values.as_slice())?;
+    let actuals = by_value(alloc, values.as_slice());
+    drop(values);
+    let actuals = actuals?;
     let known = Known {
         of: of.share()?,
         value: None,

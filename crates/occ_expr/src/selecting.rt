@@ -176,6 +176,18 @@ pub fn element_of(
     }))
 }
 
+/// The selectors of an element, that of a segment of it and those behind that, if all are there.
+fn part_selectors(
+    whole: Items<Selector>,
+    part: Option<Selector>,
+    behind: Option<Items<Selector>>,
+) -> Result<Option<Items<Selector>>, AllocError>
+    ensures { IfOk result (λ all. all ≡ with_selectors (with_selectors (Some whole) (one_selector part)) behind) }
+{
+    let selectors = with_selector(Some(whole), part)?;
+    with_more(selectors, behind)
+}
+
 /// The part of an element that a segment and subscripts behind it select.
 #[tactic(auto, unfolding(crate::specs::Views::part_of))]
 pub fn part_of(
@@ -197,7 +209,7 @@ pub fn part_of(
     else {
         return Ok(None);
     };
-    let selectors = with_more(with_selector(Some(selectors), part)?, behind)?;
+    let selectors = part_selectors(selectors, part, behind)?;
     element_of(kind, name, Some(referent), selectors)
 }
 

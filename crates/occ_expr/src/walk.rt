@@ -6,14 +6,14 @@ ghost use Rattle.occ_names.specs.Lookup.{data_type as data_type_named};
 ghost use Rattle.occ_names.specs.Visible.{referent, visible};
 ghost use Rattle.occ_types.specs.Fits.{unnamed as no_names};
 ghost use Rattle.occ_types.specs.View.{fields_in};
-ghost use Rattle.occ_expr.specs.Parts.{actuals as told_actuals, call as told_call, call_of_type as told_call_of_type, table_as as told_table, component as told_component, behind_a_fault as told_behind_a_fault, function_call as told_function_call, in_scope, named_element as told_named_element, no_call as told_no_call, only as only_one, own_faults, part as told_part, subscript as told_subscript, subscripts as told_subscripts, terms as terms_of, whole_element as told_whole_element};
+ghost use Rattle.occ_expr.specs.Parts.{actuals as told_actuals, call as told_call, call_of_type as told_call_of_type, table_as as told_table, component as told_component, behind_a_fault as told_behind_a_fault, function_call as told_function_call, in_scope, named_element as told_named_element, no_call as told_no_call, only as only_one, own_faults, part as told_part, segment_within as told_within, subscript as told_subscript, subscripts as told_subscripts, terms as terms_of, whole_element as told_whole_element};
 ghost use Rattle.occ_expr.specs.Drafts.{decorated_draft as drafted_table, literal_draft as drafted_literal, operand_call as operand_drafted};
 ghost use Rattle.occ_tables.specs.Terms.{hidden_faults, judged_all};
 ghost use Rattle.occ_tables.specs.declared.term.Term.TheVariants as v;
 ghost use Rattle.occ_typed.specs.declared.draft.Draft.TheVariants as d;
 ghost use Rattle.occ_expr.specs.Literals.{literal as told_literal, truth as told_truth};
 ghost use Rattle.occ_expr.specs.Elements.{component_at as selected_component, element_draft as drafted_element, place_tree as the_place, selector as the_selector, selector_in, selectors as the_selectors, with_selectors};
-ghost use Rattle.occ_expr.specs.Views.{bounds_view, call_draft as drafted_call, converted_call, decorated as told_decorated, item_drafts as drafted_items, named_tree as the_named_tree, operand_drafts as drafted_operands, whole_element_draft as drafted_whole, builtin_view, dimension_view, dimension_views, each, element_view, expr_view, expr_views, named_operand_view, operand_view, operand_views, operands as said_operands, type_form_view};
+ghost use Rattle.occ_expr.specs.Views.{bounds_view, components_of as the_components, call_draft as drafted_call, converted_call, decorated as told_decorated, item_drafts as drafted_items, named_tree as the_named_tree, operand_drafts as drafted_operands, whole_element_draft as drafted_whole, builtin_view, dimension_view, dimension_views, each, element_view, expr_view, expr_views, named_operand_view, operand_view, operand_views, operands as said_operands, type_form_view};
 ghost use Rattle.occ_expr.specs.Written.{all_spanning_faults, array_behind as written_behind, array_over as written_over, array_over_more as written_over_more, channel as written_channel, data_form as written_data, extents as the_extents};
 
 use super::calling::{one_result, operand_call};
@@ -645,8 +645,13 @@ fn segment_reading(
         Element::Named(name, exprs) => named_element(alloc, name, exprs.as_slice(), scope, faults),
         Element::Segment(whole, part, exprs) => {
             let inner = self::element(alloc, whole.get(), scope, faults)?;
-            let read = bounds(alloc, part.get(), components_of(&inner.kind), scope, faults)?;
-            let segment = segment_of(alloc, &inner.kind, &read.bounds, faults)?;
+            let (segment, selector) = segment_within(
+                alloc,
+                &inner.kind,
+                part.get(),
+                scope,
+                faults,
+            )?;
             let selectors = Some(Items::new(alloc));
             let (kind, behind) = subscripts(
                 alloc,
@@ -656,10 +661,33 @@ fn segment_reading(
                 scope,
                 faults,
             )?;
-            let tree = part_of(&kind, inner.tree, read.selector, behind)?;
+            let tree = part_of(&kind, inner.tree, selector, behind)?;
             Ok(ElementReading { kind, tree })
         }
     }
+}
+
+/// What a segment selects of what is known, and how.
+#[cycle(walk)]
+fn segment_within(
+    alloc: Global,
+    whole: &Kind,
+    part: &Bounds,
+    scope: &Scope,
+    faults: &mut Items<Fault>,
+) -> Result<(Kind, Option<Selector>), AllocError>
+    ensures kind { IfOk result (λ r. r.0 ≡ (told_within ((bounds_view part.now).said scope.now) whole.now).kind) }
+    ensures selector { IfOk result (λ r. r.1 ≡ (bounds_view part.now).tree scope.now (the_components whole.now)) }
+    ensures faults { OnOk result (faults.new ≡ faults.old ++ (told_within ((bounds_view part.now).said scope.now) whole.now).faults) }
+{
+    let components = components_of(whole);
+    let BoundsReading {
+        bounds: terms,
+        selector,
+    } = bounds(alloc, part, components, scope, faults)?;
+    let segment = segment_of(alloc, whole, &terms, faults);
+    drop(terms);
+    Ok((segment?, selector))
 }
 
 /// What is read of an element that is a whole expression: the conversion of a table of one item, if it names a data type

@@ -65,8 +65,7 @@ fn plain_input(
 ) -> Option<TypedInput>
     ensures { result ≡ told_plain_input of_timer channel targets }
 {
-    let channel = channel?;
-    let targets = targets?;
+    let (channel, targets) = channel.zip(targets)?;
     plain_of(of_timer, channel, targets)
 }
 
@@ -114,8 +113,8 @@ fn plain(
 fn after_input(timer: Option<TypedElement>, time: Option<Shared<TypedExpr>>) -> Option<TypedInput>
     ensures { result ≡ told_after_input timer time }
 {
-    let timer = timer?;
-    Some(TypedInput::After(timer, time?))
+    let (timer, time) = timer.zip(time)?;
+    Some(TypedInput::After(timer, time))
 }
 
 /// The tree of an INT of which this is read, if it has no fault.
@@ -211,7 +210,7 @@ fn tagged_input(
 ) -> Result<Option<TypedInput>, AllocError>
     ensures { IfOk result (λ tree. tree ≡ told_tagged_input channel place tag.now targets) }
 {
-    let (Some(channel), Some(targets)) = (channel, targets) else {
+    let Some((channel, targets)) = channel.zip(targets) else {
         return Ok(None);
     };
     tagged_at(alloc, channel, place, tag, targets)

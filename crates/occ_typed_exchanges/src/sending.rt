@@ -220,8 +220,8 @@ fn counted_output(
 ) -> Option<TypedOutput>
     ensures { result ≡ told_counted count array }
 {
-    let count = count?;
-    Some(TypedOutput::Counted(count, array?))
+    let (count, array) = count.zip(array)?;
+    Some(TypedOutput::Counted(count, array))
 }
 
 /// An item that is sent: what is known of it, and its tree, if it has no fault.
@@ -350,7 +350,7 @@ fn with_outputs(
 ) -> Result<Option<Items<TypedOutput>>, AllocError>
     ensures { IfOk result (λ all. all ≡ joined tag items) }
 {
-    let (Some(mut all), Some(items)) = (tag, items) else {
+    let Some((mut all, items)) = tag.zip(items) else {
         return Ok(None);
     };
     all.append(items)?;
@@ -391,8 +391,7 @@ fn sending_of(
 ) -> Option<TypedSending>
     ensures { result ≡ told_sending channel outputs }
 {
-    let channel = channel?;
-    let outputs = outputs?;
+    let (channel, outputs) = channel.zip(outputs)?;
     Some(TypedSending { channel, outputs })
 }
 

@@ -1,4 +1,12 @@
 ghost use Rattle.occ_typed_lines.specs.Constructs.{block_of as told_block, choosing as told_choosing, constructing as told_constructing, replicable as told_replicable, replicating_of as told_replicating, role_of as told_role};
+ghost use Rattle.occ_typed_exchanges.specs.Inputs.{case_faults};
+ghost use Rattle.occ_typed_exchanges.specs.Through.{through_tree};
+ghost use Rattle.occ_typed_exchanges.specs.Variants.{begun};
+ghost use Rattle.occ_typed_lines.specs.Lines.{made};
+ghost use Rattle.occ_typed_lines.specs.declared.parent.Role.TheVariants as role;
+ghost use Rattle.occ_typed_lines.specs.declared.tree.TypedForm.TheVariants as t;
+ghost use Rattle.occ_typed_statements.specs.StatementTrees.{selector_tree};
+ghost use Rattle.occ_typed_statements.specs.Statements.{selector as told_selector};
 ghost use Rattle.std.specs.Prelude.{◌≡◌, ◌++◌, IfOk, OnOk};
 
 use super::form::{case_input_form, replicated_form, selection_form, while_form};
@@ -6,6 +14,7 @@ use super::line::{main, over, plain, with_role};
 use super::parent::{Choosing, Line, Parent, Role};
 use super::tree::{BlockKind, TypedForm};
 use occ_base::{Boxed, Fault, Items};
+use occ_expression_forms::{Element, Expr};
 use occ_forms::{Construct, ConstructKind, Replicator};
 use occ_names::Scope;
 use occ_operands::Kind;
@@ -103,6 +112,38 @@ fn choosing(alloc: Global, selector: Kind) -> Result<Role, AllocError>
     Ok(Role::Selection(Boxed::new(alloc, choosing)?))
 }
 
+/// What a `CASE` says of the lines under it, and what it is.
+fn selection(
+    alloc: Global,
+    expr: &Expr,
+    scope: &Scope,
+    faults: &mut Items<Fault>,
+) -> Result<(Role, TypedForm), AllocError>
+    ensures role { IfOk result (λ r. r.0 ≡ told_choosing (told_selector scope.now expr.now).kind) }
+    ensures form { IfOk result (λ r. r.1 ≡ made t.Selection (selector_tree scope.now expr.now)) }
+    ensures faults { OnOk result (faults.new ≡ faults.old ++ (told_selector scope.now expr.now).faults) }
+{
+    let (kind, tree) = selector(alloc, expr, scope, faults)?;
+    let role = choosing(alloc, kind)?;
+    Ok((role, selection_form(tree)))
+}
+
+/// What the first line of a case input says of the lines under it, and what it is.
+fn variants(
+    alloc: Global,
+    channel: &Element,
+    scope: &Scope,
+    faults: &mut Items<Fault>,
+) -> Result<(Role, TypedForm), AllocError>
+    ensures role { IfOk result (λ r. r.0 ≡ role.Variants (begun scope.now channel.now)) }
+    ensures form { IfOk result (λ r. r.1 ≡ made t.CaseInput (through_tree scope.now channel.now)) }
+    ensures faults { OnOk result (faults.new ≡ faults.old ++ case_faults scope.now channel.now) }
+{
+    let (input, tree) = case_input(alloc, channel, scope, faults)?;
+    let input = Boxed::new(alloc, input)?;
+    Ok((Role::Variants(input), case_input_form(tree)))
+}
+
 /// The line of a construct.
 pub fn construct(
     alloc: Global,
@@ -123,14 +164,12 @@ pub fn construct(
             main(alloc, while_form(tree), next)
         }
         Construct::Case(expr) => {
-            let (kind, tree) = selector(alloc, expr, scope, faults)?;
-            let under = with_role(choosing(alloc, kind)?, &next);
-            plain(alloc, under, selection_form(tree), next)
+            let (role, form) = selection(alloc, expr, scope, faults)?;
+            plain(alloc, with_role(role, &next), form, next)
         }
         Construct::CaseInput(channel) => {
-            let (input, tree) = case_input(alloc, channel, scope, faults)?;
-            let under = with_role(Role::Variants(Boxed::new(alloc, input)?), &next);
-            plain(alloc, under, case_input_form(tree), next)
+            let (role, form) = variants(alloc, channel, scope, faults)?;
+            plain(alloc, with_role(role, &next), form, next)
         }
     }
 }

@@ -1,0 +1,13 @@
+use Rattle.std.proofs.Common.{arith}
+use Rattle.std.proofs.lemmas.Grind.{common_steps}
+use Rattle.occ_expr.proofs.DraftTypes.{type_rules}
+use Rattle.occ_expr.proofs.drafting.literal_draft.Goals as goal
+
+pub returns-in-Faulty : goal.returns-in-Faulty
+returns-in-Faulty c = grind (arith, common_steps, type_rules)
+
+pub returns-in_ok-share-in-Free : goal.returns-in_ok-share-in-Free
+returns-in_ok-share-in-Free c = grind (arith, common_steps, type_rules)
+
+pub returns-in_ok-shared-in-Known : goal.returns-in_ok-shared-in-Known
+returns-in_ok-shared-in-Known c = grind (arith, common_steps, type_rules)
