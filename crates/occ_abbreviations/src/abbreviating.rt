@@ -96,9 +96,10 @@ fn element_name(
     let Kind::Known(known) = kind else {
         return Ok(Meaning::Faulty);
     };
+    let (of, _) = known.into_parts();
     match scope.find(whole) {
         Some(Meaning::Element(whole)) => Ok(Meaning::Element(Whole {
-            of: known.of,
+            of,
             access: Access::Variable,
             value: None,
             root: whole.root.copied(alloc)?,

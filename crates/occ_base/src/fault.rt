@@ -6,10 +6,16 @@ use sqlite_items::Items;
 use std::alloc::AllocError;
 
 /// A fault of a line: its code, and the name that is told with it.
-#[derive(Drop)]
 pub struct Fault {
     pub code: Code,
     pub name: Option<Name>,
+}
+
+/// Written out: crates above call it, where each would prove a derived one anew.
+impl Drop for Fault {
+    fn drop(self) {
+        let Fault { code: _, name: _ } = self;
+    }
 }
 
 /// A fault without a name is told.

@@ -55,10 +55,19 @@ impl Edit {
 }
 
 /// An edit that was accepted, and the session that made it.
-#[derive(Drop)]
 pub struct Entry {
     pub session: u32,
     pub edit: Edit,
+}
+
+/// Written out: crates above call it, where each would prove a derived one anew.
+impl Drop for Entry {
+    fn drop(self) {
+        let Entry {
+            session: _,
+            edit: _,
+        } = self;
+    }
 }
 
 /// Why an edit is refused. Where several hold, the first of this order is told.

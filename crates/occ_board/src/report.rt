@@ -16,12 +16,21 @@ use occ_units::Graph;
 use std::alloc::{AllocError, Global};
 
 /// What a report shows of a unit.
-#[derive(Drop)]
 pub enum Shown {
     /// Its check is still to come.
     Pending,
     /// Its diagnostics, in their order, each once.
     Done(Items<Diag>),
+}
+
+/// Written out: crates above call it, where each would prove a derived one anew.
+impl Drop for Shown {
+    fn drop(self) {
+        match self {
+            Shown::Pending => {}
+            Shown::Done(_) => {}
+        }
+    }
 }
 
 /// A unit in a report.

@@ -2,7 +2,6 @@ use occ_base::{FileName, Shared};
 use occ_types::Interface;
 
 /// How a unit stands that another uses: the first of these that holds.
-#[derive(Drop)]
 pub enum Used {
     /// It is not open.
     Absent,
@@ -14,9 +13,27 @@ pub enum Used {
     Clean(Shared<Interface>),
 }
 
+/// Written out: crates above call it, where each would prove a derived one anew.
+impl Drop for Used {
+    fn drop(self) {
+        match self {
+            Used::Absent => {}
+            Used::Circular => {}
+            Used::Faulty => {}
+            Used::Clean(_) => {}
+        }
+    }
+}
+
 /// A unit that another uses, and how it stands.
-#[derive(Drop)]
 pub struct UsedUnit {
     pub unit: FileName,
     pub used: Used,
+}
+
+/// Written out: crates above call it, where each would prove a derived one anew.
+impl Drop for UsedUnit {
+    fn drop(self) {
+        let UsedUnit { unit: _, used: _ } = self;
+    }
 }

@@ -11,8 +11,6 @@ use Rattle.occ_expression_forms.specs.declared.tree.Element.{Element}
 use Rattle.occ_expression_forms.specs.declared.tree.Element.TheVariants as ev
 use Rattle.occ_expression_forms.specs.declared.tree.Expr.{Expr}
 use Rattle.occ_expression_forms.specs.declared.tree.Expr.TheVariants as xv
-use Rattle.occ_expression_forms.specs.declared.tree.Extreme.{Extreme}
-use Rattle.occ_expression_forms.specs.declared.tree.MonadicOperator.{MonadicOperator}
 use Rattle.occ_expression_forms.specs.declared.tree.NamedOperand.{NamedOperand}
 use Rattle.occ_expression_forms.specs.declared.tree.NamedOperand.TheVariants as nv
 use Rattle.occ_expression_forms.specs.declared.tree.Operand.{Operand}
@@ -31,14 +29,14 @@ use Rattle.occ_tables.specs.declared.term.Term.{Term}
 use Rattle.occ_types.specs.declared.constant.Operator.{Operator}
 use Rattle.occ_types.specs.declared.types.OccType.{OccType}
 use Rattle.occ_types.specs.declared.value.Primitive.{Primitive}
-use Rattle.occ_expr.specs.Operations.{applied, converted, extreme_of, operation, pair, run_operator}
+use Rattle.occ_expr.specs.Operations.{converted, operation, pair, run_operator}
 use Rattle.occ_expr.specs.Parts.{in_scope, own_faults, segment_within, subscripts, table_as, terms}
 use Rattle.occ_typed.specs.declared.expr.Selector.{Selector}
 use Rattle.occ_typed.specs.declared.expr.TypedElement.{TypedElement}
 use Rattle.occ_expr.specs.Elements.{selectors, with_selectors}
 use Rattle.occ_expr.proofs.Fields.{none_in_front}
 use Rattle.occ_expr.specs.Views.{bounds_view, components_of, part_of, builtin_view, dimension_view, dimension_views, each, element_view, expr_view, expr_views, named_operand_view, operand_view, operand_views, operands, type_form_view}
-use Rattle.occ_expr.specs.Written.{array_behind, array_over, channel, count_type, counted_type, data_form}
+use Rattle.occ_expr.specs.Written.{array_behind, channel, count_type, counted_type, data_form}
 use Rattle.occ_expr.specs.declared.written.Extent.{Extent}
 use Rattle.occ_expr.specs.declared.written.Opening.{Opening}
 use Rattle.occ_expr.specs.declared.written.Opening.TheVariants as opening
@@ -53,28 +51,6 @@ three old a b c m n e h k l = two old (a ++ b) c n e (two old a b m n h k) l
 three_right : (old a b c m n e : List Fault) → m ≡ old ++ a → n ≡ m ++ b → e ≡ n ++ c → e ≡ old ++ (a ++ (b ++ c))
 three_right old a b c m n e h k l = three old a b c m n e h k l ∙ ap (λ z. old ++ z) (append_assoc a b c)
 
-pub most_faults : (x : Expr) (w : Extreme) (of : TypeForm) (s : Scope) (to : Option OccType) (old m e : List Fault)
-    → x ≡ xv.Most w of
-    → m ≡ old ++ (type_form_view of opening.Refused s).faults
-    → to ≡ (type_form_view of opening.Refused s).found
-    → e ≡ m ++ (extreme_of w to).faults
-    → e ≡ old ++ ((expr_view x).said s).faults
-most_faults x w of s to old m e is h f k =
-    subst (λ (y : Expr). e ≡ old ++ ((expr_view y).said s).faults) (sym is)
-    (two _ _ _ _ _ h (k ∙ ap (λ (z : Option OccType). m ++ (extreme_of w z).faults) f) ∙ ap (λ z. old ++ z.faults) (sym (views.expr_most_said w of s)))
-
-pub applied_faults : {T E : Type 0} (r : Result T E) (x : Expr) (op : MonadicOperator) (o : Operand) (s : Scope) (digits : Option ℕ) (term : Term) (old m e : List Fault)
-    → x ≡ xv.Applied op o
-    → m ≡ old ++ ((operand_view o).said s).faults
-    → term ≡ ((operand_view o).said s).term
-    → digits ≡ (operand_view o).digits
-    → OnOk r (e ≡ m ++ (applied op digits (judged term)).faults)
-    → OnOk r (e ≡ old ++ ((expr_view x).said s).faults)
-applied_faults r x op o s digits term old m e is h f g told =
-    on_ok_weaker r (λ k.
-    subst (λ (y : Expr). e ≡ old ++ ((expr_view y).said s).faults) (sym is)
-    (two _ _ _ _ _ h (k ∙ ap (λ (z : Option ℕ). m ++ (applied op z (judged term)).faults) g ∙ ap (λ (z : Term). m ++ (applied op (operand_view o).digits (judged z)).faults) f) ∙ ap (λ z. old ++ z.faults) (sym (views.expr_applied_said op o s)))) told
-
 pub pair_faults : {T E : Type 0} (r : Result T E) (x : Expr) (a : Operand) (op : PairOperator) (b : Operand) (s : Scope) (ta tb : Term) (old m n e : List Fault)
     → x ≡ xv.Pair a op b
     → m ≡ old ++ ((operand_view a).said s).faults
@@ -87,19 +63,6 @@ pair_faults r x a op b s ta tb old m n e is h f i g told =
     on_ok_weaker r (λ k.
     subst (λ (y : Expr). e ≡ old ++ ((expr_view y).said s).faults) (sym is)
     (three _ _ _ _ _ _ _ h i (k ∙ ap (λ (z : Term). n ++ (pair op (judged z) (judged tb)).faults) f ∙ ap (λ (z : Term). n ++ (pair op (judged ((operand_view a).said s).term) (judged z)).faults) g) ∙ ap (λ z. old ++ z.faults) (sym (views.expr_pair_said a op b s)))) told
-
-pub named_conversion_faults : {T E : Type 0} (r : Result T E) (x : Expr) (name : List ℕ) (o : NamedOperand) (s : Scope) (to : Option OccType) (term : Term) (old m n e : List Fault)
-    → x ≡ xv.Named name o
-    → m ≡ old ++ (array_over [] (data_type name (visible s name))).faults
-    → to ≡ (array_over [] (data_type name (visible s name))).found
-    → n ≡ m ++ ((named_operand_view o).said s).faults
-    → term ≡ ((named_operand_view o).said s).term
-    → OnOk r (e ≡ n ++ (converted to (judged term)).faults)
-    → OnOk r (e ≡ old ++ ((expr_view x).said s).faults)
-named_conversion_faults r x name o s to term old m n e is h f i g told =
-    on_ok_weaker r (λ k.
-    subst (λ (y : Expr). e ≡ old ++ ((expr_view y).said s).faults) (sym is)
-    (three _ _ _ _ _ _ _ h i (k ∙ ap (λ (z : Option OccType). n ++ (converted z (judged term)).faults) f ∙ ap (λ (z : Term). n ++ (converted (array_over [] (data_type name (visible s name))).found (judged z)).faults) g) ∙ ap (λ z. old ++ z.faults) (sym (views.expr_named_said name o s)))) told
 
 pub table_faults : (x : Operand) (a : Expr) (es : List Expr) (s : Scope) (old m e : List Fault)
     → x ≡ ov.Table a es

@@ -36,7 +36,7 @@ pub use measured::{Measured, any_has_many_dimensions};
 pub use reader::expression;
 pub use rows::spelling_rows;
 pub use shape_rows::{bracket_rows, dimension_rows, mark_rows};
-pub use token_reader::{after, after_word, first, name};
+pub use token_reader::{after, after_word, name};
 pub use tree::{
     Bounds, Builtin, ChannelWords, DataBase, DataForm, Dimension, Element, Expr, Extreme, Literal,
     MonadicOperator, NamedOperand, Operand, PairOperator, PrimitiveWord, RunOperator, TypeForm,

@@ -13,7 +13,6 @@ use std::alloc::{AllocError, Global};
 use std::marker::Model;
 
 /// A graph, with what its nodes rest on and from where edges lead to them. In contracts it is the graph.
-#[derive(Drop)]
 pub struct Linked {
     /// Of each node those to which edges lead from it.
     edges: Vec<Items<usize>>,
@@ -21,6 +20,17 @@ pub struct Linked {
     rests: Option<Vec<Items<usize>>>,
     /// Of each node those from which edges lead to it, in order.
     sources: Vec<Items<usize>>,
+}
+
+/// Written out: crates above call it, where each would prove a derived one anew.
+impl Drop for Linked {
+    fn drop(self) {
+        let Linked {
+            edges: _,
+            rests: _,
+            sources: _,
+        } = self;
+    }
 }
 
 impl Model for Linked {

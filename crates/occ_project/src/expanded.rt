@@ -7,13 +7,23 @@ use occ_forms::Form;
 use std::marker::Model;
 
 /// What a line of an expansion holds.
-#[derive(Drop)]
 pub enum ExpandedBody {
     Form(Shared<Form>),
     /// A `#USE`: the units whose exports are visible from here on.
     Uses(Items<FileName>),
     /// The one fault of the line: `L1`, `L2`, `L3`, `L4`, `S1` or `S3`.
     Fault(Code),
+}
+
+/// Written out: crates above call it, where each would prove a derived one anew.
+impl Drop for ExpandedBody {
+    fn drop(self) {
+        match self {
+            ExpandedBody::Form(_) => {}
+            ExpandedBody::Uses(_) => {}
+            ExpandedBody::Fault(_) => {}
+        }
+    }
 }
 
 /// Where a line stands.
@@ -25,7 +35,6 @@ pub struct Place {
 }
 
 /// A line of an expansion.
-#[derive(Drop)]
 pub struct ExpandedLine {
     /// The file in which it stands.
     pub file: FileName,
@@ -34,6 +43,18 @@ pub struct ExpandedLine {
     /// The number of levels that it stands in, those of the directives that include its file counted.
     pub depth: u64,
     pub body: ExpandedBody,
+}
+
+/// Written out: crates above call it, where each would prove a derived one anew.
+impl Drop for ExpandedLine {
+    fn drop(self) {
+        let ExpandedLine {
+            file: _,
+            line: _,
+            depth: _,
+            body: _,
+        } = self;
+    }
 }
 
 impl ExpandedLine {
@@ -59,11 +80,21 @@ impl ExpandedLine {
 }
 
 /// The expansion of a unit.
-#[derive(Drop)]
 pub struct Expanded {
     lines: Items<ExpandedLine>,
     reads: Items<FileName>,
     faults: Items<Diag>,
+}
+
+/// Written out: crates above call it, where each would prove a derived one anew.
+impl Drop for Expanded {
+    fn drop(self) {
+        let Expanded {
+            lines: _,
+            reads: _,
+            faults: _,
+        } = self;
+    }
 }
 
 impl Model for Expanded {
@@ -110,7 +141,12 @@ impl Expanded {
         ensures lines { result.0 ≡ self.lines }
         ensures faults { result.1 ≡ self.faults }
     {
-        (self.lines, self.faults)
+        let Expanded {
+            lines,
+            reads: _,
+            faults,
+        } = self;
+        (lines, faults)
     }
 
     /// The names that were looked up, the unit first, each once, in the order of their first look-ups. Those of absent

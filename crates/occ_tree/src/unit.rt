@@ -13,10 +13,16 @@ use std::alloc::{AllocError, Global};
 use thiserror::Error;
 
 /// The trees of a unit.
-#[derive(Drop)]
 pub struct Unit {
     /// The lines that stand under no other, in their order.
     pub roots: Items<Node>,
+}
+
+/// Written out: crates above call it, where each would prove a derived one anew.
+impl Drop for Unit {
+    fn drop(self) {
+        let Unit { roots: _ } = self;
+    }
 }
 
 /// Why lines have no shape.

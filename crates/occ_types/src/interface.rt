@@ -3,13 +3,18 @@ use occ_base::{Items, Name, Shared};
 
 /// What a unit shows to those that use it: its exports in order of declaration. It has no line numbers, no
 /// comments and no names of formals.
-#[derive(Drop)]
 pub struct Interface {
     pub exports: Items<Export>,
 }
 
+/// Written out: crates above call it, where each would prove a derived one anew.
+impl Drop for Interface {
+    fn drop(self) {
+        let Interface { exports: _ } = self;
+    }
+}
+
 /// A PROC or a FUNCTION that a unit exports.
-#[derive(Drop)]
 pub struct Export {
     pub name: Name,
     pub kind: ExportKind,
@@ -20,6 +25,20 @@ pub struct Export {
     pub uses: Items<FormalUse>,
     /// Whether the body has an input, an output, a PAR or an ALT.
     pub effect: Effect,
+}
+
+/// Written out: crates above call it, where each would prove a derived one anew.
+impl Drop for Export {
+    fn drop(self) {
+        let Export {
+            name: _,
+            kind: _,
+            formals: _,
+            results: _,
+            uses: _,
+            effect: _,
+        } = self;
+    }
 }
 
 /// Whether an export is a PROC or a FUNCTION.
@@ -38,10 +57,16 @@ pub enum Effect {
 
 /// A formal, as a call sees it: of a procedure or function in scope as of one that a unit exports. Its type is shared,
 /// so that an interface is made from what a scope holds.
-#[derive(Drop)]
 pub struct Formal {
     pub of: Shared<OccType>,
     pub passing: Passing,
+}
+
+/// Written out: crates above call it, where each would prove a derived one anew.
+impl Drop for Formal {
+    fn drop(self) {
+        let Formal { of: _, passing: _ } = self;
+    }
 }
 
 /// Whether a formal is VAL.
@@ -52,12 +77,22 @@ pub enum Passing {
 }
 
 /// A use of a part of a formal.
-#[derive(Drop)]
 pub struct FormalUse {
     /// Which of the formals it is, from 0.
     pub formal: u32,
     pub selectors: Items<PartSelector>,
     pub kind: UseKind,
+}
+
+/// Written out: crates above call it, where each would prove a derived one anew.
+impl Drop for FormalUse {
+    fn drop(self) {
+        let FormalUse {
+            formal: _,
+            selectors: _,
+            kind: _,
+        } = self;
+    }
 }
 
 /// What a use does with its part.

@@ -14,12 +14,21 @@ use std::alloc::{AllocError, Global};
 use thiserror::Error;
 
 /// The typed tree of a unit.
-#[derive(Drop)]
 pub struct Typed {
     /// The lines that stand under no other, in their order.
     pub lines: Items<TypedLine>,
     /// Where the processes stand, each at the place of its number.
     pub processes: Items<Place>,
+}
+
+/// Written out: crates above call it, where each would prove a derived one anew.
+impl Drop for Typed {
+    fn drop(self) {
+        let Typed {
+            lines: _,
+            processes: _,
+        } = self;
+    }
 }
 
 /// Why a unit has no typed tree.

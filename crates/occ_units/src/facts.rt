@@ -18,12 +18,21 @@ pub fn is_name_among(names: &[FileName], name: FileName) -> bool
 }
 
 /// What is known of a file of a project.
-#[derive(Drop)]
 pub struct Facts {
     /// Its expansion, if it is a unit.
     pub expanded: Option<Shared<Expanded>>,
     /// The units that it uses, in order of name.
     pub uses: Items<FileName>,
+}
+
+/// Written out: crates above call it, where each would prove a derived one anew.
+impl Drop for Facts {
+    fn drop(self) {
+        let Facts {
+            expanded: _,
+            uses: _,
+        } = self;
+    }
 }
 
 /// The names that the expansion of a file looks up, if it has one.

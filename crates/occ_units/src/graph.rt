@@ -66,7 +66,6 @@ fn is_place_among(places: &[usize], place: usize) -> bool
 
 /// What the units of a project read and use, and which of them in circles. In contracts it is the project: all that it
 /// answers is what the definitions give of that.
-#[derive(Drop)]
 pub struct Graph {
     project: Project,
     /// What is known of each file, in order of name.
@@ -78,6 +77,19 @@ pub struct Graph {
     readers: Option<Items<Items<usize>>>,
     /// Whether it is known that no file reads or uses one that is not there.
     settled: bool,
+}
+
+/// Written out: crates above call it, where each would prove a derived one anew.
+impl Drop for Graph {
+    fn drop(self) {
+        let Graph {
+            project: _,
+            facts: _,
+            links: _,
+            readers: _,
+            settled: _,
+        } = self;
+    }
 }
 
 impl Model for Graph {

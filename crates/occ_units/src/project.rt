@@ -14,9 +14,15 @@ use std::alloc::{AllocError, Global};
 use std::marker::Model;
 
 /// Files in order of name, each with the number of the edit that gave it its text or took it away.
-#[derive(Drop)]
 pub struct Project {
     files: Vec<Read>,
+}
+
+/// Written out: crates above call it, where each would prove a derived one anew.
+impl Drop for Project {
+    fn drop(self) {
+        let Project { files: _ } = self;
+    }
 }
 
 impl Model for Project {
