@@ -8,6 +8,7 @@ use occ_types::{Effect, Value};
 use std::alloc::{AllocError, Global};
 
 /// What a specification in scope is for the uses of parts.
+#[derive(Drop)]
 pub enum Bound {
     /// A variable, a channel or a formal that is not VAL, with its name.
     Root(Name),
@@ -22,19 +23,6 @@ pub enum Bound {
     Body(Items<Use>, Effect),
     /// A type, a protocol or a timer.
     Other,
-}
-
-/// Written out: crates above call it, where each would prove a derived one anew.
-impl Drop for Bound {
-    fn drop(self) {
-        match self {
-            Bound::Root(_) => {}
-            Bound::Value(_, _, _) => {}
-            Bound::Abbreviation(_, _, _) => {}
-            Bound::Body(_, _) => {}
-            Bound::Other => {}
-        }
-    }
 }
 
 /// The value of a specification, if it is known.

@@ -10,6 +10,7 @@ use occ_types::UseKind;
 use std::alloc::{AllocError, Global};
 
 /// A call that is evaluated.
+#[derive(Drop)]
 pub struct Call {
     /// The number of the specification that is called.
     pub callee: usize,
@@ -19,18 +20,6 @@ pub struct Call {
     pub reads: Items<Use>,
     /// What its body uses.
     pub uses: Items<Use>,
-}
-
-/// Written out: crates above call it, where each would prove a derived one anew.
-impl Drop for Call {
-    fn drop(self) {
-        let Call {
-            callee: _,
-            places: _,
-            reads: _,
-            uses: _,
-        } = self;
-    }
 }
 
 /// A use of a place, if it is one that is used.

@@ -6,15 +6,9 @@ use std::marker::Model;
 
 /// The abbreviations by whose names a use is made, by the numbers of their specifications: in contracts their list. Most uses
 /// are made by none, and then it takes the room of a pointer and no memory beside it.
+#[derive(Drop)]
 pub struct Chain {
     numbers: Option<Boxed<Items<usize>>>,
-}
-
-/// Written out: crates above call it, where each would prove a derived one anew.
-impl Drop for Chain {
-    fn drop(self) {
-        let Chain { numbers: _ } = self;
-    }
 }
 
 impl Model for Chain {
