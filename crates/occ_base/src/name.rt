@@ -16,16 +16,9 @@ use std::marker::Model;
 const SHORT: usize = 16;
 
 /// A name in the text of a program, or what a diagnostic names: its bytes, in contracts and in order.
-#[derive(Debug)]
+#[derive(Debug, Drop)]
 pub struct Name {
     bytes: SmallVec<u8, SHORT>,
-}
-
-/// Written out: crates above call it, where each would prove a derived one anew.
-impl Drop for Name {
-    fn drop(self) {
-        let Name { bytes: _ } = self;
-    }
 }
 
 impl Model for Name {
