@@ -96,10 +96,9 @@ fn element_name(
     let Kind::Known(known) = kind else {
         return Ok(Meaning::Faulty);
     };
-    let (of, _) = known.into_parts();
     match scope.find(whole) {
         Some(Meaning::Element(whole)) => Ok(Meaning::Element(Whole {
-            of,
+            of: known.of,
             access: Access::Variable,
             value: None,
             root: whole.root.copied(alloc)?,

@@ -17,6 +17,7 @@ pub enum Access {
 }
 
 /// All of what an element may name.
+#[derive(Drop)]
 pub struct Whole {
     pub of: Shared<OccType>,
     pub access: Access,
@@ -27,19 +28,8 @@ pub struct Whole {
     pub root: Name,
 }
 
-/// Written out: crates above call it, where each would prove a derived one anew.
-impl Drop for Whole {
-    fn drop(self) {
-        let Whole {
-            of: _,
-            access: _,
-            value: _,
-            root: _,
-        } = self;
-    }
-}
-
 /// What a name stands for.
+#[derive(Drop)]
 pub enum Meaning {
     /// The line that specifies it has a fault: where it is used, nothing is told of it.
     Faulty,
@@ -54,53 +44,21 @@ pub enum Meaning {
     Element(Whole),
 }
 
-/// Written out: crates above call it, where each would prove a derived one anew.
-impl Drop for Meaning {
-    fn drop(self) {
-        match self {
-            Meaning::Faulty => {}
-            Meaning::Type(_) => {}
-            Meaning::Protocol(_) => {}
-            Meaning::Procedure(_) => {}
-            Meaning::Function(_, _) => {}
-            Meaning::Element(_) => {}
-        }
-    }
-}
-
 /// A name, and what it stands for.
+#[derive(Drop)]
 pub struct Entry {
     pub name: Name,
     pub meaning: Shared<Meaning>,
 }
 
-/// Written out: crates above call it, where each would prove a derived one anew.
-impl Drop for Entry {
-    fn drop(self) {
-        let Entry {
-            name: _,
-            meaning: _,
-        } = self;
-    }
-}
-
 /// The specification that a name stands for at a place in a unit.
+#[derive(Drop)]
 pub struct Referent {
     /// Which of the specifications in scope at that place it is: how many stand round it. Of those that are in scope
     /// together no two have one number; of those of items beside each other two may.
     pub spec: SpecId,
     /// What it gives its name to mean.
     pub meaning: Shared<Meaning>,
-}
-
-/// Written out: crates above call it, where each would prove a derived one anew.
-impl Drop for Referent {
-    fn drop(self) {
-        let Referent {
-            spec: _,
-            meaning: _,
-        } = self;
-    }
 }
 
 /// A name that comes into scope alone.

@@ -7,19 +7,10 @@ use occ_scope::Scopes;
 use std::alloc::{AllocError, Global};
 
 /// The specifications in scope at a place, each with what its name stands for: the last is the nearest.
+#[derive(Drop)]
 pub struct Scope {
     names: Scopes,
     meanings: Items<Shared<Meaning>>,
-}
-
-/// Written out: crates above call it, where each would prove a derived one anew.
-impl Drop for Scope {
-    fn drop(self) {
-        let Scope {
-            names: _,
-            meanings: _,
-        } = self;
-    }
 }
 
 impl Scope {

@@ -1,31 +1,12 @@
-ghost use Rattle.std.specs.Prelude.{◌≡◌};
-
 use super::loose::Loose;
 use occ_base::Shared;
 use occ_types::{OccType, Value};
 
 /// The type of an operand, and its value where it is constant.
+#[derive(Drop)]
 pub struct Known {
     pub of: Shared<OccType>,
     pub value: Option<Value>,
-}
-
-/// Written out: crates above call it, where each would prove a derived one anew.
-impl Drop for Known {
-    fn drop(self) {
-        let Known { of: _, value: _ } = self;
-    }
-}
-
-impl Known {
-    /// The type and the value, moved out.
-    pub fn into_parts(self) -> (Shared<OccType>, Option<Value>)
-        ensures of { result.0 ≡ self.of }
-        ensures value { result.1 ≡ self.value }
-    {
-        let Known { of, value } = self;
-        (of, value)
-    }
 }
 
 /// What is wrong with an expression in a type that each of its literals fits.

@@ -17,15 +17,9 @@ enum Stored {
 }
 
 /// A free expression: in contracts what it comes to in each type.
+#[derive(Drop)]
 pub struct Loose {
     stored: Stored,
-}
-
-/// Written out: crates above call it, where each would prove a derived one anew.
-impl Drop for Loose {
-    fn drop(self) {
-        let Loose { stored: _ } = self;
-    }
 }
 
 impl Model for Loose {

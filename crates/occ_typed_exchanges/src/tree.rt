@@ -2,23 +2,13 @@ use occ_base::{Items, Name, Shared};
 use occ_typed::{TypedElement, TypedExpr};
 
 /// What an output sends as one.
+#[derive(Drop)]
 pub enum TypedOutput {
     Value(Shared<TypedExpr>),
     /// How many components, and the array.
     Counted(Shared<TypedExpr>, Shared<TypedExpr>),
     /// The tag at this place of its protocol, and its name.
     Tag(usize, Name),
-}
-
-/// Written out: crates above call it, where each would prove a derived one anew.
-impl Drop for TypedOutput {
-    fn drop(self) {
-        match self {
-            TypedOutput::Value(_) => {}
-            TypedOutput::Counted(_, _) => {}
-            TypedOutput::Tag(_, _) => {}
-        }
-    }
 }
 
 /// What an input receives as one.
@@ -30,6 +20,7 @@ pub enum TypedTarget {
 }
 
 /// An input, as a process or as a guard.
+#[derive(Drop)]
 pub enum TypedInput {
     /// `el ? i; ..` of a channel.
     Plain(TypedElement, Items<TypedTarget>),
@@ -39,16 +30,4 @@ pub enum TypedInput {
     After(TypedElement, Shared<TypedExpr>),
     /// `el ? CASE n; i; ..`: the channel, the place of the tag in its protocol and its name, and the targets.
     Tagged(TypedElement, usize, Name, Items<TypedTarget>),
-}
-
-/// Written out: crates above call it, where each would prove a derived one anew.
-impl Drop for TypedInput {
-    fn drop(self) {
-        match self {
-            TypedInput::Plain(_, _) => {}
-            TypedInput::Time(_, _) => {}
-            TypedInput::After(_, _) => {}
-            TypedInput::Tagged(_, _, _, _) => {}
-        }
-    }
 }

@@ -21,6 +21,7 @@ use std::alloc::{AllocError, Global};
 use std::slice;
 
 /// What is known of a case input behind some of its variants.
+#[derive(Drop)]
 pub struct CaseInput {
     /// What is known of what it receives through.
     pub channel: Kind,
@@ -28,17 +29,6 @@ pub struct CaseInput {
     pub root: Name,
     /// The tags of the variants.
     pub tags: Scopes,
-}
-
-/// Written out: crates above call it, where each would prove a derived one anew.
-impl Drop for CaseInput {
-    fn drop(self) {
-        let CaseInput {
-            channel: _,
-            root: _,
-            tags: _,
-        } = self;
-    }
 }
 
 /// `el ? CASE`: what is known of it before its first variant, and the tree of what it receives through.

@@ -19,6 +19,7 @@ pub enum BlockKind {
 }
 
 /// What stands behind the `&` of a guard.
+#[derive(Drop)]
 pub enum TypedGuard {
     /// `SKIP`
     Skip,
@@ -27,18 +28,8 @@ pub enum TypedGuard {
     CaseInput(TypedElement),
 }
 
-/// Written out: crates above call it, where each would prove a derived one anew.
-impl Drop for TypedGuard {
-    fn drop(self) {
-        match self {
-            TypedGuard::Skip => {}
-            TypedGuard::Input(_) => {}
-            TypedGuard::CaseInput(_) => {}
-        }
-    }
-}
-
 /// What a line is, once its names and expressions are typed.
+#[derive(Drop)]
 pub enum TypedForm {
     /// `t n, ..:`
     Declaration,
@@ -106,45 +97,4 @@ pub enum TypedForm {
     Results(Items<Shared<TypedExpr>>),
     /// A line that has a fault.
     Unknown,
-}
-
-/// Written out: crates above call it, where each would prove a derived one anew.
-impl Drop for TypedForm {
-    fn drop(self) {
-        match self {
-            TypedForm::Declaration => {}
-            TypedForm::Abbreviation(_) => {}
-            TypedForm::Retyped(_) => {}
-            TypedForm::Value(_) => {}
-            TypedForm::RetypedValue(_) => {}
-            TypedForm::OneLineFunction(_, _) => {}
-            TypedForm::DataType => {}
-            TypedForm::Protocol => {}
-            TypedForm::Uses(_) => {}
-            TypedForm::ProcedureHead => {}
-            TypedForm::FunctionHead => {}
-            TypedForm::RecordHead => {}
-            TypedForm::ProtocolHead => {}
-            TypedForm::Member => {}
-            TypedForm::Close => {}
-            TypedForm::Skip => {}
-            TypedForm::Stop => {}
-            TypedForm::Assignment(_, _) => {}
-            TypedForm::Output(_, _) => {}
-            TypedForm::Input(_) => {}
-            TypedForm::Instance(_, _) => {}
-            TypedForm::Block(_, _) => {}
-            TypedForm::While(_) => {}
-            TypedForm::Selection(_) => {}
-            TypedForm::CaseInput(_) => {}
-            TypedForm::Condition(_) => {}
-            TypedForm::Options(_) => {}
-            TypedForm::Otherwise => {}
-            TypedForm::Guard(_, _) => {}
-            TypedForm::Variant(_, _, _) => {}
-            TypedForm::ValueOf => {}
-            TypedForm::Results(_) => {}
-            TypedForm::Unknown => {}
-        }
-    }
 }

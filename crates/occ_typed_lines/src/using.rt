@@ -7,19 +7,10 @@ use occ_types::{Export, ExportKind, Formal, Interface, OccType};
 use std::alloc::{AllocError, Global};
 
 /// A unit that another uses: its file, and what it exports.
+#[derive(Drop)]
 pub struct Import {
     pub unit: FileName,
     pub interface: Shared<Interface>,
-}
-
-/// Written out: crates above call it, where each would prove a derived one anew.
-impl Drop for Import {
-    fn drop(self) {
-        let Import {
-            unit: _,
-            interface: _,
-        } = self;
-    }
 }
 
 /// Formals once more, which share their types.

@@ -154,15 +154,12 @@ pub fn value_name(alloc: Global, kind: Kind, name: &Name) -> Result<Meaning, All
     ensures { IfOk result (λ meaning. meaning ≡ told_name kind name.now) }
 {
     match kind {
-        Kind::Known(known) => {
-            let (of, value) = known.into_parts();
-            Ok(Meaning::Element(Whole {
-                of,
-                access: Access::Value,
-                value,
-                root: name.copied(alloc)?,
-            }))
-        }
+        Kind::Known(known) => Ok(Meaning::Element(Whole {
+            of: known.of,
+            access: Access::Value,
+            value: known.value,
+            root: name.copied(alloc)?,
+        })),
         Kind::Faulty => Ok(Meaning::Faulty),
         Kind::Free(_) => Ok(Meaning::Faulty),
     }
