@@ -1,4 +1,4 @@
--- What a typed line is, passed on to those who read typed trees.
+-- What a typed line is, and what a `#USE` brings, passed on to those who read typed trees.
 pub use Rattle.occ_typed_lines.specs.Using.{entries_of}
 pub use Rattle.occ_typed_lines.specs.declared.tree.BlockKind.{BlockKind}
 pub use Rattle.occ_typed_lines.specs.declared.tree.TypedForm.{TypedForm}
