@@ -7,8 +7,8 @@ use Rattle.std.proofs.lemmas.List.Edits.{map_over_more}
 use Rattle.occ_graph.specs.Adding.{raised, with_node}
 use Rattle.occ_graph.specs.Graph.{Graph, IsWhole, all_rests, is_among, is_circular, rests, targets}
 use Rattle.occ_graph.specs.Sources.{once_each, sources}
-use Rattle.occ_graph.specs.inside.Linking.{IsLinked, before, behind, others, sources_then, sources_till, with_rows}
-use Rattle.occ_graph.proofs.Added.{all_rests_then, among_raised, here_or, long_then, none_by, not_among, not_both, once_none, passed, raised_above, raised_apart, raised_below, rests_long, rests_there, row_new, row_then, sources_moved, sources_new, sources_raised}
+use Rattle.occ_graph.specs.inside.Linking.{AreBefore, IsLinked, before, behind, others, sources_then, sources_till, top_then, with_rows}
+use Rattle.occ_graph.proofs.Added.{all_rests_then, among_raised, here_or, long_then, none_by, not_among, not_both, once_none, passed, raised_above, raised_apart, raised_below, rests_there, row_new, row_then, sources_moved, sources_new, sources_raised}
 use Rattle.occ_graph.proofs.Turned.{only}
 use Rattle.occ_graph.proofs.Ways.{edge_below, first_holds, second_holds}
 
@@ -152,19 +152,16 @@ rows_at f g (w ∷ ws) q lt = by (w == q) refl (rows_at f g ws q lt) where
       ap (λ (x : ℕ). get_or (slice_set (with_rows g ws (map f ws)) x (f x)) q []) same ∙ set_here (with_rows g ws (map f ws)) q (f q) (omega (arith, lt, long))
   by false e rest = set_apart (with_rows g ws (map f ws)) w q (f w) (eqb-false w q e) ∙ rest
 
--- rows of a graph are whole with it
-pub rests_whole : (g : Graph) → IsWhole g → IsWhole (all_rests g)
-rests_whole g whole u v h =
+-- what a graph rests on and the graph turned round stay within it
+pub rests_before : (g : Graph) (top : ℕ) → AreBefore g top → AreBefore (all_rests g) top
+rests_before g top before u v h =
     let there : is_among (rests g u) v ≡ true = ap (λ (ws : List ℕ). is_among ws v) (sym (rests_there g u)) ∙ h in
-    let edge = whole u v (passed (λ w. not (is_circular g u w)) (targets g u) v there) in
-    let long = rests_long g 0 (length g) in
-    omega (arith, edge, long)
+    before u v (passed (λ w. not (is_circular g u w)) (targets g u) v there)
 
-pub turned_whole : (g kept turned : Graph) → IsLinked g kept turned → IsWhole turned
-turned_whole g kept turned h v u e =
-    let len = h.len in
+pub turned_whole : (g turned : Graph) → length turned ≡ length g → ((v : ℕ) → v < length g → get_or turned v [] ≡ sources g v) → IsWhole turned
+turned_whole g turned len are v u e =
     let row = edge_below turned v u e in
-    let there : is_among (sources g v) u ≡ true = ap (λ (ws : List ℕ). is_among ws u) (sym (h.sources_are v (omega (arith, row, len)))) ∙ e in
+    let there : is_among (sources g v) u ≡ true = ap (λ (ws : List ℕ). is_among ws u) (sym (are v (omega (arith, row, len)))) ∙ e in
     let edge = edge_below g u v (only g u v there) in
     omega (arith, edge, len)
 
@@ -195,8 +192,29 @@ whole_then g p ws h whole within u v e = elim (here_or p u) [
       omega (arith, lt, same, long)
 ]
 
+-- a node comes alone: what stood before a place does then
+before_then : (g : Graph) (p top : ℕ) → p ≤ length g → AreBefore g top → AreBefore (with_node g p []) (cond (nat_lt p top) (top + 1) top)
+before_then g p top h before u v e = elim (here_or p u) [
+  | inl k ↦
+      let none : is_among [] v ≡ true = ap (λ (xs : List ℕ). is_among xs v) (sym (row_new g p [] h) ∙ ap (λ (x : ℕ). get_or (with_node g p []) x []) (sym k)) ∙ e in
+      absurd (not_both (is_among [] v) none refl)
+  | inr there ↦
+      let edge : is_among (map (raised p) (targets g there.0)) v ≡ true = ap (λ (xs : List ℕ). is_among xs v) (sym (row_then g p [] h there.0) ∙ ap (λ (x : ℕ). get_or (with_node g p []) x []) there.1) ∙ e in
+      let from = among_lowered p (targets g there.0) v edge in
+      let lt = before there.0 from.0 from.1.1 in
+      let same = from.1.0 in
+      elim (cases_lt p top) [
+        | inl below ↦
+            let within = raised_within p from.0 top lt in
+            subst (λ (b : Bool). v < cond b (top + 1) top) (sym (lt-ltb p top below)) (omega (arith, within, same))
+        | inr above ↦
+            let stays = raised_below p from.0 (omega (arith, lt, above)) in
+            subst (λ (b : Bool). v < cond b (top + 1) top) (sym (le-ltb p top above)) (omega (arith, lt, same, stays))
+      ]
+]
+
 -- all that is kept
-module _ (g kept turned : Graph) (p : ℕ) (ws : List ℕ) (is : IsLinked g kept turned) (h : p ≤ length g) where
+module _ (g kept turned : Graph) (top p : ℕ) (ws : List ℕ) (is : IsLinked g kept turned top) (h : p ≤ length g) where
   place : p ≤ length turned
   place = let len = is.len in omega (arith, h, len)
 
@@ -256,21 +274,66 @@ module _ (g kept turned : Graph) (p : ℕ) (ws : List ℕ) (is : IsLinked g kept
             subst (λ (x : ℕ). cond (is_among ws x) (sources_then turned p ws x) (get_or (with_node turned p []) x []) ≡ sources (with_node g p ws) x) there.1 (by_test (raised p there.0) (is_among ws (raised p there.0)) refl (then_raised there.0 below) (moved there.0 below))
       ]
 
-  pub linked_then : ((v : ℕ) → is_among ws v ≡ true → v ≤ length g) → (edges rests_then turned_then : Graph) (alone : List ℕ) (found : List (List ℕ)) → edges ≡ with_node g p ws → alone ≡ others p ws → found ≡ map (sources_then turned p ws) ws
-      → rests_then ≡ with_node kept p alone → turned_then ≡ with_rows (with_node turned p []) ws found → IsLinked edges rests_then turned_then
-  linked_then within edges rests_then turned_then alone found e a f r t =
-      subst (λ (x : Graph). IsLinked x rests_then turned_then) (sym e) (subst (λ (x : Graph). IsLinked (with_node g p ws) x turned_then) (sym rests_is) (subst (λ (x : Graph). IsLinked (with_node g p ws) (all_rests (with_node g p ws)) x) (sym turned_is) are))
+  pub linked_then : ((v : ℕ) → is_among ws v ≡ true → v ≤ length g) → (edges rests_new turned_new : Graph) (alone : List ℕ) (found : List (List ℕ)) (is_alone : Bool) (top_new : ℕ) → edges ≡ with_node g p ws → alone ≡ others p ws → found ≡ map (sources_then turned p ws) ws
+      → rests_new ≡ with_node kept p alone → turned_new ≡ with_rows (with_node turned p []) ws found → (is_alone ≡ true → ws ≡ []) → top_new ≡ top_then top p is_alone (length edges) → IsLinked edges rests_new turned_new top_new
+  linked_then within edges rests_new turned_new alone found is_alone top_new e a f r t none k =
+      subst (λ (x : Graph). IsLinked x rests_new turned_new top_new) (sym e) (subst (λ (x : Graph). IsLinked (with_node g p ws) x turned_new top_new) (sym rests_is) (subst (λ (x : Graph). IsLinked (with_node g p ws) (all_rests (with_node g p ws)) x top_new) (sym turned_is) are))
     where
-      rests_is : rests_then ≡ all_rests (with_node g p ws)
+      rests_is : rests_new ≡ all_rests (with_node g p ws)
       rests_is = r ∙ ap (λ (x : Graph). with_node x p alone) is.rests_are ∙ ap (with_node (all_rests g) p) a ∙ all_rests_then g p ws h
 
-      turned_is : turned_then ≡ with_rows (with_node turned p []) ws (map (sources_then turned p ws) ws)
+      turned_is : turned_new ≡ with_rows (with_node turned p []) ws (map (sources_then turned p ws) ws)
       turned_is = t ∙ ap (with_rows (with_node turned p []) ws) f
 
-      are : IsLinked (with_node g p ws) (all_rests (with_node g p ws)) (with_rows (with_node turned p []) ws (map (sources_then turned p ws) ws))
+      top_is : top_new ≡ top_then top p is_alone (length (with_node g p ws))
+      top_is = k ∙ ap (λ (x : Graph). top_then top p is_alone (length x)) e
+
+      long : length (with_node g p ws) ≡ length g + 1
+      long = long_then g p ws h
+
+      whole : IsWhole (with_node g p ws)
+      whole = whole_then g p ws h is.whole within
+
+      len : length (with_rows (with_node turned p []) ws (map (sources_then turned p ws) ws)) ≡ length (with_node g p ws)
+      len = rows_long (with_node turned p []) ws (map (sources_then turned p ws) ws) ∙ long_then turned p [] place ∙ ap (λ (n : ℕ). n + 1) is.len ∙ sym long
+
+      turned_is_whole : IsWhole (with_rows (with_node turned p []) ws (map (sources_then turned p ws) ws))
+      turned_is_whole = turned_whole (with_node g p ws) (with_rows (with_node turned p []) ws (map (sources_then turned p ws) ws)) len sources_kept
+
+      top_within : (b : Bool) → top_then top p b (length (with_node g p ws)) ≤ length (with_node g p ws)
+      top_within true = by (nat_lt p top) where
+        by : (c : Bool) → cond c (top + 1) top ≤ length (with_node g p ws)
+        by true = let le = is.within in omega (arith, le, long)
+        by false = let le = is.within in omega (arith, le, long)
+      top_within false = omega arith
+
+      targets_by : (b : Bool) → (b ≡ true → ws ≡ []) → AreBefore (with_node g p ws) (top_then top p b (length (with_node g p ws)))
+      targets_by true n = subst (λ (xs : List ℕ). AreBefore (with_node g p xs) (cond (nat_lt p top) (top + 1) top)) (sym (n refl)) (before_then g p top h is.targets_before)
+      targets_by false n = whole
+
+      sources_by : (b : Bool) → (b ≡ true → ws ≡ []) → AreBefore (with_rows (with_node turned p []) ws (map (sources_then turned p ws) ws)) (top_then top p b (length (with_node g p ws)))
+      sources_by true n = subst (λ (xs : List ℕ). AreBefore (with_rows (with_node turned p []) xs (map (sources_then turned p ws) xs)) (cond (nat_lt p top) (top + 1) top)) (sym (n refl)) (before_then turned p top place is.sources_before)
+      sources_by false n = λ u v x. let lt = turned_is_whole u v x in omega (arith, lt, len)
+
+      are : IsLinked (with_node g p ws) (all_rests (with_node g p ws)) (with_rows (with_node turned p []) ws (map (sources_then turned p ws) ws)) top_new
       are = record {
-        whole = whole_then g p ws h is.whole within;
+        whole = whole;
+        within = subst (λ (n : ℕ). n ≤ length (with_node g p ws)) (sym top_is) (top_within is_alone);
+        targets_before = subst (AreBefore (with_node g p ws)) (sym top_is) (targets_by is_alone none);
+        sources_before = subst (AreBefore (with_rows (with_node turned p []) ws (map (sources_then turned p ws) ws))) (sym top_is) (sources_by is_alone none);
         rests_are = refl;
-        len = rows_long (with_node turned p []) ws (map (sources_then turned p ws) ws) ∙ long_then turned p [] place ∙ ap (λ (n : ℕ). n + 1) is.len ∙ sym (long_then g p ws h);
+        len = len;
         sources_are = sources_kept;
       }
+
+-- a graph that is made anew: its top is where its nodes end
+pub made : (g kept turned : Graph) (top : ℕ) → IsWhole g → top ≡ length g → kept ≡ all_rests g → length turned ≡ length g → ((v : ℕ) → v < length g → get_or turned v [] ≡ sources g v) → IsLinked g kept turned top
+made g kept turned top whole t r len are = record {
+  whole = whole;
+  within = omega (arith, t);
+  targets_before = subst (AreBefore g) (sym t) whole;
+  sources_before = λ u v h. let lt = turned_whole g turned len are u v h in omega (arith, lt, len, t);
+  rests_are = r;
+  len = len;
+  sources_are = are;
+}

@@ -1,69 +1,82 @@
 ghost use Rattle.occ_graph.specs.Adding.{raised as place_then, with_node};
 ghost use Rattle.occ_graph.specs.Graph.{IsWhole, is_among};
 ghost use Rattle.occ_graph.specs.Sources.{once_each};
-ghost use Rattle.occ_graph.specs.inside.Linking.{before, behind, sources_then, sources_till as those_till, with_rows};
+ghost use Rattle.occ_graph.specs.inside.Linking.{AreBefore, before, behind, sources_then, sources_till as those_till, with_rows, top_then as top_of};
 ghost use Rattle.std.specs.Prelude.{◌≡◌, ◌<◌, ◌≤◌, ◌++◌, ◌∷◌, [], ℕ, IfOk, OnOk, get_or, length, map, slice_set, true, vec_len, vec_capacity};
 
 use super::search::targets as row;
 use sqlite_items::Items;
 use std::alloc::{AllocError, Global};
 
-/// The place that a node has where one more comes to a place. There are more than so many places.
-fn raised(at: usize, node: usize, count: usize) -> usize
-    requires { node < count }
+/// The place that a node has where one more comes to a place. It stands before the top.
+fn raised(at: usize, node: usize, top: usize) -> usize
+    requires { node < top }
     ensures { result ≡ place_then at node }
 {
     if node < at { node } else { node + 1 }
 }
 
 /// The nodes have the places that they have then.
-fn raise_all(nodes: &mut Items<usize>, at: usize, count: usize)
-    requires { (v : ℕ) → is_among nodes.old v ≡ true → v < count }
+fn raise_all(nodes: &mut Items<usize>, at: usize, top: usize)
+    requires { (v : ℕ) → is_among nodes.old v ≡ true → v < top }
     ensures { nodes.new ≡ map (place_then at) nodes.old }
 {
     let _len = nodes.len();
     let mut i = 0;
     while let Some(node) = nodes.get(i) {
-        let node = raised(at, *node, count);
+        let node = raised(at, *node, top);
         nodes.set(i, node);
         i += 1;
     }
 }
 
 /// The nodes of these rows have the places that they have then.
-fn raise_each(rows: &mut [Items<usize>], at: usize)
-    requires { IsWhole rows.old }
+fn raise_each(rows: &mut [Items<usize>], at: usize, top: usize)
+    requires { AreBefore rows.old top }
     ensures { rows.new ≡ map (map (place_then at)) rows.old }
 {
-    let count = rows.len();
     for row in rows.iter_mut() {
-        raise_all(row, at, count);
+        raise_all(row, at, top);
     }
 }
 
-/// The same of all rows. Behind the last node one comes without moving any.
-fn raise_rows(rows: &mut Vec<Items<usize>>, at: usize)
-    requires place { at ≤ vec_len rows.old }
-    requires whole { IsWhole rows.old.items }
+/// The same of all rows. Behind all that stand in them one comes without moving any.
+fn raise_rows(rows: &mut Vec<Items<usize>>, at: usize, top: usize)
+    requires { AreBefore rows.old.items top }
     ensures items { rows.new.items ≡ map (map (place_then at)) rows.old.items }
     ensures len { vec_len rows.new ≡ vec_len rows.old }
     ensures room { vec_capacity rows.new ≡ vec_capacity rows.old }
 {
-    if at == rows.len() {
+    if at >= top {
         return;
     }
-    raise_each(rows.as_mut_slice(), at);
+    raise_each(rows.as_mut_slice(), at, top);
 }
 
-/// One node more comes to a place, with this row.
-pub fn add_row(rows: &mut Vec<Items<usize>>, at: usize, row: Items<usize>)
+/// One node more comes to a place, with this row. Those in the rows stand before the top.
+pub fn add_row(rows: &mut Vec<Items<usize>>, at: usize, row: Items<usize>, top: usize)
     requires place { at ≤ vec_len rows.old }
     requires room { vec_len rows.old < vec_capacity rows.old }
-    requires whole { IsWhole rows.old.items }
+    requires top { AreBefore rows.old.items top }
     ensures { rows.new.items ≡ with_node rows.old.items at row }
 {
-    raise_rows(rows, at);
+    raise_rows(rows, at, top);
     let _ = rows.insert(at, row);
+}
+
+/// The place before which all stand from or to which edges lead, where one more node comes to a place; alone, if no edge leads
+/// from it.
+pub fn top_then(top: usize, at: usize, alone: bool, count: usize) -> usize
+    requires { top < count }
+    ensures { result ≡ top_of top at alone count }
+{
+    if !alone {
+        count
+    } else if at < top {
+        top + 1
+    } else {
+        top
+    }
 }
 
 /// Those from which edges led to the node that then has this place.

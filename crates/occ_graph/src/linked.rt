@@ -3,7 +3,7 @@ ghost use Rattle.occ_graph.specs.Graph.{IsWhole, all_rests, is_among, rests as r
 ghost use Rattle.occ_graph.specs.Sources.{sources as sources_in};
 ghost use Rattle.std.specs.Prelude.{◌≡◌, ◌<◌, ◌≤◌, [], ℕ, IfOk, OnErr, OnOk, length, true};
 
-use super::adding::{add_row, put_rows, source_rows};
+use super::adding::{add_row, put_rows, source_rows, top_then};
 use super::circles::find_rests;
 use super::resting::add_rests;
 use super::search::targets as row;
@@ -20,6 +20,8 @@ pub struct Linked {
     rests: Option<Vec<Items<usize>>>,
     /// Of each node those from which edges lead to it, in order.
     sources: Vec<Items<usize>>,
+    /// All nodes from or to which an edge leads stand before this place: behind it a node comes without moving any.
+    top: usize,
 }
 
 /// Written out: crates above call it, where each would prove a derived one anew.
@@ -29,6 +31,7 @@ impl Drop for Linked {
             edges: _,
             rests: _,
             sources: _,
+            top: _,
         } = self;
     }
 }
@@ -44,7 +47,7 @@ impl Model for Linked {
 
     ghost view = { λ linked. linked.edges.items };
 
-    ghost invariant = { λ linked. IsLinked linked.edges.items (rests_kept linked.edges.items linked.rests) linked.sources.items };
+    ghost invariant = { λ linked. IsLinked linked.edges.items (rests_kept linked.edges.items linked.rests) linked.sources.items linked.top };
 }
 
 impl Linked {
@@ -56,6 +59,7 @@ impl Linked {
             edges: Vec::new(alloc),
             rests: None,
             sources: Vec::new(alloc),
+            top: 0,
         }
     }
 
@@ -66,10 +70,12 @@ impl Linked {
     {
         let sources = find_sources(alloc, edges.as_slice())?;
         let rests = find_rests(alloc, edges.as_slice(), sources.as_slice())?;
+        let top = edges.len();
         Ok(Linked {
             edges,
             rests,
             sources,
+            top,
         })
     }
 
@@ -115,10 +121,13 @@ impl Linked {
             self.edges.as_slice(),
             at,
             targets.as_slice(),
+            self.top,
         )?;
-        add_row(&mut self.sources, at, Items::new(alloc));
+        add_row(&mut self.sources, at, Items::new(alloc), self.top);
         put_rows(&mut self.sources, targets.as_slice(), found);
-        add_row(&mut self.edges, at, targets);
+        let alone = targets.is_empty();
+        add_row(&mut self.edges, at, targets, self.top);
+        self.top = top_then(self.top, at, alone, self.edges.len());
         Ok(())
     }
 }

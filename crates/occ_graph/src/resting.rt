@@ -1,6 +1,6 @@
 ghost use Rattle.occ_graph.specs.Adding.{with_node};
-ghost use Rattle.occ_graph.specs.Graph.{IsWhole, all_rests, is_among};
-ghost use Rattle.occ_graph.specs.inside.Linking.{others as others_of, rests_kept};
+ghost use Rattle.occ_graph.specs.Graph.{all_rests, is_among};
+ghost use Rattle.occ_graph.specs.inside.Linking.{AreBefore, others as others_of, rests_kept};
 ghost use Rattle.std.specs.Prelude.{◌≡◌, ◌≤◌, ◌++◌, ◌∷◌, [], IfOk, OnErr, OnOk, length, vec_len};
 
 use super::adding::add_row;
@@ -52,15 +52,16 @@ fn add_rest_row(
     rows: &mut Vec<Items<usize>>,
     at: usize,
     targets: &[usize],
+    top: usize,
 ) -> Result<(), AllocError>
     requires place { at ≤ vec_len rows.old }
-    requires whole { IsWhole rows.old.items }
+    requires top { AreBefore rows.old.items top }
     ensures ok { OnOk result (rows.new.items ≡ with_node rows.old.items at (others_of at targets.now)) }
     ensures err { OnErr result (rows.new.items ≡ rows.old.items) }
 {
     let row = others(alloc, at, targets)?;
     rows.reserve(1)?;
-    add_row(rows, at, row);
+    add_row(rows, at, row, top);
     Ok(())
 }
 
@@ -70,13 +71,14 @@ fn first_rests(
     edges: &[Items<usize>],
     at: usize,
     targets: &[usize],
+    top: usize,
 ) -> Result<Vec<Items<usize>>, AllocError>
     requires place { at ≤ length edges.now }
-    requires whole { IsWhole edges.now }
+    requires top { AreBefore edges.now top }
     ensures { IfOk result (λ rows. rows.items ≡ with_node edges.now at (others_of at targets.now)) }
 {
     let mut rows = copied(alloc, edges)?;
-    add_rest_row(alloc, &mut rows, at, targets)?;
+    add_rest_row(alloc, &mut rows, at, targets, top)?;
     Ok(rows)
 }
 
@@ -88,18 +90,19 @@ pub fn add_rests(
     edges: &[Items<usize>],
     at: usize,
     targets: &[usize],
+    top: usize,
 ) -> Result<(), AllocError>
     requires place { at ≤ length edges.now }
-    requires whole { IsWhole edges.now }
+    requires top { AreBefore edges.now top }
     requires rests { rests_kept edges.now rests.old ≡ all_rests edges.now }
     ensures ok { OnOk result (rests_kept (with_node edges.now at targets.now) rests.new ≡ with_node (rests_kept edges.now rests.old) at (others_of at targets.now)) }
     ensures err { OnErr result (rests_kept edges.now rests.new ≡ rests_kept edges.now rests.old) }
 {
     if let Some(rows) = rests {
-        return add_rest_row(alloc, rows, at, targets);
+        return add_rest_row(alloc, rows, at, targets, top);
     }
     if is_one(targets, at) {
-        *rests = Some(first_rests(alloc, edges, at, targets)?);
+        *rests = Some(first_rests(alloc, edges, at, targets, top)?);
     }
     Ok(())
 }

@@ -1,8 +1,8 @@
 -- What is kept of a graph, and what of it is made anew where one node more comes to a place.
 use Rattle.std.specs.Global.{Global}
-use Rattle.std.specs.Prelude.{◌≡◌, ◌<◌, ◌+◌, ◌-◌, ◌++◌, ◌==◌, ℕ, List, [], ◌∷◌, None, Option, Some, Vec, cond, get_or, length, map, nat_lt, not, slice_set}
+use Rattle.std.specs.Prelude.{◌≡◌, ◌<◌, ◌≤◌, ◌+◌, ◌-◌, ◌++◌, ◌==◌, ℕ, Bool, true, List, [], ◌∷◌, None, Option, Some, Vec, cond, get_or, length, map, nat_lt, not, slice_set}
 use Rattle.std.specs.List.{filter}
-use Rattle.occ_graph.specs.Graph.{Graph, IsWhole, all_rests}
+use Rattle.occ_graph.specs.Graph.{Graph, IsWhole, all_rests, has_edge}
 use Rattle.occ_graph.specs.Sources.{once_each, sources}
 
 -- what the nodes of a graph rest on: what is kept, or, if nothing is, all to which edges lead
@@ -10,12 +10,23 @@ abbrev pub rests_kept : Graph → Option (Vec (List ℕ) Global) → Graph
 rests_kept g None = g
 rests_kept g (Some rows) = rows.items
 
--- of each node those that it rests on, and those from which edges lead to it
-pub record IsLinked (g : Graph) (rests turned : Graph) : Type 0 where
+-- what stands in these rows stands before a place
+abbrev pub AreBefore : Graph → ℕ → Type 0
+AreBefore g top = (u v : ℕ) → has_edge g u v ≡ true → v < top
+
+-- of each node those that it rests on, and those from which edges lead to it, where each edge is between nodes before a place
+pub record IsLinked (g : Graph) (rests turned : Graph) (top : ℕ) : Type 0 where
   pub whole : IsWhole g
+  pub within : top ≤ length g
+  pub targets_before : AreBefore g top
+  pub sources_before : AreBefore turned top
   pub rests_are : rests ≡ all_rests g
   pub len : length turned ≡ length g
   pub sources_are : (v : ℕ) → v < length g → get_or turned v [] ≡ sources g v
+
+-- such a place where one more node comes to a place, by whether it is alone, so that no edge leads from it, and how many there are then
+abbrev pub top_then : ℕ → ℕ → Bool → ℕ → ℕ
+top_then top at alone count = cond alone (cond (nat_lt at top) (top + 1) top) count
 
 -- those of these that are not this one
 abbrev pub others : ℕ → List ℕ → List ℕ

@@ -6,7 +6,7 @@ use Rattle.occ_graph.proofs.adding.raise_all.Goals as goal
 pub raised-node-requires : goal.raised-node-requires
 raised-node-requires c =
     let next = next_node (raised c.args.at) c.args.nodes.now c.loop-node.nodes c.loop-node.i c.in-Some.node.now c.loop-node.invariant.0 c.in-Some.ensures.value c.in-Some.ensures.within in
-    subst (λ (v : ℕ). v < c.args.count) next.1 (c.requires _ (among_there c.args.nodes.now c.loop-node.i next.0))
+    subst (λ (v : ℕ). v < c.args.top) next.1 (c.requires _ (among_there c.args.nodes.now c.loop-node.i next.0))
 
 pub overflow_add-i : goal.overflow_add-i
 overflow_add-i c =

@@ -1,8 +1,7 @@
-use Rattle.std.proofs.Common.{◌≡◌, ◌<◌, ℕ, arith, length, subst, sym}
+use Rattle.std.proofs.Common.{arith, sym}
 use Rattle.occ_graph.proofs.Added.{all_stay}
 use Rattle.occ_graph.proofs.adding.raise_rows.Goals as goal
 
-pub returns-then-at-len-clause-items : goal.returns-then-at-len-clause-items
-returns-then-at-len-clause-items c =
-    let last : length c.args.rows.now.items ≡ c.args.at = omega (arith, c.if-at-len.true, c.len.ensures, c.args.rows.now.ok) in
-    sym (all_stay c.args.at c.args.rows.now.items (λ u v h. subst (λ (n : ℕ). v < n) last (c.requires.whole u v h)))
+pub returns-then-at-top-clause-items : goal.returns-then-at-top-clause-items
+returns-then-at-top-clause-items c =
+    sym (all_stay c.args.at c.args.rows.now.items (λ u v h. let lt = c.requires u v h in omega (arith, lt, c.if-at-top.true)))

@@ -1,10 +1,10 @@
 use Rattle.std.proofs.Common.{◌≡◌, ◌∙◌, ℕ, List, ap, arith, false, length, subst, sym}
 use Rattle.occ_graph.specs.Adding.{with_node}
-use Rattle.occ_graph.specs.Graph.{Graph, IsWhole, is_among}
-use Rattle.occ_graph.specs.inside.Linking.{others, rests_kept}
+use Rattle.occ_graph.specs.Graph.{Graph, is_among}
+use Rattle.occ_graph.specs.inside.Linking.{AreBefore, others, rests_kept}
 use Rattle.occ_graph.proofs.Added.{rests_long}
 use Rattle.occ_graph.proofs.Free.{all_others}
-use Rattle.occ_graph.proofs.Replaced.{rests_whole}
+use Rattle.occ_graph.proofs.Replaced.{rests_before}
 use Rattle.occ_graph.proofs.resting.add_rests.Goals as goal
 
 pub add_rest_row-requires-clause-place : goal.add_rest_row-requires-clause-place
@@ -14,8 +14,9 @@ add_rest_row-requires-clause-place c =
     let place = c.requires.place in
     omega (arith, place, rows, long, c.in-Some.rows.ok)
 
-pub add_rest_row-requires-clause-whole : goal.add_rest_row-requires-clause-whole
-add_rest_row-requires-clause-whole c = subst IsWhole (sym (sym (ap (rests_kept c.args.edges.now) c.in-Some.is) ∙ c.requires.rests)) (rests_whole c.args.edges.now c.requires.whole)
+pub add_rest_row-requires-clause-top : goal.add_rest_row-requires-clause-top
+add_rest_row-requires-clause-top c =
+    subst (λ (g : Graph). AreBefore g c.args.top) (sym (sym (ap (rests_kept c.args.edges.now) c.in-Some.is) ∙ c.requires.rests)) (rests_before c.args.edges.now c.args.top c.requires.top)
 
 pub returns-else-is_one-clause-ok : goal.returns-else-is_one-clause-ok
 returns-else-is_one-clause-ok c =
