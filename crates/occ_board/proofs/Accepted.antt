@@ -23,7 +23,7 @@ use Rattle.occ_units.proofs.Looks.{same_bytes}
 use Rattle.occ_units.specs.Places.{rest_units}
 
 -- of its unit it is the one that is kept
-kept_here : (js : List Input) (i : Input) → kept_of (with_kept js i) i.unit ≡ Some i
+pub kept_here : (js : List Input) (i : Input) → kept_of (with_kept js i) i.unit ≡ Some i
 kept_here [] i = ap (λ (b : Bool). cond b (Some i) None) (same_bytes i.unit)
 kept_here (j ∷ js) i = by (bytes_eq j.unit i.unit) refl (kept_here js i) where
   by : (b : Bool) → bytes_eq j.unit i.unit ≡ b → kept_of (with_kept js i) i.unit ≡ Some i → kept_of (if b then i ∷ js else j ∷ with_kept js i) i.unit ≡ Some i

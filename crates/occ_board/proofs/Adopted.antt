@@ -1,25 +1,28 @@
 -- A board that keeps an outcome more.
-use Rattle.std.proofs.Common.{◌≡◌, ◌∙◌, ◌<◌, ◌+◌, Bool, true, false, cond, ℕ, List, length, Option, sym, ap, subst}
+use Rattle.std.proofs.Common.{◌≡◌, ◌∙◌, ◌<◌, ◌+◌, ◌⊎◌, Bool, true, false, cond, ℕ, List, length, Option, Some, sym, ap, subst}
 use Rattle.std.specs.Str.{bytes_eq}
 use Rattle.occ_board.proofs.Accepted.{fewer_pending, kept_other, more_done, now_done}
+use Rattle.occ_board.proofs.Looked.{fresh_with}
 use Rattle.occ_board.proofs.Settled.{flag_at, is_step, step_done, step_kept, step_open, step_rests}
 use Rattle.occ_board.proofs.Spread.{placed_there}
 use Rattle.occ_board.proofs.Told.{before_with, revisions_few, told_with}
-use Rattle.occ_board.specs.Done.{done, done_step, is_kept, is_that, pending_units}
-use Rattle.occ_board.specs.Journal.{replay}
+use Rattle.occ_board.specs.Done.{done, done_step, is_kept, is_that, kept_of, pending_units}
+use Rattle.occ_board.specs.Journal.{is_open, replay}
 use Rattle.occ_board.specs.Machine.{State, files_of, pending_answer, unhanded, with_kept}
 use Rattle.occ_board.specs.declared.entry.Entry.{Entry}
 use Rattle.occ_board.specs.inside.Flagged.{IsFullAt, IsSound, flag_of}
+use Rattle.occ_board.specs.inside.Fresh.{AreFresh, looked, shown_of}
 use Rattle.occ_board.specs.inside.Holding.{IsBoard}
 use Rattle.occ_board.specs.inside.Ready.{IsAcceptable}
 use Rattle.occ_board.specs.inside.Told.{AllTold, AreBefore}
-use Rattle.occ_report.specs.Inputs.{Input}
+use Rattle.occ_report.specs.Inputs.{Input, interface_of}
 use Rattle.occ_project.specs.Entries.{is_among}
 use Rattle.occ_project.specs.declared.reads.Read.{Read}
 use Rattle.occ_report.specs.Checks.{input}
 use Rattle.occ_units.specs.Along.{name_at}
 use Rattle.occ_units.specs.Places.{rest_units}
 use Rattle.occ_units.specs.Project.{IsProject, file_of, put}
+use Rattle.occ_units.specs.Units.{used_units}
 
 module _ (journal : List Entry) (kept handed : List Input) (s : State) (i : Input) (view : record { journal = journal; kept = kept; handed = handed } ≡ s) (fit : IsAcceptable (files_of s) s.kept i)
     (better : List Input) (same : better ≡ with_kept kept i) where
@@ -50,6 +53,10 @@ module _ (journal : List Entry) (kept handed : List Input) (s : State) (i : Inpu
   before_still put_law files flags opened units board =
       subst (AreBefore (length journal + 1)) (sym same) (before_with (replay journal) kept i (length journal + 1) fits.now (revisions_few put_law journal) board.before)
 
+  -- the unit is open
+  pub opened_still : (files : List Read) (flags : List Bool) (opened units : ℕ) → IsBoard journal kept files flags opened units → (unit : List ℕ) → unit ≡ i.unit → is_open files unit ≡ true
+  opened_still files flags opened units board unit named = ap (λ (fs : List Read). is_open fs unit) board.files_are ∙ ap (is_open (replay journal)) named ∙ fits.job.opened
+
   module _ (law : (files : List Read) (kept : List Input) (u : List ℕ) → IsProject files → done files kept u ≡ done_step files kept u (done files kept))
       (project : (es : List Entry) → IsProject (replay es))
       (heights : (files : List Read) → IsProject files → (height : List ℕ → ℕ) × ((u v : List ℕ) → is_among (rest_units files u) v ≡ true → height v < height u)) where
@@ -69,6 +76,19 @@ module _ (journal : List Entry) (kept handed : List Input) (s : State) (i : Inpu
         ap (λ (fs : List Read). done fs better i.unit) board.files_are
         ∙ ap (λ (ks : List Input). done (replay journal) ks i.unit) same
         ∙ now_done (replay journal) (λ ks v. law (replay journal) ks v (project journal)) high.0 high.1 kept i fits.now fits.job.opened fits.job.rested
+
+    -- and fresh, as those are still that looked at the same of it
+    pub fresh_still : (files : List Read) (flags : List Bool) (opened units : ℕ) → IsBoard journal kept files flags opened units → (fresh next : List Bool) (shown : Bool) (unit : List ℕ) → unit ≡ i.unit
+        → ((fs : List Read) (ks : List Input) (u : List ℕ) → IsProject fs → done fs ks u ≡ true → kept_of ks u ≡ Some (looked fs ks u)) → AreFresh files kept fresh
+        → ((u : List ℕ) → flag_of files next u ≡ true → (flag_of files fresh u ≡ true) × ((shown ≡ true) ⊎ (is_among (used_units files u) unit ≡ false))) → (shown ≡ true → interface_of i ≡ shown_of s.kept i.unit) → AreFresh files better next
+    fresh_still files flags opened units board fresh next shown unit named now are left shows =
+        let ordered : IsProject files = subst IsProject (sym board.files_are) (project journal) in
+        let here : kept_of (with_kept kept i) i.unit ≡ Some (looked files (with_kept kept i) i.unit) =
+        now files (with_kept kept i) i.unit ordered (subst (λ (ks : List Input). done files ks i.unit ≡ true) same (done_now files flags opened units board))
+        in
+        subst (λ (ks : List Input). AreFresh files ks next) (sym same)
+        (fresh_with files kept i fresh next shown are (subst (λ (v : List ℕ). (u : List ℕ) → flag_of files next u ≡ true → (flag_of files fresh u ≡ true) × ((shown ≡ true) ⊎ (is_among (used_units files u) v ≡ false))) named left)
+        (λ h. shows h ∙ ap (λ (t : State). shown_of t.kept i.unit) (sym view)) here)
 
     -- and of no unit but this one a flag is missing
     pub full_still : (files : List Read) (flags : List Bool) (opened units : ℕ) → IsBoard journal kept files flags opened units → (p : ℕ) → p < length files → bytes_eq i.unit (name_at files p) ≡ false → IsFullAt files better flags p

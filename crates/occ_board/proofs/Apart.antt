@@ -13,6 +13,7 @@ use Rattle.occ_board.proofs.Truths.{among_first, either_true, not_both, or_left,
 use Rattle.occ_board.specs.Done.{done, done_step, is_kept}
 use Rattle.occ_board.specs.Edits.{IsApart, IsUnder}
 use Rattle.occ_board.specs.Journal.{is_open}
+use Rattle.occ_board.specs.inside.Fresh.{kept_check, looked}
 use Rattle.occ_report.specs.Inputs.{Input, UsedUnit}
 use Rattle.occ_project.specs.Entries.{is_among}
 use Rattle.occ_project.specs.Expansion.{Expansion, expansion}
@@ -20,7 +21,7 @@ use Rattle.occ_project.specs.Reads.{lines_of, open_lines}
 use Rattle.occ_project.specs.Uses.{units_of}
 use Rattle.occ_project.specs.declared.reads.Read.{Read}
 use Rattle.occ_report.proofs.Local.{map_among}
-use Rattle.occ_report.specs.Checks.{check_of, check_step, checked, input, used_as, used_unit}
+use Rattle.occ_report.specs.Checks.{check_of, check_step, checked, input, input_with, used_as, used_unit}
 use Rattle.occ_report.specs.declared.checked.Checked.{Checked}
 use Rattle.occ_units.specs.Places.{is_below, is_circular, rest_units, standing_of}
 use Rattle.occ_units.specs.Project.{file_of, put}
@@ -135,24 +136,28 @@ module _ (files : List Read) (file : Read) (root : List ℕ) (apart : IsApart fi
   rest_uses : (u v : List ℕ) → is_among (rest_units files u) v ≡ true → Uses files u v
   rest_uses u v a = among_all (λ w. is_below (standing_of files u w)) (used_units files u) v a
 
-  module _ (h : List ℕ → ℕ) (fall : (u v : List ℕ) → is_among (rest_units files u) v ≡ true → h v < h u) where
-    -- what the checks look at, where the checks of all that the unit rests on give the same
-    input_by : (u : List ℕ) → IsUnder files root u → ((v : List ℕ) → is_among (rest_units files u) v ≡ true → checked later v ≡ checked files v) → input later u ≡ input files u
-    input_by u under same =
-        ap (λ (rs : List Read). record { unit = u; reads = rs; used = map (used_unit later u (checked later)) (used_units later u) }) (same_reads u under)
-        ∙ ap (λ (us : List (List ℕ)). record { unit = u; reads = unit_reads files u; used = map (used_unit later u (checked later)) us }) (same_used u under)
-        ∙ ap (λ (us : List UsedUnit). record { unit = u; reads = unit_reads files u; used = us }) (map_among (used_unit later u (checked later)) (used_unit files u (checked files)) (used_units files u) (λ v a.
-        let stands = same_standing u v under a in
-        ap (λ (s : Standing). record { unit = v; used = used_as s (checked later v).interface }) stands
-        ∙ ap (λ x. record { unit = v; used = x }) (used_by (standing_of files u v) (checked later v).interface (checked files v).interface (λ b. ap (λ (c : Checked). c.interface) (same v (kept_among (λ w. is_below (standing_of files u w)) (used_units files u) v b a))))))
+  -- what the checks look at, where the checks of all that the unit rests on give the same
+  input_by : (f g : List ℕ → Checked) (u : List ℕ) → IsUnder files root u → ((v : List ℕ) → is_among (rest_units files u) v ≡ true → f v ≡ g v) → input_with later u f ≡ input_with files u g
+  input_by f g u under same =
+      ap (λ (rs : List Read). record { unit = u; reads = rs; used = map (used_unit later u f) (used_units later u) }) (same_reads u under)
+      ∙ ap (λ (us : List (List ℕ)). record { unit = u; reads = unit_reads files u; used = map (used_unit later u f) us }) (same_used u under)
+      ∙ ap (λ (us : List UsedUnit). record { unit = u; reads = unit_reads files u; used = us }) (map_among (used_unit later u f) (used_unit files u g) (used_units files u) (λ v a.
+      let stands = same_standing u v under a in
+      ap (λ (s : Standing). record { unit = v; used = used_as s (f v).interface }) stands
+      ∙ ap (λ x. record { unit = v; used = x }) (used_by (standing_of files u v) (f v).interface (g v).interface (λ b. ap (λ (c : Checked). c.interface) (same v (kept_among (λ w. is_below (standing_of files u w)) (used_units files u) v b a))))))
 
+  -- so what they would look at by what is kept
+  pub same_looked_there : (kept : List Input) → looked later kept root ≡ looked files kept root
+  same_looked_there kept = input_by (kept_check kept) (kept_check kept) root (inl refl) (λ v a. refl)
+
+  module _ (h : List ℕ → ℕ) (fall : (u v : List ℕ) → is_among (rest_units files u) v ≡ true → h v < h u) where
     module _ (here : (u : List ℕ) → checked files u ≡ check_step files u (checked files)) (then : (u : List ℕ) → checked later u ≡ check_step later u (checked later)) where
       same_checked : (u : List ℕ) → IsUnder files root u → checked later u ≡ checked files u
       same_checked = along_rests files h fall (λ u. IsUnder files root u → checked later u ≡ checked files u) (λ u rests under.
-          then u ∙ ap check_of (input_by u under (λ v a. rests v a (under_on u v under (rest_uses u v a)))) ∙ sym (here u))
+          then u ∙ ap check_of (input_by (checked later) (checked files) u under (λ v a. rests v a (under_on u v under (rest_uses u v a)))) ∙ sym (here u))
 
       same_input : (u : List ℕ) → IsUnder files root u → input later u ≡ input files u
-      same_input u under = input_by u under (λ v a. same_checked v (under_on u v under (rest_uses u v a)))
+      same_input u under = input_by (checked later) (checked files) u under (λ v a. same_checked v (under_on u v under (rest_uses u v a)))
 
       pub same_input_there : input later root ≡ input files root
       same_input_there = same_input root (inl refl)

@@ -10,8 +10,9 @@ use Rattle.std.specs.Ordering.{is_eq}
 use Rattle.std.specs.Str.{bytes_eq}
 use Rattle.occ_board.specs.Machine.{with_kept}
 use Rattle.occ_board.specs.Done.{kept_of}
+use Rattle.occ_board.specs.inside.Fresh.{shown_of}
 use Rattle.occ_board.specs.inside.Holding.{ArePlaces, AreSingle, place_in}
-use Rattle.occ_report.specs.Inputs.{Input}
+use Rattle.occ_report.specs.Inputs.{Input, interface_of}
 use Rattle.occ_project.specs.Reads.{name_cmp}
 
 pub kept_within : (js : List Input) (u : List ℕ) (p : ℕ) → place_in js u ≡ Some p → p < length js
@@ -47,11 +48,11 @@ pub last_there : (js : List Input) (i : Input) → slice_get (js ++ i ∷ []) (l
 last_there [] i = refl
 last_there (j ∷ js) i = last_there js i
 
-pub all_but_last : (js : List Input) (i : Input) (n : ℕ) → n ≡ length js → take n (js ++ i ∷ []) ≡ js
+pub all_but_last : {X : Type 0} (js : List X) (i : X) (n : ℕ) → n ≡ length js → take n (js ++ i ∷ []) ≡ js
 all_but_last [] i zero e = refl
 all_but_last [] i (suc n) e = absurd (omega (arith, e))
 all_but_last (j ∷ js) i zero e = absurd (omega (arith, e))
-all_but_last (j ∷ js) i (suc n) e = ap (λ (is : List Input). j ∷ is) (all_but_last js i n (omega (arith, e)))
+all_but_last {X} (j ∷ js) i (suc n) e = ap (λ (is : List X). j ∷ is) (all_but_last js i n (omega (arith, e)))
 
 -- what is kept of a unit stands at its place
 behind : (j : Input) (js : List Input) (o : Option ℕ) → option_and_then (slice_get (j ∷ js)) (option_map suc o) ≡ option_and_then (slice_get js) o
@@ -173,8 +174,12 @@ single_last js i none single q k got = place_more js i k.unit none ∙ elim (las
       cc (gone, there)
 
 -- so what stands at a place is what is kept of its unit
-pub kept_single : (js : List Input) (u : List ℕ) (p : ℕ) (i : Input) → AreSingle js → slice_get js p ≡ Some i → bytes_eq i.unit u ≡ true → kept_of js u ≡ Some i
-kept_single js u p i single got same =
-    let unit : i.unit ≡ u = (bytes_eq-Decides i.unit u).0 same in
-    let there : place_in js u ≡ Some p = ap (place_in js) (sym unit) ∙ single p i got in
-    sym (kept_there js u) ∙ ap (option_and_then (slice_get js)) there ∙ got
+pub place_single : (js : List Input) (u : List ℕ) (p : ℕ) (i : Input) → AreSingle js → slice_get js p ≡ Some i → bytes_eq i.unit u ≡ true → place_in js u ≡ Some p
+place_single js u p i single got same = ap (place_in js) (sym ((bytes_eq-Decides i.unit u).0 same)) ∙ single p i got
+
+-- what it shows
+pub shown_there : (js : List Input) (u : List ℕ) (p : ℕ) (i : Input) → place_in js u ≡ Some p → slice_get js p ≡ Some i → shown_of js u ≡ interface_of i
+shown_there js u p i at got = ap (option_and_then interface_of) (sym (kept_there js u) ∙ ap (option_and_then (slice_get js)) at ∙ got)
+
+pub none_shown : (js : List Input) (u : List ℕ) → place_in js u ≡ None → shown_of js u ≡ None
+none_shown js u at = ap (option_and_then interface_of) (sym (kept_there js u) ∙ ap (option_and_then (slice_get js)) at)

@@ -23,6 +23,7 @@ pub mod Taken
 pub mod Readers
 pub mod Spread
 pub mod Marked
+pub mod Looked
 pub mod Adopted
 pub mod Least
 pub mod Working

@@ -15,6 +15,7 @@ use Rattle.occ_board.specs.Done.{done, done_step, is_kept}
 use Rattle.occ_board.specs.Edits.{IsApart}
 use Rattle.occ_board.specs.inside.Flagged.{AreFlags, IsFull, IsFullAt, IsSound, unflagged}
 use Rattle.occ_board.specs.Journal.{is_open}
+use Rattle.occ_board.specs.inside.Fresh.{kept_check, looked}
 use Rattle.occ_board.specs.inside.Touched.{IsClosed}
 use Rattle.occ_report.specs.Inputs.{Input}
 use Rattle.occ_graph.specs.Graph.{has_edge, is_among}
@@ -23,7 +24,8 @@ use Rattle.occ_project.specs.Expansion.{expansion}
 use Rattle.occ_project.specs.Reads.{place}
 use Rattle.occ_project.specs.declared.reads.Read.{Read}
 use Rattle.occ_project.specs.Uses.{units_of}
-use Rattle.occ_report.specs.Checks.{checked, input, used_unit}
+use Rattle.occ_report.specs.Checks.{checked, input_with, used_unit}
+use Rattle.occ_report.specs.declared.checked.Checked.{Checked}
 use Rattle.occ_units.proofs.Edges.{absent_reads, edge, placed_user}
 use Rattle.occ_units.proofs.Finding.{place_within}
 use Rattle.occ_units.proofs.Renewed.{still_long, still_placed, there_among}
@@ -144,8 +146,8 @@ module _ (files : List Read) where
       ap (λ (x : ℕ). get_or marks x false) (sym there.1.1) ∙ h.read there.0 (omega (arith, lt, most))
 
 -- what is no unit reads and uses nothing
-no_input : (fs : List Read) (u : List ℕ) → is_unit u ≡ false → input fs u ≡ record { unit = u; reads = []; used = [] }
-no_input fs u none = ap (λ (b : Bool). record { unit = u; reads = map (file_of fs) (cond b (expansion fs u).reads []); used = map (used_unit fs u (checked fs)) (cond b (in_order (flat_map units_of (expansion fs u).lines)) []) }) none
+pub no_input : (fs : List Read) (f : List ℕ → Checked) (u : List ℕ) → is_unit u ≡ false → input_with fs u f ≡ record { unit = u; reads = []; used = [] }
+no_input fs f u none = ap (λ (b : Bool). record { unit = u; reads = map (file_of fs) (cond b (expansion fs u).reads []); used = map (used_unit fs u f) (cond b (in_order (flat_map units_of (expansion fs u).lines)) []) }) none
 
 no_rests : (fs : List Read) (u : List ℕ) → is_unit u ≡ false → rest_units fs u ≡ []
 no_rests fs u none = ap (λ (b : Bool). filter (λ v. is_below (standing_of fs u v)) (cond b (in_order (flat_map units_of (expansion fs u).lines)) [])) none
@@ -154,7 +156,7 @@ pub no_unit_step : (kept : List Input) (step : (fs : List Read) (ks : List Input
     → done fs kept u ≡ (is_open fs u && (is_kept kept (record { unit = u; reads = []; used = [] }) && true))
 no_unit_step kept step fs u none p =
     step fs kept u p
-    ∙ ap (λ (i : Input). is_open fs u && (is_kept kept i && list_all (done fs kept) (rest_units fs u))) (no_input fs u none)
+    ∙ ap (λ (i : Input). is_open fs u && (is_kept kept i && list_all (done fs kept) (rest_units fs u))) (no_input fs (checked fs) u none)
     ∙ ap (λ (vs : List (List ℕ)). is_open fs u && (is_kept kept (record { unit = u; reads = []; used = [] }) && list_all (done fs kept) vs)) (no_rests fs u none)
 
 pub reads_by : (files : List Read) (name : List ℕ) (b : Bool) (v : List ℕ) → is_unit v ≡ b → b ≡ true → names.is_among (read_names files v) name ≡ false → names.is_among (expansion files v).reads name ≡ false
@@ -238,7 +240,7 @@ module _ (files : List Read) (project : IsProject files) (name : List ℕ) (at :
           ∙ sym (no_unit_step kept step files u none project)
 
 -- the flags behind the edit of a file that was there
-left_by : (a b : Bool) → (a && not b) ≡ true → (a ≡ true) × (b ≡ false)
+pub left_by : (a b : Bool) → (a && not b) ≡ true → (a ≡ true) × (b ≡ false)
 left_by true true h = absurd cc
 left_by true false h = (refl, refl)
 left_by false b h = absurd cc
@@ -339,10 +341,8 @@ take_all [] (suc n) h = refl
 take_all (w ∷ ws) zero h = absurd (omega (arith, h))
 take_all (w ∷ ws) (suc n) h = ap (λ (xs : List ℕ). w ∷ xs) (take_all ws n (omega (arith, h)))
 
-pub unflag_over : (old marks : List Bool) (places : List ℕ) (flags : List Bool) (n : ℕ) → IsUnflagged old places flags n → length places ≤ n → ((p : ℕ) → is_among places p ≡ get_or marks p false)
-    → (p : ℕ) → get_or flags p false ≡ (get_or old p false && not (get_or marks p false))
-unflag_over old marks places flags n h most told p =
-    h.each p ∙ ap (λ (ws : List ℕ). get_or old p false && not (is_among ws p)) (take_all places n most) ∙ ap (λ (b : Bool). get_or old p false && not b) (told p)
+pub unflag_over : (old : List Bool) (places : List ℕ) (flags : List Bool) (n : ℕ) → IsUnflagged old places flags n → length places ≤ n → (p : ℕ) → get_or flags p false ≡ (get_or old p false && not (is_among places p))
+unflag_over old places flags n h most p = h.each p ∙ ap (λ (ws : List ℕ). get_or old p false && not (is_among ws p)) (take_all places n most)
 
 -- what is marked is there
 pub marked_there : (marks : List Bool) (p : ℕ) → get_or marks p false ≡ true → p < length marks
@@ -405,6 +405,16 @@ module _ (files one later : List Read) (file : Read) (at : ℕ) (project : IsPro
     same_at u h =
         unmarked_same files project file.name at marks e (λ p k. told p (ap (λ (ws : List ℕ). is_among ws p) (s ∙ r) ∙ k)) (subst (λ (fs : List Read). IsClosed (graph_of fs) marks) same closed)
         (λ p q. reading files p q) (λ v w. units files v w spelled) later file kept refl put_later here apart files_put rises step u h
+
+    -- and what an outcome of it would have looked at
+    pub looked_at : ((fs : List Read) (f : Read) (ks : List Input) (u : List ℕ) → IsApart fs f.name u → looked (put fs f) ks u ≡ looked fs ks u) → (u : List ℕ) → ((q : ℕ) → place u files ≡ Some q → get_or marks q false ≡ false) → looked later kept u ≡ looked files kept u
+    looked_at law u h = by (is_unit u) refl where
+      by : (b : Bool) → is_unit u ≡ b → looked later kept u ≡ looked files kept u
+      by true unit =
+          ap (λ (fs : List Read). looked fs kept u) put_later
+          ∙ law files file kept u (unmarked_apart files project file.name at marks e (λ p k. told p (ap (λ (ws : List ℕ). is_among ws p) (s ∙ r) ∙ k)) (subst (λ (fs : List Read). IsClosed (graph_of fs) marks) same closed)
+          (λ p q. reading files p q) (λ v w. units files v w spelled) u unit h)
+      by false none = no_input later (kept_check kept) u none ∙ sym (no_input files (kept_check kept) u none)
 
     places_at : (u : List ℕ) → place u later ≡ place u files
     places_at u = still_placed files later file at project put_later e u

@@ -70,7 +70,7 @@ module _ (files : List Read) (name : List ℕ) (at : ℕ) (new : IsNew files nam
   new_apart u unit other v (inl k) = new_reads v (ap is_unit k ∙ unit) (ap (λ (n : List ℕ). bytes_eq n name) k ∙ other)
   new_apart u unit other v (inr way) = let there = way_other u way.0 v way.1 in new_reads v there.1 there.0
 
-swapped : (a b : List ℕ) → bytes_eq a b ≡ false → bytes_eq b a ≡ false
+pub swapped : (a b : List ℕ) → bytes_eq a b ≡ false → bytes_eq b a ≡ false
 swapped a b h = none_by (bytes_eq b a) (λ k. let here : bytes_eq a b ≡ true = (bytes_eq-Decides a b).1 (sym ((bytes_eq-Decides b a).0 k)) in cc (h, here))
 
 module _ (files later : List Read) (file : Read) (at : ℕ) (project : IsProject files) (new : IsNew files file.name at) (put_is : later ≡ put files file) (kept : List Input) (flags next : List Bool) (len : length flags ≡ length files) (are : AreFlags files kept flags) (n : next ≡ insert flags at false)

@@ -62,17 +62,21 @@ module _ (files : List Read) (kept : List Input) where
     pub are_flags : (flags : List Bool) (h : List ℕ → ℕ) → ((u v : List ℕ) → is_among (rest_units files u) v ≡ true → h v < h u) → IsSound files kept flags → IsFull files kept flags (length files) → AreFlags files kept flags
     are_flags flags h fall sound full u = same_truth (flag_of files flags u) (done files kept u) (sound u) (none_missing flags h fall full u)
 
-none_set : (n p : ℕ) → get_or (replicate n false) p false ≡ false
+pub none_set : (n p : ℕ) → get_or (replicate n false) p false ≡ false
 none_set zero p = refl
 none_set (suc n) zero = refl
 none_set (suc n) (suc p) = none_set n p
 
--- where none is set none is wrong
+-- where none is set anything holds of the units whose flags are
+pub none_each : (files : List Read) (P : List ℕ → Type 0) (flags : List Bool) → ((p : ℕ) → get_or flags p false ≡ false) → (u : List ℕ) → flag_of files flags u ≡ true → P u
+none_each files P flags none u h = by (place u files) refl where
+  by : (o : Option ℕ) → place u files ≡ o → P u
+  by None e = let apart = no_flag files flags u e in absurd (cc (apart, h))
+  by (Some p) e = let apart = flag_at files flags u p e ∙ none p in absurd (cc (apart, h))
+
+-- so none is wrong
 pub none_sound : (files : List Read) (kept : List Input) (n : ℕ) → IsSound files kept (replicate n false)
-none_sound files kept n u h = by (place u files) refl where
-  by : (o : Option ℕ) → place u files ≡ o → done files kept u ≡ true
-  by None e = let none = no_flag files (replicate n false) u e in absurd (cc (none, h))
-  by (Some p) e = let none = flag_at files (replicate n false) u p e ∙ none_set n p in absurd (cc (none, h))
+none_sound files kept n = none_each files (λ u. done files kept u ≡ true) (replicate n false) (none_set n)
 
 set_other : (flags : List Bool) (p q : ℕ) → get_or (slice_set flags p true) q false ≡ true → (p ≡ q) ⊎ (get_or flags q false ≡ true)
 set_other [] p q h = inr h
@@ -84,15 +88,19 @@ set_other (f ∷ flags) (suc p) (suc q) h = elim (set_other flags p q h) [
   | inr k ↦ inr k
 ]
 
--- nor where one more is set of a unit that is done
-pub set_sound : (files : List Read) (kept : List Input) (flags : List Bool) (p : ℕ) → IsSound files kept flags → done files kept (name_at files p) ≡ true → IsSound files kept (slice_set flags p true)
-set_sound files kept flags p sound d u h = by (place u files) refl where
-  by : (o : Option ℕ) → place u files ≡ o → done files kept u ≡ true
+-- what holds of the units whose flags are set, where one more is
+pub set_each : (files : List Read) (P : List ℕ → Type 0) (flags : List Bool) (p : ℕ) → ((u : List ℕ) → flag_of files flags u ≡ true → P u) → P (name_at files p) → (u : List ℕ) → flag_of files (slice_set flags p true) u ≡ true → P u
+set_each files P flags p each here u h = by (place u files) refl where
+  by : (o : Option ℕ) → place u files ≡ o → P u
   by None e = let none = no_flag files (slice_set flags p true) u e in absurd (cc (none, h))
   by (Some q) e = elim (set_other flags p q (sym (flag_at files (slice_set flags p true) u q e) ∙ h)) [
-    | inl s ↦ subst (λ (v : List ℕ). done files kept v ≡ true) (ap (name_at files) s ∙ name_there files u q e) d
-    | inr k ↦ sound u (flag_at files flags u q e ∙ k)
+    | inl s ↦ subst P (ap (name_at files) s ∙ name_there files u q e) here
+    | inr k ↦ each u (flag_at files flags u q e ∙ k)
   ]
+
+-- nor is one wrong where one more is set of a unit that is done
+pub set_sound : (files : List Read) (kept : List Input) (flags : List Bool) (p : ℕ) → IsSound files kept flags → done files kept (name_at files p) ≡ true → IsSound files kept (slice_set flags p true)
+set_sound files kept flags p sound d = set_each files (λ u. done files kept u ≡ true) flags p sound d
 
 next : (n : ℕ) → 0 + n < 1 + n
 next n = omega arith

@@ -1,5 +1,6 @@
 -- Tests that hold together, and tests of all names of a list.
 use Rattle.std.proofs.Common.{◌≡◌, ◌∙◌, ◌&&◌, ◌||◌, Bool, true, false, cond, ℕ, zero, suc, List, [], ◌∷◌, Some, refl, sym, ap}
+use Rattle.std.proofs.lemmas.Slice.Eq.{bytes_eq-Decides}
 use Rattle.std.specs.List.{filter, list_all, slice_get}
 use Rattle.std.specs.Str.{bytes_eq}
 use Rattle.occ_project.specs.Entries.{is_among}
@@ -60,6 +61,13 @@ all_at f g (y ∷ xs) zero x h e k =
     let passes : g y ≡ true = ap g same ∙ k in
     ap f (sym same) ∙ left_true (f y) (list_all f (filter g xs)) (ap (λ (b : Bool). list_all f (cond b (y ∷ filter g xs) (filter g xs))) (sym passes) ∙ h)
 all_at f g (y ∷ xs) (suc i) x h e k = all_at f g xs i x (all_behind f (g y) y (filter g xs) h) e k
+
+-- and of each of them
+pub all_among : (f : List ℕ → Bool) (vs : List (List ℕ)) (v : List ℕ) → list_all f vs ≡ true → is_among vs v ≡ true → f v ≡ true
+all_among f [] v h a = absurd cc
+all_among f (w ∷ vs) v h a = either_true (bytes_eq w v) (is_among vs v) a
+    (λ e. ap f (sym ((bytes_eq-Decides w v).0 e)) ∙ left_true (f w) (list_all f vs) h)
+    (λ k. all_among f vs v (right_true (f w) (list_all f vs) h) k)
 
 -- a test that tells that two names are not one
 pub differ : (a b : List ℕ) → bytes_eq a b ≡ false → a ≡ b → ⊥

@@ -1,5 +1,6 @@
 -- what no contract of a public call rests on
 pub mod Flagged
+pub mod Fresh
 pub mod Holding
 pub mod Ready
 pub mod Told

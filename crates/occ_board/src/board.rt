@@ -14,6 +14,7 @@ ghost use Rattle.std.specs.Prelude.{◌≡◌, ◌<◌, ◌⊎◌, Err, IfErr, I
 use super::copying::copied_job;
 use super::expanding::count_readers;
 use super::flags::{Flags, settle_kept};
+use super::fresh::{forget_users, fresh_law};
 use super::journal::{count_behind, refusal};
 use super::judging::judge;
 use super::keeping::unhand;
@@ -41,6 +42,8 @@ pub struct Board {
     graph: Graph,
     /// Of each file of the project whether it is a unit that is done.
     flags: Flags,
+    /// Of each file of the project whether it is a unit of which a fresh outcome is kept, as far as that is known.
+    fresh: Flags,
     /// How many files are open.
     opened: usize,
     /// How many units are open.
@@ -58,6 +61,7 @@ impl Drop for Board {
             handed: _,
             graph: _,
             flags: _,
+            fresh: _,
             opened: _,
             units: _,
             waiting: _,
@@ -79,12 +83,13 @@ impl Model for Board {
 
     ghost coded = { Prim.hlevel (codes, builtins.the_row.coded, dimensions.the_row.coded, elements.the_row.coded, expressions.the_row.coded, type_forms.the_row.coded, types.the_row.coded) };
 
+    ghost use Rattle.occ_board.specs.inside.Fresh.{AreFresh};
     ghost use Rattle.occ_board.specs.inside.Holding.{IsBoard};
     ghost use Rattle.occ_board.specs.inside.Ready.{NoneIsReady};
 
     ghost view = { λ b. record { journal = b.journal.items; kept = b.kept; handed = b.handed.items } };
 
-    ghost invariant = { λ b. IsBoard b.journal.items b.kept b.graph b.flags b.opened b.units × NoneIsReady b.graph b.flags b.waiting };
+    ghost invariant = { λ b. IsBoard b.journal.items b.kept b.graph b.flags b.opened b.units × NoneIsReady b.graph b.flags b.waiting × AreFresh b.graph b.kept b.fresh };
 }
 
 impl Board {
@@ -99,6 +104,7 @@ impl Board {
             handed: Vec::new(alloc),
             graph: Graph::new(alloc),
             flags: Flags::new(alloc),
+            fresh: Flags::new(alloc),
             opened: 0,
             units: 0,
             waiting: 0,
@@ -190,6 +196,7 @@ impl Board {
             &mut self.graph,
             &self.kept,
             &mut self.flags,
+            &mut self.fresh,
             name,
             number,
             source,
@@ -286,13 +293,16 @@ impl Board {
         put_law();
         done_law();
         height_law();
-        let place = self.kept.keep(file, outcome)?;
-        let job = self.kept.at(place).job();
+        fresh_law();
+        let found = self.kept.keep(file, outcome)?;
+        let job = self.kept.at(found.0).job();
         unhand(&mut self.handed, job);
+        forget_users(&self.graph, &mut self.fresh, file, job.unit(), found.1);
         self.waiting = settle_kept(
             &self.graph,
             &self.kept,
             &mut self.flags,
+            &mut self.fresh,
             self.waiting,
             file,
             job.unit(),

@@ -62,6 +62,17 @@ pub fn are_same_sources(a: Option<&Shared<Source>>, b: Option<&Shared<Source>>) 
     }
 }
 
+/// Whether two units show one interface, or both none.
+pub fn are_same_interfaces(a: Option<&Shared<Interface>>, b: Option<&Shared<Interface>>) -> bool
+    ensures { IsTrue result → option_copied a.entry ≡ option_copied b.entry }
+{
+    match (a, b) {
+        (Some(a), Some(b)) => a.get().is_same(b.get()),
+        (None, None) => true,
+        _ => false,
+    }
+}
+
 impl Same for UsedUnit {
     fn is_same(&self, other: &UsedUnit) -> bool {
         self.unit == other.unit && self.used.is_same(&other.used)

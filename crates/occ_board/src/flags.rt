@@ -1,4 +1,5 @@
 ghost use Rattle.occ_board.specs.Done.{done, done_step};
+ghost use Rattle.occ_board.specs.inside.Fresh.{AreFresh};
 ghost use Rattle.occ_board.specs.inside.Flagged.{AreFlags, IsFull, IsFullAt, IsSound, flag_of, flagged, rest_flag, unflagged};
 ghost use Rattle.occ_board.specs.inside.Ready.{NoneIsReady};
 ghost use Rattle.occ_board.specs.inside.Told.{AllTold};
@@ -7,12 +8,12 @@ ghost use Rattle.occ_units.specs.Along.{name_at};
 ghost use Rattle.occ_units.specs.Places.{graph_of, rest_units};
 ghost use Rattle.occ_units.specs.Project.{IsProject};
 ghost use Rattle.std.specs.List.{insert, list_all};
-ghost use Rattle.std.specs.Prelude.{◌≡◌, ◌<◌, ◌≤◌, ◌⊎◌, [], IfOk, IsFalse, IsTrue, Some, false, get_or, length, replicate, slice_get, slice_set, true, ℕ};
+ghost use Rattle.std.specs.Prelude.{◌≡◌, ◌<◌, ◌≤◌, ◌&&◌, ◌⊎◌, [], IfOk, IsFalse, IsTrue, Some, false, get_or, length, not, replicate, slice_get, slice_set, true, ℕ};
 ghost use Rattle.std.specs.Str.{bytes_eq};
 
+use super::fresh::{fresh_law, is_current};
 use super::kept::Kept;
 use super::laws::{done_law, height_law};
-use super::present::is_kept_now;
 use occ_base::{FileName, Items};
 use occ_project::Read;
 use occ_units::Graph;
@@ -118,6 +119,16 @@ impl Flags {
     }
 }
 
+/// Takes the flags of these places.
+pub fn unflag(flags: &mut Flags, places: &[usize])
+    ensures len { length flags.new ≡ length flags.old }
+    ensures flags { (p : ℕ) → get_or flags.new p false ≡ (get_or flags.old p false && not (is_place places.now p)) }
+{
+    for place in places {
+        flags.unset(*place);
+    }
+}
+
 /// Whether the flag at a place is set.
 pub fn is_flagged(flags: &[bool], place: usize) -> bool
     ensures { result ≡ get_or flags.now place false }
@@ -169,11 +180,19 @@ pub fn are_rests_flagged(graph: &Graph, flags: &[bool], place: usize) -> bool
 }
 
 /// Whether the file at a place is done, as far as the flags tell.
-fn is_file_done(graph: &Graph, kept: &Kept, flags: &[bool], place: usize, file: &Read) -> bool
+fn is_file_done(
+    graph: &Graph,
+    kept: &Kept,
+    flags: &[bool],
+    fresh: &[bool],
+    place: usize,
+    file: &Read,
+) -> bool
     requires project { IsProject graph.now }
     requires file { slice_get graph.now place ≡ Some file.now }
     requires sound { IsSound graph.now kept.now flags.now }
     requires told { AllTold graph.now kept.now }
+    requires fresh { AreFresh graph.now kept.now fresh.now }
     ensures { result ≡ done_step graph.now kept.now file.now.name (flag_of graph.now flags.now) }
 {
     if file.source.is_none() {
@@ -182,57 +201,67 @@ fn is_file_done(graph: &Graph, kept: &Kept, flags: &[bool], place: usize, file: 
     if !are_rests_flagged(graph, flags, place) {
         return false;
     }
-    is_kept_now(graph, kept, place, file.name)
+    is_current(graph, kept, fresh, place, file.name)
 }
 
 /// The same of a place.
-fn is_done_by(graph: &Graph, kept: &Kept, flags: &[bool], place: usize) -> bool
+fn is_done_by(graph: &Graph, kept: &Kept, flags: &[bool], fresh: &[bool], place: usize) -> bool
     requires within { place < length graph.now }
     requires sound { IsSound graph.now kept.now flags.now }
     requires told { AllTold graph.now kept.now }
+    requires fresh { AreFresh graph.now kept.now fresh.now }
     ensures value { result ≡ done_step graph.now kept.now (name_at graph.now place) (flag_of graph.now flags.now) }
     ensures done { IsTrue result → done graph.now kept.now (name_at graph.now place) ≡ true }
 {
     done_law();
     match at(graph.project().files(), place) {
-        Some(file) => is_file_done(graph, kept, flags, place, file),
+        Some(file) => is_file_done(graph, kept, flags, fresh, place, file),
         None => false,
     }
 }
 
 /// Sets the flag of a unit that is done by the flags that are set, and tells whether it did.
-fn advance(graph: &Graph, kept: &Kept, flags: &mut Flags, place: usize) -> bool
+fn advance(graph: &Graph, kept: &Kept, flags: &mut Flags, fresh: &mut Flags, place: usize) -> bool
     requires within { place < length graph.now }
     requires len { length flags.old ≡ length graph.now }
     requires sound { IsSound graph.now kept.now flags.old }
     requires told { AllTold graph.now kept.now }
+    requires fresh { AreFresh graph.now kept.now fresh.old }
     ensures len { length flags.new ≡ length graph.now }
     ensures sound { IsSound graph.now kept.now flags.new }
+    ensures fresh { AreFresh graph.now kept.now fresh.new }
     ensures fewer { IsTrue result → unflagged flags.new < unflagged flags.old }
     ensures set { IsTrue result → flags.new ≡ slice_set flags.old place true }
     ensures same { IsFalse result → flags.new ≡ flags.old }
     ensures full { IsFalse result → IsFullAt graph.now kept.now flags.new place }
 {
-    if is_flagged(flags.as_slice(), place) || !is_done_by(graph, kept, flags.as_slice(), place) {
+    let _files = graph.project().files();
+    fresh_law();
+    if is_flagged(flags.as_slice(), place)
+        || !is_done_by(graph, kept, flags.as_slice(), fresh.as_slice(), place)
+    {
         return false;
     }
     flags.set(place);
+    fresh.set(place);
     true
 }
 
 /// Goes once through all units, and tells whether it set a flag.
-fn pass(graph: &Graph, kept: &Kept, flags: &mut Flags) -> bool
+fn pass(graph: &Graph, kept: &Kept, flags: &mut Flags, fresh: &mut Flags) -> bool
     requires len { length flags.old ≡ length graph.now }
     requires sound { IsSound graph.now kept.now flags.old }
     requires told { AllTold graph.now kept.now }
+    requires fresh { AreFresh graph.now kept.now fresh.old }
     ensures len { length flags.new ≡ length graph.now }
     ensures sound { IsSound graph.now kept.now flags.new }
+    ensures fresh { AreFresh graph.now kept.now fresh.new }
     ensures fewer { IsTrue result → unflagged flags.new < unflagged flags.old }
     ensures full { IsFalse result → IsFull graph.now kept.now flags.new (length graph.now) }
 {
     let mut advanced = false;
     for place in 0..flags.as_slice().len() {
-        if advance(graph, kept, flags, place) {
+        if advance(graph, kept, flags, fresh, place) {
             advanced = true;
         }
     }
@@ -240,80 +269,102 @@ fn pass(graph: &Graph, kept: &Kept, flags: &mut Flags) -> bool
 }
 
 /// Sets the flags of all units that are done. It takes no memory.
-pub fn settle(graph: &Graph, kept: &Kept, flags: &mut Flags)
+pub fn settle(graph: &Graph, kept: &Kept, flags: &mut Flags, fresh: &mut Flags)
     requires len { length flags.old ≡ length graph.now }
     requires sound { IsSound graph.now kept.now flags.old }
     requires told { AllTold graph.now kept.now }
+    requires fresh { AreFresh graph.now kept.now fresh.old }
     ensures len { length flags.new ≡ length graph.now }
     ensures flags { AreFlags graph.now kept.now flags.new }
+    ensures fresh { AreFresh graph.now kept.now fresh.new }
 {
     let _files = graph.project().files();
     done_law();
     height_law();
-    while pass(graph, kept, flags) {}
+    while pass(graph, kept, flags, fresh) {}
 }
 
 /// Sets the flag of the unit at a place, if it is done by the flags that are set, and then so of each that rests on it. If
 /// no other flag was missing, none is then. It takes no memory, and goes no deeper than there are units.
 #[cycle(spread)]
-fn spread(graph: &Graph, kept: &Kept, flags: &mut Flags, place: usize)
+fn spread(graph: &Graph, kept: &Kept, flags: &mut Flags, fresh: &mut Flags, place: usize)
     requires within { place < length graph.now }
     requires len { length flags.old ≡ length graph.now }
     requires sound { IsSound graph.now kept.now flags.old }
     requires told { AllTold graph.now kept.now }
+    requires fresh { AreFresh graph.now kept.now fresh.old }
     ensures len { length flags.new ≡ length graph.now }
     ensures sound { IsSound graph.now kept.now flags.new }
+    ensures fresh { AreFresh graph.now kept.now fresh.new }
     ensures least { unflagged flags.new ≤ unflagged flags.old }
     ensures full { (p : ℕ) → p < length graph.now → IsFullAt graph.now kept.now flags.old p ⊎ (place ≡ p) → IsFullAt graph.now kept.now flags.new p }
 {
     let _files = graph.project().files();
     users_law();
-    if !advance(graph, kept, flags, place) {
+    if !advance(graph, kept, flags, fresh, place) {
         return;
     }
     let users = graph.users(place);
     for user in users {
-        spread(graph, kept, flags, *user);
+        spread(graph, kept, flags, fresh, *user);
     }
 }
 
 /// Sets the flags of all units that are done, where none was missing but those of the units at these places. It takes no
 /// memory.
-pub fn settle_among(graph: &Graph, kept: &Kept, flags: &mut Flags, places: &[usize])
+pub fn settle_among(
+    graph: &Graph,
+    kept: &Kept,
+    flags: &mut Flags,
+    fresh: &mut Flags,
+    places: &[usize],
+)
     requires within { (p : ℕ) → is_place places.now p ≡ true → p < length graph.now }
     requires len { length flags.old ≡ length graph.now }
     requires sound { IsSound graph.now kept.now flags.old }
     requires told { AllTold graph.now kept.now }
+    requires fresh { AreFresh graph.now kept.now fresh.old }
     requires full { (p : ℕ) → p < length graph.now → IsFullAt graph.now kept.now flags.old p ⊎ (is_place places.now p ≡ true) }
     ensures len { length flags.new ≡ length graph.now }
     ensures flags { AreFlags graph.now kept.now flags.new }
+    ensures fresh { AreFresh graph.now kept.now fresh.new }
 {
     let _files = graph.project().files();
     done_law();
     height_law();
     for place in places {
-        spread(graph, kept, flags, *place);
+        spread(graph, kept, flags, fresh, *place);
     }
 }
 
 /// Sets the flags of all units that are done, where none was missing but that of the unit at a place, which is done, and those
 /// of units that rest on it. It tells whether no other was. It takes no memory.
-fn settle_done(graph: &Graph, kept: &Kept, flags: &mut Flags, place: usize) -> bool
+fn settle_done(
+    graph: &Graph,
+    kept: &Kept,
+    flags: &mut Flags,
+    fresh: &mut Flags,
+    place: usize,
+) -> bool
     requires within { place < length graph.now }
     requires len { length flags.old ≡ length graph.now }
     requires sound { IsSound graph.now kept.now flags.old }
     requires told { AllTold graph.now kept.now }
+    requires fresh { AreFresh graph.now kept.now fresh.old }
     requires done { done graph.now kept.now (name_at graph.now place) ≡ true }
     requires full { (p : ℕ) → p < length graph.now → IsFullAt graph.now kept.now flags.old p ⊎ (place ≡ p) }
     ensures len { length flags.new ≡ length graph.now }
     ensures flags { AreFlags graph.now kept.now flags.new }
+    ensures fresh { AreFresh graph.now kept.now fresh.new }
     ensures alone { IsTrue result → flags.new ≡ slice_set flags.old place true }
 {
     let _files = graph.project().files();
     users_law();
+    fresh_law();
     flags.set(place);
+    fresh.set(place);
     let count = flags.count();
-    settle_among(graph, kept, flags, graph.users(place));
+    settle_among(graph, kept, flags, fresh, graph.users(place));
     flags.count() == count
 }
 
@@ -344,6 +395,7 @@ pub fn settle_kept(
     graph: &Graph,
     kept: &Kept,
     flags: &mut Flags,
+    fresh: &mut Flags,
     from: usize,
     hint: usize,
     unit: FileName,
@@ -351,11 +403,13 @@ pub fn settle_kept(
     requires len { length flags.old ≡ length graph.now }
     requires sound { IsSound graph.now kept.now flags.old }
     requires told { AllTold graph.now kept.now }
+    requires fresh { AreFresh graph.now kept.now fresh.old }
     requires from { NoneIsReady graph.now flags.old from }
     requires done { done graph.now kept.now unit ≡ true }
     requires full { (p : ℕ) → p < length graph.now → bytes_eq unit (name_at graph.now p) ≡ false → IsFullAt graph.now kept.now flags.old p }
     ensures len { length flags.new ≡ length graph.now }
     ensures flags { AreFlags graph.now kept.now flags.new }
+    ensures fresh { AreFresh graph.now kept.now fresh.new }
     ensures from { NoneIsReady graph.now flags.new result }
 {
     let _files = graph.project().files();
@@ -365,7 +419,7 @@ pub fn settle_kept(
     let Some(place) = graph.project().place_near(hint, unit) else {
         return 0;
     };
-    if settle_done(graph, kept, flags, place) {
+    if settle_done(graph, kept, flags, fresh, place) {
         least_of(graph.users(place), from)
     } else {
         0
@@ -374,13 +428,22 @@ pub fn settle_kept(
 
 /// Sets the flags of all units that are done, where none was missing but that of this unit, which is looked for at a place
 /// first. It takes no memory.
-pub fn settle_from(graph: &Graph, kept: &Kept, flags: &mut Flags, hint: usize, unit: FileName)
+pub fn settle_from(
+    graph: &Graph,
+    kept: &Kept,
+    flags: &mut Flags,
+    fresh: &mut Flags,
+    hint: usize,
+    unit: FileName,
+)
     requires len { length flags.old ≡ length graph.now }
     requires sound { IsSound graph.now kept.now flags.old }
     requires told { AllTold graph.now kept.now }
+    requires fresh { AreFresh graph.now kept.now fresh.old }
     requires full { (p : ℕ) → p < length graph.now → bytes_eq unit (name_at graph.now p) ≡ false → IsFullAt graph.now kept.now flags.old p }
     ensures len { length flags.new ≡ length graph.now }
     ensures flags { AreFlags graph.now kept.now flags.new }
+    ensures fresh { AreFresh graph.now kept.now fresh.new }
 {
     let _files = graph.project().files();
     done_law();
@@ -388,5 +451,5 @@ pub fn settle_from(graph: &Graph, kept: &Kept, flags: &mut Flags, hint: usize, u
     let Some(place) = graph.project().place_near(hint, unit) else {
         return;
     };
-    spread(graph, kept, flags, place);
+    spread(graph, kept, flags, fresh, place);
 }

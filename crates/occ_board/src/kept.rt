@@ -1,10 +1,12 @@
 ghost use Rattle.occ_board.specs.Done.{kept_of};
 ghost use Rattle.occ_board.specs.Machine.{with_kept};
+ghost use Rattle.occ_board.specs.inside.Fresh.{shown_of};
 ghost use Rattle.occ_board.specs.inside.Holding.{place_in};
 ghost use Rattle.occ_report.specs.Inputs.{interface_of};
-ghost use Rattle.std.specs.Option.{option_and_then, option_copied};
-ghost use Rattle.std.specs.Prelude.{◌≡◌, ◌<◌, [], IfErr, IfOk, IfSome, None, Some, length, slice_get};
+ghost use Rattle.std.specs.Option.{option_copied};
+ghost use Rattle.std.specs.Prelude.{◌≡◌, ◌<◌, [], IfErr, IfOk, IfSome, IsTrue, None, Some, length, slice_get, true};
 
+use super::comparing::are_same_interfaces;
 use occ_base::{FileName, Shared};
 use occ_report::Outcome;
 use occ_types::Interface;
@@ -79,16 +81,26 @@ impl Kept {
         }
     }
 
-    /// The outcome that is kept of a unit, if it stands where it is looked for first.
-    fn hinted(&self, file: usize, unit: FileName) -> Option<&Outcome>
-        ensures { IfSome result (λ outcome. kept_of self.now unit ≡ Some outcome.now) }
+    /// The place of the outcome that is kept of a unit, if it stands where it is looked for first.
+    fn hinted(&self, file: usize, unit: FileName) -> Option<usize>
+        ensures { IfSome result (λ place. place_in self.now unit ≡ Some place) }
     {
         let hint = self.hints.get(file)?;
         let outcome = at(self.outcomes.as_slice(), *hint)?;
         if outcome.job().unit() == unit {
-            Some(outcome)
+            Some(*hint)
         } else {
             None
+        }
+    }
+
+    /// The place of the outcome that is kept of a unit, which is looked for at a place of the project first.
+    fn place_near(&self, file: usize, unit: FileName) -> Option<usize>
+        ensures { result ≡ place_in self.now unit }
+    {
+        match self.hinted(file, unit) {
+            Some(place) => Some(place),
+            None => self.place(unit),
         }
     }
 
@@ -96,15 +108,15 @@ impl Kept {
     pub fn get_near(&self, file: usize, unit: FileName) -> Option<&Outcome>
         ensures { option_copied result ≡ kept_of self.now unit }
     {
-        match self.hinted(file, unit) {
-            Some(outcome) => Some(outcome),
-            None => self.get(unit),
+        match self.place_near(file, unit) {
+            Some(place) => at(self.outcomes.as_slice(), place),
+            None => None,
         }
     }
 
     /// What a unit, which is looked for at a place of the project first, shows by the outcome that is kept of it.
     pub fn shown_near(&self, file: usize, unit: FileName) -> Option<&Shared<Interface>>
-        ensures { option_copied result ≡ option_and_then interface_of (kept_of self.now unit) }
+        ensures { option_copied result ≡ shown_of self.now unit }
     {
         self.get_near(file, unit)?.interface()
     }
@@ -119,16 +131,6 @@ impl Kept {
         }
     }
 
-    /// The outcome that is kept of a unit.
-    pub fn get(&self, unit: FileName) -> Option<&Outcome>
-        ensures { option_copied result ≡ kept_of self.now unit }
-    {
-        match self.place(unit) {
-            Some(place) => at(self.outcomes.as_slice(), place),
-            None => None,
-        }
-    }
-
     /// The outcome at a place.
     pub fn at(&self, place: usize) -> &Outcome
         requires { place < length self.now }
@@ -137,35 +139,45 @@ impl Kept {
         &self.outcomes[place]
     }
 
-    /// Keeps an outcome of the unit at a place of the project, in place of the one that is kept of its unit if one is, and tells
-    /// its place. Where memory is refused it comes back.
-    pub fn keep(&mut self, file: usize, outcome: Outcome) -> Result<usize, (Outcome, AllocError)>
+    /// Keeps an outcome of the unit at a place of the project, in place of the one that is kept of its unit if one is. It tells its
+    /// place, and whether the unit shows the same by it as before. Where memory is refused it comes back.
+    pub fn keep(
+        &mut self,
+        file: usize,
+        outcome: Outcome,
+    ) -> Result<(usize, bool), (Outcome, AllocError)>
         ensures kept { IfOk result (λ _. self.new ≡ with_kept self.old outcome) }
-        ensures place { IfOk result (λ place. slice_get self.new place ≡ Some outcome) }
+        ensures place { IfOk result (λ found. slice_get self.new found.0 ≡ Some outcome) }
+        ensures shown { IfOk result (λ found. found.1 ≡ true → interface_of outcome ≡ shown_of self.old outcome.unit) }
         ensures err { IfErr result (λ refused. (refused.0 ≡ outcome) × (self.new ≡ self.old)) }
     {
-        match self.place(outcome.job().unit()) {
+        match self.place_near(file, outcome.job().unit()) {
             Some(place) => {
-                self.replace(place, outcome);
+                let same = self.replace(place, outcome);
                 self.hint(file, place);
-                Ok(place)
+                Ok((place, same))
             }
             None => {
+                let same = outcome.interface().is_none();
                 let place = self.keep_first(outcome)?;
                 self.hint(file, place);
-                Ok(place)
+                Ok((place, same))
             }
         }
     }
 
-    /// Keeps an outcome in place of the one that is kept of its unit.
-    fn replace(&mut self, place: usize, outcome: Outcome)
+    /// Keeps an outcome in place of the one that is kept of its unit, and tells whether the unit shows the same by both.
+    fn replace(&mut self, place: usize, outcome: Outcome) -> bool
         requires within { place < length self.old }
         requires place { place_in self.old outcome.unit ≡ Some place }
         ensures kept { self.new ≡ with_kept self.old outcome }
         ensures place { slice_get self.new place ≡ Some outcome }
+        ensures shown { IsTrue result → interface_of outcome ≡ shown_of self.old outcome.unit }
     {
+        let before = self.at(place).interface();
+        let same = are_same_interfaces(outcome.interface(), before);
         self.outcomes[place] = outcome;
+        same
     }
 
     /// Keeps the first outcome of a unit, and tells its place.

@@ -8,6 +8,7 @@ mod copying;
 mod entry;
 mod expanding;
 mod flags;
+mod fresh;
 mod journal;
 mod judging;
 mod keeping;

@@ -74,11 +74,12 @@ fn all_copied(alloc: Global, diags: &[Diag]) -> Result<Items<Diag>, AllocError>
     Ok(found)
 }
 
-/// The diagnostics of a unit that is done.
+/// The diagnostics of a unit that is done, whose outcome is looked for at a place first.
 fn diags_of(
     alloc: Global,
     graph: &Graph,
     kept: &Kept,
+    hint: usize,
     unit: FileName,
 ) -> Result<Items<Diag>, AllocError>
     requires { is_done graph.now kept.now unit ≡ true }
@@ -87,17 +88,18 @@ fn diags_of(
     let _files = graph.project().files();
     kept_law();
     input_law();
-    match kept.get(unit) {
+    match kept.get_near(hint, unit) {
         Some(outcome) => all_copied(alloc, outcome.diags()),
         None => unreachable!(),
     }
 }
 
-/// What is shown of a unit, if it is done, or if it is not.
+/// What is shown of a unit, whose outcome is looked for at a place first, if it is done, or if it is not.
 fn show(
     alloc: Global,
     graph: &Graph,
     kept: &Kept,
+    hint: usize,
     done: bool,
     unit: FileName,
 ) -> Result<Shown, AllocError>
@@ -105,17 +107,18 @@ fn show(
     ensures { IfOk result (λ shown. shown ≡ (row_of graph.now kept.now unit).shown) }
 {
     if done {
-        Ok(Shown::Done(diags_of(alloc, graph, kept, unit)?))
+        Ok(Shown::Done(diags_of(alloc, graph, kept, hint, unit)?))
     } else {
         Ok(Shown::Pending)
     }
 }
 
-/// Adds the row of a file, if it is an open unit.
+/// Adds the row of a file, if it is an open unit. Its outcome is looked for at a place first.
 fn add_row(
     alloc: Global,
     graph: &Graph,
     kept: &Kept,
+    hint: usize,
     done: bool,
     file: &Read,
     rows: &mut Items<Row>,
@@ -126,7 +129,7 @@ fn add_row(
     if file.name.is_unit() && file.source.is_some() {
         rows.push(Row {
             unit: file.name,
-            shown: show(alloc, graph, kept, done, file.name)?,
+            shown: show(alloc, graph, kept, hint, done, file.name)?,
         })?;
     }
     Ok(())
@@ -145,7 +148,7 @@ pub fn rows(
     let mut rows = Items::new(alloc);
     for (place, file) in graph.project().files().iter().enumerate() {
         let done = is_flagged(flags, place);
-        add_row(alloc, graph, kept, done, file, &mut rows)?;
+        add_row(alloc, graph, kept, place, done, file, &mut rows)?;
     }
     Ok(rows)
 }

@@ -1,6 +1,7 @@
 ghost use Rattle.occ_board.specs.Done.{done};
 ghost use Rattle.occ_board.specs.Edits.{IsApart};
 ghost use Rattle.occ_board.specs.inside.Flagged.{AreFlags, IsFullAt, IsSound, unflagged};
+ghost use Rattle.occ_board.specs.inside.Fresh.{AreFresh, looked};
 ghost use Rattle.occ_board.specs.inside.Told.{AllTold, AreBefore};
 ghost use Rattle.occ_board.specs.inside.Touched.{IsClosed};
 ghost use Rattle.occ_report.specs.Inputs.{Input};
@@ -14,7 +15,8 @@ ghost use Rattle.occ_units.specs.Spelled.{AreSpelled};
 ghost use Rattle.std.specs.List.{insert};
 ghost use Rattle.std.specs.Prelude.{◌≡◌, ◌<◌, ◌≤◌, ◌&&◌, IfOk, List, None, OnErr, OnOk, Some, false, get_or, length, not, true, ℕ};
 
-use super::flags::{Flags, settle, settle_among, settle_from};
+use super::flags::{Flags, settle, settle_among, settle_from, unflag};
+use super::fresh::{forget_readers, fresh_with_place};
 use super::kept::Kept;
 use super::laws::{done_law, height_law};
 use super::touched::Touched;
@@ -27,10 +29,11 @@ use occ_units::laws::{
 };
 use std::alloc::{AllocError, Global};
 
-/// An edit of a file does not change whether a unit is done, if the file is a read neither of the unit nor of a unit that it
-/// reaches.
+/// An edit of a file changes neither whether a unit is done nor what a fresh outcome of it looked at, if the file is a read neither
+/// of the unit nor of a unit that it reaches.
 fn apart_law()
-    ensures { (files : List Read) (file : Read) (kept : List Input) (u : List ℕ) → IsProject files → IsApart files file.name u → done (put files file) kept u ≡ done files kept u }
+    ensures done { (files : List Read) (file : Read) (kept : List Input) (u : List ℕ) → IsProject files → IsApart files file.name u → done (put files file) kept u ≡ done files kept u }
+    ensures looked { (files : List Read) (file : Read) (kept : List Input) (u : List ℕ) → IsApart files file.name u → looked (put files file) kept u ≡ looked files kept u }
 {
     put_law();
     reads_law();
@@ -101,37 +104,29 @@ fn touched_by(
     Ok(touched)
 }
 
-/// Takes their flags from marked units.
-fn unflag(flags: &mut Flags, touched: &Touched)
-    ensures len { length flags.new ≡ length flags.old }
-    ensures flags { (p : ℕ) → get_or flags.new p false ≡ (get_or flags.old p false && not (get_or touched.now p false)) }
-{
-    let places = touched.places();
-    for place in places {
-        flags.unset(*place);
-    }
-}
-
 /// Sets the flags of all units that are done, where none was missing but those of marked units. It takes no memory.
-fn resettle(graph: &Graph, kept: &Kept, flags: &mut Flags, touched: &Touched)
+fn resettle(graph: &Graph, kept: &Kept, flags: &mut Flags, fresh: &mut Flags, touched: &Touched)
     requires len { length flags.old ≡ length graph.now }
     requires marks { length touched.now ≡ length graph.now }
     requires sound { IsSound graph.now kept.now flags.old }
     requires told { AllTold graph.now kept.now }
+    requires fresh { AreFresh graph.now kept.now fresh.old }
     requires full { (p : ℕ) → p < length graph.now → get_or touched.now p false ≡ false → IsFullAt graph.now kept.now flags.old p }
     ensures len { length flags.new ≡ length graph.now }
     ensures flags { AreFlags graph.now kept.now flags.new }
+    ensures fresh { AreFresh graph.now kept.now fresh.new }
 {
-    settle_among(graph, kept, flags, touched.places());
+    settle_among(graph, kept, flags, fresh, touched.places());
 }
 
-/// The graph and the flags behind the edit of a file that was not there, and that no file looks for. What there was stays, but
-/// for its places.
+/// The graph, the flags and what is fresh behind the edit of a file that was not there, and that no file looks for. What there
+/// was stays, but for its places.
 fn renew_new(
     alloc: Global,
     graph: &mut Graph,
     kept: &Kept,
     flags: &mut Flags,
+    fresh: &mut Flags,
     place: usize,
     name: FileName,
     revision: u32,
@@ -142,11 +137,13 @@ fn renew_new(
     requires len { length flags.old ≡ length graph.old }
     requires flags { AreFlags graph.old kept.now flags.old }
     requires told { AllTold graph.old kept.now }
+    requires fresh { AreFresh graph.old kept.now fresh.old }
     requires before { AreBefore revision kept.now }
     ensures graph { OnOk result (graph.new ≡ put graph.old (record { name = name; revision = revision; source = source })) }
     ensures len { OnOk result (length flags.new ≡ length graph.new) }
     ensures flags { OnOk result (AreFlags graph.new kept.now flags.new) }
-    ensures err { OnErr result ((graph.new ≡ graph.old) × (flags.new ≡ flags.old)) }
+    ensures fresh { OnOk result (AreFresh graph.new kept.now fresh.new) }
+    ensures err { OnErr result ((graph.new ≡ graph.old) × (flags.new ≡ flags.old) × (fresh.new ≡ fresh.old)) }
 {
     let _files = graph.project().files();
     apart_law();
@@ -154,18 +151,21 @@ fn renew_new(
     done_law();
     names_law();
     let next = flags.with_place(alloc, place)?;
+    let known = fresh_with_place(alloc, fresh, place)?;
     graph.add(alloc, place, name, revision, source)?;
     *flags = next;
-    settle_from(graph, kept, flags, place, name);
+    *fresh = known;
+    settle_from(graph, kept, flags, fresh, place, name);
     Ok(())
 }
 
-/// The graph and the flags behind the edit of a file that was not there, and that others look for.
+/// The graph, the flags and what is fresh behind the edit of a file that was not there, and that others look for.
 fn renew_all(
     alloc: Global,
     graph: &mut Graph,
     kept: &Kept,
     flags: &mut Flags,
+    fresh: &mut Flags,
     name: FileName,
     revision: u32,
     source: Option<Shared<Source>>,
@@ -176,22 +176,28 @@ fn renew_all(
     ensures graph { OnOk result (graph.new ≡ put graph.old (record { name = name; revision = revision; source = source })) }
     ensures len { OnOk result (length flags.new ≡ length graph.new) }
     ensures flags { OnOk result (AreFlags graph.new kept.now flags.new) }
-    ensures err { OnErr result ((graph.new ≡ graph.old) × (flags.new ≡ flags.old)) }
+    ensures fresh { OnOk result (AreFresh graph.new kept.now fresh.new) }
+    ensures err { OnErr result ((graph.new ≡ graph.old) × (flags.new ≡ flags.old) × (fresh.new ≡ fresh.old)) }
 {
     put_law();
-    let mut next = Flags::none(alloc, graph.project().files().len() + 1)?;
+    let count = graph.project().files().len() + 1;
+    let next = Flags::none(alloc, count)?;
+    let none = Flags::none(alloc, count)?;
     graph.put(alloc, name, revision, source)?;
-    settle(graph, kept, &mut next);
     *flags = next;
+    *fresh = none;
+    settle(graph, kept, flags, fresh);
     Ok(())
 }
 
-/// The graph and the flags behind the edit of the file at a place. What the edit does not concern stays where it is.
+/// The graph, the flags and what is fresh behind the edit of the file at a place. What the edit does not concern stays where it
+/// is.
 fn renew_at(
     alloc: Global,
     graph: &mut Graph,
     kept: &Kept,
     flags: &mut Flags,
+    fresh: &mut Flags,
     place: usize,
     name: FileName,
     revision: u32,
@@ -202,11 +208,13 @@ fn renew_at(
     requires len { length flags.old ≡ length graph.old }
     requires flags { AreFlags graph.old kept.now flags.old }
     requires told { AllTold graph.old kept.now }
+    requires fresh { AreFresh graph.old kept.now fresh.old }
     requires before { AreBefore revision kept.now }
     ensures graph { OnOk result (graph.new ≡ put graph.old (record { name = name; revision = revision; source = source })) }
     ensures len { OnOk result (length flags.new ≡ length graph.new) }
     ensures flags { OnOk result (AreFlags graph.new kept.now flags.new) }
-    ensures err { OnErr result ((graph.new ≡ graph.old) × (flags.new ≡ flags.old)) }
+    ensures fresh { OnOk result (AreFresh graph.new kept.now fresh.new) }
+    ensures err { OnErr result ((graph.new ≡ graph.old) × (flags.new ≡ flags.old) × (fresh.new ≡ fresh.old)) }
 {
     let _files = graph.project().files();
     apart_law();
@@ -214,11 +222,13 @@ fn renew_at(
     done_law();
     names_law();
     readers_law();
+    reads_law();
     let readers = graph.readers(alloc, place)?;
     let touched = touched_by(alloc, graph, place, readers.as_slice())?;
-    graph.set(alloc, place, readers.as_slice(), name, revision, source)?;
-    unflag(flags, &touched);
-    resettle(graph, kept, flags, &touched);
+    let alike = graph.set(alloc, place, readers.as_slice(), name, revision, source)?;
+    forget_readers(fresh, readers.as_slice(), &touched, alike);
+    unflag(flags, touched.places());
+    resettle(graph, kept, flags, fresh, &touched);
     Ok(())
 }
 
@@ -229,6 +239,7 @@ pub fn renew(
     graph: &mut Graph,
     kept: &Kept,
     flags: &mut Flags,
+    fresh: &mut Flags,
     name: FileName,
     revision: u32,
     source: Option<Shared<Source>>,
@@ -237,17 +248,23 @@ pub fn renew(
     requires len { length flags.old ≡ length graph.old }
     requires flags { AreFlags graph.old kept.now flags.old }
     requires told { AllTold graph.old kept.now }
+    requires fresh { AreFresh graph.old kept.now fresh.old }
     requires before { AreBefore revision kept.now }
     ensures graph { OnOk result (graph.new ≡ put graph.old (record { name = name; revision = revision; source = source })) }
     ensures len { OnOk result (length flags.new ≡ length graph.new) }
     ensures flags { OnOk result (AreFlags graph.new kept.now flags.new) }
-    ensures err { OnErr result ((graph.new ≡ graph.old) × (flags.new ≡ flags.old)) }
+    ensures fresh { OnOk result (AreFresh graph.new kept.now fresh.new) }
+    ensures err { OnErr result ((graph.new ≡ graph.old) × (flags.new ≡ flags.old) × (fresh.new ≡ fresh.old)) }
 {
     if let Some(place) = graph.project().place(name) {
-        return renew_at(alloc, graph, kept, flags, place, name, revision, source);
+        return renew_at(
+            alloc, graph, kept, flags, fresh, place, name, revision, source,
+        );
     }
     match graph.place_for(name) {
-        Some(place) => renew_new(alloc, graph, kept, flags, place, name, revision, source),
-        None => renew_all(alloc, graph, kept, flags, name, revision, source),
+        Some(place) => renew_new(
+            alloc, graph, kept, flags, fresh, place, name, revision, source,
+        ),
+        None => renew_all(alloc, graph, kept, flags, fresh, name, revision, source),
     }
 }

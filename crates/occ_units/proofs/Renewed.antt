@@ -1,12 +1,13 @@
 -- A file that is put in the place of the one of its name, and what is known then of the units that read it.
-use Rattle.std.proofs.Common.{◌≡◌, ◌∙◌, ◌+◌, ◌<◌, ◌≤◌, ◌||◌, ◌==◌, ◌⊎◌, ◌++◌, ℕ, zero, suc, Bool, true, false, List, [], ◌∷◌, length, map, take, get_or, set, Option, Some, None, refl, sym, ap, subst, inl, inr, arith, ◌↔◌}
+use Rattle.std.proofs.Common.{◌≡◌, ◌∙◌, ◌+◌, ◌<◌, ◌≤◌, ◌||◌, ◌==◌, ◌⊎◌, ◌++◌, ℕ, zero, suc, Bool, true, false, cond, List, [], ◌∷◌, length, map, take, get_or, set, Option, Some, None, refl, sym, ap, subst, inl, inr, arith, ◌↔◌}
 use Rattle.std.proofs.lemmas.Bool.{cases_lt, eq-eqb, eqb-false, eqb-true}
 use Rattle.std.proofs.lemmas.List.{take_more}
+use Rattle.std.proofs.lemmas.Slice.Eq.{bytes_eq-Decides}
 use Rattle.std.specs.List.{cons_option, slice_get}
 use Rattle.std.specs.Option.{is_some, option_map, unwrap_or}
+use Rattle.std.specs.Str.{bytes_eq}
 use Rattle.occ_base.specs.FileName.{is_unit}
 use Rattle.occ_graph.specs.Graph.{Graph, has_edge, is_among as is_place}
-use Rattle.occ_graph.specs.Graph as graph
 use Rattle.occ_graph.specs.Sources.{sources}
 use Rattle.occ_project.specs.Entries.{is_among}
 use Rattle.occ_project.specs.Expansion.{expansion}
@@ -15,9 +16,10 @@ use Rattle.occ_project.specs.declared.reads.Read.{Read}
 use Rattle.occ_units.proofs.Below.{named_at, placed_name}
 use Rattle.occ_units.proofs.Edges.{among_places, file_at, file_there, get_map, graph_long, named_place, same_place, slice_some}
 use Rattle.occ_units.proofs.Kept.{map_at}
-use Rattle.occ_units.proofs.Putting.{put_at, put_rises}
+use Rattle.occ_units.proofs.Putting.{file_put, put_at, put_rises}
 use Rattle.occ_units.proofs.Reading.{read_by}
 use Rattle.occ_units.proofs.Sharing.{facts_stay, place_stays, put_others}
+use Rattle.occ_units.specs.Alike.{AreAlike}
 use Rattle.occ_units.specs.Along.{name_at}
 use Rattle.occ_units.specs.Places.{graph_of, places_of, read_graph, readers_at}
 use Rattle.occ_units.specs.Project.{IsProject, file_of, put}
@@ -403,3 +405,16 @@ module _ (files later : List Read) (same : IsRenewed files later) where
 
   pub graph_still : (next : List Facts) (links : Graph) (readers : Option Graph) → links ≡ graph_of files → AreReaders files readers → next ≡ all_facts later → IsGraph later next links readers false
   graph_still next links readers h r n = record { facts_are = n; links_are = h ∙ sym same.graph; readers_are = readers_still readers r; settled_is = λ k. absurd cc }
+
+-- where the file was open and is so, the same files are
+pub alike_behind : (files later : List Read) (file : Read) → later ≡ put files file → graph_of later ≡ graph_of files → is_some (file_of files file.name).source ≡ true → is_some file.source ≡ true → AreAlike files later
+alike_behind files later file put_is graph was is = record { graph = graph; opened = λ name. by name (bytes_eq file.name name) refl } where
+  found : (name : List ℕ) → file_of later name ≡ cond (bytes_eq file.name name) file (file_of files name)
+  found name = ap (λ (fs : List Read). file_of fs name) put_is ∙ file_put files file name
+
+  by : (name : List ℕ) (b : Bool) → bytes_eq file.name name ≡ b → is_some (file_of later name).source ≡ is_some (file_of files name).source
+  by name true e =
+      let same : file.name ≡ name = (bytes_eq-Decides file.name name).0 e in
+      ap (λ (f : Read). is_some f.source) (found name ∙ ap (λ (b : Bool). cond b file (file_of files name)) e)
+      ∙ is ∙ sym was ∙ ap (λ (n : List ℕ). is_some (file_of files n).source) same
+  by name false e = ap (λ (f : Read). is_some f.source) (found name ∙ ap (λ (b : Bool). cond b file (file_of files name)) e)

@@ -1,5 +1,5 @@
 -- What `#USE` lines name are units.
-use Rattle.std.proofs.Common.{◌≡◌, ◌∙◌, ◌+◌, ◌-◌, ◌==◌, ◌%◌, ◌||◌, ℕ, zero, suc, Bool, true, false, cond, codes, List, [], ◌∷◌, ◌++◌, drop, length, take, Option, Some, None, Err, refl, sym, ap, subst, arith, inl, inr, nat_eq, map}
+use Rattle.std.proofs.Common.{◌≡◌, ◌∙◌, ◌+◌, ◌-◌, ◌==◌, ◌%◌, ◌||◌, ℕ, zero, suc, Bool, true, false, cond, codes, List, [], ◌∷◌, ◌++◌, length, take, Option, Some, None, Err, refl, sym, ap, subst, arith, nat_eq}
 use Rattle.std.specs.Bool.{MatchBool}
 use Rattle.std.specs.BTreeSet.{insert_key}
 use Rattle.std.specs.List.{AllByRecursion, flat_map}
@@ -41,7 +41,7 @@ use Rattle.occ_project.specs.declared.expanded.ExpandedLine.{ExpandedLine}
 use Rattle.occ_project.specs.declared.reads.Read.{Read}
 use Rattle.occ_units.specs.Project.{file_of}
 use Rattle.occ_units.specs.Spelled.{AreSpelled, IsSpelled}
-use Rattle.occ_units.specs.Units.{Uses, in_order, used_units}
+use Rattle.occ_units.specs.Units.{Uses, in_order}
 use Rattle.occ_units.proofs.Narrowed.{file_lines}
 
 -- lists of what all have something

@@ -2,6 +2,7 @@ ghost use Rattle.occ_base.specs.FileName.{is_unit};
 ghost use Rattle.occ_graph.specs.Graph.{is_among as is_place, rests as rests_in, targets};
 ghost use Rattle.occ_project.specs.Entries.{is_among};
 ghost use Rattle.occ_project.specs.Reads.{place, place as first_place};
+ghost use Rattle.occ_units.specs.Alike.{AreAlike};
 ghost use Rattle.occ_units.specs.Along.{name_at};
 ghost use Rattle.occ_units.specs.New.{IsNew};
 ghost use Rattle.occ_units.specs.Places.{graph_of, is_circular as uses_in_circle, readers_at, standing_of, users_at};
@@ -280,7 +281,8 @@ impl Graph {
     }
 
     /// Gives the file at a place, which is read by the units at these places, this text, or takes it away, by the edit of that
-    /// number. If all these read and use the same as before, all that is kept but what is known of them stays where it is.
+    /// number. If all these read and use the same as before, all that is kept but what is known of them stays where it is. It
+    /// tells whether that is so, and the file is open as before.
     pub fn set(
         &mut self,
         alloc: Global,
@@ -289,10 +291,11 @@ impl Graph {
         name: FileName,
         revision: u32,
         source: Option<Shared<Source>>,
-    ) -> Result<(), AllocError>
+    ) -> Result<bool, AllocError>
         requires place { first_place name self.old ≡ Some place }
         requires readers { readers.now ≡ readers_at self.old place }
         ensures ok { OnOk result (self.new ≡ put self.old (record { name = name; revision = revision; source = source })) }
+        ensures alike { IfOk result (λ alike. alike ≡ true → AreAlike self.old self.new) }
         ensures err { OnErr result (self.new ≡ self.old) }
     {
         let _files = self.project.files();
@@ -301,6 +304,7 @@ impl Graph {
             revision,
             source,
         };
+        let open = file.source.is_some() && self.project.is_open_at(place);
         let again = share(&file)?;
         self.settled = false;
         if renew(
@@ -311,9 +315,10 @@ impl Graph {
             readers,
             file,
         )? {
-            return Ok(());
+            return Ok(open);
         }
-        self.put(alloc, name, revision, again.source)
+        self.put(alloc, name, revision, again.source)?;
+        Ok(false)
     }
 
     /// What rests on what and uses what behind the edit of a file; nothing, if that is the same as before, since no file is new

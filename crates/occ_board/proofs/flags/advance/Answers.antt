@@ -1,7 +1,11 @@
 use Rattle.std.proofs.Common.{ap, sym, refl, subst, arith, false, get_or, List, Bool, ◌∙◌, ◌≡◌, ◌<◌, length}
+use Rattle.occ_board.proofs.Looked.{set_fresh}
 use Rattle.occ_board.proofs.Settled.{set_fewer, set_sound}
 use Rattle.occ_board.proofs.flags.advance.Goals as goal
 use Rattle.occ_board.specs.inside.Flagged.{flag_of, unflagged}
+use Rattle.occ_board.specs.inside.Fresh.{AreFresh}
+use Rattle.occ_units.specs.Along.{name_at}
+use Rattle.occ_units.specs.Project.{IsProject}
 
 pub returns-clause-sound : goal.returns-clause-sound
 returns-clause-sound c = λ u h.
@@ -12,3 +16,9 @@ returns-clause-fewer c = λ h.
     let lt : c.args.place < length c.args.flags.now = omega (arith, c.requires.len, c.requires.within) in
     let none : get_or c.args.flags.now c.args.place false ≡ false = ap (λ (fs : List Bool). get_or fs c.args.place false) (sym c.as_slice.ensures) ∙ sym c.if-is_flagged.ensures in
     subst (λ (fs : List Bool). unflagged fs < unflagged c.args.flags.now) (sym c.set.ensures) (set_fewer c.args.flags.now c.args.place lt none)
+
+pub returns-clause-fresh : goal.returns-clause-fresh
+returns-clause-fresh c =
+    let project : IsProject c.args.graph.now = subst IsProject c.project.ensures c.files-files.ensures.in_order in
+    subst (AreFresh c.args.graph.now c.args.kept.now) (sym c.set-2.ensures)
+    (set_fresh c.args.graph.now c.args.kept.now c.args.fresh.now c.args.place c.requires.fresh (c.fresh_law.ensures.done c.args.graph.now c.args.kept.now (name_at c.args.graph.now c.args.place) project (c.if-not-is_done_by.ensures.done refl)))

@@ -1,13 +1,16 @@
 use Rattle.std.proofs.Common.{rules, sym, ◌∙◌}
-use Rattle.occ_board.proofs.Places.{within}
+use Rattle.occ_board.proofs.Places.{placed, within}
 use Rattle.occ_board.proofs.Settled.{file_rested, step_closed, step_is, step_waits}
 use Rattle.occ_board.proofs.flags.is_file_done.Goals as goal
 
 pub are_rests_flagged-requires : goal.are_rests_flagged-requires
 are_rests_flagged-requires c = within c.args.graph.now c.args.place c.args.file.now c.requires.file
 
-pub is_kept_now-requires-clause-rested : goal.is_kept_now-requires-clause-rested
-is_kept_now-requires-clause-rested c = file_rested c.args.graph.now c.args.kept.now c.args.flags.now c.args.place c.args.file.now c.requires.file c.requires.sound (sym c.if-not-are_rests_flagged.ensures)
+pub is_current-requires-clause-place : goal.is_current-requires-clause-place
+is_current-requires-clause-place c = placed c.args.graph.now c.args.place c.args.file.now c.requires.project c.requires.file
+
+pub is_current-requires-clause-rested : goal.is_current-requires-clause-rested
+is_current-requires-clause-rested c = file_rested c.args.graph.now c.args.kept.now c.args.flags.now c.args.place c.args.file.now c.requires.file c.requires.sound (sym c.if-not-are_rests_flagged.ensures)
 
 pub returns-then-is_none : goal.returns-then-is_none
 returns-then-is_none c = step_closed c.args.graph.now c.args.kept.now c.args.flags.now c.args.place c.args.file.now c.requires.project c.requires.file (search rules)
@@ -17,5 +20,5 @@ returns-then-not-are_rests_flagged c = step_waits c.args.graph.now c.args.kept.n
 
 pub returns : goal.returns
 returns c =
-    c.is_kept_now.ensures
+    c.is_current.ensures
     ∙ step_is c.args.graph.now c.args.kept.now c.args.flags.now c.args.place c.args.file.now c.requires.project c.requires.file (search rules) (sym c.if-not-are_rests_flagged.ensures)

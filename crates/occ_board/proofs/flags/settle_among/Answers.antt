@@ -7,7 +7,7 @@ use Rattle.occ_board.proofs.flags.settle_among.Goals as goal
 use Rattle.occ_units.specs.Project.{IsProject}
 
 pub loop-place-init : goal.loop-place-init
-loop-place-init c = (c.requires.len, c.requires.sound, c.requires.full)
+loop-place-init c = (c.requires.len, c.requires.sound, c.requires.full, c.requires.fresh)
 
 pub spread-requires-clause-within : goal.spread-requires-clause-within
 spread-requires-clause-within c = c.requires.within _ (among_there c.args.places.now c.loop-place.place-index c.loop-place-test.true)
@@ -19,6 +19,7 @@ loop-place-preserved c =
       c.spread.ensures.len,
       c.spread.ensures.sound,
       resettled_more c.args.graph.now c.args.kept.now places c.loop-place.flags c.spread.new.flags i (get_or places i 0) c.loop-place.invariant.2 (drop_more places i 0 c.loop-place-test.true) c.spread.ensures.full,
+      c.spread.ensures.fresh,
     )
 
 pub returns-clause-flags : goal.returns-clause-flags

@@ -1,12 +1,15 @@
 use Rattle.std.proofs.Common.{◌∙◌, ◌≡◌, ◌<◌, ◌⊎◌, ℕ, List, Bool, ap, arith, length, subst, sym, true}
 use Rattle.std.proofs.lemmas.Bool.{eqb-true}
 use Rattle.std.proofs.lemmas.List.{length-set}
+use Rattle.occ_board.proofs.Looked.{set_fresh}
 use Rattle.occ_board.proofs.Settled.{set_sound}
 use Rattle.occ_board.proofs.Spread.{set_full}
 use Rattle.occ_board.proofs.Waits.{same_flags, stays_set}
 use Rattle.occ_board.proofs.flags.settle_done.Goals as goal
 use Rattle.occ_board.specs.inside.Flagged.{IsFullAt, IsSound}
+use Rattle.occ_board.specs.inside.Fresh.{AreFresh}
 use Rattle.occ_graph.specs.Graph.{is_among}
+use Rattle.occ_units.specs.Along.{name_at}
 use Rattle.occ_units.specs.Places.{users_at}
 use Rattle.occ_units.specs.Project.{IsProject}
 
@@ -33,3 +36,9 @@ returns-clause-alone c = λ h.
     (stays_set c.args.graph.now c.args.kept.now project c.set.new.self c.settle_among.new.flags long sound c.settle_among.ensures.flags)
     (sym c.count.ensures ∙ eqb-true c.count.result c.count-count.result h ∙ c.count-count.ensures)
     ∙ c.set.ensures
+
+pub settle_among-requires-clause-fresh : goal.settle_among-requires-clause-fresh
+settle_among-requires-clause-fresh c =
+    let project : IsProject c.args.graph.now = subst IsProject c.project.ensures c.files-files.ensures.in_order in
+    subst (AreFresh c.args.graph.now c.args.kept.now) (sym c.set-2.ensures)
+    (set_fresh c.args.graph.now c.args.kept.now c.args.fresh.now c.args.place c.requires.fresh (c.fresh_law.ensures.done c.args.graph.now c.args.kept.now (name_at c.args.graph.now c.args.place) project c.requires.done))

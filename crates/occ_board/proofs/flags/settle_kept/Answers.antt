@@ -36,6 +36,11 @@ settle_done-requires-clause-full c =
     let at : place c.args.unit c.args.graph.now ≡ Some c.in-Some.place = sym (c.in-Some.ensures ∙ ap (place c.args.unit) c.project-2.ensures) in
     full_or c.args.graph.now c.args.kept.now project c.args.flags.now c.args.unit c.in-Some.place at c.requires.full
 
+pub users-requires : goal.users-requires
+users-requires c =
+    let at : place c.args.unit c.args.graph.now ≡ Some c.in-Some.place = sym (c.in-Some.ensures ∙ ap (place c.args.unit) c.project-2.ensures) in
+    place_within c.args.unit c.args.graph.now c.in-Some.place at
+
 pub returns-then-settle_done-clause-from : goal.returns-then-settle_done-clause-from
 returns-then-settle_done-clause-from c =
     let project : IsProject c.args.graph.now = subst IsProject c.project.ensures c.files-files.ensures.in_order in

@@ -1,7 +1,10 @@
-use Rattle.std.proofs.Common.{◌∙◌, ◌+◌, List, ap, length}
+use Rattle.std.proofs.Common.{◌∙◌, ◌+◌, Bool, List, ap, false, get_or, length, subst, sym}
+use Rattle.occ_board.proofs.Looked.{none_fresh}
 use Rattle.occ_board.proofs.Newly.{all_long}
+use Rattle.occ_board.proofs.Settled.{none_set, none_sound}
 use Rattle.occ_board.proofs.Told.{told_then}
 use Rattle.occ_board.proofs.touching.renew_all.Goals as goal
+use Rattle.occ_board.specs.inside.Flagged.{IsSound}
 use Rattle.occ_project.specs.declared.reads.Read.{Read}
 
 pub settle-requires-clause-len : goal.settle-requires-clause-len
@@ -13,3 +16,9 @@ pub settle-requires-clause-told : goal.settle-requires-clause-told
 settle-requires-clause-told c =
     let file : Read = record { name = c.args.name; revision = c.args.revision; source = c.args.source } in
     told_then c.args.graph.now c.put.new.self file c.args.kept.now (c.put_law.ensures.files c.args.graph.now file) c.in_ok-put.ensures.ok c.requires.told c.requires.before
+
+pub settle-requires-clause-fresh : goal.settle-requires-clause-fresh
+settle-requires-clause-fresh c = none_fresh c.put.new.self c.args.kept.now c.in_ok-none.none (λ p. ap (λ (fs : List Bool). get_or fs p false) c.in_ok-none.ensures ∙ none_set (length c.files.result.now + 1) p)
+
+pub settle-requires-clause-sound : goal.settle-requires-clause-sound
+settle-requires-clause-sound c = subst (IsSound c.put.new.self c.args.kept.now) (sym c.in_ok-next.ensures) (none_sound c.put.new.self c.args.kept.now (length c.files.result.now + 1))

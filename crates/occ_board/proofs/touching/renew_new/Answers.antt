@@ -1,4 +1,5 @@
 use Rattle.std.proofs.Common.{arith, subst}
+use Rattle.occ_board.proofs.Looked.{fresh_new}
 use Rattle.occ_board.proofs.Newly.{new_full, new_long, new_sound}
 use Rattle.occ_board.proofs.Told.{told_then}
 use Rattle.occ_board.proofs.touching.renew_new.Goals as goal
@@ -15,23 +16,28 @@ settle_from-requires-clause-len c =
     new_long
     c.args.graph.now c.add.new.self (record { name = c.args.name; revision = c.args.revision; source = c.args.source }) c.args.place (subst IsProject c.project.ensures c.files-files.ensures.in_order) c.requires.new c.in_ok-add.ensures.ok
     c.args.kept.now c.args.flags.now c.in_ok-next.next c.requires.len c.requires.flags c.in_ok-next.ensures
-    c.requires.spelled c.names_law.ensures c.apart_law.ensures c.put_law.ensures.files c.put_law.ensures.in_order c.done_law.ensures.done
+    c.requires.spelled c.names_law.ensures c.apart_law.ensures.done c.put_law.ensures.files c.put_law.ensures.in_order c.done_law.ensures.done
 
 pub settle_from-requires-clause-sound : goal.settle_from-requires-clause-sound
 settle_from-requires-clause-sound c =
     new_sound
     c.args.graph.now c.add.new.self (record { name = c.args.name; revision = c.args.revision; source = c.args.source }) c.args.place (subst IsProject c.project.ensures c.files-files.ensures.in_order) c.requires.new c.in_ok-add.ensures.ok
     c.args.kept.now c.args.flags.now c.in_ok-next.next c.requires.len c.requires.flags c.in_ok-next.ensures
-    c.requires.spelled c.names_law.ensures c.apart_law.ensures c.put_law.ensures.files c.put_law.ensures.in_order c.done_law.ensures.done
+    c.requires.spelled c.names_law.ensures c.apart_law.ensures.done c.put_law.ensures.files c.put_law.ensures.in_order c.done_law.ensures.done
 
 pub settle_from-requires-clause-full : goal.settle_from-requires-clause-full
 settle_from-requires-clause-full c =
     new_full
     c.args.graph.now c.add.new.self (record { name = c.args.name; revision = c.args.revision; source = c.args.source }) c.args.place (subst IsProject c.project.ensures c.files-files.ensures.in_order) c.requires.new c.in_ok-add.ensures.ok
     c.args.kept.now c.args.flags.now c.in_ok-next.next c.requires.len c.requires.flags c.in_ok-next.ensures
-    c.requires.spelled c.names_law.ensures c.apart_law.ensures c.put_law.ensures.files c.put_law.ensures.in_order c.done_law.ensures.done
+    c.requires.spelled c.names_law.ensures c.apart_law.ensures.done c.put_law.ensures.files c.put_law.ensures.in_order c.done_law.ensures.done
 
 pub settle_from-requires-clause-told : goal.settle_from-requires-clause-told
 settle_from-requires-clause-told c =
     let file : Read = record { name = c.args.name; revision = c.args.revision; source = c.args.source } in
     told_then c.args.graph.now c.add.new.self file c.args.kept.now (c.put_law.ensures.files c.args.graph.now file) c.in_ok-add.ensures.ok c.requires.told c.requires.before
+
+pub settle_from-requires-clause-fresh : goal.settle_from-requires-clause-fresh
+settle_from-requires-clause-fresh c =
+    fresh_new c.args.graph.now c.add.new.self (record { name = c.args.name; revision = c.args.revision; source = c.args.source }) c.args.place c.args.kept.now c.args.fresh.now c.in_ok-known.known (subst IsProject c.project.ensures c.files-files.ensures.in_order) c.requires.new c.in_ok-add.ensures.ok
+    c.requires.spelled c.names_law.ensures c.apart_law.ensures.looked c.requires.fresh c.in_ok-known.ensures

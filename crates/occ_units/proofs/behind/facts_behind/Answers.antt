@@ -1,4 +1,3 @@
-use Rattle.std.proofs.Common.{IfOk, ◌≡◌, ◌∙◌}
 use Rattle.occ_units.proofs.Sharing.{still_facts, if_ok}
 use Rattle.occ_units.proofs.behind.facts_behind.Goals as goal
 

@@ -1,4 +1,4 @@
-use Rattle.std.proofs.Common.{IfSome, Option, ◌≡◌, refl, sym, subst}
+use Rattle.std.proofs.Common.{IfSome, Option, ◌≡◌, sym, subst}
 use Rattle.occ_units.proofs.Sharing.{known_by}
 use Rattle.occ_units.proofs.behind.known_at.Goals as goal
 use Rattle.occ_units.specs.declared.facts.Facts.{Facts}

@@ -1,14 +1,19 @@
 use Rattle.std.proofs.Common.{arith, ap, subst, sym, ◌∙◌, ◌≡◌, ◌+◌, ◌<◌, ℕ, Bool, List, None, length, true}
+use Rattle.std.specs.Prelude.{◌-◌, take, vec_len}
 use Rattle.occ_base.specs.FileName.{is_unit}
 use Rattle.occ_board.proofs.Begun.{accepts}
 use Rattle.occ_board.proofs.Waits.{first_waits}
+use Rattle.occ_board.proofs.Keeps.{all_but_last}
 use Rattle.occ_board.proofs.Opened.{open_before, open_few, units_before, units_few}
 use Rattle.occ_board.proofs.board.Board.accept.Goals as goal
 use Rattle.occ_board.specs.Journal.{edited, open_number, refusal, refusal_of, replay}
 use Rattle.occ_board.specs.Machine.{State}
 use Rattle.occ_board.specs.declared.entry.Edit.{Edit}
+use Rattle.occ_board.specs.declared.entry.Entry.{Entry}
 use Rattle.occ_board.specs.declared.entry.Edit.TheVariants as edit
+use Rattle.occ_board.specs.inside.Fresh.{AreFresh}
 use Rattle.occ_board.specs.inside.Holding.{IsBoard, count_then}
+use Rattle.occ_board.specs.inside.Ready.{NoneIsReady}
 use Rattle.occ_report.specs.Inputs.{Input}
 use Rattle.occ_project.specs.declared.reads.Read.{Read}
 use Rattle.occ_report.specs.Report.{open_units}
@@ -23,6 +28,7 @@ invariant_of-self-2 c =
           c.put_law.ensures.spelled c.put_law.ensures.files c.in_ok-source.ensures.spelled c.in_default.ensures.len c.in_default.ensures.flags c.count_behind-opened.ensures (c.count_behind-units.ensures ∙ ap (λ (b : Bool). count_then b c.self.inside.units c.args.edit) c.is_unit.ensures)
           (subst IsProject (sym c.self.invariant.0.files_are) (c.done_law.ensures.project c.self.inside.journal.items))),
       first_waits _ _,
+      subst (λ (ks : List Input). AreFresh c.renew-renewed.new.graph ks c.renew-renewed.new.fresh) (sym c.follow.ensures) c.in_default.ensures.fresh,
     )
 
 pub count_behind-opened-requires-clause-most : goal.count_behind-opened-requires-clause-most
@@ -53,3 +59,15 @@ count_behind-units-requires-clause-least c name is counted =
     let unit : is_unit name ≡ true = ap is_unit (sym (c.name-name.ensures ∙ ap (λ (e : Edit). (edited 0 e).name) is)) ∙ sym c.is_unit.ensures ∙ counted in
     subst (λ (n : ℕ). 0 < n) (sym c.self.invariant.0.units_are)
     (units_before c.self.inside.graph (length c.self.inside.journal.items) (subst IsProject (sym c.self.invariant.0.files_are) (c.done_law.ensures.project c.self.inside.journal.items)) name fine unit)
+
+pub invariant_of-self-in-Err : goal.invariant_of-self-in-Err
+invariant_of-self-in-Err c =
+    let items : List Entry = c.self.inside.journal.items in
+    let entry : Entry = record { session = c.args.session; edit = c.args.edit } in
+    let few : vec_len c.push.new.self - 1 ≡ length items = omega (arith, c.in_ok-push.ensures.len, c.self.inside.journal.ok) in
+    let same : c.pop.new.self.items ≡ items = c.pop.ensures.rest ∙ ap (take (vec_len c.push.new.self - 1)) c.in_ok-push.ensures.items ∙ all_but_last items entry (vec_len c.push.new.self - 1) few in
+    let back = c.in-Err.ensures.err in
+    subst (λ (es : List Entry). IsBoard es c.self.inside.kept c.renew-renewed.new.graph c.renew-renewed.new.flags c.self.inside.opened c.self.inside.units × NoneIsReady c.renew-renewed.new.graph c.renew-renewed.new.flags c.self.inside.waiting × AreFresh c.renew-renewed.new.graph c.self.inside.kept c.renew-renewed.new.fresh) (sym same)
+    (subst (λ (fs : List Read). IsBoard items c.self.inside.kept fs c.renew-renewed.new.flags c.self.inside.opened c.self.inside.units × NoneIsReady fs c.renew-renewed.new.flags c.self.inside.waiting × AreFresh fs c.self.inside.kept c.renew-renewed.new.fresh) (sym back.0)
+    (subst (λ (bs : List Bool). IsBoard items c.self.inside.kept c.self.inside.graph bs c.self.inside.opened c.self.inside.units × NoneIsReady c.self.inside.graph bs c.self.inside.waiting × AreFresh c.self.inside.graph c.self.inside.kept c.renew-renewed.new.fresh) (sym back.1)
+    (subst (λ (bs : List Bool). IsBoard items c.self.inside.kept c.self.inside.graph c.self.inside.flags c.self.inside.opened c.self.inside.units × NoneIsReady c.self.inside.graph c.self.inside.flags c.self.inside.waiting × AreFresh c.self.inside.graph c.self.inside.kept bs) (sym back.2) c.self.invariant)))

@@ -1,5 +1,5 @@
 use Rattle.std.proofs.Common.{◌≡◌, ◌∙◌, ◌<◌, List, Some, ap, length, subst, sym}
-use Rattle.occ_board.proofs.Keeps.{kept_at, places_stay, set_there, single_set}
+use Rattle.occ_board.proofs.Keeps.{kept_at, places_stay, set_there, shown_there, single_set}
 use Rattle.occ_board.proofs.kept.Kept.replace.Goals as goal
 use Rattle.occ_board.specs.Machine.{with_kept}
 use Rattle.occ_board.specs.inside.Holding.{place_in}
@@ -22,3 +22,10 @@ returns-clause-kept c =
 
 pub returns-clause-place : goal.returns-clause-place
 returns-clause-place c = set_there c.self.inside.outcomes.items c.args.outcome c.args.place (subst (λ (is : List Input). c.args.place < length is) (sym c.self.view_is) c.requires.within)
+
+pub returns-clause-shown : goal.returns-clause-shown
+returns-clause-shown c = λ h.
+    sym c.interface.ensures
+    ∙ c.are_same_interfaces-same.ensures h
+    ∙ c.interface-before.ensures
+    ∙ sym (shown_there c.args.self.now c.args.outcome.unit c.args.place c.at.result.now c.requires.place c.at.ensures)

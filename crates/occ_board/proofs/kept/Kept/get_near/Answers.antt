@@ -2,7 +2,7 @@ use Rattle.std.proofs.Common.{List, ap, ◌∙◌}
 use Rattle.std.specs.List.{slice_get}
 use Rattle.std.specs.Option.{option_and_then}
 use Rattle.occ_board.proofs.Keeps.{kept_there}
-use Rattle.occ_board.proofs.kept.Kept.get.Goals as goal
+use Rattle.occ_board.proofs.kept.Kept.get_near.Goals as goal
 use Rattle.occ_report.specs.Inputs.{Input}
 
 pub returns-in-Some : goal.returns-in-Some
