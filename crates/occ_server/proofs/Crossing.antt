@@ -684,8 +684,12 @@ kept_field_send = search (sendable, Vec-send, BTreeMap-send, outcome_field_send,
 flags_field_send : IsSend flags.the_field.row
 flags_field_send = search (sendable, items.the_send) depth 30
 
+-- the last fields of a board: its flags and counts
+counts_send : IsSend flags.the_field.row × (IsSend flags.the_field.row × (IsSend usize × (IsSend usize × (IsSend usize × Unit {0}))))
+counts_send = (flags_field_send, (flags_field_send, (number_send, (number_send, (number_send, tt)))))
+
 board_field_send : IsSend board.the_field.row
-board_field_send = search (sendable, Vec-send, entry_send, kept_field_send, job_field_send, graph_field_send, flags_field_send) depth 30
+board_field_send = search (sendable, Vec-send, entry_send, kept_field_send, job_field_send, graph_field_send, counts_send) depth 30
 
 board_send : IsSend board.the_row
 board_send = search (sendable, board_field_send) depth 10
