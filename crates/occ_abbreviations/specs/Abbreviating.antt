@@ -18,7 +18,7 @@ use Rattle.occ_expr.specs.Views.{type_form_view}
 use Rattle.occ_expr.specs.declared.written.Opening.TheVariants as opening
 use Rattle.occ_typed_specifications.specs.Entering.{Declared}
 use Rattle.occ_typed_specifications.specs.Valuing.{kind_unless_told}
-use Rattle.occ_typed_statements.specs.Targets.{root, target_of}
+use Rattle.occ_expr.specs.Targets.{root, target_of}
 
 -- ---- the element, which is read as a target is: a VAL name and an index are none
 

@@ -5,7 +5,6 @@ use Rattle.occ_operands.specs.Settling.{Told, known, silent}
 use Rattle.occ_operands.specs.declared.kind.Kind.{Kind}
 use Rattle.occ_operands.specs.declared.kind.Kind.TheVariants as k
 use Rattle.occ_names.specs.declared.scope.Scope.{Scope}
-use Rattle.occ_tables.specs.Terms.{judged}
 use Rattle.occ_expression_forms.specs.declared.tree.Element.{Element}
 use Rattle.occ_expression_forms.specs.declared.tree.Expr.{Expr}
 use Rattle.occ_expression_forms.specs.declared.tree.TypeForm.{TypeForm}
@@ -15,11 +14,11 @@ use Rattle.occ_expr.specs.Parts.{after}
 use Rattle.occ_expr.specs.Views.{expr_view, type_form_view}
 use Rattle.occ_expr.specs.declared.written.Opening.TheVariants as opening
 use Rattle.occ_recasts.specs.Recasting.{Recast, reshaped, retyped}
-use Rattle.occ_type_rules.specs.Abbreviating.{abbreviated}
 use Rattle.occ_typed.specs.declared.expr.TypedExpr.{TypedExpr}
 use Rattle.occ_typed_specifications.specs.Entering.{Declared}
-use Rattle.occ_typed_specifications.specs.Valuing.{kind_unless_told, tree_of, value_name}
-use Rattle.occ_typed_statements.specs.Targets.{target_of}
+use Rattle.occ_typed_specifications.specs.Valuing.{kind_unless_told, value_alone, value_name}
+use Rattle.occ_typed.specs.Placing.{tree_of}
+use Rattle.occ_expr.specs.Targets.{target_of}
 use Rattle.occ_abbreviations.specs.Abbreviating.{named}
 
 -- ---- one type as another
@@ -55,18 +54,15 @@ recast_element s w of name el = named s name el (element_told s w of el)
 
 -- ---- of a value, of which no type is wanted, and which is data
 
-unfoldable pub source : Scope → Expr → Told
-source s e = let x = (expr_view e).said s in after x.faults (abbreviated (judged x.term))
-
 unfoldable pub value_told : Scope → Form → TypeForm → Expr → Told
 value_told s w of e =
     let to = type_form_view of opening.Allowed s in
-    let x = source s e in
+    let x = value_alone s e in
     after (to.faults ++ x.faults) (recast_as w to.found x.kind)
 
 -- the tree of the value, in its own type
 unfoldable pub source_tree : Scope → Expr → Option TypedExpr
-source_tree s e = tree_of (source s e).kind ((expr_view e).draft s)
+source_tree s e = tree_of (value_alone s e).kind ((expr_view e).draft s)
 
 unfoldable pub recast_value : Scope → Form → TypeForm → List ℕ → Expr → Declared
 recast_value s w of name e =

@@ -1,18 +1,19 @@
+//! Names for elements, `n IS el:` and `t n IS el:`. `docs/LANGUAGE.md, Abbreviations of elements, RETYPES and RESHAPES`.
 ghost use Rattle.std.specs.Prelude.{◌≡◌, ◌++◌, IfOk, OnOk};
 ghost use Rattle.occ_expr.specs.Views.{element_view};
 ghost use Rattle.occ_names.specs.Visible.{visible};
 ghost use Rattle.occ_abbreviations.specs.Abbreviating.{abbreviation as told_abbreviation, agreed as told_agreed, element_name as told_name, element_told as told_element, element_with_type as told_with_type, named as told_named, of_type as told_of_type};
-ghost use Rattle.occ_typed_statements.specs.Targets.{root as root_of};
+ghost use Rattle.occ_expr.specs.Targets.{root as root_of};
 
 use occ_base::{Code, Fault, Items, Name, Shared, tell};
 use occ_expr::{ElementReading, Opening, type_form};
 use occ_expression_forms::{Element, TypeForm};
-use occ_names::{Access, Entry, Meaning, Scope, Whole, one_entry};
+use occ_names::{Access, ScopeEntry, Meaning, Scope, Whole, one_entry};
 use occ_operands::{Kind, known};
 use occ_tables::merged;
 use occ_typed::TypedElement;
 use occ_typed_specifications::kind_unless_told;
-use occ_typed_statements::{root, target_of};
+use occ_expr::{root, target_of};
 use occ_types::OccType;
 use std::alloc::{AllocError, Global};
 
@@ -115,7 +116,7 @@ fn element_name(
 /// What comes into scope behind a line that names an element, and the tree of the element, if it has no fault.
 #[derive(Drop)]
 pub struct ElementLine {
-    pub adds: Items<Entry>,
+    pub adds: Items<ScopeEntry>,
     pub tree: Option<TypedElement>,
 }
 
@@ -128,7 +129,7 @@ pub fn named(
     told: Items<Fault>,
     scope: &Scope,
     faults: &mut Items<Fault>,
-) -> Result<Items<Entry>, AllocError>
+) -> Result<Items<ScopeEntry>, AllocError>
     ensures adds { IfOk result (λ adds. adds ≡ (told_named scope.now name.now element.now (record { faults = told; kind = kind })).adds) }
     ensures faults { OnOk result (faults.new ≡ faults.old ++ told) }
 {

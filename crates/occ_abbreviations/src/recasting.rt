@@ -1,22 +1,18 @@
+//! `t n RETYPES el:` and `t n RESHAPES el:`, and both with VAL. `docs/LANGUAGE.md, Abbreviations of elements, RETYPES and
+//! RESHAPES`.
 ghost use Rattle.std.specs.Prelude.{◌≡◌, ◌++◌, IfOk, OnOk};
-ghost use Rattle.occ_expr.specs.Views.{element_view, expr_view};
-ghost use Rattle.occ_tables.specs.Terms.{judged};
-ghost use Rattle.occ_type_rules.specs.Abbreviating.{abbreviated as told_abbreviated};
-ghost use Rattle.occ_typed_specifications.specs.Valuing.{tree_of as told_tree};
-ghost use Rattle.occ_abbreviations.specs.Recasting.{element_told as told_element, of_found as told_found, recast as told_recast, recast_as as told_as, recast_element as told_recast_element, recast_value as told_recast_value, source as told_source, source_tree as told_source_tree, value_told as told_value};
+ghost use Rattle.occ_expr.specs.Views.{element_view};
+ghost use Rattle.occ_abbreviations.specs.Recasting.{element_told as told_element, of_found as told_found, recast as told_recast, recast_as as told_as, recast_element as told_recast_element, recast_value as told_recast_value, source_tree as told_source_tree, value_told as told_value};
 
 use super::abbreviating::{ElementLine, named};
 use occ_base::{Fault, Items, Name, Shared};
-use occ_expr::{ElementReading, Opening, Reading, expression, type_form};
+use occ_expr::{ElementReading, Opening, target_of, type_form};
 use occ_expression_forms::{Element, Expr, TypeForm};
 use occ_names::{Scope, one_entry};
 use occ_operands::{Kind, known};
 use occ_recasts::{reshaped, retyped};
 use occ_specification_forms::Recast;
-use occ_type_rules::abbreviated;
-use occ_typed::TypedExpr;
-use occ_typed_specifications::{ValueLine, kind_unless_told, tree_of, value_name};
-use occ_typed_statements::target_of;
+use occ_typed_specifications::{ValueLine, Valued, kind_unless_told, value_alone, value_name};
 use occ_types::OccType;
 use std::alloc::{AllocError, Global};
 
@@ -110,44 +106,8 @@ pub fn recast_element(
     Ok(ElementLine { adds, tree })
 }
 
-/// What is read of a value: what is known of it, and its tree, if it has no fault.
-#[derive(Drop)]
-struct Source {
-    kind: Kind,
-    tree: Option<Shared<TypedExpr>>,
-}
-
-/// A value of which this is read, in its own type.
-fn source_of(alloc: Global, read: &Reading, faults: &mut Items<Fault>) -> Result<Source, AllocError>
-    ensures kind { IfOk result (λ value. value.kind ≡ (told_abbreviated (judged read.now.term)).kind) }
-    ensures tree { IfOk result (λ value. value.tree ≡ told_tree (told_abbreviated (judged read.now.term)).kind read.now.draft) }
-    ensures faults { OnOk result (faults.new ≡ faults.old ++ (told_abbreviated (judged read.now.term)).faults) }
-{
-    let kind = abbreviated(alloc, &read.term, faults)?;
-    let tree = tree_of(alloc, &kind, &read.draft)?;
-    Ok(Source { kind, tree })
-}
-
-/// The value of `VAL t n RETYPES e`, in its own type.
-#[tactic(auto, unfolding(crate::specs::Recasting::source, crate::specs::Recasting::source_tree))]
-fn source_read(
-    alloc: Global,
-    expr: &Expr,
-    scope: &Scope,
-    faults: &mut Items<Fault>,
-) -> Result<Source, AllocError>
-    ensures kind { IfOk result (λ value. value.kind ≡ (told_source scope.now expr.now).kind) }
-    ensures tree { IfOk result (λ value. value.tree ≡ told_source_tree scope.now expr.now) }
-    ensures faults { OnOk result (faults.new ≡ faults.old ++ (told_source scope.now expr.now).faults) }
-{
-    let read = expression(alloc, expr, scope, faults)?;
-    let source = source_of(alloc, &read, faults);
-    drop(read);
-    source
-}
-
 /// What is known of the name of `VAL t n RETYPES e`, and the tree of the value.
-#[tactic(auto, unfolding(crate::specs::Recasting::value_told))]
+#[tactic(auto, unfolding(crate::specs::Recasting::source_tree, crate::specs::Recasting::value_told))]
 fn value_read(
     alloc: Global,
     how: Recast,
@@ -155,15 +115,15 @@ fn value_read(
     expr: &Expr,
     scope: &Scope,
     faults: &mut Items<Fault>,
-) -> Result<Source, AllocError>
+) -> Result<Valued, AllocError>
     ensures kind { IfOk result (λ value. value.kind ≡ (told_value scope.now how of.now expr.now).kind) }
     ensures tree { IfOk result (λ value. value.tree ≡ told_source_tree scope.now expr.now) }
     ensures faults { OnOk result (faults.new ≡ faults.old ++ (told_value scope.now how of.now expr.now).faults) }
 {
     let to = type_form(alloc, of, Opening::Allowed, scope, faults)?;
-    let read = source_read(alloc, expr, scope, faults)?;
+    let read = value_alone(alloc, expr, scope, faults)?;
     let kind = recast_as(alloc, how, &to, &read.kind, faults)?;
-    Ok(Source {
+    Ok(Valued {
         kind,
         tree: read.tree,
     })
@@ -185,7 +145,7 @@ pub fn recast_value(
     ensures faults { OnOk result (faults.new ≡ faults.old ++ (told_recast_value scope.now how of.now name.now expr.now).faults) }
 {
     let mut told = Items::new(alloc);
-    let Source { kind, tree } = value_read(alloc, how, of, expr, scope, &mut told)?;
+    let Valued { kind, tree } = value_read(alloc, how, of, expr, scope, &mut told)?;
     let kind = kind_unless_told(&told, kind);
     faults.append(told)?;
     let meaning = value_name(alloc, kind, name)?;

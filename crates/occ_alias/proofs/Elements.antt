@@ -18,8 +18,8 @@ use Rattle.occ_parts.specs.Parts.{overlap_of_selectors}
 use Rattle.occ_parts.specs.Selecting.{part_of}
 use Rattle.occ_parts.specs.declared.part.Overlap.TheVariants as o
 use Rattle.occ_parts.specs.declared.part.Part.{Part}
-use Rattle.occ_parts.specs.declared.place.Place.{Place}
-use Rattle.occ_project.specs.declared.expanded.Place.{Place as Line}
+use Rattle.occ_parts.specs.declared.place.SelectedPart.{SelectedPart}
+use Rattle.occ_project.specs.declared.expanded.Location.{Location}
 
 left_false : (a c : Bool) → (a || c) ≡ false → a ≡ false
 left_false true c e = e
@@ -31,12 +31,12 @@ right_false false c e = e
 
 -- ---- parts of different roots
 
-of_other : (same : Bool) (line : Line) (c : Code) (env : Env) (p q : Part) → same ≡ false
+of_other : (same : Bool) (line : Location) (c : Code) (env : Env) (p q : Part) → same ≡ false
     → graded line c (root_name env p.root) (if same then overlap_of_selectors p.selectors q.selectors else o.Apart) ≡ []
 of_other true line c env p q e = absurd (grind (arith, e))
 of_other false line c env p q e = refl
 
-apart : (line : Line) (c : Code) (env : Env) (p q : Part) → (p.root == q.root) ≡ false → pair_faults line c env p q ≡ []
+apart : (line : Location) (c : Code) (env : Env) (p q : Part) → (p.root == q.root) ≡ false → pair_faults line c env p q ≡ []
 apart line c env p q e = of_other (p.root == q.root) line c env p q e
 
 both : (ds es : List Diag) → ds ≡ [] → es ≡ [] → ds ++ es ≡ []
@@ -82,13 +82,13 @@ not_read false c env u (r ∷ rs) w e =
 
 -- ---- one specification
 
-abbrev of_place : Option Place → Use → Bool
+abbrev of_place : Option SelectedPart → Use → Bool
 of_place place u = is_of u.part.root place
 
 abbrev writes_read : List Use → Use → Bool
 writes_read rs u = is_write u.kind && are_of u.part.root rs
 
-no_place : (n : ℕ) (env : Env) (place : Option Place) (us : List Use) → list_any (of_place place) us ≡ false → place_faults n env place us ≡ []
+no_place : (n : ℕ) (env : Env) (place : Option SelectedPart) (us : List Use) → list_any (of_place place) us ≡ false → place_faults n env place us ≡ []
 no_place n env None us e = refl
 no_place n env (Some p) us e = no_element n env (part_of p) us e
 

@@ -1,3 +1,2 @@
 pub mod Elements
 pub mod Grading
-pub mod Telling

@@ -17,14 +17,14 @@ use Rattle.occ_clashes.specs.Kinds.{is_read, is_write}
 use Rattle.occ_clashes.specs.ParallelRule.{root_name}
 use Rattle.occ_line_uses.specs.Entering.{entry_bounds}
 use Rattle.occ_line_uses.specs.Forms.{each_uses, form_uses}
-use Rattle.occ_names.specs.declared.meaning.Entry.{Entry}
+use Rattle.occ_names.specs.declared.meaning.ScopeEntry.{ScopeEntry}
 use Rattle.occ_parts.specs.Parts.{overlap_of}
 use Rattle.occ_parts.specs.Selecting.{part_of}
 use Rattle.occ_parts.specs.declared.part.Overlap.{Overlap}
 use Rattle.occ_parts.specs.declared.part.Overlap.TheVariants as o
 use Rattle.occ_parts.specs.declared.part.Part.{Part}
-use Rattle.occ_parts.specs.declared.place.Place.{Place}
-use Rattle.occ_project.specs.declared.expanded.Place.{Place as Line}
+use Rattle.occ_parts.specs.declared.place.SelectedPart.{SelectedPart}
+use Rattle.occ_project.specs.declared.expanded.Location.{Location}
 use Rattle.occ_typed.specs.declared.expr.TypedExpr.{TypedExpr}
 use Rattle.occ_typed_lines.specs.declared.tree.TypedForm.{TypedForm}
 use Rattle.occ_typed_lines.specs.declared.tree.TypedForm.TheVariants as form
@@ -32,15 +32,15 @@ use Rattle.occ_alias.specs.LineCalls.{each_calls, form_calls}
 
 -- ---- two parts that are not apart: an error where they surely have an element in common, else a check
 
-abbrev pub told_at : Line → Code → Grade → Option (List ℕ) → List Diag
+abbrev pub told_at : Location → Code → Grade → Option (List ℕ) → List Diag
 told_at line c g name = (record { file = line.file; line = line.line; code = c; grade = g; name = name }) ∷ []
 
-abbrev pub graded : Line → Code → Option (List ℕ) → Overlap → List Diag
+abbrev pub graded : Location → Code → Option (List ℕ) → Overlap → List Diag
 graded line c name o.Apart = []
 graded line c name o.May = told_at line c grade.Check name
 graded line c name o.Must = told_at line c grade.Error name
 
-abbrev pub pair_faults : Line → Code → Env → Part → Part → List Diag
+abbrev pub pair_faults : Location → Code → Env → Part → Part → List Diag
 pair_faults line c env p q = graded line c (root_name env p.root) (overlap_of p q)
 
 -- ---- uses in the scope of abbreviations
@@ -54,7 +54,7 @@ element_faults n env p [] = []
 element_faults n env p (u ∷ us) = element_fault n env p u ++ element_faults n env p us
 
 -- of an abbreviation of a timer nothing
-abbrev pub place_faults : ℕ → Env → Option Place → List Use → List Diag
+abbrev pub place_faults : ℕ → Env → Option SelectedPart → List Use → List Diag
 place_faults n env None us = []
 place_faults n env (Some p) us = element_faults n env (part_of p) us
 
@@ -85,57 +85,57 @@ scope_faults n env (x ∷ xs) us = bound_faults n env x us ++ scope_faults (n + 
 
 -- ---- calls
 
-abbrev pub place_pair : Line → Env → Part → Option Place → List Diag
+abbrev pub place_pair : Location → Env → Part → Option SelectedPart → List Diag
 place_pair line env p None = []
 place_pair line env p (Some q) = pair_faults line code.A4 env p (part_of q)
 
 -- an actual and those behind it
-abbrev pub place_pairs : Line → Env → Part → List (Option Place) → List Diag
+abbrev pub place_pairs : Location → Env → Part → List (Option SelectedPart) → List Diag
 place_pairs line env p [] = []
 place_pairs line env p (q ∷ qs) = place_pair line env p q ++ place_pairs line env p qs
 
 -- an actual and a use by the body of what stands round it, which is what stands in scope before the specification n
-abbrev pub free_fault : Line → ℕ → Env → Part → Use → List Diag
+abbrev pub free_fault : Location → ℕ → Env → Part → Use → List Diag
 free_fault line n env p u = if nat_lt u.part.root n then pair_faults line code.A4 env p u.part else []
 
-abbrev pub free_faults : Line → ℕ → Env → Part → List Use → List Diag
+abbrev pub free_faults : Location → ℕ → Env → Part → List Use → List Diag
 free_faults line n env p [] = []
 free_faults line n env p (u ∷ us) = free_fault line n env p u ++ free_faults line n env p us
 
-abbrev pub actual_faults : Line → ℕ → Env → List Use → Option Place → List (Option Place) → List Diag
+abbrev pub actual_faults : Location → ℕ → Env → List Use → Option SelectedPart → List (Option SelectedPart) → List Diag
 actual_faults line n env us None qs = []
 actual_faults line n env us (Some p) qs = place_pairs line env (part_of p) qs ++ free_faults line n env (part_of p) us
 
 -- of actuals of formals that are not VAL, and a body with these uses
-abbrev pub actuals_faults : Line → ℕ → Env → List Use → List (Option Place) → List Diag
+abbrev pub actuals_faults : Location → ℕ → Env → List Use → List (Option SelectedPart) → List Diag
 actuals_faults line n env us [] = []
 actuals_faults line n env us (p ∷ ps) = actual_faults line n env us p ps ++ actuals_faults line n env us ps
 
 -- what the body writes, and what the values and subscripts of the actuals read
-abbrev pub call_faults : Line → Env → Call → List Diag
+abbrev pub call_faults : Location → Env → Call → List Diag
 call_faults line env c =
     actuals_faults line c.callee env (body_of (slice_get env c.callee)) c.places ++ written_faults code.A4 env c.uses c.reads
 
-abbrev pub calls_faults : Line → Env → List Call → List Diag
+abbrev pub calls_faults : Location → Env → List Call → List Diag
 calls_faults line env [] = []
 calls_faults line env (c ∷ cs) = call_faults line env c ++ calls_faults line env cs
 
 -- ---- lines
 
 -- these uses and calls at a line
-abbrev pub evaluated_faults : Line → Env → List Use → List Call → List Diag
+abbrev pub evaluated_faults : Location → Env → List Use → List Call → List Diag
 evaluated_faults line env us cs = scope_faults 0 env env us ++ calls_faults line env cs
 
 -- a FUNCTION of one line has its results with its formals in scope
-abbrev pub results_faults : List Entry → List TypedExpr → Env → Line → List Diag
+abbrev pub results_faults : List ScopeEntry → List TypedExpr → Env → Location → List Diag
 results_faults formals results env line =
     let body = env ++ entry_bounds formals in
     evaluated_faults line body (each_uses results body line) (each_calls results body line)
 
 -- a line that uses these itself
-abbrev pub told_with : TypedForm → Env → Line → List Use → List Diag
+abbrev pub told_with : TypedForm → Env → Location → List Use → List Diag
 told_with (form.OneLineFunction formals results) env line us = results_faults formals results env line
 told_with other env line us = evaluated_faults line env us (form_calls other env line)
 
-abbrev pub line_faults : TypedForm → Env → Line → List Diag
+abbrev pub line_faults : TypedForm → Env → Location → List Diag
 line_faults f env line = told_with f env line (form_uses f env line)

@@ -10,8 +10,8 @@ use Rattle.occ_bounds.specs.declared.call.Call.{Call}
 use Rattle.occ_bounds.specs.declared.uses.Use.{Use}
 use Rattle.occ_clashes.specs.Kinds.{is_read, is_write}
 use Rattle.occ_parts.specs.Selecting.{part_of}
-use Rattle.occ_parts.specs.declared.place.Place.{Place}
-use Rattle.occ_project.specs.declared.expanded.Place.{Place as Line}
+use Rattle.occ_parts.specs.declared.place.SelectedPart.{SelectedPart}
+use Rattle.occ_project.specs.declared.expanded.Location.{Location}
 use Rattle.occ_types.specs.declared.value.Value.{Value}
 use Rattle.occ_alias.specs.AbbreviationRule.{pair_faults}
 
@@ -22,30 +22,30 @@ pub data IsChange : Code → Env → List Use → List Use → Diag → Type 0 w
 
 pub data IsToldInScope : Env → List Use → Diag → Type 0 where
   -- a use that is not by the name of an abbreviation, nor by one that was made from it
-  beside : (env : Env) (us : List Use) (d : Diag) (n : ℕ) (p : Place) (size : Option ℤ) (reads : List Use) (u : Use)
+  beside : (env : Env) (us : List Use) (d : Diag) (n : ℕ) (p : SelectedPart) (size : Option ℤ) (reads : List Use) (u : Use)
       → slice_get env n ≡ Some (b.Abbreviation (Some p) size reads) → Contains us u → list_any (λ (k : ℕ). k == n) u.chain ≡ false
       → Contains (pair_faults u.line code.A1 env (part_of p) u.part) d → IsToldInScope env us d
   -- a change of what the subscripts and bounds of an abbreviation read
-  subscript : (env : Env) (us : List Use) (d : Diag) (n : ℕ) (place : Option Place) (size : Option ℤ) (reads : List Use)
+  subscript : (env : Env) (us : List Use) (d : Diag) (n : ℕ) (place : Option SelectedPart) (size : Option ℤ) (reads : List Use)
       → slice_get env n ≡ Some (b.Abbreviation place size reads) → IsChange code.A2 env us reads d → IsToldInScope env us d
   -- a change of what a VAL abbreviation reads
   value : (env : Env) (us : List Use) (d : Diag) (n : ℕ) (v : Option Value) (size : Option ℤ) (reads : List Use)
       → slice_get env n ≡ Some (b.Value v size reads) → IsChange code.A3 env us reads d → IsToldInScope env us d
 
-pub data IsToldOfCall : Line → Env → Call → Diag → Type 0 where
+pub data IsToldOfCall : Location → Env → Call → Diag → Type 0 where
   -- an actual, and one behind it
-  actuals : (line : Line) (env : Env) (c : Call) (d : Diag) (front behind : List (Option Place)) (p q : Place)
+  actuals : (line : Location) (env : Env) (c : Call) (d : Diag) (front behind : List (Option SelectedPart)) (p q : SelectedPart)
       → c.places ≡ front ++ Some p ∷ behind → Contains behind (Some q) → Contains (pair_faults line code.A4 env (part_of p) (part_of q)) d
       → IsToldOfCall line env c d
   -- an actual, and what the body uses of what stands round it
-  free : (line : Line) (env : Env) (c : Call) (d : Diag) (p : Place) (u : Use) → Contains c.places (Some p)
+  free : (line : Location) (env : Env) (c : Call) (d : Diag) (p : SelectedPart) (u : Use) → Contains c.places (Some p)
       → Contains (body_of (slice_get env c.callee)) u → nat_lt u.part.root c.callee ≡ true → Contains (pair_faults line code.A4 env (part_of p) u.part) d
       → IsToldOfCall line env c d
   -- a change by the body of what its actuals read
-  read : (line : Line) (env : Env) (c : Call) (d : Diag) → IsChange code.A4 env c.uses c.reads d → IsToldOfCall line env c d
+  read : (line : Location) (env : Env) (c : Call) (d : Diag) → IsChange code.A4 env c.uses c.reads d → IsToldOfCall line env c d
 
 -- these uses and calls at a line
-pub data IsToldOf : Line → Env → List Use → List Call → Diag → Type 0 where
-  of_use : (line : Line) (env : Env) (us : List Use) (cs : List Call) (d : Diag) → IsToldInScope env us d → IsToldOf line env us cs d
-  of_call : (line : Line) (env : Env) (us : List Use) (cs : List Call) (d : Diag) (c : Call) → Contains cs c → IsToldOfCall line env c d
+pub data IsToldOf : Location → Env → List Use → List Call → Diag → Type 0 where
+  of_use : (line : Location) (env : Env) (us : List Use) (cs : List Call) (d : Diag) → IsToldInScope env us d → IsToldOf line env us cs d
+  of_call : (line : Location) (env : Env) (us : List Use) (cs : List Call) (d : Diag) (c : Call) → Contains cs c → IsToldOfCall line env c d
       → IsToldOf line env us cs d

@@ -1,20 +1,22 @@
+//! A4: the actuals of a call against each other, against what its body uses, and what they read against its writes.
+//! `docs/LANGUAGE.md, The abbreviation rule`.
 ghost use Rattle.std.specs.Prelude.{◌≡◌, ◌++◌, OnOk};
 ghost use Rattle.occ_alias.specs.AbbreviationRule.{actual_faults as told_actual, actuals_faults as told_actuals, call_faults as told_call, calls_faults as told_calls, free_fault as told_free, free_faults as told_frees, place_pair as told_pair, place_pairs as told_pairs};
 
 use super::pairs::{pair_faults, written_faults};
 use occ_base::{Code, Diag, Items};
 use occ_bounds::{Bound, Call, Use, body_at};
-use occ_parts::{Part, Place};
-use occ_project::Place as Line;
+use occ_parts::{Part, SelectedPart};
+use occ_project::Location;
 use std::alloc::{AllocError, Global};
 
 /// What is told of an actual with this part and another one.
 fn place_pair(
     alloc: Global,
-    line: &Line,
+    line: &Location,
     env: &[Bound],
     part: &Part,
-    other: &Option<Place>,
+    other: &Option<SelectedPart>,
     faults: &mut Items<Diag>,
 ) -> Result<(), AllocError>
     ensures { OnOk result (faults.new ≡ faults.old ++ told_pair line.now env.now part.now other.now) }
@@ -29,10 +31,10 @@ fn place_pair(
 /// What is told of an actual with this part and those behind it.
 fn place_pairs(
     alloc: Global,
-    line: &Line,
+    line: &Location,
     env: &[Bound],
     part: &Part,
-    others: &[Option<Place>],
+    others: &[Option<SelectedPart>],
     faults: &mut Items<Diag>,
 ) -> Result<(), AllocError>
     ensures { OnOk result (faults.new ≡ faults.old ++ told_pairs line.now env.now part.now others.now) }
@@ -46,7 +48,7 @@ fn place_pairs(
 /// What is told of an actual with this part and a use by the body with this number.
 fn free_fault(
     alloc: Global,
-    line: &Line,
+    line: &Location,
     callee: usize,
     env: &[Bound],
     part: &Part,
@@ -64,7 +66,7 @@ fn free_fault(
 /// What is told of an actual with this part and the uses by the body with this number.
 fn free_faults(
     alloc: Global,
-    line: &Line,
+    line: &Location,
     callee: usize,
     env: &[Bound],
     part: &Part,
@@ -82,12 +84,12 @@ fn free_faults(
 /// What is told of an actual, with those behind it and the uses by the body with this number.
 fn actual_faults(
     alloc: Global,
-    line: &Line,
+    line: &Location,
     callee: usize,
     env: &[Bound],
     body: &[Use],
-    place: &Option<Place>,
-    others: &[Option<Place>],
+    place: &Option<SelectedPart>,
+    others: &[Option<SelectedPart>],
     faults: &mut Items<Diag>,
 ) -> Result<(), AllocError>
     ensures { OnOk result (faults.new ≡ faults.old ++ told_actual line.now callee env.now body.now place.now others.now) }
@@ -103,11 +105,11 @@ fn actual_faults(
 /// What is told of the actuals of a call of the body with this number.
 fn actuals_faults(
     alloc: Global,
-    line: &Line,
+    line: &Location,
     callee: usize,
     env: &[Bound],
     body: &[Use],
-    places: &[Option<Place>],
+    places: &[Option<SelectedPart>],
     faults: &mut Items<Diag>,
 ) -> Result<(), AllocError>
     ensures { OnOk result (faults.new ≡ faults.old ++ told_actuals line.now callee env.now body.now places.now) }
@@ -122,7 +124,7 @@ fn actuals_faults(
 /// What is told of a call at a line.
 fn call_faults(
     alloc: Global,
-    line: &Line,
+    line: &Location,
     env: &[Bound],
     call: &Call,
     faults: &mut Items<Diag>,
@@ -152,7 +154,7 @@ fn call_faults(
 /// What is told of calls at a line.
 pub(crate) fn calls_faults(
     alloc: Global,
-    line: &Line,
+    line: &Location,
     env: &[Bound],
     calls: &[Call],
     faults: &mut Items<Diag>,

@@ -1,3 +1,4 @@
+//! Of an error and a check that differ in nothing else the error alone.
 ghost use Rattle.std.specs.Prelude.{◌≡◌, ◌++◌, IfOk, OnOk};
 ghost use Rattle.occ_alias.specs.Grades.{all_unless_told, checks_of, graded_as as told_graded_as, graver as told_graver, if_check, unless_told, with_error, with_errors};
 

@@ -4,12 +4,10 @@
 
 mod calling;
 mod grade;
-mod laws;
 mod line;
 mod line_calls;
 mod pairs;
 mod scope;
 
 pub use grade::graver;
-pub use laws::line_law;
 pub use line::line_faults;

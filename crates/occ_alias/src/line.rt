@@ -1,3 +1,4 @@
+//! The abbreviation rule at one line, over its uses and calls.
 ghost use Rattle.std.specs.Prelude.{◌≡◌, ◌++◌, OnOk};
 ghost use Rattle.occ_alias.specs.AbbreviationRule.{evaluated_faults as told_evaluated, results_faults as told_results, told_with};
 ghost use Rattle.occ_alias.specs.LineCalls.{form_calls as told_calls};
@@ -7,9 +8,9 @@ use super::line_calls::{each_calls, form_calls};
 use super::scope::scope_faults;
 use occ_base::{Diag, Items, Shared};
 use occ_bounds::{Call, Use};
-use occ_line_uses::{Scope, each_uses, enter_all};
-use occ_names::Entry;
-use occ_project::Place as Line;
+use occ_line_uses::{UsageScope, each_uses, enter_all};
+use occ_names::ScopeEntry;
+use occ_project::Location;
 use occ_typed::TypedExpr;
 use occ_typed_lines::TypedForm;
 use std::alloc::{AllocError, Global};
@@ -17,8 +18,8 @@ use std::alloc::{AllocError, Global};
 /// What is told of these uses and calls at a line.
 fn evaluated_faults(
     alloc: Global,
-    line: &Line,
-    env: &Scope,
+    line: &Location,
+    env: &UsageScope,
     uses: &[Use],
     calls: &[Call],
     faults: &mut Items<Diag>,
@@ -32,10 +33,10 @@ fn evaluated_faults(
 /// What is told of the results of a FUNCTION of one line.
 fn results_faults(
     alloc: Global,
-    formals: &[Entry],
+    formals: &[ScopeEntry],
     results: &[Shared<TypedExpr>],
-    line: &Line,
-    env: &mut Scope,
+    line: &Location,
+    env: &mut UsageScope,
     faults: &mut Items<Diag>,
 ) -> Result<(), AllocError>
     ensures faults { OnOk result (faults.new ≡ faults.old ++ told_results formals.now results.now env.old line.now) }
@@ -56,9 +57,9 @@ fn results_faults(
 fn form_faults(
     alloc: Global,
     form: &TypedForm,
-    line: &Line,
+    line: &Location,
     uses: &[Use],
-    env: &Scope,
+    env: &UsageScope,
     faults: &mut Items<Diag>,
 ) -> Result<(), AllocError>
     ensures { OnOk result (faults.new ≡ faults.old ++ told_evaluated line.now env.now uses.now (told_calls form.now env.now line.now)) }
@@ -72,9 +73,9 @@ fn form_faults(
 pub fn line_faults(
     alloc: Global,
     form: &TypedForm,
-    line: &Line,
+    line: &Location,
     uses: &[Use],
-    env: &mut Scope,
+    env: &mut UsageScope,
     faults: &mut Items<Diag>,
 ) -> Result<(), AllocError>
     ensures faults { OnOk result (faults.new ≡ faults.old ++ told_with form.now env.old line.now uses.now) }

@@ -1,9 +1,10 @@
+//! The calls that are evaluated at a line, form by form.
 ghost use Rattle.std.specs.Prelude.{◌≡◌, ◌++◌, OnOk};
 ghost use Rattle.occ_alias.specs.LineCalls.{each_calls as told_each, elements_calls as told_elements, form_calls as told_form, guard_calls as told_guard, input_calls as told_input, output_calls as told_output, outputs_calls as told_outputs, replicator_calls as told_replicator, target_calls as told_target, targets_calls as told_targets};
 
 use occ_base::{Items, Shared};
 use occ_bounds::{Bound, Call, element_calls, expression_calls, instance_calls};
-use occ_project::Place as Line;
+use occ_project::Location;
 use occ_replicators::TypedReplicator;
 use occ_typed::{TypedElement, TypedExpr};
 use occ_typed_exchanges::{TypedInput, TypedOutput, TypedTarget};
@@ -15,7 +16,7 @@ pub fn each_calls(
     alloc: Global,
     exprs: &[Shared<TypedExpr>],
     env: &[Bound],
-    line: &Line,
+    line: &Location,
     calls: &mut Items<Call>,
 ) -> Result<(), AllocError>
     ensures { OnOk result (calls.new ≡ calls.old ++ told_each exprs.now env.now line.now) }
@@ -31,7 +32,7 @@ fn elements_calls(
     alloc: Global,
     elements: &[TypedElement],
     env: &[Bound],
-    line: &Line,
+    line: &Location,
     calls: &mut Items<Call>,
 ) -> Result<(), AllocError>
     ensures { OnOk result (calls.new ≡ calls.old ++ told_elements elements.now env.now line.now) }
@@ -47,7 +48,7 @@ fn target_calls(
     alloc: Global,
     target: &TypedTarget,
     env: &[Bound],
-    line: &Line,
+    line: &Location,
     calls: &mut Items<Call>,
 ) -> Result<(), AllocError>
     ensures { OnOk result (calls.new ≡ calls.old ++ told_target target.now env.now line.now) }
@@ -66,7 +67,7 @@ fn targets_calls(
     alloc: Global,
     targets: &[TypedTarget],
     env: &[Bound],
-    line: &Line,
+    line: &Location,
     calls: &mut Items<Call>,
 ) -> Result<(), AllocError>
     ensures { OnOk result (calls.new ≡ calls.old ++ told_targets targets.now env.now line.now) }
@@ -82,7 +83,7 @@ fn output_calls(
     alloc: Global,
     output: &TypedOutput,
     env: &[Bound],
-    line: &Line,
+    line: &Location,
     calls: &mut Items<Call>,
 ) -> Result<(), AllocError>
     ensures { OnOk result (calls.new ≡ calls.old ++ told_output output.now env.now line.now) }
@@ -102,7 +103,7 @@ fn outputs_calls(
     alloc: Global,
     outputs: &[TypedOutput],
     env: &[Bound],
-    line: &Line,
+    line: &Location,
     calls: &mut Items<Call>,
 ) -> Result<(), AllocError>
     ensures { OnOk result (calls.new ≡ calls.old ++ told_outputs outputs.now env.now line.now) }
@@ -118,7 +119,7 @@ fn input_calls(
     alloc: Global,
     input: &TypedInput,
     env: &[Bound],
-    line: &Line,
+    line: &Location,
     calls: &mut Items<Call>,
 ) -> Result<(), AllocError>
     ensures { OnOk result (calls.new ≡ calls.old ++ told_input input.now env.now line.now) }
@@ -148,7 +149,7 @@ fn guard_calls(
     alloc: Global,
     guard: &TypedGuard,
     env: &[Bound],
-    line: &Line,
+    line: &Location,
     calls: &mut Items<Call>,
 ) -> Result<(), AllocError>
     ensures { OnOk result (calls.new ≡ calls.old ++ told_guard guard.now env.now line.now) }
@@ -165,7 +166,7 @@ fn replicator_calls(
     alloc: Global,
     replicator: &Option<TypedReplicator>,
     env: &[Bound],
-    line: &Line,
+    line: &Location,
     calls: &mut Items<Call>,
 ) -> Result<(), AllocError>
     ensures { OnOk result (calls.new ≡ calls.old ++ told_replicator replicator.now env.now line.now) }
@@ -184,7 +185,7 @@ pub fn form_calls(
     alloc: Global,
     form: &TypedForm,
     env: &[Bound],
-    line: &Line,
+    line: &Location,
     calls: &mut Items<Call>,
 ) -> Result<(), AllocError>
     ensures { OnOk result (calls.new ≡ calls.old ++ told_form form.now env.now line.now) }

@@ -1,3 +1,4 @@
+//! Two parts that are not apart, as an error or a check; and writes of what was read (A2, A3).
 ghost use Rattle.std.specs.Prelude.{◌≡◌, ◌++◌, OnOk};
 ghost use Rattle.occ_alias.specs.AbbreviationRule.{graded as told_graded, pair_faults as told_pair, written_by as told_by, written_fault as told_written, written_faults as told_all_written};
 ghost use Rattle.occ_clashes.specs.Kinds.{is_read as tells_read};
@@ -7,7 +8,7 @@ use occ_bounds::{Bound, Use};
 use occ_clashes::root_name;
 use occ_line_uses::is_write;
 use occ_parts::{Overlap, Part, overlap};
-use occ_project::Place as Line;
+use occ_project::Location;
 use occ_types::UseKind;
 use std::alloc::{AllocError, Global};
 
@@ -24,7 +25,7 @@ fn is_read(kind: UseKind) -> bool
 
 /// What is told of two parts with this overlap.
 fn graded(
-    line: &Line,
+    line: &Location,
     code: Code,
     name: Option<Name>,
     found: Overlap,
@@ -49,7 +50,7 @@ fn graded(
 /// What is told of two parts, if they are not apart.
 pub(crate) fn pair_faults(
     alloc: Global,
-    line: &Line,
+    line: &Location,
     code: Code,
     env: &[Bound],
     one: &Part,

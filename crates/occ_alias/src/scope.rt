@@ -1,3 +1,5 @@
+//! A1 to A3: the uses of a line against those abbreviations in scope that concern them. `docs/LANGUAGE.md, The
+//! abbreviation rule`.
 ghost use Rattle.std.specs.List.{list_any};
 ghost use Rattle.std.specs.Prelude.{◌≡◌, ◌++◌, ◌==◌, ℕ, OnOk, slice_get};
 ghost use Rattle.occ_alias.specs.AbbreviationRule.{bound_faults as told_bound, element_fault as told_element, element_faults as told_elements, place_faults as told_place, scope_faults as told_scope};
@@ -6,8 +8,8 @@ ghost use Rattle.occ_alias.specs.inside.Choosing.{chosen_faults as told_chosen, 
 use super::pairs::{pair_faults, written_faults};
 use occ_base::{Code, Diag, Items};
 use occ_bounds::{Bound, Use};
-use occ_line_uses::Scope;
-use occ_parts::{Part, Place};
+use occ_line_uses::UsageScope;
+use occ_parts::{Part, SelectedPart};
 use std::alloc::{AllocError, Global};
 
 /// Whether a use is made by the name of the abbreviation with this number, or by one made from it.
@@ -63,7 +65,7 @@ fn place_faults(
     alloc: Global,
     number: usize,
     env: &[Bound],
-    place: &Option<Place>,
+    place: &Option<SelectedPart>,
     uses: &[Use],
     faults: &mut Items<Diag>,
 ) -> Result<(), AllocError>
@@ -137,7 +139,7 @@ fn chosen_faults(
 #[tactic(auto, using(crate::proofs::Elements::all_tell))]
 pub(crate) fn scope_faults(
     alloc: Global,
-    env: &Scope,
+    env: &UsageScope,
     uses: &[Use],
     faults: &mut Items<Diag>,
 ) -> Result<(), AllocError>

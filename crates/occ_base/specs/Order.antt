@@ -1,5 +1,6 @@
--- The order of diagnostics.
+-- The order of diagnostics, and items in their order.
 use Rattle.std.specs.Prelude.{Bool, true, ◌&&◌, List, [], ◌∷◌}
+use Rattle.std.specs.BTreeSet.{insert_key}
 use Rattle.std.specs.Ordering.{is_lt}
 use Rattle.std.specs.declared.cmp.Ordering.{Ordering}
 use Rattle.occ_base.specs.contracts.diag.DiagOrd.TheImpl as diag_ord
@@ -16,6 +17,11 @@ abbrev pub is_rising : List Diag → Bool
 is_rising [] = true
 is_rising (d ∷ []) = true
 is_rising (d ∷ e ∷ ds) = is_lt (diag_order d e) && is_rising (e ∷ ds)
+
+-- the items, put one by one at their places among those that are there already
+abbrev pub placed : {X : Type 0} → (X → X → Ordering) → List X → List X → List X
+placed cmp [] there = there
+placed cmp (x ∷ xs) there = insert_key cmp (placed cmp xs there) x
 
 -- all codes, as they stand in order
 abbrev pub all_codes : List Code

@@ -1,3 +1,4 @@
+//! The codes and grades of diagnostics, in their order, and how they print. `docs/LANGUAGE.md, Codes`.
 ghost use Rattle.std.specs.Prelude.{◌≡◌};
 ghost use Rattle.occ_base.specs.Diag.{code_text, grade_text};
 

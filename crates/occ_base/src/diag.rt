@@ -1,6 +1,7 @@
+//! Diagnostics: file, line, code, grade and perhaps a name. Their order, and their line as a report prints it.
 ghost use Rattle.std.specs.Prelude.{◌≡◌, ◌++◌, IfOk, OnErr, OnOk};
 ghost use Rattle.occ_base.specs.Diag.{diag_line, name_text};
-ghost use Rattle.occ_base.specs.Errors.{error_at, error_if};
+ghost use Rattle.occ_base.specs.Errors.{error_at, error_if, has_error as any_error};
 
 use super::{Code, FileName, Grade, Name};
 use sqlite_items::Items;
@@ -47,6 +48,13 @@ pub fn add_error_if(
         found.push(Diag::error(file, line, code, None))?;
     }
     Ok(())
+}
+
+/// Whether one of the diagnostics has the grade error.
+pub fn has_error(diags: &[Diag]) -> bool
+    ensures { result ≡ any_error diags.now }
+{
+    diags.iter().any(|diag| diag.grade == Grade::Error)
 }
 
 /// Appends the line of a diagnostic, `FILE:LINE CODE GRADE NAME`. Where memory is refused `out` stays.

@@ -1,3 +1,4 @@
+//! Faults, which are diagnostics before their line is known: a code and perhaps a name.
 ghost use Rattle.std.specs.Prelude.{◌≡◌, ◌++◌, OnOk, [], ◌∷◌};
 ghost use Rattle.occ_base.specs.Telling.{nameless};
 

@@ -1,3 +1,4 @@
+//! File names: which bytes are one, and the first fault of those that are none. `docs/MACHINE.md, File names`.
 ghost use Rattle.std.proofs.Common.{rules};
 ghost use Rattle.std.proofs.lemmas.Cmp.{nat_list_cmp_total};
 ghost use Rattle.std.specs.Cmp.{partial_order_from_own_ties};

@@ -1,3 +1,4 @@
+//! A list of one item.
 ghost use Rattle.std.specs.Prelude.{◌≡◌, ◌∷◌, [], IfOk};
 
 use sqlite_items::Items;

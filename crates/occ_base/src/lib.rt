@@ -12,7 +12,7 @@ mod rows;
 mod shared;
 
 pub use code::{Code, Grade};
-pub use diag::{Diag, add_error_if, write_diag};
+pub use diag::{Diag, add_error_if, has_error, write_diag};
 pub use fault::{Fault, tell};
 pub use file_name::{FileName, NameFault};
 pub use items::one_item;

@@ -1,3 +1,4 @@
+//! Names in texts and diagnostics. Up to 16 bytes are inline, so that most copies take no allocation.
 ghost use Rattle.std.proofs.Common.{rules};
 ghost use Rattle.std.proofs.lemmas.Cmp.{nat_list_cmp_total};
 ghost use Rattle.std.specs.Cmp.{partial_order_from_own_ties};

@@ -1,3 +1,4 @@
+//! Worked rows: some file names, how diagnostics print, and their order.
 ghost use Rattle.std.specs.Prelude.{◌≡◌, ◌++◌, ◌∷◌, [], codes, false, map, None, replicate, Some, true};
 ghost use Rattle.occ_base.specs.Diag.{diag_line};
 ghost use Rattle.occ_base.specs.FileName.{is_unit, name_fault};

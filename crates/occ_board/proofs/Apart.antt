@@ -1,7 +1,7 @@
 -- An edit of a file changes nothing of a unit that does not read it, nor reaches one that does.
 use Rattle.std.proofs.Common.{◌≡◌, ◌↔◌, ◌∙◌, ◌&&◌, ◌⊎◌, ◌<◌, Bool, true, false, cond, ℕ, List, [], ◌∷◌, map, refl, sym, ap, subst, inl, inr}
 use Rattle.std.proofs.lemmas.Slice.Eq.{bytes_eq-Decides}
-use Rattle.std.specs.List.{filter, flat_map, list_all}
+use Rattle.std.specs.List.{filter, list_all}
 use Rattle.std.specs.Option.{is_some}
 use Rattle.std.specs.Str.{bytes_eq}
 use Rattle.occ_base.specs.FileName.{is_unit}
@@ -18,14 +18,14 @@ use Rattle.occ_report.specs.Inputs.{Input, UsedUnit}
 use Rattle.occ_project.specs.Entries.{is_among}
 use Rattle.occ_project.specs.Expansion.{Expansion, expansion}
 use Rattle.occ_project.specs.Reads.{lines_of, open_lines}
-use Rattle.occ_project.specs.Uses.{units_of}
+use Rattle.occ_project.specs.Uses.{used_in}
 use Rattle.occ_project.specs.declared.reads.Read.{Read}
 use Rattle.occ_report.proofs.Local.{map_among}
 use Rattle.occ_report.specs.Checks.{check_of, check_step, checked, input, input_with, used_as, used_unit}
 use Rattle.occ_report.specs.declared.checked.Checked.{Checked}
 use Rattle.occ_units.specs.Places.{is_below, is_circular, rest_units, standing_of}
 use Rattle.occ_units.specs.Project.{file_of, put}
-use Rattle.occ_units.specs.Units.{IsCircular, Reaches, Uses, UsesBy, in_order, unit_reads, used_units}
+use Rattle.occ_units.specs.Units.{IsCircular, Reaches, Uses, UsesBy, unit_reads, used_units}
 use Rattle.occ_units.specs.declared.standing.Standing.{Standing}
 use Rattle.occ_units.specs.declared.standing.Standing.TheVariants as standing
 
@@ -82,7 +82,7 @@ module _ (files : List Read) (file : Read) (root : List ℕ) (apart : IsApart fi
   same_expansion v under = alone files later v (λ name a. sym (file_lines later name) ∙ ap lines_of (same_file v name under a) ∙ file_lines files name)
 
   same_used : (v : List ℕ) → IsUnder files root v → used_units later v ≡ used_units files v
-  same_used v under = ap (λ (e : Expansion). cond (is_unit v) (in_order (flat_map units_of e.lines)) []) (same_expansion v under)
+  same_used v under = ap (λ (e : Expansion). cond (is_unit v) (used_in e.lines) []) (same_expansion v under)
 
   same_reads : (v : List ℕ) → IsUnder files root v → unit_reads later v ≡ unit_reads files v
   same_reads v under = ap (λ (e : Expansion). map (file_of later) (cond (is_unit v) e.reads [])) (same_expansion v under) ∙ by (is_unit v) where

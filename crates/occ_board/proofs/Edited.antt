@@ -3,15 +3,13 @@ use Rattle.std.proofs.Common.{◌≡◌, ◌↔◌, ◌∙◌, ◌<◌, ◌+◌,
 use Rattle.std.specs.Str.{bytes_eq}
 use Rattle.occ_board.proofs.Apart.{same_done_there, same_input_there}
 use Rattle.occ_board.proofs.Edits.{edited_is, replay_more}
-use Rattle.occ_board.specs.Done.{done, done_step, pending_units}
+use Rattle.occ_board.specs.Done.{done, done_step}
 use Rattle.occ_board.specs.Edits.{IsApart}
 use Rattle.occ_board.specs.Journal.{edited, replay}
-use Rattle.occ_board.specs.Machine.{Event, State, after, after_edit, edit_answer, files_of, finish_answer, kept_after, pending_answer}
+use Rattle.occ_board.specs.Machine.{Event, State, after, after_edit, edit_answer, files_of}
 use Rattle.occ_board.specs.declared.entry.Edit.{Edit}
 use Rattle.occ_board.specs.declared.entry.EditFault.{EditFault}
 use Rattle.occ_board.specs.declared.entry.Entry.{Entry}
-use Rattle.occ_board.specs.declared.verdict.Verdict.{Verdict}
-use Rattle.occ_board.specs.declared.verdict.Verdict.TheVariants as verdict
 use Rattle.occ_report.specs.Inputs.{Input}
 use Rattle.occ_project.specs.Entries.{is_among}
 use Rattle.occ_project.specs.Expansion.{expansion}
@@ -21,16 +19,6 @@ use Rattle.occ_report.specs.Checks.{check_step, checked, input}
 use Rattle.occ_units.specs.Places.{is_circular, rest_units}
 use Rattle.occ_units.specs.Project.{IsProject, file_of, put}
 use Rattle.occ_units.specs.Units.{IsCircular}
-
--- an outcome that is not accepted is not kept
-kept_by : (v : Verdict) (kept : List Input) (i : Input) → (v ≡ verdict.Accepted → ⊥) → kept_after v kept i ≡ kept
-kept_by verdict.Accepted kept i h = absurd (h refl)
-kept_by verdict.Repeated kept i h = refl
-kept_by (verdict.Stale name) kept i h = refl
-kept_by (verdict.Foreign name) kept i h = refl
-
-pub kept_unless : (s : State) (i : Input) → (finish_answer s i ≡ verdict.Accepted → ⊥) → pending_answer (after s (Event.Finish i)) ≡ pending_answer s
-kept_unless s i h = ap (λ (kept : List Input). length (pending_units (files_of s) kept)) (kept_by (finish_answer s i) s.kept i h)
 
 module _ (put_is : (files : List Read) (file : Read) (name : List ℕ) → file_of (put files file) name ≡ cond (bytes_eq file.name name) file (file_of files name))
     (put_rises : (files : List Read) (file : Read) → IsProject files → IsProject (put files file))

@@ -1,8 +1,7 @@
 -- An outcome that is accepted looked at what is so at present.
 use Rattle.std.proofs.Common.{◌≡◌, ◌∙◌, ◌&&◌, ◌||◌, Bool, true, false, not, cond, ℕ, List, [], ◌∷◌, map, Option, Some, None, refl, sym, ap, nat_eq, nat_lt, if◌then◌else◌}
 use Rattle.std.proofs.lemmas.Slice.Eq.{bytes_eq-Decides}
-use Rattle.std.specs.BTreeSet.{insert_key}
-use Rattle.std.specs.List.{filter, find, flat_map, list_all}
+use Rattle.std.specs.List.{filter, find, list_all}
 use Rattle.std.specs.Option.{is_some, option_and_then, option_map, unwrap_or}
 use Rattle.std.specs.Str.{bytes_eq}
 use Rattle.occ_base.specs.FileName.{is_unit}
@@ -15,18 +14,18 @@ use Rattle.occ_board.specs.Verdicts.{is_as_read, is_off, off_read, reads_verdict
 use Rattle.occ_board.specs.declared.verdict.Verdict.{Verdict}
 use Rattle.occ_board.specs.declared.verdict.Verdict.TheVariants as verdict
 use Rattle.occ_board.specs.inside.Ready.{IsAcceptable, is_rested}
-use Rattle.occ_report.specs.Inputs.{Input, IsInput, UsedUnit, expansion_in, names_in_order}
+use Rattle.occ_report.specs.Inputs.{Input, IsInput, UsedUnit, expansion_in}
 use Rattle.occ_forms.specs.Prepared.{Prepared}
 use Rattle.occ_forms.specs.declared.source.SourceLine.{SourceLine}
 use Rattle.occ_project.specs.Entries.{is_among}
 use Rattle.occ_project.specs.Expansion.{Expansion, expansion}
-use Rattle.occ_project.specs.Reads.{lines_of, member, name_cmp, open_lines}
-use Rattle.occ_project.specs.Uses.{units_of}
+use Rattle.occ_project.specs.Reads.{lines_of, member, open_lines}
+use Rattle.occ_project.specs.Uses.{used_in}
 use Rattle.occ_project.specs.declared.reads.Read.{Read}
 use Rattle.occ_report.specs.Checks.{checked, input, used_unit}
 use Rattle.occ_units.specs.Places.{is_below, standing_of}
 use Rattle.occ_units.specs.Project.{file_of}
-use Rattle.occ_units.specs.Units.{in_order, unit_reads, used_units}
+use Rattle.occ_units.specs.Units.{unit_reads, used_units}
 
 -- the lines of the file of a name, by the file
 pub file_lines : (files : List Read) (name : List ℕ) → lines_of (file_of files name) ≡ open_lines files name
@@ -58,10 +57,6 @@ open_same files (r ∷ rs) e name a =
         let same : r.name ≡ name = (bytes_eq-Decides r.name name).0 h in
         sym (file_lines files name) ∙ ap lines_of (sym (first ∙ ap (file_of files) same))
     by false h first more k = more k
-
-same_order : (names : List (List ℕ)) → names_in_order names ≡ in_order names
-same_order [] = refl
-same_order (name ∷ names) = ap (λ (ns : List (List ℕ)). insert_key name_cmp ns name) (same_order names)
 
 -- names again
 named_now : (files rs : List Read) → rs ≡ map (now_of files) rs → rs ≡ map (file_of files) (map (λ r. r.name) rs)
@@ -124,9 +119,8 @@ module _ (files : List Read) (kept : List Input) (i : Input) (is : IsInput i) (n
   names_are : map (λ one. one.unit) i.used ≡ used_units files i.unit
   names_are =
       is.1
-      ∙ same_order (flat_map units_of (expansion_in i).lines)
-      ∙ ap (λ (e : Expansion). in_order (flat_map units_of e.lines)) (sym same_expansion)
-      ∙ sym (ap (λ (b : Bool). cond b (in_order (flat_map units_of (expansion files i.unit).lines)) []) unit)
+      ∙ ap (λ (e : Expansion). used_in e.lines) (sym same_expansion)
+      ∙ sym (ap (λ (b : Bool). cond b (used_in (expansion files i.unit).lines) []) unit)
 
   pub input_is : i ≡ input files i.unit
   input_is =

@@ -26,7 +26,6 @@ pub mod Marked
 pub mod Looked
 pub mod Adopted
 pub mod Least
-pub mod Working
 pub mod Newly
 pub mod Opened
 pub mod Counted

@@ -1,7 +1,7 @@
 -- Outcomes that are fresh: what of them edits and accepted outcomes leave.
 use Rattle.std.proofs.Common.{◌≡◌, ◌↔◌, ◌∙◌, ◌&&◌, ◌⊎◌, ◌<◌, ◌≤◌, ℕ, Bool, true, false, cond, not, List, [], length, map, get_or, Option, Some, None, refl, sym, ap, subst, inl, inr}
 use Rattle.std.proofs.lemmas.Slice.Eq.{bytes_eq-Decides}
-use Rattle.std.specs.List.{flat_map, insert}
+use Rattle.std.specs.List.{insert}
 use Rattle.std.specs.Option.{is_some, option_and_then, option_map}
 use Rattle.std.specs.Prelude.{slice_set}
 use Rattle.std.specs.Str.{bytes_eq}
@@ -27,7 +27,7 @@ use Rattle.occ_graph.specs.Graph.{Graph, has_edge, is_among as is_place}
 use Rattle.occ_project.specs.Entries.{is_among}
 use Rattle.occ_project.specs.Expansion.{Expansion, expansion}
 use Rattle.occ_project.specs.Reads.{lines_of, open_lines, place}
-use Rattle.occ_project.specs.Uses.{units_of}
+use Rattle.occ_project.specs.Uses.{used_in}
 use Rattle.occ_project.specs.declared.reads.Read.{Read}
 use Rattle.occ_report.proofs.Local.{map_among}
 use Rattle.occ_report.specs.Checks.{checked, input, interface, used_as, used_unit}
@@ -43,7 +43,7 @@ use Rattle.occ_units.specs.New.{IsNew}
 use Rattle.occ_units.specs.Places.{circular_at, graph_of, is_below, readers_at, rest_units, standing_of, users_at}
 use Rattle.occ_units.specs.Project.{IsProject, file_of, put}
 use Rattle.occ_units.specs.Spelled.{AreSpelled}
-use Rattle.occ_units.specs.Units.{Uses, in_order, read_names, unit_reads, used_units}
+use Rattle.occ_units.specs.Units.{Uses, read_names, unit_reads, used_units}
 use Rattle.occ_units.specs.declared.standing.Standing.{Standing}
 use Rattle.occ_units.specs.declared.standing.Standing.TheVariants as standing
 
@@ -139,11 +139,11 @@ module _ (files later : List Read) (file : Read) (alike : AreAlike files later) 
     by true unit =
         let same = same_expansion unit in (
           ap (λ (e : Expansion). cond (is_unit u) e.reads []) same,
-          ap (λ (e : Expansion). cond (is_unit u) (in_order (flat_map units_of e.lines)) []) same,
+          ap (λ (e : Expansion). cond (is_unit u) (used_in e.lines) []) same,
         )
     by false none = (
       ap (λ (b : Bool). cond b (expansion later u).reads []) none ∙ sym (ap (λ (b : Bool). cond b (expansion files u).reads []) none),
-      ap (λ (b : Bool). cond b (in_order (flat_map units_of (expansion later u).lines)) []) none ∙ sym (ap (λ (b : Bool). cond b (in_order (flat_map units_of (expansion files u).lines)) []) none),
+      ap (λ (b : Bool). cond b (used_in (expansion later u).lines) []) none ∙ sym (ap (λ (b : Bool). cond b (used_in (expansion files u).lines) []) none),
     )
 
   same_reads : unit_reads later u ≡ unit_reads files u

@@ -3,7 +3,7 @@ use Rattle.std.proofs.Common.{◌≡◌, ◌∙◌, ◌<◌, ◌≤◌, ◌+◌,
 use Rattle.std.proofs.lemmas.Bool.{eqb-false, eqb-true}
 use Rattle.std.proofs.lemmas.List.{take_more}
 use Rattle.std.proofs.lemmas.Slice.Eq.{bytes_eq-Decides}
-use Rattle.std.specs.List.{filter, flat_map, list_all}
+use Rattle.std.specs.List.{filter, list_all}
 use Rattle.std.specs.Option.{is_some}
 use Rattle.std.specs.Prelude.{◌==◌, slice_set}
 use Rattle.std.specs.Str.{bytes_eq}
@@ -23,7 +23,7 @@ use Rattle.occ_project.specs.Entries as names
 use Rattle.occ_project.specs.Expansion.{expansion}
 use Rattle.occ_project.specs.Reads.{place}
 use Rattle.occ_project.specs.declared.reads.Read.{Read}
-use Rattle.occ_project.specs.Uses.{units_of}
+use Rattle.occ_project.specs.Uses.{used_in}
 use Rattle.occ_report.specs.Checks.{checked, input_with, used_unit}
 use Rattle.occ_report.specs.declared.checked.Checked.{Checked}
 use Rattle.occ_units.proofs.Edges.{absent_reads, edge, placed_user}
@@ -33,7 +33,7 @@ use Rattle.occ_units.specs.Along.{name_at}
 use Rattle.occ_units.specs.Places.{graph_of, is_below, readers_at, rest_units, standing_of, users_at}
 use Rattle.occ_units.specs.Project.{IsProject, file_of, put}
 use Rattle.occ_units.specs.Spelled.{AreSpelled}
-use Rattle.occ_units.specs.Units.{Uses, UsesBy, in_order, read_names}
+use Rattle.occ_units.specs.Units.{Uses, UsesBy, read_names}
 
 -- what marking along the first i users of the unit at a place has come to
 pub record IsTouch (files : List Read) (users : List ℕ) (old marks : List Bool) (at i : ℕ) : Type 0 where
@@ -147,10 +147,10 @@ module _ (files : List Read) where
 
 -- what is no unit reads and uses nothing
 pub no_input : (fs : List Read) (f : List ℕ → Checked) (u : List ℕ) → is_unit u ≡ false → input_with fs u f ≡ record { unit = u; reads = []; used = [] }
-no_input fs f u none = ap (λ (b : Bool). record { unit = u; reads = map (file_of fs) (cond b (expansion fs u).reads []); used = map (used_unit fs u f) (cond b (in_order (flat_map units_of (expansion fs u).lines)) []) }) none
+no_input fs f u none = ap (λ (b : Bool). record { unit = u; reads = map (file_of fs) (cond b (expansion fs u).reads []); used = map (used_unit fs u f) (cond b (used_in (expansion fs u).lines) []) }) none
 
 no_rests : (fs : List Read) (u : List ℕ) → is_unit u ≡ false → rest_units fs u ≡ []
-no_rests fs u none = ap (λ (b : Bool). filter (λ v. is_below (standing_of fs u v)) (cond b (in_order (flat_map units_of (expansion fs u).lines)) [])) none
+no_rests fs u none = ap (λ (b : Bool). filter (λ v. is_below (standing_of fs u v)) (cond b (used_in (expansion fs u).lines) [])) none
 
 pub no_unit_step : (kept : List Input) (step : (fs : List Read) (ks : List Input) (u : List ℕ) → IsProject fs → done fs ks u ≡ done_step fs ks u (done fs ks)) (fs : List Read) (u : List ℕ) → is_unit u ≡ false → IsProject fs
     → done fs kept u ≡ (is_open fs u && (is_kept kept (record { unit = u; reads = []; used = [] }) && true))

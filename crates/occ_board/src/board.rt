@@ -1,3 +1,5 @@
+//! The board: edits, jobs, outcomes and reports. Each public call is one event of the machine. The graph, the flags of
+//! done units and the marks of verified outcomes are cached beside its state. `docs/MACHINE.md, The board`.
 ghost use Rattle.occ_board.specs.Done.{NoneIsHanded};
 ghost use Rattle.occ_board.specs.Journal.{IsLegal, refusal as why_refused};
 ghost use Rattle.occ_board.specs.Machine.{Answer, Event, after, answer, edit_number, expanded_answer, files_of, finish_answer, pending_answer, report_answer, start, take_answer, unhanded, with_kept};

@@ -1,3 +1,4 @@
+//! Whether two jobs, or parts of them, are one, item by item. A text has one list of lines, so texts decide.
 ghost use Rattle.occ_board.specs.Verdicts.{same_text};
 ghost use Rattle.std.specs.Option.{option_copied};
 ghost use Rattle.std.specs.Str.{bytes_eq};

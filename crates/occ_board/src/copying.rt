@@ -1,3 +1,4 @@
+//! A copy of a job, which shares all that the job looks at.
 ghost use Rattle.std.specs.Prelude.{◌≡◌, IfOk};
 
 use occ_base::Items;

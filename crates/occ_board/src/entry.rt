@@ -1,3 +1,4 @@
+//! Edits, the entries of the journal, and why an edit is refused.
 ghost use Rattle.occ_board.specs.Journal.{edited};
 ghost use Rattle.occ_board.specs.declared.entry.EditFault.TheVariants as fault;
 ghost use Rattle.occ_units.specs.Spelled.{IsSpelled};

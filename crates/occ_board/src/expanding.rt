@@ -1,3 +1,4 @@
+//! How many open units read the file of the last edit, counted when it is asked.
 ghost use Rattle.occ_board.specs.Machine.{readers};
 ghost use Rattle.occ_project.specs.Entries.{is_among};
 ghost use Rattle.occ_report.specs.Report.{is_open_unit};

@@ -1,3 +1,5 @@
+//! The flags of done units and how many are set. After an accepted outcome they are set along users, after some edits in
+//! passes. If no flag is wrong and none is missing, exactly the done units are flagged.
 ghost use Rattle.occ_board.specs.Done.{done, done_step};
 ghost use Rattle.occ_board.specs.inside.Fresh.{AreFresh};
 ghost use Rattle.occ_board.specs.inside.Flagged.{AreFlags, IsFull, IsFullAt, IsSound, flag_of, flagged, rest_flag, unflagged};

@@ -1,3 +1,5 @@
+//! Which cached outcomes are verified, so that nothing is compared. What an edit, or another interface, makes doubtful is
+//! forgotten; to forget too much costs time and no answer.
 ghost use Rattle.occ_board.specs.Done.{done, is_kept, kept_of};
 ghost use Rattle.occ_board.specs.Journal.{is_open};
 ghost use Rattle.occ_board.specs.inside.Flagged.{flag_of};

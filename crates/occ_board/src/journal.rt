@@ -1,3 +1,4 @@
+//! Why an edit is refused, the first reason that holds; and how many files are open after one that is not.
 ghost use Rattle.occ_board.specs.Journal.{else_fault, if_full as if_full_behind, is_open, open_number, refusal_of};
 ghost use Rattle.occ_board.specs.declared.entry.Edit.TheVariants as an_edit;
 ghost use Rattle.occ_board.specs.declared.entry.EditFault.TheVariants as fault;

@@ -1,3 +1,5 @@
+//! What becomes of an outcome: foreign, stale, repeated or accepted, the first case that holds. `docs/MACHINE.md, The
+//! board`.
 ghost use Rattle.occ_board.specs.Done.{is_kept};
 ghost use Rattle.occ_board.specs.Verdicts.{is_off as is_off_now, off_read as read_off, or_else, reads_verdict, uses_verdict, verdict_of};
 ghost use Rattle.occ_board.specs.declared.verdict.Verdict.TheVariants as verdict;

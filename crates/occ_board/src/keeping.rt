@@ -1,3 +1,4 @@
+//! Takes a job out of those that are handed out.
 ghost use Rattle.occ_board.specs.Machine.{unhanded};
 ghost use Rattle.occ_board.specs.Same.{same_input};
 ghost use Rattle.std.specs.Prelude.{◌≡◌};

@@ -1,3 +1,4 @@
+//! The cached outcomes, one for each unit at most, found by a hint at the index of the file, else by name.
 ghost use Rattle.occ_board.specs.Done.{kept_of};
 ghost use Rattle.occ_board.specs.Machine.{with_kept};
 ghost use Rattle.occ_board.specs.inside.Fresh.{shown_of};

@@ -1,14 +1,11 @@
 //! Laws of the machine.
 ghost use Rattle.occ_board.specs.Done.{NoneIsHanded, done, done_step, kept_of};
-ghost use Rattle.occ_board.specs.Edits.{IsApart};
-ghost use Rattle.occ_board.specs.Journal.{edited, replay};
-ghost use Rattle.occ_board.specs.Machine.{Event, IsWork, State, accepted_number, after, after_all, files_of, finish_answer, pending_answer, report_answer, take_answer};
-ghost use Rattle.occ_board.specs.Same.{same_input, same_used};
-ghost use Rattle.occ_board.specs.declared.entry.Edit.{Edit as AnEdit};
+ghost use Rattle.occ_board.specs.Journal.{replay};
+ghost use Rattle.occ_board.specs.Machine.{Event, State, after, files_of, finish_answer, pending_answer, report_answer, take_answer};
 ghost use Rattle.occ_board.specs.declared.entry.Entry.{Entry as AnEntry};
 ghost use Rattle.occ_board.specs.declared.report.Shown.TheVariants as shown;
 ghost use Rattle.occ_board.specs.declared.verdict.Verdict.TheVariants as verdict;
-ghost use Rattle.occ_report.specs.Inputs.{Input, UsedUnit};
+ghost use Rattle.occ_report.specs.Inputs.{Input};
 ghost use Rattle.occ_project.specs.Entries.{is_among};
 ghost use Rattle.occ_project.specs.declared.reads.Read.{Read};
 ghost use Rattle.occ_report.specs.Checks.{input};
@@ -16,20 +13,10 @@ ghost use Rattle.occ_report.specs.Report.{whole_report};
 ghost use Rattle.occ_units.specs.Places.{rest_units};
 ghost use Rattle.occ_units.specs.Project.{IsProject};
 ghost use Rattle.occ_units.specs.Spelled.{AreSpelled};
-ghost use Rattle.std.specs.List.{AllByRecursion};
 ghost use Rattle.std.specs.Option.{is_some};
-ghost use Rattle.std.specs.Prelude.{◌≡◌, ◌<◌, ◌≤◌, ◌+◌, ◌↔◌, ℕ, List, None, Some, map, true};
+ghost use Rattle.std.specs.Prelude.{◌≡◌, ◌<◌, ℕ, List, None, Some, map, true};
 
-use super::sources::source_law;
-use occ_report::Checked;
-use occ_units::laws::{along_law, circle_law, names_law, put_law, reads_law};
-
-/// The tests for inputs and for used units tell exactly whether two are one.
-#[tactic(auto, using(crate::proofs::Trees::inputs_are_one, crate::proofs::Trees::used_are_one))]
-pub fn same_law()
-    ensures inputs { (i j : Input) → (same_input i j ≡ true) ↔ (i ≡ j) }
-    ensures used { (a b : UsedUnit) → (same_used a b ≡ true) ↔ (a ≡ b) }
-{}
+use occ_units::laws::{along_law, names_law, put_law};
 
 /// With no unit pending the report is the report from nothing.
 pub fn report_law()
@@ -58,41 +45,6 @@ pub fn kept_law()
     ensures { (files : List Read) (kept : List Input) (u : List ℕ) → IsProject files → done files kept u ≡ true → kept_of kept u ≡ Some (input files u) }
 {
     done_law();
-}
-
-/// An edit of a file changes neither what the check of a unit looks at nor whether the unit is done, if the file is a read
-/// neither of the unit nor of a unit that it reaches.
-pub fn edit_law()
-    ensures input { (s : State) (session : ℕ) (e : AnEdit) (u : List ℕ) → IsApart (files_of s) (edited 0 e).name u → input (files_of (after s (Event.Edited session e))) u ≡ input (files_of s) u }
-    ensures done { (s : State) (session : ℕ) (e : AnEdit) (u : List ℕ) → IsApart (files_of s) (edited 0 e).name u → done (files_of (after s (Event.Edited session e))) s.kept u ≡ done (files_of s) s.kept u }
-{
-    put_law();
-    reads_law();
-    circle_law();
-    done_law();
-    height_law();
-    along_law::<Checked>();
-}
-
-/// No event but an edit and an outcome that is accepted changes the number of pending units. (That an accepted outcome
-/// lowers it is a clause of `Board::finish`.)
-pub fn pending_law()
-    ensures take { (s : State) → pending_answer (after s Event.Take) ≡ pending_answer s }
-    ensures abandon { (s : State) (i : Input) → pending_answer (after s (Event.Abandon i)) ≡ pending_answer s }
-    ensures judged { (s : State) (i : Input) → (finish_answer s i ≡ verdict.Accepted → ⊥) → pending_answer (after s (Event.Finish i)) ≡ pending_answer s }
-    ensures report { (s : State) → pending_answer (after s Event.Report) ≡ pending_answer s }
-    ensures pending { (s : State) → pending_answer (after s Event.Pending) ≡ pending_answer s }
-{}
-
-/// Behind work alone so many units fewer are pending as outcomes were accepted, at least. So there are no more accepted
-/// outcomes than units were pending, and with as many none is pending any more.
-pub fn work_law()
-    ensures { (s : State) (es : List Event) → AreSpelled (files_of s) → AllByRecursion IsWork es → pending_answer (after_all s es) + accepted_number s es ≤ pending_answer s }
-{
-    source_law();
-    reads_law();
-    done_law();
-    height_law();
 }
 
 /// Where a unit is pending, and no unit that is pending is handed out with its present input, there is a job: of the units

@@ -1,3 +1,4 @@
+//! Whether a read, a used unit, a job or a cached outcome is as at present. Of cached outcomes revisions are enough.
 ghost use Rattle.occ_board.specs.Done.{done, is_kept};
 ghost use Rattle.occ_board.specs.Same.{same_input};
 ghost use Rattle.occ_board.specs.Verdicts.{is_as_read};

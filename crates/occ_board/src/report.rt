@@ -1,3 +1,4 @@
+//! The rows of a report: each open unit with its diagnostics, or as pending.
 ghost use Rattle.occ_board.specs.Done.{done as is_done};
 ghost use Rattle.occ_board.specs.Machine.{row_of, rows_of};
 ghost use Rattle.occ_board.specs.declared.report.Shown.TheVariants as variants;

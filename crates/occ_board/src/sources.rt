@@ -1,3 +1,4 @@
+//! That a text has one list of lines, and no other.
 ghost use Rattle.occ_forms.specs.Prepared.{IsPrepared};
 ghost use Rattle.occ_forms.specs.declared.source.SourceLine.{SourceLine as ASourceLine};
 ghost use Rattle.std.specs.Prelude.{◌≡◌, ℕ, List};

@@ -1,3 +1,4 @@
+//! The next job: the least ready unit that is not handed out, looked for from an index before which none is ready.
 ghost use Rattle.occ_board.specs.Done.{done, is_input_among};
 ghost use Rattle.occ_board.specs.Machine.{next_input};
 ghost use Rattle.occ_board.specs.inside.Flagged.{AreFlags};

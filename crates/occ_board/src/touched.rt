@@ -1,3 +1,4 @@
+//! Marks of the files that an edit may concern, and a list of those that are marked.
 ghost use Rattle.occ_graph.specs.Graph.{is_among as is_place};
 ghost use Rattle.std.specs.Prelude.{◌≡◌, ◌<◌, ℕ, IfOk, OnOk, false, get_or, length, replicate, slice_set, true};
 

@@ -1,3 +1,5 @@
+//! Edits of the project with the flags after them. Flags are taken from units that read the file or reach one that does,
+//! and set again where that is right.
 ghost use Rattle.occ_board.specs.Done.{done};
 ghost use Rattle.occ_board.specs.Edits.{IsApart};
 ghost use Rattle.occ_board.specs.inside.Flagged.{AreFlags, IsFullAt, IsSound, unflagged};

@@ -1,3 +1,4 @@
+//! What becomes of an outcome, by name.
 use occ_base::FileName;
 
 /// What becomes of an outcome.

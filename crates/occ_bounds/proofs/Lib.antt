@@ -1,3 +1,2 @@
-pub mod Made
 pub mod Timers
 pub mod Views

@@ -2,8 +2,8 @@
 use Rattle.std.proofs.Common.{◌≡◌, ◌∙◌, ℕ, ℤ, Option, List, [], ◌∷◌, map, refl, ap, sym}
 use Rattle.occ_names.specs.declared.meaning.Referent.{Referent}
 use Rattle.occ_operands.specs.declared.kind.Known.{Known}
-use Rattle.occ_parts.specs.declared.place.Place.{Place}
-use Rattle.occ_project.specs.declared.expanded.Place.{Place as Line}
+use Rattle.occ_parts.specs.declared.place.SelectedPart.{SelectedPart}
+use Rattle.occ_project.specs.declared.expanded.Location.{Location}
 use Rattle.occ_types.specs.declared.constant.Monadic.{Monadic}
 use Rattle.occ_types.specs.declared.constant.Operator.{Operator}
 use Rattle.occ_typed.specs.declared.expr.Selector.{Selector}
@@ -109,10 +109,10 @@ expr_literal_value x env = ap (λ (v : ExprView). v.value env) (expr_literal x)
 pub expr_literal_size : (x : Known) (env : Env) → (expr_view (tv.Literal x)).size env ≡ (expr_step (TypedExpr-F.Literal x)).size env
 expr_literal_size x env = ap (λ (v : ExprView). v.size env) (expr_literal x)
 
-pub expr_literal_uses : (x : Known) (env : Env) (line : Line) → (expr_view (tv.Literal x)).uses env line ≡ (expr_step (TypedExpr-F.Literal x)).uses env line
+pub expr_literal_uses : (x : Known) (env : Env) (line : Location) → (expr_view (tv.Literal x)).uses env line ≡ (expr_step (TypedExpr-F.Literal x)).uses env line
 expr_literal_uses x env line = ap (λ (v : ExprView). v.uses env line) (expr_literal x)
 
-pub expr_literal_calls : (x : Known) (env : Env) (line : Line) → (expr_view (tv.Literal x)).calls env line ≡ (expr_step (TypedExpr-F.Literal x)).calls env line
+pub expr_literal_calls : (x : Known) (env : Env) (line : Location) → (expr_view (tv.Literal x)).calls env line ≡ (expr_step (TypedExpr-F.Literal x)).calls env line
 expr_literal_calls x env line = ap (λ (v : ExprView). v.calls env line) (expr_literal x)
 
 pub expr_literal_effect : (x : Known) (env : Env) → (expr_view (tv.Literal x)).effect env ≡ (expr_step (TypedExpr-F.Literal x)).effect env
@@ -124,10 +124,10 @@ expr_element_value el env = ap (λ (v : ExprView). v.value env) (expr_element el
 pub expr_element_size : (el : TypedElement) (env : Env) → (expr_view (tv.Element el)).size env ≡ (expr_step (TypedExpr-F.Element (element_view el))).size env
 expr_element_size el env = ap (λ (v : ExprView). v.size env) (expr_element el)
 
-pub expr_element_uses : (el : TypedElement) (env : Env) (line : Line) → (expr_view (tv.Element el)).uses env line ≡ (expr_step (TypedExpr-F.Element (element_view el))).uses env line
+pub expr_element_uses : (el : TypedElement) (env : Env) (line : Location) → (expr_view (tv.Element el)).uses env line ≡ (expr_step (TypedExpr-F.Element (element_view el))).uses env line
 expr_element_uses el env line = ap (λ (v : ExprView). v.uses env line) (expr_element el)
 
-pub expr_element_calls : (el : TypedElement) (env : Env) (line : Line) → (expr_view (tv.Element el)).calls env line ≡ (expr_step (TypedExpr-F.Element (element_view el))).calls env line
+pub expr_element_calls : (el : TypedElement) (env : Env) (line : Location) → (expr_view (tv.Element el)).calls env line ≡ (expr_step (TypedExpr-F.Element (element_view el))).calls env line
 expr_element_calls el env line = ap (λ (v : ExprView). v.calls env line) (expr_element el)
 
 pub expr_element_effect : (el : TypedElement) (env : Env) → (expr_view (tv.Element el)).effect env ≡ (expr_step (TypedExpr-F.Element (element_view el))).effect env
@@ -139,10 +139,10 @@ expr_operation_value x op es env = ap (λ (v : ExprView). v.value env) (expr_ope
 pub expr_operation_size : (x : Known) (op : Operator) (es : List TypedExpr) (env : Env) → (expr_view (tv.Operation x op es)).size env ≡ (expr_step (TypedExpr-F.Operation x op (expr_views es))).size env
 expr_operation_size x op es env = ap (λ (v : ExprView). v.size env) (expr_operation x op es)
 
-pub expr_operation_uses : (x : Known) (op : Operator) (es : List TypedExpr) (env : Env) (line : Line) → (expr_view (tv.Operation x op es)).uses env line ≡ (expr_step (TypedExpr-F.Operation x op (expr_views es))).uses env line
+pub expr_operation_uses : (x : Known) (op : Operator) (es : List TypedExpr) (env : Env) (line : Location) → (expr_view (tv.Operation x op es)).uses env line ≡ (expr_step (TypedExpr-F.Operation x op (expr_views es))).uses env line
 expr_operation_uses x op es env line = ap (λ (v : ExprView). v.uses env line) (expr_operation x op es)
 
-pub expr_operation_calls : (x : Known) (op : Operator) (es : List TypedExpr) (env : Env) (line : Line) → (expr_view (tv.Operation x op es)).calls env line ≡ (expr_step (TypedExpr-F.Operation x op (expr_views es))).calls env line
+pub expr_operation_calls : (x : Known) (op : Operator) (es : List TypedExpr) (env : Env) (line : Location) → (expr_view (tv.Operation x op es)).calls env line ≡ (expr_step (TypedExpr-F.Operation x op (expr_views es))).calls env line
 expr_operation_calls x op es env line = ap (λ (v : ExprView). v.calls env line) (expr_operation x op es)
 
 pub expr_operation_effect : (x : Known) (op : Operator) (es : List TypedExpr) (env : Env) → (expr_view (tv.Operation x op es)).effect env ≡ (expr_step (TypedExpr-F.Operation x op (expr_views es))).effect env
@@ -154,10 +154,10 @@ expr_applied_value x op e env = ap (λ (v : ExprView). v.value env) (expr_applie
 pub expr_applied_size : (x : Known) (op : Monadic) (e : TypedExpr) (env : Env) → (expr_view (tv.Applied x op e)).size env ≡ (expr_step (TypedExpr-F.Applied x op (expr_view e))).size env
 expr_applied_size x op e env = ap (λ (v : ExprView). v.size env) (expr_applied x op e)
 
-pub expr_applied_uses : (x : Known) (op : Monadic) (e : TypedExpr) (env : Env) (line : Line) → (expr_view (tv.Applied x op e)).uses env line ≡ (expr_step (TypedExpr-F.Applied x op (expr_view e))).uses env line
+pub expr_applied_uses : (x : Known) (op : Monadic) (e : TypedExpr) (env : Env) (line : Location) → (expr_view (tv.Applied x op e)).uses env line ≡ (expr_step (TypedExpr-F.Applied x op (expr_view e))).uses env line
 expr_applied_uses x op e env line = ap (λ (v : ExprView). v.uses env line) (expr_applied x op e)
 
-pub expr_applied_calls : (x : Known) (op : Monadic) (e : TypedExpr) (env : Env) (line : Line) → (expr_view (tv.Applied x op e)).calls env line ≡ (expr_step (TypedExpr-F.Applied x op (expr_view e))).calls env line
+pub expr_applied_calls : (x : Known) (op : Monadic) (e : TypedExpr) (env : Env) (line : Location) → (expr_view (tv.Applied x op e)).calls env line ≡ (expr_step (TypedExpr-F.Applied x op (expr_view e))).calls env line
 expr_applied_calls x op e env line = ap (λ (v : ExprView). v.calls env line) (expr_applied x op e)
 
 pub expr_applied_effect : (x : Known) (op : Monadic) (e : TypedExpr) (env : Env) → (expr_view (tv.Applied x op e)).effect env ≡ (expr_step (TypedExpr-F.Applied x op (expr_view e))).effect env
@@ -169,10 +169,10 @@ expr_size_value x e env = ap (λ (v : ExprView). v.value env) (expr_size x e)
 pub expr_size_size : (x : Known) (e : TypedExpr) (env : Env) → (expr_view (tv.Size x e)).size env ≡ (expr_step (TypedExpr-F.Size x (expr_view e))).size env
 expr_size_size x e env = ap (λ (v : ExprView). v.size env) (expr_size x e)
 
-pub expr_size_uses : (x : Known) (e : TypedExpr) (env : Env) (line : Line) → (expr_view (tv.Size x e)).uses env line ≡ (expr_step (TypedExpr-F.Size x (expr_view e))).uses env line
+pub expr_size_uses : (x : Known) (e : TypedExpr) (env : Env) (line : Location) → (expr_view (tv.Size x e)).uses env line ≡ (expr_step (TypedExpr-F.Size x (expr_view e))).uses env line
 expr_size_uses x e env line = ap (λ (v : ExprView). v.uses env line) (expr_size x e)
 
-pub expr_size_calls : (x : Known) (e : TypedExpr) (env : Env) (line : Line) → (expr_view (tv.Size x e)).calls env line ≡ (expr_step (TypedExpr-F.Size x (expr_view e))).calls env line
+pub expr_size_calls : (x : Known) (e : TypedExpr) (env : Env) (line : Location) → (expr_view (tv.Size x e)).calls env line ≡ (expr_step (TypedExpr-F.Size x (expr_view e))).calls env line
 expr_size_calls x e env line = ap (λ (v : ExprView). v.calls env line) (expr_size x e)
 
 pub expr_size_effect : (x : Known) (e : TypedExpr) (env : Env) → (expr_view (tv.Size x e)).effect env ≡ (expr_step (TypedExpr-F.Size x (expr_view e))).effect env
@@ -184,10 +184,10 @@ expr_converted_value x e env = ap (λ (v : ExprView). v.value env) (expr_convert
 pub expr_converted_size : (x : Known) (e : TypedExpr) (env : Env) → (expr_view (tv.Converted x e)).size env ≡ (expr_step (TypedExpr-F.Converted x (expr_view e))).size env
 expr_converted_size x e env = ap (λ (v : ExprView). v.size env) (expr_converted x e)
 
-pub expr_converted_uses : (x : Known) (e : TypedExpr) (env : Env) (line : Line) → (expr_view (tv.Converted x e)).uses env line ≡ (expr_step (TypedExpr-F.Converted x (expr_view e))).uses env line
+pub expr_converted_uses : (x : Known) (e : TypedExpr) (env : Env) (line : Location) → (expr_view (tv.Converted x e)).uses env line ≡ (expr_step (TypedExpr-F.Converted x (expr_view e))).uses env line
 expr_converted_uses x e env line = ap (λ (v : ExprView). v.uses env line) (expr_converted x e)
 
-pub expr_converted_calls : (x : Known) (e : TypedExpr) (env : Env) (line : Line) → (expr_view (tv.Converted x e)).calls env line ≡ (expr_step (TypedExpr-F.Converted x (expr_view e))).calls env line
+pub expr_converted_calls : (x : Known) (e : TypedExpr) (env : Env) (line : Location) → (expr_view (tv.Converted x e)).calls env line ≡ (expr_step (TypedExpr-F.Converted x (expr_view e))).calls env line
 expr_converted_calls x e env line = ap (λ (v : ExprView). v.calls env line) (expr_converted x e)
 
 pub expr_converted_effect : (x : Known) (e : TypedExpr) (env : Env) → (expr_view (tv.Converted x e)).effect env ≡ (expr_step (TypedExpr-F.Converted x (expr_view e))).effect env
@@ -199,10 +199,10 @@ expr_table_value x es env = ap (λ (v : ExprView). v.value env) (expr_table x es
 pub expr_table_size : (x : Known) (es : List TypedExpr) (env : Env) → (expr_view (tv.Table x es)).size env ≡ (expr_step (TypedExpr-F.Table x (expr_views es))).size env
 expr_table_size x es env = ap (λ (v : ExprView). v.size env) (expr_table x es)
 
-pub expr_table_uses : (x : Known) (es : List TypedExpr) (env : Env) (line : Line) → (expr_view (tv.Table x es)).uses env line ≡ (expr_step (TypedExpr-F.Table x (expr_views es))).uses env line
+pub expr_table_uses : (x : Known) (es : List TypedExpr) (env : Env) (line : Location) → (expr_view (tv.Table x es)).uses env line ≡ (expr_step (TypedExpr-F.Table x (expr_views es))).uses env line
 expr_table_uses x es env line = ap (λ (v : ExprView). v.uses env line) (expr_table x es)
 
-pub expr_table_calls : (x : Known) (es : List TypedExpr) (env : Env) (line : Line) → (expr_view (tv.Table x es)).calls env line ≡ (expr_step (TypedExpr-F.Table x (expr_views es))).calls env line
+pub expr_table_calls : (x : Known) (es : List TypedExpr) (env : Env) (line : Location) → (expr_view (tv.Table x es)).calls env line ≡ (expr_step (TypedExpr-F.Table x (expr_views es))).calls env line
 expr_table_calls x es env line = ap (λ (v : ExprView). v.calls env line) (expr_table x es)
 
 pub expr_table_effect : (x : Known) (es : List TypedExpr) (env : Env) → (expr_view (tv.Table x es)).effect env ≡ (expr_step (TypedExpr-F.Table x (expr_views es))).effect env
@@ -214,10 +214,10 @@ expr_call_value x callee xs env = ap (λ (v : ExprView). v.value env) (expr_call
 pub expr_call_size : (x : Known) (callee : Referent) (xs : List TypedActual) (env : Env) → (expr_view (tv.Call x callee xs)).size env ≡ (expr_step (TypedExpr-F.Call x callee (actual_views xs))).size env
 expr_call_size x callee xs env = ap (λ (v : ExprView). v.size env) (expr_call x callee xs)
 
-pub expr_call_uses : (x : Known) (callee : Referent) (xs : List TypedActual) (env : Env) (line : Line) → (expr_view (tv.Call x callee xs)).uses env line ≡ (expr_step (TypedExpr-F.Call x callee (actual_views xs))).uses env line
+pub expr_call_uses : (x : Known) (callee : Referent) (xs : List TypedActual) (env : Env) (line : Location) → (expr_view (tv.Call x callee xs)).uses env line ≡ (expr_step (TypedExpr-F.Call x callee (actual_views xs))).uses env line
 expr_call_uses x callee xs env line = ap (λ (v : ExprView). v.uses env line) (expr_call x callee xs)
 
-pub expr_call_calls : (x : Known) (callee : Referent) (xs : List TypedActual) (env : Env) (line : Line) → (expr_view (tv.Call x callee xs)).calls env line ≡ (expr_step (TypedExpr-F.Call x callee (actual_views xs))).calls env line
+pub expr_call_calls : (x : Known) (callee : Referent) (xs : List TypedActual) (env : Env) (line : Location) → (expr_view (tv.Call x callee xs)).calls env line ≡ (expr_step (TypedExpr-F.Call x callee (actual_views xs))).calls env line
 expr_call_calls x callee xs env line = ap (λ (v : ExprView). v.calls env line) (expr_call x callee xs)
 
 pub expr_call_effect : (x : Known) (callee : Referent) (xs : List TypedActual) (env : Env) → (expr_view (tv.Call x callee xs)).effect env ≡ (expr_step (TypedExpr-F.Call x callee (actual_views xs))).effect env
@@ -226,10 +226,10 @@ expr_call_effect x callee xs env = ap (λ (v : ExprView). v.effect env) (expr_ca
 pub actual_value_place : (e : TypedExpr) (env : Env) → (actual_view (av.Value e)).place env ≡ (actual_step (TypedActual-F.Value (expr_view e))).place env
 actual_value_place e env = ap (λ (v : ActualView). v.place env) (actual_value e)
 
-pub actual_value_uses : (e : TypedExpr) (env : Env) (line : Line) → (actual_view (av.Value e)).uses env line ≡ (actual_step (TypedActual-F.Value (expr_view e))).uses env line
+pub actual_value_uses : (e : TypedExpr) (env : Env) (line : Location) → (actual_view (av.Value e)).uses env line ≡ (actual_step (TypedActual-F.Value (expr_view e))).uses env line
 actual_value_uses e env line = ap (λ (v : ActualView). v.uses env line) (actual_value e)
 
-pub actual_value_calls : (e : TypedExpr) (env : Env) (line : Line) → (actual_view (av.Value e)).calls env line ≡ (actual_step (TypedActual-F.Value (expr_view e))).calls env line
+pub actual_value_calls : (e : TypedExpr) (env : Env) (line : Location) → (actual_view (av.Value e)).calls env line ≡ (actual_step (TypedActual-F.Value (expr_view e))).calls env line
 actual_value_calls e env line = ap (λ (v : ActualView). v.calls env line) (actual_value e)
 
 pub actual_value_effect : (e : TypedExpr) (env : Env) → (actual_view (av.Value e)).effect env ≡ (actual_step (TypedActual-F.Value (expr_view e))).effect env
@@ -238,10 +238,10 @@ actual_value_effect e env = ap (λ (v : ActualView). v.effect env) (actual_value
 pub actual_variable_place : (el : TypedElement) (env : Env) → (actual_view (av.Variable el)).place env ≡ (actual_step (TypedActual-F.Variable (element_view el))).place env
 actual_variable_place el env = ap (λ (v : ActualView). v.place env) (actual_variable el)
 
-pub actual_variable_uses : (el : TypedElement) (env : Env) (line : Line) → (actual_view (av.Variable el)).uses env line ≡ (actual_step (TypedActual-F.Variable (element_view el))).uses env line
+pub actual_variable_uses : (el : TypedElement) (env : Env) (line : Location) → (actual_view (av.Variable el)).uses env line ≡ (actual_step (TypedActual-F.Variable (element_view el))).uses env line
 actual_variable_uses el env line = ap (λ (v : ActualView). v.uses env line) (actual_variable el)
 
-pub actual_variable_calls : (el : TypedElement) (env : Env) (line : Line) → (actual_view (av.Variable el)).calls env line ≡ (actual_step (TypedActual-F.Variable (element_view el))).calls env line
+pub actual_variable_calls : (el : TypedElement) (env : Env) (line : Location) → (actual_view (av.Variable el)).calls env line ≡ (actual_step (TypedActual-F.Variable (element_view el))).calls env line
 actual_variable_calls el env line = ap (λ (v : ActualView). v.calls env line) (actual_variable el)
 
 pub actual_variable_effect : (el : TypedElement) (env : Env) → (actual_view (av.Variable el)).effect env ≡ (actual_step (TypedActual-F.Variable (element_view el))).effect env
@@ -250,13 +250,13 @@ actual_variable_effect el env = ap (λ (v : ActualView). v.effect env) (actual_v
 pub selector_field_size : (k : ℕ) (name : List ℕ) (env : Env) (size : Option ℤ) → (selector_view (sv.Field k name)).size env size ≡ (selector_step (Selector-F.Field k name)).size env size
 selector_field_size k name env size = ap (λ (v : SelectorView). v.size env size) (selector_field k name)
 
-pub selector_field_place : (k : ℕ) (name : List ℕ) (env : Env) (size : Option ℤ) (p : Place) → (selector_view (sv.Field k name)).place env size p ≡ (selector_step (Selector-F.Field k name)).place env size p
+pub selector_field_place : (k : ℕ) (name : List ℕ) (env : Env) (size : Option ℤ) (p : SelectedPart) → (selector_view (sv.Field k name)).place env size p ≡ (selector_step (Selector-F.Field k name)).place env size p
 selector_field_place k name env size p = ap (λ (v : SelectorView). v.place env size p) (selector_field k name)
 
-pub selector_field_uses : (k : ℕ) (name : List ℕ) (env : Env) (line : Line) → (selector_view (sv.Field k name)).uses env line ≡ (selector_step (Selector-F.Field k name)).uses env line
+pub selector_field_uses : (k : ℕ) (name : List ℕ) (env : Env) (line : Location) → (selector_view (sv.Field k name)).uses env line ≡ (selector_step (Selector-F.Field k name)).uses env line
 selector_field_uses k name env line = ap (λ (v : SelectorView). v.uses env line) (selector_field k name)
 
-pub selector_field_calls : (k : ℕ) (name : List ℕ) (env : Env) (line : Line) → (selector_view (sv.Field k name)).calls env line ≡ (selector_step (Selector-F.Field k name)).calls env line
+pub selector_field_calls : (k : ℕ) (name : List ℕ) (env : Env) (line : Location) → (selector_view (sv.Field k name)).calls env line ≡ (selector_step (Selector-F.Field k name)).calls env line
 selector_field_calls k name env line = ap (λ (v : SelectorView). v.calls env line) (selector_field k name)
 
 pub selector_field_effect : (k : ℕ) (name : List ℕ) (env : Env) → (selector_view (sv.Field k name)).effect env ≡ (selector_step (Selector-F.Field k name)).effect env
@@ -265,13 +265,13 @@ selector_field_effect k name env = ap (λ (v : SelectorView). v.effect env) (sel
 pub selector_component_size : (e : TypedExpr) (env : Env) (size : Option ℤ) → (selector_view (sv.Component e)).size env size ≡ (selector_step (Selector-F.Component (expr_view e))).size env size
 selector_component_size e env size = ap (λ (v : SelectorView). v.size env size) (selector_component e)
 
-pub selector_component_place : (e : TypedExpr) (env : Env) (size : Option ℤ) (p : Place) → (selector_view (sv.Component e)).place env size p ≡ (selector_step (Selector-F.Component (expr_view e))).place env size p
+pub selector_component_place : (e : TypedExpr) (env : Env) (size : Option ℤ) (p : SelectedPart) → (selector_view (sv.Component e)).place env size p ≡ (selector_step (Selector-F.Component (expr_view e))).place env size p
 selector_component_place e env size p = ap (λ (v : SelectorView). v.place env size p) (selector_component e)
 
-pub selector_component_uses : (e : TypedExpr) (env : Env) (line : Line) → (selector_view (sv.Component e)).uses env line ≡ (selector_step (Selector-F.Component (expr_view e))).uses env line
+pub selector_component_uses : (e : TypedExpr) (env : Env) (line : Location) → (selector_view (sv.Component e)).uses env line ≡ (selector_step (Selector-F.Component (expr_view e))).uses env line
 selector_component_uses e env line = ap (λ (v : SelectorView). v.uses env line) (selector_component e)
 
-pub selector_component_calls : (e : TypedExpr) (env : Env) (line : Line) → (selector_view (sv.Component e)).calls env line ≡ (selector_step (Selector-F.Component (expr_view e))).calls env line
+pub selector_component_calls : (e : TypedExpr) (env : Env) (line : Location) → (selector_view (sv.Component e)).calls env line ≡ (selector_step (Selector-F.Component (expr_view e))).calls env line
 selector_component_calls e env line = ap (λ (v : SelectorView). v.calls env line) (selector_component e)
 
 pub selector_component_effect : (e : TypedExpr) (env : Env) → (selector_view (sv.Component e)).effect env ≡ (selector_step (Selector-F.Component (expr_view e))).effect env
@@ -280,13 +280,13 @@ selector_component_effect e env = ap (λ (v : SelectorView). v.effect env) (sele
 pub selector_from_size : (n : Option ℕ) (e : TypedExpr) (env : Env) (size : Option ℤ) → (selector_view (sv.From n e)).size env size ≡ (selector_step (Selector-F.From n (expr_view e))).size env size
 selector_from_size n e env size = ap (λ (v : SelectorView). v.size env size) (selector_from n e)
 
-pub selector_from_place : (n : Option ℕ) (e : TypedExpr) (env : Env) (size : Option ℤ) (p : Place) → (selector_view (sv.From n e)).place env size p ≡ (selector_step (Selector-F.From n (expr_view e))).place env size p
+pub selector_from_place : (n : Option ℕ) (e : TypedExpr) (env : Env) (size : Option ℤ) (p : SelectedPart) → (selector_view (sv.From n e)).place env size p ≡ (selector_step (Selector-F.From n (expr_view e))).place env size p
 selector_from_place n e env size p = ap (λ (v : SelectorView). v.place env size p) (selector_from n e)
 
-pub selector_from_uses : (n : Option ℕ) (e : TypedExpr) (env : Env) (line : Line) → (selector_view (sv.From n e)).uses env line ≡ (selector_step (Selector-F.From n (expr_view e))).uses env line
+pub selector_from_uses : (n : Option ℕ) (e : TypedExpr) (env : Env) (line : Location) → (selector_view (sv.From n e)).uses env line ≡ (selector_step (Selector-F.From n (expr_view e))).uses env line
 selector_from_uses n e env line = ap (λ (v : SelectorView). v.uses env line) (selector_from n e)
 
-pub selector_from_calls : (n : Option ℕ) (e : TypedExpr) (env : Env) (line : Line) → (selector_view (sv.From n e)).calls env line ≡ (selector_step (Selector-F.From n (expr_view e))).calls env line
+pub selector_from_calls : (n : Option ℕ) (e : TypedExpr) (env : Env) (line : Location) → (selector_view (sv.From n e)).calls env line ≡ (selector_step (Selector-F.From n (expr_view e))).calls env line
 selector_from_calls n e env line = ap (λ (v : SelectorView). v.calls env line) (selector_from n e)
 
 pub selector_from_effect : (n : Option ℕ) (e : TypedExpr) (env : Env) → (selector_view (sv.From n e)).effect env ≡ (selector_step (Selector-F.From n (expr_view e))).effect env
@@ -295,13 +295,13 @@ selector_from_effect n e env = ap (λ (v : SelectorView). v.effect env) (selecto
 pub selector_for_size : (n : Option ℕ) (e : TypedExpr) (env : Env) (size : Option ℤ) → (selector_view (sv.For n e)).size env size ≡ (selector_step (Selector-F.For n (expr_view e))).size env size
 selector_for_size n e env size = ap (λ (v : SelectorView). v.size env size) (selector_for n e)
 
-pub selector_for_place : (n : Option ℕ) (e : TypedExpr) (env : Env) (size : Option ℤ) (p : Place) → (selector_view (sv.For n e)).place env size p ≡ (selector_step (Selector-F.For n (expr_view e))).place env size p
+pub selector_for_place : (n : Option ℕ) (e : TypedExpr) (env : Env) (size : Option ℤ) (p : SelectedPart) → (selector_view (sv.For n e)).place env size p ≡ (selector_step (Selector-F.For n (expr_view e))).place env size p
 selector_for_place n e env size p = ap (λ (v : SelectorView). v.place env size p) (selector_for n e)
 
-pub selector_for_uses : (n : Option ℕ) (e : TypedExpr) (env : Env) (line : Line) → (selector_view (sv.For n e)).uses env line ≡ (selector_step (Selector-F.For n (expr_view e))).uses env line
+pub selector_for_uses : (n : Option ℕ) (e : TypedExpr) (env : Env) (line : Location) → (selector_view (sv.For n e)).uses env line ≡ (selector_step (Selector-F.For n (expr_view e))).uses env line
 selector_for_uses n e env line = ap (λ (v : SelectorView). v.uses env line) (selector_for n e)
 
-pub selector_for_calls : (n : Option ℕ) (e : TypedExpr) (env : Env) (line : Line) → (selector_view (sv.For n e)).calls env line ≡ (selector_step (Selector-F.For n (expr_view e))).calls env line
+pub selector_for_calls : (n : Option ℕ) (e : TypedExpr) (env : Env) (line : Location) → (selector_view (sv.For n e)).calls env line ≡ (selector_step (Selector-F.For n (expr_view e))).calls env line
 selector_for_calls n e env line = ap (λ (v : SelectorView). v.calls env line) (selector_for n e)
 
 pub selector_for_effect : (n : Option ℕ) (e : TypedExpr) (env : Env) → (selector_view (sv.For n e)).effect env ≡ (selector_step (Selector-F.For n (expr_view e))).effect env
@@ -310,13 +310,13 @@ selector_for_effect n e env = ap (λ (v : SelectorView). v.effect env) (selector
 pub selector_from_for_size : (n : Option ℕ) (e : TypedExpr) (f : TypedExpr) (env : Env) (size : Option ℤ) → (selector_view (sv.FromFor n e f)).size env size ≡ (selector_step (Selector-F.FromFor n (expr_view e) (expr_view f))).size env size
 selector_from_for_size n e f env size = ap (λ (v : SelectorView). v.size env size) (selector_from_for n e f)
 
-pub selector_from_for_place : (n : Option ℕ) (e : TypedExpr) (f : TypedExpr) (env : Env) (size : Option ℤ) (p : Place) → (selector_view (sv.FromFor n e f)).place env size p ≡ (selector_step (Selector-F.FromFor n (expr_view e) (expr_view f))).place env size p
+pub selector_from_for_place : (n : Option ℕ) (e : TypedExpr) (f : TypedExpr) (env : Env) (size : Option ℤ) (p : SelectedPart) → (selector_view (sv.FromFor n e f)).place env size p ≡ (selector_step (Selector-F.FromFor n (expr_view e) (expr_view f))).place env size p
 selector_from_for_place n e f env size p = ap (λ (v : SelectorView). v.place env size p) (selector_from_for n e f)
 
-pub selector_from_for_uses : (n : Option ℕ) (e : TypedExpr) (f : TypedExpr) (env : Env) (line : Line) → (selector_view (sv.FromFor n e f)).uses env line ≡ (selector_step (Selector-F.FromFor n (expr_view e) (expr_view f))).uses env line
+pub selector_from_for_uses : (n : Option ℕ) (e : TypedExpr) (f : TypedExpr) (env : Env) (line : Location) → (selector_view (sv.FromFor n e f)).uses env line ≡ (selector_step (Selector-F.FromFor n (expr_view e) (expr_view f))).uses env line
 selector_from_for_uses n e f env line = ap (λ (v : SelectorView). v.uses env line) (selector_from_for n e f)
 
-pub selector_from_for_calls : (n : Option ℕ) (e : TypedExpr) (f : TypedExpr) (env : Env) (line : Line) → (selector_view (sv.FromFor n e f)).calls env line ≡ (selector_step (Selector-F.FromFor n (expr_view e) (expr_view f))).calls env line
+pub selector_from_for_calls : (n : Option ℕ) (e : TypedExpr) (f : TypedExpr) (env : Env) (line : Location) → (selector_view (sv.FromFor n e f)).calls env line ≡ (selector_step (Selector-F.FromFor n (expr_view e) (expr_view f))).calls env line
 selector_from_for_calls n e f env line = ap (λ (v : SelectorView). v.calls env line) (selector_from_for n e f)
 
 pub selector_from_for_effect : (n : Option ℕ) (e : TypedExpr) (f : TypedExpr) (env : Env) → (selector_view (sv.FromFor n e f)).effect env ≡ (selector_step (Selector-F.FromFor n (expr_view e) (expr_view f))).effect env
@@ -331,10 +331,10 @@ element_size el env = ap (λ (v : ElementView). v.size env) (element_view_of el)
 pub element_place : (el : TypedElement) (env : Env) → (element_view el).place env ≡ (element_step (element_layer el)).place env
 element_place el env = ap (λ (v : ElementView). v.place env) (element_view_of el)
 
-pub element_uses : (el : TypedElement) (env : Env) (line : Line) → (element_view el).uses env line ≡ (element_step (element_layer el)).uses env line
+pub element_uses : (el : TypedElement) (env : Env) (line : Location) → (element_view el).uses env line ≡ (element_step (element_layer el)).uses env line
 element_uses el env line = ap (λ (v : ElementView). v.uses env line) (element_view_of el)
 
-pub element_calls : (el : TypedElement) (env : Env) (line : Line) → (element_view el).calls env line ≡ (element_step (element_layer el)).calls env line
+pub element_calls : (el : TypedElement) (env : Env) (line : Location) → (element_view el).calls env line ≡ (element_step (element_layer el)).calls env line
 element_calls el env line = ap (λ (v : ElementView). v.calls env line) (element_view_of el)
 
 pub element_effect : (el : TypedElement) (env : Env) → (element_view el).effect env ≡ (element_step (element_layer el)).effect env

@@ -1,7 +1,7 @@
 -- What the specifications in scope are for the uses of parts. Each has the number of those round it.
 use Rattle.std.specs.Prelude.{ℕ, ℤ, Bool, true, false, Option, Some, None, List, []}
 use Rattle.occ_parts.specs.Selecting.{whole}
-use Rattle.occ_parts.specs.declared.place.Place.{Place}
+use Rattle.occ_parts.specs.declared.place.SelectedPart.{SelectedPart}
 use Rattle.occ_types.specs.declared.interface.Effect.{Effect}
 use Rattle.occ_types.specs.declared.interface.Effect.TheVariants as effect
 use Rattle.occ_types.specs.declared.value.Value.{Value}
@@ -30,7 +30,7 @@ size_of (Some b.Other) = None
 size_of None = None
 
 -- what the name of the specification with this number stands for
-abbrev pub place_of : ℕ → Option Bound → Option Place
+abbrev pub place_of : ℕ → Option Bound → Option SelectedPart
 place_of number (Some (b.Root name)) = Some (whole number)
 place_of number (Some (b.Abbreviation place size reads)) = place
 place_of number (Some (b.Value v size reads)) = None

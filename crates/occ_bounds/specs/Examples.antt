@@ -4,7 +4,7 @@ use Rattle.occ_names.specs.declared.meaning.Meaning.TheVariants as m
 use Rattle.occ_operands.specs.Settling.{int}
 use Rattle.occ_operands.specs.declared.kind.Known.{Known}
 use Rattle.occ_parts.specs.Selecting.{subscript}
-use Rattle.occ_project.specs.declared.expanded.Place.{Place as Line}
+use Rattle.occ_project.specs.declared.expanded.Location.{Location}
 use Rattle.occ_typed.specs.declared.expr.Selector.{Selector}
 use Rattle.occ_typed.specs.declared.expr.TypedElement.{TypedElement}
 use Rattle.occ_typed.specs.declared.expr.TypedExpr.{TypedExpr}
@@ -29,12 +29,12 @@ abbrev pub literal : ℕ → TypedExpr
 literal n = e.Literal (record { of = int; value = Some (v.Int (pos n)) })
 
 -- the component of the first specification, `a`, at one place
-abbrev pub part_use : UseKind → ℕ → Line → Use
+abbrev pub part_use : UseKind → ℕ → Location → Use
 part_use k n line = record { part = record { root = 0; selectors = p.Interval (subscript (Some (pos n))) ∷ [] }; kind = k; line = line; chain = [] }
 
 -- The array `a`; the index `i` where it is 3; a VAL formal `k`; a timer `t`; and `PROC p ([]INT x)` whose body is `x[1] := 0`,
 -- with the number of components of `x` not known. The formal has the number that `p` has behind the body.
-abbrev pub scope : Line → Env
+abbrev pub scope : Location → Env
 scope line =
     b.Root (codes "a")
     ∷ b.Value (Some (v.Int (pos 3))) None []

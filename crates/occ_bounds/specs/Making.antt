@@ -2,8 +2,8 @@
 use Rattle.std.specs.Prelude.{ℕ, ◌≡◌, ◌⊎◌, ◌-◌, ◌<◌, ◌≤◌, Option, Some, List, slice_get}
 use Rattle.std.specs.List.{Contains}
 use Rattle.occ_parts.specs.Selecting.{followed_by}
-use Rattle.occ_parts.specs.declared.place.Place.{Place}
-use Rattle.occ_project.specs.declared.expanded.Place.{Place as Line}
+use Rattle.occ_parts.specs.declared.place.SelectedPart.{SelectedPart}
+use Rattle.occ_project.specs.declared.expanded.Location.{Location}
 use Rattle.occ_bounds.specs.Bounds.{Env, body_of}
 use Rattle.occ_bounds.specs.Uses.{at_line}
 use Rattle.occ_bounds.specs.Views.{ActualView, actuals_uses, places_of}
@@ -11,13 +11,13 @@ use Rattle.occ_bounds.specs.declared.uses.Use.{Use}
 
 -- A call of the specification with this number makes w by u, which its body makes: the same of what stands round the body, or
 -- of the part of the actual that the same selectors select.
-abbrev pub Makes : Line → ℕ → List (Option Place) → Use → Use → Type 0
+abbrev pub Makes : Location → ℕ → List (Option SelectedPart) → Use → Use → Type 0
 Makes line callee places u w =
     ((u.part.root < callee) × (w ≡ at_line u line))
-    ⊎ ((callee ≤ u.part.root) × (p : Place) × (slice_get places (u.part.root - callee) ≡ Some (Some p)) × (w ≡ record { part = followed_by p u.part.selectors; kind = u.kind; line = line; chain = p.chain }))
+    ⊎ ((callee ≤ u.part.root) × (p : SelectedPart) × (slice_get places (u.part.root - callee) ≡ Some (Some p)) × (w ≡ record { part = followed_by p u.part.selectors; kind = u.kind; line = line; chain = p.chain }))
 
 -- by what is evaluated for its actuals, or by its body
-abbrev pub CallUses : ℕ → List ActualView → Env → Line → Use → Type 0
+abbrev pub CallUses : ℕ → List ActualView → Env → Location → Use → Type 0
 CallUses callee xs env line w =
     Contains (actuals_uses xs env line) w
     ⊎ ((u : Use) × Contains (body_of (slice_get env callee)) u × Makes line callee (places_of xs env) u w)

@@ -2,8 +2,8 @@
 -- what is evaluated, and the calls.
 use Rattle.std.specs.Prelude.{ℕ, ℤ, pos, Bool, false, ◌||◌, Option, Some, None, List, [], ◌∷◌, ◌++◌, slice_get}
 use Rattle.occ_parts.specs.Selecting.{with_field, with_segment, with_subscript}
-use Rattle.occ_parts.specs.declared.place.Place.{Place}
-use Rattle.occ_project.specs.declared.expanded.Place.{Place as Line}
+use Rattle.occ_parts.specs.declared.place.SelectedPart.{SelectedPart}
+use Rattle.occ_project.specs.declared.expanded.Location.{Location}
 use Rattle.occ_types.specs.declared.constant.Operator.{Operator}
 use Rattle.occ_types.specs.declared.interface.UseKind.TheVariants as kind
 use Rattle.occ_types.specs.declared.value.Value.{Value}
@@ -21,10 +21,10 @@ use Rattle.occ_bounds.specs.declared.uses.Use.{Use}
 
 -- what is used, and what is called, at a line
 abbrev pub Uses : Type 0
-Uses = Env → Line → List Use
+Uses = Env → Location → List Use
 
 abbrev pub Calls : Type 0
-Calls = Env → Line → List Call
+Calls = Env → Location → List Call
 
 -- whether a body is called that has an input, an output, a PAR or an ALT
 abbrev pub Effects : Type 0
@@ -51,7 +51,7 @@ pub record ExprView : Type 0 where
 pub record ElementView : Type 0 where
   pub value : Env → Option Value
   pub size : Env → Option ℤ
-  pub place : Env → Option Place
+  pub place : Env → Option SelectedPart
   pub uses : Uses
   pub calls : Calls
   pub effect : Effects
@@ -59,14 +59,14 @@ pub record ElementView : Type 0 where
 -- what it selects from a place of so many components
 pub record SelectorView : Type 0 where
   pub size : Env → Option ℤ → Option ℤ
-  pub place : Env → Option ℤ → Place → Place
+  pub place : Env → Option ℤ → SelectedPart → SelectedPart
   pub uses : Uses
   pub calls : Calls
   pub effect : Effects
 
 -- what it is for a formal that is not VAL, and what is evaluated for it
 pub record ActualView : Type 0 where
-  pub place : Env → Option Place
+  pub place : Env → Option SelectedPart
   pub uses : Uses
   pub calls : Calls
   pub effect : Effects
@@ -109,7 +109,7 @@ abbrev pub actuals_effect : List ActualView → Effects
 actuals_effect [] env = false
 actuals_effect (x ∷ xs) env = x.effect env || actuals_effect xs env
 
-abbrev pub places_of : List ActualView → Env → List (Option Place)
+abbrev pub places_of : List ActualView → Env → List (Option SelectedPart)
 places_of [] env = []
 places_of (x ∷ xs) env = x.place env ∷ places_of xs env
 
@@ -121,7 +121,7 @@ called_uses callee xs env line = called_all line callee (places_of xs env) (body
 abbrev pub call_uses : ℕ → List ActualView → Uses
 call_uses callee xs env line = actuals_uses xs env line ++ called_uses callee xs env line
 
-abbrev pub call_at : ℕ → List ActualView → Env → Line → Call
+abbrev pub call_at : ℕ → List ActualView → Env → Location → Call
 call_at callee xs env line =
     record { callee = callee; places = places_of xs env; reads = actuals_uses xs env line; uses = called_uses callee xs env line }
 
@@ -133,7 +133,7 @@ call_effect callee xs env = actuals_effect xs env || effect_of (slice_get env ca
 
 -- ---- selectors
 
-abbrev pub from_place : Option ℕ → ExprView → Env → Option ℤ → Place → Place
+abbrev pub from_place : Option ℕ → ExprView → Env → Option ℤ → SelectedPart → SelectedPart
 from_place typed e env size p = with_segment p (int_of (e.value env)) (less (whole typed size) (int_of (e.value env)))
 
 abbrev pub selector_step : Selector-F SelectorView ActualView ExprView ElementView → SelectorView
@@ -161,11 +161,11 @@ sized [] env size = size
 sized (x ∷ xs) env size = sized xs env (x.size env size)
 
 -- what is selected from a place of so many components
-abbrev pub placed : List SelectorView → Env → Option ℤ → Place → Place
+abbrev pub placed : List SelectorView → Env → Option ℤ → SelectedPart → SelectedPart
 placed [] env size p = p
 placed (x ∷ xs) env size p = placed xs env (x.size env size) (x.place env size p)
 
-abbrev pub placed_from : List SelectorView → Env → Option ℤ → Option Place → Option Place
+abbrev pub placed_from : List SelectorView → Env → Option ℤ → Option SelectedPart → Option SelectedPart
 placed_from xs env size None = None
 placed_from xs env size (Some p) = Some (placed xs env size p)
 

@@ -1,9 +1,10 @@
+//! What a specification in scope is for uses: a root, a value, an abbreviation of a part, or a body with its uses.
 ghost use Rattle.std.specs.Prelude.{◌≡◌, IfOk, None, false, slice_get};
 ghost use Rattle.occ_bounds.specs.Bounds.{body_of, effect_of, place_of, size_of, value_of};
 
 use super::uses::Use;
 use occ_base::{Items, Name};
-use occ_parts::Place;
+use occ_parts::SelectedPart;
 use occ_types::{Effect, Value};
 use std::alloc::{AllocError, Global};
 
@@ -17,7 +18,7 @@ pub enum Bound {
     Value(Option<Value>, Option<i64>, Items<Use>),
     /// An abbreviation: what it stands for, which is nothing where that is a timer, the number of its components, if it is
     /// known, and what is read where it is specified.
-    Abbreviation(Option<Place>, Option<i64>, Items<Use>),
+    Abbreviation(Option<SelectedPart>, Option<i64>, Items<Use>),
     /// A PROC or a FUNCTION: the uses of its body, of what stands round it and of its formals, and whether the body has an
     /// input, an output, a PAR or an ALT.
     Body(Items<Use>, Effect),
@@ -47,11 +48,15 @@ pub fn size_at(env: &[Bound], number: usize) -> Option<i64>
 }
 
 /// What the name of a specification stands for: nothing that is used, where it is VAL, an index or a timer.
-pub fn place_at(alloc: Global, env: &[Bound], number: usize) -> Result<Option<Place>, AllocError>
+pub fn place_at(
+    alloc: Global,
+    env: &[Bound],
+    number: usize,
+) -> Result<Option<SelectedPart>, AllocError>
     ensures { IfOk result (λ place. place ≡ place_of number (slice_get env.now number)) }
 {
     match env.get(number) {
-        Some(Bound::Root(_)) => Ok(Some(Place::whole(alloc, number))),
+        Some(Bound::Root(_)) => Ok(Some(SelectedPart::whole(alloc, number))),
         Some(Bound::Abbreviation(Some(place), _, _)) => Ok(Some(place.copied(alloc)?)),
         _ => Ok(None),
     }
@@ -63,11 +68,11 @@ pub(crate) fn place_with_room(
     env: &[Bound],
     number: usize,
     room: usize,
-) -> Result<Option<Place>, AllocError>
+) -> Result<Option<SelectedPart>, AllocError>
     ensures { IfOk result (λ place. place ≡ place_of number (slice_get env.now number)) }
 {
     match env.get(number) {
-        Some(Bound::Root(_)) => Ok(Some(Place::with_room(alloc, number, room)?)),
+        Some(Bound::Root(_)) => Ok(Some(SelectedPart::with_room(alloc, number, room)?)),
         _ => place_at(alloc, env, number),
     }
 }

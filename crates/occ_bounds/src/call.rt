@@ -1,11 +1,13 @@
+//! What a call uses: for each use of the body one of the part of the actual that the same selectors select.
+//! `docs/LANGUAGE.md, Uses`.
 ghost use Rattle.std.specs.Prelude.{◌≡◌, ◌++◌, MatchOption, None, OnOk, Some, slice_get};
 ghost use Rattle.occ_bounds.specs.Calls.{called as told_called, called_all as told_called_all, made as told_made, named_by as told_named_by, of_actual as told_of_actual};
 
 use super::chain::Chain;
 use super::uses::Use;
 use occ_base::Items;
-use occ_parts::Place;
-use occ_project::Place as Line;
+use occ_parts::SelectedPart;
+use occ_project::Location;
 use occ_types::UseKind;
 use std::alloc::{AllocError, Global};
 
@@ -15,7 +17,7 @@ pub struct Call {
     /// The number of the specification that is called.
     pub callee: usize,
     /// What each actual is: nothing that is used, where its formal is VAL, or where it is a timer.
-    pub places: Items<Option<Place>>,
+    pub places: Items<Option<SelectedPart>>,
     /// What the values and the subscripts of its actuals use.
     pub reads: Items<Use>,
     /// What its body uses.
@@ -26,8 +28,8 @@ pub struct Call {
 pub(crate) fn push_made(
     alloc: Global,
     kind: UseKind,
-    line: &Line,
-    place: Option<Place>,
+    line: &Location,
+    place: Option<SelectedPart>,
     uses: &mut Items<Use>,
 ) -> Result<(), AllocError>
     ensures { OnOk result (uses.new ≡ uses.old ++ told_made line.now kind place) }
@@ -48,9 +50,9 @@ pub(crate) fn push_made(
 /// A use of a part of a formal that has this actual.
 fn push_of_actual(
     alloc: Global,
-    line: &Line,
+    line: &Location,
     found: &Use,
-    place: &Place,
+    place: &SelectedPart,
     uses: &mut Items<Use>,
 ) -> Result<(), AllocError>
     ensures { OnOk result (uses.new ≡ uses.old ++ told_of_actual line.now found.now (Some place.now)) }
@@ -64,7 +66,7 @@ fn push_of_actual(
 }
 
 /// The actual of the formal at a place among them, if it is used.
-fn actual_of(places: &[Option<Place>], formal: usize) -> Option<&Place>
+fn actual_of(places: &[Option<SelectedPart>], formal: usize) -> Option<&SelectedPart>
     ensures { MatchOption result (told_named_by (slice_get places.now formal) ≡ None) (λ place. told_named_by (slice_get places.now formal) ≡ Some place.now) }
 {
     match places.get(formal) {
@@ -76,9 +78,9 @@ fn actual_of(places: &[Option<Place>], formal: usize) -> Option<&Place>
 /// What a call of a specification with this number does by a use in its body.
 fn push_called(
     alloc: Global,
-    line: &Line,
+    line: &Location,
     callee: usize,
-    places: &[Option<Place>],
+    places: &[Option<SelectedPart>],
     found: &Use,
     uses: &mut Items<Use>,
 ) -> Result<(), AllocError>
@@ -97,9 +99,9 @@ fn push_called(
 /// What a call of a specification with this number and these actuals does by the uses of its body.
 pub fn called(
     alloc: Global,
-    line: &Line,
+    line: &Location,
     callee: usize,
-    places: &[Option<Place>],
+    places: &[Option<SelectedPart>],
     body: &[Use],
     uses: &mut Items<Use>,
 ) -> Result<(), AllocError>

@@ -1,3 +1,4 @@
+//! The calls that are evaluated in expressions, elements and instances, each with its actuals.
 ghost use Rattle.std.specs.Prelude.{◌≡◌, ◌++◌, ◌∷◌, [], IfOk, OnOk, slice_get};
 ghost use Rattle.occ_bounds.specs.Views.{actual_view, actual_views, actuals_calls as told_actuals_calls, call_at as told_call_at, call_calls as told_call_calls, each_calls as told_each_calls, element_view, expr_view, expr_views, selector_view, selector_views, selectors_calls as told_selectors_calls};
 
@@ -5,7 +6,7 @@ use super::bound::{Bound, body_at};
 use super::call::{Call, called};
 use super::using::{actuals_uses, places};
 use occ_base::{Items, Shared};
-use occ_project::Place as Line;
+use occ_project::Location;
 use occ_typed::{Selector, TypedActual, TypedElement, TypedExpr};
 use std::alloc::{AllocError, Global};
 
@@ -15,7 +16,7 @@ fn call_at(
     callee: usize,
     actuals: &[TypedActual],
     env: &[Bound],
-    line: &Line,
+    line: &Location,
 ) -> Result<Call, AllocError>
     ensures { IfOk result (λ call. call ≡ told_call_at callee (actual_views actuals.now) env.now line.now) }
 {
@@ -46,7 +47,7 @@ pub fn expression_calls(
     alloc: Global,
     expr: &TypedExpr,
     env: &[Bound],
-    line: &Line,
+    line: &Location,
     calls: &mut Items<Call>,
 ) -> Result<(), AllocError>
     ensures { OnOk result (calls.new ≡ calls.old ++ (expr_view expr.now).calls env.now line.now) }
@@ -82,7 +83,7 @@ fn each_calls(
     alloc: Global,
     exprs: &[Shared<TypedExpr>],
     env: &[Bound],
-    line: &Line,
+    line: &Location,
     calls: &mut Items<Call>,
 ) -> Result<(), AllocError>
     ensures { OnOk result (calls.new ≡ calls.old ++ told_each_calls (expr_views exprs.now) env.now line.now) }
@@ -104,7 +105,7 @@ pub fn element_calls(
     alloc: Global,
     element: &TypedElement,
     env: &[Bound],
-    line: &Line,
+    line: &Location,
     calls: &mut Items<Call>,
 ) -> Result<(), AllocError>
     ensures { OnOk result (calls.new ≡ calls.old ++ (element_view element.now).calls env.now line.now) }
@@ -118,7 +119,7 @@ fn selectors_calls(
     alloc: Global,
     selectors: &[Selector],
     env: &[Bound],
-    line: &Line,
+    line: &Location,
     calls: &mut Items<Call>,
 ) -> Result<(), AllocError>
     ensures { OnOk result (calls.new ≡ calls.old ++ told_selectors_calls (selector_views selectors.now) env.now line.now) }
@@ -136,7 +137,7 @@ fn selector_calls(
     alloc: Global,
     selector: &Selector,
     env: &[Bound],
-    line: &Line,
+    line: &Location,
     calls: &mut Items<Call>,
 ) -> Result<(), AllocError>
     ensures { OnOk result (calls.new ≡ calls.old ++ (selector_view selector.now).calls env.now line.now) }
@@ -160,7 +161,7 @@ fn actual_calls(
     alloc: Global,
     actual: &TypedActual,
     env: &[Bound],
-    line: &Line,
+    line: &Location,
     calls: &mut Items<Call>,
 ) -> Result<(), AllocError>
     ensures { OnOk result (calls.new ≡ calls.old ++ (actual_view actual.now).calls env.now line.now) }
@@ -177,7 +178,7 @@ fn actuals_calls(
     alloc: Global,
     actuals: &[TypedActual],
     env: &[Bound],
-    line: &Line,
+    line: &Location,
     calls: &mut Items<Call>,
 ) -> Result<(), AllocError>
     ensures { OnOk result (calls.new ≡ calls.old ++ told_actuals_calls (actual_views actuals.now) env.now line.now) }
@@ -195,7 +196,7 @@ pub fn instance_calls(
     callee: usize,
     actuals: &[TypedActual],
     env: &[Bound],
-    line: &Line,
+    line: &Location,
     calls: &mut Items<Call>,
 ) -> Result<(), AllocError>
     ensures { OnOk result (calls.new ≡ calls.old ++ told_call_calls callee (actual_views actuals.now) env.now line.now) }

@@ -1,3 +1,5 @@
+//! The abbreviations by whose names a use is made. Most uses have none, so they are one pointer. A use has 120 bytes so,
+//! under the 128 that are moved without a call.
 ghost use Rattle.std.specs.Prelude.{◌≡◌, [], IfOk};
 
 use occ_base::{Boxed, Items};

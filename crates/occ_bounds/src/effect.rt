@@ -1,3 +1,4 @@
+//! Whether an expression, an element or an instance calls a body with an effect.
 ghost use Rattle.std.specs.Prelude.{◌≡◌};
 ghost use Rattle.occ_bounds.specs.Views.{actual_view, actual_views, actuals_effect as told_actuals, call_effect as told_call, each_effect as told_each, element_view, expr_view, expr_views, selector_view, selector_views, selectors_effect as told_selectors};
 

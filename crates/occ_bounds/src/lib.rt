@@ -7,7 +7,6 @@ mod call;
 mod calling;
 mod chain;
 mod effect;
-pub mod laws;
 mod placing;
 pub mod rows;
 mod timing;

@@ -1,9 +1,10 @@
+//! The part that an element selects, as far as indices are known in scope.
 ghost use Rattle.std.specs.Prelude.{◌≡◌, IfOk, OnOk};
 ghost use Rattle.occ_bounds.specs.Views.{element_view, placed, selector_view, selector_views};
 
 use super::bound::{Bound, place_with_room, size_at};
 use super::valuing::{count, int, less, size_within, value, whole};
-use occ_parts::Place;
+use occ_parts::SelectedPart;
 use occ_typed::{Selector, TypedElement};
 use std::alloc::{AllocError, Global};
 
@@ -11,7 +12,7 @@ use std::alloc::{AllocError, Global};
 #[tactic(auto, using(crate::proofs::Views::selector_place_rules))]
 fn select(
     alloc: Global,
-    place: &mut Place,
+    place: &mut SelectedPart,
     selector: &Selector,
     size: Option<i64>,
     env: &[Bound],
@@ -45,7 +46,7 @@ pub fn place(
     alloc: Global,
     element: &TypedElement,
     env: &[Bound],
-) -> Result<Option<Place>, AllocError>
+) -> Result<Option<SelectedPart>, AllocError>
     ensures { IfOk result (λ found. found ≡ (element_view element.now).place env.now) }
 {
     let spec = element.referent.spec;
@@ -61,7 +62,7 @@ pub fn place(
 /// Selects by selectors from a place of so many components, if their number is known.
 fn select_all(
     alloc: Global,
-    place: &mut Place,
+    place: &mut SelectedPart,
     selectors: &[Selector],
     size: Option<i64>,
     env: &[Bound],

@@ -1,3 +1,4 @@
+//! Whether a type is that of a timer or of an array of timers.
 #![tactic(auto, using(crate::proofs::Timers::timer_rules))]
 
 ghost use Rattle.std.specs.Prelude.{◌≡◌};

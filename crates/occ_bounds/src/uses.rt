@@ -1,9 +1,10 @@
+//! A use: a part, its kind, a line, and the abbreviations by whose names it is made.
 ghost use Rattle.std.specs.Prelude.{◌≡◌, IfOk};
 ghost use Rattle.occ_bounds.specs.Uses.{at_line};
 
 use super::chain::Chain;
 use occ_parts::{Part, copies};
-use occ_project::Place as Line;
+use occ_project::Location;
 use occ_types::UseKind;
 use std::alloc::{AllocError, Global};
 
@@ -13,14 +14,14 @@ pub struct Use {
     pub part: Part,
     pub kind: UseKind,
     /// The line at which it stands.
-    pub line: Line,
+    pub line: Location,
     /// The abbreviations by whose names it is made, by the numbers of their specifications.
     pub chain: Chain,
 }
 
 impl Use {
     /// The same use, at another line.
-    pub fn at_line(&self, alloc: Global, line: &Line) -> Result<Use, AllocError>
+    pub fn at_line(&self, alloc: Global, line: &Location) -> Result<Use, AllocError>
         ensures { IfOk result (λ moved. moved ≡ at_line self.now line.now) }
     {
         Ok(Use {

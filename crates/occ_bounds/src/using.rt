@@ -1,3 +1,5 @@
+//! The uses of expressions, elements and instances where they are evaluated. Nothing under SIZE is used.
+//! `docs/LANGUAGE.md, Uses`.
 ghost use Rattle.std.specs.Prelude.{◌≡◌, ◌++◌, IfOk, OnOk, slice_get};
 ghost use Rattle.occ_bounds.specs.Bounds.{body_of};
 ghost use Rattle.occ_bounds.specs.Calls.{called_all, made as told_made};
@@ -8,8 +10,8 @@ use super::call::{called, push_made};
 use super::placing::place;
 use super::uses::Use;
 use occ_base::{Items, Shared};
-use occ_parts::Place;
-use occ_project::Place as Line;
+use occ_parts::SelectedPart;
+use occ_project::Location;
 use occ_typed::{Selector, TypedActual, TypedElement, TypedExpr};
 use occ_types::UseKind;
 use std::alloc::{AllocError, Global};
@@ -21,7 +23,7 @@ pub fn use_of(
     kind: UseKind,
     element: &TypedElement,
     env: &[Bound],
-    line: &Line,
+    line: &Location,
     uses: &mut Items<Use>,
 ) -> Result<(), AllocError>
     ensures { OnOk result (uses.new ≡ uses.old ++ told_made line.now kind ((element_view element.now).place env.now)) }
@@ -39,7 +41,7 @@ fn actual_place(
     alloc: Global,
     actual: &TypedActual,
     env: &[Bound],
-) -> Result<Option<Place>, AllocError>
+) -> Result<Option<SelectedPart>, AllocError>
     ensures { IfOk result (λ found. found ≡ (actual_view actual.now).place env.now) }
 {
     match actual {
@@ -53,7 +55,7 @@ pub(crate) fn places(
     alloc: Global,
     actuals: &[TypedActual],
     env: &[Bound],
-) -> Result<Items<Option<Place>>, AllocError>
+) -> Result<Items<Option<SelectedPart>>, AllocError>
     ensures { IfOk result (λ found. found ≡ places_of (actual_views actuals.now) env.now) }
 {
     let mut found = Items::new(alloc);
@@ -70,7 +72,7 @@ pub fn expression_uses(
     alloc: Global,
     expr: &TypedExpr,
     env: &[Bound],
-    line: &Line,
+    line: &Location,
     uses: &mut Items<Use>,
 ) -> Result<(), AllocError>
     ensures { OnOk result (uses.new ≡ uses.old ++ (expr_view expr.now).uses env.now line.now) }
@@ -105,7 +107,7 @@ fn each_uses(
     alloc: Global,
     exprs: &[Shared<TypedExpr>],
     env: &[Bound],
-    line: &Line,
+    line: &Location,
     uses: &mut Items<Use>,
 ) -> Result<(), AllocError>
     ensures { OnOk result (uses.new ≡ uses.old ++ told_each_uses (expr_views exprs.now) env.now line.now) }
@@ -126,7 +128,7 @@ pub fn element_uses(
     alloc: Global,
     element: &TypedElement,
     env: &[Bound],
-    line: &Line,
+    line: &Location,
     uses: &mut Items<Use>,
 ) -> Result<(), AllocError>
     ensures { OnOk result (uses.new ≡ uses.old ++ (element_view element.now).uses env.now line.now) }
@@ -140,7 +142,7 @@ fn selectors_uses(
     alloc: Global,
     selectors: &[Selector],
     env: &[Bound],
-    line: &Line,
+    line: &Location,
     uses: &mut Items<Use>,
 ) -> Result<(), AllocError>
     ensures { OnOk result (uses.new ≡ uses.old ++ told_selectors_uses (selector_views selectors.now) env.now line.now) }
@@ -158,7 +160,7 @@ fn selector_uses(
     alloc: Global,
     selector: &Selector,
     env: &[Bound],
-    line: &Line,
+    line: &Location,
     uses: &mut Items<Use>,
 ) -> Result<(), AllocError>
     ensures { OnOk result (uses.new ≡ uses.old ++ (selector_view selector.now).uses env.now line.now) }
@@ -182,7 +184,7 @@ fn actual_uses(
     alloc: Global,
     actual: &TypedActual,
     env: &[Bound],
-    line: &Line,
+    line: &Location,
     uses: &mut Items<Use>,
 ) -> Result<(), AllocError>
     ensures { OnOk result (uses.new ≡ uses.old ++ (actual_view actual.now).uses env.now line.now) }
@@ -199,7 +201,7 @@ pub(crate) fn actuals_uses(
     alloc: Global,
     actuals: &[TypedActual],
     env: &[Bound],
-    line: &Line,
+    line: &Location,
     uses: &mut Items<Use>,
 ) -> Result<(), AllocError>
     ensures { OnOk result (uses.new ≡ uses.old ++ told_actuals_uses (actual_views actuals.now) env.now line.now) }
@@ -217,7 +219,7 @@ pub fn instance_uses(
     callee: usize,
     actuals: &[TypedActual],
     env: &[Bound],
-    line: &Line,
+    line: &Location,
     uses: &mut Items<Use>,
 ) -> Result<(), AllocError>
     ensures { OnOk result (uses.new ≡ uses.old ++ told_call_uses callee (actual_views actuals.now) env.now line.now) }

@@ -1,3 +1,4 @@
+//! The value of an expression and the number of components of an array, under known indices.
 ghost use Rattle.std.specs.Prelude.{◌≡◌};
 ghost use Rattle.occ_bounds.specs.Values.{both as told_both, converted_to, folded_behind, int_of as told_int, known_or, less as told_less, one as told_one, size_value as told_size_value, whole as told_whole};
 ghost use Rattle.occ_bounds.specs.Views.{element_view, expr_view, expr_views, folded_all, name_value as told_name_value, selector_view, selector_views, sized, values_of};

@@ -1,4 +1,2 @@
-pub mod Placed
 pub mod Names
-pub mod Rising
 pub mod Firsts

@@ -1,8 +1,6 @@
 -- The diagnostics of a unit and its interface, as the rules give them for what its check looks at.
-use Rattle.std.specs.Prelude.{Bool, true, false, List, ◌++◌, Option, None, if◌then◌else◌}
-use Rattle.std.specs.List.{list_any}
-use Rattle.occ_base.specs.declared.code.Grade.{Grade}
-use Rattle.occ_base.specs.declared.code.Grade.TheVariants as grade
+use Rattle.std.specs.Prelude.{List, ◌++◌, Option, None, if◌then◌else◌}
+use Rattle.occ_base.specs.Errors.{has_error}
 use Rattle.occ_base.specs.declared.diag.Diag.{Diag}
 use Rattle.occ_check.specs.Faults.{line_faults}
 use Rattle.occ_check.specs.Input.{Input, expansion_in}
@@ -22,13 +20,6 @@ judged i = behind (unit_faults i) (lines_judged (expansion_in i).lines i.used)
 -- in order, each once
 unfoldable pub diags_of : Input → List Diag
 diags_of i = in_order (judged i).faults
-
-abbrev pub is_error : Grade → Bool
-is_error grade.Error = true
-is_error grade.Check = false
-
-abbrev pub has_error : List Diag → Bool
-has_error = list_any (λ d. is_error d.grade)
 
 -- none of a unit that has an error
 unfoldable pub interface_of : Input → Option Interface

@@ -2,10 +2,10 @@
 use Rattle.std.specs.Prelude.{◌≡◌, ◌&&◌, ℕ, Bool, true, List, map}
 use Rattle.std.specs.Option.{is_some}
 use Rattle.occ_base.specs.FileName.{is_unit}
-use Rattle.occ_check.specs.Uses.{used_units}
 use Rattle.occ_check.specs.declared.used.UsedUnit.{UsedUnit}
 use Rattle.occ_project.specs.Expansion.{Expansion, expansion}
 use Rattle.occ_project.specs.Reads.{open_lines}
+use Rattle.occ_project.specs.Uses.{used_in}
 use Rattle.occ_project.specs.declared.reads.Read.{Read}
 
 -- a unit, the files that it reads, and the units that it uses with how each stands
@@ -29,7 +29,7 @@ pub record HasReads (i : Input) : Type 0 where
 
 -- with exactly the units that it uses, in order of name
 abbrev pub HasUsed : Input → Type 0
-HasUsed i = map (λ u. u.unit) i.used ≡ used_units (expansion_in i).lines
+HasUsed i = map (λ u. u.unit) i.used ≡ used_in (expansion_in i).lines
 
 -- there is a check of it
 abbrev pub IsInput : Input → Type 0

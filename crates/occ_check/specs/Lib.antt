@@ -1,5 +1,4 @@
 pub mod Order
-pub mod Uses
 pub mod Input
 pub mod Faults
 pub mod Language

@@ -1,3 +1,4 @@
+//! A job: a unit with exactly the files that it reads and the units that it uses. In contracts it is that input.
 ghost use Rattle.std.specs.Option.{is_some};
 ghost use Rattle.std.specs.Prelude.{◌≡◌, ◌↔◌, Err, false, IfOk, IsErrOf, IsTrue, map};
 ghost use Rattle.occ_check.specs.Input.{HasReads, HasUsed, IsInput, is_present};
@@ -5,9 +6,8 @@ ghost use Rattle.occ_check.specs.declared.job.JobFault.TheVariants as fault;
 ghost use Rattle.occ_project.specs.Reads.{open_lines};
 
 use super::used::UsedUnit;
-use super::uses::used_units;
 use occ_base::{FileName, Items};
-use occ_project::{Read, Reads, expand_over};
+use occ_project::{Read, Reads, expand_over, used_units};
 use std::alloc::{AllocError, Global};
 use std::marker::Model;
 use thiserror::Error;

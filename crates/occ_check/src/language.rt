@@ -1,3 +1,4 @@
+//! What the language says of a unit: shape, then names and types, then uses. No other module asks all of them.
 ghost use Rattle.std.specs.Prelude.{◌≡◌, IfOk, None, Some};
 ghost use Rattle.occ_check.specs.Language.{behind, imports as shown_imports, lines_judged, uses_judged};
 ghost use Rattle.occ_tree.specs.Forest.{forest_of};

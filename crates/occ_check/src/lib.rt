@@ -9,9 +9,8 @@ mod order;
 mod outcome;
 mod rows;
 mod used;
-mod uses;
 
 pub use job::{Job, JobFault};
 pub use outcome::{Outcome, check};
-pub use rows::{input_rows, order_law, use_rows};
+pub use rows::{input_rows, use_rows};
 pub use used::{Used, UsedUnit};

@@ -1,12 +1,14 @@
+//! The check of a job. An outcome has, by its type, the diagnostics and the interface that the rules give for its input.
 ghost use Rattle.std.specs.Option.{option_copied};
 ghost use Rattle.std.specs.Prelude.{◌≡◌, if◌then◌else◌, IfErr, IfOk, None};
-ghost use Rattle.occ_check.specs.Diagnostics.{diags_of, has_error as any_error, interface_of, judged as judgement_of};
+ghost use Rattle.occ_base.specs.Errors.{has_error as any_error};
+ghost use Rattle.occ_check.specs.Diagnostics.{diags_of, interface_of, judged as judgement_of};
 
 use super::faults::find_line_faults;
 use super::job::Job;
 use super::language::{Judgement, judge};
 use super::order::in_order;
-use occ_base::{Diag, Grade, Items, Shared};
+use occ_base::{Diag, Items, Shared, has_error};
 use occ_project::expand_over;
 use occ_types::Interface;
 use std::alloc::{AllocError, Global};
@@ -45,6 +47,7 @@ impl Model for Outcome {
 
     ghost coded = { Prim.hlevel (codes, builtins.the_row.coded, dimensions.the_row.coded, elements.the_row.coded, expressions.the_row.coded, type_forms.the_row.coded, types.the_row.coded) };
 
+    ghost use Rattle.occ_base.specs.Errors.{has_error as any_error};
     ghost use Rattle.occ_check.specs.Diagnostics.{diags_of, interface_of};
 
     ghost view = { λ o. o.job };
@@ -73,13 +76,6 @@ impl Outcome {
     {
         self.interface.as_ref()
     }
-}
-
-/// Whether one of the diagnostics has the grade error.
-fn has_error(diags: &[Diag]) -> bool
-    ensures { result ≡ any_error diags.now }
-{
-    diags.iter().any(|diag| diag.grade == Grade::Error)
 }
 
 /// What is told of the files of the unit, of its lines and of the units that it uses, if anything is; else what the

@@ -1,25 +1,13 @@
-//! Laws and worked rows of the definitions.
+//! Worked rows of the definitions.
 #![tactic(auto, unfolding(crate::specs::Diagnostics::diags_of, occ_project::specs::Expansion::expansion, occ_project::specs::Entries::entries))]
 
-ghost use Rattle.std.specs.List.Sorted.{IsStrictlySortedBy};
-ghost use Rattle.std.specs.Prelude.{◌≡◌, ◌≢◌, [], ◌∷◌, List, Some, codes, ℕ};
-ghost use Rattle.occ_base.specs.Order.{diag_order};
+ghost use Rattle.std.specs.Prelude.{◌≡◌, ◌≢◌, [], ◌∷◌, Some, codes};
 ghost use Rattle.occ_base.specs.declared.code.Code.TheVariants.{G1, G2, G3};
-ghost use Rattle.occ_base.specs.declared.diag.Diag.{Diag};
 ghost use Rattle.occ_base.specs.Errors.{error_at};
 ghost use Rattle.occ_check.specs.Diagnostics.{diags_of, unit_faults};
-ghost use Rattle.occ_check.specs.Order.{in_order, names_in_order};
 ghost use Rattle.occ_check.specs.Samples.{user_of};
 ghost use Rattle.occ_check.specs.declared.used.Used.TheVariants as how;
-ghost use Rattle.occ_project.specs.Reads.{name_cmp};
 ghost use Rattle.occ_types.specs.declared.interface.Interface.{Interface};
-
-/// The law of the order: whatever was found, in order each item stands below those after it, and so once.
-#[tactic(auto, using(crate::proofs::Rising::diags_rise, crate::proofs::Rising::names_rise))]
-pub fn order_law()
-    ensures diags { (ds : List Diag) → IsStrictlySortedBy diag_order (in_order ds) }
-    ensures names { (ns : List (List ℕ)) → IsStrictlySortedBy name_cmp (names_in_order ns) }
-{}
 
 /// A check looks at how a used unit stands: a faulty one is another input than a clean one, whatever that shows.
 pub fn input_rows()

@@ -1,3 +1,4 @@
+//! Used units as a check sees them: absent, circular, faulty, or clean with an interface.
 use occ_base::{FileName, Shared};
 use occ_types::Interface;
 

@@ -11,7 +11,7 @@ use Rattle.occ_parts.specs.Keeping.{meets_some}
 use Rattle.occ_parts.specs.Parts.{all_sure, are_apart, overlap_of}
 use Rattle.occ_parts.specs.declared.part.Overlap.TheVariants as o
 use Rattle.occ_parts.specs.declared.part.Part.{Part}
-use Rattle.occ_project.specs.declared.expanded.Place.{Place as Line}
+use Rattle.occ_project.specs.declared.expanded.Location.{Location}
 use Rattle.occ_types.specs.declared.interface.PartSelector.{PartSelector}
 use Rattle.occ_types.specs.declared.interface.UseKind.{UseKind}
 use Rattle.occ_types.specs.declared.interface.UseKind.TheVariants as kind
@@ -310,7 +310,7 @@ below_same (suc n) f g h =
     ap (λ (ds : List Diag). ds ++ f n) (below_same n f g (λ k w. h k (omega (arith, w))))
     ∙ ap (λ (ds : List Diag). below n g ++ ds) (h n (omega arith))
 
-pub table_faults : (line : Line) (env : List Bound) (cs : List (List Use)) (kept : List Use) (table : List RootUses) → IsTable cs kept table → (n : ℕ) → length table ≡ n
+pub table_faults : (line : Location) (env : List Bound) (cs : List (List Use)) (kept : List Use) (table : List RootUses) → IsTable cs kept table → (n : ℕ) → length table ≡ n
     → below (length table) (faults_in line env table) ≡ below n (root_faults line env cs)
 table_faults line env cs kept table h n e =
     ap (λ (k : ℕ). below k (faults_in line env table)) e ∙ below_same n (faults_in line env table) (root_faults line env cs) at where
@@ -325,7 +325,7 @@ table_faults line env cs kept table h n e =
             ∙ ap (λ (x : Bool). fault_if (some_clash rule.Written least.May k cs) rule.Written line env k ++ fault_if (some_clash rule.Input least.May k cs) rule.Input line env k ++ fault_if x rule.Output line env k)
             ((h k r here).broken rule.Output)
 
-pub told_more : (line : Line) (env : List Bound) (table : List RootUses) (n : ℕ) (r : RootUses) (start before after : List Diag) → slice_get table n ≡ Some r
+pub told_more : (line : Location) (env : List Bound) (table : List RootUses) (n : ℕ) (r : RootUses) (start before after : List Diag) → slice_get table n ≡ Some r
     → before ≡ start ++ below n (faults_in line env table) → after ≡ before ++ broken_faults line env n (Some r) → after ≡ start ++ below (n + 1) (faults_in line env table)
 told_more line env table n r start before after at h k =
     k

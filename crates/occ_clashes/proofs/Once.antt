@@ -1,14 +1,11 @@
 -- Uses, each once, from the last to the first.
-use Rattle.std.proofs.Common.{◌≡◌, ◌<◌, arith, ℕ, zero, suc, Bool, true, false, ap, refl, ◌∙◌, sym, subst, List, [], ◌∷◌, ◌++◌, Some, length, slice_get, inl, inr}
-use Rattle.std.specs.Prelude.{◌↔◌, ◌⊎◌, if◌then◌else◌, nat_lt}
+use Rattle.std.proofs.Common.{◌≡◌, ◌<◌, arith, ℕ, zero, suc, Bool, true, false, ap, refl, ◌∙◌, sym, List, [], ◌∷◌, ◌++◌, Some, length, slice_get, inl, inr}
+use Rattle.std.specs.Prelude.{◌⊎◌, if◌then◌else◌, nat_lt}
 use Rattle.std.proofs.lemmas.List.{append-nil}
 use Rattle.occ_bounds.specs.declared.uses.Use.{Use}
-use Rattle.occ_project.specs.declared.expanded.Place.{Place as Line}
+use Rattle.occ_project.specs.declared.expanded.Location.{Location}
 use Rattle.occ_clashes.specs.Bodies.{from_outside, outside}
-use Rattle.occ_clashes.specs.Distinct.{added, distinct, is_among, same_use}
-use Rattle.occ_clashes.specs.ParallelRule.{StandsIn}
-use Rattle.occ_clashes.proofs.Clashing.{any_found, any_given}
-use Rattle.occ_clashes.proofs.Equality.{same_exactly}
+use Rattle.occ_clashes.specs.Distinct.{added, distinct}
 
 -- those and these, each once
 abbrev pub distinct_onto : List Use → List Use → List Use
@@ -34,94 +31,14 @@ get_push (z ∷ xs) y x (suc j) h = elim (get_push xs y x j h) [
   | inr m ↦ inr (ap suc (m.0), m.1)
 ]
 
-pub get_front : {X : Type 0} (xs ys : List X) (x : X) (j : ℕ) → slice_get xs j ≡ Some x → slice_get (xs ++ ys) j ≡ Some x
-get_front [] ys x j h = cc
-get_front (z ∷ xs) ys x zero h = h
-get_front (z ∷ xs) ys x (suc j) h = get_front xs ys x j h
-
-pub get_last : {X : Type 0} (xs : List X) (y : X) → slice_get (xs ++ y ∷ []) (length xs) ≡ Some y
-get_last [] y = refl
-get_last (z ∷ xs) y = get_last xs y
-
 pub got_within : {X : Type 0} (xs : List X) (k : ℕ) (x : X) → slice_get xs k ≡ Some x → k < length xs
 got_within [] k x h = cc
 got_within (y ∷ ys) zero x h = omega arith
 got_within (y ∷ ys) (suc k) x h = let w : k < length ys = got_within ys k x h in omega (arith, w)
 
--- no two places have the same
-abbrev Once : {X : Type 0} → List X → Type 0
-Once {X} xs = (j k : ℕ) (x : X) → slice_get xs j ≡ Some x → slice_get xs k ≡ Some x → j ≡ k
-
-once_push : {X : Type 0} (xs : List X) (y : X) → Once xs → (StandsIn y xs → ⊥) → Once (xs ++ y ∷ [])
-once_push xs y once new j k x a b = elim (get_push xs y x j a) [
-  | inl p ↦ elim (get_push xs y x k b) [
-    | inl q ↦ once j k x p q
-    | inr q ↦ absurd (new (j, p ∙ ap Some (q.1)))
-  ]
-  | inr p ↦ elim (get_push xs y x k b) [
-    | inl q ↦ absurd (new (k, q ∙ ap Some (p.1)))
-    | inr q ↦ p.0 ∙ sym (q.0)
-  ]
-]
-
--- ---- one more
-
-own : (u : Use) → same_use u u ≡ true
-own u = (same_exactly u u).1 refl
-
-not_among : (found : List Use) (u : Use) → is_among found u ≡ false → StandsIn u found → ⊥
-not_among found u h (k, at) = let e : is_among found u ≡ true = any_given (λ (x : Use). same_use x u) found u k at (own u) in cc
-
-among : (found : List Use) (u : Use) → is_among found u ≡ true → StandsIn u found
-among found u h =
-    let m = any_found (λ (x : Use). same_use x u) found h in
-    (m.1.0, m.1.1 ∙ ap Some ((same_exactly (m.0) u).0 (m.2)))
-
-from_added : (t : Bool) (u x : Use) (found : List Use) → StandsIn x (if t then found else found ++ u ∷ []) → (x ≡ u) ⊎ StandsIn x found
-from_added true u x found h = inr h
-from_added false u x found (k, at) = elim (get_push found u x k at) [
-  | inl e ↦ inr (k, e)
-  | inr m ↦ inl (m.1)
-]
-
-last_added : (t : Bool) (u : Use) (found : List Use) → is_among found u ≡ t → StandsIn u (if t then found else found ++ u ∷ [])
-last_added true u found e = among found u e
-last_added false u found e = (length found, get_last found u)
-
-still_added : (t : Bool) (u x : Use) (found : List Use) → StandsIn x found → StandsIn x (if t then found else found ++ u ∷ [])
-still_added true u x found h = h
-still_added false u x found (k, at) = (k, get_front found (u ∷ []) x k at)
-
-once_added : (t : Bool) (u : Use) (found : List Use) → is_among found u ≡ t → Once found → Once (if t then found else found ++ u ∷ [])
-once_added true u found e once = once
-once_added false u found e once = once_push found u once (not_among found u e)
-
--- ---- all
-
-from_distinct : (us : List Use) (x : Use) → StandsIn x (distinct us) → StandsIn x us
-from_distinct [] x h = h
-from_distinct (u ∷ us) x h = elim (from_added (is_among (distinct us) u) u x (distinct us) h) [
-  | inl e ↦ (0, ap Some (sym e))
-  | inr m ↦ let rest = from_distinct us x m in (suc (rest.0), rest.1)
-]
-
-into_distinct : (us : List Use) (x : Use) (k : ℕ) → slice_get us k ≡ Some x → StandsIn x (distinct us)
-into_distinct [] x k at = cc
-into_distinct (u ∷ us) x zero at =
-    let same : u ≡ x = cc in
-    subst (λ (y : Use). StandsIn y (added u (distinct us))) same (last_added (is_among (distinct us) u) u (distinct us) refl)
-into_distinct (u ∷ us) x (suc k) at = still_added (is_among (distinct us) u) u x (distinct us) (into_distinct us x k at)
-
-pub among_law : (us : List Use) (u : Use) → StandsIn u (distinct us) ↔ StandsIn u us
-among_law us u = (from_distinct us u, λ (k, at). into_distinct us u k at)
-
-pub once_law : (us : List Use) (j k : ℕ) (u : Use) → slice_get (distinct us) j ≡ Some u → slice_get (distinct us) k ≡ Some u → j ≡ k
-once_law [] j k u a b = cc
-once_law (x ∷ us) j k u a b = once_added (is_among (distinct us) x) x (distinct us) refl (once_law us) j k u a b
-
 -- ---- uses of a body, from the last to the first
 
-outside_last : (n m : ℕ) (line : Line) (us : List Use) (u : Use) → outside n m line (us ++ u ∷ []) ≡ outside n m line us ++ (if nat_lt u.part.root m then from_outside n line u ∷ [] else [])
+outside_last : (n m : ℕ) (line : Location) (us : List Use) (u : Use) → outside n m line (us ++ u ∷ []) ≡ outside n m line us ++ (if nat_lt u.part.root m then from_outside n line u ∷ [] else [])
 outside_last n m line [] u = by_test (nat_lt u.part.root m) where
   by_test : (t : Bool) → (if t then from_outside n line u ∷ [] else []) ≡ [] ++ (if t then from_outside n line u ∷ [] else [])
   by_test true = refl
@@ -133,7 +50,7 @@ outside_last n m line (x ∷ us) u = by_test (nat_lt x.part.root m) (outside_las
   by_test true e = ap (λ (xs : List Use). from_outside n line x ∷ xs) e
   by_test false e = e
 
-pub outside_step : (n m : ℕ) (line : Line) (us : List Use) (u : Use) (found more : List Use)
+pub outside_step : (n m : ℕ) (line : Location) (us : List Use) (u : Use) (found more : List Use)
     → more ≡ (if nat_lt u.part.root m then added (from_outside n line u) found else found)
     → distinct_onto more (outside n m line us) ≡ distinct_onto found (outside n m line (us ++ u ∷ []))
 outside_step n m line us u found more e =

@@ -5,7 +5,7 @@ use Rattle.std.proofs.lemmas.List.{append-nil}
 use Rattle.occ_base.specs.declared.diag.Diag.{Diag}
 use Rattle.occ_bounds.specs.declared.bound.Bound.{Bound}
 use Rattle.occ_bounds.specs.declared.uses.Use.{Use}
-use Rattle.occ_project.specs.declared.expanded.Place.{Place as Line}
+use Rattle.occ_project.specs.declared.expanded.Location.{Location}
 use Rattle.occ_clashes.specs.ParallelRule.{below, component_faults, fault_if, root_faults, some_clash}
 use Rattle.occ_clashes.specs.declared.rule.Least.TheVariants as least
 use Rattle.occ_clashes.specs.declared.rule.Rule.{Rule}
@@ -29,7 +29,7 @@ below_none : (n : ℕ) (f : ℕ → List Diag) → ((k : ℕ) → f k ≡ []) �
 below_none zero f h = refl
 below_none (suc n) f h = ap (λ (ds : List Diag). ds ++ f n) (below_none n f h) ∙ h n
 
-pub few_faults : (line : Line) (env : List Bound) (cs : List (List Use)) → length cs < 2 → component_faults line env cs ≡ []
+pub few_faults : (line : Location) (env : List Bound) (cs : List (List Use)) → length cs < 2 → component_faults line env cs ≡ []
 few_faults line env [] w = below_none (length env) (root_faults line env []) (λ k. refl)
 few_faults line env (c ∷ []) w = below_none (length env) (root_faults line env (c ∷ [])) (λ k. refl)
 few_faults line env (c ∷ d ∷ cs) w = absurd (omega (arith, w))
@@ -43,7 +43,7 @@ below_cut m (suc n) f w h = by_test (m == suc n) refl (λ v. below_cut m n f v (
       let v : m ≤ n = grind (arith, e, w) in
       ap (λ (ds : List Diag). below n f ++ ds) (h n v (omega arith)) ∙ append-nil (below n f) ∙ before v
 
-pub cut_faults : (line : Line) (env : List Bound) (cs : List (List Use)) (count : ℕ) → count ≤ length env
+pub cut_faults : (line : Location) (env : List Bound) (cs : List (List Use)) (count : ℕ) → count ≤ length env
     → ((r : Rule) (root : ℕ) → count ≤ root → root < length env → some_clash r least.May root cs ≡ false)
     → below count (root_faults line env cs) ≡ component_faults line env cs
 cut_faults line env cs count w h = sym (below_cut count (length env) (root_faults line env cs) w none) where

@@ -12,7 +12,7 @@ use Rattle.occ_bounds.specs.declared.uses.Use.{Use}
 use Rattle.occ_parts.specs.Parts.{overlap_of}
 use Rattle.occ_parts.specs.declared.part.Overlap.{Overlap}
 use Rattle.occ_parts.specs.declared.part.Overlap.TheVariants as o
-use Rattle.occ_project.specs.declared.expanded.Place.{Place as Line}
+use Rattle.occ_project.specs.declared.expanded.Location.{Location}
 use Rattle.occ_types.specs.declared.interface.UseKind.{UseKind}
 use Rattle.occ_clashes.specs.Kinds.{is_input, is_output, is_read, is_write}
 use Rattle.occ_clashes.specs.declared.rule.Least.{Least}
@@ -70,16 +70,16 @@ name_of None = None
 abbrev pub root_name : List Bound → ℕ → Option (List ℕ)
 root_name env root = name_of (slice_get env root)
 
-abbrev pub fault_of : Rule → Line → List Bound → ℕ → Diag
+abbrev pub fault_of : Rule → Location → List Bound → ℕ → Diag
 fault_of r line env root = error_at line.file line.line (code_of r) (root_name env root)
 
-abbrev pub fault_if : Bool → Rule → Line → List Bound → ℕ → List Diag
+abbrev pub fault_if : Bool → Rule → Location → List Bound → ℕ → List Diag
 fault_if test r line env root = if test then fault_of r line env root ∷ [] else []
 
-abbrev pub root_fault : Rule → Least → Line → List Bound → List (List Use) → ℕ → List Diag
+abbrev pub root_fault : Rule → Least → Location → List Bound → List (List Use) → ℕ → List Diag
 root_fault r l line env components root = fault_if (some_clash r l root components) r line env root
 
-abbrev pub root_faults : Line → List Bound → List (List Use) → ℕ → List Diag
+abbrev pub root_faults : Location → List Bound → List (List Use) → ℕ → List Diag
 root_faults line env components root =
     root_fault rule.Written least.May line env components root
     ++ root_fault rule.Input least.May line env components root
@@ -91,11 +91,11 @@ below zero told = []
 below (suc n) told = below n told ++ told n
 
 -- of a PAR that these specifications stand round: those from there on stand in a component
-abbrev pub component_faults : Line → List Bound → List (List Use) → List Diag
+abbrev pub component_faults : Location → List Bound → List (List Use) → List Diag
 component_faults line env components = below (length env) (root_faults line env components)
 
 -- of an assignment, of which each target is a component
-abbrev pub target_faults : Line → List Bound → List (List Use) → List Diag
+abbrev pub target_faults : Location → List Bound → List (List Use) → List Diag
 target_faults line env components = below (length env) (root_fault rule.Written least.Must line env components)
 
 -- ---- the rule in plain words
@@ -122,5 +122,5 @@ pub record SomeClash (r : Rule) (l : Least) (root : ℕ) (components : List (Lis
   pub parts : counts l (overlap_of u.part v.part) ≡ true
 
 -- one of the roots round it, and one of these rules, has a clash that counts from there on, and this is its fault
-abbrev pub IsTold : Rule → Least → Line → List Bound → List (List Use) → Diag → Type 0
+abbrev pub IsTold : Rule → Least → Location → List Bound → List (List Use) → Diag → Type 0
 IsTold r l line env components d = (root : ℕ) × (root < length env) × (d ≡ fault_of r line env root) × SomeClash r l root components

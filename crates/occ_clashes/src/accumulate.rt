@@ -1,3 +1,5 @@
+//! Accumulates the uses of a PAR, component by component: for each root and kind the parts so far, and which rules are
+//! broken.
 ghost use Rattle.std.specs.Prelude.{◌≡◌, ◌++◌, ◌∷◌, [], IfOk, List, OnOk, false, length};
 ghost use Rattle.occ_bounds.specs.declared.uses.Use.{Use as AUse};
 ghost use Rattle.occ_clashes.specs.Components.{joined, parted};

@@ -1,3 +1,4 @@
+//! The uses of a body from outside: of roots that it does not specify itself, each once, at the line of its head.
 ghost use Rattle.std.specs.Prelude.{◌≡◌, ◌++◌, ◌∷◌, [], if◌then◌else◌, nat_lt, IfOk, OnOk};
 ghost use Rattle.occ_clashes.specs.Bodies.{below as told_below, body_uses as told_body, from_outside as told_outside};
 ghost use Rattle.occ_clashes.specs.Distinct.{added};
@@ -6,7 +7,7 @@ ghost use Rattle.occ_clashes.specs.inside.Linking.{IsLinked};
 use super::each_once::{Links, add};
 use occ_base::Items;
 use occ_bounds::{Chain, Use};
-use occ_project::Place as Line;
+use occ_project::Location;
 use std::alloc::{AllocError, Global};
 
 /// The numbers below another.
@@ -23,7 +24,12 @@ fn below(alloc: Global, numbers: &[usize], bound: usize) -> Result<Items<usize>,
 }
 
 /// A use in a body round which so many specifications stand, as it is seen from outside the body.
-fn from_outside(alloc: Global, found: Use, number: usize, line: &Line) -> Result<Use, AllocError>
+fn from_outside(
+    alloc: Global,
+    found: Use,
+    number: usize,
+    line: &Location,
+) -> Result<Use, AllocError>
     ensures { IfOk result (λ seen. seen ≡ told_outside number line.now found) }
 {
     let chain = Chain::of(alloc, below(alloc, found.chain.as_slice(), number)?)?;
@@ -41,7 +47,7 @@ fn add_outside(
     found: Use,
     number: usize,
     locals: usize,
-    line: &Line,
+    line: &Location,
     links: &mut Links,
     seen: &mut Items<Use>,
 ) -> Result<(), AllocError>
@@ -63,7 +69,7 @@ pub fn outside_uses(
     mut uses: Items<Use>,
     number: usize,
     locals: usize,
-    line: &Line,
+    line: &Location,
 ) -> Result<Items<Use>, AllocError>
     ensures { IfOk result (λ seen. seen ≡ told_body number locals line.now uses) }
 {
@@ -93,7 +99,7 @@ pub fn body_uses(
     uses: &[Use],
     number: usize,
     locals: usize,
-    line: &Line,
+    line: &Location,
 ) -> Result<Items<Use>, AllocError>
     ensures { IfOk result (λ seen. seen ≡ told_body number locals line.now uses.now) }
 {

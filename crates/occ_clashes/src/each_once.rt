@@ -1,3 +1,4 @@
+//! The uses of a list, each once, found by buckets: for each bucket its last use, and for each use the one before it.
 ghost use Rattle.std.specs.Prelude.{◌≡◌, ◌<◌, ◌+◌, ◌++◌, ◌∷◌, [], IfOk, OnOk, length, slice_get, slice_set};
 ghost use Rattle.occ_clashes.specs.inside.Numbering.{bucket_of as told_bucket};
 ghost use Rattle.occ_clashes.specs.Distinct.{added, distinct as told_distinct, is_among};

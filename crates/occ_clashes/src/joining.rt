@@ -1,3 +1,4 @@
+//! Appends uses, and joins those of all components.
 ghost use Rattle.std.specs.Prelude.{◌≡◌, ◌++◌, OnOk};
 ghost use Rattle.occ_clashes.specs.Components.{joined as told_joined};
 

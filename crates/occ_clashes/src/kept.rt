@@ -1,3 +1,5 @@
+//! The parts of one root that earlier components use. Few are in one list, many in 256, by the index that they select
+//! first, so that unlike parts cost no pairs.
 ghost use Rattle.std.specs.Prelude.{◌≡◌, ◌<◌, ◌||◌, [], IfOk, IfSome, List, OnErr, OnOk, Some, false, length, not};
 ghost use Rattle.std.specs.List.{list_any};
 ghost use Rattle.occ_parts.specs.Keeping.{meets_some};

@@ -7,7 +7,6 @@ mod body;
 mod each_once;
 mod joining;
 mod kept;
-pub mod laws;
 mod numbering;
 mod pairs;
 mod reach;

@@ -1,3 +1,4 @@
+//! The bucket of a use, by root, line and indices. Nothing is promised of it but that it is made of the use.
 ghost use Rattle.std.specs.Prelude.{◌≡◌, ◌<◌};
 ghost use Rattle.occ_clashes.specs.inside.Numbering.{bucket_of as told_bucket, mixed as told_mixed, number_of as told_number, number_of_places, number_of_selector, with_selectors as told_with};
 

@@ -1,3 +1,4 @@
+//! The targets of one assignment, each with each: U1 where their parts surely meet.
 ghost use Rattle.std.specs.Prelude.{◌≡◌, ◌++◌, List, OnOk};
 ghost use Rattle.occ_clashes.specs.ParallelRule.{clash, clash_between, some_clash as told_some_clash, target_faults as told_targets, uses_clash};
 ghost use Rattle.std.specs.List.{list_any};
@@ -8,7 +9,7 @@ use super::telling::root_fault;
 use occ_base::{Diag, Items};
 use occ_bounds::{Bound, Use};
 use occ_parts::overlap;
-use occ_project::Place as Line;
+use occ_project::Location;
 use std::alloc::{AllocError, Global};
 
 /// Whether two uses of this root clash.
@@ -73,7 +74,7 @@ fn some_clash(rule: Rule, least: Least, root: usize, components: &[Items<Use>]) 
 /// What is told of an assignment of several targets with these uses.
 pub fn target_faults(
     alloc: Global,
-    line: &Line,
+    line: &Location,
     env: &[Bound],
     components: &[Items<Use>],
     faults: &mut Items<Diag>,

@@ -1,3 +1,4 @@
+//! A root above which no component has a use, so that no root above it is asked.
 ghost use Rattle.std.specs.Prelude.{◌≡◌, ◌<◌, ◌≤◌, ℕ, Some, false, slice_get};
 ghost use Rattle.occ_bounds.specs.declared.uses.Use.{Use as AUse};
 ghost use Rattle.occ_clashes.specs.Components.{parted};

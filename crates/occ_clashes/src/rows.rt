@@ -1,3 +1,4 @@
+//! Worked rows: components that write, input and output; roots inside and outside; uses once.
 ghost use Rattle.std.specs.Prelude.{◌≡◌, ◌∷◌, [], None, Some, codes, false, pos, true};
 ghost use Rattle.occ_bounds.specs.declared.bound.Bound.TheVariants as b;
 ghost use Rattle.occ_types.specs.declared.interface.UseKind.TheVariants as kind;

@@ -1,3 +1,5 @@
+//! The three rules U1, U2 and U3: which kinds of use exclude each other, and which overlap counts. `docs/LANGUAGE.md, The
+//! parallel rule`.
 ghost use Rattle.std.specs.Prelude.{◌≡◌, IfOk};
 ghost use Rattle.occ_clashes.specs.ParallelRule.{code_of, conflict as told_conflict, counts as told_counts, root_name as told_name};
 

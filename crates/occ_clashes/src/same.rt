@@ -1,3 +1,4 @@
+//! Whether two uses are one.
 ghost use Rattle.std.specs.Prelude.{◌≡◌};
 ghost use Rattle.occ_clashes.specs.Distinct.{same_mark as told_mark, same_places as told_places, same_selector as told_selector, same_selectors as told_selectors, same_use as told_use};
 ghost use Rattle.occ_clashes.specs.Kinds.{same_kind as told_kind};

@@ -1,3 +1,4 @@
+//! The faults of a PAR, root by root and rule by rule, from what its components were found to use.
 ghost use Rattle.std.specs.Prelude.{◌≡◌, ◌<◌, ◌≤◌, ◌++◌, ℕ, OnOk, Some, length};
 ghost use Rattle.occ_clashes.specs.Components.{parted};
 ghost use Rattle.occ_clashes.specs.ParallelRule.{below, component_faults as told_components, fault_if};
@@ -8,7 +9,7 @@ use super::reach::{last_parted_root, last_root};
 use super::rule::{Rule, code, root_name};
 use occ_base::{Diag, Items};
 use occ_bounds::{Bound, Use};
-use occ_project::Place as Line;
+use occ_project::Location;
 use std::alloc::{AllocError, Global};
 
 /// Adds the fault of a root, if the rule is broken there.
@@ -16,7 +17,7 @@ pub(crate) fn root_fault(
     alloc: Global,
     is_broken: bool,
     rule: Rule,
-    line: &Line,
+    line: &Location,
     env: &[Bound],
     root: usize,
     faults: &mut Items<Diag>,
@@ -33,7 +34,7 @@ pub(crate) fn root_fault(
 /// Adds the faults of a root, by each rule that is broken there.
 fn root_faults(
     alloc: Global,
-    line: &Line,
+    line: &Location,
     env: &[Bound],
     root: usize,
     uses: &RootUses,
@@ -73,7 +74,7 @@ fn root_faults(
 /// Adds the faults of all roots.
 fn tell(
     alloc: Global,
-    line: &Line,
+    line: &Location,
     env: &[Bound],
     table: &[RootUses],
     faults: &mut Items<Diag>,
@@ -97,7 +98,7 @@ fn count_to(last: usize, count: usize) -> usize
 /// What is told of a PAR with these components, where these specifications stand round it.
 pub fn component_faults(
     alloc: Global,
-    line: &Line,
+    line: &Location,
     env: &[Bound],
     components: &[Items<Use>],
     faults: &mut Items<Diag>,
@@ -119,7 +120,7 @@ pub fn component_faults(
 /// specifications stand round it.
 pub fn parted_faults(
     alloc: Global,
-    line: &Line,
+    line: &Location,
     env: &[Bound],
     uses: &[Use],
     sizes: &[usize],

@@ -6,4 +6,3 @@ pub mod Going
 pub mod First
 pub mod Whole
 pub mod Over
-pub mod Says

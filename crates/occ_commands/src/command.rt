@@ -1,3 +1,4 @@
+//! The first line of a command: its words, and what they ask for. `docs/MACHINE.md, Scripts`.
 ghost use Rattle.std.specs.List.{list_all};
 ghost use Rattle.std.specs.Char.{is_ascii_digit};
 ghost use Rattle.std.specs.Prelude.{◌≡◌, ◌≤◌, ◌==◌, ◌∷◌, length, true};

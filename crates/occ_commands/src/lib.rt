@@ -2,7 +2,6 @@
 #![tactic(auto)]
 
 mod command;
-pub mod laws;
 mod lines;
 pub mod rows;
 mod script;

@@ -1,3 +1,4 @@
+//! How far it is to a byte, such as the end of a line or a word.
 ghost use Rattle.std.specs.List.{position, position_or_len};
 ghost use Rattle.std.specs.Prelude.{◌≡◌, ◌≤◌, ◌==◌, length};
 

@@ -1,3 +1,4 @@
+//! Worked rows: lines, words, numbers, first lines of commands, whole scripts.
 ghost use Rattle.std.specs.Prelude.{◌≡◌, ◌∷◌, ◌++◌, [], codes, None, Some};
 ghost use Rattle.occ_commands.specs.Lines.{cut_lines, text_of, words};
 ghost use Rattle.occ_commands.specs.Script.{header, number, script_of};

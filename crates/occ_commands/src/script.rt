@@ -1,3 +1,4 @@
+//! What is left of a script, and the next command, fault or end. Commands borrow their text.
 ghost use Rattle.std.specs.Prelude.{◌≡◌, ◌≢◌, ℕ, List, ◌+◌, ◌<◌, ◌≤◌, ◌∷◌, ◌++◌, ◌^◌, [], IfNone, IfSome, MatchOption, Some, drop, length, take};
 ghost use Rattle.occ_commands.specs.Ended.{IsEnded};
 ghost use Rattle.occ_commands.specs.Left.{IsLess, IsRest, meant, next_seen, script_left};

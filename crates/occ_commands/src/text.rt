@@ -1,3 +1,4 @@
+//! The whole lines of a script, up to the limit of 67,108,864 bytes.
 ghost use Rattle.std.specs.Bool.{MatchBool};
 ghost use Rattle.std.specs.Prelude.{◌≡◌, ◌+◌, ◌≤◌, ◌<◌, ℕ, List, IfOk, drop, length, false, take, true};
 ghost use Rattle.occ_commands.specs.Ended.{IsEnded, IsOpen};

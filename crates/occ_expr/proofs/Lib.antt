@@ -4,3 +4,4 @@ pub mod Walking
 pub mod DraftTypes
 pub mod Layers
 pub mod Referred
+pub mod Roots

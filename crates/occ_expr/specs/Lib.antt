@@ -6,3 +6,5 @@ pub mod Drafts
 pub mod Elements
 pub mod Views
 pub mod Sides
+pub mod Targets
+pub mod Trees

@@ -1,3 +1,5 @@
+//! Calls of functions: which expressions are one, the results as operands and as a whole right side, and T4 for their
+//! number.
 #![tactic(auto, using(crate::proofs::Layers::layer_rules))]
 
 ghost use Rattle.std.specs.Prelude.{◌≡◌, ◌∷◌, ◌++◌, IfOk, MatchOption, None, OnOk, Some};

@@ -1,3 +1,5 @@
+//! Open expressions of each form, by those of its operands: literals, operators, shifts, SIZE, conversions, tables,
+//! calls.
 #![tactic(auto, using(crate::proofs::DraftTypes::type_rules))]
 
 ghost use Rattle.std.specs.Prelude.{◌≡◌, ◌∷◌, [], IfOk, None, Some, MatchOption, if◌then◌else◌};

@@ -11,6 +11,7 @@ mod reading;
 pub mod rows;
 mod selecting;
 mod sides;
+mod target;
 mod walk;
 mod written;
 
@@ -19,5 +20,6 @@ pub use parts::{element_name, name_alone};
 pub use reading::{Reading, Readings};
 pub use selecting::ElementReading;
 pub use sides::{each_one, side};
+pub use target::{root, target_of};
 pub use walk::{array_form, data_form, element, expression, named_type, type_form, word_form};
 pub use written::{Opening, count_type};

@@ -1,3 +1,4 @@
+//! Literals with and without their type, TRUE and FALSE.
 ghost use Rattle.std.specs.Prelude.{◌≡◌, ◌++◌, IfOk, OnOk};
 ghost use Rattle.occ_expr.specs.Literals.{byte as byte_type, decorated_kind as kind_with_type, decorated_literal as literal_with_type, literal as told_literal, truth as told_truth};
 

@@ -1,3 +1,4 @@
+//! Small readings of expressions: a name alone, an integer in decimal digits, a name that is called and is no function.
 #![tactic(auto, using(crate::proofs::Views::name_rules))]
 
 ghost use Rattle.std.specs.Prelude.{◌≡◌, ◌∷◌, ◌++◌, [], IfOk, IfSome, MatchOption, None, OnOk, Some};

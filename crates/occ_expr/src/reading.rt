@@ -1,3 +1,5 @@
+//! What is read of one or several expressions: what is known of each, and its open expression. Values are shared or
+//! small, since each is handed up by copy.
 ghost use Rattle.std.specs.Prelude.{◌≡◌, ◌∷◌, ◌++◌, [], IfOk, OnOk, pos};
 ghost use Rattle.occ_operands.specs.Outcomes.{decimal};
 ghost use Rattle.occ_expr.specs.Drafts.{literal_draft as drafted_literal};

@@ -1,3 +1,4 @@
+//! Worked rows: a literal, an unknown name, fields of a record.
 ghost use Rattle.std.specs.Prelude.{[], ◌∷◌, ◌≡◌, None, Some, pos};
 ghost use Rattle.occ_base.specs.declared.code.Code.TheVariants as code;
 ghost use Rattle.occ_expr.specs.Views.{element_view, expr_view};

@@ -1,3 +1,4 @@
+//! What selects a part of an element: fields, subscripts and bounds of segments, as typed trees.
 #![tactic(auto, using(crate::proofs::Fields::front_rules))]
 
 ghost use Rattle.std.specs.Prelude.{◌≡◌, IfOk, None, Some};

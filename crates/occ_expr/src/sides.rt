@@ -1,3 +1,4 @@
+//! Whole right sides: several expressions, or one call of a function with several results.
 #![tactic(auto, using(crate::proofs::Views::expr_rules))]
 
 ghost use Rattle.std.specs.Prelude.{◌≡◌, ◌∷◌, ◌++◌, IfOk, OnOk};

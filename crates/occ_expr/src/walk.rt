@@ -1,3 +1,5 @@
+//! The one walk down a tree of an expression, an element or a written type, as one cycle of functions. Each part is read
+//! once, so the work is linear in the tokens. `docs/LANGUAGE.md, Expressions, elements and written types`.
 ghost use Rattle.std.specs.Prelude.{◌≡◌, ◌∷◌, ◌++◌, [], IfOk, OnOk};
 ghost use Rattle.occ_expr.specs.declared.written.Opening.TheVariants as opened;
 ghost use Rattle.occ_expression_forms.specs.declared.tree.Bounds.TheVariants as bounds_form;

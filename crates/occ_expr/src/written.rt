@@ -1,3 +1,4 @@
+//! Written types: dimensions, base types, channels and what they carry, with T2, T5 and T9.
 ghost use Rattle.std.specs.Prelude.{◌≡◌, ◌∷◌, ◌++◌, [], IfOk, OnOk};
 ghost use Rattle.occ_types.specs.declared.types.OccType.TheVariants as t;
 ghost use Rattle.occ_types.specs.declared.types.Protocol.TheVariants as c;

@@ -360,7 +360,7 @@ expr_below zero tokens less = absurd (omega (arith, less))
 expr_below (suc n) tokens less = one_expr_step n (expr_below n) tokens (omega (arith, less))
 
 -- whatever is below a number of tokens is so of any tokens
-always : {X : Type 0} (spells : X → List Token → List Token) (Ends : List Token → Type 0) → ((n : ℕ) → ExprBelow n → Below spells Ends (n + 1))
+pub always : {X : Type 0} (spells : X → List Token → List Token) (Ends : List Token → Type 0) → ((n : ℕ) → ExprBelow n → Below spells Ends (n + 1))
     → (x y : X) (j k : List Token) → Ends j → Ends k → spells x j ≡ spells y k → (x ≡ y) × (j ≡ k)
 always spells Ends one x y j k a b e = let n = length (spells x j) in one n (expr_below n) (spells x j) (omega arith) x y j k a b refl e
 
@@ -380,9 +380,6 @@ one_element = always element_then IsAfter one_element_below
 
 pub one_type : (a b : TypeForm) (j k : List Token) → IsNotCounted j → IsNotCounted k → type_form_then a j ≡ type_form_then b k → (a ≡ b) × (j ≡ k)
 one_type = always type_form_then IsNotCounted one_type_form_below
-
-pub one_builtin : (a b : Builtin) (j k : List Token) → IsNotCounted j → IsNotCounted k → builtin_then a j ≡ builtin_then b k → (a ≡ b) × (j ≡ k)
-one_builtin = always builtin_then IsNotCounted one_builtin_below
 
 pub one_data_form : (a b : DataForm) (j k : List Token) → data_form_then a j ≡ data_form_then b k → (a ≡ b) × (j ≡ k)
 one_data_form a b j k e = always data_form_then Anything one_data_form_below a b j k tt tt e

@@ -1,3 +1,4 @@
+//! With what an expression can begin, by its first token.
 ghost use Rattle.occ_expression_forms.specs.Reading.{begin_of, begin_symbol, begin_word};
 ghost use Rattle.std.specs.Prelude.{◌≡◌};
 

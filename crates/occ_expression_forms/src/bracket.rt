@@ -1,3 +1,5 @@
+//! Parses what is in square brackets at the front of an expression: a dimension, a table `[e, ..]` or a segment `[el FROM
+//! e FOR e]`.
 ghost use Rattle.occ_expression_forms.specs.inside.Brackets.{bounds_begin, bracket_then, closing_then, Fits};
 ghost use Rattle.occ_expression_forms.specs.Reading.{Reads, ReadsExpr};
 ghost use Rattle.occ_expression_forms.specs.Spelling.{bounds_then, expr_then};

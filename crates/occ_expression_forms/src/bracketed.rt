@@ -1,3 +1,5 @@
+//! Parses expressions that begin with a bracket: a table or a segment with what follows it, or a conversion to an array
+//! type.
 ghost use Rattle.occ_expression_forms.specs.inside.Brackets.{IsBracketed, closing_then};
 ghost use Rattle.occ_expression_forms.specs.Reading.{IsAfter, IsEndOfRun, Reads, ReadsExpr, begin_of, is_type_begin};
 ghost use Rattle.occ_expression_forms.specs.Spelling.{builtin_then, dimension_then, expr_then, many, operand_then};

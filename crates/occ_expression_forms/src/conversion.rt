@@ -1,3 +1,4 @@
+//! Parses conversions: a type and an operand, which may be the table after the name of a type.
 ghost use Rattle.occ_expression_forms.specs.inside.Brackets.{IsBracketed, closing_then, narrow_of};
 ghost use Rattle.occ_expression_forms.specs.Reading.{IsAfter, Reads, ReadsExpr};
 ghost use Rattle.occ_expression_forms.specs.Spelling.{builtin_then, dimension_then, expr_then, many, named_operand_then, operand_then};

@@ -1,3 +1,4 @@
+//! Counts open brackets of a line and dimensions of types, against the limit of 64. `docs/LANGUAGE.md, Forms`.
 ghost use Rattle.occ_expression_forms.specs.Depth.{all_dimensions as dimensions_of_type, bounds_dimensions, builtin_dimensions, counted_dimensions, data_form_dimensions, dimension_dimensions, element_dimensions, expr_dimensions, greatest, most_open, named_operand_dimensions, open_behind as now_open, open_behind_symbol as now_open_symbol, operand_dimensions, type_form_dimensions};
 ghost use Rattle.std.specs.Prelude.{IsTrue, length, map, ◌+◌, ◌<◌, ◌∷◌, ◌≡◌, ◌≤◌, ◌↔◌, ◌⊎◌};
 

@@ -1,3 +1,4 @@
+//! Finds the first token of a line that is in no expression and no type. It gives the class of the line.
 ghost use Rattle.occ_expression_forms.specs.Marks.{first_mark, is_inner as is_an_inner, is_inner_symbol as is_an_inner_symbol, is_inner_word as is_an_inner_word, is_operator_word as an_operator_word, is_type_word as a_type_word, is_value_word as a_value_word};
 ghost use Rattle.std.specs.Prelude.{MatchOption, None, Some, ◌≡◌};
 

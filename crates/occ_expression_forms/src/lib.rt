@@ -8,7 +8,6 @@ mod bracketed;
 mod conversion;
 mod depth;
 mod inner_token;
-mod laws;
 mod line_part;
 mod list;
 mod measured;
@@ -29,7 +28,6 @@ pub use depth::{
     prefixed_has_many_dimensions,
 };
 pub use inner_token::mark;
-pub use laws::{mark_law, most_end_law, one_reading_law, one_tree_law};
 pub use line_part::{data_form, element, type_form};
 pub use list::joined;
 pub use measured::{Measured, any_has_many_dimensions};

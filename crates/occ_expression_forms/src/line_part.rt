@@ -1,3 +1,4 @@
+//! Parses elements, types and data types as lines hold them, by the parser of whole expressions.
 ghost use Rattle.occ_expression_forms.specs.Reading.{IsEnd, IsEndOfRun, IsNotCounted, Reads};
 ghost use Rattle.occ_expression_forms.specs.Spelling.{data_form_then, element_then, type_form_then};
 ghost use Rattle.occ_expression_forms.specs.declared.tree.DataForm.{DataForm as ADataForm};

@@ -1,3 +1,4 @@
+//! Parses lists of expressions: subscripts, further items after commas, arguments of a call.
 ghost use Rattle.occ_expression_forms.specs.Reading.{IsEnd, IsEndOfItems, IsNot, Reads, ReadsExpr};
 ghost use Rattle.occ_expression_forms.specs.Spelling.{arguments_of, expr_then, many, next_item_of, subscript_of};
 ghost use Rattle.occ_expression_forms.specs.declared.tree.Expr.{Expr as AnExpr};

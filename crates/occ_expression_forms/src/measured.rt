@@ -1,3 +1,4 @@
+//! A trait for what holds types, whose dimensions are counted, and the same of lists.
 ghost use Rattle.occ_expression_forms.specs.Depth.{data_form_dimensions, element_dimensions, expr_dimensions, greatest, type_form_dimensions};
 ghost use Rattle.std.specs.Prelude.{IsTrue, map, ℕ, ◌<◌, ◌↔◌};
 

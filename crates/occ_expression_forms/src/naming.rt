@@ -1,3 +1,4 @@
+//! Parses expressions that begin with a name: an element, a call, or a conversion to the type of that name.
 ghost use Rattle.occ_expression_forms.specs.inside.Brackets.{IsBracketed, closing_then, narrow_of};
 ghost use Rattle.occ_expression_forms.specs.Reading.{IsAfter, IsEndOfRun, Reads, ReadsExpr, begin_of, is_plain_begin};
 ghost use Rattle.occ_expression_forms.specs.Spelling.{arguments_of, expr_then, many, operand_then, subscript_of};

@@ -1,3 +1,4 @@
+//! Parses operands: elements, calls, tables, segments, expressions in parentheses, and literals, perhaps with their type.
 ghost use Rattle.occ_expression_forms.specs.inside.Brackets.{IsBracketed, closing_then, narrow_of};
 ghost use Rattle.occ_expression_forms.specs.Reading.{IsAfter, IsNot, Reads, ReadsExpr};
 ghost use Rattle.occ_expression_forms.specs.Spelling.{arguments_of, bracketed, decoration_of, expr_then, literal_token, many, operand_then, subscript_of, truth_word};

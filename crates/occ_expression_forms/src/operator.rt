@@ -1,3 +1,4 @@
+//! Operators by their token: in front of one operand, between two, or between more.
 ghost use Rattle.occ_expression_forms.specs.inside.Parts.{dyadic_of, dyadic_symbol_of, dyadic_word_of, monadic_of};
 ghost use Rattle.occ_expression_forms.specs.Reading.{dyadic_token};
 ghost use Rattle.occ_expression_forms.specs.Spelling.{monadic_token};

@@ -1,3 +1,4 @@
+//! What single tokens are: primitive types, MOSTPOS and MOSTNEG, TRUE and FALSE, literals.
 ghost use Rattle.occ_expression_forms.specs.inside.Parts.{data_base_of, extreme_of, literal_of, primitive_of, truth_of};
 ghost use Rattle.occ_expression_forms.specs.Spelling.{data_base_token, extreme_word, literal_token, primitive_word, truth_word};
 ghost use Rattle.occ_lines.specs.declared.token.Token.TheVariants as t;

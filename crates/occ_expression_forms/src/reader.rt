@@ -1,3 +1,5 @@
+//! Parses whole expressions. It gives itself to the parsers of parts, so that none of them calls itself.
+//! `docs/LANGUAGE.md, Expressions and types`.
 ghost use Rattle.occ_expression_forms.specs.Reading.{IsAfter, IsEnd, IsEndOfRun, Reads, ReadsExpr};
 ghost use Rattle.occ_expression_forms.specs.Spelling.{expr_then, extreme_word, monadic_token, operand_then, type_form_then};
 ghost use Rattle.occ_expression_forms.specs.TypeEnds.{EndsMost};

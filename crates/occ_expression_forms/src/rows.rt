@@ -1,3 +1,4 @@
+//! Worked rows: what some trees spell.
 #![tactic(auto, using(crate::proofs::Cases::spelling_rules))]
 
 ghost use Rattle.occ_expression_forms.specs.Spelling.{expr_then, type_form_then};

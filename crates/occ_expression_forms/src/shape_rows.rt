@@ -1,3 +1,4 @@
+//! Worked rows: first tokens in no expression, open brackets, dimensions.
 ghost use Rattle.occ_expression_forms.specs.Depth.{builtin_dimensions, expr_dimensions, most_open, type_form_dimensions};
 ghost use Rattle.occ_expression_forms.specs.Marks.{first_mark};
 ghost use Rattle.occ_expression_forms.specs.declared.tree.Builtin.TheVariants as u;

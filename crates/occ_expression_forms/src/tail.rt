@@ -1,3 +1,4 @@
+//! Parses operators and operands after the first operand: `a - b`, or `a + b + ..` with one operator throughout.
 ghost use Rattle.occ_expression_forms.specs.Reading.{dyadic_token, IsEndOfRun, Reads, ReadsExpr};
 ghost use Rattle.occ_expression_forms.specs.Spelling.{expr_then, many, operand_then, operated_of, run_token};
 ghost use Rattle.occ_expression_forms.specs.inside.Tails.{joined, tail_then};

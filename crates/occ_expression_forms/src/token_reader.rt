@@ -1,3 +1,4 @@
+//! Takes single tokens from the front of a list: a symbol, a word, a name.
 ghost use Rattle.occ_lines.specs.declared.token.Token.TheVariants as t;
 ghost use Rattle.occ_lines.specs.declared.token.Token.{Token as AToken};
 ghost use Rattle.std.specs.Prelude.{IfOk, IsTrue, List, MatchOption, [], ℕ, ◌∷◌, ◌≡◌, ◌≢◌, ◌↔◌};

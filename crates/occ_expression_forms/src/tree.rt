@@ -1,3 +1,4 @@
+//! The trees of expressions, elements and types as tokens spell them.
 use occ_base::{Boxed, Items, Name};
 
 /// A primitive data type.

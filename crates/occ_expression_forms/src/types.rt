@@ -1,3 +1,4 @@
+//! Parses types: dimensions, data types, names, timers, and channels with what they carry.
 ghost use Rattle.occ_expression_forms.specs.Reading.{IsNot, IsNotCounted, IsNotWord, Reads, ReadsExpr, begin_of, is_operand_begin};
 ghost use Rattle.occ_expression_forms.specs.Spelling.{builtin_then, channel_words, counted_array, data_base_token, data_form_then, dimension_then, many, perhaps_decoration_of, primitive_word, type_form_then};
 ghost use Rattle.occ_expression_forms.specs.TypeEnds.{EndsArray, EndsBuiltin, EndsCarried, EndsType};

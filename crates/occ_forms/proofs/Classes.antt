@@ -24,7 +24,7 @@ use Rattle.occ_forms.specs.declared.tree.Input.TheVariants as ip
 use Rattle.occ_forms.specs.declared.tree.ConstructKind.{ConstructKind}
 use Rattle.occ_forms.specs.declared.tree.ConstructKind.TheVariants as ki
 use Rattle.occ_forms.specs.declared.tree.OutputItem.{OutputItem}
-use Rattle.occ_forms.specs.declared.tree.Part.TheVariants as pa
+use Rattle.occ_forms.specs.declared.tree.PartForm.TheVariants as pa
 use Rattle.occ_forms.specs.declared.tree.Replicator.{Replicator}
 use Rattle.occ_specification_forms.specs.Spelling.{colon, function_head_then, function_then, inlined_then, listed, name_then, next, recast_word, specified_tokens}
 use Rattle.occ_specification_forms.specs.declared.tree.FunctionHead.{FunctionHead}

@@ -31,7 +31,7 @@ use Rattle.occ_forms.specs.declared.tree.InputItem.{InputItem}
 use Rattle.occ_forms.specs.declared.tree.ConstructKind.{ConstructKind}
 use Rattle.occ_forms.specs.declared.tree.ConstructKind.TheVariants as ki
 use Rattle.occ_forms.specs.declared.tree.OutputItem.{OutputItem}
-use Rattle.occ_forms.specs.declared.tree.Part.TheVariants as pa
+use Rattle.occ_forms.specs.declared.tree.PartForm.TheVariants as pa
 use Rattle.occ_forms.specs.declared.tree.Replicator.{Replicator}
 use Rattle.occ_forms.specs.inside.Classes.{class_of}
 use Rattle.occ_forms.specs.Reading.{IsItemEnd}

@@ -19,8 +19,8 @@ use Rattle.occ_forms.specs.declared.tree.InputItem.{InputItem}
 use Rattle.occ_forms.specs.declared.tree.InputItem.TheVariants as ii
 use Rattle.occ_forms.specs.declared.tree.OutputItem.{OutputItem}
 use Rattle.occ_forms.specs.declared.tree.OutputItem.TheVariants as oi
-use Rattle.occ_forms.specs.declared.tree.Part.{Part}
-use Rattle.occ_forms.specs.declared.tree.Part.TheVariants as pa
+use Rattle.occ_forms.specs.declared.tree.PartForm.{PartForm}
+use Rattle.occ_forms.specs.declared.tree.PartForm.TheVariants as pa
 use Rattle.occ_forms.specs.declared.tree.Replicator.{Replicator}
 use Rattle.occ_forms.specs.Spelling.{form_tokens}
 
@@ -66,7 +66,7 @@ guarded_dimensions gu.Skip = 0
 guarded_dimensions (gu.Input input) = input_dimensions input
 guarded_dimensions (gu.CaseInput el) = element_dimensions el
 
-abbrev pub part_dimensions : Part → ℕ
+abbrev pub part_dimensions : PartForm → ℕ
 part_dimensions pa.Case = 0
 part_dimensions pa.Else = 0
 part_dimensions pa.ValueOf = 0

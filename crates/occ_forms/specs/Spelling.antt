@@ -24,8 +24,8 @@ use Rattle.occ_forms.specs.declared.tree.ConstructKind.{ConstructKind}
 use Rattle.occ_forms.specs.declared.tree.ConstructKind.TheVariants as ki
 use Rattle.occ_forms.specs.declared.tree.OutputItem.{OutputItem}
 use Rattle.occ_forms.specs.declared.tree.OutputItem.TheVariants as oi
-use Rattle.occ_forms.specs.declared.tree.Part.{Part}
-use Rattle.occ_forms.specs.declared.tree.Part.TheVariants as pa
+use Rattle.occ_forms.specs.declared.tree.PartForm.{PartForm}
+use Rattle.occ_forms.specs.declared.tree.PartForm.TheVariants as pa
 use Rattle.occ_forms.specs.declared.tree.Replicator.{Replicator}
 
 -- `a::b`
@@ -98,7 +98,7 @@ guarded_then gu.Skip k = t.Word w.Skip ∷ k
 guarded_then (gu.Input input) k = input_then input k
 guarded_then (gu.CaseInput el) k = case_input_then (element_then el) k
 
-abbrev pub part_then : Part → Spelling
+abbrev pub part_then : PartForm → Spelling
 part_then pa.Case k = t.Word w.Case ∷ k
 part_then pa.Else k = t.Word w.Else ∷ k
 part_then pa.ValueOf k = t.Word w.ValOf ∷ k

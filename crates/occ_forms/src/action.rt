@@ -1,3 +1,4 @@
+//! Parses processes of one line: assignments, outputs and inputs.
 ghost use Rattle.occ_expression_forms.specs.declared.tree.Element.{Element as AnElement};
 ghost use Rattle.occ_expression_forms.specs.declared.tree.Expr.{Expr as AnExpr};
 ghost use Rattle.occ_forms.specs.Spelling.{form_tokens};

@@ -1,3 +1,4 @@
+//! Which forms a line can have, by its first token that is in no expression and no type. So no line is parsed twice.
 ghost use Rattle.occ_forms.specs.inside.Classes.{class_of, mark_class, symbol_class, word_class};
 ghost use Rattle.std.specs.Prelude.{◌≡◌};
 

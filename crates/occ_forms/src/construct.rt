@@ -1,9 +1,10 @@
+//! Parses heads of constructs: SEQ, PAR, IF, ALT with or without a replicator, WHILE, CASE.
 ghost use Rattle.occ_expression_forms.specs.Spelling.{expr_then};
 ghost use Rattle.occ_forms.specs.Spelling.{form_tokens, kind_then, replicator_then};
 ghost use Rattle.occ_forms.specs.declared.tree.Construct.TheVariants as co;
 ghost use Rattle.occ_forms.specs.declared.tree.Form.TheVariants as fo;
 ghost use Rattle.occ_forms.specs.declared.tree.ConstructKind.{ConstructKind as AConstructKind};
-ghost use Rattle.occ_forms.specs.declared.tree.Part.TheVariants as pa;
+ghost use Rattle.occ_forms.specs.declared.tree.PartForm.TheVariants as pa;
 ghost use Rattle.occ_forms.specs.declared.tree.Replicator.{Replicator as AReplicator};
 ghost use Rattle.occ_expression_forms.specs.declared.tree.Expr.{Expr as AnExpr};
 ghost use Rattle.occ_lines.specs.declared.token.Token.TheVariants as t;
@@ -11,7 +12,7 @@ ghost use Rattle.occ_lines.specs.declared.token.Token.{Token as AToken};
 ghost use Rattle.occ_lines.specs.declared.token.Word.TheVariants as w;
 ghost use Rattle.std.specs.Prelude.{IfOk, IfSome, List, MatchOption, None, Option, Some, [], ◌∷◌, ◌≡◌, ◌≢◌};
 
-use super::{Construct, ConstructKind, Form, Part, Replicator};
+use super::{Construct, ConstructKind, Form, PartForm, Replicator};
 use occ_expression_forms::{Expr, after, after_word, expression, name};
 use occ_lines::{Symbol, Token, Word};
 use occ_specification_forms::alone;
@@ -110,7 +111,7 @@ pub fn selection(alloc: Global, tokens: &[Token]) -> Result<Option<Form>, AllocE
     let Some(rest) = after_word(tokens, Word::Case) else {
         return Ok(None);
     };
-    if let Some(form) = alone(Form::Part(Part::Case), rest) {
+    if let Some(form) = alone(Form::Part(PartForm::Case), rest) {
         return Ok(Some(form));
     }
     let Some(selector) = one_expression(alloc, rest)? else {

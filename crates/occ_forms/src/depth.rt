@@ -1,8 +1,9 @@
+//! Whether a form has a type of over 64 dimensions, form by form.
 ghost use Rattle.occ_forms.specs.Depth.{action_dimensions, construct_dimensions, detail_dimensions, form_dimensions, guarded_dimensions, input_dimensions, input_item_dimensions, output_item_dimensions, part_dimensions, replicator_dimensions};
 ghost use Rattle.std.specs.Prelude.{IsTrue, ◌<◌, ◌↔◌};
 
 use super::{
-    Action, Construct, Detail, Form, Guarded, Input, InputItem, OutputItem, Part, Replicator,
+    Action, Construct, Detail, Form, Guarded, Input, InputItem, OutputItem, PartForm, Replicator,
 };
 use occ_expression_forms::{
     Measured, any_has_many_dimensions, array_has_many_dimensions, counted_has_many_dimensions,
@@ -131,16 +132,20 @@ impl Measured for Guarded {
     }
 }
 
-impl Measured for Part {
+impl Measured for PartForm {
     ghost dimensions = { part_dimensions };
 
     fn has_many_dimensions(&self) -> bool {
         match self {
-            Part::Case | Part::Else | Part::ValueOf | Part::Record | Part::PackedRecord => false,
-            Part::Result(expr, more) => {
+            PartForm::Case
+            | PartForm::Else
+            | PartForm::ValueOf
+            | PartForm::Record
+            | PartForm::PackedRecord => false,
+            PartForm::Result(expr, more) => {
                 expr.has_many_dimensions() || any_has_many_dimensions(more.as_slice())
             }
-            Part::Guard(expr, guarded) => {
+            PartForm::Guard(expr, guarded) => {
                 expr.has_many_dimensions() || guarded.has_many_dimensions()
             }
         }

@@ -1,3 +1,4 @@
+//! Parses the parts of tags and variants: types, `t::[]u`, elements and `el::el`.
 ghost use Rattle.occ_expression_forms.specs.Reading.{Reads};
 ghost use Rattle.occ_expression_forms.specs.Spelling.{builtin_then, counted_array, data_form_then, dimension_then, element_then, many};
 ghost use Rattle.occ_expression_forms.specs.declared.tree.Builtin.{Builtin as ABuiltin};

@@ -1,3 +1,4 @@
+//! Lines that are one word or one symbol.
 ghost use Rattle.occ_lines.specs.declared.token.Token.TheVariants as t;
 ghost use Rattle.std.specs.Prelude.{MatchOption, [], ◌∷◌, ◌≡◌, ◌≢◌};
 

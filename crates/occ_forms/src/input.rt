@@ -1,3 +1,4 @@
+//! Parses what follows `el ?`: items, `AFTER e`, `CASE n; ..`, or the head of a case input.
 ghost use Rattle.occ_expression_forms.specs.Spelling.{element_then, expr_then, many};
 ghost use Rattle.occ_expression_forms.specs.declared.tree.Element.{Element as AnElement};
 ghost use Rattle.occ_expression_forms.specs.declared.tree.Expr.{Expr as AnExpr};

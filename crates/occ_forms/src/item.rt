@@ -1,3 +1,4 @@
+//! Parses what inputs and outputs have between semicolons: `e`, `e::e`, `el` and `el::el`.
 ghost use Rattle.occ_forms.specs.Reading.{IsItemEnd};
 ghost use Rattle.occ_forms.specs.Spelling.{input_item_then, output_item_then};
 

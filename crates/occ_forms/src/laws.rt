@@ -1,3 +1,4 @@
+//! That two forms which spell the same tokens are one.
 ghost use Rattle.occ_forms.specs.Spelling.{form_tokens};
 ghost use Rattle.occ_forms.specs.declared.tree.Form.{Form as AForm};
 ghost use Rattle.std.specs.Prelude.{◌≡◌};

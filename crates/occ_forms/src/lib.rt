@@ -26,6 +26,6 @@ pub use preparation::prepare;
 pub use rows::{action_rows, body_rows, construct_rows, part_rows, tagged_rows};
 pub use source::{LineBody, Source, SourceLine};
 pub use tree::{
-    Action, Construct, ConstructKind, Detail, Form, Guarded, Input, InputItem, OutputItem, Part,
-    Replicator,
+    Action, Construct, ConstructKind, Detail, Form, Guarded, Input, InputItem, OutputItem,
+    PartForm, Replicator,
 };

@@ -1,3 +1,4 @@
+//! The form of a line: its class is found first, and then parsed. `docs/LANGUAGE.md, Forms`.
 ghost use Rattle.occ_forms.specs.Reading.{IsFormOf};
 ghost use Rattle.std.specs.Prelude.{IfOk};
 
@@ -7,7 +8,7 @@ use super::construct::{replicable, selection, while_loop};
 use super::end::word_alone;
 use super::part::{expressions, guard, packed, results, tagged_line};
 use super::specifying::{close_or_declaration, specification};
-use super::{Action, Form, Part};
+use super::{Action, Form, PartForm};
 use occ_lines::{Token, Word};
 use std::alloc::{AllocError, Global};
 
@@ -19,9 +20,9 @@ pub fn line(alloc: Global, tokens: &[Token]) -> Result<Option<Form>, AllocError>
         Class::Close => close_or_declaration(alloc, tokens),
         Class::Skip => Ok(word_alone(tokens, Word::Skip, Form::Action(Action::Skip))),
         Class::Stop => Ok(word_alone(tokens, Word::Stop, Form::Action(Action::Stop))),
-        Class::Else => Ok(word_alone(tokens, Word::Else, Form::Part(Part::Else))),
-        Class::ValueOf => Ok(word_alone(tokens, Word::ValOf, Form::Part(Part::ValueOf))),
-        Class::Record => Ok(word_alone(tokens, Word::Record, Form::Part(Part::Record))),
+        Class::Else => Ok(word_alone(tokens, Word::Else, Form::Part(PartForm::Else))),
+        Class::ValueOf => Ok(word_alone(tokens, Word::ValOf, Form::Part(PartForm::ValueOf))),
+        Class::Record => Ok(word_alone(tokens, Word::Record, Form::Part(PartForm::Record))),
         Class::PackedRecord => Ok(packed(tokens)),
         Class::Replicable => replicable(alloc, tokens),
         Class::While => while_loop(alloc, tokens),

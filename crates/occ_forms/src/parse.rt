@@ -1,3 +1,4 @@
+//! The form of a line, or why it has none: too deep (S3) comes before no form (S1).
 ghost use Rattle.occ_expression_forms.specs.Depth.{most_open};
 ghost use Rattle.occ_forms.specs.Depth.{HasForm, HasNoForm, IsTooDeep};
 ghost use Rattle.occ_forms.specs.Spelling.{form_tokens};

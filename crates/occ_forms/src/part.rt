@@ -1,14 +1,15 @@
+//! Parses lines that are parts of what is around them: conditions, results, records, guards, tags and variants.
 ghost use Rattle.occ_expression_forms.specs.declared.tree.Expr.{Expr as AnExpr};
 ghost use Rattle.occ_forms.specs.Spelling.{form_tokens, guarded_then};
 ghost use Rattle.occ_forms.specs.declared.tree.Detail.{Detail as ADetail};
 ghost use Rattle.occ_forms.specs.declared.tree.Form.TheVariants as fo;
 ghost use Rattle.occ_forms.specs.declared.tree.Guarded.{Guarded as SomeGuarded};
-ghost use Rattle.occ_forms.specs.declared.tree.Part.TheVariants as pa;
+ghost use Rattle.occ_forms.specs.declared.tree.PartForm.TheVariants as pa;
 ghost use Rattle.std.specs.Prelude.{IfOk, IfSome, List, MatchOption, Some, [], ℕ, ◌≡◌, ◌≢◌};
 
 use super::end::word_alone;
 use super::input::{Received, reception};
-use super::{Form, Guarded, Part};
+use super::{Form, Guarded, PartForm};
 use occ_expression_forms::{after, after_word, expression, name};
 use occ_lines::{Symbol, Token, Word};
 use occ_specification_forms::{alone, list};
@@ -36,7 +37,7 @@ pub fn results(alloc: Global, tokens: &[Token]) -> Result<Option<Form>, AllocErr
     let Some((first, more, rest)) = list(alloc, rest, Symbol::Comma)? else {
         return Ok(None);
     };
-    Ok(alone(Form::Part(Part::Result(first, more)), rest))
+    Ok(alone(Form::Part(PartForm::Result(first, more)), rest))
 }
 
 /// `PACKED RECORD`
@@ -44,7 +45,7 @@ pub fn packed(tokens: &[Token]) -> Option<Form>
     ensures { MatchOption result (tokens.now ≢ form_tokens (fo.Part pa.PackedRecord)) (λ found. (found ≡ fo.Part pa.PackedRecord) × (tokens.now ≡ form_tokens (fo.Part pa.PackedRecord))) }
 {
     let rest = after_word(tokens, Word::Packed)?;
-    word_alone(rest, Word::Record, Form::Part(Part::PackedRecord))
+    word_alone(rest, Word::Record, Form::Part(PartForm::PackedRecord))
 }
 
 /// What stands behind the `&` of a guard.
@@ -76,7 +77,7 @@ pub fn guard(alloc: Global, tokens: &[Token]) -> Result<Option<Form>, AllocError
     let Some(guarded) = behind_guard(alloc, rest)? else {
         return Ok(None);
     };
-    Ok(Some(Form::Part(Part::Guard(condition, guarded))))
+    Ok(Some(Form::Part(PartForm::Guard(condition, guarded))))
 }
 
 /// A tag or a variant with its parts.

@@ -1,3 +1,4 @@
+//! Prepares a text: its logical lines, each with its form or its one fault.
 ghost use Rattle.occ_forms.specs.Prepared.{AreFormed, IsFormed, IsPrepared};
 ghost use Rattle.occ_forms.specs.declared.source.LineBody.{LineBody as ALineBody};
 ghost use Rattle.occ_forms.specs.declared.source.SourceLine.{SourceLine as ASourceLine};

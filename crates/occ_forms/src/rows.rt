@@ -1,3 +1,4 @@
+//! Worked rows: what some lines spell, and lines with a fault.
 #![tactic(auto, using(occ_expression_forms::proofs::Cases::spelling_rules))]
 
 ghost use Rattle.occ_base.specs.declared.code.Code.TheVariants.{L1, S1};
@@ -22,7 +23,7 @@ ghost use Rattle.occ_forms.specs.declared.tree.Input.TheVariants as i;
 ghost use Rattle.occ_forms.specs.declared.tree.InputItem.TheVariants as ii;
 ghost use Rattle.occ_forms.specs.declared.tree.ConstructKind.TheVariants as ki;
 ghost use Rattle.occ_forms.specs.declared.tree.OutputItem.TheVariants as oi;
-ghost use Rattle.occ_forms.specs.declared.tree.Part.TheVariants as p;
+ghost use Rattle.occ_forms.specs.declared.tree.PartForm.TheVariants as p;
 ghost use Rattle.occ_lines.specs.declared.text.Body.TheVariants as body;
 ghost use Rattle.occ_lines.specs.declared.token.Symbol.TheVariants as s;
 ghost use Rattle.occ_lines.specs.declared.token.Token.TheVariants as t;

@@ -1,3 +1,4 @@
+//! A `Source`, which is a text with its lines. Its type says that they are the lines which the text spells.
 ghost use Rattle.occ_forms.specs.Prepared.{IsPrepared};
 ghost use Rattle.std.specs.Prelude.{◌≡◌};
 

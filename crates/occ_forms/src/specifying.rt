@@ -1,3 +1,4 @@
+//! Parses lines of specification, heads of specifications, and closes.
 ghost use Rattle.occ_forms.specs.Spelling.{form_tokens};
 ghost use Rattle.occ_forms.specs.declared.tree.Form.TheVariants as f;
 ghost use Rattle.occ_specification_forms.specs.Spelling.{specified_tokens};

@@ -1,3 +1,4 @@
+//! The trees of all line forms but those of specification.
 use occ_base::{Items, Name};
 use occ_expression_forms::{Builtin, DataForm, Dimension, Element, Expr};
 use occ_specification_forms::Specified;
@@ -10,7 +11,7 @@ pub enum Form {
     Close,
     Action(Action),
     Construct(Construct),
-    Part(Part),
+    Part(PartForm),
     /// `e, ..`: the first, and perhaps more. These are options of a selection, a condition, or, where one call
     /// stands alone, the instance of a procedure.
     Expressions(Expr, Items<Expr>),
@@ -117,7 +118,7 @@ pub struct Replicator {
 
 /// A line that is a part of what stands around it.
 #[derive(Drop)]
-pub enum Part {
+pub enum PartForm {
     /// `CASE`
     Case,
     /// `ELSE`

@@ -1,3 +1,4 @@
+//! Inserts a node to which no other leads at any index of a graph: later indices rise by one, row by row.
 ghost use Rattle.occ_graph.specs.Adding.{raised as place_then, with_node};
 ghost use Rattle.occ_graph.specs.Graph.{IsWhole, is_among};
 ghost use Rattle.occ_graph.specs.Sources.{once_each};

@@ -1,3 +1,4 @@
+//! Finds which edges are in circles, and for each node those that it rests on: its targets outside of circles.
 #![tactic(auto, using(crate::proofs::Circled::more_rows, crate::proofs::Circled::all_is))]
 
 ghost use Rattle.std.specs.Prelude.{[], ◌∷◌, ◌≡◌, ◌<◌, ◌++◌, ℕ, length, IfOk, OnOk};

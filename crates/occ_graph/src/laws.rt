@@ -1,5 +1,6 @@
-ghost use Rattle.std.specs.Prelude.{◌≡◌, ◌↔◌, ℕ, Bool, true};
-ghost use Rattle.occ_graph.specs.Along.{IsLocal, along, done, done_step};
+//! That the tests for ways and circles mean lists of edges, and that recursion along what nodes rest on has one solution.
+ghost use Rattle.std.specs.Prelude.{◌≡◌, ◌↔◌, ℕ, true};
+ghost use Rattle.occ_graph.specs.Along.{IsLocal, along};
 ghost use Rattle.occ_graph.specs.Graph.{Graph, IsCircular, Reaches, has_edge, is_among, is_circular, reaches};
 ghost use Rattle.occ_graph.specs.Sources.{sources};
 
@@ -15,15 +16,6 @@ pub fn circle_law()
 pub fn along_law<A>()
     ensures step { (g : Graph) (step : ℕ → (ℕ → A) → A) (base : A) → IsLocal g step → (u : ℕ) → along g step base u ≡ step u (along g step base) }
     ensures only { (g : Graph) (step : ℕ → (ℕ → A) → A) (base : A) → IsLocal g step → (f : ℕ → A) → ((u : ℕ) → f u ≡ step u f) → (u : ℕ) → f u ≡ along g step base u }
-{}
-
-/// A node is done exactly where it is good and all that it rests on are done. Flags of which none is wrong, and which
-/// lack none whose node is good and rests on flagged nodes alone, are those of the nodes that are done. Where more is
-/// good, no less is done.
-pub fn done_law()
-    ensures step { (g : Graph) (good : ℕ → Bool) (u : ℕ) → done g good u ≡ done_step g good u (done g good) }
-    ensures only { (g : Graph) (good f : ℕ → Bool) → ((u : ℕ) → f u ≡ true → done g good u ≡ true) → ((u : ℕ) → done_step g good u f ≡ true → f u ≡ true) → (u : ℕ) → f u ≡ done g good u }
-    ensures more { (g : Graph) (good better : ℕ → Bool) → ((u : ℕ) → good u ≡ true → better u ≡ true) → (u : ℕ) → done g good u ≡ true → done g better u ≡ true }
 {}
 
 /// A graph that is turned round has an edge for each that it had, the other way, and no other.

@@ -1,3 +1,4 @@
+//! A graph with what its nodes rest on and with its edges turned around, cached. Contracts see the edges alone.
 ghost use Rattle.occ_graph.specs.Adding.{with_node};
 ghost use Rattle.occ_graph.specs.Graph.{IsWhole, all_rests, is_among, rests as rests_in};
 ghost use Rattle.occ_graph.specs.Sources.{sources as sources_in};

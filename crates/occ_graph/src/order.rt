@@ -1,3 +1,5 @@
+//! An order of the nodes in which targets come first. It has no contract: a node that it leaves out is searched, so it
+//! costs time alone.
 use sqlite_items::Items;
 use std::alloc::{AllocError, Global};
 

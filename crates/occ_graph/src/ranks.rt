@@ -1,3 +1,4 @@
+//! Ranks of nodes by that order. A node with a rank reaches no circle, so none of its edges is in one.
 #![tactic(auto, using(crate::proofs::Ranked::none_at, crate::proofs::Ranked::none_ranked, crate::proofs::Ranked::set_ranked, crate::proofs::Ranked::set_most))]
 
 ghost use Rattle.std.specs.Prelude.{◌≡◌, ◌↔◌, ◌<◌, ◌≤◌, ℕ, true, length, replicate, slice_index, EachIndex, IfOk, IsTrue};

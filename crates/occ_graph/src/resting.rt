@@ -1,3 +1,5 @@
+//! What nodes rest on after a node was inserted. Where every node has a rank, that is its targets and is not stored
+//! again.
 ghost use Rattle.occ_graph.specs.Adding.{with_node};
 ghost use Rattle.occ_graph.specs.Graph.{all_rests, is_among};
 ghost use Rattle.occ_graph.specs.inside.Linking.{AreBefore, others as others_of, rests_kept};

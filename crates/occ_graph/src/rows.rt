@@ -1,3 +1,4 @@
+//! Worked rows: circles, edges to oneself, an inserted node.
 ghost use Rattle.std.specs.Prelude.{[], ◌∷◌, ◌≡◌, true, false};
 ghost use Rattle.occ_graph.specs.Adding.{with_node};
 ghost use Rattle.occ_graph.specs.Graph.{all_rests, is_circular, reaches};

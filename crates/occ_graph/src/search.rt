@@ -1,3 +1,4 @@
+//! Marks all nodes that edges lead to from one node, but for those marked before. It goes breadth first, with a queue.
 ghost use Rattle.std.specs.Prelude.{◌≡◌, ◌<◌, ◌+◌, ℕ, false, length, get_or, [], IfOk, IsFalse, OnOk};
 ghost use Rattle.occ_graph.specs.Graph.{reaches, targets as targets_of};
 ghost use Rattle.occ_graph.specs.inside.Searching.{IsClosed, mark_at, seen_all, seen_with, unmarked};

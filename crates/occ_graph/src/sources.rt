@@ -1,3 +1,4 @@
+//! The graph turned around: for each node those from which edges lead to it.
 ghost use Rattle.std.specs.Prelude.{◌≡◌, ◌<◌, ◌++◌, ◌∷◌, ℕ, [], get_or, length, replicate, slice_set, IfOk, OnOk};
 ghost use Rattle.occ_graph.specs.Sources.{once_each, sources};
 

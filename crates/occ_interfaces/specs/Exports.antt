@@ -5,7 +5,7 @@ use Rattle.std.specs.Str.{bytes_eq}
 use Rattle.occ_bounds.specs.Bounds.{Env, body_of, effect_of}
 use Rattle.occ_interfaces.specs.FormalUses.{formal_uses, in_order}
 use Rattle.occ_line_uses.specs.Entering.{effect_if}
-use Rattle.occ_names.specs.declared.meaning.Entry.{Entry}
+use Rattle.occ_names.specs.declared.meaning.ScopeEntry.{ScopeEntry}
 use Rattle.occ_names.specs.declared.meaning.Meaning.{Meaning}
 use Rattle.occ_names.specs.declared.meaning.Meaning.TheVariants as meaning
 use Rattle.occ_typing.specs.Forms.{TypedForm}
@@ -40,7 +40,7 @@ meaning_exports env n name (meaning.Protocol protocol) = []
 meaning_exports env n name (meaning.Element whole) = []
 
 -- of names, the first of which is the specification with the number n
-abbrev pub entries_exports : Env → ℕ → List Entry → List Export
+abbrev pub entries_exports : Env → ℕ → List ScopeEntry → List Export
 entries_exports env n [] = []
 entries_exports env n (e ∷ es) = meaning_exports env n e.name e.meaning ++ entries_exports env (n + 1) es
 
@@ -49,12 +49,12 @@ abbrev pub is_use : TypedForm → Bool
 is_use (form.Uses interfaces) = true
 is_use other = false
 
-abbrev pub entries_of : Option (List Entry) → List Entry
+abbrev pub entries_of : Option (List ScopeEntry) → List ScopeEntry
 entries_of None = []
 entries_of (Some entries) = entries
 
 -- what comes into scope behind a line
-abbrev pub line_entries : TypedLine → List Entry
+abbrev pub line_entries : TypedLine → List ScopeEntry
 line_entries l = entries_of (out-TypedLine l).adds
 
 -- of a line behind n specifications

@@ -1,3 +1,4 @@
+//! A use of a formal as a list of numbers, by which the uses of an export are ordered.
 ghost use Rattle.std.proofs.Common.{rules};
 ghost use Rattle.std.proofs.lemmas.Cmp.{nat_list_cmp_total};
 ghost use Rattle.std.specs.Cmp.{partial_order_from_own_ties};

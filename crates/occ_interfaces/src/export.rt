@@ -1,3 +1,4 @@
+//! The exports of a unit: procedures and functions that its outermost lines specify, of two of one name the later.
 ghost use Rattle.std.specs.Prelude.{◌≡◌, ◌+◌, IfOk, OnOk, length};
 ghost use Rattle.occ_interfaces.specs.Exports.{entries_exports, export as an_export, interface_in, is_use as is_use_form, line_entries, line_exports, meaning_exports, with_export, with_exports};
 ghost use Rattle.occ_line_uses.specs.Entering.{effect_if as told_effect};
@@ -7,7 +8,7 @@ use super::formal_uses::body_formal_uses;
 use occ_base::{Items, Name, Shared};
 use occ_bounds::{Bound, body_at, effect_at};
 use occ_line_uses::number_behind;
-use occ_names::{Entry, Meaning};
+use occ_names::{ScopeEntry, Meaning};
 use occ_types::{Effect, Export, ExportKind, Formal, Interface, OccType};
 use occ_typing::{TypedForm, TypedLine, shared_formals, shared_types};
 use std::alloc::{AllocError, Global};
@@ -59,7 +60,7 @@ fn add_entry(
     alloc: Global,
     env: &[Bound],
     number: usize,
-    entry: &Entry,
+    entry: &ScopeEntry,
     found: &mut Vec<Export>,
 ) -> Result<(), AllocError>
     ensures { OnOk result (found.new.items ≡ with_exports found.old.items (meaning_exports env.now number entry.now.name entry.now.meaning)) }
@@ -97,7 +98,7 @@ fn add_entries(
     alloc: Global,
     env: &[Bound],
     number: usize,
-    entries: &[Entry],
+    entries: &[ScopeEntry],
     found: &mut Vec<Export>,
 ) -> Result<usize, AllocError>
     ensures found { OnOk result (found.new.items ≡ with_exports found.old.items (entries_exports env.now number entries.now)) }
@@ -119,7 +120,7 @@ fn is_use(line: &TypedLine) -> bool
 }
 
 /// What comes into scope behind a line.
-fn line_entries_of(line: &TypedLine) -> &[Entry]
+fn line_entries_of(line: &TypedLine) -> &[ScopeEntry]
     ensures { result.now ≡ line_entries line.now }
 {
     match &line.adds {

@@ -1,3 +1,4 @@
+//! What a body does with its formals, in one order, each use once.
 ghost use Rattle.std.specs.Prelude.{◌≡◌, ◌++◌, IfOk, OnOk};
 ghost use Rattle.occ_interfaces.specs.FormalUses.{formal_use as told_use, formal_uses as told_uses, in_order as told_order};
 

@@ -5,7 +5,5 @@
 mod code;
 mod export;
 mod formal_uses;
-mod laws;
 
 pub use export::interface_of;
-pub use laws::whole_law;

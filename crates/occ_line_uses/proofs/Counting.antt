@@ -2,15 +2,15 @@
 use Rattle.std.proofs.Common.{◌≡◌, ◌∙◌, ◌+◌, ℕ, suc, List, [], ◌∷◌, ◌++◌, length, length-append, refl, ap, append_assoc}
 use Rattle.occ_bounds.specs.Bounds.{Env}
 use Rattle.occ_line_uses.specs.Entering.{export_bounds, interface_bounds}
-use Rattle.occ_project.specs.declared.expanded.Place.{Place as Line}
+use Rattle.occ_project.specs.declared.expanded.Location.{Location}
 use Rattle.occ_types.specs.declared.interface.Export.{Export}
 use Rattle.occ_types.specs.declared.interface.Interface.{Interface}
 
-export_count : (n : ℕ) (line : Line) (xs : List Export) → length (export_bounds n line xs) ≡ length xs
+export_count : (n : ℕ) (line : Location) (xs : List Export) → length (export_bounds n line xs) ≡ length xs
 export_count n line [] = refl
 export_count n line (x ∷ xs) = ap suc (export_count (n + 1) line xs)
 
-pub step_interfaces : (line : Line) (env entered whole : Env) (i : Interface) (is : List Interface)
+pub step_interfaces : (line : Location) (env entered whole : Env) (i : Interface) (is : List Interface)
     → env ++ interface_bounds (length env) line (i ∷ is) ≡ whole
     → entered ≡ env ++ export_bounds (length env) line i.exports
     → entered ++ interface_bounds (length entered) line is ≡ whole

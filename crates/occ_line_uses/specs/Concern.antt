@@ -6,10 +6,10 @@ use Rattle.occ_bounds.specs.declared.bound.Bound.{Bound}
 use Rattle.occ_bounds.specs.declared.bound.Bound.TheVariants as b
 use Rattle.occ_bounds.specs.declared.uses.Use.{Use}
 use Rattle.occ_clashes.specs.Kinds.{is_write}
-use Rattle.occ_parts.specs.declared.place.Place.{Place}
+use Rattle.occ_parts.specs.declared.place.SelectedPart.{SelectedPart}
 
 -- a place of this root
-abbrev pub is_of : ℕ → Option Place → Bool
+abbrev pub is_of : ℕ → Option SelectedPart → Bool
 is_of root None = false
 is_of root (Some p) = p.root == root
 

@@ -11,12 +11,12 @@ use Rattle.occ_line_uses.specs.Effects.{each_effect}
 use Rattle.occ_line_uses.specs.Forms.{each_uses}
 use Rattle.occ_names.specs.declared.meaning.Access.{Access}
 use Rattle.occ_names.specs.declared.meaning.Access.TheVariants as access
-use Rattle.occ_names.specs.declared.meaning.Entry.{Entry}
+use Rattle.occ_names.specs.declared.meaning.ScopeEntry.{ScopeEntry}
 use Rattle.occ_names.specs.declared.meaning.Meaning.{Meaning}
 use Rattle.occ_names.specs.declared.meaning.Meaning.TheVariants as meaning
 use Rattle.occ_parts.specs.Selecting.{named, retyped as retyped_place}
-use Rattle.occ_parts.specs.declared.place.Place.{Place}
-use Rattle.occ_project.specs.declared.expanded.Place.{Place as Line}
+use Rattle.occ_parts.specs.declared.place.SelectedPart.{SelectedPart}
+use Rattle.occ_project.specs.declared.expanded.Location.{Location}
 use Rattle.occ_typed.specs.declared.expr.TypedElement.{TypedElement}
 use Rattle.occ_typed.specs.declared.expr.TypedExpr.{TypedExpr}
 use Rattle.occ_typed_lines.specs.declared.tree.TypedForm.{TypedForm}
@@ -46,7 +46,7 @@ meaning_bound name meaning.Faulty = b.Other
 meaning_bound name (meaning.Type of) = b.Other
 meaning_bound name (meaning.Protocol protocol) = b.Other
 
-abbrev pub entry_bounds : List Entry → List Bound
+abbrev pub entry_bounds : List ScopeEntry → List Bound
 entry_bounds [] = []
 entry_bounds (e ∷ es) = meaning_bound e.name e.meaning ∷ entry_bounds es
 
@@ -59,28 +59,28 @@ index_value base i = if int_le (negsuc 2147483647) (base +ℤ pos i) && int_le (
 -- ---- abbreviations
 
 -- the name of one more abbreviation, which is the specification with this number
-abbrev pub named_at : ℕ → Option Place → Option Place
+abbrev pub named_at : ℕ → Option SelectedPart → Option SelectedPart
 named_at n None = None
 named_at n (Some p) = Some (named p n)
 
-abbrev pub looked_at : Option Place → Option Place
+abbrev pub looked_at : Option SelectedPart → Option SelectedPart
 looked_at None = None
 looked_at (Some p) = Some (retyped_place p)
 
 -- `n IS el:`
-abbrev pub abbreviated : TypedElement → Env → Line → Bound
+abbrev pub abbreviated : TypedElement → Env → Location → Bound
 abbreviated el env line = b.Abbreviation (named_at (length env) ((element_view el).place env)) ((element_view el).size env) ((element_view el).uses env line)
 
 -- RETYPES and RESHAPES
-abbrev pub retyped : TypedElement → Env → Line → Bound
+abbrev pub retyped : TypedElement → Env → Location → Bound
 retyped el env line = b.Abbreviation (named_at (length env) (looked_at ((element_view el).place env))) None ((element_view el).uses env line)
 
 -- `VAL n IS e:`
-abbrev pub valued : TypedExpr → Env → Line → Bound
+abbrev pub valued : TypedExpr → Env → Location → Bound
 valued e env line = b.Value ((expr_view e).value env) ((expr_view e).size env) ((expr_view e).uses env line)
 
 -- VAL RETYPES and VAL RESHAPES: their values are never known
-abbrev pub retyped_value : TypedExpr → Env → Line → Bound
+abbrev pub retyped_value : TypedExpr → Env → Location → Bound
 retyped_value e env line = b.Value None None ((expr_view e).uses env line)
 
 -- ---- bodies
@@ -93,7 +93,7 @@ abbrev pub body_bound : List Use → Bool → Bound
 body_bound uses does = b.Body uses (effect_if does)
 
 -- a FUNCTION of one line
-abbrev pub one_line : List Entry → List TypedExpr → Env → Line → Bound
+abbrev pub one_line : List ScopeEntry → List TypedExpr → Env → Location → Bound
 one_line formals results env line =
     let inner = env ++ entry_bounds formals in
     body_bound (body_uses (length env) (length inner) line (each_uses results inner line)) (each_effect results inner)
@@ -101,18 +101,18 @@ one_line formals results env line =
 -- ---- exports of used units
 
 -- a use of a formal of an export, round which n specifications stand
-abbrev pub exported_use : ℕ → Line → FormalUse → Use
+abbrev pub exported_use : ℕ → Location → FormalUse → Use
 exported_use n line u = record { part = record { root = n + u.formal; selectors = u.selectors }; kind = u.kind; line = line; chain = [] }
 
-abbrev pub exported_uses : ℕ → Line → List FormalUse → List Use
+abbrev pub exported_uses : ℕ → Location → List FormalUse → List Use
 exported_uses n line [] = []
 exported_uses n line (u ∷ us) = exported_use n line u ∷ exported_uses n line us
 
-abbrev pub export_bounds : ℕ → Line → List Export → List Bound
+abbrev pub export_bounds : ℕ → Location → List Export → List Bound
 export_bounds n line [] = []
 export_bounds n line (x ∷ xs) = b.Body (exported_uses n line x.uses) x.effect ∷ export_bounds (n + 1) line xs
 
-abbrev pub interface_bounds : ℕ → Line → List Interface → List Bound
+abbrev pub interface_bounds : ℕ → Location → List Interface → List Bound
 interface_bounds n line [] = []
 interface_bounds n line (i ∷ is) = export_bounds n line i.exports ++ interface_bounds (n + length i.exports) line is
 
@@ -120,7 +120,7 @@ interface_bounds n line (i ∷ is) = export_bounds n line i.exports ++ interface
 
 -- What comes into scope behind a line, by which these names do; of a head over the lines of a body, which say what the body
 -- is, nothing more than the names.
-abbrev pub specified : Env → Line → List Entry → TypedForm → List Bound
+abbrev pub specified : Env → Location → List ScopeEntry → TypedForm → List Bound
 specified env line entries (form.Abbreviation el) = abbreviated el env line ∷ []
 specified env line entries (form.Retyped el) = retyped el env line ∷ []
 specified env line entries (form.Value e) = valued e env line ∷ []

@@ -1,3 +1,4 @@
+//! Whether a line has an effect: it is an input, an output, a PAR or an ALT, or calls a body with one.
 ghost use Rattle.std.specs.Prelude.{◌≡◌};
 ghost use Rattle.occ_line_uses.specs.Effects.{block_communicates, calls_effect as told_calls, communicates as told_communicates, each_effect as told_each, elements_effect as told_elements, form_effect as told_form, guard_communicates, replicator_effect as told_replicator, target_effect as told_target, targets_effect as told_targets};
 

@@ -1,18 +1,19 @@
+//! What comes into scope by a line, for uses: one specification for each name, with its value, part or body.
 ghost use Rattle.std.specs.Prelude.{◌≡◌, ◌++◌, ◌+◌, ◌-◌, ◌∷◌, ◌≤◌, [], None, IfOk, OnOk, length, take};
 ghost use Rattle.occ_bounds.specs.declared.bound.Bound.TheVariants as bounds;
 ghost use Rattle.occ_line_uses.specs.Entering.{abbreviated as told_abbreviated, access_bound, body_bound as told_body, entry_bounds, export_bounds, exported_use as told_use, exported_uses as told_uses, index_value as told_index, interface_bounds as told_interfaces, looked_at as told_looked, meaning_bound as told_meaning, named_at as told_named, one_line as told_one_line, retyped as told_retyped, retyped_value as told_retyped_value, specified as told_specified, valued as told_valued};
 
 use super::effect::each_effect;
 use super::form::each_uses;
-use super::scope::Scope;
+use super::scope::UsageScope;
 use occ_base::{Items, Name, Shared};
 use occ_bounds::{
     Bound, Chain, Use, element_size, element_uses, expression_uses, is_timer, place, size, value,
 };
 use occ_clashes::body_uses;
-use occ_names::{Access, Entry, Meaning};
-use occ_parts::{Part, Place, copies};
-use occ_project::Place as Line;
+use occ_names::{Access, ScopeEntry, Meaning};
+use occ_parts::{Part, SelectedPart, copies};
+use occ_project::Location;
 use occ_typed::{TypedElement, TypedExpr};
 use occ_typed_lines::TypedForm;
 use occ_types::{Effect, Export, FormalUse, Interface, Value};
@@ -50,7 +51,7 @@ fn of_meaning(alloc: Global, name: &Name, meaning: &Meaning) -> Result<Bound, Al
 }
 
 /// Enters names of which their line says nothing more.
-pub fn enter_all(alloc: Global, entries: &[Entry], env: &mut Scope) -> Result<(), AllocError>
+pub fn enter_all(alloc: Global, entries: &[ScopeEntry], env: &mut UsageScope) -> Result<(), AllocError>
     ensures { OnOk result (env.new ≡ env.old ++ entry_bounds entries.now) }
 {
     for entry in entries {
@@ -80,14 +81,18 @@ pub fn index_value(base: i32, round: u32) -> Option<Value>
 }
 
 /// Enters an index, of which the value is known or not.
-pub fn enter_index(alloc: Global, value: Option<Value>, env: &mut Scope) -> Result<(), AllocError>
+pub fn enter_index(
+    alloc: Global,
+    value: Option<Value>,
+    env: &mut UsageScope,
+) -> Result<(), AllocError>
     ensures { OnOk result (env.new ≡ env.old ++ bounds.Value value None [] ∷ []) }
 {
     env.enter(alloc, Bound::Value(value, None, Items::new(alloc)))
 }
 
 /// The place by the name of an abbreviation with this number.
-fn named_at(place: Option<Place>, number: usize) -> Result<Option<Place>, AllocError>
+fn named_at(place: Option<SelectedPart>, number: usize) -> Result<Option<SelectedPart>, AllocError>
     ensures { IfOk result (λ named. named ≡ told_named number place) }
 {
     match place {
@@ -97,7 +102,7 @@ fn named_at(place: Option<Place>, number: usize) -> Result<Option<Place>, AllocE
 }
 
 /// The place by a name that RETYPES or RESHAPES gives it.
-fn looked_at(place: Option<Place>) -> Result<Option<Place>, AllocError>
+fn looked_at(place: Option<SelectedPart>) -> Result<Option<SelectedPart>, AllocError>
     ensures { IfOk result (λ looked. looked ≡ told_looked place) }
 {
     match place {
@@ -110,7 +115,7 @@ fn looked_at(place: Option<Place>) -> Result<Option<Place>, AllocError>
 fn abbreviated(
     alloc: Global,
     element: &TypedElement,
-    line: &Line,
+    line: &Location,
     env: &[Bound],
 ) -> Result<Bound, AllocError>
     ensures { IfOk result (λ bound. bound ≡ told_abbreviated element.now env.now line.now) }
@@ -125,7 +130,7 @@ fn abbreviated(
 fn retyped(
     alloc: Global,
     element: &TypedElement,
-    line: &Line,
+    line: &Location,
     env: &[Bound],
 ) -> Result<Bound, AllocError>
     ensures { IfOk result (λ bound. bound ≡ told_retyped element.now env.now line.now) }
@@ -137,7 +142,12 @@ fn retyped(
 }
 
 /// `VAL n IS e:`
-fn valued(alloc: Global, expr: &TypedExpr, line: &Line, env: &[Bound]) -> Result<Bound, AllocError>
+fn valued(
+    alloc: Global,
+    expr: &TypedExpr,
+    line: &Location,
+    env: &[Bound],
+) -> Result<Bound, AllocError>
     ensures { IfOk result (λ bound. bound ≡ told_valued expr.now env.now line.now) }
 {
     let mut reads = Items::new(alloc);
@@ -149,7 +159,7 @@ fn valued(alloc: Global, expr: &TypedExpr, line: &Line, env: &[Bound]) -> Result
 fn retyped_value(
     alloc: Global,
     expr: &TypedExpr,
-    line: &Line,
+    line: &Location,
     env: &[Bound],
 ) -> Result<Bound, AllocError>
     ensures { IfOk result (λ bound. bound ≡ told_retyped_value expr.now env.now line.now) }
@@ -173,10 +183,10 @@ pub fn body_bound(uses: Items<Use>, has_effect: bool) -> Bound
 /// A FUNCTION of one line.
 fn one_line(
     alloc: Global,
-    formals: &[Entry],
+    formals: &[ScopeEntry],
     results: &[Shared<TypedExpr>],
-    line: &Line,
-    env: &mut Scope,
+    line: &Location,
+    env: &mut UsageScope,
 ) -> Result<Bound, AllocError>
     ensures bound { IfOk result (λ bound. bound ≡ told_one_line formals.now results.now env.old line.now) }
     ensures env { OnOk result (env.new ≡ env.old) }
@@ -195,7 +205,7 @@ fn one_line(
 fn exported_use(
     alloc: Global,
     number: usize,
-    line: &Line,
+    line: &Location,
     found: &FormalUse,
 ) -> Result<Use, AllocError>
     ensures { IfOk result (λ made. made ≡ told_use number line.now found.now) }
@@ -215,7 +225,7 @@ fn exported_use(
 fn exported_uses(
     alloc: Global,
     number: usize,
-    line: &Line,
+    line: &Location,
     uses: &[FormalUse],
 ) -> Result<Items<Use>, AllocError>
     ensures { IfOk result (λ made. made ≡ told_uses number line.now uses.now) }
@@ -231,8 +241,8 @@ fn exported_uses(
 fn enter_exports(
     alloc: Global,
     exports: &[Export],
-    line: &Line,
-    env: &mut Scope,
+    line: &Location,
+    env: &mut UsageScope,
 ) -> Result<(), AllocError>
     ensures { OnOk result (env.new ≡ env.old ++ export_bounds (length env.old) line.now exports.now) }
 {
@@ -247,8 +257,8 @@ fn enter_exports(
 fn enter_interfaces(
     alloc: Global,
     interfaces: &[Shared<Interface>],
-    line: &Line,
-    env: &mut Scope,
+    line: &Location,
+    env: &mut UsageScope,
 ) -> Result<(), AllocError>
     ensures { OnOk result (env.new ≡ env.old ++ told_interfaces (length env.old) line.now interfaces.now) }
 {
@@ -263,9 +273,9 @@ fn enter_interfaces(
 pub fn enter_line(
     alloc: Global,
     form: &TypedForm,
-    line: &Line,
-    entries: &[Entry],
-    env: &mut Scope,
+    line: &Location,
+    entries: &[ScopeEntry],
+    env: &mut UsageScope,
 ) -> Result<(), AllocError>
     ensures { OnOk result (env.new ≡ env.old ++ told_specified env.old line.now entries.now form.now) }
 {

@@ -1,10 +1,11 @@
+//! The uses of a line, form by form, without those of the lines under it. `docs/LANGUAGE.md, Uses`.
 ghost use Rattle.std.specs.Prelude.{◌≡◌, ◌++◌, OnOk};
 ghost use Rattle.occ_bounds.specs.Views.{element_view, expr_view};
 ghost use Rattle.occ_line_uses.specs.Forms.{each_uses as told_each, form_uses as told_form, guard_uses as told_guard, input_uses as told_input, output_uses as told_output, outputs_uses as told_outputs, replicator_uses as told_replicator, target_uses as told_target, targets_uses as told_targets, used as told_used, written as told_written};
 
 use occ_base::{Items, Shared};
 use occ_bounds::{Bound, Use, element_uses, expression_uses, instance_uses, use_of};
-use occ_project::Place as Line;
+use occ_project::Location;
 use occ_replicators::TypedReplicator;
 use occ_typed::{TypedElement, TypedExpr};
 use occ_typed_exchanges::{TypedInput, TypedOutput, TypedTarget};
@@ -18,7 +19,7 @@ pub fn used(
     kind: UseKind,
     element: &TypedElement,
     env: &[Bound],
-    line: &Line,
+    line: &Location,
     uses: &mut Items<Use>,
 ) -> Result<(), AllocError>
     ensures { OnOk result (uses.new ≡ uses.old ++ told_used kind element.now env.now line.now) }
@@ -32,7 +33,7 @@ pub fn each_uses(
     alloc: Global,
     exprs: &[Shared<TypedExpr>],
     env: &[Bound],
-    line: &Line,
+    line: &Location,
     uses: &mut Items<Use>,
 ) -> Result<(), AllocError>
     ensures { OnOk result (uses.new ≡ uses.old ++ told_each exprs.now env.now line.now) }
@@ -48,7 +49,7 @@ fn written(
     alloc: Global,
     elements: &[TypedElement],
     env: &[Bound],
-    line: &Line,
+    line: &Location,
     uses: &mut Items<Use>,
 ) -> Result<(), AllocError>
     ensures { OnOk result (uses.new ≡ uses.old ++ told_written elements.now env.now line.now) }
@@ -64,7 +65,7 @@ fn target(
     alloc: Global,
     target: &TypedTarget,
     env: &[Bound],
-    line: &Line,
+    line: &Location,
     uses: &mut Items<Use>,
 ) -> Result<(), AllocError>
     ensures { OnOk result (uses.new ≡ uses.old ++ told_target target.now env.now line.now) }
@@ -83,7 +84,7 @@ fn targets(
     alloc: Global,
     targets: &[TypedTarget],
     env: &[Bound],
-    line: &Line,
+    line: &Location,
     uses: &mut Items<Use>,
 ) -> Result<(), AllocError>
     ensures { OnOk result (uses.new ≡ uses.old ++ told_targets targets.now env.now line.now) }
@@ -99,7 +100,7 @@ fn output(
     alloc: Global,
     output: &TypedOutput,
     env: &[Bound],
-    line: &Line,
+    line: &Location,
     uses: &mut Items<Use>,
 ) -> Result<(), AllocError>
     ensures { OnOk result (uses.new ≡ uses.old ++ told_output output.now env.now line.now) }
@@ -119,7 +120,7 @@ fn outputs(
     alloc: Global,
     outputs: &[TypedOutput],
     env: &[Bound],
-    line: &Line,
+    line: &Location,
     uses: &mut Items<Use>,
 ) -> Result<(), AllocError>
     ensures { OnOk result (uses.new ≡ uses.old ++ told_outputs outputs.now env.now line.now) }
@@ -135,7 +136,7 @@ fn input(
     alloc: Global,
     input: &TypedInput,
     env: &[Bound],
-    line: &Line,
+    line: &Location,
     uses: &mut Items<Use>,
 ) -> Result<(), AllocError>
     ensures { OnOk result (uses.new ≡ uses.old ++ told_input input.now env.now line.now) }
@@ -165,7 +166,7 @@ fn guard(
     alloc: Global,
     guard: &TypedGuard,
     env: &[Bound],
-    line: &Line,
+    line: &Location,
     uses: &mut Items<Use>,
 ) -> Result<(), AllocError>
     ensures { OnOk result (uses.new ≡ uses.old ++ told_guard guard.now env.now line.now) }
@@ -182,7 +183,7 @@ fn replicator(
     alloc: Global,
     replicator: &Option<TypedReplicator>,
     env: &[Bound],
-    line: &Line,
+    line: &Location,
     uses: &mut Items<Use>,
 ) -> Result<(), AllocError>
     ensures { OnOk result (uses.new ≡ uses.old ++ told_replicator replicator.now env.now line.now) }
@@ -201,7 +202,7 @@ pub fn form_uses(
     alloc: Global,
     form: &TypedForm,
     env: &[Bound],
-    line: &Line,
+    line: &Location,
     uses: &mut Items<Use>,
 ) -> Result<(), AllocError>
     ensures { OnOk result (uses.new ≡ uses.old ++ told_form form.now env.now line.now) }

@@ -10,4 +10,4 @@ mod scope;
 pub use effect::{each_effect, form_effect};
 pub use entering::{body_bound, enter_all, enter_index, enter_line, index_value, number_behind};
 pub use form::{each_uses, form_uses, used};
-pub use scope::{Scope, is_write};
+pub use scope::{UsageScope, is_write};

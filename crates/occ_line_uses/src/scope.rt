@@ -1,3 +1,5 @@
+//! The specifications in scope, outermost first, and by root which of them concern uses. Notes may be too many, never too
+//! few.
 ghost use Rattle.std.specs.List.{list_any};
 ghost use Rattle.std.specs.List.Sorted.{IsStrictlySortedBy};
 ghost use Rattle.std.specs.Ordering.{nat_cmp};
@@ -9,14 +11,14 @@ ghost use Rattle.occ_line_uses.specs.inside.Noting.{AreKept, AreKeptBelow, chose
 
 use occ_base::Items;
 use occ_bounds::{Bound, Use};
-use occ_parts::Place;
+use occ_parts::SelectedPart;
 use occ_types::UseKind;
 use std::alloc::{AllocError, Global};
 use std::marker::Model;
 
 /// The specifications in scope, the outermost first: in contracts their list.
 #[derive(Drop)]
-pub struct Scope {
+pub struct UsageScope {
     bounds: Items<Bound>,
     /// For each root the numbers of those that are names for a part of it, and perhaps others.
     named: Vec<Items<usize>>,
@@ -24,7 +26,7 @@ pub struct Scope {
     read: Vec<Items<usize>>,
 }
 
-impl Model for Scope {
+impl Model for UsageScope {
     ghost use Rattle.std.specs.Prelude.{List};
     ghost use Rattle.occ_bounds.specs.declared.bound.Bound.{Bound};
     ghost use Rattle.occ_line_uses.specs.inside.Noting.{IsIndexed};
@@ -36,12 +38,12 @@ impl Model for Scope {
     ghost invariant = { IsIndexed };
 }
 
-impl Scope {
+impl UsageScope {
     /// Nothing is in scope.
-    pub fn new(alloc: Global) -> Scope
+    pub fn new(alloc: Global) -> UsageScope
         ensures { result ≡ [] }
     {
-        Scope {
+        UsageScope {
             bounds: Items::new(alloc),
             named: Vec::new(alloc),
             read: Vec::new(alloc),
@@ -66,7 +68,7 @@ impl Scope {
     pub fn into_bounds(self) -> Items<Bound>
         ensures { result ≡ self }
     {
-        let Scope { bounds, .. } = self;
+        let UsageScope { bounds, .. } = self;
         bounds
     }
 
@@ -161,7 +163,7 @@ fn note(
 fn note_place(
     alloc: Global,
     lists: &mut Vec<Items<usize>>,
-    place: &Option<Place>,
+    place: &Option<SelectedPart>,
     number: usize,
 ) -> Result<(), AllocError>
     ensures kept { AreKept lists.old.items lists.new.items }
@@ -243,7 +245,7 @@ fn strike(lists: &mut Vec<Items<usize>>, root: usize, depth: usize)
 }
 
 /// Strikes numbers that are noted with the root of a place and not below this one.
-fn strike_place(lists: &mut Vec<Items<usize>>, place: &Option<Place>, depth: usize)
+fn strike_place(lists: &mut Vec<Items<usize>>, place: &Option<SelectedPart>, depth: usize)
     ensures { AreKeptBelow depth lists.old.items lists.new.items }
 {
     if let Some(place) = place {
@@ -345,7 +347,7 @@ fn put_in_order(numbers: &mut Vec<usize>)
 }
 
 /// Whether a place is of this root.
-fn is_of(place: &Option<Place>, root: usize) -> bool
+fn is_of(place: &Option<SelectedPart>, root: usize) -> bool
     ensures { result ≡ tells_place root place.now }
 {
     match place {

@@ -1,3 +1,4 @@
+//! Blanks, comments and columns: where the first other byte is. `docs/LANGUAGE.md, Lines and tokens`.
 ghost use Rattle.std.specs.Prelude.{◌≡◌, ◌≤◌, ◌*◌, length};
 ghost use Rattle.occ_lines.specs.Lexeme.{after_blanks as behind_blanks, is_blank as a_blank, is_end as an_end};
 ghost use Rattle.occ_lines.specs.Lines.{column as the_column};

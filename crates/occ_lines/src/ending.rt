@@ -1,3 +1,4 @@
+//! How a line of the text ends after its last token: whole, to be gone on with, broken in a string, or with a fault.
 use occ_base::{Code, Items};
 
 /// How a line of the text ends, behind its last token.

@@ -1,3 +1,4 @@
+//! Logical lines and what they hold: tokens, a directive or one fault; and why a text has none.
 ghost use Rattle.std.specs.Prelude.{◌≡◌};
 ghost use Rattle.occ_lines.specs.declared.text.TextFault.TheVariants.{Memory};
 

@@ -1,3 +1,4 @@
+//! Tokens: names, numbers, characters, strings, reserved words and symbols.
 use occ_base::{Items, Name};
 
 /// A reserved word.

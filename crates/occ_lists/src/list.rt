@@ -1,3 +1,4 @@
+//! One part more of a list that is there only if all of its parts are.
 ghost use Rattle.std.specs.Prelude.{◌≡◌, IfOk};
 ghost use Rattle.occ_lists.specs.Lists.{joined, one_part};
 

@@ -1,3 +1,4 @@
+//! Worked rows: lists with a part that is missing.
 ghost use Rattle.std.specs.Prelude.{◌≡◌, List, None, Some, codes, ℕ};
 ghost use Rattle.occ_lists.specs.Lists.{joined, one_part};
 

@@ -3,7 +3,7 @@ use Rattle.std.proofs.Common.{◌≡◌, ◌+◌, ℕ, zero, suc, List, [], ◌�
 use Rattle.std.proofs.Math.Seq.{take-append_seam}
 use Rattle.std.proofs.lemmas.List.{length-take-le}
 use Rattle.std.specs.Prelude.{take, ◌-◌, ◌≤◌, ◌<◌}
-use Rattle.occ_names.specs.declared.meaning.Entry.{Entry}
+use Rattle.occ_names.specs.declared.meaning.ScopeEntry.{ScopeEntry}
 use Rattle.occ_names.specs.declared.meaning.Meaning.{Meaning}
 use Rattle.occ_names.specs.declared.scope.Scope.{Scope}
 use Rattle.occ_names.specs.Visible.{back_to, but_last, entered, left, left_times, with_all}
@@ -17,7 +17,7 @@ left_entered s name meaning =
     ap (λ (ns : List (List ℕ)). record { names = ns; meanings = but_last (s.meanings ++ meaning ∷ []) }) (but_last_snoc s.names name)
     ∙ ap (λ (ms : List Meaning). record { names = s.names; meanings = ms }) (but_last_snoc s.meanings meaning)
 
-pub left_with_all : (xs : List Entry) (s : Scope) → left_times (length xs) (with_all s xs) ≡ s
+pub left_with_all : (xs : List ScopeEntry) (s : Scope) → left_times (length xs) (with_all s xs) ≡ s
 left_with_all [] s = refl
 left_with_all (x ∷ xs) s = ap left (left_with_all xs (entered s x.name x.meaning)) ∙ left_entered s x.name x.meaning
 
@@ -33,7 +33,7 @@ pub left_more : (m n : ℕ) (s : Scope) → left_times (m + n) s ≡ left_times 
 left_more zero n s = let e : zero + n ≡ n = omega arith in same_count s e
 left_more (suc m) n s = let e : suc m + n ≡ suc (m + n) = omega arith in same_count s e ∙ ap left (left_more m n s)
 
-pub length_with_all : (xs : List Entry) (s : Scope) → length (with_all s xs).meanings ≡ length s.meanings + length xs
+pub length_with_all : (xs : List ScopeEntry) (s : Scope) → length (with_all s xs).meanings ≡ length s.meanings + length xs
 length_with_all [] s = omega arith
 length_with_all (x ∷ xs) s =
     let e : length (s.meanings ++ x.meaning ∷ []) ≡ length s.meanings + 1 = length-append s.meanings (x.meaning ∷ []) in
@@ -70,7 +70,7 @@ back_left count s h =
     same_count (left s) e ∙ left_first (length s.meanings - 1 - count) s ∙ same_count s f
 
 -- what was entered above a scope does not count
-pub back_over : (count : ℕ) (xs : List Entry) (s : Scope) → count ≤ length s.meanings → back_to count (with_all s xs) ≡ back_to count s
+pub back_over : (count : ℕ) (xs : List ScopeEntry) (s : Scope) → count ≤ length s.meanings → back_to count (with_all s xs) ≡ back_to count s
 back_over count xs s h =
     let longer : length (with_all s xs).meanings ≡ length s.meanings + length xs = length_with_all xs s in
     let e : length (with_all s xs).meanings - count ≡ length s.meanings - count + length xs = omega (arith, h, longer) in
@@ -79,7 +79,7 @@ back_over count xs s h =
     ∙ ap (left_times (length s.meanings - count)) (left_with_all xs s)
 
 -- with one entered more
-pub one_more : (count : ℕ) (s t outer : Scope) (x : Entry) → count ≤ length s.meanings → back_to count s ≡ outer → t ≡ entered s x.name x.meaning
+pub one_more : (count : ℕ) (s t outer : Scope) (x : ScopeEntry) → count ≤ length s.meanings → back_to count s ≡ outer → t ≡ entered s x.name x.meaning
     → (count ≤ length t.meanings) × (back_to count t ≡ outer)
 one_more count s t outer x h here is =
     let e : length (s.meanings ++ x.meaning ∷ []) ≡ length s.meanings + 1 = length-append s.meanings (x.meaning ∷ []) in

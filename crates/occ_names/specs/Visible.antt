@@ -2,7 +2,7 @@
 use Rattle.std.specs.Prelude.{ℕ, zero, suc, ◌-◌, List, [], ◌∷◌, ◌++◌, Option, Some, None, length, take}
 use Rattle.std.specs.List.{slice_get}
 use Rattle.occ_scope.specs.Nearest.{nearest}
-use Rattle.occ_names.specs.declared.meaning.Entry.{Entry}
+use Rattle.occ_names.specs.declared.meaning.ScopeEntry.{ScopeEntry}
 use Rattle.occ_names.specs.declared.meaning.Meaning.{Meaning}
 use Rattle.occ_names.specs.declared.meaning.Referent.{Referent}
 use Rattle.occ_names.specs.declared.scope.Scope.{Scope}
@@ -23,7 +23,7 @@ abbrev pub left : Scope → Scope
 left s = record { names = but_last s.names; meanings = but_last s.meanings }
 
 -- one after the other, so that the last is the nearest
-abbrev pub with_all : Scope → List Entry → Scope
+abbrev pub with_all : Scope → List ScopeEntry → Scope
 with_all s [] = s
 with_all s (x ∷ xs) = with_all (entered s x.name x.meaning) xs
 

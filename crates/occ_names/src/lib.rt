@@ -7,5 +7,5 @@ pub mod rows;
 mod scope;
 
 pub use lookup::{Carried, carries, data_type, element};
-pub use meaning::{Access, Entry, Meaning, Referent, Whole, one_entry};
+pub use meaning::{Access, ScopeEntry, Meaning, Referent, Whole, one_entry};
 pub use scope::Scope;

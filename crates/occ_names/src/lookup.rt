@@ -1,3 +1,4 @@
+//! Looks a name up where an element, a data type or a protocol is needed: N1, N2, or nothing if its line has a fault.
 ghost use Rattle.std.specs.Prelude.{◌≡◌, ◌++◌, IfOk, MatchOption, None, OnOk, Some};
 ghost use Rattle.occ_names.specs.Lookup.{carries as told_carries, data_type as told_data_type, element as told_element, faults_of};
 ghost use Rattle.occ_names.specs.Visible.{visible};

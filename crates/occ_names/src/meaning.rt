@@ -1,3 +1,4 @@
+//! What a name can mean: a type, a protocol, a procedure, a function or an element, with its access.
 ghost use Rattle.std.specs.Prelude.{◌≡◌, [], ◌∷◌, IfOk};
 
 use occ_base::{Items, Name, Shared, one_item};
@@ -46,7 +47,7 @@ pub enum Meaning {
 
 /// A name, and what it stands for.
 #[derive(Drop)]
-pub struct Entry {
+pub struct ScopeEntry {
     pub name: Name,
     pub meaning: Shared<Meaning>,
 }
@@ -62,10 +63,10 @@ pub struct Referent {
 }
 
 /// A name that comes into scope alone.
-pub fn one_entry(alloc: Global, name: &Name, meaning: Meaning) -> Result<Items<Entry>, AllocError>
+pub fn one_entry(alloc: Global, name: &Name, meaning: Meaning) -> Result<Items<ScopeEntry>, AllocError>
     ensures { IfOk result (λ entries. entries ≡ (record { name = name.now; meaning = meaning }) ∷ []) }
 {
     let name = name.copied(alloc)?;
     let meaning = Shared::new(alloc, meaning)?;
-    one_item(alloc, Entry { name, meaning })
+    one_item(alloc, ScopeEntry { name, meaning })
 }

@@ -1,3 +1,4 @@
+//! Worked rows: names in scope, hidden, faulty, and of another sort.
 ghost use Rattle.std.specs.Prelude.{[], ◌∷◌, ◌≡◌, None, Some};
 ghost use Rattle.occ_base.specs.declared.code.Code.TheVariants as code;
 ghost use Rattle.occ_names.specs.Lookup.{carries, data_type, element, good};

@@ -1,7 +1,8 @@
+//! The specifications in scope, each with its meaning. Names and meanings are two lists that grow and shrink together.
 ghost use Rattle.std.specs.Prelude.{◌≡◌, IfOk, MatchOption, None, OnErr, OnOk, Some, length};
 ghost use Rattle.occ_names.specs.Visible.{back_to, entered, left, nothing, referent as refers_to, visible, with_all};
 
-use super::meaning::{Entry, Meaning, Referent};
+use super::meaning::{ScopeEntry, Meaning, Referent};
 use occ_base::{Items, Name, Shared};
 use occ_scope::Scopes;
 use std::alloc::{AllocError, Global};
@@ -91,7 +92,7 @@ impl Scope {
     }
 
     /// The same of an entry.
-    fn enter_entry(&mut self, alloc: Global, entry: &Entry) -> Result<(), AllocError>
+    fn enter_entry(&mut self, alloc: Global, entry: &ScopeEntry) -> Result<(), AllocError>
         ensures ok { OnOk result (self.new ≡ entered self.old entry.now.name entry.now.meaning) }
         ensures err { OnErr result (self.new ≡ self.old) }
     {
@@ -101,7 +102,7 @@ impl Scope {
 
     /// Specifications come into scope, one after the other. Where memory is refused nothing changes.
     #[tactic(auto, using(crate::proofs::Leaving::leaving_rules))]
-    pub fn enter_all(&mut self, alloc: Global, entries: &[Entry]) -> Result<(), AllocError>
+    pub fn enter_all(&mut self, alloc: Global, entries: &[ScopeEntry]) -> Result<(), AllocError>
         ensures ok { OnOk result (self.new ≡ with_all self.old entries.now) }
         ensures err { OnErr result (self.new ≡ self.old) }
     {

@@ -5,48 +5,48 @@ use Rattle.occ_types.specs.declared.constant.ConstFault.{ConstFault}
 use Rattle.occ_types.specs.declared.constant.Operator.{Operator}
 use Rattle.occ_types.specs.declared.value.Value.{Value}
 use Rattle.occ_operands.specs.declared.kind.Kind.{Kind}
-use Rattle.occ_operands.specs.declared.kind.Outcome.{Outcome}
-use Rattle.occ_operands.specs.declared.kind.Outcome.TheVariants as o
+use Rattle.occ_operands.specs.declared.kind.TypedValue.{TypedValue}
+use Rattle.occ_operands.specs.declared.kind.TypedValue.TheVariants as o
 use Rattle.occ_operands.specs.declared.kind.Wrong.{Wrong}
 use Rattle.occ_operands.specs.declared.kind.Wrong.TheVariants as w
 use Rattle.occ_operands.specs.Outcomes.{both_wrong, if_constant, outcome_of, run, with_all, worst}
 
-unfit_is_worst : (bs : List Outcome) → worst o.Unfit bs ≡ o.Unfit
+unfit_is_worst : (bs : List TypedValue) → worst o.Unfit bs ≡ o.Unfit
 unfit_is_worst [] = refl
 unfit_is_worst (b ∷ bs) = unfit_is_worst bs
 
 -- which constant was read last does not matter
-pub any_constant : (a b : Value) (bs : List Outcome) (x : Outcome) → if_constant (worst (o.Constant a) bs) x ≡ if_constant (worst (o.Constant b) bs) x
+pub any_constant : (a b : Value) (bs : List TypedValue) (x : TypedValue) → if_constant (worst (o.Constant a) bs) x ≡ if_constant (worst (o.Constant b) bs) x
 any_constant a b [] x = refl
 any_constant a b (c ∷ bs) x = refl
 
-no_value_stays : (op : Operator) (x : Wrong) (bs : List Outcome) → with_all op (o.Faulty x) bs ≡ o.Faulty x
+no_value_stays : (op : Operator) (x : Wrong) (bs : List TypedValue) → with_all op (o.Faulty x) bs ≡ o.Faulty x
 no_value_stays op x [] = refl
 no_value_stays op x (b ∷ bs) = no_value_stays op x bs
 
-pub unfit_stays : (bs : List Outcome) (x : Outcome) → if_constant (worst o.Unfit bs) x ≡ o.Unfit
-unfit_stays bs x = ap (λ (z : Outcome). if_constant z x) (unfit_is_worst bs)
+pub unfit_stays : (bs : List TypedValue) (x : TypedValue) → if_constant (worst o.Unfit bs) x ≡ o.Unfit
+unfit_stays bs x = ap (λ (z : TypedValue). if_constant z x) (unfit_is_worst bs)
 
-pub faulty_stays : (y : Wrong) (bs : List Outcome) (x : Outcome) → if_constant (worst (o.Faulty y) bs) x ≡ worst (o.Faulty y) bs
+pub faulty_stays : (y : Wrong) (bs : List TypedValue) (x : TypedValue) → if_constant (worst (o.Faulty y) bs) x ≡ worst (o.Faulty y) bs
 faulty_stays y [] x = refl
 faulty_stays y (o.Unfit ∷ bs) x = unfit_stays bs x ∙ sym (unfit_is_worst bs)
 faulty_stays y (o.Faulty z ∷ bs) x = faulty_stays (both_wrong y z) bs x
 faulty_stays y (o.Varying ∷ bs) x = faulty_stays y bs x
 faulty_stays y (o.Constant v ∷ bs) x = faulty_stays y bs x
 
-pub varying_stays : (bs : List Outcome) (x : Outcome) → if_constant (worst o.Varying bs) x ≡ worst o.Varying bs
+pub varying_stays : (bs : List TypedValue) (x : TypedValue) → if_constant (worst o.Varying bs) x ≡ worst o.Varying bs
 varying_stays [] x = refl
 varying_stays (o.Unfit ∷ bs) x = unfit_stays bs x ∙ sym (unfit_is_worst bs)
 varying_stays (o.Faulty z ∷ bs) x = faulty_stays z bs x
 varying_stays (o.Varying ∷ bs) x = varying_stays bs x
 varying_stays (o.Constant v ∷ bs) x = varying_stays bs x
 
-with_first : (f : Kind → Outcome) (b : Outcome) (next : Kind) (rest others : List Kind) → others ≡ next ∷ rest → b ≡ f next → map f others ≡ b ∷ map f rest
-with_first f b next rest others split is = ap (λ (z : List Kind). map f z) split ∙ ap (λ (z : Outcome). z ∷ map f rest) (sym is)
+with_first : (f : Kind → TypedValue) (b : TypedValue) (next : Kind) (rest others : List Kind) → others ≡ next ∷ rest → b ≡ f next → map f others ≡ b ∷ map f rest
+with_first f b next rest others split is = ap (λ (z : List Kind). map f z) split ∙ ap (λ (z : TypedValue). z ∷ map f rest) (sym is)
 
 -- ---- behind constants: another with which they have a value, another with which they have none, and what is none
 
-pub value_goes_on : (f : Kind → Outcome) (op : Operator) (a b v : Value) (next : Kind) (rest others : List Kind) (whole : Outcome)
+pub value_goes_on : (f : Kind → TypedValue) (op : Operator) (a b v : Value) (next : Kind) (rest others : List Kind) (whole : TypedValue)
     → others ≡ next ∷ rest
     → o.Constant b ≡ f next
     → folded op a b ≡ Ok v
@@ -55,10 +55,10 @@ pub value_goes_on : (f : Kind → Outcome) (op : Operator) (a b v : Value) (next
 value_goes_on f op a b v next rest others whole split is has all =
     any_constant v b (map f rest) (with_all op (o.Constant v) (map f rest))
     ∙ ap (λ z. if_constant (worst (o.Constant b) (map f rest)) (with_all op (outcome_of z) (map f rest))) (sym has)
-    ∙ ap (λ (z : List Outcome). run op (o.Constant a) z) (sym (with_first f (o.Constant b) next rest others split is))
+    ∙ ap (λ (z : List TypedValue). run op (o.Constant a) z) (sym (with_first f (o.Constant b) next rest others split is))
     ∙ all
 
-pub value_is_lost : (f : Kind → Outcome) (op : Operator) (a b : Value) (fault : ConstFault) (next : Kind) (rest others : List Kind) (whole r : Outcome)
+pub value_is_lost : (f : Kind → TypedValue) (op : Operator) (a b : Value) (fault : ConstFault) (next : Kind) (rest others : List Kind) (whole r : TypedValue)
     → others ≡ next ∷ rest
     → o.Constant b ≡ f next
     → folded op a b ≡ Err fault
@@ -67,38 +67,38 @@ pub value_is_lost : (f : Kind → Outcome) (op : Operator) (a b : Value) (fault 
     → r ≡ whole
 value_is_lost f op a b fault next rest others whole r split is has all told =
     told
-    ∙ ap (λ (z : Outcome). if_constant (worst (o.Constant b) (map f rest)) z) (sym (no_value_stays op w.Value (map f rest)))
+    ∙ ap (λ (z : TypedValue). if_constant (worst (o.Constant b) (map f rest)) z) (sym (no_value_stays op w.Value (map f rest)))
     ∙ ap (λ z. if_constant (worst (o.Constant b) (map f rest)) (with_all op (outcome_of z) (map f rest))) (sym has)
-    ∙ ap (λ (z : List Outcome). run op (o.Constant a) z) (sym (with_first f (o.Constant b) next rest others split is))
+    ∙ ap (λ (z : List TypedValue). run op (o.Constant a) z) (sym (with_first f (o.Constant b) next rest others split is))
     ∙ all
 
-pub none_goes_on : (f : Kind → Outcome) (a b : Value) (x : Outcome) (next : Kind) (rest others : List Kind) (whole : Outcome)
+pub none_goes_on : (f : Kind → TypedValue) (a b : Value) (x : TypedValue) (next : Kind) (rest others : List Kind) (whole : TypedValue)
     → others ≡ next ∷ rest
     → o.Constant b ≡ f next
     → if_constant (worst (o.Constant a) (map f others)) x ≡ whole
     → if_constant (worst (o.Constant a) (map f rest)) x ≡ whole
 none_goes_on f a b x next rest others whole split is all =
     any_constant a b (map f rest) x
-    ∙ ap (λ (z : List Outcome). if_constant (worst (o.Constant a) z) x) (sym (with_first f (o.Constant b) next rest others split is))
+    ∙ ap (λ (z : List TypedValue). if_constant (worst (o.Constant a) z) x) (sym (with_first f (o.Constant b) next rest others split is))
     ∙ all
 
-pub none_ends : (f : Kind → Outcome) (a : Value) (x : Outcome) (others : List Kind) (whole : Outcome)
+pub none_ends : (f : Kind → TypedValue) (a : Value) (x : TypedValue) (others : List Kind) (whole : TypedValue)
     → others ≡ []
     → if_constant (worst (o.Constant a) (map f others)) x ≡ whole
     → x ≡ whole
 none_ends f a x others whole none all = ap (λ (z : List Kind). if_constant (worst (o.Constant a) (map f z)) x) (sym none) ∙ all
 
-pub meets_unfit : (f : Kind → Outcome) (a : Value) (x : Outcome) (next : Kind) (rest others : List Kind) (whole : Outcome)
+pub meets_unfit : (f : Kind → TypedValue) (a : Value) (x : TypedValue) (next : Kind) (rest others : List Kind) (whole : TypedValue)
     → others ≡ next ∷ rest
     → o.Unfit ≡ f next
     → if_constant (worst (o.Constant a) (map f others)) x ≡ whole
     → o.Unfit ≡ whole
 meets_unfit f a x next rest others whole split is all =
     sym (unfit_stays (map f rest) x)
-    ∙ ap (λ (z : List Outcome). if_constant (worst (o.Constant a) z) x) (sym (with_first f o.Unfit next rest others split is))
+    ∙ ap (λ (z : List TypedValue). if_constant (worst (o.Constant a) z) x) (sym (with_first f o.Unfit next rest others split is))
     ∙ all
 
-pub meets_faulty : (f : Kind → Outcome) (a : Value) (y : Wrong) (x : Outcome) (next : Kind) (rest others : List Kind) (whole r : Outcome)
+pub meets_faulty : (f : Kind → TypedValue) (a : Value) (y : Wrong) (x : TypedValue) (next : Kind) (rest others : List Kind) (whole r : TypedValue)
     → others ≡ next ∷ rest
     → o.Faulty y ≡ f next
     → if_constant (worst (o.Constant a) (map f others)) x ≡ whole
@@ -107,10 +107,10 @@ pub meets_faulty : (f : Kind → Outcome) (a : Value) (y : Wrong) (x : Outcome) 
 meets_faulty f a y x next rest others whole r split is all told =
     told
     ∙ sym (faulty_stays y (map f rest) x)
-    ∙ ap (λ (z : List Outcome). if_constant (worst (o.Constant a) z) x) (sym (with_first f (o.Faulty y) next rest others split is))
+    ∙ ap (λ (z : List TypedValue). if_constant (worst (o.Constant a) z) x) (sym (with_first f (o.Faulty y) next rest others split is))
     ∙ all
 
-pub meets_varying : (f : Kind → Outcome) (a : Value) (x : Outcome) (next : Kind) (rest others : List Kind) (whole r : Outcome)
+pub meets_varying : (f : Kind → TypedValue) (a : Value) (x : TypedValue) (next : Kind) (rest others : List Kind) (whole r : TypedValue)
     → others ≡ next ∷ rest
     → o.Varying ≡ f next
     → if_constant (worst (o.Constant a) (map f others)) x ≡ whole
@@ -119,5 +119,5 @@ pub meets_varying : (f : Kind → Outcome) (a : Value) (x : Outcome) (next : Kin
 meets_varying f a x next rest others whole r split is all told =
     told
     ∙ sym (varying_stays (map f rest) x)
-    ∙ ap (λ (z : List Outcome). if_constant (worst (o.Constant a) z) x) (sym (with_first f o.Varying next rest others split is))
+    ∙ ap (λ (z : List TypedValue). if_constant (worst (o.Constant a) z) x) (sym (with_first f o.Varying next rest others split is))
     ∙ all

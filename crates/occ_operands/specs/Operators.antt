@@ -17,8 +17,8 @@ use Rattle.occ_base.specs.declared.fault.Fault.{Fault}
 use Rattle.occ_operands.specs.declared.kind.Free.{Free}
 use Rattle.occ_operands.specs.declared.kind.Kind.{Kind}
 use Rattle.occ_operands.specs.declared.kind.Kind.TheVariants as k
-use Rattle.occ_operands.specs.declared.kind.Outcome.{Outcome}
-use Rattle.occ_operands.specs.declared.kind.Outcome.TheVariants as o
+use Rattle.occ_operands.specs.declared.kind.TypedValue.{TypedValue}
+use Rattle.occ_operands.specs.declared.kind.TypedValue.TheVariants as o
 use Rattle.occ_operands.specs.declared.operate.Class.{Class}
 use Rattle.occ_operands.specs.declared.operate.Class.TheVariants as c
 use Rattle.occ_operands.specs.Outcomes.{applied, in_each, in_type, misshifted, run, shifted}
@@ -98,17 +98,17 @@ first_bound (k.Free f ∷ ks) = first_bound ks
 first_bound (k.Faulty ∷ ks) = Some k.Faulty
 first_bound (k.Known x ∷ ks) = Some (k.Known x)
 
-abbrev pub value_outcome : Option Value → Outcome
+abbrev pub value_outcome : Option Value → TypedValue
 value_outcome None = o.Varying
 value_outcome (Some v) = o.Constant v
 
 -- what an operand comes to: in a type, if it is free
-abbrev pub outcome_in : Primitive → Kind → Outcome
+abbrev pub outcome_in : Primitive → Kind → TypedValue
 outcome_in of k.Faulty = o.Varying
 outcome_in of (k.Free f) = in_type f of
 outcome_in of (k.Known x) = value_outcome x.value
 
-abbrev pub run_in : Operator → Primitive → List Kind → Outcome
+abbrev pub run_in : Operator → Primitive → List Kind → TypedValue
 run_in op of [] = o.Varying
 run_in op of (k ∷ ks) = run op (outcome_in of k) (map (outcome_in of) ks)
 
@@ -225,7 +225,7 @@ abbrev pub not_number : Bool → Told
 not_number needs_faulty = if needs_faulty then silent else fault_of code.T1
 
 -- NOT takes no number: a free operand is an INT, which may have a fault of its own
-abbrev pub not_free : Bool → Outcome → Told
+abbrev pub not_free : Bool → TypedValue → Told
 not_free needs_faulty o.Unfit = fault_of code.T6
 not_free needs_faulty (o.Faulty x) = record { faults = wrong_faults x; kind = k.Faulty }
 not_free needs_faulty o.Varying = not_number needs_faulty

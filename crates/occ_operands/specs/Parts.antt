@@ -36,16 +36,16 @@ component count of index =
     let y = component_at count of x.kind in
     record { faults = x.faults ++ y.faults; kind = y.kind }
 
--- there is no component at a settled place; a faulty place was told
-abbrev pub no_component : Kind → Told
-no_component k.Faulty = silent
-no_component (k.Free f) = silent
-no_component (k.Known x) = fault_of code.T2
+-- a settled operand stands where none of its type may; a faulty one was told
+abbrev pub mismatched : Kind → Told
+mismatched k.Faulty = silent
+mismatched (k.Free f) = silent
+mismatched (k.Known x) = fault_of code.T2
 
 abbrev pub not_subscripted : Kind → Told
 not_subscripted index =
     let x = settled int index in
-    let y = no_component x.kind in
+    let y = mismatched x.kind in
     record { faults = x.faults ++ y.faults; kind = y.kind }
 
 abbrev pub subscripted_array : Option (Option ℕ × OccType) → Kind → Told

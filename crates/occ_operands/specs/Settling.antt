@@ -14,8 +14,8 @@ use Rattle.occ_base.specs.declared.fault.Fault.{Fault}
 use Rattle.occ_operands.specs.declared.kind.Free.{Free}
 use Rattle.occ_operands.specs.declared.kind.Kind.{Kind}
 use Rattle.occ_operands.specs.declared.kind.Kind.TheVariants as k
-use Rattle.occ_operands.specs.declared.kind.Outcome.{Outcome}
-use Rattle.occ_operands.specs.declared.kind.Outcome.TheVariants as o
+use Rattle.occ_operands.specs.declared.kind.TypedValue.{TypedValue}
+use Rattle.occ_operands.specs.declared.kind.TypedValue.TheVariants as o
 use Rattle.occ_operands.specs.declared.kind.Wrong.{Wrong}
 use Rattle.occ_operands.specs.declared.kind.Wrong.TheVariants as w
 use Rattle.occ_operands.specs.Outcomes.{in_type}
@@ -46,7 +46,7 @@ wrong_faults w.Both = nameless code.T1 ∷ nameless code.T6 ∷ []
 
 -- of this type, it comes to that; a constant without a value, a literal that does not fit, and a shift by what is no INT
 -- have a fault
-abbrev pub landed : OccType → Outcome → Told
+abbrev pub landed : OccType → TypedValue → Told
 landed of o.Unfit = fault_of code.T6
 landed of (o.Faulty x) = record { faults = wrong_faults x; kind = k.Faulty }
 landed of o.Varying = record { faults = []; kind = known of None }
@@ -67,7 +67,7 @@ abbrev pub base_of : OccType → Option Primitive
 base_of of = as_primitive (unnamed of)
 
 -- the wanted type, where its literals fit it; else INT
-abbrev pub landed_or_int : OccType → Free → Outcome → Told
+abbrev pub landed_or_int : OccType → Free → TypedValue → Told
 landed_or_int of f o.Unfit = landed int f.int
 landed_or_int of f (o.Faulty x) = landed of (o.Faulty x)
 landed_or_int of f o.Varying = landed of o.Varying

@@ -9,8 +9,8 @@ use Rattle.occ_types.specs.declared.value.Primitive.{Primitive}
 use Rattle.occ_types.specs.declared.value.Value.{Value}
 use Rattle.occ_operands.specs.declared.kind.Kind.{Kind}
 use Rattle.occ_operands.specs.declared.kind.Kind.TheVariants as k
-use Rattle.occ_operands.specs.declared.kind.Outcome.{Outcome}
-use Rattle.occ_operands.specs.declared.kind.Outcome.TheVariants as o
+use Rattle.occ_operands.specs.declared.kind.TypedValue.{TypedValue}
+use Rattle.occ_operands.specs.declared.kind.TypedValue.TheVariants as o
 use Rattle.occ_operands.specs.Outcomes.{outcome_of}
 use Rattle.occ_operands.specs.Settling.{Told, base_of, fault_of, int, landed, settled, silent}
 
@@ -40,7 +40,7 @@ abbrev pub converts : OccType → OccType → Bool
 converts to from = are_there (as_primitive to) (as_primitive from) || alike to from
 
 -- the value of a constant in the type that is this one under its names
-abbrev pub cast : Option Primitive → Option Value → Outcome
+abbrev pub cast : Option Primitive → Option Value → TypedValue
 cast None value = o.Varying
 cast (Some base) None = o.Varying
 cast (Some base) (Some v) = outcome_of (converted base v)

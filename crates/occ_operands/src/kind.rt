@@ -1,3 +1,5 @@
+//! What is known of an operand before a type is wanted of it: faulty, of a type, or free. A free one has what it comes to
+//! in each type.
 use super::loose::Loose;
 use occ_base::Shared;
 use occ_types::{OccType, Value};
@@ -22,7 +24,7 @@ pub enum Wrong {
 
 /// What a free expression comes to in one type.
 #[derive(Clone, Copy)]
-pub enum Outcome {
+pub enum TypedValue {
     /// One of its literals does not fit.
     Unfit,
     Faulty(Wrong),
@@ -37,11 +39,11 @@ pub enum Outcome {
 pub struct Free {
     /// Whether the count of a shift in it is faulty, and so all of it in any type, whatever else is told of it there.
     pub is_faulty: bool,
-    pub byte: Outcome,
-    pub int16: Outcome,
-    pub int: Outcome,
-    pub int32: Outcome,
-    pub int64: Outcome,
+    pub byte: TypedValue,
+    pub int16: TypedValue,
+    pub int: TypedValue,
+    pub int32: TypedValue,
+    pub int64: TypedValue,
 }
 
 /// What is known of an operand before a type is wanted of it.

@@ -11,9 +11,11 @@ mod settle;
 mod sum;
 mod want;
 
-pub use kind::{Free, Kind, Known, Outcome, Wrong};
+pub use kind::{Free, Kind, Known, TypedValue, Wrong};
 pub use loose::Loose;
-pub use operate::{applied, is_faulty, needs_faulty, operand_type, operated, shifted, type_in};
-pub use part::{field, subscripted};
+pub use operate::{
+    applied, is_faulty, is_of, needs_faulty, operand_type, operated, shifted, type_in,
+};
+pub use part::{field, mismatched, subscripted};
 pub use settle::{free, int, known, landed, number, settled};
 pub use want::{converted, fitted, wanted};

@@ -1,7 +1,8 @@
+//! Untyped constants. A decimal literal is stored as its number, and what it comes to in a type is found when asked for.
 ghost use Rattle.std.specs.Prelude.{◌≡◌, IfOk, MatchOption, pos};
 ghost use Rattle.occ_operands.specs.Outcomes.{decimal as decimal_free, in_type as outcome_in};
 
-use super::kind::{Free, Outcome};
+use super::kind::{Free, TypedValue};
 use super::outcome::fitting;
 use occ_base::Shared;
 use occ_types::{Primitive, value_of_number};
@@ -63,7 +64,7 @@ impl Loose {
     }
 
     /// What it comes to in a type.
-    pub fn in_type(&self, of: Primitive) -> Outcome
+    pub fn in_type(&self, of: Primitive) -> TypedValue
         ensures { result ≡ outcome_in self.now of }
     {
         match &self.stored {
@@ -104,11 +105,11 @@ impl Loose {
 }
 
 /// What a literal in decimal digits comes to in a type.
-pub(super) fn decimal_in(n: u64, of: Primitive) -> Outcome
+pub(super) fn decimal_in(n: u64, of: Primitive) -> TypedValue
     ensures { result ≡ outcome_in (decimal_free (pos n)) of }
 {
     match of {
-        Primitive::Bool => Outcome::Unfit,
+        Primitive::Bool => TypedValue::Unfit,
         _ => fitting(value_of_number(of, i128::from(n))),
     }
 }

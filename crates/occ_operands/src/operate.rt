@@ -1,14 +1,16 @@
+//! Operators over operands: faults, the type of the result, and its value if it is constant. `docs/LANGUAGE.md, Operands
+//! and operators`.
 ghost use Rattle.std.specs.Prelude.{◌≡◌, ◌++◌, IfOk, MatchOption, None, OnOk, Some, map};
 ghost use Rattle.std.specs.List.{list_all, list_any};
 ghost use Rattle.occ_operands.specs.Operators.{allows as allowing, class_of as the_class, decided as deciding, first_bound as first_one_bound, front_operated as in_front, given as giving, is_arithmetic as arithmetic, is_faulty as faulty, is_int as int_itself, is_of as of_type, faulty_count as shift_by_faulty, known_count as shift_by_known, needs_faulty as needing_faulty, not_free as no_free, not_number as no_number, operated as operating, operand_type as type_of_operands, operated_from as operating_from, outcome_in as kind_outcome, run_in as running, shift_operated as shifting, shifted_by as shifting_by, takes as taking, type_in as type_known, value_outcome as outcome_of_value, verdict as judged};
 ghost use Rattle.occ_operands.specs.Outcomes.{applied as applied_outcome, if_constant, in_each, in_type, misshifted, run, shifted as shifted_outcome, worst};
-ghost use Rattle.occ_operands.specs.declared.kind.Outcome.TheVariants as o;
+ghost use Rattle.occ_operands.specs.declared.kind.TypedValue.TheVariants as o;
 ghost use Rattle.occ_operands.specs.declared.kind.Wrong.TheVariants as w;
 ghost use Rattle.occ_types.specs.declared.value.Value.{Value as AValue};
 ghost use Rattle.occ_operands.specs.declared.kind.Kind.TheVariants as k;
 ghost use Rattle.occ_types.specs.View.{as_primitive as primitive_of};
 
-use super::kind::{Free, Kind, Known, Outcome, Wrong};
+use super::kind::{Free, Kind, Known, TypedValue, Wrong};
 use super::outcome::{apply, misshift, shift, worse};
 use super::settle::{free, int, landed, number, settled, tell_wrong};
 use super::sum::literal_sum;
@@ -59,10 +61,7 @@ fn class_of(op: Operator) -> Class
 fn is_arithmetic(class: Class) -> bool
     ensures { result ≡ arithmetic class }
 {
-    match class {
-        Class::Arithmetic => true,
-        Class::Equality | Class::Order | Class::Cyclic | Class::Logic => false,
-    }
+    matches!(class, Class::Arithmetic)
 }
 
 /// Whether operands may be of a type that is this one under its names.
@@ -102,28 +101,28 @@ fn first_bound(kinds: &[Kind]) -> Option<&Kind>
     None
 }
 
-fn value_outcome(value: Option<Value>) -> Outcome
+fn value_outcome(value: Option<Value>) -> TypedValue
     ensures { result ≡ outcome_of_value value }
 {
     match value {
-        Some(value) => Outcome::Constant(value),
-        None => Outcome::Varying,
+        Some(value) => TypedValue::Constant(value),
+        None => TypedValue::Varying,
     }
 }
 
 /// What an operand comes to: in this type, if it is free.
-fn outcome_in(of: Primitive, kind: &Kind) -> Outcome
+fn outcome_in(of: Primitive, kind: &Kind) -> TypedValue
     ensures { result ≡ kind_outcome of kind.now }
 {
     match kind {
-        Kind::Faulty => Outcome::Varying,
+        Kind::Faulty => TypedValue::Varying,
         Kind::Free(free) => free.in_type(of),
         Kind::Known(known) => value_outcome(known.value),
     }
 }
 
 /// The worst of operands that are not all constant: of this and of the others.
-fn worst_of(of: Primitive, first: Outcome, others: &[Kind]) -> Outcome
+fn worst_of(of: Primitive, first: TypedValue, others: &[Kind]) -> TypedValue
     ensures { result ≡ worst first (map (kind_outcome of) others.now) }
 {
     let mut found = first;
@@ -134,57 +133,57 @@ fn worst_of(of: Primitive, first: Outcome, others: &[Kind]) -> Outcome
 }
 
 /// What constants that have no value come to with these operands behind them.
-fn without_value(of: Primitive, others: &[Kind]) -> Outcome
+fn without_value(of: Primitive, others: &[Kind]) -> TypedValue
     ensures { (value : AValue) → result ≡ if_constant (worst (o.Constant value) (map (kind_outcome of) others.now)) (o.Faulty w.Value) }
 {
     let mut others = others;
     while let Some((next, rest)) = others.split_first() {
         match outcome_in(of, next) {
-            Outcome::Constant(_) => others = rest,
-            Outcome::Unfit => return Outcome::Unfit,
-            Outcome::Faulty(wrong) => return worst_of(of, Outcome::Faulty(wrong), rest),
-            Outcome::Varying => return worst_of(of, Outcome::Varying, rest),
+            TypedValue::Constant(_) => others = rest,
+            TypedValue::Unfit => return TypedValue::Unfit,
+            TypedValue::Faulty(wrong) => return worst_of(of, TypedValue::Faulty(wrong), rest),
+            TypedValue::Varying => return worst_of(of, TypedValue::Varying, rest),
         }
     }
-    Outcome::Faulty(Wrong::Value)
+    TypedValue::Faulty(Wrong::Value)
 }
 
 /// What constants of this value come to with these operands behind them, and one operator between each two.
-fn with_value(op: Operator, of: Primitive, first: Value, others: &[Kind]) -> Outcome
+fn with_value(op: Operator, of: Primitive, first: Value, others: &[Kind]) -> TypedValue
     ensures { result ≡ run op (o.Constant first) (map (kind_outcome of) others.now) }
 {
     let mut value = first;
     let mut others = others;
     while let Some((next, rest)) = others.split_first() {
         match outcome_in(of, next) {
-            Outcome::Constant(constant) => match fold(op, value, constant) {
+            TypedValue::Constant(constant) => match fold(op, value, constant) {
                 Ok(folded) => {
                     value = folded;
                     others = rest;
                 }
                 Err(_) => return without_value(of, rest),
             },
-            Outcome::Unfit => return Outcome::Unfit,
-            Outcome::Faulty(wrong) => return worst_of(of, Outcome::Faulty(wrong), rest),
-            Outcome::Varying => return worst_of(of, Outcome::Varying, rest),
+            TypedValue::Unfit => return TypedValue::Unfit,
+            TypedValue::Faulty(wrong) => return worst_of(of, TypedValue::Faulty(wrong), rest),
+            TypedValue::Varying => return worst_of(of, TypedValue::Varying, rest),
         }
     }
-    Outcome::Constant(value)
+    TypedValue::Constant(value)
 }
 
 /// What operands with one operator between each two come to.
 #[tactic(auto, using(crate::proofs::Runs::unfit_stays, crate::proofs::Runs::faulty_stays, crate::proofs::Runs::varying_stays))]
-fn run_in(op: Operator, of: Primitive, kinds: &[Kind]) -> Outcome
+fn run_in(op: Operator, of: Primitive, kinds: &[Kind]) -> TypedValue
     ensures { result ≡ running op of kinds.now }
 {
     let Some((first, others)) = kinds.split_first() else {
-        return Outcome::Varying;
+        return TypedValue::Varying;
     };
     match outcome_in(of, first) {
-        Outcome::Constant(value) => with_value(op, of, value, others),
-        Outcome::Unfit => Outcome::Unfit,
-        Outcome::Faulty(wrong) => worst_of(of, Outcome::Faulty(wrong), others),
-        Outcome::Varying => worst_of(of, Outcome::Varying, others),
+        TypedValue::Constant(value) => with_value(op, of, value, others),
+        TypedValue::Unfit => TypedValue::Unfit,
+        TypedValue::Faulty(wrong) => worst_of(of, TypedValue::Faulty(wrong), others),
+        TypedValue::Varying => worst_of(of, TypedValue::Varying, others),
     }
 }
 
@@ -239,7 +238,8 @@ pub fn is_faulty(kind: &Kind) -> bool
     matches!(kind, Kind::Faulty)
 }
 
-fn is_of(of: &OccType, kind: &Kind) -> bool
+/// Whether an operand is of this type.
+pub fn is_of(of: &OccType, kind: &Kind) -> bool
     ensures { result ≡ of_type of.now kind.now }
 {
     match kind {
@@ -511,16 +511,16 @@ fn not_number(needs_faulty: bool, faults: &mut Items<Fault>) -> Result<(), Alloc
 /// NOT takes no number: a free operand is an INT, which may have a fault of its own.
 fn not_free(
     needs_faulty: bool,
-    outcome: Outcome,
+    outcome: TypedValue,
     faults: &mut Items<Fault>,
 ) -> Result<Kind, AllocError>
     ensures kind { IfOk result (λ kind. kind ≡ (no_free needs_faulty outcome).kind) }
     ensures faults { OnOk result (faults.new ≡ faults.old ++ (no_free needs_faulty outcome).faults) }
 {
     match outcome {
-        Outcome::Unfit => tell(faults, Code::T6)?,
-        Outcome::Faulty(wrong) => tell_wrong(wrong, faults)?,
-        Outcome::Varying | Outcome::Constant(_) => not_number(needs_faulty, faults)?,
+        TypedValue::Unfit => tell(faults, Code::T6)?,
+        TypedValue::Faulty(wrong) => tell_wrong(wrong, faults)?,
+        TypedValue::Varying | TypedValue::Constant(_) => not_number(needs_faulty, faults)?,
     }
     Ok(Kind::Faulty)
 }

@@ -1,8 +1,9 @@
+//! What an untyped constant comes to in each of the five types: literals, monadic operators, shifts.
 ghost use Rattle.std.specs.Prelude.{◌≡◌};
 ghost use Rattle.occ_operands.specs.Outcomes.{applied as applied_to, both_wrong as wrong_with_both, decimal as decimal_free, fitting as fitting_value, hexadecimal as hexadecimal_free, in_type as outcome_in, misshifted as wrongly_shifted, outcome_of as outcome_of_result, shifted as shifted_by, worse as worse_of};
 ghost use Rattle.occ_types.specs.Constant.{number_value, pattern_value};
 
-use super::kind::{Free, Outcome, Wrong};
+use super::kind::{Free, TypedValue, Wrong};
 use occ_types::{
     ConstFault, Monadic, Operator, Primitive, Value, fold, fold_one, value_of_number,
     value_of_pattern,
@@ -38,11 +39,11 @@ impl Free {
     }
 
     /// What it comes to in a type. It never takes BOOL.
-    pub fn in_type(&self, of: Primitive) -> Outcome
+    pub fn in_type(&self, of: Primitive) -> TypedValue
         ensures { result ≡ outcome_in self.now of }
     {
         match of {
-            Primitive::Bool => Outcome::Unfit,
+            Primitive::Bool => TypedValue::Unfit,
             Primitive::Byte => self.byte,
             Primitive::Int16 => self.int16,
             Primitive::Int => self.int,
@@ -52,22 +53,22 @@ impl Free {
     }
 }
 
-pub(super) fn fitting(value: Option<Value>) -> Outcome
+pub(super) fn fitting(value: Option<Value>) -> TypedValue
     ensures { result ≡ fitting_value value }
 {
     match value {
-        Some(value) => Outcome::Constant(value),
-        None => Outcome::Unfit,
+        Some(value) => TypedValue::Constant(value),
+        None => TypedValue::Unfit,
     }
 }
 
 /// What a constant comes to.
-pub fn outcome_of(folded: Result<Value, ConstFault>) -> Outcome
+pub fn outcome_of(folded: Result<Value, ConstFault>) -> TypedValue
     ensures { result ≡ outcome_of_result folded }
 {
     match folded {
-        Ok(value) => Outcome::Constant(value),
-        Err(_) => Outcome::Faulty(Wrong::Value),
+        Ok(value) => TypedValue::Constant(value),
+        Err(_) => TypedValue::Faulty(Wrong::Value),
     }
 }
 
@@ -83,48 +84,48 @@ fn both_wrong(a: Wrong, b: Wrong) -> Wrong
 }
 
 /// Of operands that are not all constant: a literal that does not fit comes first, then what is wrong with them.
-pub(super) fn worse(a: Outcome, b: Outcome) -> Outcome
+pub(super) fn worse(a: TypedValue, b: TypedValue) -> TypedValue
     ensures { result ≡ worse_of a b }
 {
     match (a, b) {
-        (Outcome::Constant(_), _) => b,
-        (Outcome::Unfit, _) | (_, Outcome::Unfit) => Outcome::Unfit,
-        (Outcome::Faulty(a), Outcome::Faulty(b)) => Outcome::Faulty(both_wrong(a, b)),
-        (Outcome::Faulty(_), _) => a,
-        (_, Outcome::Faulty(_)) => b,
-        (Outcome::Varying, _) => Outcome::Varying,
+        (TypedValue::Constant(_), _) => b,
+        (TypedValue::Unfit, _) | (_, TypedValue::Unfit) => TypedValue::Unfit,
+        (TypedValue::Faulty(a), TypedValue::Faulty(b)) => TypedValue::Faulty(both_wrong(a, b)),
+        (TypedValue::Faulty(_), _) => a,
+        (_, TypedValue::Faulty(_)) => b,
+        (TypedValue::Varying, _) => TypedValue::Varying,
     }
 }
 
 /// What an operator in front gives.
-pub fn apply(op: Monadic, a: Outcome) -> Outcome
+pub fn apply(op: Monadic, a: TypedValue) -> TypedValue
     ensures { result ≡ applied_to op a }
 {
     match a {
-        Outcome::Constant(value) => outcome_of(fold_one(op, value)),
+        TypedValue::Constant(value) => outcome_of(fold_one(op, value)),
         _ => a,
     }
 }
 
 /// What a shift by this count gives, which is perhaps not constant.
-pub fn shift(op: Operator, count: Option<Value>, a: Outcome) -> Outcome
+pub fn shift(op: Operator, count: Option<Value>, a: TypedValue) -> TypedValue
     ensures { result ≡ shifted_by op count a }
 {
     match a {
-        Outcome::Constant(value) => match count {
+        TypedValue::Constant(value) => match count {
             Some(count) => outcome_of(fold(op, value, count)),
-            None => Outcome::Varying,
+            None => TypedValue::Varying,
         },
         _ => a,
     }
 }
 
 /// What a shift by a count gives that is no INT.
-pub fn misshift(a: Outcome) -> Outcome
+pub fn misshift(a: TypedValue) -> TypedValue
     ensures { result ≡ wrongly_shifted a }
 {
     match a {
-        Outcome::Unfit | Outcome::Faulty(_) => a,
-        Outcome::Varying | Outcome::Constant(_) => Outcome::Faulty(Wrong::Count),
+        TypedValue::Unfit | TypedValue::Faulty(_) => a,
+        TypedValue::Varying | TypedValue::Constant(_) => TypedValue::Faulty(Wrong::Count),
     }
 }

@@ -1,5 +1,6 @@
+//! Subscripts and fields: what they select of a value, and N1, T2 or T6.
 ghost use Rattle.std.specs.Prelude.{◌≡◌, ◌++◌, IfOk, MatchOption, None, OnOk, Some};
-ghost use Rattle.occ_operands.specs.Parts.{component as the_component, component_at as the_component_at, field as the_field, field_named as the_field_named, field_told, is_constant_outside, no_component as the_no_component, not_subscripted as no_subscript, subscripted as subscripting};
+ghost use Rattle.occ_operands.specs.Parts.{component as the_component, component_at as the_component_at, field as the_field, field_named as the_field_named, field_told, is_constant_outside, mismatched as the_mismatched, not_subscripted as no_subscript, subscripted as subscripting};
 
 use super::kind::Kind;
 use super::settle::{int, known, settled};
@@ -59,12 +60,12 @@ fn component(
     component_at(count, of, &place, faults)
 }
 
-/// There is no component at a settled place.
-fn no_component(place: &Kind, faults: &mut Items<Fault>) -> Result<Kind, AllocError>
-    ensures kind { IfOk result (λ kind. kind ≡ (the_no_component place.now).kind) }
-    ensures faults { OnOk result (faults.new ≡ faults.old ++ (the_no_component place.now).faults) }
+/// T2 is told of a settled operand that stands where none of its type may.
+pub fn mismatched(operand: &Kind, faults: &mut Items<Fault>) -> Result<Kind, AllocError>
+    ensures kind { IfOk result (λ kind. kind ≡ (the_mismatched operand.now).kind) }
+    ensures faults { OnOk result (faults.new ≡ faults.old ++ (the_mismatched operand.now).faults) }
 {
-    if let Kind::Known(_) = place {
+    if let Kind::Known(_) = operand {
         tell(faults, Code::T2)?;
     }
     Ok(Kind::Faulty)
@@ -80,7 +81,7 @@ fn not_subscripted(
     ensures faults { OnOk result (faults.new ≡ faults.old ++ (no_subscript index.now).faults) }
 {
     let place = settled(alloc, &int(alloc)?, index, faults)?;
-    no_component(&place, faults)
+    mismatched(&place, faults)
 }
 
 /// What a subscript that is no name of a field selects of a value of this type.

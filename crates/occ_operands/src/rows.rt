@@ -1,9 +1,10 @@
+//! Worked rows: literals, untyped constants, shifts, wanted types, conversions, parts.
 ghost use Rattle.std.specs.Prelude.{[], ◌∷◌, ◌≡◌, None, Some, false, negsuc, pos, true};
 ghost use Rattle.occ_base.specs.declared.code.Code.TheVariants as code;
 ghost use Rattle.occ_operands.specs.Operators.{front_operated, operated, shift_operated};
 ghost use Rattle.occ_operands.specs.Outcomes.{decimal, hexadecimal};
 ghost use Rattle.occ_operands.specs.declared.kind.Kind.TheVariants as k;
-ghost use Rattle.occ_operands.specs.declared.kind.Outcome.TheVariants as o;
+ghost use Rattle.occ_operands.specs.declared.kind.TypedValue.TheVariants as o;
 ghost use Rattle.occ_operands.specs.declared.kind.Wrong.TheVariants as w;
 ghost use Rattle.occ_operands.specs.Parts.{field, subscripted};
 ghost use Rattle.occ_operands.specs.Settling.{fault_of, int, known, settled, silent};

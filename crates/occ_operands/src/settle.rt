@@ -1,9 +1,11 @@
+//! Gives an operand the type that is wanted of it, or INT where a free one does not fit. T6 is reported where it has no
+//! value.
 ghost use Rattle.std.specs.Prelude.{◌≡◌, ◌++◌, IfOk, OnOk, [], ◌∷◌, None};
 ghost use Rattle.occ_operands.specs.Settling.{base_of as named_base, faulty_if as told_faulty_if, int as int_type, known as known_kind, landed as landing, landed_or_int as landing_or_int, number as number_base, settled as settling, settled_free as settling_free, wrong_faults};
 ghost use Rattle.occ_base.specs.Telling.{nameless};
 ghost use Rattle.occ_operands.specs.declared.kind.Kind.TheVariants as k;
 
-use super::kind::{Free, Kind, Known, Outcome, Wrong};
+use super::kind::{Free, Kind, Known, TypedValue, Wrong};
 use super::loose::Loose;
 use occ_base::{Code, Fault, Items, Shared, tell};
 use occ_types::{OccType, Primitive, Value, base_of};
@@ -58,23 +60,23 @@ pub(super) fn tell_wrong(wrong: Wrong, faults: &mut Items<Fault>) -> Result<(), 
 /// Of this type, it comes to that.
 pub fn landed(
     of: &Shared<OccType>,
-    outcome: Outcome,
+    outcome: TypedValue,
     faults: &mut Items<Fault>,
 ) -> Result<Kind, AllocError>
     ensures kind { IfOk result (λ kind. kind ≡ (landing of.now outcome).kind) }
     ensures faults { OnOk result (faults.new ≡ faults.old ++ (landing of.now outcome).faults) }
 {
     match outcome {
-        Outcome::Unfit => {
+        TypedValue::Unfit => {
             tell(faults, Code::T6)?;
             Ok(Kind::Faulty)
         }
-        Outcome::Faulty(wrong) => {
+        TypedValue::Faulty(wrong) => {
             tell_wrong(wrong, faults)?;
             Ok(Kind::Faulty)
         }
-        Outcome::Varying => known(of, None),
-        Outcome::Constant(value) => known(of, Some(value)),
+        TypedValue::Varying => known(of, None),
+        TypedValue::Constant(value) => known(of, Some(value)),
     }
 }
 
@@ -83,14 +85,14 @@ fn landed_or_int(
     alloc: Global,
     of: &Shared<OccType>,
     free: &Loose,
-    outcome: Outcome,
+    outcome: TypedValue,
     faults: &mut Items<Fault>,
 ) -> Result<Kind, AllocError>
     ensures kind { IfOk result (λ kind. kind ≡ (landing_or_int of.now free.now outcome).kind) }
     ensures faults { OnOk result (faults.new ≡ faults.old ++ (landing_or_int of.now free.now outcome).faults) }
 {
     match outcome {
-        Outcome::Unfit => landed(&int(alloc)?, free.in_type(Primitive::Int), faults),
+        TypedValue::Unfit => landed(&int(alloc)?, free.in_type(Primitive::Int), faults),
         _ => landed(of, outcome, faults),
     }
 }

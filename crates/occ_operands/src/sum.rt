@@ -1,3 +1,4 @@
+//! Sums of decimal literals, by their total and their greatest alone.
 ghost use Rattle.std.specs.List.{list_any};
 ghost use Rattle.std.specs.Prelude.{IfSome, false, pos, ◌∷◌, ◌≡◌};
 ghost use Rattle.occ_operands.specs.Operators.{needs_faulty as needing_faulty, run_in as running};
@@ -7,7 +8,7 @@ ghost use Rattle.occ_operands.specs.inside.Sums.{sum_in as the_sum, total_in as 
 ghost use Rattle.occ_types.specs.declared.constant.Operator.TheVariants as op;
 ghost use Rattle.occ_types.specs.declared.value.Primitive.{Primitive as APrimitive};
 
-use super::kind::{Free, Kind, Outcome, Wrong};
+use super::kind::{Free, Kind, TypedValue, Wrong};
 use super::loose::decimal_in;
 use occ_types::{Operator, Primitive, value_of_number};
 
@@ -46,21 +47,21 @@ fn sum_of(first: &Kind, others: &[Kind]) -> Option<Sum>
 }
 
 /// The total, as a value of the type.
-fn total_in(total: u64, of: Primitive) -> Outcome
+fn total_in(total: u64, of: Primitive) -> TypedValue
     ensures { result ≡ the_total of total }
 {
     match value_of_number(of, i128::from(total)) {
-        Some(value) => Outcome::Constant(value),
-        None => Outcome::Faulty(Wrong::Value),
+        Some(value) => TypedValue::Constant(value),
+        None => TypedValue::Faulty(Wrong::Value),
     }
 }
 
 /// What a sum comes to in a type: no literal may be too large for it, nor the whole.
-fn sum_in(sum: Sum, of: Primitive) -> Outcome
+fn sum_in(sum: Sum, of: Primitive) -> TypedValue
     ensures { result ≡ the_sum of sum.total sum.most }
 {
     match decimal_in(sum.most, of) {
-        Outcome::Constant(_) => total_in(sum.total, of),
+        TypedValue::Constant(_) => total_in(sum.total, of),
         most => most,
     }
 }

@@ -1,7 +1,8 @@
+//! Operands of which a type is wanted (T2), and conversions.
 ghost use Rattle.std.specs.Prelude.{◌≡◌, ◌++◌, IfOk, OnOk};
 ghost use Rattle.occ_operands.specs.Wanting.{are_there, cast as casting, conversion, converted_from as converting_from, converts as convertible, fitted as fitting, wanted as wanting};
 
-use super::kind::{Kind, Known, Outcome};
+use super::kind::{Kind, Known, TypedValue};
 use super::outcome::outcome_of;
 use super::settle::{int, known, landed, settled};
 use occ_base::{Code, Fault, Items, Shared, tell};
@@ -56,12 +57,12 @@ fn converts(to: &OccType, from: &OccType) -> bool
     both(as_primitive(to), as_primitive(from)) || alike(to, from)
 }
 
-fn cast(base: Option<Primitive>, value: Option<Value>) -> Outcome
+fn cast(base: Option<Primitive>, value: Option<Value>) -> TypedValue
     ensures { result ≡ casting base value }
 {
     match (base, value) {
         (Some(base), Some(value)) => outcome_of(convert(base, value)),
-        _ => Outcome::Varying,
+        _ => TypedValue::Varying,
     }
 }
 

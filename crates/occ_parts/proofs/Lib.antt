@@ -1,4 +1,3 @@
 pub mod Sets
 pub mod Elements
-pub mod Segments
 pub mod Joining

@@ -10,7 +10,7 @@ use Rattle.occ_types.specs.declared.interface.Places.TheVariants as places
 use Rattle.occ_parts.specs.declared.part.Part.{Part}
 use Rattle.occ_parts.specs.declared.place.Ending.{Ending}
 use Rattle.occ_parts.specs.declared.place.Ending.TheVariants as e
-use Rattle.occ_parts.specs.declared.place.Place.{Place}
+use Rattle.occ_parts.specs.declared.place.SelectedPart.{SelectedPart}
 use Rattle.occ_parts.specs.Places.{common, moved, near}
 
 abbrev pub sure : Places → Interval
@@ -54,7 +54,7 @@ behind (Some b) (Some c) = near (b +ℤ c)
 
 -- ---- places
 
-abbrev pub whole : ℕ → Place
+abbrev pub whole : ℕ → SelectedPart
 whole root = record { root = root; chain = []; selectors = []; ending = e.Plain }
 
 -- the selectors, with those of an ending segment
@@ -63,27 +63,27 @@ selectors_of xs e.Plain = xs
 selectors_of xs (e.Segment i base) = xs ++ s.Interval i ∷ []
 selectors_of xs e.Whole = xs
 
-abbrev pub part_of : Place → Part
+abbrev pub part_of : SelectedPart → Part
 part_of p = record { root = p.root; selectors = selectors_of p.selectors p.ending }
 
 -- selected from by one more selector
-abbrev pub plain : Place → List PartSelector → Place
+abbrev pub plain : SelectedPart → List PartSelector → SelectedPart
 plain p xs = record p { selectors = xs; ending = e.Plain }
 
-abbrev pub with_field_of : Place → Ending → List ℕ → Place
+abbrev pub with_field_of : SelectedPart → Ending → List ℕ → SelectedPart
 with_field_of p e.Whole name = p
 with_field_of p e.Plain name = plain p (p.selectors ++ s.Field name ∷ [])
 with_field_of p (e.Segment i base) name = plain p (p.selectors ++ s.Interval i ∷ [] ++ s.Field name ∷ [])
 
-abbrev pub with_field : Place → List ℕ → Place
+abbrev pub with_field : SelectedPart → List ℕ → SelectedPart
 with_field p name = with_field_of p p.ending name
 
-abbrev pub with_subscript_of : Place → Ending → Interval → Place
+abbrev pub with_subscript_of : SelectedPart → Ending → Interval → SelectedPart
 with_subscript_of p e.Whole i = p
 with_subscript_of p e.Plain i = plain p (p.selectors ++ s.Interval i ∷ [])
 with_subscript_of p (e.Segment outer base) i = plain p (p.selectors ++ s.Interval (inside outer base i) ∷ [])
 
-abbrev pub with_subscript : Place → Option ℤ → Place
+abbrev pub with_subscript : SelectedPart → Option ℤ → SelectedPart
 with_subscript p at = with_subscript_of p p.ending (subscript at)
 
 abbrev pub segment_ending : Ending → Option ℤ → Interval → Ending
@@ -91,15 +91,15 @@ segment_ending e.Whole base i = e.Whole
 segment_ending e.Plain base i = e.Segment i base
 segment_ending (e.Segment outer b) base i = e.Segment (inside outer b i) (behind b base)
 
-abbrev pub with_segment : Place → Option ℤ → Option ℤ → Place
+abbrev pub with_segment : SelectedPart → Option ℤ → Option ℤ → SelectedPart
 with_segment p base count = record p { ending = segment_ending p.ending base (segment base count) }
 
 -- by a name that RETYPES or RESHAPES gives it: whatever is selected then, it is all of it
-abbrev pub retyped : Place → Place
+abbrev pub retyped : SelectedPart → SelectedPart
 retyped p = record p { selectors = selectors_of p.selectors p.ending; ending = e.Whole }
 
 -- by the name of one more abbreviation
-abbrev pub named : Place → ℕ → Place
+abbrev pub named : SelectedPart → ℕ → SelectedPart
 named p number = record p { chain = p.chain ++ number ∷ [] }
 
 -- ---- a part of a formal, of which the place is the actual
@@ -115,5 +115,5 @@ followed xs e.Plain ys = xs ++ ys
 followed xs (e.Segment outer base) ys = xs ++ first_inside outer base ys
 followed xs e.Whole ys = xs
 
-abbrev pub followed_by : Place → List PartSelector → Part
+abbrev pub followed_by : SelectedPart → List PartSelector → Part
 followed_by p ys = record { root = p.root; selectors = followed p.selectors p.ending ys }

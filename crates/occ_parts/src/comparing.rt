@@ -1,3 +1,4 @@
+//! Whether two parts have an element in common: surely, perhaps, or not at all.
 ghost use Rattle.std.specs.Prelude.{◌≡◌};
 ghost use Rattle.occ_parts.specs.Parts.{all_sure as all_are_sure, are_apart as are_parted, differ, has_empty, is_empty, is_sure, overlap_of, some_differ};
 

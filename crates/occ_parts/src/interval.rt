@@ -1,3 +1,4 @@
+//! The intervals of subscripts and segments, and of what is selected from a segment.
 ghost use Rattle.std.specs.Prelude.{◌≡◌};
 ghost use Rattle.occ_parts.specs.Selecting.{behind as the_behind, counted as the_counted, inside as the_inside, segment as the_segment, subscript as the_subscript, sure as the_sure, unsure as the_unsure};
 

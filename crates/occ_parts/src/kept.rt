@@ -1,3 +1,5 @@
+//! Accumulated parts: those that follow one another are joined into one. A part meets them as it would meet those that
+//! were added.
 ghost use Rattle.std.specs.Prelude.{◌≡◌, ◌∷◌, ◌++◌, ◌<◌, ◌||◌, IfSome, IsTrue, List, OnErr, OnOk, Some, [], length, not, slice_get};
 ghost use Rattle.occ_types.specs.declared.interface.Mark.TheVariants as mark;
 ghost use Rattle.occ_types.specs.declared.interface.PartSelector.{PartSelector as ASelector};

@@ -5,7 +5,6 @@
 mod comparing;
 mod interval;
 mod kept;
-pub mod laws;
 mod part;
 mod place;
 mod places;
@@ -15,5 +14,5 @@ mod selectors;
 pub use comparing::{are_apart, overlap};
 pub use kept::{keep, keep_copy, meets_kept};
 pub use part::{Overlap, Part};
-pub use place::{Ending, Place};
+pub use place::{Ending, SelectedPart};
 pub use selectors::copies;

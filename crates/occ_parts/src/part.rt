@@ -1,3 +1,5 @@
+//! Parts of variables, channels and formals, and how two of them overlap. `docs/LANGUAGE.md, Parts of variables and
+//! channels`.
 use occ_base::Items;
 use occ_types::PartSelector;
 

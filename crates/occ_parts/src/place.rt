@@ -1,3 +1,4 @@
+//! What is selected of a root, step by step: fields, subscripts, segments, and what is after RETYPES.
 ghost use Rattle.std.specs.Prelude.{◌≡◌, IfOk, OnOk, ◌++◌, ◌∷◌};
 ghost use Rattle.occ_parts.specs.Selecting.{first_inside, followed, followed_by as the_followed, named as the_named, part_of, retyped as the_retyped, segment_ending, selectors_of, whole as the_whole, with_field as the_field, with_segment as the_segment, with_subscript as the_subscript};
 
@@ -10,7 +11,7 @@ use std::alloc::{AllocError, Global};
 
 /// What is selected from a variable, a channel or a formal, to be selected from further.
 #[derive(Drop)]
-pub struct Place {
+pub struct SelectedPart {
     /// What it is selected from: the number of its specification.
     pub root: usize,
     /// The abbreviations by whose names it is reached, by the numbers of their specifications, in order.
@@ -31,12 +32,12 @@ pub enum Ending {
     Whole,
 }
 
-impl Place {
+impl SelectedPart {
     /// The whole of a variable, a channel or a formal.
-    pub fn whole(alloc: Global, root: usize) -> Place
+    pub fn whole(alloc: Global, root: usize) -> SelectedPart
         ensures { result ≡ the_whole root }
     {
-        Place {
+        SelectedPart {
             root,
             chain: Items::new(alloc),
             selectors: Items::new(alloc),
@@ -45,10 +46,10 @@ impl Place {
     }
 
     /// The same, with room for so many selectors.
-    pub fn with_room(alloc: Global, root: usize, room: usize) -> Result<Place, AllocError>
+    pub fn with_room(alloc: Global, root: usize, room: usize) -> Result<SelectedPart, AllocError>
         ensures { IfOk result (λ place. place ≡ the_whole root) }
     {
-        Ok(Place {
+        Ok(SelectedPart {
             root,
             chain: Items::new(alloc),
             selectors: Items::from_vec(Vec::with_capacity(alloc, room)?),
@@ -97,7 +98,7 @@ impl Place {
     }
 
     /// The same under a name that RETYPES or RESHAPES gives it.
-    pub fn retyped(mut self) -> Result<Place, AllocError>
+    pub fn retyped(mut self) -> Result<SelectedPart, AllocError>
         ensures { IfOk result (λ place. place ≡ the_retyped self) }
     {
         end(&mut self.selectors, self.ending)?;
@@ -106,7 +107,7 @@ impl Place {
     }
 
     /// The same under the name of an abbreviation, by the number of its specification.
-    pub fn named(mut self, number: usize) -> Result<Place, AllocError>
+    pub fn named(mut self, number: usize) -> Result<SelectedPart, AllocError>
         ensures { IfOk result (λ place. place ≡ the_named self number) }
     {
         self.chain.push(number)?;
@@ -141,10 +142,10 @@ impl Place {
     }
 
     /// A copy.
-    pub fn copied(&self, alloc: Global) -> Result<Place, AllocError>
+    pub fn copied(&self, alloc: Global) -> Result<SelectedPart, AllocError>
         ensures { IfOk result (λ place. place ≡ self.now) }
     {
-        Ok(Place {
+        Ok(SelectedPart {
             root: self.root,
             chain: Items::from_slice(alloc, self.chain.as_slice())?,
             selectors: copies(alloc, self.selectors.as_slice())?,

@@ -1,3 +1,5 @@
+//! Sets of indices: what two have in common, whether they meet, their union where they follow one another, and counting
+//! from a base.
 ghost use Rattle.std.specs.Prelude.{◌≡◌, ◌≤ℤ◌, ◌+ℤ◌, pos};
 ghost use Rattle.occ_types.specs.declared.interface.Places.TheVariants as places;
 ghost use Rattle.occ_parts.specs.Places.{common, from_with_run, is_next, meet, moved, near, run_to, run_with_run, short_run as the_short_run, united};

@@ -1,3 +1,4 @@
+//! Worked rows: subscripts, segments, segments of segments, names, unions.
 ghost use Rattle.std.specs.Prelude.{◌≡◌, ◌∷◌, [], None, Some, codes, false, negsuc, pos, true};
 ghost use Rattle.occ_types.specs.declared.interface.PartSelector.TheVariants as s;
 ghost use Rattle.occ_types.specs.declared.interface.Places.TheVariants as places;

@@ -1,3 +1,4 @@
+//! Copies of selectors.
 ghost use Rattle.std.specs.Prelude.{◌≡◌, ◌++◌, IfOk, OnOk};
 
 use occ_base::Items;

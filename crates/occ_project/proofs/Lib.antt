@@ -3,3 +3,4 @@ pub mod Inclusions
 pub mod Members
 pub mod Places
 pub mod Expansions
+pub mod Rising

@@ -28,7 +28,7 @@ included reads way left name = cond (is_among way name) (Err G5) (cond (nat_eq l
 -- what the entry of a line holds, where `found` tells what an `#INCLUDE` puts in
 abbrev pub held : (List ℕ → Result (List SourceLine) Code) → ℕ → LineBody → Held
 held found depth (body.Form form) = Line depth (to.Form form)
-held found depth (body.Uses unit) = Line depth (to.Uses (unit ∷ []))
+held found depth (body.Uses unit) = Line depth (to.Uses unit)
 held found depth (body.Fault fault) = Line depth (to.Fault fault)
 held found depth (body.Include name) = Include name (result_err (found name))
 

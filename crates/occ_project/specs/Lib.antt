@@ -2,6 +2,6 @@ pub mod Reads
 pub mod Entries
 pub mod Expansion
 pub mod Uses
-pub mod Places
+pub mod Locations
 pub mod Samples
 pub mod inside

@@ -25,7 +25,7 @@ use_at line depth unit = record { line = line; depth = depth; body = body.Uses u
 
 -- that line in an expansion
 abbrev pub use_in : List ℕ → ℕ → ℕ → List ℕ → ExpandedLine
-use_in file line depth unit = record { file = file; line = line; depth = depth; body = to.Uses (unit ∷ []) }
+use_in file line depth unit = record { file = file; line = line; depth = depth; body = to.Uses unit }
 
 abbrev pub open_file : List ℕ → List SourceLine → Read
 open_file name lines = record { name = name; revision = 1; source = Some (record { text = []; lines = lines }) }

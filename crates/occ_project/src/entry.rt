@@ -1,3 +1,4 @@
+//! The entries of a file: what each of its lines gives to an expansion. `docs/LANGUAGE.md, Expansion`.
 use super::ExpandedBody;
 use occ_base::{Code, FileName};
 

@@ -1,6 +1,7 @@
-ghost use Rattle.occ_project.specs.Places.{place_of};
+//! An expansion: its lines with file, number and depth, its reads, and its faults.
+ghost use Rattle.occ_project.specs.Locations.{location_of};
 ghost use Rattle.occ_project.specs.Uses.{units_of};
-ghost use Rattle.std.specs.Prelude.{◌≡◌};
+ghost use Rattle.std.specs.Prelude.{◌≡◌, ◌∷◌, [], MatchOption};
 
 use occ_base::{Code, Diag, FileName, Items, Shared};
 use occ_forms::Form;
@@ -9,8 +10,8 @@ use std::marker::Model;
 /// What a line of an expansion holds.
 pub enum ExpandedBody {
     Form(Shared<Form>),
-    /// A `#USE`: the units whose exports are visible from here on.
-    Uses(Items<FileName>),
+    /// A `#USE`: the unit whose exports are visible from here on.
+    Uses(FileName),
     /// The one fault of the line: `L1`, `L2`, `L3`, `L4`, `S1` or `S3`.
     Fault(Code),
 }
@@ -28,7 +29,7 @@ impl Drop for ExpandedBody {
 
 /// Where a line stands.
 #[derive(Clone, Copy)]
-pub struct Place {
+pub struct Location {
     pub file: FileName,
     /// The line of that file on which it begins, from 1.
     pub line: u32,
@@ -59,22 +60,22 @@ impl Drop for ExpandedLine {
 
 impl ExpandedLine {
     /// Where it stands.
-    pub fn place(&self) -> Place
-        ensures { result ≡ place_of self.now }
+    pub fn location(&self) -> Location
+        ensures { result ≡ location_of self.now }
     {
-        Place {
+        Location {
             file: self.file,
             line: self.line,
         }
     }
 
-    /// The units that a `#USE` names, in order; any other line names none.
-    pub fn units(&self) -> &[FileName]
-        ensures { result.now ≡ units_of self.now }
+    /// The unit that a `#USE` names; any other line names none.
+    pub fn used_unit(&self) -> Option<FileName>
+        ensures { MatchOption result (units_of self.now ≡ []) (λ unit. units_of self.now ≡ unit ∷ []) }
     {
         match &self.body {
-            ExpandedBody::Uses(units) => units.as_slice(),
-            ExpandedBody::Form(_) | ExpandedBody::Fault(_) => &[],
+            ExpandedBody::Uses(unit) => Some(*unit),
+            ExpandedBody::Form(_) | ExpandedBody::Fault(_) => None,
         }
     }
 }

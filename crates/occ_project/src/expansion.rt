@@ -1,3 +1,5 @@
+//! Makes the expansion of a unit, file by file, and after each `#INCLUDE` the lines of its file. `docs/LANGUAGE.md,
+//! Expansion`.
 ghost use Rattle.occ_project.specs.Entries.{entries, held as what_is_held, included, put_in};
 ghost use Rattle.occ_project.specs.Expansion.{expansion, not_given};
 ghost use Rattle.occ_project.specs.inside.Making.{after};
@@ -71,7 +73,7 @@ fn held<'a>(
 {
     let body = match body {
         LineBody::Form(form) => ExpandedBody::Form(form.share()?),
-        LineBody::Uses(unit) => ExpandedBody::Uses(Items::from_slice(alloc, &[*unit])?),
+        LineBody::Uses(unit) => ExpandedBody::Uses(*unit),
         LineBody::Fault(fault) => ExpandedBody::Fault(*fault),
         LineBody::Include(name) => {
             return Ok(match files.included(way, left, *name) {

@@ -1,3 +1,4 @@
+//! Looks files up by name, and says what an `#INCLUDE` puts in, or why nothing (G4 to G6).
 ghost use Rattle.occ_project.specs.Entries.{included as what_is_included};
 ghost use Rattle.occ_project.specs.Reads.{member as first_member, name_cmp, open_lines as lines_if_open, place};
 ghost use Rattle.std.specs.BTreeMap.{get};
@@ -52,10 +53,8 @@ impl<'a> Files<'a> {
     pub fn open_lines(&self, name: FileName) -> Option<&[SourceLine]>
         ensures { option_copied result ≡ lines_if_open self.now.reads.now name }
     {
-        match &self.member(name)?.source {
-            Some(source) => Some(source.get().lines()),
-            None => None,
-        }
+        let source = self.member(name)?.source.as_ref();
+        source.map(|source| source.get().lines())
     }
 
     /// What stands in the place of an include of that file: its lines, or the fault for which nothing does.

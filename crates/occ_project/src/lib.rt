@@ -10,8 +10,10 @@ mod making;
 mod names;
 mod reads;
 mod rows;
+mod uses;
 
-pub use expanded::{Expanded, ExpandedBody, ExpandedLine, Place};
+pub use expanded::{Expanded, ExpandedBody, ExpandedLine, Location};
 pub use expansion::{ExpandFault, expand, expand_over};
 pub use reads::{Read, Reads};
 pub use rows::{fault_rows, include_rows, limit_rows, read_rows, use_rows};
+pub use uses::used_units;

@@ -1,3 +1,4 @@
+//! Collects the entries of an expansion, up to the limit of 65,535.
 ghost use Rattle.occ_project.specs.Expansion.{fault_names, held_faults, limit_fault};
 ghost use Rattle.occ_project.specs.inside.Making.{step};
 ghost use Rattle.occ_project.specs.declared.entry.Held.TheVariants as held;

@@ -1,3 +1,4 @@
+//! Each name of a list once, in order of first mention.
 ghost use Rattle.occ_project.specs.Expansion.{first_places as those_at_first_places};
 ghost use Rattle.std.specs.Prelude.{IfOk, ◌≡◌};
 

@@ -1,3 +1,4 @@
+//! The files that an expansion may look up, with revision and text.
 use occ_base::{FileName, Items, Shared};
 use occ_forms::Source;
 

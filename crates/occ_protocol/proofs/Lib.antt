@@ -1,4 +1,3 @@
 pub mod Carried
 pub mod Meeting
 pub mod Primitives
-pub mod Messages

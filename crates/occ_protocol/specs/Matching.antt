@@ -13,7 +13,7 @@ use Rattle.occ_types.specs.declared.types.OccType.{OccType}
 use Rattle.occ_types.specs.declared.types.Protocol.{Protocol}
 use Rattle.occ_types.specs.declared.types.Tag.{Tag}
 use Rattle.occ_types.specs.declared.value.Primitive.{Primitive}
-use Rattle.occ_operands.specs.Operators.{is_faulty, is_there}
+use Rattle.occ_operands.specs.Operators.{is_faulty, is_there, is_of}
 use Rattle.occ_operands.specs.Settling.{number}
 use Rattle.occ_operands.specs.declared.kind.Kind.{Kind}
 use Rattle.occ_operands.specs.declared.kind.Kind.TheVariants as k
@@ -52,12 +52,6 @@ asked (Variant tags) None = Instead code.P3
 asked (Variant tags) (Some name) = behind name (tag_named tags name)
 
 -- ---- one item
-
--- an operand of this type
-abbrev pub is_of : OccType → Kind → Bool
-is_of of k.Faulty = false
-is_of of (k.Free f) = false
-is_of of (k.Known x) = fits of x.of
 
 -- a count of just this type
 abbrev pub is_count : Primitive → Kind → Bool

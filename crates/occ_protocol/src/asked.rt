@@ -1,3 +1,5 @@
+//! What a list of items is compared with: the items of a protocol, those after a tag, or any data. What is wanted and
+//! what is reported both come from it.
 ghost use Rattle.std.specs.Prelude.{◌≡◌, Option, Some, None, map};
 ghost use Rattle.occ_protocol.specs.Carrying.{name_seen};
 ghost use Rattle.occ_protocol.specs.Matching.{asked as asked_in, behind as asked_behind};

@@ -1,3 +1,4 @@
+//! What an element is to those who send and receive through it: a protocol, a timer, no channel, or faulty; and its tags.
 #![tactic(auto, using(occ_types::proofs::Agreeing::fit_rules, crate::proofs::Carried::carried_rules))]
 
 ghost use Rattle.std.specs.Prelude.{◌≡◌};

@@ -1,3 +1,4 @@
+//! Items that are sent or received, by what is known of them and by how they are written; and what is wanted of them.
 use occ_base::Shared;
 use occ_operands::Kind;
 use occ_types::OccType;

@@ -4,7 +4,6 @@
 mod asked;
 mod carrier;
 mod given;
-pub mod laws;
 mod line;
 mod matching;
 pub mod rows;

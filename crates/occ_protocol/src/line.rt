@@ -1,3 +1,5 @@
+//! Outputs, inputs, `AFTER`, case inputs and their variants, as lists of items: P1 to P4. `docs/LANGUAGE.md, Items and
+//! protocols`.
 ghost use Rattle.std.specs.Prelude.{◌≡◌, ◌++◌, IfOk, OnOk, [], ◌∷◌};
 ghost use Rattle.occ_types.specs.declared.types.Item.TheVariants as i;
 ghost use Rattle.occ_operands.specs.Settling.{int as int_type};
@@ -18,10 +20,10 @@ use std::alloc::{AllocError, Global};
 pub fn takes_tag(channel: &Kind) -> bool
     ensures { result ≡ is_taking_tag (carrier_in channel.now) }
 {
-    match carrier_of(channel) {
-        Carrier::Hidden | Carrier::Nothing | Carrier::Time | Carrier::Variant(_) => true,
-        Carrier::Data | Carrier::Sequence(_) => false,
-    }
+    matches!(
+        carrier_of(channel),
+        Carrier::Hidden | Carrier::Nothing | Carrier::Time | Carrier::Variant(_)
+    )
 }
 
 /// What is told of the items of an output, or of an input behind `CASE` and a tag, through `channel`, whose name is
@@ -174,8 +176,5 @@ pub fn tag_place(channel: &Kind, tag: &Name) -> Option<usize>
 pub fn is_timer(channel: &Kind) -> bool
     ensures { result ≡ is_time (carrier_in channel.now) }
 {
-    match carrier_of(channel) {
-        Carrier::Time => true,
-        _ => false,
-    }
+    matches!(carrier_of(channel), Carrier::Time)
 }

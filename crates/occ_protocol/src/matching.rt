@@ -1,26 +1,17 @@
+//! Items against those of a protocol, one by one, and against any data; P1 for one that does not meet its own.
 #![tactic(auto, using(occ_types::proofs::Agreeing::fit_rules, crate::proofs::Meeting::meeting_rules))]
 
 ghost use Rattle.std.specs.Prelude.{◌≡◌, ◌++◌, OnOk};
 ghost use Rattle.std.specs.List.{list_any};
-ghost use Rattle.occ_protocol.specs.Matching.{against as told_against, each_unmet as told_each_unmet, each_unmet_any as told_each_unmet_any, has_fault as is_given_with_fault, is_any as holds_any, is_any_count as counts_any, is_any_row as holds_any_row, is_count as counts, is_of as holds, is_row as holds_row, meets as is_met, meets_any as is_met_by_any, named as told_named, of_another_number as told_of_another_number, told as told_of, unmet as told_unmet};
+ghost use Rattle.occ_protocol.specs.Matching.{against as told_against, each_unmet as told_each_unmet, each_unmet_any as told_each_unmet_any, has_fault as is_given_with_fault, is_any as holds_any, is_any_count as counts_any, is_any_row as holds_any_row, is_count as counts, is_row as holds_row, meets as is_met, meets_any as is_met_by_any, named as told_named, of_another_number as told_of_another_number, told as told_of, unmet as told_unmet};
 ghost use Rattle.occ_protocol.specs.inside.Seen.{asked_seen};
 
 use super::asked::Asked;
 use super::given::Given;
 use occ_base::{Code, Fault, Items, Name, Shared};
-use occ_operands::{Kind, is_faulty, number};
+use occ_operands::{Kind, is_faulty, is_of, number};
 use occ_types::{Item, OccType, Primitive, array_of, as_primitive, fits, is_data};
 use std::alloc::{AllocError, Global};
-
-/// Whether an operand is of this type.
-fn is_of(of: &OccType, kind: &Kind) -> bool
-    ensures { result ≡ holds of.now kind.now }
-{
-    match kind {
-        Kind::Known(known) => fits(of, known.of.get()),
-        _ => false,
-    }
-}
 
 /// Whether an operand is a count of just this type.
 fn is_count(count: Primitive, kind: &Kind) -> bool

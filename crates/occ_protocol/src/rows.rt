@@ -1,3 +1,4 @@
+//! Worked rows: channels, sequences, counted items, ANY, tags, timers, wanted types.
 ghost use Rattle.std.specs.Prelude.{[], ◌∷◌, ◌≡◌, None, Some, codes, false, true};
 ghost use Rattle.occ_base.specs.declared.code.Code.TheVariants as code;
 ghost use Rattle.occ_operands.specs.Settling.{int, known};

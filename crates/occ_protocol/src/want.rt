@@ -1,3 +1,4 @@
+//! What is wanted of each item of an output, by the protocol, its tag and the number and shapes of the items.
 #![tactic(auto, using(crate::proofs::Meeting::wanting_rules))]
 
 ghost use Rattle.std.specs.Prelude.{◌≡◌, IfOk, map};

@@ -1,7 +1,7 @@
 -- Dimensions of types, and records in them, form by form.
 use Rattle.std.proofs.Common.{◌≡◌, ℕ, List, [], ◌∷◌, map, Option, Some, None, Bool, true, false, refl, ap, sym, ◌∙◌}
 use Rattle.occ_types.specs.Unknown.{any_of}
-use Rattle.occ_types.specs.View.{array_layer, as_array}
+use Rattle.occ_types.specs.View.{array_layer, as_array, of_component}
 use Rattle.occ_types.specs.declared.types.Field.{Field, out-Field}
 use Rattle.occ_types.specs.declared.types.Item.TheFolds.{fold-OccType, fold-Field, fold-roll-OccType, fold-roll-Field}
 use Rattle.occ_types.specs.declared.types.Item.TheOpen.{OccType-F}
@@ -11,7 +11,7 @@ use Rattle.occ_types.specs.declared.types.OccType.TheVariants as t
 use Rattle.occ_types.specs.declared.types.Packing.{Packing}
 use Rattle.occ_types.specs.declared.types.Protocol.{Protocol}
 use Rattle.occ_types.specs.declared.value.Primitive.{Primitive}
-use Rattle.occ_recasts.specs.Dimensions.{dimensions, dimensions_step, fields_hold_plain_record, holds_plain_record, innermost, innermost_step, plain_field_step, plain_step, record_of, sized, sized_array, sized_in, sized_step, through_array}
+use Rattle.occ_recasts.specs.Dimensions.{dimensions, dimensions_step, fields_hold_plain_record, holds_plain_record, innermost, innermost_step, plain_field_step, plain_step, record_of, sized, sized_array, sized_in, sized_step}
 
 as_array_at_array : (n : Option ℕ) (inner : OccType) → as_array (t.Array n inner) ≡ Some (n, inner)
 unfolding as_array
@@ -44,7 +44,7 @@ innermost_of_primitive x = ap (λ (f : OccType → OccType). f (t.Primitive x)) 
 
 pub innermost_of_array : (n : Option ℕ) (inner : OccType) → innermost (t.Array n inner) ≡ innermost inner
 unfolding innermost
-innermost_of_array n inner = ap (λ (f : OccType → OccType). f (t.Array n inner)) (ap (fold-OccType (Unit {0}) (OccType → OccType) (Unit {0}) (Unit {0}) (Unit {0}) (λ _. tt) innermost_step (λ _. tt) (λ _. tt) (λ _. tt)) (sym (t.rolls-Array n inner)) ∙ fold-roll-OccType (Unit {0}) (OccType → OccType) (Unit {0}) (Unit {0}) (Unit {0}) (λ _. tt) innermost_step (λ _. tt) (λ _. tt) (λ _. tt) (OccType-F.Array n inner)) ∙ ap (through_array (t.Array n inner) (fold-OccType (Unit {0}) (OccType → OccType) (Unit {0}) (Unit {0}) (Unit {0}) (λ _. tt) innermost_step (λ _. tt) (λ _. tt) (λ _. tt) inner)) (as_array_at_array n inner)
+innermost_of_array n inner = ap (λ (f : OccType → OccType). f (t.Array n inner)) (ap (fold-OccType (Unit {0}) (OccType → OccType) (Unit {0}) (Unit {0}) (Unit {0}) (λ _. tt) innermost_step (λ _. tt) (λ _. tt) (λ _. tt)) (sym (t.rolls-Array n inner)) ∙ fold-roll-OccType (Unit {0}) (OccType → OccType) (Unit {0}) (Unit {0}) (Unit {0}) (λ _. tt) innermost_step (λ _. tt) (λ _. tt) (λ _. tt) (OccType-F.Array n inner)) ∙ ap (of_component (t.Array n inner) (fold-OccType (Unit {0}) (OccType → OccType) (Unit {0}) (Unit {0}) (Unit {0}) (λ _. tt) innermost_step (λ _. tt) (λ _. tt) (λ _. tt) inner)) (as_array_at_array n inner)
 
 pub innermost_of_record : (packing : Packing) (fields : List Field) → innermost (t.Record packing fields) ≡ (t.Record packing fields)
 unfolding innermost

@@ -1,7 +1,7 @@
 -- The dimensions of a type, what stands behind them, and whether a record that is not PACKED stands in it.
 use Rattle.std.specs.Prelude.{ℕ, Bool, true, false, Option, Some, None, List, [], ◌∷◌}
 use Rattle.occ_types.specs.Unknown.{any_of}
-use Rattle.occ_types.specs.View.{as_array}
+use Rattle.occ_types.specs.View.{as_array, of_component}
 use Rattle.occ_types.specs.declared.types.Field.{Field}
 use Rattle.occ_types.specs.declared.types.Item.TheFolds.{fold-OccType}
 use Rattle.occ_types.specs.declared.types.Item.TheOpen.{Field-F, OccType-F}
@@ -25,14 +25,9 @@ dimensions_step OccType-F.Unknown = []
 abbrev pub dimensions : OccType → List (Option ℕ)
 dimensions = fold-OccType (Unit {0}) (List (Option ℕ)) (Unit {0}) (Unit {0}) (Unit {0}) (λ _. tt) dimensions_step (λ _. tt) (λ _. tt) (λ _. tt)
 
--- what is told of the components of an array
-abbrev pub through_array : {X : Type 0} → X → (OccType → X) → Option (Option ℕ × OccType) → X
-through_array here inner None = here
-through_array here inner (Some parts) = inner parts.1
-
 abbrev pub innermost_step : OccType-F (Unit {0}) (OccType → OccType) (Unit {0}) (Unit {0}) (Unit {0}) → OccType → OccType
 innermost_step (OccType-F.Primitive primitive) self = self
-innermost_step (OccType-F.Array n inner) self = through_array self inner (as_array self)
+innermost_step (OccType-F.Array n inner) self = of_component self inner (as_array self)
 innermost_step (OccType-F.Record packing fields) self = self
 innermost_step (OccType-F.Named name inner) self = self
 innermost_step (OccType-F.Channel carried) self = self

@@ -1,3 +1,4 @@
+//! The dimensions of a type, what is under them, and whether a record that is not PACKED is in it.
 #![tactic(auto, using(crate::proofs::Folds::dimension_rules))]
 
 ghost use Rattle.std.specs.Prelude.{◌≡◌, IfOk};

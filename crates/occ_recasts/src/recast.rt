@@ -1,3 +1,4 @@
+//! RETYPES by bytes and RESHAPES by elements: the type of the new name, or T9.
 ghost use Rattle.std.specs.Prelude.{◌≡◌, ◌∷◌, ◌++◌, [], IfOk, None, OnOk};
 ghost use Rattle.occ_base.specs.Telling.{nameless};
 ghost use Rattle.occ_base.specs.declared.code.Code.TheVariants as code;

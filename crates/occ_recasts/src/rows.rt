@@ -1,3 +1,4 @@
+//! Worked rows: amounts against what types take.
 ghost use Rattle.std.specs.Prelude.{◌≡◌, None, Some};
 ghost use Rattle.occ_recasts.specs.declared.sharing.Opens.TheVariants as opens;
 ghost use Rattle.occ_recasts.specs.declared.sharing.Share.TheVariants as share;

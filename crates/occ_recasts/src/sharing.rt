@@ -1,3 +1,4 @@
+//! How much there is against how much a type takes, with one `[]` or several. What is not known fits.
 #![tactic(auto, using(crate::proofs::Folds::dimension_rules))]
 
 ghost use Rattle.std.specs.Prelude.{◌≡◌, ◌≤◌, IfSome};

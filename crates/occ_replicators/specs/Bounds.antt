@@ -7,8 +7,6 @@ use Rattle.occ_operands.specs.declared.kind.Kind.{Kind}
 use Rattle.occ_operands.specs.declared.kind.Kind.TheVariants as k
 use Rattle.occ_names.specs.declared.scope.Scope.{Scope}
 use Rattle.occ_tables.specs.Terms.{judged}
-use Rattle.occ_typed.specs.Placing.{placed}
-use Rattle.occ_typed.specs.declared.expr.TypedExpr.{TypedExpr}
 use Rattle.occ_expression_forms.specs.declared.tree.Expr.{Expr}
 use Rattle.occ_expr.specs.Parts.{Said, after}
 use Rattle.occ_expr.specs.Views.{expr_view}
@@ -19,9 +17,6 @@ as_int x = after x.faults ((judged x.term).under int)
 
 unfoldable pub bound : Scope → Expr → Told
 bound s e = as_int ((expr_view e).said s)
-
-unfoldable pub bound_tree : Scope → Expr → Option TypedExpr
-bound_tree s e = placed ((expr_view e).draft s) int
 
 -- ---- constants, of which no index is one
 

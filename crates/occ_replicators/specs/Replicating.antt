@@ -1,16 +1,17 @@
 -- `n = e FOR e`: what it tells, and what its index is.
 use Rattle.std.specs.Prelude.{ℕ, Bool, true, false, ◌||◌, length, Option, Some, None, List, [], ◌∷◌, ◌++◌, if◌then◌else◌}
 use Rattle.occ_base.specs.declared.fault.Fault.{Fault}
+use Rattle.occ_expr.specs.Trees.{int_tree}
 use Rattle.occ_operands.specs.Operators.{is_faulty}
 use Rattle.occ_operands.specs.Settling.{Told, int}
 use Rattle.occ_names.specs.declared.meaning.Access.TheVariants as access
-use Rattle.occ_names.specs.declared.meaning.Entry.{Entry}
+use Rattle.occ_names.specs.declared.meaning.ScopeEntry.{ScopeEntry}
 use Rattle.occ_names.specs.declared.meaning.Meaning.{Meaning}
 use Rattle.occ_names.specs.declared.meaning.Meaning.TheVariants as m
 use Rattle.occ_names.specs.declared.scope.Scope.{Scope}
 use Rattle.occ_forms.specs.declared.tree.Replicator.{Replicator}
 use Rattle.occ_typed.specs.declared.expr.TypedExpr.{TypedExpr}
-use Rattle.occ_replicators.specs.Bounds.{bound, bound_tree, constant, constants}
+use Rattle.occ_replicators.specs.Bounds.{bound, constant, constants}
 use Rattle.occ_replicators.specs.Counting.{Counted, counted, parallel_faults}
 use Rattle.occ_replicators.specs.declared.judge.Replicating.{Replicating}
 use Rattle.occ_replicators.specs.declared.judge.Replicating.TheVariants as by
@@ -58,7 +59,7 @@ index_of [] false name = m.Element (record { of = int; access = access.Value; va
 index_of [] true name = m.Faulty
 index_of (fault ∷ more) faulty name = m.Faulty
 
-unfoldable pub enters : Scope → Replicating → ℕ → Replicator → List Entry
+unfoldable pub enters : Scope → Replicating → ℕ → Replicator → List ScopeEntry
 enters s construct rounds r =
     let x = read s r in
     (record { name = r.name; meaning = index_of (faults_of construct r.name rounds x) x.is_faulty r.name }) ∷ []
@@ -75,4 +76,4 @@ tree_of level x (Some base) None = None
 tree_of level x (Some base) (Some count) = Some (record { index = level; base = base; count = count; known = x })
 
 unfoldable pub tree : Scope → ℕ → Replicator → Option TypedReplicator
-tree s rounds r = tree_of (length s.meanings) (counting s rounds r).known (bound_tree s r.base) (bound_tree s r.count)
+tree s rounds r = tree_of (length s.meanings) (counting s rounds r).known (int_tree s r.base) (int_tree s r.count)

@@ -1,5 +1,7 @@
+//! The base and the count of a replicator, as INTs and as constants.
+ghost use Rattle.occ_expr.specs.Trees.{int_tree as told_tree};
 ghost use Rattle.std.specs.Prelude.{◌≡◌, ◌++◌, IfOk, OnOk};
-ghost use Rattle.occ_replicators.specs.Bounds.{bound as told_bound, bound_tree as told_tree, constant as the_constant, constants as the_constants, int_value as the_int};
+ghost use Rattle.occ_replicators.specs.Bounds.{bound as told_bound, constant as the_constant, constants as the_constants, int_value as the_int};
 
 use super::tree::KnownReplicator;
 use occ_base::{Fault, Items, Shared};
@@ -20,7 +22,7 @@ pub struct BoundReading {
 }
 
 /// The base or the count of a replicator, which is an INT.
-#[tactic(auto, unfolding(crate::specs::Bounds::bound, crate::specs::Bounds::bound_tree))]
+#[tactic(auto, unfolding(crate::specs::Bounds::bound, occ_expr::specs::Trees::int_tree))]
 pub fn bound(
     alloc: Global,
     expr: &Expr,

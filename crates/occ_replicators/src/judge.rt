@@ -1,5 +1,7 @@
+//! Replicators `n = e FOR e`: R1 and R2 of a PAR, the index, and how often the lines under it are repeated.
+//! `docs/LANGUAGE.md, Replicators`.
+ghost use Rattle.occ_expr.specs.Trees.{int_tree};
 ghost use Rattle.std.specs.Prelude.{◌≡◌, ◌++◌, [], IfOk, OnOk};
-ghost use Rattle.occ_replicators.specs.Bounds.{bound_tree};
 ghost use Rattle.occ_replicators.specs.Counting.{counted as told_counted, named as told_named, parallel_faults as told_parallel, times as told_times, too_often as told_too_often};
 ghost use Rattle.occ_replicators.specs.Replicating.{asked as told_asked, counting as told_counting, enters as told_enters, faults as told_faults, index_of as told_index, read as told_read, tree as told_tree, tree_of as told_tree_of, unless_faulty as told_unless_faulty};
 
@@ -7,7 +9,7 @@ use super::bound::{bound, constants};
 use super::tree::{KnownReplicator, TypedReplicator};
 use occ_base::{Code, Fault, Items, Name, Shared};
 use occ_forms::Replicator;
-use occ_names::{Access, Entry, Meaning, Scope, Whole, one_entry};
+use occ_names::{Access, ScopeEntry, Meaning, Scope, Whole, one_entry};
 use occ_operands::{int, is_faulty};
 use occ_scope::SpecId;
 use occ_typed::TypedExpr;
@@ -158,8 +160,8 @@ fn read(
 ) -> Result<ReplicatorReading, AllocError>
     ensures is_faulty { IfOk result (λ read. read.is_faulty ≡ (told_read scope.now replicator.now).is_faulty) }
     ensures constants { IfOk result (λ read. read.constants ≡ (told_read scope.now replicator.now).constants) }
-    ensures base { IfOk result (λ read. read.base ≡ bound_tree scope.now replicator.now.base) }
-    ensures count { IfOk result (λ read. read.count ≡ bound_tree scope.now replicator.now.count) }
+    ensures base { IfOk result (λ read. read.base ≡ int_tree scope.now replicator.now.base) }
+    ensures count { IfOk result (λ read. read.count ≡ int_tree scope.now replicator.now.count) }
     ensures faults { OnOk result (faults.new ≡ faults.old ++ (told_read scope.now replicator.now).faults) }
 {
     let base = bound(alloc, &replicator.base, scope, faults)?;
@@ -215,7 +217,7 @@ fn tree(
 /// if its bounds have no fault.
 #[derive(Drop)]
 pub struct ReplicatorLine {
-    pub enters: Items<Entry>,
+    pub enters: Items<ScopeEntry>,
     pub rounds: u32,
     pub tree: Option<TypedReplicator>,
 }

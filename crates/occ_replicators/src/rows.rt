@@ -1,3 +1,4 @@
+//! Worked rows: constants, R1 and R2, how often lines are repeated, the index.
 ghost use Rattle.std.specs.Prelude.{[], ◌≡◌, None, Some, codes, false, negsuc, pos, true};
 ghost use Rattle.occ_base.specs.declared.code.Code.TheVariants as code;
 ghost use Rattle.occ_names.specs.declared.meaning.Access.TheVariants as access;

@@ -1,3 +1,4 @@
+//! Typed replicators, with base and count as numbers where they are known.
 use occ_base::Shared;
 use occ_scope::SpecId;
 use occ_typed::TypedExpr;

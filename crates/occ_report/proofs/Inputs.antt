@@ -1,22 +1,20 @@
 -- What the check of a unit looks at in a project is what a check may look at.
 use Rattle.std.proofs.Common.{◌≡◌, ◌∙◌, ◌&&◌, ℕ, Bool, true, false, cond, List, [], ◌∷◌, map, Option, Some, None, refl, sym, ap, if◌then◌else◌}
 use Rattle.std.proofs.lemmas.Slice.Eq.{bytes_eq-Decides}
-use Rattle.std.specs.BTreeSet.{insert_key}
-use Rattle.std.specs.List.{find, flat_map}
+use Rattle.std.specs.List.{find}
 use Rattle.std.specs.Option.{is_some, option_and_then, option_map, unwrap_or}
 use Rattle.std.specs.Str.{bytes_eq}
 use Rattle.occ_base.specs.FileName.{is_unit}
 use Rattle.occ_check.specs.Input.{IsInput}
-use Rattle.occ_check.specs.Order.{names_in_order}
 use Rattle.occ_check.specs.declared.used.UsedUnit.{UsedUnit}
 use Rattle.occ_forms.specs.Prepared.{Prepared}
 use Rattle.occ_project.specs.Expansion.{Expansion, expansion}
-use Rattle.occ_project.specs.Reads.{is_named, lines_of, member, name_cmp, open_lines}
-use Rattle.occ_project.specs.Uses.{units_of}
+use Rattle.occ_project.specs.Reads.{is_named, lines_of, member, open_lines}
+use Rattle.occ_project.specs.Uses.{used_in}
 use Rattle.occ_project.specs.declared.reads.Read.{Read}
 use Rattle.occ_report.specs.Checks.{checked, input, used_unit}
 use Rattle.occ_units.specs.Project.{file_of}
-use Rattle.occ_units.specs.Units.{in_order, read_names, unit_reads, used_units}
+use Rattle.occ_units.specs.Units.{read_names, unit_reads, used_units}
 
 -- the file of a name has it
 found_named : (b : Bool) (file : Read) (name : List ℕ) (rest : Option Read) → bytes_eq file.name name ≡ b
@@ -32,10 +30,6 @@ named (file ∷ files) name = found_named (bytes_eq file.name name) file name (m
 all_named : (files : List Read) (names : List (List ℕ)) → map (λ file. file.name) (map (file_of files) names) ≡ names
 all_named files [] = refl
 all_named files (name ∷ names) = ap (λ (n : List ℕ). n ∷ map (λ file. file.name) (map (file_of files) names)) (named files name) ∙ ap (λ (ns : List (List ℕ)). name ∷ ns) (all_named files names)
-
-same_order : (names : List (List ℕ)) → in_order names ≡ names_in_order names
-same_order [] = refl
-same_order (name ∷ names) = ap (λ (ns : List (List ℕ)). insert_key name_cmp ns name) (same_order names)
 
 -- the unit is the first of its reads
 first_open : (files : List Read) (u : List ℕ) (more : List Read) → is_some (file_of files u).source ≡ true → is_some (open_lines (file_of files u ∷ more) u) ≡ true
@@ -63,15 +57,14 @@ reads_and_uses files u used h text these own =
     let first = reads_first files u h in
     let reads : unit_reads files u ≡ file_of files u ∷ map (file_of files) first.0 = ap (map (file_of files)) first.1 in
     let names : read_names files u ≡ (expansion files u).reads = ap (λ (b : Bool). cond b (expansion files u).reads []) h in
-    let uses : used_units files u ≡ in_order (flat_map units_of (expansion files u).lines) = ap (λ (b : Bool). cond b (in_order (flat_map units_of (expansion files u).lines)) []) h in (
+    let uses : used_units files u ≡ used_in (expansion files u).lines = ap (λ (b : Bool). cond b (used_in (expansion files u).lines) []) h in (
       record {
         present = both (is_unit u) (is_some (open_lines (unit_reads files u) u)) h (ap (λ (rs : List Read). is_some (open_lines rs u)) reads ∙ first_open files u (map (file_of files) first.0) text);
         names = all_named files (read_names files u) ∙ names ∙ sym (ap (λ (e : Expansion). e.reads) own);
       },
       these
           ∙ uses
-          ∙ same_order (flat_map units_of (expansion files u).lines)
-          ∙ sym (ap (λ (e : Expansion). names_in_order (flat_map units_of e.lines)) own),
+          ∙ sym (ap (λ (e : Expansion). used_in e.lines) own),
     )
 
 all_units : (files : List Read) (u : List ℕ) (vs : List (List ℕ)) → map (λ one. one.unit) (map (used_unit files u (checked files)) vs) ≡ vs

@@ -1,3 +1,2 @@
 pub mod Local
 pub mod Inputs
-pub mod Circles

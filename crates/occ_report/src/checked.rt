@@ -1,3 +1,4 @@
+//! What the rules give for a unit: diagnostics, and perhaps an interface.
 use occ_base::{Diag, Items, Shared};
 use occ_types::Interface;
 

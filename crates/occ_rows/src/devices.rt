@@ -1,3 +1,4 @@
+//! Devices in memory: bytes to read and to write, a few at a time, which fail at a given call.
 ghost use Rattle.std.specs.Prelude.{◌≡◌, ◌≤◌, List, None, [], Some, false, length, take, ℕ};
 
 use occ_script::{ByteIn, ByteOut, Failed};

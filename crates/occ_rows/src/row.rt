@@ -1,3 +1,4 @@
+//! A row: a script, its output and its status, and whether it is met.
 ghost use Rattle.std.specs.Prelude.{◌≡◌, true};
 ghost use Rattle.occ_rows.specs.Met.{IsRight};
 

@@ -1,3 +1,4 @@
+//! How many rows were met, and how many were not.
 ghost use Rattle.std.specs.Fmt.{decimal};
 ghost use Rattle.std.specs.Prelude.{◌≡◌, ◌++◌, Some, codes, cond};
 ghost use Rattle.occ_script.specs.Devices.{counted};

@@ -1,3 +1,4 @@
+//! The specifications that were entered and not left, and the nearest of each name. `docs/LANGUAGE.md, Names in scope`.
 ghost use Rattle.std.specs.Prelude.{IfOk, IsSome, OnErr, OnOk, [], length, take, ◌++◌, ◌-◌, ◌∷◌, ◌≡◌};
 ghost use Rattle.occ_scope.specs.Kept.{Puts, place_held};
 ghost use Rattle.occ_scope.specs.Nearest.{nearest};

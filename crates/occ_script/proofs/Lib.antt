@@ -5,4 +5,3 @@ pub mod Std
 pub mod Stepwise
 pub mod Holding
 pub mod Editing
-pub mod Settled

@@ -4,9 +4,8 @@ use Rattle.std.specs.Fmt.{decimal}
 use Rattle.std.specs.List.{flat_map, list_any}
 use Rattle.std.specs.Option.{option_map}
 use Rattle.occ_base.specs.Diag.{diag_line}
+use Rattle.occ_base.specs.Errors.{has_error}
 use Rattle.occ_base.specs.FileName.{name_fault}
-use Rattle.occ_base.specs.declared.code.Grade.{Grade}
-use Rattle.occ_base.specs.declared.code.Grade.TheVariants.{Error, Check}
 use Rattle.occ_base.specs.declared.diag.Diag.{Diag}
 use Rattle.occ_base.specs.declared.file_name.NameFault.{NameFault}
 use Rattle.occ_base.specs.declared.file_name.NameFault.TheVariants as name
@@ -184,16 +183,12 @@ unit_text unit (shown.Done (d ∷ ds)) = told (codes "unit " ++ unit ++ codes " 
 abbrev pub report_text : List Row → List ℕ
 report_text rows = flat_map (λ row. unit_text row.unit row.shown) rows ++ told (codes "end")
 
-abbrev pub is_error : Grade → Bool
-is_error Error = true
-is_error Check = false
-
-abbrev pub has_error : Shown → Bool
-has_error shown.Pending = false
-has_error (shown.Done ds) = list_any (λ d. is_error d.grade) ds
+abbrev pub shows_error : Shown → Bool
+shows_error shown.Pending = false
+shows_error (shown.Done ds) = has_error ds
 
 abbrev pub tells_errors : List Row → Bool
-tells_errors rows = list_any (λ row. has_error row.shown) rows
+tells_errors rows = list_any (λ row. shows_error row.shown) rows
 
 abbrev pub after_report : Desk → Desk
 after_report s = record { board = s.board; held = s.held; errors = tells_errors (report_answer s.board) }

@@ -1,3 +1,4 @@
+//! Lines of an answer.
 ghost use Rattle.std.specs.Prelude.{◌≡◌, ◌++◌, IfOk};
 ghost use Rattle.occ_script.specs.Machine.{told};
 

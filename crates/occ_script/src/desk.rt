@@ -1,3 +1,5 @@
+//! The state of a script, and the answer to each command. It has the board, the jobs that workers hold, and whether the
+//! last report had an error. `docs/MACHINE.md, Scripts`.
 ghost use Rattle.occ_commands.specs.Left.{meant};
 ghost use Rattle.occ_commands.specs.Script.Command.{Change, Drop as LetGo, Finish as FinishBy, Open, Remove, Report, Settle, Take as TakeBy};
 ghost use Rattle.occ_script.specs.Machine.{AreLines, Reading, ReadsCommand, after, answer as an_answer, job_of, start, without};
@@ -5,7 +7,7 @@ ghost use Rattle.std.specs.List.{position};
 ghost use Rattle.std.specs.Prelude.{◌≡◌, ◌==◌, IfOk, OnOk};
 
 use super::answer::{line, line_naming};
-use super::edit::{Given, edited, named, read_edit, refused};
+use super::edit::{RequestedEdit, edited, named, read_edit, refused};
 use super::jobs::{checked, verdict_line};
 use super::report::{report_lines, tells_errors};
 use super::settling::settle;
@@ -67,10 +69,10 @@ impl Desk {
     {
         let given = read_edit(alloc, name, text)?;
         match given {
-            Given::File(file, source) => {
+            RequestedEdit::File(file, source) => {
                 edited(alloc, self.board.open(alloc, SESSION, file, source))
             }
-            Given::Refused(word) => refused(alloc, word),
+            RequestedEdit::Refused(word) => refused(alloc, word),
         }
     }
 
@@ -80,10 +82,10 @@ impl Desk {
     {
         let given = read_edit(alloc, name, text)?;
         match given {
-            Given::File(file, source) => {
+            RequestedEdit::File(file, source) => {
                 edited(alloc, self.board.change(alloc, SESSION, file, source))
             }
-            Given::Refused(word) => refused(alloc, word),
+            RequestedEdit::Refused(word) => refused(alloc, word),
         }
     }
 

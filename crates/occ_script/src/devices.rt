@@ -1,3 +1,4 @@
+//! Where a script comes from and answers go: traits over bytes, and the readers and writers of std.
 ghost use Rattle.std.specs.Prelude.{◌≡◌, ◌≤◌, ◌<◌, ◌&&◌, ◌||◌, ◌==◌, ℕ, Bool, false, true, List, [], IfOk, OnErr, OnOk, Option, Some, length, nat_lt, take};
 ghost use Rattle.occ_script.specs.Devices.{Appends, Gives, counted};
 

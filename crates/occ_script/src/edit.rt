@@ -1,3 +1,4 @@
+//! The file and the text of an `open`, `change` or `remove`, or the word that refuses it, the first that holds.
 ghost use Rattle.occ_base.specs.FileName.{name_fault};
 ghost use Rattle.occ_board.specs.declared.entry.EditFault.TheVariants as fault;
 ghost use Rattle.occ_lines.specs.Lines.{limit_fault};
@@ -15,7 +16,7 @@ use std::alloc::{AllocError, Global};
 
 /// What a command gives to edit: a file and its text, or the word that refuses them.
 #[derive(Drop)]
-pub enum Given {
+pub enum RequestedEdit {
     File(FileName, Shared<Source>),
     Refused(&'static str),
 }
@@ -83,39 +84,22 @@ pub fn wrong_edit(name: &[u8], text: &[u8]) -> Option<&'static str>
     if let Err(word) = named(name) {
         return Some(word);
     }
-    match text_fault(text) {
-        Some(fault) => Some(text_word(fault)),
-        None => None,
-    }
+    text_fault(text).map(text_word)
 }
 
 /// The file and the text, if neither is refused; a wrong name comes before a wrong text. Refusals take no memory.
-pub fn read_edit(alloc: Global, name: &[u8], text: &[u8]) -> Result<Given, AllocError>
+pub fn read_edit(alloc: Global, name: &[u8], text: &[u8]) -> Result<RequestedEdit, AllocError>
     ensures refused { IfOk result (λ it. refused_by it ≡ wrong_word name.now (limit_fault text.now)) }
     ensures file { (read : Reading) → AreLines text.now (read text.now) → IfOk result (λ it. IsFile it name.now (text_read read text.now)) }
 {
     let file = match named(name) {
         Ok(file) => file,
-        Err(word) => return Ok(Given::Refused(word)),
+        Err(word) => return Ok(RequestedEdit::Refused(word)),
     };
-    if let Some(fault) = text_fault(text) {
-        return Ok(Given::Refused(text_word(fault)));
-    }
-    let made = prepared(alloc, text)?;
-    let source = Shared::new(alloc, made)?;
-    Ok(Given::File(file, source))
-}
-
-/// The source of a text within the limits.
-fn prepared(alloc: Global, text: &[u8]) -> Result<Source, AllocError>
-    requires { limit_fault text.now ≡ None }
-    ensures { (read : Reading) → AreLines text.now (read text.now) → IfOk result (λ source. source ≡ text_read read text.now) }
-{
     match prepare(alloc, text) {
-        Ok(source) => Ok(source),
+        Ok(source) => Ok(RequestedEdit::File(file, Shared::new(alloc, source)?)),
         Err(TextFault::Memory) => Err(AllocError),
-        Err(TextFault::TooLarge) => unreachable!(),
-        Err(TextFault::TooManyLines) => unreachable!(),
+        Err(fault) => Ok(RequestedEdit::Refused(text_word(fault))),
     }
 }
 

@@ -1,3 +1,4 @@
+//! Reads a script to its end, or one byte over the limit.
 ghost use Rattle.std.specs.Prelude.{◌≡◌, ◌+◌, ◌≤◌, ◌<◌, ℕ, List, IfOk, OnErr, OnOk, Some, Err, drop, length, false, nat_lt, take, true};
 ghost use Rattle.occ_commands.specs.Ended.{IsEnded};
 ghost use Rattle.occ_commands.specs.Lines.{cut_lines, script_limit, whole_lines};

@@ -1,3 +1,4 @@
+//! Checks a job for a worker, and the line of its verdict.
 ghost use Rattle.occ_script.specs.Machine.{verdict_text};
 ghost use Rattle.std.specs.Prelude.{◌≡◌, IfOk};
 

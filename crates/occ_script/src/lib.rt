@@ -11,7 +11,6 @@ mod devices;
 mod edit;
 mod input;
 mod jobs;
-pub mod laws;
 mod report;
 mod run;
 mod settling;
@@ -20,7 +19,7 @@ mod written;
 
 pub use answer::{line, line_naming};
 pub use devices::{ByteIn, ByteOut, Failed, StdIn, StdOut};
-pub use edit::{Given, board_word, named, read_edit, wrong_edit, wrong_name};
+pub use edit::{RequestedEdit, board_word, named, read_edit, wrong_edit, wrong_name};
 pub use input::{ReadFault, read_script};
 pub use report::{report_lines, tells_errors};
 pub use run::run_script;

@@ -1,10 +1,11 @@
+//! The bytes of a report, and whether it has an error.
 ghost use Rattle.std.specs.Fmt.{decimal};
-ghost use Rattle.std.specs.List.{flat_map, list_any};
+ghost use Rattle.std.specs.List.{flat_map};
 ghost use Rattle.std.specs.Prelude.{◌≡◌, ◌++◌, IfOk, codes, length};
-ghost use Rattle.occ_script.specs.Machine.{diag_text, is_error as an_error, report_text, has_error as has_errors_in, tells_errors as some_errors, told, unit_text};
+ghost use Rattle.occ_script.specs.Machine.{diag_text, report_text, shows_error, tells_errors as some_errors, told, unit_text};
 
 use super::answer::line_naming;
-use occ_base::{Diag, Grade, write_diag};
+use occ_base::{Diag, has_error, write_diag};
 use occ_board::{Row, Shown};
 use std::alloc::{AllocError, Global};
 
@@ -43,7 +44,7 @@ pub fn tells_errors(rows: &[Row]) -> bool
 
 /// Whether the unit is shown with an error.
 fn has_errors(row: &Row) -> bool
-    ensures { result ≡ has_errors_in row.now.shown }
+    ensures { result ≡ shows_error row.now.shown }
 {
     match &row.shown {
         Shown::Pending => false,
@@ -90,20 +91,4 @@ fn head(alloc: Global, file: &[u8], count: usize) -> Result<Vec<u8>, AllocError>
     bytes.extend_from_slice(number.as_bytes())?;
     bytes.push(b'\n')?;
     Ok(bytes)
-}
-
-/// Whether one of the diagnostics is an error.
-fn has_error(diags: &[Diag]) -> bool
-    ensures { result ≡ list_any (λ d. an_error d.grade) diags.now }
-{
-    diags.iter().any(|diag| is_error(diag.grade))
-}
-
-fn is_error(grade: Grade) -> bool
-    ensures { result ≡ an_error grade }
-{
-    match grade {
-        Grade::Error => true,
-        Grade::Check => false,
-    }
 }

@@ -1,3 +1,4 @@
+//! Runs a script, command by command. An answer is written before the next command is looked at.
 ghost use Rattle.std.specs.Prelude.{◌≡◌, ◌≤◌, ◌+◌, ◌||◌, ◌⊎◌, IfOk, List, Some, cond, false, length, true, ℕ};
 ghost use Rattle.occ_commands.specs.Ended.{IsEnded};
 ghost use Rattle.occ_commands.specs.Lines.{cut_lines, script_limit};

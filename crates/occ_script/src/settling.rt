@@ -1,3 +1,4 @@
+//! Takes, checks and finishes jobs until there is none to take.
 ghost use Rattle.occ_board.specs.Machine.{after, take_answer};
 ghost use Rattle.occ_board.specs.Machine.Event.{Finish, Take};
 ghost use Rattle.occ_script.specs.Settling.{settled, settled_in};

@@ -1,3 +1,4 @@
+//! How a run ended, and the exit status for it. `docs/MACHINE.md, Status`.
 ghost use Rattle.std.specs.Prelude.{◌≡◌};
 ghost use Rattle.occ_script.specs.Status.{exit_code};
 

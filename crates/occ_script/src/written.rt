@@ -1,3 +1,4 @@
+//! Writes all bytes of an answer, or a front of them if a write fails.
 ghost use Rattle.std.specs.Prelude.{◌≡◌, true, OnErr, OnOk};
 ghost use Rattle.occ_script.specs.Devices.{Appends, AppendsFront};
 

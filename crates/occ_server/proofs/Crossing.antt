@@ -52,7 +52,7 @@ use Rattle.occ_forms.specs.contracts.tree.Action as action
 use Rattle.occ_forms.specs.contracts.tree.Replicator as replicator
 use Rattle.occ_forms.specs.contracts.tree.Construct as construct
 use Rattle.occ_forms.specs.contracts.tree.Guarded as guarded
-use Rattle.occ_forms.specs.contracts.tree.Part as part
+use Rattle.occ_forms.specs.contracts.tree.PartForm as part
 use Rattle.occ_forms.specs.contracts.tree.Detail as detail
 use Rattle.occ_forms.specs.contracts.tree.Form as form
 use Rattle.occ_forms.specs.contracts.source.LineBody as line_body

@@ -13,11 +13,11 @@ use Rattle.occ_project.specs.declared.reads.Read.{Read}
 use Rattle.occ_board.specs.Rules.{diags, open_units}
 use Rattle.occ_server.specs.Snapshots.{IsShown, IsSnapshot}
 
-units_are : (files : List Read) (kept : List Input) (us : List (List ℕ)) → map (λ (row : Row). row.unit) (map (row_of files kept) us) ≡ us
+pub units_are : (files : List Read) (kept : List Input) (us : List (List ℕ)) → map (λ (row : Row). row.unit) (map (row_of files kept) us) ≡ us
 units_are files kept [] = refl
 units_are files kept (u ∷ us) = ap (λ (names : List (List ℕ)). u ∷ names) (units_are files kept us)
 
-row_by : (files : List Read) (u : List ℕ) (b : Bool) → IsShown files (record { unit = u; shown = if b then shown.Done (diags files u) else shown.Pending })
+pub row_by : (files : List Read) (u : List ℕ) (b : Bool) → IsShown files (record { unit = u; shown = if b then shown.Done (diags files u) else shown.Pending })
 row_by files u true = inr refl
 row_by files u false = inl refl
 

@@ -1,3 +1,4 @@
+//! Compares receipts with a journal: the least number at which they disagree.
 ghost use Rattle.occ_server.specs.Receipts.{IsLeastOff, ascends as do_ascend, entry_at, receipts_of};
 ghost use Rattle.std.specs.Option.{option_copied};
 ghost use Rattle.std.specs.Prelude.{◌≡◌, ◌≤◌, ◌↔◌, ◌+◌, IfNone, IfSome, IsTrue, Some, length, true};

@@ -1,3 +1,4 @@
+//! Copies of edits and entries, which share their texts.
 ghost use Rattle.std.specs.Prelude.{◌≡◌, IfOk};
 
 use occ_base::Items;
@@ -26,7 +27,10 @@ pub fn copied(entry: &Entry) -> Result<Entry, AllocError>
 }
 
 /// The same entries.
-pub fn all_copied(alloc: Global, entries: &[Entry]) -> Result<Items<Entry>, AllocError>
+pub fn all_copied(
+    alloc: Global,
+    entries: &[Entry],
+) -> Result<Items<Entry>, AllocError>
     ensures { IfOk result (λ copies. copies ≡ entries.now) }
 {
     let mut copies = Items::new(alloc);

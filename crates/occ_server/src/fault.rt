@@ -1,3 +1,4 @@
+//! Why a report or a close is refused.
 ghost use Rattle.occ_server.specs.declared.fault.CloseFault.TheVariants as close_fault;
 ghost use Rattle.occ_server.specs.declared.fault.ReportFault.TheVariants as report_fault;
 ghost use Rattle.std.specs.Prelude.{◌≡◌};

@@ -1,3 +1,4 @@
+//! What is locked: a board and a stop flag. Each method is one critical section, with its whole contract.
 ghost use Rattle.occ_board.specs.Machine.{Answer, Event, after, answer, edit_number, files_of, finish_answer, pending_answer, report_answer, start};
 ghost use Rattle.occ_board.specs.declared.entry.EditFault.TheVariants as fault;
 ghost use Rattle.occ_board.specs.declared.entry.EditFault.{EditFault as AFault};
@@ -12,7 +13,9 @@ ghost use Rattle.std.specs.Prelude.{◌≡◌, ◌<◌, ◌⊎◌, ℕ, ◌&&◌
 use super::comparing::{ascends, entry_of, first_off, is_found};
 use super::copying::{all_copied, copied};
 use super::laws::{few_law, receipts_law};
-use super::{CloseFault, Edit, EditFault, Ended, Entry, Receipt, ReportFault, Settled, Snapshot};
+use super::{
+    CloseFault, Edit, EditFault, Ended, Entry, Receipt, ReportFault, Settled, Snapshot,
+};
 use occ_board::laws::report_law;
 use occ_board::{Board, Verdict};
 use occ_check::{Job, Outcome};

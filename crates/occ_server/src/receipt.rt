@@ -1,3 +1,4 @@
+//! Receipts of accepted edits: number, session and edit.
 ghost use Rattle.std.specs.Prelude.{◌≡◌, ◌<◌};
 
 use occ_board::{Edit, Entry};

@@ -1,3 +1,5 @@
+//! The calls that threads make. They lock, wait and wake; what is known of a result is in its type. `docs/MACHINE.md, The
+//! server`.
 ghost use Rattle.occ_server.specs.Receipts.{receipts_of};
 ghost use Rattle.occ_server.specs.Snapshots.{IsBehind, Stands};
 ghost use Rattle.std.specs.Option.{option_copied};

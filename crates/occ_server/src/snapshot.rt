@@ -1,3 +1,4 @@
+//! Reports with their journal. Their types say that the rows are a report of the files that the journal makes.
 ghost use Rattle.occ_server.specs.Snapshots.{IsSnapshot, IsWhole};
 ghost use Rattle.std.specs.Prelude.{◌≡◌};
 

@@ -1,3 +1,4 @@
+//! The gate that jobs pass, what a worker did, and how a wait ended.
 use occ_base::FileName;
 use occ_board::Verdict;
 use std::sync::Wait;

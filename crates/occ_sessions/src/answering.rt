@@ -1,3 +1,4 @@
+//! The answer to a command of a session, if what it heard agrees with the journal.
 ghost use Rattle.occ_commands.specs.Left.{meant};
 ghost use Rattle.occ_script.specs.Machine.{Reading, ReadsCommand, told};
 ghost use Rattle.occ_sessions.specs.Sessions.{IsAnswer, IsReportAnswer, edits_of};

@@ -1,3 +1,4 @@
+//! Answers to edits: each accepted one has to be the session's next edit in the journal.
 ghost use Rattle.occ_board.specs.declared.entry.Edit.TheVariants as an_edit;
 ghost use Rattle.occ_lines.specs.Lines.{limit_fault};
 ghost use Rattle.occ_script.specs.Machine.{AreLines, Reading, edited_text, text_read, wrong_word};

@@ -1,3 +1,4 @@
+//! Finds the first fault of a script, as that of a session.
 ghost use Rattle.occ_commands.specs.Left.{meant};
 ghost use Rattle.occ_sessions.specs.Sessions.{is_stepped as is_stepped_command, session_fault};
 ghost use Rattle.std.specs.Prelude.{◌≡◌};

@@ -1,3 +1,4 @@
+//! Finds the next edit of a session in the journal, and compares it with what a command asks for.
 ghost use Rattle.occ_board.specs.declared.entry.Edit.TheVariants as an_edit;
 ghost use Rattle.occ_lines.specs.Lines.{limit_fault};
 ghost use Rattle.occ_script.specs.Machine.{AreLines, Reading, text_read};

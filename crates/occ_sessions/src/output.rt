@@ -1,3 +1,4 @@
+//! The output of a run: the answers of each session, and the last report.
 ghost use Rattle.occ_sessions.specs.Output.{AreReading, AreTold, IsRun, fault_lines, first_fault, is_of_one, session_line};
 ghost use Rattle.occ_script.specs.Machine.{Reading};
 ghost use Rattle.std.specs.List.{list_all};

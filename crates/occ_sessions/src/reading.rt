@@ -1,3 +1,4 @@
+//! Reads and judges scripts, each before the next one is read.
 ghost use Rattle.occ_commands.specs.Script.{script_of};
 ghost use Rattle.occ_sessions.specs.Output.{fault_in, first_fault};
 ghost use Rattle.occ_sessions.specs.Sessions.{session_fault};

@@ -1,3 +1,5 @@
+//! Runs sessions and workers in threads, joins them, settles and closes the server, and writes the output.
+//! `docs/MACHINE.md, Sessions`.
 ghost use Rattle.occ_commands.specs.Script.{script_of};
 ghost use Rattle.occ_script.specs.Machine.{Reading};
 ghost use Rattle.occ_script.specs.Status.{is_device_fault};

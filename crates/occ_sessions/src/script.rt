@@ -1,3 +1,4 @@
+//! A script that was read whole. Contracts see it as what it says.
 ghost use Rattle.occ_commands.specs.Ended.{IsEnded};
 ghost use Rattle.occ_commands.specs.Left.{IsRest, script_left};
 ghost use Rattle.occ_commands.specs.Lines.{cut_lines, script_limit};

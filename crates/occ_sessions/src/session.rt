@@ -1,8 +1,9 @@
+//! A session: it asks the server for what its commands ask for, and stores what it hears.
 use super::script::SessionScript;
 use super::talk::{Broken, Said, Talk};
 use occ_board::EditFault;
 use occ_commands::{Command, Next, next_command};
-use occ_script::{Given, named, read_edit};
+use occ_script::{RequestedEdit, named, read_edit};
 use occ_server::{Edit, ReportFault, Server, Settled};
 use std::alloc::Global;
 use std::sync::Wait;
@@ -54,12 +55,12 @@ impl<'a, R: Wait> Session<'a, R> {
     fn ask(&self, command: Command<'_>, talk: &mut Talk) -> Result<Said, Broken> {
         match command {
             Command::Open(name, text) => match read_edit(self.alloc, name, text)? {
-                Given::File(file, source) => self.edit(Edit::Added(file, source), talk),
-                Given::Refused(_word) => Ok(Said::Wrong),
+                RequestedEdit::File(file, source) => self.edit(Edit::Added(file, source), talk),
+                RequestedEdit::Refused(_word) => Ok(Said::Wrong),
             },
             Command::Change(name, text) => match read_edit(self.alloc, name, text)? {
-                Given::File(file, source) => self.edit(Edit::Changed(file, source), talk),
-                Given::Refused(_word) => Ok(Said::Wrong),
+                RequestedEdit::File(file, source) => self.edit(Edit::Changed(file, source), talk),
+                RequestedEdit::Refused(_word) => Ok(Said::Wrong),
             },
             Command::Remove(name) => match named(name) {
                 Ok(file) => self.edit(Edit::Removed(file), talk),

@@ -1,3 +1,4 @@
+//! What a session heard, command by command, and the receipts of its edits.
 ghost use Rattle.occ_sessions.specs.declared.talk.Broken.TheVariants as broken;
 ghost use Rattle.std.specs.Prelude.{◌≡◌};
 

@@ -1,3 +1,4 @@
+//! The answers to all commands of a session, each compared with the journal.
 ghost use Rattle.occ_script.specs.Machine.{IsReading, Reading};
 ghost use Rattle.occ_sessions.specs.Sessions.{AreAnswers};
 ghost use Rattle.std.specs.Prelude.{[], IfOk};

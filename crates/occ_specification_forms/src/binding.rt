@@ -1,3 +1,4 @@
+//! How a name is bound to what follows: IS, RETYPES or RESHAPES.
 ghost use Rattle.occ_lines.specs.declared.token.Token.TheVariants as t;
 ghost use Rattle.occ_lines.specs.declared.token.Token.{Token as AToken};
 ghost use Rattle.occ_specification_forms.specs.Reading.{binding_word};

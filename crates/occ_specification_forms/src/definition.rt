@@ -1,3 +1,4 @@
+//! Parses `PROC n (formals)`, `PROTOCOL n` with or without its items, `DATA TYPE n` with or without its type.
 ghost use Rattle.occ_expression_forms.specs.Spelling.{type_form_then};
 ghost use Rattle.occ_expression_forms.specs.declared.tree.TypeForm.{TypeForm as ATypeForm};
 ghost use Rattle.occ_lines.specs.declared.token.Symbol.TheVariants as s;

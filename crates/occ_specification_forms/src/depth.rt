@@ -1,3 +1,4 @@
+//! Counts the dimensions of types in lines of specification, against the limit of 64.
 ghost use Rattle.occ_specification_forms.specs.Depth.{formal_group_dimensions, function_head_dimensions, head_dimensions, item_dimensions, perhaps_type_dimensions, specification_dimensions, specified_dimensions, value_group_dimensions};
 ghost use Rattle.std.specs.Prelude.{IsTrue, ◌<◌, ◌↔◌};
 

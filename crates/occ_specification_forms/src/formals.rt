@@ -1,3 +1,4 @@
+//! Parses groups of formals: `VAL t n, ..` and `t n, ..`, of a FUNCTION with VAL alone.
 ghost use Rattle.occ_lines.specs.declared.token.Token.TheVariants as t;
 ghost use Rattle.occ_lines.specs.declared.token.Token.{Token as AToken};
 ghost use Rattle.occ_lines.specs.declared.token.Word.TheVariants as w;

@@ -1,3 +1,4 @@
+//! Parses lists of one kind of thing up to the end of a line or its colon.
 ghost use Rattle.occ_expression_forms.specs.Reading.{IsEnd, IsNot, IsNotCounted, Reads};
 ghost use Rattle.occ_expression_forms.specs.Spelling.{element_then, expr_then, many, type_form_then};
 ghost use Rattle.occ_lines.specs.declared.token.Symbol.TheVariants as s;

@@ -1,3 +1,4 @@
+//! Parses heads of functions, `t, .. FUNCTION n (formals)`, perhaps with INLINE.
 ghost use Rattle.occ_expression_forms.specs.Reading.{IsNotWord, Reads};
 ghost use Rattle.occ_expression_forms.specs.Spelling.{many, type_form_then};
 ghost use Rattle.occ_lines.specs.declared.token.Symbol.TheVariants as s;

@@ -1,3 +1,4 @@
+//! Parses the items that a protocol carries: data types and `t::[]u`.
 ghost use Rattle.occ_expression_forms.specs.Reading.{IsNotCounted};
 ghost use Rattle.occ_specification_forms.specs.Spelling.{item_then};
 

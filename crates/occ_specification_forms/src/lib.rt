@@ -9,7 +9,6 @@ mod formals;
 mod from_tokens;
 mod function;
 mod items;
-mod law;
 mod line;
 mod names;
 mod rows;
@@ -19,7 +18,6 @@ mod typed;
 mod value;
 
 pub use from_tokens::{FromTokens, alone, list, more};
-pub use law::one_tree_law;
 pub use line::specified;
 pub use rows::{head_rows, line_rows, no_form_rows};
 pub use tree::{

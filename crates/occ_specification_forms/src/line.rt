@@ -1,3 +1,4 @@
+//! Parses a whole line that specifies names, or the head of a specification. `docs/LANGUAGE.md, Forms`.
 ghost use Rattle.occ_specification_forms.specs.Spelling.{specified_tokens};
 ghost use Rattle.occ_specification_forms.specs.declared.tree.Specified.{Specified as ASpecified};
 ghost use Rattle.std.specs.Prelude.{IfOk, IfSome, Some, ◌≡◌};

@@ -1,3 +1,4 @@
+//! Parses names with commas between them, and `n IS`.
 ghost use Rattle.occ_expression_forms.specs.Reading.{IsNot};
 ghost use Rattle.occ_expression_forms.specs.Spelling.{many};
 ghost use Rattle.occ_lines.specs.declared.token.Symbol.TheVariants as s;

@@ -1,3 +1,4 @@
+//! Worked rows: what some lines of specification and heads spell, and lines without a form.
 #![tactic(auto, using(occ_expression_forms::proofs::Cases::spelling_rules))]
 
 ghost use Rattle.occ_expression_forms.specs.declared.tree.Builtin.TheVariants as u;

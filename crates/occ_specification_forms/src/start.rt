@@ -1,3 +1,4 @@
+//! What a line can specify, by its first token.
 ghost use Rattle.occ_specification_forms.specs.Reading.{start_of};
 ghost use Rattle.std.specs.Prelude.{◌≡◌};
 

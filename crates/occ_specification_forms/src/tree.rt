@@ -1,3 +1,4 @@
+//! The trees of lines of specification and of heads, as tokens spell them.
 use occ_base::{Items, Name};
 use occ_expression_forms::{DataForm, Element, Expr, TypeForm};
 

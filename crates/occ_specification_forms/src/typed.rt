@@ -1,3 +1,4 @@
+//! Parses specifications that begin with a name or a type: declarations, abbreviations, RETYPES, RESHAPES, FUNCTIONs.
 ghost use Rattle.occ_expression_forms.specs.Spelling.{element_then, expr_then, many, type_form_then};
 ghost use Rattle.occ_expression_forms.specs.declared.tree.Element.{Element as AnElement};
 ghost use Rattle.occ_expression_forms.specs.declared.tree.Expr.{Expr as AnExpr};

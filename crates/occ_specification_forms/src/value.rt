@@ -1,3 +1,4 @@
+//! Parses specifications that begin with VAL: `VAL n IS e:`, `VAL t n IS e:`, and VAL with RETYPES or RESHAPES.
 ghost use Rattle.occ_expression_forms.specs.Spelling.{expr_then, type_form_then};
 ghost use Rattle.occ_expression_forms.specs.declared.tree.Expr.{Expr as AnExpr};
 ghost use Rattle.occ_expression_forms.specs.declared.tree.TypeForm.{TypeForm as ATypeForm};

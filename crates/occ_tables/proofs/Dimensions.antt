@@ -7,9 +7,9 @@ use Rattle.occ_types.specs.declared.types.Item.TheViews.{roll-out-OccType}
 use Rattle.occ_types.specs.declared.types.OccType.{OccType, out-OccType, roll-OccType}
 use Rattle.occ_types.specs.declared.types.OccType.TheVariants as t
 use Rattle.occ_types.specs.Size.{is_over, size_of}
-use Rattle.occ_types.specs.View.{Layer}
+use Rattle.occ_types.specs.View.{Layer, of_component}
 use Rattle.occ_types.proofs.Agreeing.{as_array_at_array}
-use Rattle.occ_tables.specs.Extents.{is_oversized, of_component, oversized_step}
+use Rattle.occ_tables.specs.Extents.{is_oversized, oversized_step}
 
 abbrev oversized_fold : OccType → OccType → Bool
 oversized_fold = fold-OccType (Unit {0}) (OccType → Bool) (Unit {0}) (Unit {0}) (Unit {0}) (λ _. tt) oversized_step (λ _. tt) (λ _. tt) (λ _. tt)

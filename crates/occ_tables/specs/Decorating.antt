@@ -7,6 +7,7 @@ use Rattle.occ_types.specs.declared.types.Field.{Field}
 use Rattle.occ_types.specs.declared.types.OccType.{OccType}
 use Rattle.occ_types.specs.declared.value.Value.{Value}
 use Rattle.occ_operands.specs.Operators.{kinds}
+use Rattle.occ_operands.specs.Parts.{mismatched}
 use Rattle.occ_operands.specs.Settling.{Told, fault_of, known, silent}
 use Rattle.occ_operands.specs.declared.kind.Kind.{Kind}
 use Rattle.occ_operands.specs.declared.kind.Kind.TheVariants as k
@@ -35,11 +36,6 @@ abbrev pub field_values : List Field → List Judged → List Told
 field_values [] xs = []
 field_values (f ∷ fs) [] = []
 field_values (f ∷ fs) (x ∷ xs) = field_value f x ∷ field_values fs xs
-
-abbrev pub mismatched : Kind → Told
-mismatched k.Faulty = silent
-mismatched (k.Free f) = silent
-mismatched (k.Known x) = fault_of code.T2
 
 -- a table of a type that is neither: no type is wanted of it, and it is not of this one
 abbrev pub misused : List Judged → Told

@@ -4,18 +4,13 @@ use Rattle.occ_base.specs.declared.code.Code.TheVariants as code
 use Rattle.occ_types.specs.Measure.{measure_of}
 use Rattle.occ_types.specs.Size.{is_over, size_of}
 use Rattle.occ_types.specs.Unknown.{holds_unknown}
-use Rattle.occ_types.specs.View.{as_array}
+use Rattle.occ_types.specs.View.{as_array, of_component}
 use Rattle.occ_types.specs.declared.measure.Measure.{Measure}
 use Rattle.occ_types.specs.declared.types.Item.TheFolds.{fold-OccType}
 use Rattle.occ_types.specs.declared.types.Item.TheOpen.{OccType-F}
 use Rattle.occ_types.specs.declared.types.OccType.{OccType}
 use Rattle.occ_types.specs.declared.types.OccType.TheVariants as t
 use Rattle.occ_operands.specs.Settling.{Told, fault_of, known}
-
--- what is told of the type of an array's components
-abbrev pub of_component : {X : Type 0} → X → (OccType → X) → Option (Option ℕ × OccType) → X
-of_component here inner None = here
-of_component here inner (Some parts) = inner parts.1
 
 abbrev pub oversized_step : OccType-F (Unit {0}) (OccType → Bool) (Unit {0}) (Unit {0}) (Unit {0}) → OccType → Bool
 oversized_step (OccType-F.Array n inner) self = is_over (size_of self) || of_component false inner (as_array self)

@@ -11,14 +11,14 @@ use Rattle.occ_operands.specs.Outcomes.{fitting}
 use Rattle.occ_operands.specs.Settling.{Told, base_of, fault_of, int, known, landed, number, silent}
 use Rattle.occ_operands.specs.declared.kind.Kind.{Kind}
 use Rattle.occ_operands.specs.declared.kind.Kind.TheVariants as k
-use Rattle.occ_operands.specs.declared.kind.Outcome.{Outcome}
-use Rattle.occ_operands.specs.declared.kind.Outcome.TheVariants as o
+use Rattle.occ_operands.specs.declared.kind.TypedValue.{TypedValue}
+use Rattle.occ_operands.specs.declared.kind.TypedValue.TheVariants as o
 use Rattle.occ_tables.specs.declared.measure.Limit.{Limit}
 use Rattle.occ_tables.specs.declared.measure.Limit.TheVariants as limit
 
 -- ---- the number of components of an array, perhaps under names: a constant INT where it is known
 
-abbrev pub size_outcome : Option ℕ → Outcome
+abbrev pub size_outcome : Option ℕ → TypedValue
 size_outcome None = o.Varying
 size_outcome (Some n) = fitting (number_value p.Int (pos n))
 

@@ -1,3 +1,4 @@
+//! Operands beside others of one operator: a table is judged alone, and says nothing beside a fault.
 #![tactic(auto, using(crate::proofs::Judging::judging_rules))]
 
 ghost use Rattle.std.specs.Prelude.{◌≡◌, ◌++◌, IfOk, OnOk};

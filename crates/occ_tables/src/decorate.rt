@@ -1,3 +1,4 @@
+//! Tables, characters and strings with their type after them in parentheses. `docs/LANGUAGE.md, Tables and segments`.
 #![tactic(auto, using(crate::proofs::Judging::counting_rules))]
 
 ghost use Rattle.std.specs.Prelude.{◌≡◌, ◌++◌, IfOk, OnOk, Some};
@@ -11,7 +12,7 @@ use super::hiding::hidden;
 use super::table::{any_faulty, each_alone, each_under, table_alone, under};
 use super::term::Term;
 use occ_base::{Code, Fault, Items, Shared, tell};
-use occ_operands::{Kind, known};
+use occ_operands::{Kind, known, mismatched};
 use occ_types::{Field, OccType, Value, alike, array_of, fields_of, is_unknown, unnamed};
 use std::alloc::{AllocError, Global};
 
@@ -123,10 +124,8 @@ fn misused(alloc: Global, items: &[Term], faults: &mut Items<Fault>) -> Result<K
     ensures kind { IfOk result (λ kind. kind ≡ (told_misused (judged_all items.now)).kind) }
     ensures faults { OnOk result (faults.new ≡ faults.old ++ (told_misused (judged_all items.now)).faults) }
 {
-    if let Kind::Known(_) = table_alone(alloc, items, faults)? {
-        tell(faults, Code::T2)?;
-    }
-    Ok(Kind::Faulty)
+    let kind = table_alone(alloc, items, faults)?;
+    mismatched(&kind, faults)
 }
 
 /// More or fewer values than a record has fields.

@@ -1,3 +1,4 @@
+//! Sizes of dimensions: an INT (T2), constant (T5), not negative (T6).
 ghost use Rattle.std.specs.Prelude.{◌≡◌, ◌++◌, IfOk, OnOk};
 ghost use Rattle.occ_tables.specs.Dimensions.{size as told_size, size_of_kind as told_size_of_kind, size_of_number as told_size_of_number};
 ghost use Rattle.occ_tables.specs.Segments.{number_in as the_number};
@@ -14,10 +15,7 @@ use std::alloc::{AllocError, Global};
 pub(super) fn number_in(value: Option<Value>) -> Option<i64>
     ensures { result ≡ the_number value }
 {
-    match value {
-        Some(value) => Some(value.number()),
-        None => None,
-    }
+    value.map(|value| value.number())
 }
 
 /// The size that a number says, where it is constant.

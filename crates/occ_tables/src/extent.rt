@@ -1,3 +1,4 @@
+//! Whether a type is too large (T9): by bytes, levels or number of types.
 #![tactic(auto, using(crate::proofs::Dimensions::dimension_rules))]
 
 ghost use Rattle.std.specs.Prelude.{◌≡◌, ◌++◌, IfOk, OnOk};

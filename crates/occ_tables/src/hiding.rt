@@ -1,3 +1,4 @@
+//! Operands where a fault hides what is wanted of them: free ones are silent, the items of a table still agree.
 #![tactic(auto, using(crate::proofs::Judging::judging_rules))]
 
 ghost use Rattle.std.specs.Prelude.{◌≡◌, ◌++◌, IfOk, OnOk, map};

@@ -1,9 +1,10 @@
+//! `SIZE`, MOSTPOS and MOSTNEG.
 ghost use Rattle.std.specs.Prelude.{◌≡◌, ◌++◌, IfOk, OnOk};
 ghost use Rattle.occ_tables.specs.Measuring.{limit_of, most as told_most, size_outcome as outcome_of_size, sized as told_size};
 ghost use Rattle.occ_types.specs.Constant.{greatest_of, least_of, value_of};
 
 use occ_base::{Code, Fault, Items, Shared, tell};
-use occ_operands::{Kind, Outcome, int, known, landed, number};
+use occ_operands::{Kind, TypedValue, int, known, landed, number};
 use occ_types::{OccType, Primitive, Value, array_of, base_of, unnamed, value_of_number};
 use std::alloc::{AllocError, Global};
 
@@ -17,15 +18,15 @@ pub enum Limit {
 }
 
 /// What the number of components is as an INT.
-fn size_outcome(count: Option<u32>) -> Outcome
+fn size_outcome(count: Option<u32>) -> TypedValue
     ensures { result ≡ outcome_of_size count }
 {
     match count {
         Some(count) => match value_of_number(Primitive::Int, i128::from(count)) {
-            Some(value) => Outcome::Constant(value),
-            None => Outcome::Unfit,
+            Some(value) => TypedValue::Constant(value),
+            None => TypedValue::Unfit,
         },
-        None => Outcome::Varying,
+        None => TypedValue::Varying,
     }
 }
 

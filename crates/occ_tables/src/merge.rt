@@ -1,3 +1,4 @@
+//! One type that agrees with two others, filling in unknown numbers of components.
 #![tactic(auto, using(crate::proofs::Filling::filling_rules))]
 
 ghost use Rattle.std.specs.Prelude.{◌≡◌, IfOk, MatchOption, None, Some};

@@ -1,3 +1,4 @@
+//! Whether an operand or one of several has a fault.
 #![tactic(auto, using(crate::proofs::Judging::judging_rules))]
 
 ghost use Rattle.std.specs.Prelude.{◌≡◌};

@@ -1,10 +1,12 @@
+//! Worked rows: segments, sizes, decorated tables, tables beside others, merged types.
 ghost use Rattle.std.specs.Prelude.{[], ◌∷◌, ◌≡◌, None, Some, false, negsuc, pos, true};
 ghost use Rattle.occ_base.specs.declared.code.Code.TheVariants as code;
 ghost use Rattle.occ_operands.specs.Outcomes.{decimal};
 ghost use Rattle.occ_operands.specs.Settling.{fault_of, int, known, silent};
 ghost use Rattle.occ_operands.specs.declared.kind.Kind.TheVariants as k;
 ghost use Rattle.occ_base.specs.Telling.{nameless};
-ghost use Rattle.occ_tables.specs.Decorating.{decorated_table, mismatched};
+ghost use Rattle.occ_operands.specs.Parts.{mismatched};
+ghost use Rattle.occ_tables.specs.Decorating.{decorated_table};
 ghost use Rattle.occ_tables.specs.Dimensions.{size_of_kind};
 ghost use Rattle.occ_tables.specs.Measuring.{most, sized};
 ghost use Rattle.occ_tables.specs.Merging.{merged};

@@ -1,3 +1,4 @@
+//! Segments `[el FROM e FOR e]`: the type of the part, and faults of their bounds (T2, T6).
 ghost use Rattle.std.specs.Prelude.{◌≡◌, ◌++◌, IfOk, OnOk};
 ghost use Rattle.occ_tables.specs.Segments.{bound as told_bound, constant_of as the_constant, count_of as the_count, ends_behind as end_is_behind, for_count as told_for, from_base as told_from, from_for as told_from_for, is_beyond as beyond, is_negative as negative, no_part as told_no_part, no_parts as told_no_parts, no_segment as told_no_segment, segment as told_segment, segment_within as told_within, taken as told_taken, to_the_end as the_rest};
 ghost use Rattle.occ_tables.specs.Terms.{judged};
@@ -35,10 +36,7 @@ fn constant_of(kind: &Kind) -> Option<i64>
 fn wide(n: Option<i64>) -> Option<i128>
     ensures { result ≡ n }
 {
-    match n {
-        Some(n) => Some(i128::from(n)),
-        None => None,
-    }
+    n.map(|n| i128::from(n))
 }
 
 /// How many components there are from a base to the end.

@@ -1,3 +1,5 @@
+//! Tables: the one type of their items, item by item under a wanted type or alone. Each item is settled once, so deep
+//! tables are cheap.
 #![tactic(auto, using(crate::proofs::Judging::judging_rules))]
 
 ghost use Rattle.std.specs.Prelude.{◌≡◌, ◌++◌, ◌∷◌, [], IfOk, OnOk, Some, map};
@@ -219,10 +221,7 @@ fn single_settled(alloc: Global, kind: &Kind, of: &Shared<OccType>) -> Result<Se
 fn is_free(term: &Term) -> bool
     ensures { result ≡ (judged term.now).is_free }
 {
-    match term {
-        Term::Single(Kind::Free(_)) => true,
-        _ => false,
-    }
+    matches!(term, Term::Single(Kind::Free(_)))
 }
 
 /// An operand of which no type is wanted.

@@ -1,3 +1,4 @@
+//! An operand or a table before a type is wanted of it.
 use occ_base::Items;
 use occ_operands::Kind;
 

@@ -1,3 +1,4 @@
+//! Tests: outcomes that are repeated or foreign, and jobs that are handed out once.
 use super::expansion::open;
 use occ_base::{FileName, Items};
 use occ_board::{Board, Row, Shown, Verdict};

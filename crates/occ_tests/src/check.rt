@@ -1,3 +1,4 @@
+//! Tests: used units in a circle and with faults, faults in included files, refused jobs.
 use super::expansion::open;
 use occ_base::{Code, Diag, FileName, Items};
 use occ_check::{Job, JobFault, Outcome, Used, UsedUnit, check};

@@ -1,3 +1,4 @@
+//! Tests: how many units an edit expands.
 use super::expansion::open;
 use occ_base::FileName;
 use occ_board::Board;

@@ -1,3 +1,4 @@
+//! Tests: expansions over given files, and the first that is not given.
 use occ_base::{FileName, Items, Shared};
 use occ_forms::prepare;
 use occ_project::{ExpandFault, Expanded, ExpandedLine, Read, Reads, expand};
@@ -37,7 +38,7 @@ fn stands_at(line: &ExpandedLine, file: &[u8], number: u32, depth: u64) -> bool 
 
 /// Whether a line uses this unit.
 fn uses(line: &ExpandedLine, unit: &[u8]) -> bool {
-    match line.units().first() {
+    match line.used_unit() {
         Some(used) => used.as_bytes() == unit,
         None => false,
     }

@@ -1,3 +1,4 @@
+//! Tests: a form with one operator between three operands, and the text of a source.
 use occ_expression_forms::{Expr, RunOperator};
 use occ_forms::{Action, Form, form, prepare};
 use occ_lines::{Body, logical};

@@ -1,3 +1,4 @@
+//! Tests: a name that is entered alone.
 use occ_base::Name;
 use occ_names::{Meaning, Scope};
 use std::test::Fail;

@@ -1,9 +1,10 @@
+//! Tests: reports after edits, closing with all receipts, a stopped server.
 use super::expansion::open;
 use occ_base::FileName;
 use occ_board::{Row, Shown};
 use occ_project::Read;
 use occ_server::{
-    CloseFault, Edit, Entry, Gate, Receipt, ReportFault, Server, Settled, Snapshot, WorkEnd,
+    CloseFault, Edit, Gate, Entry, Receipt, ReportFault, Server, Settled, Snapshot, WorkEnd,
 };
 use std::alloc::Global;
 use std::sync::Wait;

@@ -1,3 +1,4 @@
+//! Tests with threads: a worker checks while another is held, and a changed comment is checked once.
 use super::expansion::open;
 use super::server::{PLAIN, added, is_done};
 use occ_base::FileName;

@@ -1,3 +1,4 @@
+//! Tests: types and interfaces that are one, and their bytes.
 use occ_base::{Items, Name, Shared};
 use occ_types::{
     Effect, Export, ExportKind, FormalUse, Interface, OccType, Primitive, Protocol, UseKind,

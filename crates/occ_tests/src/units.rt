@@ -1,3 +1,4 @@
+//! Tests: circles of units, reads and uses, and how a used unit is found.
 use super::expansion::open;
 use occ_base::FileName;
 use occ_project::Read;

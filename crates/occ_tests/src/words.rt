@@ -1,3 +1,4 @@
+//! Tests: the mode that words name.
 use occ_words::{Mode, WordsFault, read_words};
 use std::test::Fail;
 

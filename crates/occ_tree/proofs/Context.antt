@@ -56,7 +56,7 @@ right_can_hold None d h = refl
 right_can_hold (Some q) d h = lt-ltb q d (omega (arith, eqb-true d (q + 1) h))
 
 -- behind a line and those under it: the line is the nearest elder
-behind_tree : (l : ExpandedLine) (u : Forest) (before : List Outline) → HasDepths (l.depth + 1) u → is_right_under (parent_depth before l.depth) l.depth ≡ true
+pub behind_tree : (l : ExpandedLine) (u : Forest) (before : List Outline) → HasDepths (l.depth + 1) u → is_right_under (parent_depth before l.depth) l.depth ≡ true
     → (parent_depth (onto u (outline l ∷ before)) l.depth ≡ parent_depth before l.depth)
     × (row_at (onto u (outline l ∷ before)) l.depth ≡ row_at before l.depth)
     × (elders (onto u (outline l ∷ before)) l.depth ≡ sort_of l ∷ elders before l.depth)
@@ -119,7 +119,7 @@ close_trees p d Empty ys k h a = close_above p d ys k a
 close_trees p d (Tree l u b) ys k h a = rw (ap (can_hold p) h.0 ∙ right_can_hold p d k) refl
 
 -- whether the line is wrong, told by the trees
-told_by_trees : (before : List Outline) (l : ExpandedLine) (u b : Forest) (ys : List ExpandedLine) → is_right_under (parent_depth before l.depth) l.depth ≡ true
+pub told_by_trees : (before : List Outline) (l : ExpandedLine) (u b : Forest) (ys : List ExpandedLine) → is_right_under (parent_depth before l.depth) l.depth ≡ true
     → HasDepths (l.depth + 1) u → HasDepths l.depth b → IsAbove l.depth ys
     → is_wrong before (outline l) (outlines ((listing u ++ listing b) ++ ys))
     ≡ (is_misplaced (row_at before l.depth) (elders before l.depth) (sort_of l) (first_is is_close (root_sorts b))
@@ -148,16 +148,16 @@ or_parts : (a b : Bool) → (a || b) ≡ false → (a ≡ false) × (b ≡ false
 or_parts true b e = absurd (true≢false e)
 or_parts false b e = (refl, e)
 
-right_kid : (l : Outline) (before : List Outline) → is_right_under (parent_depth (l ∷ before) (l.depth + 1)) (l.depth + 1) ≡ true
+pub right_kid : (l : Outline) (before : List Outline) → is_right_under (parent_depth (l ∷ before) (l.depth + 1)) (l.depth + 1) ≡ true
 right_kid l before = rw (parent_kid l before (l.depth + 1) (omega arith)) (eq-eqb (l.depth + 1) (l.depth + 1) refl)
 
-row_kid : (l : Outline) (before : List Outline) → row_at (l ∷ before) (l.depth + 1) ≡ row_under (row_at before l.depth) l.sort
+pub row_kid : (l : Outline) (before : List Outline) → row_at (l ∷ before) (l.depth + 1) ≡ row_under (row_at before l.depth) l.sort
 row_kid l before = rw (lt-ltb l.depth (l.depth + 1) (omega arith)) refl
 
-elders_kid : (l : Outline) (before : List Outline) → elders (l ∷ before) (l.depth + 1) ≡ []
+pub elders_kid : (l : Outline) (before : List Outline) → elders (l ∷ before) (l.depth + 1) ≡ []
 elders_kid l before = rw (lt-ltb l.depth (l.depth + 1) (omega arith)) refl
 
-judged_same : (f : Forest) (r s : Row) (es fs : List Sort) → r ≡ s → es ≡ fs → AreJudged r es f → AreJudged s fs f
+pub judged_same : (f : Forest) (r s : Row) (es fs : List Sort) → r ≡ s → es ≡ fs → AreJudged r es f → AreJudged s fs f
 judged_same f r s es fs a b h = subst (λ (x : Row). AreJudged x fs f) a (subst (λ (x : List Sort). AreJudged r x f) b h)
 
 pub judged_from : (f : Forest) (d : ℕ) (before : List Outline) (xs : List ExpandedLine) → HasDepths d f → is_right_under (parent_depth before d) d ≡ true → IsAbove d xs
@@ -177,24 +177,4 @@ judged_from (Tree l u b) d before xs h k a n =
       subst (λ (x : ℕ). AreJudged (row_at before x) (elders before x) (Tree l u b)) h.0
           (here.0, here.1, judged_same u _ _ _ _ (row_kid (outline l) before) (elders_kid (outline l) before) inner.0, judged_same b _ _ _ _ same.1 same.2 outer.0),
       outer.1,
-    )
-
-pub judged_back : (f : Forest) (d : ℕ) (before : List Outline) (xs : List ExpandedLine) → HasDepths d f → is_right_under (parent_depth before d) d ≡ true → IsAbove d xs
-    → AreJudged (row_at before d) (elders before d) f → NoneWrong (onto f before) xs → NoneWrong before (listing f ++ xs)
-judged_back Empty d before xs h k a j n = n
-judged_back (Tree l u b) d before xs h k a j n =
-    let kid = outline l ∷ before in
-    let right : is_right_under (parent_depth before l.depth) l.depth ≡ true = rw h.0 k in
-    let inside : HasDepths (l.depth + 1) u = subst (λ (x : ℕ). HasDepths (x + 1) u) (sym h.0) h.1 in
-    let beside : HasDepths l.depth b = subst (λ (x : ℕ). HasDepths x b) (sym h.0) h.2 in
-    let above : IsAbove l.depth xs = subst (λ (x : ℕ). IsAbove x xs) (sym h.0) a in
-    let here : AreJudged (row_at before l.depth) (elders before l.depth) (Tree l u b)
-    = subst (λ (x : ℕ). AreJudged (row_at before x) (elders before x) (Tree l u b)) (sym h.0) j in
-    let same = behind_tree l u before inside right in
-    let rest = judged_back b l.depth (onto u kid) xs beside (ap (λ (p : Option ℕ). is_right_under p l.depth) same.0 ∙ right) above
-    (judged_same b _ _ _ _ (sym same.1) (sym same.2) here.3) n in
-    let inner = judged_back u (l.depth + 1) kid (listing b ++ xs) inside (right_kid (outline l) before) (above_more l.depth b xs beside above)
-    (judged_same u _ _ _ _ (sym (row_kid (outline l) before)) (sym (elders_kid (outline l) before)) here.2) rest in (
-      told_by_trees before l u b xs right inside beside above ∙ rw here.0 here.1,
-      subst (NoneWrong kid) (sym (append_assoc (listing u) (listing b) xs)) inner,
     )

@@ -80,7 +80,7 @@ main_datatypehead row.Record = refl
 main_datatypehead row.Fields = refl
 main_datatypehead row.Nothing = refl
 
-main_close : (r : Row) → is_main r sort.Close ≡ false
+pub main_close : (r : Row) → is_main r sort.Close ≡ false
 main_close row.File = refl
 main_close row.Processes = refl
 main_close row.Process = refl
@@ -166,13 +166,6 @@ head_line r sort.ProtocolHead h = refl
 head_line r sort.DataTypeHead h = refl
 head_line r _ h = absurd (false≢true h)
 
-pub head_close : (s : Sort) → is_head s ≡ true → is_close s ≡ false
-head_close sort.ProcedureHead h = refl
-head_close sort.FunctionHead h = refl
-head_close sort.ProtocolHead h = refl
-head_close sort.DataTypeHead h = refl
-head_close _ h = absurd (false≢true h)
-
 pub head_process : (s : Sort) → is_head s ≡ true → is_process s ≡ false
 head_process sort.ProcedureHead h = refl
 head_process sort.FunctionHead h = refl
@@ -206,12 +199,6 @@ line_head r sort.Declaration h = refl
 line_head r sort.LocalSpecification h = refl
 line_head r _ h = absurd (false≢true h)
 
-pub line_close : (r : Row) (s : Sort) → lets_line r s ≡ true → is_close s ≡ false
-line_close r sort.GlobalSpecification h = refl
-line_close r sort.Declaration h = refl
-line_close r sort.LocalSpecification h = refl
-line_close r _ h = absurd (false≢true h)
-
 pub line_process : (r : Row) (s : Sort) → lets_line r s ≡ true → is_process s ≡ false
 line_process r sort.GlobalSpecification h = refl
 line_process r sort.Declaration h = refl
@@ -224,19 +211,12 @@ line_result r sort.Declaration h = refl
 line_result r sort.LocalSpecification h = refl
 line_result r _ h = absurd (false≢true h)
 
-contrary : (a b : Bool) → (b ≡ true → a ≡ false) → a ≡ true → b ≡ false
+pub contrary : (a b : Bool) → (b ≡ true → a ≡ false) → a ≡ true → b ≡ false
 contrary a true f h = absurd (false≢true (sym (f refl) ∙ h))
 contrary a false f h = refl
 
 pub main_head : (r : Row) (s : Sort) → is_main r s ≡ true → is_head s ≡ false
 main_head r s = contrary (is_main r s) (is_head s) (head_main r s)
-
-close_no_main : (r : Row) (s : Sort) → is_close s ≡ true → is_main r s ≡ false
-close_no_main r sort.Close h = main_close r
-close_no_main r _ h = absurd (false≢true h)
-
-pub main_no_close : (r : Row) (s : Sort) → is_main r s ≡ true → is_close s ≡ false
-main_no_close r s = contrary (is_main r s) (is_close s) (close_no_main r s)
 
 pub main_line : (r : Row) (s : Sort) → is_main r s ≡ true → lets_line r s ≡ false
 main_line r s = contrary (is_main r s) (lets_line r s) (line_main r s)
@@ -260,14 +240,6 @@ list_file _ h = refl
 pub value_file : (r : Row) → is_value r ≡ true → is_file r ≡ false
 value_file row.File h = absurd (false≢true h)
 value_file _ h = refl
-
-pub value_single : (r : Row) → is_value r ≡ true → is_single r ≡ false
-value_single row.Value h = refl
-value_single _ h = absurd (false≢true h)
-
-pub single_value : (r : Row) → is_single r ≡ true → is_value r ≡ false
-single_value row.Value h = absurd (false≢true h)
-single_value _ h = refl
 
 either : (a b : Bool) → (a || b) ≡ true → (a ≡ true) ⊎ (b ≡ true)
 either true b h = inl refl

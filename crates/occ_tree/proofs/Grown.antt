@@ -1,10 +1,8 @@
 -- How a forest grows, from the last line on.
 use Rattle.std.proofs.Common.{◌≡◌, ◌∙◌, ℕ, Bool, true, false, cond, ltb, List, [], ◌∷◌, ◌++◌, refl, sym, ap, append_assoc}
-use Rattle.std.proofs.lemmas.Bool.{true≢false}
 use Rattle.occ_project.specs.declared.expanded.ExpandedLine.{ExpandedLine}
 use Rattle.occ_tree.specs.declared.tree.Node.{Node, out-Node, roll-Node}
 use Rattle.occ_tree.specs.declared.tree.Node.TheFolds.{fold-roll-Node, fold_out-Node}
-use Rattle.occ_tree.specs.declared.tree.Node.TheViews.{roll-out-Node}
 use Rattle.occ_tree.specs.Forest.{Forest, Empty, Tree, depth_of, first_nodes, first_trees, forest_of, nested, other_nodes, other_trees, tree_of, tree_step}
 
 pub opened_tree : (n : Node) (f : Forest) → tree_of n f ≡ Tree (out-Node n).line (forest_of (out-Node n).children) f
@@ -47,41 +45,3 @@ nested_more left left' after lines l roots roots' more children whole split here
     let grown : forest_of more ≡ Tree l (first_trees l.depth (nested after)) (other_trees l.depth (nested after))
     = ap forest_of put ∙ rolled_tree l children (forest_of roots') ∙ ap (λ (f : Forest). Tree l f (forest_of roots')) under ∙ ap (λ (f : Forest). Tree l (first_trees l.depth (nested after)) f) behind in
     (l ∷ after, sym (append_assoc left' (l ∷ []) after) ∙ ap (λ (ls : List ExpandedLine). ls ++ after) (sym split) ∙ whole, grown)
-
-abbrev nodes_back : Forest → List Node
-nodes_back Empty = []
-nodes_back (Tree l u b) = roll-Node (record { line = l; children = nodes_back u }) ∷ nodes_back b
-
-abbrev part_line : Forest → ExpandedLine → ExpandedLine
-part_line Empty l = l
-part_line (Tree l u b) k = l
-
-abbrev part_under : Forest → Forest
-part_under Empty = Empty
-part_under (Tree l u b) = u
-
-abbrev part_behind : Forest → Forest
-part_behind Empty = Empty
-part_behind (Tree l u b) = b
-
-abbrev is_tree : Forest → Bool
-is_tree Empty = false
-is_tree (Tree l u b) = true
-
-nodes_of : (f : Forest) (ns : List Node) → forest_of ns ≡ f → nodes_back f ≡ ns
-nodes_of Empty [] e = refl
-nodes_of Empty (n ∷ ns) e = absurd (true≢false (ap is_tree (sym (opened_tree n (forest_of ns)) ∙ e)))
-nodes_of (Tree l u b) [] e = absurd (true≢false (sym (ap is_tree e)))
-nodes_of (Tree l u b) (n ∷ ns) e =
-    let opened = sym (opened_tree n (forest_of ns)) ∙ e in
-    let line : (out-Node n).line ≡ l = ap (λ (f : Forest). part_line f l) opened in
-    let under : nodes_back u ≡ (out-Node n).children = nodes_of u (out-Node n).children (ap part_under opened) in
-    let behind : nodes_back b ≡ ns = nodes_of b ns (ap part_behind opened) in
-    ap (λ (k : ExpandedLine). roll-Node (record { line = k; children = nodes_back u }) ∷ nodes_back b) (sym line)
-    ∙ ap (λ (ms : List Node). roll-Node (record { line = (out-Node n).line; children = ms }) ∷ nodes_back b) under
-    ∙ ap (λ (ms : List Node). roll-Node (record { line = (out-Node n).line; children = (out-Node n).children }) ∷ ms) behind
-    ∙ ap (λ (m : Node). m ∷ ns) (roll-out-Node n)
-
--- nodes that are seen as the same trees are the same
-pub one_nodes : (ms ns : List Node) → forest_of ms ≡ forest_of ns → ms ≡ ns
-one_nodes ms ns e = sym (nodes_of (forest_of ns) ms e) ∙ nodes_of (forest_of ns) ns refl

@@ -1,22 +1,16 @@
 -- A unit has no diagnostic of shape exactly where trees that obey the table list its lines.
-use Rattle.std.proofs.Common.{◌≡◌, ◌∙◌, ◌↔◌, List, [], ◌∷◌, refl, sym, subst}
-use Rattle.std.proofs.lemmas.Bool.{le-ltb}
+use Rattle.std.proofs.Common.{◌≡◌, ◌∙◌, List, [], refl, sym, subst}
 use Rattle.std.proofs.lemmas.List.{append-nil}
 use Rattle.occ_project.specs.declared.expanded.ExpandedLine.{ExpandedLine}
-use Rattle.occ_tree.specs.declared.outline.Outline.{Outline}
 use Rattle.occ_tree.specs.declared.row.Row.TheVariants as row
 use Rattle.occ_tree.specs.declared.tree.Node.{Node}
-use Rattle.occ_tree.specs.Faults.{faults_at, shape_faults}
+use Rattle.occ_tree.specs.Faults.{shape_faults}
 use Rattle.occ_tree.specs.Forest.{Forest, forest_of, listing, nested}
-use Rattle.occ_tree.specs.Obeys.{AreShallow, IsTreesOf, Obeys, root_sorts}
-use Rattle.occ_tree.specs.Shapes.{HasShape, IsShapeOf}
-use Rattle.occ_tree.specs.Sorts.{outline, outlines}
-use Rattle.occ_tree.specs.Wrong.{wrong_from}
-use Rattle.occ_tree.proofs.Arranged.{placed_of}
+use Rattle.occ_tree.specs.Obeys.{AreShallow, IsTreesOf, Obeys}
+use Rattle.occ_tree.specs.Shapes.{IsShapeOf}
 use Rattle.occ_tree.proofs.Clean.{NoneWrong, clean_trees, none_wrong}
-use Rattle.occ_tree.proofs.Context.{judged_back, judged_from}
-use Rattle.occ_tree.proofs.Judged.{AreJudged, file_obeys, judged_obeys, obeys_judged}
-use Rattle.occ_tree.proofs.Listed.{one_trees}
+use Rattle.occ_tree.proofs.Context.{judged_from}
+use Rattle.occ_tree.proofs.Judged.{AreJudged, file_obeys, judged_obeys}
 
 judged_clean : (ls : List ExpandedLine) (f : Forest) → IsTreesOf ls f → NoneWrong [] ls → AreJudged row.File [] f
 judged_clean ls f t n =
@@ -27,28 +21,10 @@ clean_obeys ls f t n =
     let judged = judged_clean ls f t n in
     (file_obeys f judged, judged_obeys row.File [] f judged)
 
-obeys_clean : (ls : List ExpandedLine) (f : Forest) → IsTreesOf ls f → Obeys f → NoneWrong [] ls
-obeys_clean ls f t o =
-    let judged = obeys_judged row.File [] f (placed_of row.File (root_sorts f) o.0) o.1 in
-    subst (NoneWrong []) (append-nil (listing f) ∙ t.1) (judged_back f 0 [] [] t.0 refl tt judged tt)
-
-none_told : (before : List Outline) (ls : List ExpandedLine) → NoneWrong before ls → AreShallow ls → faults_at ls (wrong_from before (outlines ls)) ≡ []
-none_told before [] n s = refl
-none_told before (l ∷ ls) n s = rw n.0 (rw (le-ltb 64 l.depth s.0) (none_told (outline l ∷ before) ls n.1 s.1))
-
-has_shape : (ls : List ExpandedLine) → shape_faults ls ≡ [] → (f : Forest) → IsTreesOf ls f → IsTreesOf ls f × Obeys f × AreShallow ls
+pub has_shape : (ls : List ExpandedLine) → shape_faults ls ≡ [] → (f : Forest) → IsTreesOf ls f → IsTreesOf ls f × Obeys f × AreShallow ls
 has_shape ls e f t =
     let clean = none_wrong ls e in
     (t, clean_obeys ls f t clean.0, clean.1)
-
-pub shape_law : (ls : List ExpandedLine) → (shape_faults ls ≡ []) ↔ HasShape ls
-shape_law ls = (
-  λ e. let shape = has_shape ls e (nested ls) (clean_trees ls e) in (nested ls, shape.0, shape.1, shape.2),
-  λ h. none_told [] ls (obeys_clean ls h.0 h.1 h.2) h.3,
-)
-
-pub one_law : (ls : List ExpandedLine) (f g : Forest) → IsTreesOf ls f → IsTreesOf ls g → f ≡ g
-one_law = one_trees
 
 -- the trees that nest the lines are those of the unit
 pub nested_shape : (ls : List ExpandedLine) (roots : List Node) → shape_faults ls ≡ [] → forest_of roots ≡ nested ls → IsShapeOf ls roots

@@ -22,8 +22,8 @@ use Rattle.occ_forms.specs.declared.tree.Guarded.{Guarded}
 use Rattle.occ_forms.specs.declared.tree.Guarded.TheVariants as guarded
 use Rattle.occ_forms.specs.declared.tree.ConstructKind.{ConstructKind}
 use Rattle.occ_forms.specs.declared.tree.ConstructKind.TheVariants as kind
-use Rattle.occ_forms.specs.declared.tree.Part.{Part}
-use Rattle.occ_forms.specs.declared.tree.Part.TheVariants as part
+use Rattle.occ_forms.specs.declared.tree.PartForm.{PartForm}
+use Rattle.occ_forms.specs.declared.tree.PartForm.TheVariants as part
 use Rattle.occ_project.specs.declared.expanded.ExpandedBody.{ExpandedBody}
 use Rattle.occ_project.specs.declared.expanded.ExpandedBody.TheVariants as body
 use Rattle.occ_project.specs.declared.expanded.ExpandedLine.{ExpandedLine}
@@ -154,7 +154,7 @@ guarded_sort guarded.Skip = sort.Guard
 guarded_sort (guarded.Input i) = sort.Guard
 guarded_sort (guarded.CaseInput el) = sort.GuardedCaseInput
 
-abbrev pub part_sort : Part → Sort
+abbrev pub part_sort : PartForm → Sort
 part_sort part.Case = sort.Case
 part_sort part.Else = sort.Else
 part_sort part.ValueOf = sort.ValueOf
@@ -175,7 +175,7 @@ form_sort (form.Tagged name d ds) = tagged_sort d ds
 -- a #USE is a specification, and a line with a fault stands nowhere
 abbrev pub body_sort : ExpandedBody → Sort
 body_sort (body.Form f) = form_sort f
-body_sort (body.Uses units) = sort.GlobalSpecification
+body_sort (body.Uses unit) = sort.GlobalSpecification
 body_sort (body.Fault code) = sort.Nowhere
 
 abbrev pub outline : ExpandedLine → Outline

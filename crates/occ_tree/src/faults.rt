@@ -1,3 +1,4 @@
+//! The diagnostics of shape: S2 and S4, in the order of lines. `docs/LANGUAGE.md, Shape`.
 ghost use Rattle.std.specs.Prelude.{◌≡◌, ◌++◌, IfOk, OnOk};
 ghost use Rattle.occ_tree.specs.Faults.{line_faults as faults_of_line, shape_faults as faults_of_shape};
 

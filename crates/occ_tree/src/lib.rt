@@ -2,7 +2,6 @@
 #![tactic(auto)]
 
 mod faults;
-mod laws;
 mod marks;
 mod nest;
 mod outline;
@@ -16,7 +15,6 @@ mod tree;
 mod unit;
 
 pub use faults::shape_faults;
-pub use laws::shape_law;
 pub use rows::{
     alternation_rows, block_rows, close_rows, conditional_rows, definition_rows, depth_rows,
     expression_rows, file_rows, function_rows, misplaced_rows, nesting_rows, process_rows,

@@ -1,3 +1,4 @@
+//! The walk up the lines: which are misplaced or lack something, with the lines after them on a stack.
 ghost use Rattle.std.specs.Prelude.{◌≡◌, List, IfOk, OnOk};
 ghost use Rattle.occ_tree.specs.declared.outline.Outline.{Outline};
 ghost use Rattle.occ_tree.specs.inside.Frames.{place_at};

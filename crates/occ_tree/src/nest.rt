@@ -1,3 +1,4 @@
+//! Makes trees of lines: each line under the last earlier one of smaller depth.
 ghost use Rattle.std.specs.Prelude.{◌≡◌, IfOk, OnOk};
 ghost use Rattle.occ_tree.specs.Forest.{first_nodes, forest_of, nested, other_nodes};
 

@@ -1,3 +1,4 @@
+//! What the shape of a unit knows of a line: its depth and what its form lets be under it.
 ghost use Rattle.std.specs.List.{list_any};
 ghost use Rattle.std.specs.Prelude.{◌≡◌, IfOk};
 ghost use Rattle.occ_tree.specs.Sorts.{action_sort, body_sort, construct_sort, expression_sort, expressions_sort, form_sort, guarded_sort, head_sort, is_element_part as element_part, is_name as name_alone, is_type_part as type_part, operand_sort, outline, outlines, part_sort, parts_sort, plain_sort, replicated_sort, specification_sort, specified_sort, tagged_sort};
@@ -5,7 +6,7 @@ ghost use Rattle.occ_tree.specs.Sorts.{action_sort, body_sort, construct_sort, e
 use super::sort::Sort;
 use occ_base::Items;
 use occ_expression_forms::{Element, Expr, Operand};
-use occ_forms::{Action, Construct, ConstructKind, Detail, Form, Guarded, Part};
+use occ_forms::{Action, Construct, ConstructKind, Detail, Form, Guarded, PartForm};
 use occ_project::{ExpandedBody, ExpandedLine};
 use occ_specification_forms::{Head, Specification, Specified};
 use std::alloc::{AllocError, Global};
@@ -217,16 +218,16 @@ fn sort_of_guarded(guarded: &Guarded) -> Sort
     }
 }
 
-fn sort_of_part(part: &Part) -> Sort
+fn sort_of_part(part: &PartForm) -> Sort
     ensures { result ≡ part_sort part.now }
 {
     match part {
-        Part::Case => Sort::Case,
-        Part::Else => Sort::Else,
-        Part::ValueOf => Sort::ValueOf,
-        Part::Result(_, _) => Sort::Result,
-        Part::Record | Part::PackedRecord => Sort::Record,
-        Part::Guard(_, guarded) => sort_of_guarded(guarded),
+        PartForm::Case => Sort::Case,
+        PartForm::Else => Sort::Else,
+        PartForm::ValueOf => Sort::ValueOf,
+        PartForm::Result(_, _) => Sort::Result,
+        PartForm::Record | PartForm::PackedRecord => Sort::Record,
+        PartForm::Guard(_, guarded) => sort_of_guarded(guarded),
     }
 }
 

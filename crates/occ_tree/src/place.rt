@@ -1,3 +1,4 @@
+//! The walk down the lines: under which parent each is, and after which siblings. The open parents are on a stack.
 ghost use Rattle.std.specs.Prelude.{◌≡◌, [], ◌∷◌, List, None, Some, IfOk, OnOk};
 ghost use Rattle.occ_tree.specs.declared.outline.Outline.{Outline};
 ghost use Rattle.occ_tree.specs.inside.Frames.{frame_of, open_parents, places, still_open, turned};

@@ -1,3 +1,4 @@
+//! The rows of the table of shape: which lines may be directly under which. `docs/LANGUAGE.md, Shape`.
 ghost use Rattle.std.specs.Prelude.{◌≡◌};
 ghost use Rattle.occ_tree.specs.Table.{is_main as main, is_process as process, is_head as head, is_close as close, is_result as result_line, is_single as single, lets_line as line_stands, may_stand as stands, needs_main as main_needed, own_row as own, row_under as under, takes_specifications as specifiable, under_main as below, is_value as value};
 

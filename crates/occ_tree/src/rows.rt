@@ -9,7 +9,7 @@ ghost use Rattle.occ_forms.specs.declared.tree.Detail.TheVariants as de;
 ghost use Rattle.occ_forms.specs.declared.tree.Form.TheVariants as f;
 ghost use Rattle.occ_forms.specs.declared.tree.Guarded.TheVariants as g;
 ghost use Rattle.occ_forms.specs.declared.tree.ConstructKind.TheVariants as ki;
-ghost use Rattle.occ_forms.specs.declared.tree.Part.TheVariants as p;
+ghost use Rattle.occ_forms.specs.declared.tree.PartForm.TheVariants as p;
 ghost use Rattle.std.specs.Prelude.{◌≡◌, [], ◌∷◌, None, Some, codes, false, true};
 ghost use Rattle.occ_tree.specs.declared.sort.Sort.TheVariants as so;
 ghost use Rattle.occ_tree.specs.Nesting.{children, elders, parent_depth, roots};

@@ -1,3 +1,4 @@
+//! What siblings ask of each other and of their parent, accumulated as five answers, so that a long list costs one pass.
 ghost use Rattle.std.specs.Prelude.{◌≡◌, ◌∷◌, [], List};
 ghost use Rattle.std.specs.List.{list_any};
 ghost use Rattle.occ_tree.specs.declared.row.Row.{Row};

@@ -1,3 +1,4 @@
+//! What the form of a line says of where it may be, and of what may be under it.
 /// What the form of a line says of where it may stand and what may stand under it.
 #[derive(Clone, Copy)]
 pub enum Sort {

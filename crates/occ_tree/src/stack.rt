@@ -1,3 +1,4 @@
+//! A stack, which contracts see as the list of what is on it, top first.
 ghost use Rattle.std.specs.Prelude.{◌≡◌, [], ◌∷◌, List, IfOk, MatchOption, OnOk};
 
 use occ_base::Items;

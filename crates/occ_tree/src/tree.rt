@@ -1,3 +1,4 @@
+//! A line with those directly under it.
 use occ_base::Items;
 use occ_project::ExpandedLine;
 

@@ -1,3 +1,4 @@
+//! The trees of a unit, or its faults of shape. Trees are made without faults only, so they are 64 levels deep at most.
 ghost use Rattle.std.specs.Prelude.{◌≡◌, [], IfErr, IfOk};
 ghost use Rattle.occ_tree.specs.Faults.{shape_faults as shape_faults_of};
 ghost use Rattle.occ_tree.specs.Forest.{forest_of, nested};

@@ -1,5 +1,6 @@
 -- VAL abbreviations: what is told of the value, and what is then known of the name.
 use Rattle.std.specs.Prelude.{◌≡◌, [], true, if◌then◌else◌}
+use Rattle.occ_operands.specs.Parts.{mismatched}
 use Rattle.occ_base.specs.declared.code.Code.TheVariants as code
 use Rattle.occ_types.specs.Fits.{fits, is_data}
 use Rattle.occ_types.specs.declared.types.OccType.{OccType}
@@ -27,15 +28,9 @@ as_type of k.Faulty = silent
 as_type of (k.Free f) = silent
 as_type of (k.Known x) = record { faults = []; kind = known (filled of x.of) x.value }
 
--- no value is for what is no data: a value that has a fault by itself was told
-abbrev pub misplaced : Kind → Told
-misplaced k.Faulty = silent
-misplaced (k.Free f) = silent
-misplaced (k.Known x) = fault_of code.T2
-
 -- a value for what is no data is judged by itself
 abbrev pub for_no_data : Judged → Told
-for_no_data x = and_then x.alone misplaced
+for_no_data x = and_then x.alone mismatched
 
 -- the value is of the type, and the type is one of data
 abbrev pub abbreviated_as : OccType → Judged → Told

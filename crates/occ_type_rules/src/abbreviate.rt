@@ -1,11 +1,13 @@
+//! The value of a `VAL` form, with a written type or without one: T2 where it is no data. `docs/LANGUAGE.md, What lines
+//! ask of operands`.
 ghost use Rattle.std.specs.Prelude.{◌≡◌, ◌++◌, IfOk, OnOk, true};
-ghost use Rattle.occ_type_rules.specs.Abbreviating.{Agrees, abbreviated as told_abbreviated, abbreviated_as as told_abbreviated_as, as_type as told_as_type, for_no_data as told_for_no_data, holding as told_holding, misplaced as told_misplaced};
+ghost use Rattle.occ_type_rules.specs.Abbreviating.{Agrees, abbreviated as told_abbreviated, abbreviated_as as told_abbreviated_as, as_type as told_as_type, for_no_data as told_for_no_data, holding as told_holding};
 ghost use Rattle.occ_tables.specs.Merging.{filled as filled_from};
 ghost use Rattle.occ_tables.specs.Terms.{judged};
 ghost use Rattle.occ_types.specs.Fits.{fits};
 
 use occ_base::{Code, Fault, Items, Shared, tell};
-use occ_operands::{Kind, known};
+use occ_operands::{Kind, known, mismatched};
 use occ_tables::{Term, alone, merged, under};
 use occ_types::{OccType, is_data};
 use std::alloc::{AllocError, Global};
@@ -66,17 +68,6 @@ fn as_type(alloc: Global, of: &Shared<OccType>, kind: &Kind) -> Result<Kind, All
     }
 }
 
-/// T2 is told of a settled value for what is no data.
-fn misplaced(kind: &Kind, faults: &mut Items<Fault>) -> Result<Kind, AllocError>
-    ensures kind { IfOk result (λ misplaced. misplaced ≡ (told_misplaced kind.now).kind) }
-    ensures faults { OnOk result (faults.new ≡ faults.old ++ (told_misplaced kind.now).faults) }
-{
-    if let Kind::Known(_) = kind {
-        tell(faults, Code::T2)?;
-    }
-    Ok(Kind::Faulty)
-}
-
 /// A value for what is no data: its own fault is told, and else T2.
 pub(super) fn for_no_data(
     alloc: Global,
@@ -87,7 +78,7 @@ pub(super) fn for_no_data(
     ensures faults { OnOk result (faults.new ≡ faults.old ++ (told_for_no_data (judged term.now)).faults) }
 {
     let kind = alone(alloc, term, faults)?;
-    misplaced(&kind, faults)
+    mismatched(&kind, faults)
 }
 
 /// What is known of the name of `VAL t n IS e`.

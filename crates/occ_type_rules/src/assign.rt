@@ -1,3 +1,5 @@
+//! Targets and values of an assignment, pair by pair: T3 for a `VAL` name, T2 for what is no data, T4 for another number.
+//! `docs/LANGUAGE.md, What lines ask of operands`.
 #![tactic(auto, using(crate::proofs::Counting::judged_length))]
 
 ghost use Rattle.std.specs.Prelude.{◌≡◌, ◌++◌, IfOk, OnOk};

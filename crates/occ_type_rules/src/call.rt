@@ -1,3 +1,4 @@
+//! Actuals of a call of a FUNCTION against its formals, and their number (T4).
 #![tactic(auto, using(crate::proofs::Counting::judged_length))]
 
 ghost use Rattle.std.specs.Prelude.{◌≡◌, ◌++◌, IfOk, OnOk};

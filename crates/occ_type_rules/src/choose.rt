@@ -1,3 +1,4 @@
+//! Conditions and selectors (T7), and options of a CASE: constant (T5) and no value twice (T8).
 ghost use Rattle.std.specs.Prelude.{◌≡◌, ◌++◌, IfOk, OnOk};
 ghost use Rattle.occ_operands.specs.Operators.{is_bool as bool_itself, is_there};
 ghost use Rattle.occ_operands.specs.Settling.{number as number_base};
@@ -15,10 +16,7 @@ use std::collections::BTreeSet;
 fn is_bool(base: Option<Primitive>) -> bool
     ensures { result ≡ bool_itself base }
 {
-    match base {
-        Some(Primitive::Bool) => true,
-        _ => false,
-    }
+    matches!(base, Some(Primitive::Bool))
 }
 
 /// Whether a primitive type is an integer type or BYTE.

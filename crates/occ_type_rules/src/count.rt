@@ -1,3 +1,4 @@
+//! More or fewer values than there should be: each is judged alone, and T4 is reported unless one is faulty.
 ghost use Rattle.std.specs.Prelude.{◌≡◌, ◌++◌, IfOk, OnOk, map};
 ghost use Rattle.occ_operands.specs.Operators.{all_faults, is_faulty as faulty};
 ghost use Rattle.occ_type_rules.specs.Abbreviating.{holding as told_holding};

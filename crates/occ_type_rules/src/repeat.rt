@@ -1,3 +1,4 @@
+//! Names that are twice in one list (T8).
 ghost use Rattle.std.specs.Prelude.{◌≡◌, ◌++◌, OnOk};
 ghost use Rattle.occ_type_rules.specs.Listing.{repetition, repetitions};
 

@@ -1,3 +1,4 @@
+//! Results of a FUNCTION against the types of its head, also of a faulty one, and types that have to be data.
 #![tactic(auto, using(crate::proofs::Counting::judged_length))]
 
 ghost use Rattle.std.specs.Prelude.{◌≡◌, ◌++◌, IfOk, OnOk};

@@ -1,10 +1,11 @@
+//! Worked rows: assignments, values of no data, options, results, repeated names.
 ghost use Rattle.std.specs.Prelude.{[], ◌∷◌, ◌≡◌, None, Some, false, pos};
 ghost use Rattle.occ_base.specs.declared.code.Code.TheVariants as code;
 ghost use Rattle.occ_names.specs.declared.meaning.Access.TheVariants as access;
 ghost use Rattle.occ_operands.specs.declared.kind.Kind.TheVariants as k;
 ghost use Rattle.occ_operands.specs.Settling.{fault_of, int, known, silent};
 ghost use Rattle.occ_base.specs.Telling.{nameless};
-ghost use Rattle.occ_type_rules.specs.Abbreviating.{misplaced};
+ghost use Rattle.occ_operands.specs.Parts.{mismatched};
 ghost use Rattle.occ_type_rules.specs.Assigning.{assigned, pair, target};
 ghost use Rattle.occ_type_rules.specs.Choosing.{option_of};
 ghost use Rattle.occ_type_rules.specs.Numbering.{of_another_number};
@@ -28,8 +29,8 @@ pub fn assignment_rows()
 
 /// A value for what is no data: one with a fault, and one without.
 pub fn misplaced_rows()
-    ensures faulty { misplaced k.Faulty ≡ silent }
-    ensures good { misplaced (known int None) ≡ fault_of code.T2 }
+    ensures faulty { mismatched k.Faulty ≡ silent }
+    ensures good { mismatched (known int None) ≡ fault_of code.T2 }
 {}
 
 /// Options behind one of 65: another one, the same one, and one that is not constant.

@@ -4,9 +4,11 @@ use Rattle.std.specs.Prelude.{ℕ, nat_le, Option, Some, None, List, [], ◌∷�
 use Rattle.occ_operands.specs.Outcomes.{in_type}
 use Rattle.occ_operands.specs.Settling.{base_of, number}
 use Rattle.occ_operands.specs.declared.kind.Free.{Free}
+use Rattle.occ_operands.specs.declared.kind.Kind.{Kind}
+use Rattle.occ_operands.specs.declared.kind.Kind.TheVariants as k
 use Rattle.occ_operands.specs.declared.kind.Known.{Known}
-use Rattle.occ_operands.specs.declared.kind.Outcome.{Outcome}
-use Rattle.occ_operands.specs.declared.kind.Outcome.TheVariants as o
+use Rattle.occ_operands.specs.declared.kind.TypedValue.{TypedValue}
+use Rattle.occ_operands.specs.declared.kind.TypedValue.TheVariants as o
 use Rattle.occ_types.specs.View.{as_array}
 use Rattle.occ_types.specs.declared.constant.Monadic.{Monadic}
 use Rattle.occ_types.specs.declared.constant.Operator.{Operator}
@@ -41,7 +43,7 @@ known_of t = known_layer (out-TypedExpr t)
 
 -- ---- a free expression as one of a type
 
-abbrev pub constant_in : Outcome → Option Value
+abbrev pub constant_in : TypedValue → Option Value
 constant_in o.Unfit = None
 constant_in (o.Faulty x) = None
 constant_in o.Varying = None
@@ -134,3 +136,9 @@ each_placed [] [] = Some []
 each_placed [] (of ∷ types) = None
 each_placed (d ∷ ds) [] = None
 each_placed (d ∷ ds) (of ∷ types) = with_first (placed d of) (each_placed ds types)
+
+-- the tree of an expression of which this is known: of its own type
+abbrev pub tree_of : Kind → Draft → Option TypedExpr
+tree_of k.Faulty x = None
+tree_of (k.Free f) x = None
+tree_of (k.Known y) x = placed x y.of

@@ -1,3 +1,4 @@
+//! Open expressions: typed as far as a type is known, else an untyped constant or the items of a table.
 use super::TypedExpr;
 use occ_base::{Items, Shared};
 use occ_operands::Loose;

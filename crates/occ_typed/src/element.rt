@@ -1,3 +1,4 @@
+//! The type of a typed tree, and its value where it is constant.
 #![tactic(auto, using(crate::proofs::Knowing::knowing_rules))]
 
 ghost use Rattle.std.specs.Prelude.{◌≡◌};

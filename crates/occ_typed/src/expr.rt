@@ -1,3 +1,4 @@
+//! Typed trees of expressions, elements and actuals: each part with its type, each name with its specification.
 use occ_base::{Items, Name, Shared};
 use occ_names::Referent;
 use occ_operands::Known;

@@ -5,10 +5,12 @@
 mod draft;
 mod element;
 mod expr;
+mod kind_tree;
 mod placing;
 pub mod rows;
 
 pub use draft::Draft;
 pub use element::known_of;
 pub use expr::{Selector, TypedActual, TypedElement, TypedExpr};
+pub use kind_tree::tree_of;
 pub use placing::{all_placed, each_placed, placed, value_in};

@@ -1,3 +1,5 @@
+//! The typed tree that an open expression becomes under the type wanted of it. What is typed already is shared.
+//! `docs/LANGUAGE.md, The typed tree`.
 #![tactic(auto, using(crate::proofs::Drafting::placing_rules, crate::proofs::Fronts::front_rules))]
 
 ghost use Rattle.std.specs.Prelude.{◌≡◌, ◌∷◌, [], IfOk, Some};
@@ -7,19 +9,19 @@ ghost use Rattle.occ_typed.specs.declared.expr.TypedExpr.TheVariants as typed;
 
 use super::{Draft, TypedExpr};
 use occ_base::{Items, Shared, one_item};
-use occ_operands::{Known, Loose, Outcome, number};
+use occ_operands::{Known, Loose, TypedValue, number};
 use occ_types::{OccType, Operator, Value, array_of, base_of};
 use std::alloc::{AllocError, Global};
 
 /// The value that an outcome is.
-fn constant(outcome: Outcome) -> Option<Value>
+fn constant(outcome: TypedValue) -> Option<Value>
     ensures { result ≡ constant_in outcome }
 {
     match outcome {
-        Outcome::Constant(value) => Some(value),
-        Outcome::Unfit => None,
-        Outcome::Faulty(_) => None,
-        Outcome::Varying => None,
+        TypedValue::Constant(value) => Some(value),
+        TypedValue::Unfit => None,
+        TypedValue::Faulty(_) => None,
+        TypedValue::Varying => None,
     }
 }
 

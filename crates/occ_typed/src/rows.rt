@@ -1,3 +1,4 @@
+//! Worked rows: a literal and a table under several types.
 ghost use Rattle.std.specs.Prelude.{[], ◌∷◌, ◌≡◌, None, Some, pos};
 ghost use Rattle.occ_operands.specs.Outcomes.{decimal};
 ghost use Rattle.occ_operands.specs.Settling.{int};

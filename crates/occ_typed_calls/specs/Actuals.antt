@@ -30,7 +30,7 @@ use Rattle.occ_typed.specs.declared.expr.TypedActual.{TypedActual}
 use Rattle.occ_typed.specs.declared.expr.TypedActual.TheVariants as actual
 use Rattle.occ_typed.specs.declared.expr.TypedElement.{TypedElement}
 use Rattle.occ_typed.specs.declared.expr.TypedExpr.{TypedExpr}
-use Rattle.occ_typed_statements.specs.Targets.{target_of}
+use Rattle.occ_expr.specs.Targets.{target_of}
 use Rattle.occ_types.specs.Fits.{fits}
 use Rattle.occ_types.specs.View.{as_channel, is_any}
 use Rattle.occ_types.specs.declared.interface.Formal.{Formal}

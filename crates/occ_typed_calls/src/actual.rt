@@ -1,3 +1,4 @@
+//! Actuals of an instance of a PROC, one by one against its formals. `docs/LANGUAGE.md, Instances of PROCs`.
 ghost use Rattle.std.specs.Prelude.{◌≡◌, ◌++◌, IfOk, OnOk};
 ghost use Rattle.occ_expr.specs.Sides.{each_one as told_each_one};
 ghost use Rattle.occ_expr.specs.Views.{element_view, expr_view};
@@ -14,7 +15,7 @@ use occ_operands::{Kind, is_faulty};
 use occ_tables::{Term, alone, under};
 use occ_type_rules::of_another_number;
 use occ_typed::{TypedActual, TypedElement, placed};
-use occ_typed_statements::target_of;
+use occ_expr::target_of;
 use occ_types::{Formal, OccType, Passing};
 use std::alloc::{AllocError, Global};
 

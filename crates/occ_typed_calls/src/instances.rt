@@ -1,3 +1,4 @@
+//! Lines `n (e, ..)`: instances of PROCs, with N1, N2 or T4, and their typed tree.
 ghost use Rattle.std.specs.Prelude.{◌≡◌, ◌∷◌, ◌++◌, IfOk, OnOk};
 ghost use Rattle.occ_names.specs.Visible.{referent, visible};
 ghost use Rattle.occ_typed_calls.specs.Instances.{call_faults, call_tree, instance_faults, instance_tree, no_instance as told_no_instance, no_procedure as told_no_procedure, with_callee as told_with_callee};

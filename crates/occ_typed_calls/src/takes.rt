@@ -1,3 +1,4 @@
+//! Whether an actual is an element, and whether a formal takes its type: CHAN OF ANY takes every channel.
 #![tactic(auto, using(occ_types::proofs::Agreeing::fit_rules, occ_expr::proofs::Layers::layer_rules))]
 
 ghost use Rattle.std.specs.Prelude.{◌≡◌, MatchOption, None, Some};

@@ -4,19 +4,19 @@ use Rattle.occ_base.specs.declared.fault.Fault.{Fault}
 use Rattle.occ_operands.specs.Settling.{int}
 use Rattle.occ_names.specs.declared.scope.Scope.{Scope}
 use Rattle.occ_tables.specs.Terms.{judged}
-use Rattle.occ_typed.specs.Placing.{placed}
 use Rattle.occ_typed.specs.declared.expr.TypedElement.{TypedElement}
 use Rattle.occ_typed.specs.declared.expr.TypedExpr.{TypedExpr}
 use Rattle.occ_protocol.specs.Lines.{awaited, cased, exchanged, is_timer, received, tag_place}
 use Rattle.occ_expression_forms.specs.declared.tree.Element.{Element}
 use Rattle.occ_expression_forms.specs.declared.tree.Expr.{Expr}
 use Rattle.occ_expr.specs.Parts.{Said}
+use Rattle.occ_expr.specs.Trees.{element_tree, int_tree}
 use Rattle.occ_expr.specs.Views.{expr_view}
 use Rattle.occ_forms.specs.declared.tree.Input.{Input}
 use Rattle.occ_forms.specs.declared.tree.Input.TheVariants as input
 use Rattle.occ_forms.specs.declared.tree.InputItem.{InputItem}
 use Rattle.occ_typed_exchanges.specs.Receiving.{givens, items_received, received_faults, received_trees}
-use Rattle.occ_typed_exchanges.specs.Through.{carrier_of, root_of, through, through_tree}
+use Rattle.occ_typed_exchanges.specs.Through.{carrier_of, root_of, through}
 use Rattle.occ_typed_exchanges.specs.declared.tree.TypedInput.{TypedInput}
 use Rattle.occ_typed_exchanges.specs.declared.tree.TypedInput.TheVariants as typed
 use Rattle.occ_typed_exchanges.specs.declared.tree.TypedTarget.{TypedTarget}
@@ -44,7 +44,7 @@ plain_input of_timer (Some el) None = None
 plain_input of_timer (Some el) (Some xs) = plain_of of_timer el xs
 
 unfoldable pub plain_tree : Scope → Element → List InputItem → Option TypedInput
-plain_tree s el items = plain_input (is_timer (carrier_of s el)) (through_tree s el) (received_trees (items_received s items))
+plain_tree s el items = plain_input (is_timer (carrier_of s el)) (element_tree s el) (received_trees (items_received s items))
 
 -- ---- `el ? AFTER e`: an INT is wanted
 
@@ -53,9 +53,6 @@ as_time x = x.faults ++ ((judged x.term).under int).faults
 
 unfoldable pub time_faults : Scope → Expr → List Fault
 time_faults s e = as_time ((expr_view e).said s)
-
-unfoldable pub time_tree : Scope → Expr → Option TypedExpr
-time_tree s e = placed ((expr_view e).draft s) int
 
 unfoldable pub after_faults : Scope → Element → Expr → List Fault
 after_faults s el e = (through s el).faults ++ (time_faults s e ++ awaited (carrier_of s el) (root_of s el))
@@ -66,7 +63,7 @@ after_input (Some el) None = None
 after_input (Some el) (Some e) = Some (typed.After el e)
 
 unfoldable pub after_tree : Scope → Element → Expr → Option TypedInput
-after_tree s el e = after_input (through_tree s el) (time_tree s e)
+after_tree s el e = after_input (element_tree s el) (int_tree s e)
 
 -- ---- `el ? CASE n; i; ..`
 
@@ -85,7 +82,7 @@ tagged_input (Some el) place tag None = None
 tagged_input (Some el) place tag (Some xs) = tagged_at el place tag xs
 
 unfoldable pub tagged_tree : Scope → Element → List ℕ → List InputItem → Option TypedInput
-tagged_tree s el tag items = tagged_input (through_tree s el) (tag_place (carrier_of s el) tag) tag (received_trees (items_received s items))
+tagged_tree s el tag items = tagged_input (element_tree s el) (tag_place (carrier_of s el) tag) tag (received_trees (items_received s items))
 
 -- ---- an input as a process or a guard
 

@@ -1,6 +1,7 @@
 -- What an input receives: its targets, counted or not.
 use Rattle.std.specs.Prelude.{Option, Some, None, List, [], ◌∷◌, ◌++◌}
 use Rattle.occ_base.specs.declared.fault.Fault.{Fault}
+use Rattle.occ_expr.specs.Trees.{element_tree}
 use Rattle.occ_operands.specs.declared.kind.Kind.TheVariants as k
 use Rattle.occ_names.specs.declared.scope.Scope.{Scope}
 use Rattle.occ_typed.specs.declared.expr.TypedElement.{TypedElement}
@@ -11,9 +12,8 @@ use Rattle.occ_forms.specs.declared.tree.Detail.{Detail}
 use Rattle.occ_forms.specs.declared.tree.Detail.TheVariants as detail
 use Rattle.occ_forms.specs.declared.tree.InputItem.{InputItem}
 use Rattle.occ_forms.specs.declared.tree.InputItem.TheVariants as into
-use Rattle.occ_expr.specs.Views.{element_view}
 use Rattle.occ_lists.specs.Lists.{joined, one_part}
-use Rattle.occ_typed_statements.specs.Targets.{target_of}
+use Rattle.occ_expr.specs.Targets.{target_of}
 use Rattle.occ_typed_exchanges.specs.declared.tree.TypedTarget.{TypedTarget}
 use Rattle.occ_typed_exchanges.specs.declared.tree.TypedTarget.TheVariants as target
 
@@ -32,19 +32,16 @@ counted_target None x = None
 counted_target (Some n) None = None
 counted_target (Some n) (Some x) = Some (target.Counted n x)
 
-abbrev pub target_tree : Scope → Element → Option TypedElement
-target_tree s el = (element_view el).tree s
-
 abbrev pub single : Scope → Element → Received
 single s el =
-    record { faults = (target_of s el).faults; given = g.Plain (target_of s el).kind; tree = single_target (target_tree s el) }
+    record { faults = (target_of s el).faults; given = g.Plain (target_of s el).kind; tree = single_target (element_tree s el) }
 
 abbrev pub counted : Scope → Element → Element → Received
 counted s n el =
     record {
       faults = (target_of s n).faults ++ (target_of s el).faults;
       given = g.Counted (target_of s n).kind (target_of s el).kind;
-      tree = counted_target (target_tree s n) (target_tree s el);
+      tree = counted_target (element_tree s n) (element_tree s el);
     }
 
 -- of an input

@@ -1,6 +1,7 @@
 -- `el ! o; ..`
 use Rattle.std.specs.Prelude.{ℕ, Option, Some, None, List, [], ◌∷◌, ◌++◌, if◌then◌else◌}
 use Rattle.occ_base.specs.declared.fault.Fault.{Fault}
+use Rattle.occ_expr.specs.Trees.{element_tree}
 use Rattle.occ_types.specs.View.{as_array}
 use Rattle.occ_types.specs.declared.types.OccType.{OccType}
 use Rattle.occ_types.specs.declared.types.OccType.TheVariants as t
@@ -33,8 +34,8 @@ use Rattle.occ_forms.specs.declared.tree.OutputItem.TheVariants as out
 use Rattle.occ_expr.specs.Views.{expr_view}
 use Rattle.occ_expr.specs.declared.reading.Reading.{Reading}
 use Rattle.occ_lists.specs.Lists.{joined, one_part}
-use Rattle.occ_typed_specifications.specs.Valuing.{tree_of}
-use Rattle.occ_typed_exchanges.specs.Through.{carrier_of, root_of, through, through_tree}
+use Rattle.occ_typed.specs.Placing.{tree_of}
+use Rattle.occ_typed_exchanges.specs.Through.{carrier_of, root_of, through}
 use Rattle.occ_typed_exchanges.specs.declared.sending.SentItem.{SentItem}
 use Rattle.occ_typed_exchanges.specs.declared.sending.SentItem.TheVariants as sent
 use Rattle.occ_typed_exchanges.specs.declared.sending.TypedSending.{TypedSending}
@@ -197,4 +198,4 @@ unfoldable pub output_tree : Scope → Element → OutputItem → List OutputIte
 output_tree s el first more =
     let c = carrier_of s el in
     let tag = tag_of c first in
-    sending_of (through_tree s el) (outputs_behind s c tag (items_behind tag first more))
+    sending_of (element_tree s el) (outputs_behind s c tag (items_behind tag first more))

@@ -6,16 +6,12 @@ use Rattle.occ_names.specs.declared.meaning.Meaning.TheVariants as m
 use Rattle.occ_names.specs.declared.scope.Scope.{Scope}
 use Rattle.occ_operands.specs.Settling.{Told}
 use Rattle.occ_protocol.specs.Carrying.{Carrier, carrier}
-use Rattle.occ_typed.specs.declared.expr.TypedElement.{TypedElement}
 use Rattle.occ_expression_forms.specs.declared.tree.Element.{Element}
 use Rattle.occ_expr.specs.Views.{element_view}
-use Rattle.occ_typed_statements.specs.Targets.{root}
+use Rattle.occ_expr.specs.Targets.{root}
 
 abbrev pub through : Scope → Element → Told
 through s el = (element_view el).told s
-
-abbrev pub through_tree : Scope → Element → Option TypedElement
-through_tree s el = (element_view el).tree s
 
 abbrev pub carrier_of : Scope → Element → Carrier
 carrier_of s el = carrier (through s el).kind

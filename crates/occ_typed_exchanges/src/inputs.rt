@@ -1,3 +1,6 @@
+//! Inputs: `el ? target; ..`, `el ? AFTER e` and `el ? CASE n; ..`, as processes and as guards. `docs/LANGUAGE.md,
+//! Outputs, inputs and case inputs`.
+ghost use Rattle.occ_expr.specs.Trees.{int_tree as told_time_tree};
 ghost use Rattle.std.specs.Prelude.{MatchOption, Some, ◌≡◌, ◌≢◌, [], ◌∷◌, ◌++◌, IfOk, OnOk};
 ghost use Rattle.occ_operands.specs.Settling.{int as int_type};
 ghost use Rattle.occ_protocol.specs.Carrying.{carrier};
@@ -5,7 +8,7 @@ ghost use Rattle.occ_protocol.specs.Lines.{awaited as told_awaited, exchanged as
 ghost use Rattle.occ_tables.specs.Terms.{judged};
 ghost use Rattle.occ_typed.specs.Placing.{placed as told_placed};
 ghost use Rattle.occ_typed_exchanges.specs.Receiving.{givens as told_givens, items_received as told_items, received_faults as told_receiving, received_trees as told_trees};
-ghost use Rattle.occ_typed_exchanges.specs.Inputs.{after_faults as told_after, after_input as told_after_input, after_tree as told_after_tree, input_faults as told_faults, input_tree as told_tree, plain_faults as told_plain, plain_input as told_plain_input, plain_of as told_plain_of, plain_tree as told_plain_tree, tagged_at as told_tagged_at, tagged_faults as told_tagged, tagged_input as told_tagged_input, tagged_tree as told_tagged_tree, time_faults as told_time_faults, time_of as told_time, time_tree as told_time_tree};
+ghost use Rattle.occ_typed_exchanges.specs.Inputs.{after_faults as told_after, after_input as told_after_input, after_tree as told_after_tree, input_faults as told_faults, input_tree as told_tree, plain_faults as told_plain, plain_input as told_plain_input, plain_of as told_plain_of, plain_tree as told_plain_tree, tagged_at as told_tagged_at, tagged_faults as told_tagged, tagged_input as told_tagged_input, tagged_tree as told_tagged_tree, time_faults as told_time_faults, time_of as told_time};
 
 use super::receiving::{items_received, nothing_received};
 use super::through::root_of;
@@ -132,7 +135,7 @@ fn as_time(
 }
 
 /// What stands behind `AFTER`, which is an INT: its tree, if it has no fault.
-#[tactic(auto, unfolding(crate::specs::Inputs::time_faults, crate::specs::Inputs::time_tree))]
+#[tactic(auto, unfolding(crate::specs::Inputs::time_faults, occ_expr::specs::Trees::int_tree))]
 fn time(
     alloc: Global,
     expr: &Expr,

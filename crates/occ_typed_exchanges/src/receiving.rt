@@ -1,3 +1,4 @@
+//! The targets of an input, `el` or `el::el`, and those of a variant.
 #![tactic(auto, using(occ_lists::proofs::Fronts::front_rules))]
 
 ghost use Rattle.std.specs.Prelude.{◌≡◌, ◌∷◌, ◌++◌, [], IfOk, OnOk, Some};
@@ -13,7 +14,7 @@ use occ_names::Scope;
 use occ_operands::Kind;
 use occ_protocol::Given;
 use occ_typed::TypedElement;
-use occ_typed_statements::target_of;
+use occ_expr::target_of;
 use std::alloc::{AllocError, Global};
 
 /// What is received as one: what is known of where it goes, and its tree, if that has no fault.

@@ -1,3 +1,4 @@
+//! Worked rows: tags, outputs, tables as items, timers, variants, roots.
 ghost use Rattle.std.specs.Prelude.{[], ◌∷◌, ◌≡◌, None, Some, codes, pos};
 ghost use Rattle.occ_base.specs.declared.code.Code.TheVariants as code;
 ghost use Rattle.occ_expression_forms.specs.declared.tree.Element.TheVariants as el;
@@ -73,7 +74,7 @@ pub fn root_rows()
 {}
 
 /// `c ! tagz` and `d ? x`, where `c` and `d` are channels of a protocol `P` with the tag `a`, and `x` is an INT.
-#[tactic(auto, using(occ_expr::proofs::Views::expr_rules, occ_expr::proofs::Views::operand_rules, occ_expr::proofs::Views::element_rules, occ_expr::proofs::Views::name_rules, occ_typed_statements::proofs::Roots::root_rules, occ_protocol::proofs::Carried::carried_rules, occ_types::proofs::Agreeing::fit_rules), unfolding(crate::specs::Inputs::plain_faults, crate::specs::Sending::output_faults, occ_expr::specs::Parts::named_element, occ_typed_statements::specs::Targets::target_of))]
+#[tactic(auto, using(occ_expr::proofs::Views::expr_rules, occ_expr::proofs::Views::operand_rules, occ_expr::proofs::Views::element_rules, occ_expr::proofs::Views::name_rules, occ_expr::proofs::Roots::root_rules, occ_protocol::proofs::Carried::carried_rules, occ_types::proofs::Agreeing::fit_rules), unfolding(crate::specs::Inputs::plain_faults, crate::specs::Sending::output_faults, occ_expr::specs::Parts::named_element, occ_expr::specs::Targets::target_of))]
 pub fn variant_protocol_rows()
     ensures output { output_faults (entered nothing (codes "c") (m.Element (record { of = t.Channel (protocol.Defined (codes "P") (protocol.Variant ((record { name = codes "a"; items = [] }) ∷ []))); access = access.Variable; value = None; root = codes "c" }))) (el.Named (codes "c") []) (out.Plain (x.Alone (o.Element (el.Named (codes "tagz") [])))) [] ≡ named code.P2 (codes "tagz") }
     ensures input { plain_faults (entered (entered nothing (codes "d") (m.Element (record { of = t.Channel (protocol.Defined (codes "P") (protocol.Variant ((record { name = codes "a"; items = [] }) ∷ []))); access = access.Variable; value = None; root = codes "d" }))) (codes "x") (m.Element (record { of = int; access = access.Variable; value = None; root = codes "x" }))) (el.Named (codes "d") []) (into.Plain (el.Named (codes "x") []) ∷ []) ≡ named code.P3 (codes "d") }

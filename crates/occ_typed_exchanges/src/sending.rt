@@ -1,3 +1,4 @@
+//! Outputs `el ! out; ..`: the element, the items with what is wanted of each, then the list as a whole.
 #![tactic(auto, using(occ_lists::proofs::Fronts::front_rules))]
 
 ghost use Rattle.std.specs.Prelude.{◌≡◌, ◌++◌, [], IfOk, OnOk};
@@ -18,8 +19,7 @@ use occ_names::Scope;
 use occ_operands::{Kind, settled};
 use occ_protocol::{Given, Shape, Want, Wanted, exchanged, tag_place, takes_tag, wants};
 use occ_tables::{Term, alone, hidden, under};
-use occ_typed::{TypedElement, TypedExpr};
-use occ_typed_specifications::tree_of;
+use occ_typed::{TypedElement, TypedExpr, tree_of};
 use occ_types::{OccType, array_of};
 use std::alloc::{AllocError, Global};
 

@@ -1,3 +1,4 @@
+//! The root of what a line sends or receives through, which is the name in its faults.
 ghost use Rattle.std.specs.Prelude.{◌≡◌};
 ghost use Rattle.occ_names.specs.Visible.{visible};
 ghost use Rattle.occ_typed_exchanges.specs.Through.{root_in as told_root_in, root_of as told_root};
@@ -5,7 +6,7 @@ ghost use Rattle.occ_typed_exchanges.specs.Through.{root_in as told_root_in, roo
 use occ_base::Name;
 use occ_expression_forms::Element;
 use occ_names::{Meaning, Scope};
-use occ_typed_statements::root;
+use occ_expr::root;
 
 /// The name that is told of what this name stands for.
 fn root_in<'a>(scope: &'a Scope, name: &'a Name) -> &'a Name

@@ -1,3 +1,4 @@
+//! Typed outputs, targets and inputs.
 use occ_base::{Items, Name, Shared};
 use occ_typed::{TypedElement, TypedExpr};
 

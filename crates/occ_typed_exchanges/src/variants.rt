@@ -1,7 +1,9 @@
+//! Case inputs `el ? CASE` and their variants `n; ..`: the first line, then each variant, with T8 for a tag that was
+//! there before.
+ghost use Rattle.occ_expr.specs.Trees.{element_tree};
 ghost use Rattle.std.specs.Prelude.{◌≡◌, ◌∷◌, ◌++◌, [], IfOk, OnOk};
 ghost use Rattle.occ_protocol.specs.Carrying.{carrier as carrier_in};
 ghost use Rattle.occ_typed_exchanges.specs.Inputs.{case_faults as told_case};
-ghost use Rattle.occ_typed_exchanges.specs.Through.{through_tree};
 ghost use Rattle.occ_typed_exchanges.specs.Variants.{begun as told_begun, repeated as told_repeated, variant_at as told_variant_at, variant_faults as told_variant, variant_tree as told_variant_tree, with_tag as told_with_tag};
 
 use super::receiving::{details_received, nothing_received};
@@ -40,7 +42,7 @@ pub fn case_input(
     faults: &mut Items<Fault>,
 ) -> Result<(CaseInput, Option<TypedElement>), AllocError>
     ensures input { IfOk result (λ r. r.0 ≡ told_begun scope.now channel.now) }
-    ensures tree { IfOk result (λ r. r.1 ≡ through_tree scope.now channel.now) }
+    ensures tree { IfOk result (λ r. r.1 ≡ element_tree scope.now channel.now) }
     ensures faults { OnOk result (faults.new ≡ faults.old ++ told_case scope.now channel.now) }
 {
     let root = root_of(scope, channel).copied(alloc)?;

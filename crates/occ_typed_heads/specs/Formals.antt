@@ -5,7 +5,7 @@ use Rattle.occ_types.specs.declared.interface.Passing.TheVariants as passing
 use Rattle.occ_types.specs.declared.types.OccType.{OccType}
 use Rattle.occ_names.specs.declared.meaning.Access.{Access}
 use Rattle.occ_names.specs.declared.meaning.Access.TheVariants as access
-use Rattle.occ_names.specs.declared.meaning.Entry.{Entry}
+use Rattle.occ_names.specs.declared.meaning.ScopeEntry.{ScopeEntry}
 use Rattle.occ_names.specs.declared.meaning.Meaning.{Meaning}
 use Rattle.occ_names.specs.declared.meaning.Meaning.TheVariants as m
 use Rattle.occ_types.specs.declared.interface.Formal.{Formal}
@@ -32,11 +32,11 @@ as_element None by name = m.Faulty
 as_element (Some of) by name = m.Element (record { of = of; access = access_of by; value = None; root = name })
 
 -- in a body: all formals of a head with a fault are faulty
-abbrev pub entry : Bool → HeadFormal → Entry
+abbrev pub entry : Bool → HeadFormal → ScopeEntry
 entry true x = record { name = x.name; meaning = as_element x.of x.passing x.name }
 entry false x = record { name = x.name; meaning = m.Faulty }
 
-abbrev pub entries : Bool → List HeadFormal → List Entry
+abbrev pub entries : Bool → List HeadFormal → List ScopeEntry
 entries known [] = []
 entries known (x ∷ xs) = entry known x ∷ entries known xs
 

@@ -1,9 +1,10 @@
+//! Formals of a head, as they are in scope in the body and as a call sees them.
 ghost use Rattle.std.specs.Prelude.{◌≡◌, ◌∷◌, ◌++◌, [], IfOk, OnOk};
 ghost use Rattle.occ_typed_heads.specs.Formals.{access_of as the_access, all_known as all_are_known, as_element as told_element, each_of as told_each, entries as told_entries, entry as told_entry, called_formal as told_called_formal, called_formals as told_called_formals};
 
 use super::result_type::is_known;
 use occ_base::{Items, Name, Shared};
-use occ_names::{Access, Entry, Meaning, Whole};
+use occ_names::{Access, ScopeEntry, Meaning, Whole};
 use occ_types::{Formal, OccType, Passing};
 use std::alloc::{AllocError, Global};
 
@@ -99,7 +100,7 @@ fn as_element(
 }
 
 /// A formal as it stands in scope in the body: faulty, if the head has a fault.
-fn entry(alloc: Global, known: bool, one: &HeadFormal) -> Result<Entry, AllocError>
+fn entry(alloc: Global, known: bool, one: &HeadFormal) -> Result<ScopeEntry, AllocError>
     ensures { IfOk result (λ entry. entry ≡ told_entry known one.now) }
 {
     let name = one.name.copied(alloc)?;
@@ -109,7 +110,7 @@ fn entry(alloc: Global, known: bool, one: &HeadFormal) -> Result<Entry, AllocErr
         Meaning::Faulty
     };
     let meaning = Shared::new(alloc, meaning)?;
-    Ok(Entry { name, meaning })
+    Ok(ScopeEntry { name, meaning })
 }
 
 /// The formals as they stand in scope in the body.
@@ -117,7 +118,7 @@ pub fn entries(
     alloc: Global,
     known: bool,
     formals: &[HeadFormal],
-) -> Result<Items<Entry>, AllocError>
+) -> Result<Items<ScopeEntry>, AllocError>
     ensures { IfOk result (λ entries. entries ≡ told_entries known formals.now) }
 {
     let mut entries = Items::new(alloc);

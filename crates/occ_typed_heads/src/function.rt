@@ -1,3 +1,4 @@
+//! Heads `t, .. FUNCTION n (formals)`: value formals, and results of data.
 ghost use Rattle.std.specs.Prelude.{◌≡◌, ◌++◌, IfOk, OnOk};
 ghost use Rattle.occ_typed_heads.specs.Heads.{function, function_heading as told_heading, function_meaning as told_meaning, function_results as told_results, types_known as types_are_known};
 

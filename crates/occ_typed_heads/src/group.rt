@@ -1,3 +1,4 @@
+//! Groups of formals, `VAL t n, ..` or `t n, ..`, as one list of names (T8).
 ghost use Rattle.std.specs.Prelude.{◌≡◌, ◌∷◌, ◌++◌, [], IfOk, OnOk};
 ghost use Rattle.occ_typed_heads.specs.Formals.{each_of as told_each};
 ghost use Rattle.occ_typed_heads.specs.Groups.{group as told_group, groups as told_groups, names_of, plain_type as told_plain, value_type as told_value, values};

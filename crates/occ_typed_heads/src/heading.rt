@@ -1,5 +1,7 @@
+//! What a head makes known: its formals, the meaning of its name, and the results that are expected. Of a faulty head
+//! nothing is known.
 use occ_base::{Items, Shared};
-use occ_names::{Entry, Meaning};
+use occ_names::{ScopeEntry, Meaning};
 use occ_types::OccType;
 
 /// The results that a head lets expect.
@@ -15,7 +17,7 @@ pub enum Expected {
 #[derive(Drop)]
 pub struct Heading {
     /// The formals in their order, as they stand in scope in the body.
-    pub formals: Items<Entry>,
+    pub formals: Items<ScopeEntry>,
     /// What the name stands for behind the body.
     pub meaning: Meaning,
     pub results: Expected,

@@ -1,3 +1,4 @@
+//! Heads `PROC n (formals)`.
 ghost use Rattle.std.specs.Prelude.{◌≡◌, ◌++◌, IfOk, OnOk};
 ghost use Rattle.occ_typed_heads.specs.Heads.{procedure, procedure_heading as told_heading, procedure_meaning as told_meaning};
 

@@ -1,3 +1,4 @@
+//! The types of the results of a function, each of data (T2) and without `[]` (T5).
 ghost use Rattle.std.specs.Prelude.{◌≡◌, ◌∷◌, ◌++◌, [], IfOk, OnOk};
 ghost use Rattle.occ_typed_heads.specs.Knowing.{all_found as all_are_found, is_known as type_is_known, known_type as the_known_type, known_types as the_known_types, unless_told as known_unless_told};
 ghost use Rattle.occ_typed_heads.specs.Results.{results as told_results};

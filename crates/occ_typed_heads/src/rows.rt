@@ -1,3 +1,4 @@
+//! Worked rows: heads of procedures and functions, and formals.
 ghost use Rattle.std.specs.Prelude.{[], ◌∷◌, ◌≡◌, None, Some, false, true};
 ghost use Rattle.occ_typed_heads.specs.Formals.{entries, called_formals};
 ghost use Rattle.occ_typed_heads.specs.Heads.{function_heading, procedure};

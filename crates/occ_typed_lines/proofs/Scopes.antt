@@ -1,11 +1,11 @@
 -- A scope behind what was entered and left.
 use Rattle.std.proofs.Common.{◌≡◌, ◌∙◌, List, length, arith}
-use Rattle.occ_names.specs.declared.meaning.Entry.{Entry}
+use Rattle.occ_names.specs.declared.meaning.ScopeEntry.{ScopeEntry}
 use Rattle.occ_names.specs.declared.scope.Scope.{Scope}
 use Rattle.occ_names.specs.Visible.{back_to, with_all}
 use Rattle.occ_names.proofs.Leaving.{back_here, back_over}
 
-pub left_all : (s : Scope) (xs : List Entry) → back_to (length s.meanings) (with_all s xs) ≡ s
+pub left_all : (s : Scope) (xs : List ScopeEntry) → back_to (length s.meanings) (with_all s xs) ≡ s
 left_all s xs = back_over (length s.meanings) xs s (omega arith) ∙ back_here s
 
 pub ruleset scope_rules = (back_here, left_all)

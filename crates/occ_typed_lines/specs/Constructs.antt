@@ -1,5 +1,6 @@
 -- Constructs: what their own lines tell, and what they say of the lines under them.
 use Rattle.std.specs.Prelude.{false, Option, Some, None, []}
+use Rattle.occ_expr.specs.Trees.{element_tree, int_tree}
 use Rattle.occ_forms.specs.declared.tree.Construct.{Construct}
 use Rattle.occ_forms.specs.declared.tree.Construct.TheVariants as construct
 use Rattle.occ_forms.specs.declared.tree.ConstructKind.{ConstructKind}
@@ -13,11 +14,10 @@ use Rattle.occ_replicators.specs.declared.judge.Replicating.{Replicating}
 use Rattle.occ_replicators.specs.declared.judge.Replicating.TheVariants as by
 use Rattle.occ_replicators.specs.declared.tree.TypedReplicator.{TypedReplicator}
 use Rattle.occ_typed_exchanges.specs.Inputs.{case_faults}
-use Rattle.occ_typed_exchanges.specs.Through.{through_tree}
 use Rattle.occ_typed_exchanges.specs.Variants.{begun}
 use Rattle.occ_typed_statements.specs.Statements.{condition, selector}
 use Rattle.occ_typed.specs.declared.expr.TypedExpr.{TypedExpr}
-use Rattle.occ_typed_statements.specs.StatementTrees.{condition_tree, selector_tree}
+use Rattle.occ_typed_statements.specs.StatementTrees.{condition_tree}
 use Rattle.occ_typed_lines.specs.Lines.{Own, made, over, processes_in, with_role}
 use Rattle.occ_typed_lines.specs.declared.tree.BlockKind.{BlockKind}
 use Rattle.occ_typed_lines.specs.declared.tree.BlockKind.TheVariants as block
@@ -85,5 +85,5 @@ selecting x tree next = over x.faults (with_role (choosing x.kind) next) [] (mad
 abbrev pub constructing : Scope → Construct → Parent → Own
 constructing s (construct.Replicable w r) next = replicable s w r next
 constructing s (construct.While e) next = over (condition s e) (processes_in next) [] (made t.While (condition_tree s e)) next
-constructing s (construct.Case e) next = selecting (selector s e) (selector_tree s e) next
-constructing s (construct.CaseInput el) next = over (case_faults s el) (with_role (role.Variants (begun s el)) next) [] (made t.CaseInput (through_tree s el)) next
+constructing s (construct.Case e) next = selecting (selector s e) (int_tree s e) next
+constructing s (construct.CaseInput el) next = over (case_faults s el) (with_role (role.Variants (begun s el)) next) [] (made t.CaseInput (element_tree s el)) next

@@ -2,7 +2,7 @@
 use Rattle.std.specs.Prelude.{Option, Some, None, List, [], ◌∷◌}
 use Rattle.occ_base.specs.declared.code.Code.TheVariants as code
 use Rattle.occ_base.specs.declared.diag.Diag.{Diag}
-use Rattle.occ_names.specs.declared.meaning.Entry.{Entry}
+use Rattle.occ_names.specs.declared.meaning.ScopeEntry.{ScopeEntry}
 use Rattle.occ_base.specs.Telling.{nameless}
 use Rattle.occ_base.specs.declared.fault.Fault.{Fault}
 use Rattle.occ_typed_lines.specs.declared.parent.Line.{Line}
@@ -30,7 +30,7 @@ pub record Own : Type 0 where
   pub line : Line
 
 -- a main line, which says this of the lines under it
-abbrev pub over : List Fault → Parent → List Entry → TypedForm → Parent → Own
+abbrev pub over : List Fault → Parent → List ScopeEntry → TypedForm → Parent → Own
 over faults under enters form next =
     record {
       faults = faults;
@@ -41,7 +41,7 @@ abbrev pub main : List Fault → TypedForm → Parent → Own
 main faults form next = over faults (processes_in next) [] form next
 
 -- a specification over no lines that it has anything to say of: of one line, a close
-abbrev pub specifying : List Fault → List Entry → TypedForm → Parent → Own
+abbrev pub specifying : List Fault → List ScopeEntry → TypedForm → Parent → Own
 specifying faults adds form next =
     record {
       faults = faults;

@@ -3,11 +3,12 @@
 use Rattle.std.specs.Prelude.{ℕ, Bool, true, Option, Some, None, List, [], ◌∷◌, ◌++◌, if◌then◌else◌}
 use Rattle.occ_base.specs.declared.code.Code.TheVariants as code
 use Rattle.occ_expression_forms.specs.declared.tree.Expr.{Expr}
-use Rattle.occ_forms.specs.declared.tree.Part.{Part}
-use Rattle.occ_forms.specs.declared.tree.Part.TheVariants as part
+use Rattle.occ_forms.specs.declared.tree.PartForm.{PartForm}
+use Rattle.occ_forms.specs.declared.tree.PartForm.TheVariants as part
 use Rattle.occ_names.specs.declared.scope.Scope.{Scope}
 use Rattle.occ_base.specs.Telling.{nameless}
 use Rattle.occ_base.specs.declared.fault.Fault.{Fault}
+use Rattle.occ_expr.specs.Trees.{element_tree}
 use Rattle.occ_type_rules.specs.Choosing.{Chosen}
 use Rattle.occ_typed_statements.specs.Statements.{condition, hidden_results, options, results}
 use Rattle.occ_typed_heads.specs.declared.heading.Expected.{Expected}
@@ -19,7 +20,6 @@ use Rattle.occ_forms.specs.declared.tree.Detail.{Detail}
 use Rattle.occ_forms.specs.declared.tree.Guarded.{Guarded}
 use Rattle.occ_forms.specs.declared.tree.Guarded.TheVariants as guarded
 use Rattle.occ_typed_exchanges.specs.Inputs.{case_faults, input_faults, input_tree}
-use Rattle.occ_typed_exchanges.specs.Through.{through_tree}
 use Rattle.occ_typed_exchanges.specs.Variants.{begun, variant_faults, variant_tree, with_tag}
 use Rattle.occ_typed_exchanges.specs.declared.variants.CaseInput.{CaseInput}
 use Rattle.occ_typed_exchanges.specs.declared.variants.TypedVariant.{TypedVariant}
@@ -86,7 +86,7 @@ guard_of form (Some x) = Some (form x)
 abbrev pub guard_tree : Scope → Guarded → Option TypedGuard
 guard_tree s guarded.Skip = Some guard.Skip
 guard_tree s (guarded.Input i) = guard_of guard.Input (input_tree s i)
-guard_tree s (guarded.CaseInput el) = guard_of guard.CaseInput (through_tree s el)
+guard_tree s (guarded.CaseInput el) = guard_of guard.CaseInput (element_tree s el)
 
 abbrev pub guarded_form : Option TypedExpr → Option TypedGuard → TypedForm
 guarded_form None g = t.Unknown
@@ -177,7 +177,7 @@ resulting_in s es n role.Members = main [] t.Unknown (of_role n role.Members)
 abbrev pub resulting : Scope → List Expr → Parent → Own
 resulting s es p = resulting_in s es p.rounds p.role
 
-abbrev pub parting : Scope → Part → Parent → Own
+abbrev pub parting : Scope → PartForm → Parent → Own
 parting s part.Case next = main beyond t.Unknown next
 parting s part.Else next = otherwise next
 parting s part.ValueOf next = valued next

@@ -45,7 +45,7 @@ form_tag s before (form.Tagged name d ds) = tag_found s before name (d ∷ ds)
 -- of a line behind others of the protocol, which have these names
 abbrev pub body_tag : Scope → List (List ℕ) → ExpandedBody → TagFound
 body_tag s before (body.Form f) = form_tag s before f
-body_tag s before (body.Uses units) = no_tag
+body_tag s before (body.Uses unit) = no_tag
 body_tag s before (body.Fault code) = no_tag
 
 -- the diagnostics of the lines of a protocol, and its tags

@@ -5,8 +5,8 @@ use Rattle.occ_typed_specifications.specs.Fields.{fields}
 use Rattle.occ_expression_forms.specs.declared.tree.TypeForm.{TypeForm}
 use Rattle.occ_forms.specs.declared.tree.Form.{Form}
 use Rattle.occ_forms.specs.declared.tree.Form.TheVariants as form
-use Rattle.occ_forms.specs.declared.tree.Part.{Part}
-use Rattle.occ_forms.specs.declared.tree.Part.TheVariants as part
+use Rattle.occ_forms.specs.declared.tree.PartForm.{PartForm}
+use Rattle.occ_forms.specs.declared.tree.PartForm.TheVariants as part
 use Rattle.occ_names.specs.declared.scope.Scope.{Scope}
 use Rattle.occ_base.specs.declared.fault.Fault.{Fault}
 use Rattle.occ_project.specs.declared.expanded.ExpandedBody.{ExpandedBody}
@@ -61,7 +61,7 @@ form_fields s before (form.Tagged name d ds) = no_fields
 -- of a line behind others of the record, which have these names
 abbrev pub body_fields : Scope → List (List ℕ) → ExpandedBody → FieldLine
 body_fields s before (body.Form f) = form_fields s before f
-body_fields s before (body.Uses units) = no_fields
+body_fields s before (body.Uses unit) = no_fields
 body_fields s before (body.Fault code) = no_fields
 
 -- the diagnostics of the lines of a record, and its fields
@@ -76,7 +76,7 @@ field_lines s before (Tree l under behind) =
     let y = field_lines s (before ++ x.names) behind in
     record { diags = placed l x.faults ++ y.diags; fields = x.fields ++ y.fields }
 
-abbrev pub part_packing : Part → Packing
+abbrev pub part_packing : PartForm → Packing
 part_packing part.Case = packing.Plain
 part_packing part.Else = packing.Plain
 part_packing part.ValueOf = packing.Plain
@@ -96,7 +96,7 @@ form_packing (form.Tagged name d ds) = packing.Plain
 
 abbrev pub body_packing : ExpandedBody → Packing
 body_packing (body.Form f) = form_packing f
-body_packing (body.Uses units) = packing.Plain
+body_packing (body.Uses unit) = packing.Plain
 body_packing (body.Fault code) = packing.Plain
 
 pub record Recorded : Type 0 where

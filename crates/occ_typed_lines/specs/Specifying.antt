@@ -11,7 +11,7 @@ use Rattle.occ_typed_specifications.specs.Valuing.{value, value_tree}
 use Rattle.occ_expression_forms.specs.declared.tree.Expr.{Expr}
 use Rattle.occ_typed_heads.specs.Heads.{Headed, function, procedure}
 use Rattle.occ_names.specs.Visible.{with_all}
-use Rattle.occ_names.specs.declared.meaning.Entry.{Entry}
+use Rattle.occ_names.specs.declared.meaning.ScopeEntry.{ScopeEntry}
 use Rattle.occ_names.specs.declared.meaning.Meaning.{Meaning}
 use Rattle.occ_names.specs.declared.meaning.Meaning.TheVariants as m
 use Rattle.occ_names.specs.declared.scope.Scope.{Scope}
@@ -40,7 +40,7 @@ known_unless [] false meaning = meaning
 known_unless [] true meaning = m.Faulty
 known_unless (fault ∷ faults) faulty meaning = m.Faulty
 
-abbrev pub named : List ℕ → Meaning → List Entry
+abbrev pub named : List ℕ → Meaning → List ScopeEntry
 named name meaning = (record { name = name; meaning = meaning }) ∷ []
 
 -- `t, .. FUNCTION n (formals) IS e, ..:`: its formals are judged by its head alone, and it by its whole line
@@ -50,7 +50,7 @@ function_faults s h es = h.faults ++ results_of (with_all s h.heading.formals) h
 unfoldable pub function_meaning : Scope → Headed → List Expr → Meaning
 function_meaning s h es = known_unless (function_faults s h es) (is_any_faulty (with_all s h.heading.formals) es) h.heading.meaning
 
-abbrev pub one_line_function : List Entry → List TypedExpr → TypedForm
+abbrev pub one_line_function : List ScopeEntry → List TypedExpr → TypedForm
 one_line_function formals ts = t.OneLineFunction formals ts
 
 unfoldable pub function_form : Scope → Headed → List Expr → TypedForm

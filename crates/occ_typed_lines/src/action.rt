@@ -1,3 +1,4 @@
+//! Processes of one line: what each reports, and its typed form.
 ghost use Rattle.occ_typed_lines.specs.Actions.{action_faults, action_form as told_form};
 ghost use Rattle.occ_forms.specs.declared.tree.Action.TheVariants as a;
 ghost use Rattle.std.specs.Prelude.{◌≡◌, ◌++◌, IfOk, OnOk};

@@ -1,11 +1,12 @@
+//! Lines of constructs: SEQ, PAR, IF, ALT, WHILE, CASE, with their replicators, and what they ask of the lines under
+//! them.
+ghost use Rattle.occ_expr.specs.Trees.{element_tree, int_tree};
 ghost use Rattle.occ_typed_lines.specs.Constructs.{block_of as told_block, choosing as told_choosing, constructing as told_constructing, replicable as told_replicable, replicating_of as told_replicating, role_of as told_role};
 ghost use Rattle.occ_typed_exchanges.specs.Inputs.{case_faults};
-ghost use Rattle.occ_typed_exchanges.specs.Through.{through_tree};
 ghost use Rattle.occ_typed_exchanges.specs.Variants.{begun};
 ghost use Rattle.occ_typed_lines.specs.Lines.{made};
 ghost use Rattle.occ_typed_lines.specs.declared.parent.Role.TheVariants as role;
 ghost use Rattle.occ_typed_lines.specs.declared.tree.TypedForm.TheVariants as t;
-ghost use Rattle.occ_typed_statements.specs.StatementTrees.{selector_tree};
 ghost use Rattle.occ_typed_statements.specs.Statements.{selector as told_selector};
 ghost use Rattle.std.specs.Prelude.{◌≡◌, ◌++◌, IfOk, OnOk};
 
@@ -120,7 +121,7 @@ fn selection(
     faults: &mut Items<Fault>,
 ) -> Result<(Role, TypedForm), AllocError>
     ensures role { IfOk result (λ r. r.0 ≡ told_choosing (told_selector scope.now expr.now).kind) }
-    ensures form { IfOk result (λ r. r.1 ≡ made t.Selection (selector_tree scope.now expr.now)) }
+    ensures form { IfOk result (λ r. r.1 ≡ made t.Selection (int_tree scope.now expr.now)) }
     ensures faults { OnOk result (faults.new ≡ faults.old ++ (told_selector scope.now expr.now).faults) }
 {
     let (kind, tree) = selector(alloc, expr, scope, faults)?;
@@ -136,7 +137,7 @@ fn variants(
     faults: &mut Items<Fault>,
 ) -> Result<(Role, TypedForm), AllocError>
     ensures role { IfOk result (λ r. r.0 ≡ role.Variants (begun scope.now channel.now)) }
-    ensures form { IfOk result (λ r. r.1 ≡ made t.CaseInput (through_tree scope.now channel.now)) }
+    ensures form { IfOk result (λ r. r.1 ≡ made t.CaseInput (element_tree scope.now channel.now)) }
     ensures faults { OnOk result (faults.new ≡ faults.old ++ case_faults scope.now channel.now) }
 {
     let (input, tree) = case_input(alloc, channel, scope, faults)?;

@@ -1,3 +1,4 @@
+//! Typed forms from their parts; an unknown form where a part has a fault and so no tree.
 ghost use Rattle.occ_typed_lines.specs.Actions.{assigning, sending};
 ghost use Rattle.occ_typed_lines.specs.Constructs.{replicated};
 ghost use Rattle.occ_typed_lines.specs.Lines.{made};

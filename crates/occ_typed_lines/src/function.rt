@@ -1,3 +1,4 @@
+//! FUNCTIONs of one line, `t, .. FUNCTION n (formals) IS e, ..:`.
 ghost use Rattle.occ_typed_heads.specs.Heads.{function as told_head};
 ghost use Rattle.occ_names.specs.Visible.{with_all};
 ghost use Rattle.occ_typed_statements.specs.Statements.{is_any_faulty};
@@ -12,7 +13,7 @@ use super::part::results_of;
 use super::tree::TypedForm;
 use occ_base::{Fault, Items, Name, Shared};
 use occ_expression_forms::Expr;
-use occ_names::{Entry, Meaning, Scope, one_entry};
+use occ_names::{ScopeEntry, Meaning, Scope, one_entry};
 use occ_specification_forms::FunctionHead;
 use occ_typed::TypedExpr;
 use occ_typed_heads::{Expected, Heading, function_head};
@@ -24,7 +25,7 @@ fn results_under(
     alloc: Global,
     first: &Expr,
     more: &[Expr],
-    formals: &[Entry],
+    formals: &[ScopeEntry],
     expected: &Expected,
     scope: &mut Scope,
     faults: &mut Items<Fault>,
@@ -95,7 +96,7 @@ fn function_told(
 }
 
 /// A FUNCTION of one line with these formals, if its results have trees.
-fn form_of(formals: Items<Entry>, trees: Option<Items<Shared<TypedExpr>>>) -> TypedForm
+fn form_of(formals: Items<ScopeEntry>, trees: Option<Items<Shared<TypedExpr>>>) -> TypedForm
     ensures { result ≡ made (one_line_function formals) trees }
 {
     match trees {

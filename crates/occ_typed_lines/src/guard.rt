@@ -1,3 +1,4 @@
+//! Guards `e & g`: the condition, and the input after it.
 ghost use Rattle.occ_typed_lines.specs.Parts.{guard_faults as told_guard, guard_of as told_guard_of, guard_role as told_role, guard_tree as told_tree, guarded_form as told_form, guarding as told_guarding};
 ghost use Rattle.occ_typed_lines.specs.declared.tree.TypedGuard.TheVariants as guard;
 ghost use Rattle.std.specs.Prelude.{◌≡◌, ◌++◌, IfOk, OnOk};

@@ -1,3 +1,4 @@
+//! Heads of PROCs, FUNCTIONs, records and protocols, with what the lines under them add.
 #![tactic(auto, using(crate::proofs::Trees::tree_rules))]
 
 ghost use Rattle.occ_tree.specs.Forest.{forest_of};
@@ -12,7 +13,7 @@ use super::protocol::protocol_of;
 use super::record::record_of;
 use super::tree::TypedForm;
 use occ_base::{Boxed, Diag, Fault, Items, Name};
-use occ_names::{Entry, Meaning, Scope, one_entry};
+use occ_names::{ScopeEntry, Meaning, Scope, one_entry};
 use occ_specification_forms::Head;
 use occ_tree::Node;
 use occ_typed_heads::{function_head, procedure_head};
@@ -26,7 +27,7 @@ fn headed(
     name: &Name,
     meaning: Meaning,
     under: Parent,
-    enters: Items<Entry>,
+    enters: Items<ScopeEntry>,
     form: TypedForm,
     next: Parent,
 ) -> Result<Line, AllocError>

@@ -1,3 +1,5 @@
+//! A line of any form in its scope: its faults, its typed form, and what it says of the lines around it.
+//! `docs/LANGUAGE.md, The lines of a unit`.
 #![tactic(auto, using(crate::proofs::Trees::tree_rules))]
 
 ghost use Rattle.occ_tree.specs.Forest.{forest_of};
@@ -12,7 +14,7 @@ use super::parent::{Line, Parent, Role};
 use super::part::{expressions, part};
 use super::specifying::one_line;
 use super::tree::TypedForm;
-use super::using::{Import, imported, interfaces};
+use super::using::{Import, imported, interface_of};
 use super::variant::tagged;
 use occ_base::{Diag, Fault, Items};
 use occ_forms::Form;
@@ -98,8 +100,8 @@ fn line(
         ExpandedBody::Form(form) => {
             form_line(alloc, form.get(), nodes, scope, parent, found, faults)
         }
-        ExpandedBody::Uses(units) => {
-            let interfaces = interfaces(alloc, imports, units.as_slice())?;
+        ExpandedBody::Uses(unit) => {
+            let interfaces = interface_of(alloc, imports, unit)?;
             let adds = imported(alloc, interfaces.as_slice())?;
             line_of_one(alloc, adds, TypedForm::Uses(interfaces), parent)
         }
@@ -111,15 +113,7 @@ fn line(
 fn is_told_with_head(role: &Role) -> bool
     ensures { result ≡ told_with_head role.now }
 {
-    match role {
-        Role::Process => false,
-        Role::Conditional => false,
-        Role::Alternation => false,
-        Role::Selection(_) => false,
-        Role::Variants(_) => false,
-        Role::Function(_) => false,
-        Role::Members => true,
-    }
+    matches!(role, Role::Members)
 }
 
 /// A line that is told with the head over it.

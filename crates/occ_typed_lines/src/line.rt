@@ -1,10 +1,11 @@
+//! What a line says of those under it and after it, for each kind of line.
 ghost use Rattle.occ_typed_lines.specs.Lines.{body_of as told_body, main as told_main, over as told_over, processes_in as told_processes, specifying as told_specifying, with_role as told_role};
 ghost use Rattle.std.specs.Prelude.{◌≡◌, [], IfOk, Some};
 
 use super::parent::{Line, Parent, Role};
 use super::tree::TypedForm;
 use occ_base::{Boxed, Items};
-use occ_names::Entry;
+use occ_names::ScopeEntry;
 use std::alloc::{AllocError, Global};
 
 /// Lines that stand as often as others do, of which this is said.
@@ -35,7 +36,7 @@ pub fn body_of(role: Role) -> Parent
 pub fn over(
     alloc: Global,
     under: Parent,
-    enters: Items<Entry>,
+    enters: Items<ScopeEntry>,
     form: TypedForm,
     next: Parent,
 ) -> Result<Line, AllocError>
@@ -74,8 +75,8 @@ pub fn main(alloc: Global, form: TypedForm, next: Parent) -> Result<Line, AllocE
 pub fn specifying(
     alloc: Global,
     under: Parent,
-    enters: Items<Entry>,
-    adds: Items<Entry>,
+    enters: Items<ScopeEntry>,
+    adds: Items<ScopeEntry>,
     form: TypedForm,
     next: Parent,
 ) -> Result<Line, AllocError>
@@ -94,7 +95,7 @@ pub fn specifying(
 /// A specification of one line.
 pub fn line_of_one(
     alloc: Global,
-    adds: Items<Entry>,
+    adds: Items<ScopeEntry>,
     form: TypedForm,
     next: Parent,
 ) -> Result<Line, AllocError>

@@ -1,6 +1,8 @@
+//! What a parent says of the lines under it: their role, the options so far, the results wanted, and how often they are
+//! repeated. And what a line makes known for those around it.
 use super::tree::TypedForm;
 use occ_base::{Boxed, Items};
-use occ_names::Entry;
+use occ_names::ScopeEntry;
 use occ_operands::Kind;
 use occ_typed_exchanges::CaseInput;
 use occ_typed_heads::Expected;
@@ -50,11 +52,11 @@ pub struct Line {
     /// What it says of the lines under it.
     pub parent: Parent,
     /// What comes into scope under it.
-    pub enters: Items<Entry>,
+    pub enters: Items<ScopeEntry>,
     /// What its own parent says of the lines behind it.
     pub next: Parent,
     /// What comes into scope behind it, if it is a specification; else it ends the scope of those of its item.
-    pub adds: Option<Items<Entry>>,
+    pub adds: Option<Items<ScopeEntry>>,
     /// What it is, once its names and expressions are typed.
     pub form: Boxed<TypedForm>,
 }

@@ -1,3 +1,4 @@
+//! Lines that are parts of what is around them: conditions, options, ELSE, VALOF, RESULT.
 ghost use Rattle.occ_typed_lines.specs.Parts.{else_option as told_else_option, expressing as told_expressing, instance_line as told_instance_line, option as told_option, otherwise as told_otherwise, parting as told_parting, resulting as told_resulting, results_in as told_results_in, results_of as told_results, second as told_second, valued as told_valued};
 ghost use Rattle.occ_typed_statements.specs.Statements.{is_any_faulty};
 ghost use Rattle.std.specs.Prelude.{◌≡◌, ◌∷◌, ◌++◌, [], IfOk, OnOk};
@@ -10,7 +11,7 @@ use super::tree::TypedForm;
 use super::variant::{of_role, variant_named};
 use occ_base::{Boxed, Code, Fault, Items, Shared, tell};
 use occ_expression_forms::Expr;
-use occ_forms::Part;
+use occ_forms::PartForm;
 use occ_names::Scope;
 use occ_typed::TypedExpr;
 use occ_typed_calls::instance;
@@ -217,7 +218,7 @@ fn resulting(
 /// A line that is a part of what stands round it.
 pub fn part(
     alloc: Global,
-    part: &Part,
+    part: &PartForm,
     scope: &Scope,
     parent: Parent,
     faults: &mut Items<Fault>,
@@ -226,18 +227,18 @@ pub fn part(
     ensures faults { OnOk result (faults.new ≡ faults.old ++ (told_parting scope.now part.now parent).faults) }
 {
     match part {
-        Part::Case => {
+        PartForm::Case => {
             tell(faults, Code::S1)?;
             main(alloc, TypedForm::Unknown, parent)
         }
-        Part::Else => otherwise(alloc, parent, faults),
-        Part::ValueOf => valued(alloc, parent),
-        Part::Result(first, more) => {
+        PartForm::Else => otherwise(alloc, parent, faults),
+        PartForm::ValueOf => valued(alloc, parent),
+        PartForm::Result(first, more) => {
             resulting(alloc, first, more.as_slice(), scope, parent, faults)
         }
-        Part::Record => main(alloc, TypedForm::Member, parent),
-        Part::PackedRecord => main(alloc, TypedForm::Member, parent),
-        Part::Guard(condition, behind) => {
+        PartForm::Record => main(alloc, TypedForm::Member, parent),
+        PartForm::PackedRecord => main(alloc, TypedForm::Member, parent),
+        PartForm::Guard(condition, behind) => {
             guarding(alloc, condition, behind, scope, parent, faults)
         }
     }

@@ -1,3 +1,4 @@
+//! The diagnostics of faults, once their line is known.
 ghost use Rattle.occ_typed_lines.specs.Placed.{diag_of, placed};
 ghost use Rattle.std.specs.Prelude.{◌≡◌, ◌++◌, IfOk, OnOk};
 

@@ -1,3 +1,4 @@
+//! The lines of tags under the head of a protocol, one after the other.
 #![tactic(auto, using(crate::proofs::Trees::tree_rules))]
 
 ghost use Rattle.occ_expr.specs.Views.{expr_view};

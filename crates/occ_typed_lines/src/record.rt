@@ -1,3 +1,4 @@
+//! The lines of fields under the head of a record, one after the other.
 #![tactic(auto, using(crate::proofs::Trees::tree_rules))]
 
 ghost use Rattle.occ_tree.specs.Forest.{forest_of};
@@ -6,7 +7,7 @@ ghost use Rattle.std.specs.Prelude.{◌≡◌, ◌++◌, [], IfOk, OnOk};
 
 use super::placing::place;
 use occ_base::{Diag, Fault, Items};
-use occ_forms::{Form, Part};
+use occ_forms::{Form, PartForm};
 use occ_names::Scope;
 use occ_project::ExpandedBody;
 use occ_scope::Scopes;
@@ -154,17 +155,17 @@ fn field_lines(
 }
 
 /// Whether `PACKED` stands before the word of a record.
-fn part_packing(part: &Part) -> Packing
+fn part_packing(part: &PartForm) -> Packing
     ensures { result ≡ told_part_packing part.now }
 {
     match part {
-        Part::PackedRecord => Packing::Packed,
-        Part::Case => Packing::Plain,
-        Part::Else => Packing::Plain,
-        Part::ValueOf => Packing::Plain,
-        Part::Result(_, _) => Packing::Plain,
-        Part::Record => Packing::Plain,
-        Part::Guard(_, _) => Packing::Plain,
+        PartForm::PackedRecord => Packing::Packed,
+        PartForm::Case => Packing::Plain,
+        PartForm::Else => Packing::Plain,
+        PartForm::ValueOf => Packing::Plain,
+        PartForm::Result(_, _) => Packing::Plain,
+        PartForm::Record => Packing::Plain,
+        PartForm::Guard(_, _) => Packing::Plain,
     }
 }
 

@@ -1,3 +1,4 @@
+//! Specifications of one line: what each reports, and what comes into scope after it.
 ghost use Rattle.occ_typed_specifications.specs.Declaring.{declaration as told_declaration};
 ghost use Rattle.occ_typed_specifications.specs.Defining.{data_type as told_data_type};
 ghost use Rattle.occ_abbreviations.specs.Abbreviating.{abbreviation as told_abbreviation};

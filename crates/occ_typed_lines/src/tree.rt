@@ -1,5 +1,6 @@
+//! Typed forms: what each line of a unit is, once its names and expressions are typed.
 use occ_base::{Items, Name, Shared};
-use occ_names::{Entry, Referent};
+use occ_names::{ScopeEntry, Referent};
 use occ_replicators::TypedReplicator;
 use occ_typed::{TypedActual, TypedElement, TypedExpr};
 use occ_typed_exchanges::{TypedInput, TypedOutput, TypedTarget};
@@ -43,7 +44,7 @@ pub enum TypedForm {
     RetypedValue(Shared<TypedExpr>),
     /// `t, .. FUNCTION n (formals) IS e, ..:`: its formals, which are not among what the line enters, and its results with
     /// these in scope.
-    OneLineFunction(Items<Entry>, Items<Shared<TypedExpr>>),
+    OneLineFunction(Items<ScopeEntry>, Items<Shared<TypedExpr>>),
     /// `DATA TYPE n IS t:`
     DataType,
     /// `PROTOCOL n IS item; ..:`

@@ -1,8 +1,9 @@
-ghost use Rattle.occ_typed_lines.specs.Using.{entry_of, entries_of, imported as told_imported, interface_of, interfaces as told_interfaces, meaning_of as told_meaning};
+//! Imports: what comes into scope after a `#USE`, from the interfaces of used units.
+ghost use Rattle.occ_typed_lines.specs.Using.{entry_of, entries_of, imported as told_imported, interface_of as told_interface, meaning_of as told_meaning};
 ghost use Rattle.std.specs.Prelude.{◌≡◌, ◌++◌, ◌∷◌, [], IfOk, OnOk};
 
-use occ_base::{FileName, Items, Shared};
-use occ_names::{Entry, Meaning};
+use occ_base::{FileName, Items, Shared, one_item};
+use occ_names::{ScopeEntry, Meaning};
 use occ_types::{Export, ExportKind, Formal, Interface, OccType};
 use std::alloc::{AllocError, Global};
 
@@ -57,19 +58,19 @@ fn meaning_of(alloc: Global, export: &Export) -> Result<Meaning, AllocError>
 }
 
 /// An export as it comes into scope.
-fn entry(alloc: Global, export: &Export) -> Result<Entry, AllocError>
+fn entry(alloc: Global, export: &Export) -> Result<ScopeEntry, AllocError>
     ensures { IfOk result (λ entry. entry ≡ entry_of export.now) }
 {
     let name = export.name.copied(alloc)?;
     let meaning = Shared::new(alloc, meaning_of(alloc, export)?)?;
-    Ok(Entry { name, meaning })
+    Ok(ScopeEntry { name, meaning })
 }
 
 /// Exports as they come into scope, behind others.
 fn push_exports(
     alloc: Global,
     exports: &[Export],
-    entries: &mut Items<Entry>,
+    entries: &mut Items<ScopeEntry>,
 ) -> Result<(), AllocError>
     ensures { OnOk result (entries.new ≡ entries.old ++ entries_of exports.now) }
 {
@@ -80,39 +81,24 @@ fn push_exports(
     Ok(())
 }
 
-/// Adds what a unit shows; one of which there is no import shows nothing.
-fn push_interface(
-    unit: &FileName,
+/// What the first import of this unit shows; a unit of which there is none shows nothing.
+pub fn interface_of(
+    alloc: Global,
     imports: &[Import],
-    found: &mut Items<Shared<Interface>>,
-) -> Result<(), AllocError>
-    ensures { OnOk result (found.new ≡ found.old ++ interface_of unit.now imports.now) }
+    unit: &FileName,
+) -> Result<Items<Shared<Interface>>, AllocError>
+    ensures { IfOk result (λ found. found ≡ told_interface unit.now imports.now) }
 {
     for import in imports {
         if import.unit == *unit {
-            return found.push(import.interface.share()?);
+            return one_item(alloc, import.interface.share()?);
         }
     }
-    Ok(())
+    Ok(Items::new(alloc))
 }
 
-/// What the units show that a line uses, in their order.
-pub fn interfaces(
-    alloc: Global,
-    imports: &[Import],
-    units: &[FileName],
-) -> Result<Items<Shared<Interface>>, AllocError>
-    ensures { IfOk result (λ found. found ≡ told_interfaces imports.now units.now) }
-{
-    let mut found = Items::new(alloc);
-    for unit in units {
-        push_interface(unit, imports, &mut found)?;
-    }
-    Ok(found)
-}
-
-/// What comes into scope behind a line that uses units which show this.
-pub fn imported(alloc: Global, interfaces: &[Shared<Interface>]) -> Result<Items<Entry>, AllocError>
+/// What comes into scope behind a line that uses a unit which shows this.
+pub fn imported(alloc: Global, interfaces: &[Shared<Interface>]) -> Result<Items<ScopeEntry>, AllocError>
     ensures { IfOk result (λ entries. entries ≡ told_imported interfaces.now) }
 {
     let mut entries = Items::new(alloc);

@@ -1,3 +1,4 @@
+//! Variants of a case input, `n` or `n; ..`.
 ghost use Rattle.occ_typed_lines.specs.Parts.{of_role as told_of_role, tagged as told_tagged, variant as told_variant, variant_named as told_named};
 ghost use Rattle.occ_expr.specs.Views.{expr_view};
 ghost use Rattle.std.specs.Prelude.{◌≡◌, ◌∷◌, ◌++◌, IfOk, OnOk};

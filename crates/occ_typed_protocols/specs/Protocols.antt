@@ -2,7 +2,6 @@
 use Rattle.std.specs.Prelude.{ℕ, Bool, not, ◌&&◌, Option, Some, None, List, [], ◌∷◌, ◌++◌, if◌then◌else◌}
 use Rattle.occ_base.specs.Telling.{nameless}
 use Rattle.occ_base.specs.declared.code.Code.TheVariants as code
-use Rattle.occ_base.specs.declared.fault.Fault.{Fault}
 use Rattle.occ_types.specs.Measure.{protocol_measure}
 use Rattle.occ_types.specs.Unknown.{holds_unknown}
 use Rattle.occ_types.specs.declared.types.Item.{Item}
@@ -18,6 +17,7 @@ use Rattle.occ_tables.specs.Extents.{is_too_wide}
 use Rattle.occ_specification_forms.specs.declared.tree.ItemForm.{ItemForm}
 use Rattle.occ_typed_specifications.specs.Entering.{Declared, unless_told}
 use Rattle.occ_typed_protocols.specs.Items.{items_of}
+use Rattle.occ_typed_specifications.specs.Defining.{Defined}
 
 -- over 128 levels or over 4,096 types, which are not asked of a protocol that holds what has a fault
 unfoldable pub is_too_large : Protocol → Bool
@@ -54,10 +54,5 @@ protocol s name xs =
 
 -- ---- with these tags, also where the lines of some have faults
 
--- the faults of a head, and what its name stands for
-pub record Tagged : Type 0 where
-  pub faults : List Fault
-  pub meaning : Meaning
-
-unfoldable pub tagged_protocol : List ℕ → List Tag → Tagged
+unfoldable pub tagged_protocol : List ℕ → List Tag → Defined
 tagged_protocol name tags = let x = defined name (p.Variant tags) in record { faults = x.faults; meaning = protocol_name x.found }

@@ -1,10 +1,11 @@
+//! Protocols as a whole: of one line, and at the head of one with tags (T9). `docs/LANGUAGE.md, Protocols`.
 ghost use Rattle.std.specs.Prelude.{◌≡◌, ◌∷◌, ◌++◌, IfOk, OnOk};
 ghost use Rattle.occ_typed_specifications.specs.Entering.{unless_told as known_unless_told};
 ghost use Rattle.occ_typed_protocols.specs.Protocols.{defined as told_defined, is_too_large as too_large, limited as told_limited, protocol as told_protocol, protocol_name as told_name, protocol_told as told_whole, tagged_protocol as told_tagged, whole as told_items};
 
 use super::item::items;
 use occ_base::{Code, Fault, Items, Name, Shared, tell};
-use occ_names::{Entry, Meaning, Scope, one_entry};
+use occ_names::{ScopeEntry, Meaning, Scope, one_entry};
 use occ_specification_forms::ItemForm;
 use occ_types::{Item, OccType, Protocol, Tag, holds_unknown, measure_protocol};
 use std::alloc::{AllocError, Global};
@@ -127,7 +128,7 @@ pub fn protocol(
     more: &[ItemForm],
     scope: &Scope,
     faults: &mut Items<Fault>,
-) -> Result<Items<Entry>, AllocError>
+) -> Result<Items<ScopeEntry>, AllocError>
     ensures adds { IfOk result (λ adds. adds ≡ (told_protocol scope.now name.now (first.now ∷ more.now)).adds) }
     ensures faults { OnOk result (faults.new ≡ faults.old ++ (told_protocol scope.now name.now (first.now ∷ more.now)).faults) }
 {

@@ -1,3 +1,4 @@
+//! The items after a tag, each a type of data.
 ghost use Rattle.std.specs.Prelude.{◌≡◌, ◌++◌, IfOk, OnOk};
 ghost use Rattle.occ_expr.specs.Views.{builtin_view, dimension_views, each, element_view};
 ghost use Rattle.occ_expr.specs.Written.{array_over};

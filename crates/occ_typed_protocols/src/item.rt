@@ -1,3 +1,4 @@
+//! The items of a protocol of one line: types of data and `T::[]U`.
 ghost use Rattle.std.specs.Prelude.{◌≡◌, ◌∷◌, ◌++◌, [], IfOk, OnOk};
 ghost use Rattle.occ_lists.specs.Lists.{joined};
 ghost use Rattle.occ_typed_protocols.specs.Items.{counted_if as told_counted_if, counted_item as told_counted, item_of as told_item, items_of as told_items, row_of as told_row, value_if as told_value_if, written as told_written};
@@ -36,10 +37,7 @@ fn written(
 pub fn value_if(of: Option<Shared<OccType>>) -> Option<Item>
     ensures { result ≡ told_value_if of }
 {
-    match of {
-        Some(of) => Some(Item::Value(of)),
-        None => None,
-    }
+    of.map(|of| Item::Value(of))
 }
 
 /// A type of which any number of values may follow a count, if that is not too large: else T9 is told.

@@ -1,3 +1,4 @@
+//! Worked rows: items and tags with and without a fault.
 ghost use Rattle.std.specs.Prelude.{[], ◌∷◌, ◌≡◌, None, Some, codes};
 ghost use Rattle.occ_base.specs.declared.code.Code.TheVariants as code;
 ghost use Rattle.occ_operands.specs.Settling.{int};

@@ -1,3 +1,4 @@
+//! The line of a tag, `n` or `n; d; ..`, with T8 for one that is there before.
 ghost use Rattle.std.specs.Prelude.{◌≡◌, ◌∷◌, ◌++◌, [], IfOk, OnOk};
 ghost use Rattle.occ_typed_protocols.specs.Tags.{tag_items as told_items, tag_line as told_line};
 ghost use Rattle.occ_types.specs.declared.types.Item.TheVariants as i;

@@ -2,7 +2,7 @@
 use Rattle.std.specs.Prelude.{ℕ, Option, Some, None, List, [], ◌∷◌, ◌++◌}
 use Rattle.occ_types.specs.declared.types.OccType.{OccType}
 use Rattle.occ_names.specs.declared.meaning.Access.TheVariants as access
-use Rattle.occ_names.specs.declared.meaning.Entry.{Entry}
+use Rattle.occ_names.specs.declared.meaning.ScopeEntry.{ScopeEntry}
 use Rattle.occ_names.specs.declared.meaning.Meaning.{Meaning}
 use Rattle.occ_names.specs.declared.meaning.Meaning.TheVariants as m
 use Rattle.occ_names.specs.declared.scope.Scope.{Scope}
@@ -18,7 +18,7 @@ abbrev pub variable : Option OccType → List ℕ → Meaning
 variable None name = m.Faulty
 variable (Some of) name = m.Element (record { of = of; access = access.Variable; value = None; root = name })
 
-abbrev pub variables : Option OccType → List (List ℕ) → List Entry
+abbrev pub variables : Option OccType → List (List ℕ) → List ScopeEntry
 variables of [] = []
 variables of (name ∷ names) = (record { name = name; meaning = variable of name }) ∷ variables of names
 

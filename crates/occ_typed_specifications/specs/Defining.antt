@@ -1,5 +1,6 @@
 -- `DATA TYPE n IS t:`.
 use Rattle.std.specs.Prelude.{ℕ, Option, Some, None, List, [], ◌∷◌, ◌++◌}
+use Rattle.occ_base.specs.declared.fault.Fault.{Fault}
 use Rattle.occ_types.specs.declared.types.OccType.{OccType}
 use Rattle.occ_types.specs.declared.types.OccType.TheVariants as t
 use Rattle.occ_names.specs.declared.meaning.Meaning.TheVariants as m
@@ -7,9 +8,15 @@ use Rattle.occ_names.specs.declared.scope.Scope.{Scope}
 use Rattle.occ_expression_forms.specs.declared.tree.TypeForm.{TypeForm}
 use Rattle.occ_expr.specs.Views.{type_form_view}
 use Rattle.occ_expr.specs.Written.{Written, faulty, limited}
+use Rattle.occ_names.specs.declared.meaning.Meaning.{Meaning}
 use Rattle.occ_expr.specs.declared.written.Opening.TheVariants as opening
 use Rattle.occ_type_rules.specs.Resulting.{of_data}
 use Rattle.occ_typed_specifications.specs.Entering.{Declared, unless_told}
+
+-- the faults of a head, and what its name stands for
+pub record Defined : Type 0 where
+  pub faults : List Fault
+  pub meaning : Meaning
 
 -- a type of data, if it is known
 unfoldable pub data_of : Option OccType → Written

@@ -17,8 +17,7 @@ use Rattle.occ_expr.specs.Views.{expr_view, type_form_view}
 use Rattle.occ_expr.specs.declared.written.Opening.TheVariants as opening
 use Rattle.occ_type_rules.specs.Abbreviating.{abbreviated, abbreviated_as}
 use Rattle.occ_typed_specifications.specs.Entering.{Declared}
-use Rattle.occ_typed.specs.Placing.{placed}
-use Rattle.occ_typed.specs.declared.draft.Draft.{Draft}
+use Rattle.occ_typed.specs.Placing.{tree_of}
 use Rattle.occ_typed.specs.declared.expr.TypedExpr.{TypedExpr}
 
 -- nothing is asked of the value where the type is not known
@@ -39,12 +38,6 @@ value_with_type s of e =
 abbrev pub value_told : Scope → Option TypeForm → Expr → Told
 value_told s None e = value_alone s e
 value_told s (Some of) e = value_with_type s of e
-
--- its tree, which is of the type of the value
-abbrev pub tree_of : Kind → Draft → Option TypedExpr
-tree_of k.Faulty x = None
-tree_of (k.Free f) x = None
-tree_of (k.Known y) x = placed x y.of
 
 unfoldable pub value_tree : Scope → Option TypeForm → Expr → Option TypedExpr
 value_tree s of e = tree_of (value_told s of e).kind ((expr_view e).draft s)

@@ -1,3 +1,4 @@
+//! Declarations `t n, ..:`. `docs/LANGUAGE.md, Lines of specification`.
 ghost use Rattle.std.specs.Prelude.{◌≡◌, ◌∷◌, ◌++◌, [], IfOk, OnOk};
 ghost use Rattle.occ_typed_specifications.specs.Declaring.{declaration as told_declaration, declared_type as told_type, variable as told_variable, variables as told_variables};
 ghost use Rattle.occ_typed_specifications.specs.Entering.{unless_told as known_unless_told};
@@ -7,7 +8,7 @@ use super::told::unless_told;
 use occ_base::{Fault, Items, Name, Shared};
 use occ_expr::{Opening, type_form};
 use occ_expression_forms::TypeForm;
-use occ_names::{Access, Entry, Meaning, Scope, Whole};
+use occ_names::{Access, ScopeEntry, Meaning, Scope, Whole};
 use occ_scope::Scopes;
 use occ_type_rules::repeated;
 use occ_types::OccType;
@@ -33,13 +34,13 @@ fn push_variable(
     alloc: Global,
     of: &Option<Shared<OccType>>,
     name: &Name,
-    entries: &mut Items<Entry>,
+    entries: &mut Items<ScopeEntry>,
 ) -> Result<(), AllocError>
     ensures { OnOk result (entries.new ≡ entries.old ++ told_variables of.now (name.now ∷ [])) }
 {
     let meaning = Shared::new(alloc, variable(alloc, of, name)?)?;
     let name = name.copied(alloc)?;
-    entries.push(Entry { name, meaning })
+    entries.push(ScopeEntry { name, meaning })
 }
 
 /// Further variables of this type.
@@ -47,7 +48,7 @@ fn push_variables(
     alloc: Global,
     of: &Option<Shared<OccType>>,
     names: &[Name],
-    entries: &mut Items<Entry>,
+    entries: &mut Items<ScopeEntry>,
 ) -> Result<(), AllocError>
     ensures { OnOk result (entries.new ≡ entries.old ++ told_variables of.now names.now) }
 {
@@ -63,7 +64,7 @@ fn variables(
     of: &Option<Shared<OccType>>,
     first: &Name,
     more: &[Name],
-) -> Result<Items<Entry>, AllocError>
+) -> Result<Items<ScopeEntry>, AllocError>
     ensures { IfOk result (λ entries. entries ≡ told_variables of.now (first.now ∷ more.now)) }
 {
     let mut entries = Items::new(alloc);
@@ -132,7 +133,7 @@ pub fn declaration(
     more: &[Name],
     scope: &Scope,
     faults: &mut Items<Fault>,
-) -> Result<Items<Entry>, AllocError>
+) -> Result<Items<ScopeEntry>, AllocError>
     ensures adds { IfOk result (λ adds. adds ≡ (told_declaration scope.now of.now first.now more.now).adds) }
     ensures faults { OnOk result (faults.new ≡ faults.old ++ (told_declaration scope.now of.now first.now more.now).faults) }
 {

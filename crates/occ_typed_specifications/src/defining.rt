@@ -1,3 +1,4 @@
+//! Data types of one line, `DATA TYPE n IS t:`, and types that have to be data.
 ghost use Rattle.std.specs.Prelude.{◌≡◌, ◌++◌, IfOk, OnOk};
 ghost use Rattle.occ_typed_specifications.specs.Defining.{data_form_type as told_form, data_of as told_data, data_type as told_data_type, defined as told_defined, with_name as told_with_name};
 ghost use Rattle.occ_typed_specifications.specs.Entering.{unless_told as known_unless_told};
@@ -8,7 +9,7 @@ use super::told::unless_told;
 use occ_base::{Code, Fault, Items, Name, Shared, tell};
 use occ_expr::{Opening, type_form};
 use occ_expression_forms::TypeForm;
-use occ_names::{Entry, Meaning, Scope, one_entry};
+use occ_names::{ScopeEntry, Meaning, Scope, one_entry};
 use occ_tables::is_too_large;
 use occ_type_rules::of_data;
 use occ_types::OccType;
@@ -119,7 +120,7 @@ pub fn data_type(
     form: &TypeForm,
     scope: &Scope,
     faults: &mut Items<Fault>,
-) -> Result<Items<Entry>, AllocError>
+) -> Result<Items<ScopeEntry>, AllocError>
     ensures adds { IfOk result (λ adds. adds ≡ (told_data_type scope.now name.now form.now).adds) }
     ensures faults { OnOk result (faults.new ≡ faults.old ++ (told_data_type scope.now name.now form.now).faults) }
 {

@@ -1,3 +1,4 @@
+//! Lines of fields in a record, and T8 for names that are repeated.
 ghost use Rattle.std.specs.Prelude.{◌≡◌, ◌∷◌, ◌++◌, [], IfOk, OnOk};
 ghost use Rattle.occ_typed_specifications.specs.Entering.{unless_told as known_unless_told};
 ghost use Rattle.occ_typed_specifications.specs.Fields.{each_of as told_each, field_type as told_field_type, fields as told_fields, line_type as told_line_type};

@@ -13,4 +13,4 @@ pub use declaring::declaration;
 pub use defining::{data_form_type, data_of, data_type};
 pub use field::{fields, repeated_all};
 pub use recording::record;
-pub use valuing::{ValueLine, kind_unless_told, tree_of, value, value_name};
+pub use valuing::{ValueLine, Valued, kind_unless_told, value, value_alone, value_name};

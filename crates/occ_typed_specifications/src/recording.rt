@@ -1,3 +1,4 @@
+//! Records as a whole, at their head: the type with its name, which may be too large (T9).
 ghost use Rattle.std.specs.Prelude.{◌≡◌, ◌++◌, IfOk, OnOk};
 ghost use Rattle.occ_typed_specifications.specs.Recording.{recorded};
 

@@ -1,3 +1,4 @@
+//! Worked rows: declarations and fields, with and without a fault.
 ghost use Rattle.std.specs.Prelude.{[], ◌∷◌, ◌≡◌, None, Some};
 ghost use Rattle.occ_typed_specifications.specs.Declaring.{variables};
 ghost use Rattle.occ_typed_specifications.specs.Entering.{unless_told};

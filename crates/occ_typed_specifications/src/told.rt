@@ -1,3 +1,4 @@
+//! Whether a line has reported something, so that its names are faulty.
 ghost use Rattle.std.specs.Prelude.{◌≡◌};
 ghost use Rattle.occ_typed_specifications.specs.Entering.{unless_told as known_unless_told};
 

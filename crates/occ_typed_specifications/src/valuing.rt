@@ -1,17 +1,19 @@
+//! `VAL n IS e:` and `VAL t n IS e:`: the value, its typed tree, and the name that comes into scope.
 ghost use Rattle.std.specs.Prelude.{◌≡◌, ◌∷◌, ◌++◌, [], IfOk, OnOk};
 ghost use Rattle.occ_expr.specs.Views.{expr_view};
-ghost use Rattle.occ_typed_specifications.specs.Valuing.{kind_unless_told as known_unless_told, tree_of as told_tree, value as told_value, value_alone as told_alone, value_as as told_as, value_name as told_name, value_told, value_tree as told_value_tree, value_with_type as told_with_type};
+ghost use Rattle.occ_typed_specifications.specs.Valuing.{kind_unless_told as known_unless_told, value as told_value, value_alone as told_alone, value_as as told_as, value_name as told_name, value_told, value_tree as told_value_tree, value_with_type as told_with_type};
 ghost use Rattle.occ_tables.specs.Terms.{judged};
+ghost use Rattle.occ_typed.specs.Placing.{tree_of as told_tree};
 ghost use Rattle.occ_type_rules.specs.Abbreviating.{abbreviated as told_abbreviated};
 
 use occ_base::{Fault, Items, Name, Shared};
 use occ_expr::{Opening, Reading, expression, type_form};
 use occ_expression_forms::{Expr, TypeForm};
-use occ_names::{Access, Entry, Meaning, Scope, Whole, one_entry};
+use occ_names::{Access, ScopeEntry, Meaning, Scope, Whole, one_entry};
 use occ_operands::Kind;
 use occ_tables::Term;
 use occ_type_rules::{abbreviated, abbreviated_as};
-use occ_typed::{Draft, TypedExpr, placed};
+use occ_typed::{TypedExpr, tree_of};
 use occ_types::OccType;
 use std::alloc::{AllocError, Global};
 
@@ -34,24 +36,9 @@ fn value_as(
 
 /// What is read of a value: what is known of it, and its tree, if it has no fault.
 #[derive(Drop)]
-struct Valued {
-    kind: Kind,
-    tree: Option<Shared<TypedExpr>>,
-}
-
-/// The tree of a value of which this is known.
-pub fn tree_of(
-    alloc: Global,
-    kind: &Kind,
-    draft: &Draft,
-) -> Result<Option<Shared<TypedExpr>>, AllocError>
-    ensures { IfOk result (λ tree. tree ≡ told_tree kind.now draft.now) }
-{
-    match kind {
-        Kind::Known(known) => placed(alloc, draft, &known.of),
-        Kind::Faulty => Ok(None),
-        Kind::Free(_) => Ok(None),
-    }
+pub struct Valued {
+    pub kind: Kind,
+    pub tree: Option<Shared<TypedExpr>>,
 }
 
 /// The value of `VAL n IS e`, of which this is read.
@@ -69,9 +56,9 @@ fn valued_alone(
     Ok(Valued { kind, tree })
 }
 
-/// The value of `VAL n IS e`.
+/// A value of which no type is wanted, in its own type.
 #[tactic(auto, unfolding(crate::specs::Valuing::value_alone))]
-fn value_alone(
+pub fn value_alone(
     alloc: Global,
     expr: &Expr,
     scope: &Scope,
@@ -168,7 +155,7 @@ pub fn value_name(alloc: Global, kind: Kind, name: &Name) -> Result<Meaning, All
 /// What comes into scope behind a line that abbreviates a value, and the tree of the value, if it has no fault.
 #[derive(Drop)]
 pub struct ValueLine {
-    pub adds: Items<Entry>,
+    pub adds: Items<ScopeEntry>,
     pub tree: Option<Shared<TypedExpr>>,
 }
 

@@ -5,7 +5,6 @@ use Rattle.occ_expr.specs.Views.{element_view, expr_view}
 use Rattle.occ_expression_forms.specs.declared.tree.Element.{Element}
 use Rattle.occ_expression_forms.specs.declared.tree.Expr.{Expr}
 use Rattle.occ_names.specs.declared.scope.Scope.{Scope}
-use Rattle.occ_operands.specs.Settling.{int}
 use Rattle.occ_operands.specs.declared.kind.Kind.{Kind}
 use Rattle.occ_operands.specs.declared.kind.Kind.TheVariants as k
 use Rattle.occ_typed.specs.Placing.{all_placed, each_placed, placed}
@@ -55,9 +54,6 @@ assignment_tree s els es = assigned (target_trees s els) (side s es).drafts
 
 abbrev pub condition_tree : Scope → Expr → Option TypedExpr
 condition_tree s e = placed ((expr_view e).draft s) (t.Primitive p.Bool)
-
-abbrev pub selector_tree : Scope → Expr → Option TypedExpr
-selector_tree s e = placed ((expr_view e).draft s) int
 
 abbrev pub options_trees : Scope → Kind → List Expr → Option (List TypedExpr)
 options_trees s k.Faulty es = None

@@ -8,4 +8,3 @@ mod target;
 pub use statement::{
     TypedAssignment, assignment, condition, hidden_results, options, results, selector,
 };
-pub use target::{root, target_of};

@@ -1,3 +1,4 @@
+//! Worked rows: conditions, and an assignment to a `VAL` name.
 ghost use Rattle.std.specs.Prelude.{[], ◌∷◌, ◌≡◌, None, Some, pos, true};
 ghost use Rattle.occ_base.specs.declared.code.Code.TheVariants as code;
 ghost use Rattle.occ_expression_forms.specs.declared.tree.Element.TheVariants as el;
@@ -27,7 +28,7 @@ pub fn condition_rows()
 {}
 
 /// `v := 255` of a VAL name `v`, which is 118: the target tells T3 with its name, and its value tells nothing then.
-#[tactic(auto, using(occ_expr::proofs::Views::element_rules, occ_tables::proofs::Judging::judging_rules, crate::proofs::Roots::root_rules), unfolding(occ_expr::specs::Parts::named_element, crate::specs::Targets::target_of))]
+#[tactic(auto, using(occ_expr::proofs::Views::element_rules, occ_tables::proofs::Judging::judging_rules, occ_expr::proofs::Roots::root_rules), unfolding(occ_expr::specs::Parts::named_element, occ_expr::specs::Targets::target_of))]
 pub fn assignment_rows()
     ensures target { targets (entered nothing (118 ∷ []) (m.Element (record { of = t.Primitive p.Byte; access = access.Value; value = None; root = 118 ∷ [] }))) (el.Named (118 ∷ []) [] ∷ []) ≡ (record { faults = (record { code = code.T3; name = Some (118 ∷ []) }) ∷ []; kind = k.Faulty }) ∷ [] }
     ensures value { assigned (k.Faulty ∷ []) (judged_all (v.Single (k.Free (decimal (pos 255))) ∷ [])) ≡ [] }

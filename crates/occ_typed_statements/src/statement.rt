@@ -1,12 +1,15 @@
+//! Lines of processes: `el, .. := e, ..`, conditions, selectors, options, results. They give faults and typed trees.
+//! `docs/LANGUAGE.md, What lines ask of operands`.
 ghost use Rattle.std.specs.Prelude.{◌≡◌, ◌∷◌, ◌++◌, IfOk, OnOk};
 ghost use Rattle.occ_expr.specs.Parts.{own_faults, terms as terms_of};
+ghost use Rattle.occ_expr.specs.Trees.{int_tree as told_selector_tree};
 ghost use Rattle.occ_operands.specs.Settling.{int as int_type};
 ghost use Rattle.occ_tables.specs.Terms.{judged};
 ghost use Rattle.occ_type_rules.specs.Choosing.{condition as told_no_condition, selector as told_selecting};
 ghost use Rattle.occ_typed.specs.Placing.{placed as told_placed};
 ghost use Rattle.occ_types.specs.declared.types.OccType.TheVariants as t;
 ghost use Rattle.occ_types.specs.declared.value.Primitive.TheVariants as p;
-ghost use Rattle.occ_typed_statements.specs.StatementTrees.{assigned as told_assigned, assignment_tree as told_assignment_tree, condition_tree as told_condition_tree, drafts as drafts_of, options_trees as told_options_trees, results_trees as told_results_trees, selector_tree as told_selector_tree, types_of as told_types};
+ghost use Rattle.occ_typed_statements.specs.StatementTrees.{assigned as told_assigned, assignment_tree as told_assignment_tree, condition_tree as told_condition_tree, drafts as drafts_of, options_trees as told_options_trees, results_trees as told_results_trees, types_of as told_types};
 ghost use Rattle.occ_typed_statements.specs.Statements.{assignment as told_assignment, condition as told_condition, hidden_results as told_hidden_results, is_any_faulty, options as told_options, results as told_results, said, selector as told_selector};
 
 use super::target::all_targets;
@@ -169,6 +172,7 @@ fn selector_of(
 }
 
 /// The selector of a `CASE`: what is known of it, and its tree.
+#[tactic(auto, unfolding(occ_expr::specs::Trees::int_tree))]
 pub fn selector(
     alloc: Global,
     expr: &Expr,

@@ -86,6 +86,11 @@ as_array t = array_layer (out-OccType t)
 unfoldable pub as_record : OccType → Option (Packing × List Field)
 as_record t = record_layer (out-OccType t)
 
+-- what holds of the type of an array's components, or this where it is no array
+abbrev pub of_component : {X : Type 0} → X → (OccType → X) → Option (Option ℕ × OccType) → X
+of_component here inner None = here
+of_component here inner (Some parts) = inner parts.1
+
 abbrev pub second : Option (Packing × List Field) → Option (List Field)
 second None = None
 second (Some parts) = Some parts.1

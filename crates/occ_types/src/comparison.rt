@@ -1,3 +1,4 @@
+//! When two interfaces are one: the same exports in order, and the uses of each compared as a set.
 ghost use Rattle.std.specs.Prelude.{IsTrue, ◌≡◌, ◌↔◌};
 ghost use Rattle.std.specs.List.{AllZip, Contains};
 ghost use Rattle.occ_types.specs.Interface.{IsSameExport, IsSameInterface, IsSameSet, IsWithin};

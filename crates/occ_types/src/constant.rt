@@ -1,3 +1,5 @@
+//! Arithmetic of constants: operators, monadic operators and conversions, with their faults. `docs/LANGUAGE.md,
+//! Constants`.
 ghost use Rattle.std.specs.Prelude.{bit_and as and_bits, bit_or as or_bits, bit_xor as xor_bits, int_div, int_rem, neg_ℤ, pos, ◌+ℤ◌, ◌-ℤ◌, ◌%◌, ◌*ℤ◌, ◌*◌, ◌-◌, ◌/◌, ◌≡◌, ◌≢◌, ◌^◌};
 ghost use Rattle.occ_types.specs.Constant.{bits_of, converted, count_of, divided, folded, folded_one, outcome as outcome_of, pattern_of, settled, settled_pattern, shifted};
 

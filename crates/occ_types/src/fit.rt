@@ -1,3 +1,5 @@
+//! When types agree: but for unknown numbers of components, or but for names too. Views of a type under its names.
+//! `docs/LANGUAGE.md, Types that agree`.
 #![tactic(auto, using(crate::proofs::Agreeing::fit_rules))]
 
 ghost use Rattle.std.specs.Prelude.{◌≡◌, MatchOption, None, Some};

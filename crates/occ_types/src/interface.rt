@@ -1,3 +1,4 @@
+//! Interfaces: exports with their formals, results, uses of formals and effect. They have no line numbers.
 use super::OccType;
 use occ_base::{Items, Name, Shared};
 

@@ -5,7 +5,6 @@ mod comparison;
 mod constant;
 mod fit;
 mod interface;
-pub mod laws;
 mod literal;
 mod measure;
 mod range;

@@ -1,3 +1,4 @@
+//! The value of a literal in a type: by its number in decimal digits, by its bits in hexadecimal ones.
 ghost use Rattle.std.specs.Prelude.{◌≡◌};
 ghost use Rattle.occ_types.specs.Constant.{number_value, pattern_value};
 

@@ -1,3 +1,5 @@
+//! How deep a type is when it is written out, and how many types it has then. Measures are composed, without a walk
+//! through measured parts.
 #![tactic(auto, using(crate::proofs::Measures::measure_rules))]
 
 ghost use Rattle.std.specs.Prelude.{◌≡◌};

@@ -1,3 +1,4 @@
+//! Ranges and bits of the primitive types: a number as a value, its bits, and what wraps.
 ghost use Rattle.std.specs.Prelude.{int_le, true, ◌<◌, ◌≡◌, ◌≤◌, ◌^◌};
 ghost use Rattle.occ_types.specs.Constant.{bits_of, greatest_of, least_of, number_of_pattern, pattern_of, settled, settled_pattern, value_of, wrapped};
 

@@ -1,3 +1,4 @@
+//! Worked rows: arithmetic at the ends of each type.
 ghost use Rattle.occ_types.specs.Constant.{converted, folded, folded_one};
 ghost use Rattle.occ_types.specs.declared.constant.ConstFault.TheVariants as fault;
 ghost use Rattle.occ_types.specs.declared.constant.Monadic.TheVariants as m;

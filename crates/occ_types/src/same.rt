@@ -1,3 +1,4 @@
+//! Whether two types or two protocols are one tree.
 ghost use Rattle.std.specs.Prelude.{IsTrue, ◌≡◌, ◌↔◌};
 
 use super::{Field, Item, OccType, Protocol, Tag};

@@ -1,3 +1,4 @@
+//! The bytes of a type, and whether they are too many.
 #![tactic(auto, using(crate::proofs::Sizes::size_rules))]
 
 ghost use Rattle.std.specs.Prelude.{IfSome, ◌+◌, ◌≡◌, ◌≤◌};

@@ -1,3 +1,4 @@
+//! Worked rows: bytes and measures of types.
 #![tactic(auto, using(crate::proofs::Measures::measure_rules, crate::proofs::Sizes::size_rules))]
 
 ghost use Rattle.occ_types.specs.Measure.{item_measure, measure_of, protocol_measure};

@@ -1,3 +1,4 @@
+//! Types and protocols, with every name resolved to its definition. Parts are shared.
 use super::Primitive;
 use occ_base::{Items, Name, Shared};
 

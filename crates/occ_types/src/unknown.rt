@@ -1,3 +1,4 @@
+//! Whether a type holds a field whose line has a fault.
 #![tactic(auto, using(crate::proofs::Unknowns::unknown_rules))]
 
 ghost use Rattle.std.specs.Prelude.{◌≡◌};

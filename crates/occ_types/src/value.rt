@@ -1,3 +1,4 @@
+//! Primitive types and the values of constants.
 ghost use Rattle.std.specs.Prelude.{◌≡◌};
 ghost use Rattle.occ_types.specs.Constant.{number_of, primitive_of};
 

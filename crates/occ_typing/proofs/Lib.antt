@@ -1,4 +1,2 @@
-pub mod Places
 pub mod Walking
-pub mod Rounds
-mod whole
+pub mod whole

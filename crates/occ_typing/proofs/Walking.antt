@@ -1,17 +1,16 @@
 -- One line of the walk down a unit.
-use Rattle.std.proofs.Common.{◌≡◌, ◌∙◌, ◌≤◌, ◌+◌, ℕ, List, [], ◌∷◌, ◌++◌, Option, Some, None, length, length-append, ap, sym, subst, arith, append_assoc}
+use Rattle.std.proofs.Common.{◌≡◌, ◌∙◌, ◌≤◌, ◌+◌, ℕ, List, [], ◌∷◌, ◌++◌, Option, Some, None, length, ap, sym, subst, arith, append_assoc}
 use Rattle.std.proofs.Common.{◌<◌, slice_index_or, drop}
 use Rattle.std.proofs.lemmas.List.{drop_more}
 use Rattle.occ_base.specs.declared.diag.Diag.{Diag}
-use Rattle.occ_names.specs.declared.meaning.Entry.{Entry}
+use Rattle.occ_names.specs.declared.meaning.ScopeEntry.{ScopeEntry}
 use Rattle.occ_names.specs.declared.scope.Scope.{Scope}
 use Rattle.occ_names.specs.Visible.{back_to, with_all}
 use Rattle.occ_names.proofs.Leaving.{back_done, back_over, length_back, length_with_all}
 use Rattle.occ_tree.specs.declared.tree.Node.{Node, out-Node}
 use Rattle.occ_tree.specs.Forest.{forest_of}
 use Rattle.occ_typed_lines.specs.declared.parent.Parent.{Parent}
-use Rattle.occ_project.specs.declared.expanded.Place.{Place}
-use Rattle.occ_typing.specs.TypedLines.{line_processes, line_with, own_process, processes, typed_lines}
+use Rattle.occ_typing.specs.TypedLines.{line_with, typed_lines}
 use Rattle.occ_typed_lines.specs.Judging.{judged}
 use Rattle.occ_typing.specs.Units.{behind_line, line_faults, lines}
 use Rattle.occ_typing.specs.declared.tree.TypedLine.{TypedLine}
@@ -19,7 +18,7 @@ use Rattle.occ_typed_lines.specs.declared.using.Import.{Import}
 use Rattle.occ_typed_lines.proofs.Trees.{first_tree}
 
 -- what stood in scope round the item stands there behind the line too
-pub stays : (count : ℕ) (s : Scope) (adds : Option (List Entry)) → count ≤ length s.meanings
+pub stays : (count : ℕ) (s : Scope) (adds : Option (List ScopeEntry)) → count ≤ length s.meanings
     → (count ≤ length (behind_line (back_to count s) s adds).meanings) × (back_to count (behind_line (back_to count s) s adds) ≡ back_to count s)
 stays count s None h =
     let e : length (back_to count s).meanings ≡ count = length_back count s h in
@@ -28,7 +27,7 @@ stays count s (Some xs) h =
     let e : length (with_all s xs).meanings ≡ length s.meanings + length xs = length_with_all xs s in
     (omega (arith, e, h), back_over count xs s h)
 
-pub stays_so : (count : ℕ) (s t outer : Scope) (adds : Option (List Entry)) → count ≤ length s.meanings → back_to count s ≡ outer
+pub stays_so : (count : ℕ) (s t outer : Scope) (adds : Option (List ScopeEntry)) → count ≤ length s.meanings → back_to count s ≡ outer
     → t ≡ behind_line (back_to count s) s adds → (count ≤ length t.meanings) × (back_to count t ≡ outer)
 stays_so count s t outer adds h here is =
     let r = subst (λ (u : Scope). (count ≤ length u.meanings) × (back_to count u ≡ back_to count s)) (sym is) (stays count s adds h) in
@@ -62,64 +61,23 @@ step us p q outer s t n ns found more all count here whole next behind told =
     ∙ ap (λ (z : List Diag). found ++ z) (sym (from_node us p outer s n ns))
     ∙ whole
 
--- the processes from a node on are those of the line, and those behind it
-processes_from : (us : List Import) (p : Parent) (outer s : Scope) (n : Node) (ns : List Node)
-    → processes us p outer s (forest_of (n ∷ ns))
-    ≡ line_processes us p s (out-Node n).line (forest_of (out-Node n).children)
-    ++ processes us (judged us s (out-Node n).line.body (forest_of (out-Node n).children) p).line.next outer (behind_line outer s (judged us s (out-Node n).line.body (forest_of (out-Node n).children) p).line.adds) (forest_of ns)
-processes_from us p outer s n ns =
-    let l = (out-Node n).line in
-    let under = forest_of (out-Node n).children in
-    let x = judged us s l.body under p in
-    ap (processes us p outer s) (first_tree n ns)
-    ∙ sym (append_assoc (own_process p l) (processes us x.line.parent (with_all s x.line.enters) (with_all s x.line.enters) under) (processes us x.line.next outer (behind_line outer s x.line.adds) (forest_of ns)))
-
-pub step_processes : (us : List Import) (p q : Parent) (outer s t : Scope) (n : Node) (ns : List Node) (found more all : List Place) (count : ℕ)
-    → back_to count s ≡ outer
-    → found ++ processes us p outer s (forest_of (n ∷ ns)) ≡ all
-    → q ≡ (judged us s (out-Node n).line.body (forest_of (out-Node n).children) p).line.next
-    → t ≡ behind_line (back_to count s) s (judged us s (out-Node n).line.body (forest_of (out-Node n).children) p).line.adds
-    → more ≡ found ++ line_processes us p s (out-Node n).line (forest_of (out-Node n).children)
-    → more ++ processes us q outer t (forest_of ns) ≡ all
-step_processes us p q outer s t n ns found more all count here whole next behind told =
-    let x = judged us s (out-Node n).line.body (forest_of (out-Node n).children) p in
-    let rest : processes us q outer t (forest_of ns) ≡ processes us x.line.next outer (behind_line outer s x.line.adds) (forest_of ns)
-    = ap (λ (z : Parent). processes us z outer t (forest_of ns)) next
-    ∙ ap (λ (z : Scope). processes us x.line.next outer z (forest_of ns)) (behind ∙ ap (λ (z : Scope). behind_line z s x.line.adds) here) in
-    ap (λ (z : List Place). z ++ processes us q outer t (forest_of ns)) told
-    ∙ ap (λ (z : List Place). (found ++ line_processes us p s (out-Node n).line (forest_of (out-Node n).children)) ++ z) rest
-    ∙ append_assoc found (line_processes us p s (out-Node n).line (forest_of (out-Node n).children)) (processes us x.line.next outer (behind_line outer s x.line.adds) (forest_of ns))
-    ∙ ap (λ (z : List Place). found ++ z) (sym (processes_from us p outer s n ns))
-    ∙ whole
-
-counted : (ps own under more : List Place) → more ≡ ps ++ (own ++ under) → length more ≡ (length ps + length own) + length under
-counted ps own under more is =
-    let a : length (ps ++ (own ++ under)) ≡ length ps + length (own ++ under) = length-append ps (own ++ under) in
-    let b : length (own ++ under) ≡ length own + length under = length-append own under in
-    ap length is ∙ (omega (arith, a, b))
-
 -- the typed lines from a node on are the line with those under it, and those behind it
-pub step_lines : (us : List Import) (p q : Parent) (outer s t : Scope) (n : Node) (ns : List Node) (ps places : List Place) (found more all : List TypedLine) (count : ℕ)
+pub step_lines : (us : List Import) (p q : Parent) (outer s t : Scope) (n : Node) (ns : List Node) (found more all : List TypedLine) (count : ℕ)
     → back_to count s ≡ outer
-    → found ++ typed_lines us p outer s (length ps) (forest_of (n ∷ ns)) ≡ all
+    → found ++ typed_lines us p outer s (forest_of (n ∷ ns)) ≡ all
     → q ≡ (judged us s (out-Node n).line.body (forest_of (out-Node n).children) p).line.next
     → t ≡ behind_line (back_to count s) s (judged us s (out-Node n).line.body (forest_of (out-Node n).children) p).line.adds
-    → places ≡ ps ++ line_processes us p s (out-Node n).line (forest_of (out-Node n).children)
-    → more ≡ found ++ line_with us p s (length ps) (out-Node n).line (forest_of (out-Node n).children) ∷ []
-    → more ++ typed_lines us q outer t (length places) (forest_of ns) ≡ all
-step_lines us p q outer s t n ns ps places found more all count here whole next behind counts made =
+    → more ≡ found ++ line_with us p s (out-Node n).line (forest_of (out-Node n).children) ∷ []
+    → more ++ typed_lines us q outer t (forest_of ns) ≡ all
+step_lines us p q outer s t n ns found more all count here whole next behind made =
     let l = (out-Node n).line in
     let under = forest_of (out-Node n).children in
     let x = judged us s l.body under p in
-    let inner = with_all s x.line.enters in
-    let below = processes us x.line.parent inner inner under in
-    let after = (length ps + length (own_process p l)) + length below in
-    let rest : typed_lines us q outer t (length places) (forest_of ns) ≡ typed_lines us x.line.next outer (behind_line outer s x.line.adds) after (forest_of ns)
-    = ap (λ (z : Parent). typed_lines us z outer t (length places) (forest_of ns)) next
-    ∙ ap (λ (z : Scope). typed_lines us x.line.next outer z (length places) (forest_of ns)) (behind ∙ ap (λ (z : Scope). behind_line z s x.line.adds) here)
-    ∙ ap (λ (z : ℕ). typed_lines us x.line.next outer (behind_line outer s x.line.adds) z (forest_of ns)) (counted ps (own_process p l) below places counts) in
-    ap (λ (z : List TypedLine). z ++ typed_lines us q outer t (length places) (forest_of ns)) made
-    ∙ ap (λ (z : List TypedLine). (found ++ line_with us p s (length ps) l under ∷ []) ++ z) rest
-    ∙ append_assoc found (line_with us p s (length ps) l under ∷ []) (typed_lines us x.line.next outer (behind_line outer s x.line.adds) after (forest_of ns))
-    ∙ ap (λ (z : List TypedLine). found ++ z) (sym (ap (typed_lines us p outer s (length ps)) (first_tree n ns)))
+    let rest : typed_lines us q outer t (forest_of ns) ≡ typed_lines us x.line.next outer (behind_line outer s x.line.adds) (forest_of ns)
+    = ap (λ (z : Parent). typed_lines us z outer t (forest_of ns)) next
+    ∙ ap (λ (z : Scope). typed_lines us x.line.next outer z (forest_of ns)) (behind ∙ ap (λ (z : Scope). behind_line z s x.line.adds) here) in
+    ap (λ (z : List TypedLine). z ++ typed_lines us q outer t (forest_of ns)) made
+    ∙ ap (λ (z : List TypedLine). (found ++ line_with us p s l under ∷ []) ++ z) rest
+    ∙ append_assoc found (line_with us p s l under ∷ []) (typed_lines us x.line.next outer (behind_line outer s x.line.adds) (forest_of ns))
+    ∙ ap (λ (z : List TypedLine). found ++ z) (sym (ap (typed_lines us p outer s) (first_tree n ns)))
     ∙ whole

@@ -1,25 +1,3 @@
 -- no faults, then what was found is whole
-pub mod Clean
 pub mod Made
-pub mod Types
-pub mod Reading
-pub mod Filled
-pub mod Trees
 pub mod Roots
-pub mod Sound
-pub mod Operating
-pub mod Names
-pub mod Written
-pub mod Literals
-pub mod Elements
-pub mod Expressions
-pub mod Statements
-pub mod Instances
-pub mod Specifications
-pub mod Heads
-pub mod Protocols
-pub mod Exchanges
-pub mod Rows
-pub mod Bodies
-pub mod Lines
-pub mod Walk

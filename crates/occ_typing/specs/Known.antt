@@ -1,6 +1,6 @@
 -- What stands in scope where no line has a fault: names of which it is known what they stand for.
 use Rattle.std.specs.Prelude.{◌≡◌, false, Some, None, List, [], ◌∷◌}
-use Rattle.occ_names.specs.declared.meaning.Entry.{Entry}
+use Rattle.occ_names.specs.declared.meaning.ScopeEntry.{ScopeEntry}
 use Rattle.occ_names.specs.declared.meaning.Meaning.{Meaning}
 use Rattle.occ_names.specs.declared.meaning.Meaning.TheVariants as m
 use Rattle.occ_names.specs.declared.scope.Scope.{Scope}
@@ -49,7 +49,7 @@ abbrev pub AreKnownMeanings : List Meaning → Type 0
 AreKnownMeanings [] = Unit {0}
 AreKnownMeanings (meaning ∷ meanings) = IsKnownMeaning meaning × AreKnownMeanings meanings
 
-abbrev pub AreKnownEntries : List Entry → Type 0
+abbrev pub AreKnownEntries : List ScopeEntry → Type 0
 AreKnownEntries [] = Unit {0}
 AreKnownEntries (x ∷ xs) = IsKnownMeaning x.meaning × AreKnownEntries xs
 

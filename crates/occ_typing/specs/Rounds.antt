@@ -2,7 +2,7 @@
 -- ancestor in its item add and what the ancestor enters, and last what those before the line in its own item add.
 use Rattle.std.specs.Prelude.{◌≡◌, Option, Some, None, List, [], ◌++◌}
 use Rattle.occ_names.specs.Visible.{nothing, with_all}
-use Rattle.occ_names.specs.declared.meaning.Entry.{Entry}
+use Rattle.occ_names.specs.declared.meaning.ScopeEntry.{ScopeEntry}
 use Rattle.occ_names.specs.declared.scope.Scope.{Scope}
 use Rattle.occ_tree.specs.Forest.{Forest}
 use Rattle.occ_typed_lines.specs.Lines.{body_of}
@@ -13,12 +13,12 @@ use Rattle.occ_typed_lines.specs.declared.parent.Role.TheVariants as role
 use Rattle.occ_typed_lines.specs.declared.using.Import.{Import}
 
 -- what the lines of an item have added behind one more of its lines: a main line ends the item
-abbrev pub item_behind : List Entry → Option (List Entry) → List Entry
+abbrev pub item_behind : List ScopeEntry → Option (List ScopeEntry) → List ScopeEntry
 item_behind item None = []
 item_behind item (Some adds) = item ++ adds
 
 -- of a line that stands in trees, where the lines before these in their item have added this
-abbrev pub round : (is : List Import) (p : Parent) (outer s : Scope) (f : Forest) (a : At) → Stands is p outer s f a → List Entry → List Entry
+abbrev pub round : (is : List Import) (p : Parent) (outer s : Scope) (f : Forest) (a : At) → Stands is p outer s f a → List ScopeEntry → List ScopeEntry
 round is p outer s f a (first _ _ _ l under behind) item = item
 round is p outer s f a (inside _ _ _ l under behind _ below) item =
     let x = judged_at is p s l under in
@@ -28,7 +28,7 @@ round is p outer s f a (later _ _ _ l under behind _ below) item =
     round is x.line.next outer (behind_line outer s x.line.adds) behind a below (item_behind item x.line.adds)
 
 -- of a line of a unit
-abbrev pub unit_round : (is : List Import) (f : Forest) (a : At) → Stands is (body_of role.Process) nothing nothing f a → List Entry
+abbrev pub unit_round : (is : List Import) (f : Forest) (a : At) → Stands is (body_of role.Process) nothing nothing f a → List ScopeEntry
 unit_round is f a h = round is (body_of role.Process) nothing nothing f a h []
 
 abbrev pub IsRound : List Import → Forest → Type 0

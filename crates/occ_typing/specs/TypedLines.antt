@@ -1,5 +1,5 @@
 -- The typed tree of a unit: each line, by what stands in scope there, with what it is judged to be.
-use Rattle.std.specs.Prelude.{ℕ, ◌+◌, Bool, true, false, Option, Some, None, List, [], ◌∷◌, ◌++◌, length, if◌then◌else◌}
+use Rattle.std.specs.Prelude.{Bool, true, false, List, [], ◌∷◌}
 use Rattle.occ_forms.specs.declared.tree.Form.{Form}
 use Rattle.occ_forms.specs.declared.tree.Form.TheVariants as form
 use Rattle.occ_names.specs.Visible.{nothing, with_all}
@@ -7,8 +7,7 @@ use Rattle.occ_names.specs.declared.scope.Scope.{Scope}
 use Rattle.occ_project.specs.declared.expanded.ExpandedBody.{ExpandedBody}
 use Rattle.occ_project.specs.declared.expanded.ExpandedBody.TheVariants as body
 use Rattle.occ_project.specs.declared.expanded.ExpandedLine.{ExpandedLine}
-use Rattle.occ_project.specs.declared.expanded.Place.{Place}
-use Rattle.occ_project.specs.Places.{place_of}
+use Rattle.occ_project.specs.Locations.{location_of}
 use Rattle.occ_tree.specs.Forest.{Forest, Empty, Tree}
 use Rattle.occ_typed_lines.specs.Lines.{Judged, body_of}
 use Rattle.occ_typed_lines.specs.Judging.{judged}
@@ -33,7 +32,7 @@ is_process_form (form.Tagged name d ds) = false
 
 abbrev pub is_process_body : ExpandedBody → Bool
 is_process_body (body.Form f) = is_process_form f
-is_process_body (body.Uses units) = false
+is_process_body (body.Uses unit) = false
 is_process_body (body.Fault code) = false
 
 abbrev pub is_process_in : Role → ExpandedBody → Bool
@@ -49,63 +48,35 @@ is_process_in role.Members b = false
 unfoldable pub is_process : Parent → ExpandedBody → Bool
 is_process p b = is_process_in p.role b
 
-abbrev pub own_process : Parent → ExpandedLine → List Place
-own_process p l = if is_process p l.body then place_of l ∷ [] else []
-
--- its number, with n processes before it
-abbrev pub process_number : ℕ → Parent → ExpandedLine → Option ℕ
-process_number n p l = if is_process p l.body then Some n else None
-
--- where the processes stand of lines of which their parent says this, in the order of the listing
-abbrev pub processes : List Import → Parent → Scope → Scope → Forest → List Place
-processes is p outer s Empty = []
-processes is p outer s (Tree l under behind) =
-    let x = judged is s l.body under p in
-    let inner = with_all s x.line.enters in
-    own_process p l ++ (processes is x.line.parent inner inner under ++ processes is x.line.next outer (behind_line outer s x.line.adds) behind)
-
--- of a line and of those under it
-abbrev pub line_processes : List Import → Parent → Scope → ExpandedLine → Forest → List Place
-line_processes is p s l under =
-    let x = judged is s l.body under p in
-    let inner = with_all s x.line.enters in
-    own_process p l ++ processes is x.line.parent inner inner under
-
 -- ---- lines
 
--- line l, which is judged so, with n processes before it and these lines under it
-abbrev pub typed_line : Parent → ℕ → ExpandedLine → Judged → List TypedLine → TypedLine
-typed_line p n l x under =
+-- line l, which is judged so, with these lines under it
+abbrev pub typed_line : Parent → ExpandedLine → Judged → List TypedLine → TypedLine
+typed_line p l x under =
     roll-TypedLine record {
-      place = place_of l;
-      process = process_number n p l;
+      place = location_of l;
+      is_process = is_process p l.body;
       form = x.line.form;
       enters = x.line.enters;
       adds = x.line.adds;
       under = under;
     }
 
--- of lines of which their parent says this, with n processes before them; s stands in scope at the first of them, and outer
--- at the next item
-abbrev pub typed_lines : List Import → Parent → Scope → Scope → ℕ → Forest → List TypedLine
-typed_lines is p outer s n Empty = []
-typed_lines is p outer s n (Tree l under behind) =
+-- of lines of which their parent says this; s stands in scope at the first of them, and outer at the next item
+abbrev pub typed_lines : List Import → Parent → Scope → Scope → Forest → List TypedLine
+typed_lines is p outer s Empty = []
+typed_lines is p outer s (Tree l under behind) =
     let x = judged is s l.body under p in
     let inner = with_all s x.line.enters in
-    let m = n + length (own_process p l) in
-    typed_line p n l x (typed_lines is x.line.parent inner inner m under)
-    ∷ typed_lines is x.line.next outer (behind_line outer s x.line.adds) (m + length (processes is x.line.parent inner inner under)) behind
+    typed_line p l x (typed_lines is x.line.parent inner inner under) ∷ typed_lines is x.line.next outer (behind_line outer s x.line.adds) behind
 
 -- the first of them
-abbrev pub line_with : List Import → Parent → Scope → ℕ → ExpandedLine → Forest → TypedLine
-line_with is p s n l under =
+abbrev pub line_with : List Import → Parent → Scope → ExpandedLine → Forest → TypedLine
+line_with is p s l under =
     let x = judged is s l.body under p in
     let inner = with_all s x.line.enters in
-    typed_line p n l x (typed_lines is x.line.parent inner inner (n + length (own_process p l)) under)
+    typed_line p l x (typed_lines is x.line.parent inner inner under)
 
 -- of a unit: nothing is in scope at the first of its lines
 abbrev pub typed_unit : List Import → Forest → List TypedLine
-typed_unit is f = typed_lines is (body_of role.Process) nothing nothing 0 f
-
-abbrev pub unit_processes : List Import → Forest → List Place
-unit_processes is f = processes is (body_of role.Process) nothing nothing f
+typed_unit is f = typed_lines is (body_of role.Process) nothing nothing f

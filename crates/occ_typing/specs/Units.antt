@@ -2,7 +2,7 @@
 use Rattle.std.specs.Prelude.{Option, Some, None, List, [], ◌++◌}
 use Rattle.occ_base.specs.declared.diag.Diag.{Diag}
 use Rattle.occ_names.specs.Visible.{nothing, with_all}
-use Rattle.occ_names.specs.declared.meaning.Entry.{Entry}
+use Rattle.occ_names.specs.declared.meaning.ScopeEntry.{ScopeEntry}
 use Rattle.occ_names.specs.declared.scope.Scope.{Scope}
 use Rattle.occ_project.specs.declared.expanded.ExpandedLine.{ExpandedLine}
 use Rattle.occ_tree.specs.Forest.{Forest, Empty, Tree}
@@ -14,7 +14,7 @@ use Rattle.occ_typed_lines.specs.declared.parent.Role.TheVariants as role
 use Rattle.occ_typed_lines.specs.declared.using.Import.{Import}
 
 -- what stands in scope behind a line: a specification adds to the item, a main line ends it
-abbrev pub behind_line : Scope → Scope → Option (List Entry) → Scope
+abbrev pub behind_line : Scope → Scope → Option (List ScopeEntry) → Scope
 behind_line outer s None = outer
 behind_line outer s (Some adds) = with_all s adds
 

@@ -1,7 +1,7 @@
 -- When the typed tree of a unit is whole: of each line it is known what it is, with all expressions and elements that it
 -- carries, and of each name that comes into scope by it what it stands for.
 use Rattle.std.specs.Prelude.{Option, Some, None, List, [], ◌∷◌}
-use Rattle.occ_names.specs.declared.meaning.Entry.{Entry}
+use Rattle.occ_names.specs.declared.meaning.ScopeEntry.{ScopeEntry}
 use Rattle.occ_typed_lines.specs.Using.{entries_of}
 use Rattle.occ_typed_lines.specs.declared.tree.TypedForm.{TypedForm}
 use Rattle.occ_typed_lines.specs.declared.tree.TypedForm.TheVariants as t
@@ -40,7 +40,7 @@ IsWholeForm (t.Variant place tag targets) = AllAre IsWholeTarget targets
 IsWholeForm (t.Results es) = AreWholeExprs es
 IsWholeForm _ = Unit {0}
 
-abbrev pub AreKnownAdds : Option (List Entry) → Type 0
+abbrev pub AreKnownAdds : Option (List ScopeEntry) → Type 0
 AreKnownAdds None = Unit {0}
 AreKnownAdds (Some xs) = AreKnownEntries xs
 

@@ -1,3 +1,4 @@
+//! Worked rows: two ELSE, constructs, whole trees.
 ghost use Rattle.occ_typed_lines.specs.declared.using.Import.{Import as AnImport};
 ghost use Rattle.std.specs.Prelude.{List, [], ◌∷◌, ◌≡◌, None, false};
 ghost use Rattle.occ_base.specs.Errors.{error_at};
@@ -7,7 +8,7 @@ ghost use Rattle.occ_forms.specs.declared.tree.Action.TheVariants as action;
 ghost use Rattle.occ_forms.specs.declared.tree.Construct.TheVariants as construct;
 ghost use Rattle.occ_forms.specs.declared.tree.Form.TheVariants as form;
 ghost use Rattle.occ_forms.specs.declared.tree.ConstructKind.TheVariants as word;
-ghost use Rattle.occ_forms.specs.declared.tree.Part.TheVariants as part;
+ghost use Rattle.occ_forms.specs.declared.tree.PartForm.TheVariants as part;
 ghost use Rattle.occ_names.specs.declared.scope.Scope.{Scope};
 ghost use Rattle.occ_operands.specs.Settling.{int, known};
 ghost use Rattle.occ_tree.specs.Forest.{Empty, Tree};

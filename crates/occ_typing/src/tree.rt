@@ -1,24 +1,22 @@
+//! Typed lines: each with those under it, what it brings into scope, its typed form, and whether it is a process.
 use occ_base::{Boxed, Items};
-use occ_names::Entry;
-use occ_project::Place;
+use occ_names::ScopeEntry;
+use occ_project::Location;
 use occ_typed_lines::TypedForm;
-
-/// The number of a process of a unit, from 0, in the order of its listing.
-pub type ProcessId = usize;
 
 /// A line of a unit, with those under it.
 #[cycle(lines)]
 #[derive(Drop)]
 pub struct TypedLine {
-    pub place: Place,
-    /// Its number, if it is a process.
-    pub process: Option<ProcessId>,
+    pub place: Location,
+    /// Whether it is a process.
+    pub is_process: bool,
     pub form: Boxed<TypedForm>,
     /// What comes into scope under it.
-    pub enters: Items<Entry>,
+    pub enters: Items<ScopeEntry>,
     /// What comes into scope behind it, if it is a line of a specification; else it is the last line of its item, and
     /// what the lines of specifications before it brought into scope goes out of scope behind it. A line of a record has
     /// none either.
-    pub adds: Option<Items<Entry>>,
+    pub adds: Option<Items<ScopeEntry>>,
     pub under: Items<TypedLine>,
 }

@@ -1,3 +1,4 @@
+//! The typed tree of a unit, or its faults of names and types.
 ghost use Rattle.occ_tree.specs.Forest.{forest_of};
 ghost use Rattle.occ_typing.specs.Typed.{IsTypedTree, Refuses};
 ghost use Rattle.occ_typing.specs.declared.unit.TypeFault.TheVariants.{Memory};
@@ -7,7 +8,6 @@ use super::tree::TypedLine;
 use super::walk::lines;
 use occ_base::{Diag, Items};
 use occ_names::Scope;
-use occ_project::Place;
 use occ_tree::Unit;
 use occ_typed_lines::{Import, Role, body_of};
 use std::alloc::{AllocError, Global};
@@ -17,17 +17,12 @@ use thiserror::Error;
 pub struct Typed {
     /// The lines that stand under no other, in their order.
     pub lines: Items<TypedLine>,
-    /// Where the processes stand, each at the place of its number.
-    pub processes: Items<Place>,
 }
 
 /// Written out: crates above call it, where each would prove a derived one anew.
 impl Drop for Typed {
     fn drop(self) {
-        let Typed {
-            lines: _,
-            processes: _,
-        } = self;
+        let Typed { lines: _ } = self;
     }
 }
 
@@ -58,18 +53,16 @@ pub fn type_unit(alloc: Global, unit: &Unit, imports: &[Import]) -> Result<Typed
 {
     let mut scope = Scope::new(alloc);
     let mut faults = Items::new(alloc);
-    let mut processes = Items::new(alloc);
     let lines = lines(
         alloc,
         imports,
         unit.roots.as_slice(),
         body_of(Role::Process),
         &mut scope,
-        &mut processes,
         &mut faults,
     )?;
     if !faults.is_empty() {
         return Err(TypeFault::Faults(faults));
     }
-    Ok(Typed { lines, processes })
+    Ok(Typed { lines })
 }

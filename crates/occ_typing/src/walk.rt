@@ -1,20 +1,22 @@
+//! The walk down the lines of a unit. It enters what each line brings into scope, and leaves it at the end of the item.
+//! `docs/LANGUAGE.md, The lines of a unit`.
 #![tactic(auto, using(occ_typed_lines::proofs::Trees::tree_rules, occ_typed_lines::proofs::Scopes::scope_rules))]
 
 ghost use Rattle.occ_names.specs.Visible.{back_to, with_all};
 ghost use Rattle.occ_tree.specs.Forest.{forest_of};
 ghost use Rattle.occ_tree.specs.declared.tree.Node.{out-Node};
 ghost use Rattle.occ_typed_lines.specs.Placed.{placed};
-ghost use Rattle.occ_typing.specs.TypedLines.{is_process as counts, is_process_body as counts_body, is_process_form as counts_form, line_processes, line_with, own_process, process_number, processes, typed_lines};
+ghost use Rattle.occ_typing.specs.TypedLines.{is_process as counts, is_process_body as counts_body, is_process_form as counts_form, line_with, typed_lines};
 ghost use Rattle.occ_typed_lines.specs.Judging.{judged as told_judged};
 ghost use Rattle.occ_typing.specs.Units.{behind_line as told_behind, line_faults, lines as told_lines};
 ghost use Rattle.occ_typing.specs.inside.Opening.{opened_at, with_children};
-ghost use Rattle.std.specs.Prelude.{◌≡◌, ◌+◌, ◌∷◌, ◌++◌, [], IfOk, OnErr, OnOk, length};
+ghost use Rattle.std.specs.Prelude.{◌≡◌, ◌∷◌, ◌++◌, [], IfOk, OnErr, OnOk};
 
-use super::tree::{ProcessId, TypedLine};
+use super::tree::TypedLine;
 use occ_base::{Boxed, Diag, Items};
 use occ_forms::Form;
-use occ_names::{Entry, Scope};
-use occ_project::{ExpandedBody, ExpandedLine, Place};
+use occ_names::{ScopeEntry, Scope};
+use occ_project::{ExpandedBody, Location};
 use occ_tree::Node;
 use occ_typed_lines::{Import, Line, Parent, Role, TypedForm, judged, place};
 use std::alloc::{AllocError, Global};
@@ -22,7 +24,7 @@ use std::alloc::{AllocError, Global};
 /// What stands in scope behind a line, where so many specifications stood in scope round its item.
 fn go_behind(
     alloc: Global,
-    adds: &Option<Items<Entry>>,
+    adds: &Option<Items<ScopeEntry>>,
     outer: usize,
     scope: &mut Scope,
 ) -> Result<(), AllocError>
@@ -42,10 +44,10 @@ fn go_behind(
 fn is_process_form(form: &Form) -> bool
     ensures { result ≡ counts_form form.now }
 {
-    match form {
-        Form::Action(_) | Form::Construct(_) | Form::Expressions(_, _) => true,
-        Form::Specified(_) | Form::Close | Form::Part(_) | Form::Tagged(_, _, _) => false,
-    }
+    matches!(
+        form,
+        Form::Action(_) | Form::Construct(_) | Form::Expressions(_, _)
+    )
 }
 
 /// Whether a line is a process, where processes may stand.
@@ -74,32 +76,15 @@ fn is_process(parent: &Parent, body: &ExpandedBody) -> bool
     }
 }
 
-/// The number of a line, if it is a process, which is then listed behind the others.
-fn number(
-    parent: &Parent,
-    line: &ExpandedLine,
-    places: &mut Items<Place>,
-) -> Result<Option<ProcessId>, AllocError>
-    ensures number { IfOk result (λ number. number ≡ process_number (length places.old) parent.now line.now) }
-    ensures places { OnOk result (places.new ≡ places.old ++ own_process parent.now line.now) }
-{
-    if !is_process(parent, &line.body) {
-        return Ok(None);
-    }
-    let number = places.len();
-    places.push(line.place())?;
-    Ok(Some(number))
-}
-
 /// A line before those under it.
 #[derive(Drop)]
 struct Opened {
-    place: Place,
-    process: Option<ProcessId>,
+    place: Location,
+    is_process: bool,
     form: Boxed<TypedForm>,
-    enters: Items<Entry>,
+    enters: Items<ScopeEntry>,
     next: Parent,
-    adds: Option<Items<Entry>>,
+    adds: Option<Items<ScopeEntry>>,
 }
 
 /// What is known of a line before those under it: what it says of them, and with what faults.
@@ -110,24 +95,22 @@ struct Begun {
     own: Items<Diag>,
 }
 
-/// A line before those under it, which is then listed if it is a process; what it says of them, and what it tells itself.
+/// A line before those under it; what it says of them, and what it tells itself.
 fn open(
     alloc: Global,
     imports: &[Import],
     node: &Node,
     parent: Parent,
     scope: &mut Scope,
-    places: &mut Items<Place>,
     found: &mut Items<Diag>,
 ) -> Result<Begun, AllocError>
     ensures parent { IfOk result (λ r. r.parent ≡ (told_judged imports.now scope.old (out-Node node.now).line.body (forest_of (out-Node node.now).children) parent).line.parent) }
-    ensures line { IfOk result (λ r. r.opened ≡ opened_at parent (length places.old) (out-Node node.now).line (told_judged imports.now scope.old (out-Node node.now).line.body (forest_of (out-Node node.now).children) parent)) }
+    ensures line { IfOk result (λ r. r.opened ≡ opened_at parent (out-Node node.now).line (told_judged imports.now scope.old (out-Node node.now).line.body (forest_of (out-Node node.now).children) parent)) }
     ensures own { IfOk result (λ r. r.own ≡ placed (out-Node node.now).line (told_judged imports.now scope.old (out-Node node.now).line.body (forest_of (out-Node node.now).children) parent).faults) }
     ensures scope { OnOk result (scope.new ≡ scope.old) }
-    ensures places { OnOk result (places.new ≡ places.old ++ own_process parent (out-Node node.now).line) }
     ensures found { OnOk result (found.new ≡ found.old ++ (told_judged imports.now scope.old (out-Node node.now).line.body (forest_of (out-Node node.now).children) parent).beneath) }
 {
-    let process = number(&parent, &node.line, places)?;
+    let is_process = is_process(&parent, &node.line.body);
     let mut faults = Items::new(alloc);
     let line = judged(
         alloc,
@@ -149,8 +132,8 @@ fn open(
         form,
     } = line;
     let opened = Opened {
-        place: node.line.place(),
-        process,
+        place: node.line.location(),
+        is_process,
         form,
         enters,
         next,
@@ -180,7 +163,7 @@ fn close(
     go_behind(alloc, &opened.adds, outer, scope)?;
     let Opened {
         place,
-        process,
+        is_process,
         form,
         enters,
         next,
@@ -188,7 +171,7 @@ fn close(
     } = opened;
     typed.push(TypedLine {
         place,
-        process,
+        is_process,
         form,
         enters,
         adds,
@@ -197,26 +180,24 @@ fn close(
     Ok(next)
 }
 
-/// The lines under another, by which these names come into scope: their typed lines, their processes and what they tell.
+/// The lines under another, by which these names come into scope: their typed lines and what they tell.
 #[cycle(lines)]
 fn inner(
     alloc: Global,
     imports: &[Import],
     nodes: &[Node],
     parent: Parent,
-    enters: &[Entry],
+    enters: &[ScopeEntry],
     scope: &mut Scope,
-    places: &mut Items<Place>,
     found: &mut Items<Diag>,
 ) -> Result<Items<TypedLine>, AllocError>
-    ensures typed { IfOk result (λ typed. typed ≡ typed_lines imports.now parent (with_all scope.old enters.now) (with_all scope.old enters.now) (length places.old) (forest_of nodes.now)) }
+    ensures typed { IfOk result (λ typed. typed ≡ typed_lines imports.now parent (with_all scope.old enters.now) (with_all scope.old enters.now) (forest_of nodes.now)) }
     ensures scope { OnOk result (scope.new ≡ scope.old) }
-    ensures places { OnOk result (places.new ≡ places.old ++ processes imports.now parent (with_all scope.old enters.now) (with_all scope.old enters.now) (forest_of nodes.now)) }
     ensures found { OnOk result (found.new ≡ found.old ++ told_lines imports.now parent (with_all scope.old enters.now) (with_all scope.old enters.now) (forest_of nodes.now)) }
 {
     let count = scope.len();
     scope.enter_all(alloc, enters)?;
-    let typed = lines(alloc, imports, nodes, parent, scope, places, found)?;
+    let typed = lines(alloc, imports, nodes, parent, scope, found)?;
     scope.leave_to(count);
     Ok(typed)
 }
@@ -231,17 +212,15 @@ fn line(
     parent: Parent,
     outer: usize,
     scope: &mut Scope,
-    places: &mut Items<Place>,
     typed: &mut Items<TypedLine>,
     found: &mut Items<Diag>,
 ) -> Result<Parent, AllocError>
     ensures next { IfOk result (λ next. next ≡ (told_judged imports.now scope.old (out-Node node.now).line.body (forest_of (out-Node node.now).children) parent).line.next) }
     ensures scope { OnOk result (scope.new ≡ told_behind (back_to outer scope.old) scope.old (told_judged imports.now scope.old (out-Node node.now).line.body (forest_of (out-Node node.now).children) parent).line.adds) }
-    ensures places { OnOk result (places.new ≡ places.old ++ line_processes imports.now parent scope.old (out-Node node.now).line (forest_of (out-Node node.now).children)) }
-    ensures typed { OnOk result (typed.new ≡ typed.old ++ line_with imports.now parent scope.old (length places.old) (out-Node node.now).line (forest_of (out-Node node.now).children) ∷ []) }
+    ensures typed { OnOk result (typed.new ≡ typed.old ++ line_with imports.now parent scope.old (out-Node node.now).line (forest_of (out-Node node.now).children) ∷ []) }
     ensures found { OnOk result (found.new ≡ found.old ++ line_faults imports.now parent scope.old (out-Node node.now).line (forest_of (out-Node node.now).children)) }
 {
-    let begun = open(alloc, imports, node, parent, scope, places, found)?;
+    let begun = open(alloc, imports, node, parent, scope, found)?;
     go_under(
         alloc,
         imports,
@@ -249,7 +228,6 @@ fn line(
         begun,
         outer,
         scope,
-        places,
         typed,
         found,
     )
@@ -264,14 +242,12 @@ fn go_under(
     begun: Begun,
     outer: usize,
     scope: &mut Scope,
-    places: &mut Items<Place>,
     typed: &mut Items<TypedLine>,
     found: &mut Items<Diag>,
 ) -> Result<Parent, AllocError>
     ensures next { IfOk result (λ next. next ≡ begun.opened.next) }
     ensures scope { OnOk result (scope.new ≡ told_behind (back_to outer scope.old) scope.old begun.opened.adds) }
-    ensures places { OnOk result (places.new ≡ places.old ++ processes imports.now begun.parent (with_all scope.old begun.opened.enters) (with_all scope.old begun.opened.enters) (forest_of nodes.now)) }
-    ensures typed { OnOk result (typed.new ≡ typed.old ++ with_children begun.opened (typed_lines imports.now begun.parent (with_all scope.old begun.opened.enters) (with_all scope.old begun.opened.enters) (length places.old) (forest_of nodes.now)) ∷ []) }
+    ensures typed { OnOk result (typed.new ≡ typed.old ++ with_children begun.opened (typed_lines imports.now begun.parent (with_all scope.old begun.opened.enters) (with_all scope.old begun.opened.enters) (forest_of nodes.now)) ∷ []) }
     ensures found { OnOk result (found.new ≡ found.old ++ (told_lines imports.now begun.parent (with_all scope.old begun.opened.enters) (with_all scope.old begun.opened.enters) (forest_of nodes.now) ++ begun.own)) }
 {
     let Begun {
@@ -286,15 +262,13 @@ fn go_under(
         parent,
         opened.enters.as_slice(),
         scope,
-        places,
         found,
     )?;
     found.append(own)?;
     close(alloc, opened, under, outer, scope, typed)
 }
 
-/// The typed lines of nodes, of which their parent says this, with their processes and what they tell, behind those of
-/// others.
+/// The typed lines of nodes, of which their parent says this, with what they tell, behind those of others.
 #[cycle(lines)]
 pub fn lines(
     alloc: Global,
@@ -302,12 +276,10 @@ pub fn lines(
     nodes: &[Node],
     parent: Parent,
     scope: &mut Scope,
-    places: &mut Items<Place>,
     found: &mut Items<Diag>,
 ) -> Result<Items<TypedLine>, AllocError>
-    ensures typed { IfOk result (λ typed. typed ≡ typed_lines imports.now parent scope.old scope.old (length places.old) (forest_of nodes.now)) }
+    ensures typed { IfOk result (λ typed. typed ≡ typed_lines imports.now parent scope.old scope.old (forest_of nodes.now)) }
     ensures scope { OnOk result (scope.new ≡ scope.old) }
-    ensures places { OnOk result (places.new ≡ places.old ++ processes imports.now parent scope.old scope.old (forest_of nodes.now)) }
     ensures found { OnOk result (found.new ≡ found.old ++ told_lines imports.now parent scope.old scope.old (forest_of nodes.now)) }
 {
     let outer = scope.len();
@@ -315,7 +287,7 @@ pub fn lines(
     let mut typed = Items::new(alloc);
     for node in nodes {
         parent = line(
-            alloc, imports, node, parent, outer, scope, places, &mut typed, found,
+            alloc, imports, node, parent, outer, scope, &mut typed, found,
         )?;
     }
     scope.leave_to(outer);

@@ -1,6 +1,6 @@
 -- Places of files, and edges between them.
 use Rattle.std.proofs.Common.{◌≡◌, ℕ, zero, suc, ◌+◌, ◌<◌, ◌≤◌, true, false, Bool, cond, ◌||◌, ◌==◌, List, [], ◌∷◌, ◌++◌, length, map, take, get_or, Option, Some, None, refl, sym, ap, ◌∙◌, inl, inr, arith}
-use Rattle.std.specs.List.{cons_option, flat_map, slice_get}
+use Rattle.std.specs.List.{cons_option, slice_get}
 use Rattle.std.specs.Option.{option_and_then}
 use Rattle.std.specs.Str.{bytes_eq}
 use Rattle.std.specs.Cmp.Lexicographic.{same_text}
@@ -15,9 +15,9 @@ use Rattle.occ_project.specs.declared.reads.Read.{Read}
 use Rattle.occ_project.specs.Entries.{is_among}
 use Rattle.occ_project.specs.Expansion.{expansion, expansion_of, unit_entries}
 use Rattle.occ_project.specs.Reads.{lines_of, member, open_lines, place}
-use Rattle.occ_project.specs.Uses.{units_of}
+use Rattle.occ_project.specs.Uses.{used_in}
 use Rattle.occ_units.specs.Places.{graph_of, places_of}
-use Rattle.occ_units.specs.Units.{Uses, in_order, read_names, used_units}
+use Rattle.occ_units.specs.Units.{Uses, read_names, used_units}
 use Rattle.occ_units.proofs.Finding.{member_at, place_within}
 use Rattle.occ_units.proofs.Looks.{same_bytes}
 use Rattle.occ_units.proofs.Narrowed.{member_named}
@@ -34,7 +34,7 @@ no_lines : (files : List Read) (unit : List ℕ) → place unit files ≡ None �
 no_lines files unit e = ap (option_and_then lines_of) (sym (member_at unit files) ∙ ap (option_and_then (slice_get files)) e)
 
 pub unused : (files : List Read) (unit : List ℕ) → place unit files ≡ None → used_units files unit ≡ []
-unused files unit e = ap (λ x. cond (is_unit unit) (in_order (flat_map units_of x.lines)) []) (closed files unit (no_lines files unit e)) ∙ by (is_unit unit) where
+unused files unit e = ap (λ x. cond (is_unit unit) (used_in x.lines) []) (closed files unit (no_lines files unit e)) ∙ by (is_unit unit) where
   by : (b : Bool) → cond {A = List (List ℕ)} b [] [] ≡ []
   by true = refl
   by false = refl

@@ -1,5 +1,5 @@
 -- Names in their order.
-use Rattle.std.proofs.Common.{◌≡◌, ◌<◌, ℕ, suc, arith, get_or, length, true, List, [], ◌∷◌, ◌++◌, refl, sym, ap, ◌∙◌}
+use Rattle.std.proofs.Common.{◌≡◌, ℕ, true, List, [], ◌∷◌, refl, sym, ap, ◌∙◌}
 use Rattle.std.specs.BTreeSet.{insert_key}
 use Rattle.std.specs.Cmp.{IsTotalOrder}
 use Rattle.std.specs.Cmp.Lexicographic.{same_text}
@@ -12,7 +12,6 @@ use Rattle.std.specs.declared.cmp.Ordering.TheVariants.{Less, Equal, Greater}
 use Rattle.std.proofs.lemmas.Cmp.{nat_list_cmp_total}
 use Rattle.std.proofs.lemmas.Map.Text.{is_eq-slice_cmp}
 use Rattle.occ_project.specs.Reads.{name_cmp}
-use Rattle.occ_units.specs.Units.{in_order}
 
 total : IsTotalOrder name_cmp
 total = nat_list_cmp_total
@@ -69,29 +68,3 @@ pub insert_rising : (names : List (List ℕ)) (k : List ℕ) → IsStrictlySorte
 unfolding IsStrictlySortedBy
 insert_rising [] k h = (tt, tt)
 insert_rising (x ∷ xs) k h = rising_by k x xs (name_cmp k x) refl h (insert_rising xs k h.1)
-
-pub in_order_rises : (names : List (List ℕ)) → IsStrictlySortedBy name_cmp (in_order names)
-unfolding IsStrictlySortedBy
-in_order_rises [] = tt
-in_order_rises (name ∷ names) = insert_rising (in_order names) name (in_order_rises names)
-
--- names put one by one at their places among those that are there already, the last first
-abbrev pub placed : List (List ℕ) → List (List ℕ) → List (List ℕ)
-placed [] there = there
-placed (name ∷ names) there = insert_key name_cmp (placed names there) name
-
-pub placed_last : (names there : List (List ℕ)) (name : List ℕ) → placed (names ++ name ∷ []) there ≡ placed names (insert_key name_cmp there name)
-placed_last [] there name = refl
-placed_last (n ∷ names) there name = ap (λ (ns : List (List ℕ)). insert_key name_cmp ns n) (placed_last names there name)
-
-pub placed_all : (names : List (List ℕ)) → placed names [] ≡ in_order names
-placed_all [] = refl
-placed_all (n ∷ names) = ap (λ (ns : List (List ℕ)). insert_key name_cmp ns n) (placed_all names)
-
--- names that each stand before the next are in order
-pub rising_stay : (names : List (List ℕ)) → ((k : ℕ) → suc k < length names → name_cmp (get_or names k []) (get_or names (suc k) []) ≡ Less) → in_order names ≡ names
-rising_stay [] h = refl
-rising_stay (name ∷ names) h = ap (λ (ns : List (List ℕ)). insert_key name_cmp ns name) (rising_stay names (λ k lt. h (suc k) (omega (arith, lt)))) ∙ first names (λ lt. h 0 (omega (arith, lt))) where
-  first : (ns : List (List ℕ)) → (0 < length ns → name_cmp name (get_or ns 0 []) ≡ Less) → insert_key name_cmp ns name ≡ name ∷ ns
-  first [] f = refl
-  first (n ∷ ns) f = ap (λ (o : Ordering). match_ordering o (name ∷ n ∷ ns) (n ∷ ns) (n ∷ insert_key name_cmp ns name)) (f (omega arith))

@@ -1,7 +1,7 @@
 -- What an edit leaves of what a graph keeps.
 use Rattle.std.proofs.Common.{◌≡◌, ◌∙◌, ℕ, suc, Bool, true, false, not, cond, List, [], ◌∷◌, map, Option, Some, None, Result, Ok, Err, refl, sym, ap, subst, IfOk, IfSome}
 use Rattle.std.proofs.lemmas.Slice.Eq.{bytes_eq-Decides}
-use Rattle.std.specs.List.{cons_option, flat_map, slice_get}
+use Rattle.std.specs.List.{cons_option, slice_get}
 use Rattle.std.specs.List.Sorted.{IsStrictlySortedBy}
 use Rattle.std.specs.Option.{is_some, option_map}
 use Rattle.std.specs.Ordering.{match_ordering}
@@ -13,7 +13,7 @@ use Rattle.occ_graph.specs.Graph.{Graph}
 use Rattle.occ_project.specs.Entries.{is_among}
 use Rattle.occ_project.specs.Expansion.{Expansion, expansion}
 use Rattle.occ_project.specs.Reads.{lines_of, name_cmp, open_lines, place}
-use Rattle.occ_project.specs.Uses.{units_of}
+use Rattle.occ_project.specs.Uses.{used_in}
 use Rattle.occ_project.specs.declared.reads.Read.{Read}
 use Rattle.occ_units.proofs.Kept.{edges_are, map_at}
 use Rattle.occ_units.proofs.Looks.{looks_at_reads}
@@ -23,7 +23,6 @@ use Rattle.occ_units.proofs.Rising.{equal_names, turned}
 use Rattle.occ_units.specs.declared.facts.Facts.{Facts}
 use Rattle.occ_units.specs.Places.{graph_of, places_of}
 use Rattle.occ_units.specs.Project.{IsProject, file_of, put}
-use Rattle.occ_units.specs.Units.{in_order}
 use Rattle.occ_units.specs.inside.Keeping.{AreOthers, IsGraph, all_facts, facts_of, reads_in}
 
 -- what was known at a place
@@ -43,7 +42,7 @@ known_by files facts p file name b f e h k = known_is files facts p file name f 
 
 -- of a file that does not read the edited one it is the same as before
 abbrev facts_by : Bool → Expansion → Facts
-facts_by b e = record { expanded = cond b (Some e) None; uses = cond b (in_order (flat_map units_of e.lines)) [] }
+facts_by b e = record { expanded = cond b (Some e) None; uses = cond b (used_in e.lines) [] }
 
 apart_from : (names : List (List ℕ)) (edited name : List ℕ) → is_among names edited ≡ false → is_among names name ≡ true → bytes_eq edited name ≡ false
 apart_from names edited name h a = by (bytes_eq edited name) refl where

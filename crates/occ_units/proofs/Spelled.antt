@@ -32,7 +32,7 @@ use Rattle.occ_lines.specs.declared.token.Token.{Token}
 use Rattle.occ_project.specs.Entries.{FileEntries, entries, entry_of, file_entries, held as held_in, included, inner_entries, is_among, line_entries, put_in}
 use Rattle.occ_project.specs.Expansion.{entry_lines, expansion, held_lines, unit_entries}
 use Rattle.occ_project.specs.Reads.{name_cmp, open_lines}
-use Rattle.occ_project.specs.Uses.{body_units, units_of}
+use Rattle.occ_project.specs.Uses.{body_units, units_of, names_in_order, used_in}
 use Rattle.occ_project.specs.declared.entry.ExpansionEntry.{ExpansionEntry}
 use Rattle.occ_project.specs.declared.entry.Held.{Held}
 use Rattle.occ_project.specs.declared.entry.Held.TheVariants.{Line, Include}
@@ -41,7 +41,7 @@ use Rattle.occ_project.specs.declared.expanded.ExpandedLine.{ExpandedLine}
 use Rattle.occ_project.specs.declared.reads.Read.{Read}
 use Rattle.occ_units.specs.Project.{file_of}
 use Rattle.occ_units.specs.Spelled.{AreSpelled, IsSpelled}
-use Rattle.occ_units.specs.Units.{Uses, in_order}
+use Rattle.occ_units.specs.Units.{Uses}
 use Rattle.occ_units.proofs.Narrowed.{file_lines}
 
 -- lists of what all have something
@@ -252,9 +252,9 @@ all_insert : (P : List ℕ → Type 0) (names : List (List ℕ)) (k : List ℕ) 
 all_insert P [] k p h = (p, tt)
 all_insert P (x ∷ xs) k p h = all_by P k x xs (name_cmp k x) p h.0 h.1 (all_insert P xs k p h.1)
 
-all_in_order : (P : List ℕ → Type 0) (names : List (List ℕ)) → AllByRecursion P names → AllByRecursion P (in_order names)
+all_in_order : (P : List ℕ → Type 0) (names : List (List ℕ)) → AllByRecursion P names → AllByRecursion P (names_in_order names)
 all_in_order P [] h = tt
-all_in_order P (name ∷ names) h = all_insert P (in_order names) name h.0 (all_in_order P names h.1)
+all_in_order P (name ∷ names) h = all_insert P (names_in_order names) name h.0 (all_in_order P names h.1)
 
 among_all : (P : List ℕ → Type 0) (names : List (List ℕ)) (v : List ℕ) → AllByRecursion P names → is_among names v ≡ true → P v
 among_all P [] v h a = absurd cc
@@ -273,6 +273,6 @@ spelled_named files spelled name lines e = by (file_of files name).source (spell
 
 pub uses_units : (files : List Read) (u v : List ℕ) → AreSpelled files → Uses files u v → is_unit v ≡ true
 uses_units files u v spelled uses = by (is_unit u) uses where
-  by : (b : Bool) → is_among (cond b (in_order (flat_map units_of (expansion files u).lines)) []) v ≡ true → is_unit v ≡ true
-  by true a = among_all IsName (in_order (flat_map units_of (expansion files u).lines)) v (all_in_order IsName (flat_map units_of (expansion files u).lines) (expanded_named files (spelled_named files spelled) u)) a
+  by : (b : Bool) → is_among (cond b (used_in (expansion files u).lines) []) v ≡ true → is_unit v ≡ true
+  by true a = among_all IsName (used_in (expansion files u).lines) v (all_in_order IsName (flat_map units_of (expansion files u).lines) (expanded_named files (spelled_named files spelled) u)) a
   by false a = absurd cc

@@ -1,14 +1,11 @@
 -- What a unit reads of a project, which units it uses, and which of them in a circle. A unit is a file whose name ends in
 -- `.occ`.
 use Rattle.std.specs.Prelude.{◌≡◌, ℕ, true, cond, ◌⊎◌, List, [], ◌∷◌, map}
-use Rattle.std.specs.BTreeSet.{insert_key}
-use Rattle.std.specs.List.{flat_map}
 use Rattle.occ_base.specs.FileName.{is_unit}
 use Rattle.occ_project.specs.declared.reads.Read.{Read}
 use Rattle.occ_project.specs.Entries.{is_among}
 use Rattle.occ_project.specs.Expansion.{expansion}
-use Rattle.occ_project.specs.Reads.{name_cmp}
-use Rattle.occ_project.specs.Uses.{units_of}
+use Rattle.occ_project.specs.Uses.{used_in}
 use Rattle.occ_units.specs.Project.{file_of}
 
 -- the names that its expansion looks up, in the order of their first look-ups
@@ -19,14 +16,9 @@ read_names files unit = cond (is_unit unit) (expansion files unit).reads []
 abbrev pub unit_reads : List Read → List ℕ → List Read
 unit_reads files unit = map (file_of files) (read_names files unit)
 
--- each name once, in order
-abbrev pub in_order : List (List ℕ) → List (List ℕ)
-in_order [] = []
-in_order (name ∷ names) = insert_key name_cmp (in_order names) name
-
 -- the units that the `#USE` lines of its expansion name, each once, in order of name
 abbrev pub used_units : List Read → List ℕ → List (List ℕ)
-used_units files unit = cond (is_unit unit) (in_order (flat_map units_of (expansion files unit).lines)) []
+used_units files unit = cond (is_unit unit) (used_in (expansion files unit).lines) []
 
 -- u uses v
 abbrev pub Uses : List Read → List ℕ → List ℕ → Type 0

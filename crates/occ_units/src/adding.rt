@@ -1,3 +1,4 @@
+//! Puts in a file that is new and that no other looks for: others are left alone but for their indices.
 ghost use Rattle.occ_graph.specs.Adding.{with_node};
 ghost use Rattle.occ_project.specs.Entries.{is_among};
 ghost use Rattle.occ_units.specs.Along.{name_at};

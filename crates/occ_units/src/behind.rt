@@ -1,3 +1,4 @@
+//! What is known of all files after an edit: only readers of the edited file are expanded anew, the rest is shared.
 ghost use Rattle.occ_project.specs.Entries.{is_among};
 ghost use Rattle.occ_units.specs.inside.Keeping.{AreOthers, all_facts, facts_of as the_facts_of, reads_in};
 ghost use Rattle.std.specs.Option.{option_copied};

@@ -1,3 +1,4 @@
+//! The expansion of a unit over those files of the project that it may look up. Its cost does not grow with the project.
 ghost use Rattle.occ_project.specs.Expansion.{expansion as unit_expansion};
 ghost use Rattle.std.specs.Prelude.{IfOk, ◌≡◌};
 

@@ -1,3 +1,5 @@
+//! What is cached of each file: its reads, its used units, and their indices. Hints at indices cost time if they are
+//! wrong, and no answer.
 ghost use Rattle.occ_units.specs.Places.{places_of as the_places_of};
 ghost use Rattle.occ_project.specs.Entries.{is_among};
 ghost use Rattle.occ_units.specs.inside.Keeping.{facts_of as the_facts_of, reads_in};
@@ -5,9 +7,8 @@ ghost use Rattle.std.specs.Prelude.{[], map, IfOk, OnOk, ◌++◌, ◌∷◌, �
 
 use super::Project;
 use super::expansion::expansion;
-use super::uses::used_units;
 use occ_base::{FileName, Items, Shared};
-use occ_project::Expanded;
+use occ_project::{Expanded, used_units};
 use std::alloc::{AllocError, Global};
 
 /// Whether the name is one of these.

@@ -1,3 +1,5 @@
+//! The graph of a project: what units read and use, circles, and how a used unit is found. Edits change it in place where
+//! they can.
 ghost use Rattle.occ_base.specs.FileName.{is_unit};
 ghost use Rattle.occ_graph.specs.Graph.{is_among as is_place, rests as rests_in, targets};
 ghost use Rattle.occ_project.specs.Entries.{is_among};
@@ -41,10 +43,7 @@ fn row(rows: &[Items<usize>], place: usize) -> &[usize]
 fn facts_at(all: &[Shared<Facts>], place: usize) -> Option<&Facts>
     ensures { option_copied result ≡ slice_get all.now place }
 {
-    match all.get(place) {
-        Some(facts) => Some(facts.get()),
-        None => None,
-    }
+    all.get(place).map(|facts| facts.get())
 }
 
 /// The name of a unit, and of an include nothing: what the expansion looks up of a file that is not there.
@@ -390,10 +389,8 @@ impl Graph {
     fn expanded(&self, hint: usize, unit: FileName) -> Option<&Expanded>
         ensures { option_copied result ≡ option_and_then (λ at. (the_facts_of self.now unit).expanded) (place unit self.now) }
     {
-        match &self.facts_of(hint, unit)?.expanded {
-            Some(expanded) => Some(expanded.get()),
-            None => None,
-        }
+        let expanded = self.facts_of(hint, unit)?.expanded.as_ref();
+        expanded.map(|expanded| expanded.get())
     }
 
     /// The units that a unit uses, in order of name.

@@ -1,3 +1,5 @@
+//! That an expansion looks at its reads alone, that names of used units are names of units, and what recursion over units
+//! gives.
 ghost use Rattle.occ_base.specs.FileName.{is_unit};
 ghost use Rattle.occ_graph.specs.Graph.{has_edge, is_among as is_place, rests};
 ghost use Rattle.occ_project.specs.Entries.{is_among};

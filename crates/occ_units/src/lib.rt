@@ -12,7 +12,6 @@ mod project;
 mod renewing;
 pub mod rows;
 mod standing;
-mod uses;
 
 pub use graph::Graph;
 pub use project::{Project, share};

@@ -1,3 +1,4 @@
+//! What rests on what and who uses whom, by indices, from what is known of each file.
 ghost use Rattle.occ_units.specs.Places.{graph_of};
 ghost use Rattle.occ_units.specs.inside.Keeping.{all_facts as all_facts_of};
 ghost use Rattle.std.specs.Prelude.{IfOk, ◌≡◌};

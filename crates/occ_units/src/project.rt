@@ -1,3 +1,4 @@
+//! A project: files in order of name, each with revision and text, found by hint or binary search.
 ghost use Rattle.occ_project.specs.Reads.{member, place as first_place};
 ghost use Rattle.occ_units.specs.Along.{name_at as the_name_at};
 ghost use Rattle.occ_units.specs.Project.{IsProject, file_of, put};

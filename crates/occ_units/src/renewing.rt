@@ -1,3 +1,4 @@
+//! Puts a file where one of its name is, if all its readers read and use the same as before. Else nothing is changed.
 ghost use Rattle.occ_graph.specs.Graph.{is_among as is_place};
 ghost use Rattle.occ_project.specs.Reads.{place as first_place};
 ghost use Rattle.occ_units.specs.Along.{name_at};

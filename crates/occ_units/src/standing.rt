@@ -1,3 +1,4 @@
+//! How a used unit is found by one that uses it: absent, circular, or below.
 /// How a unit stands to one that uses it.
 #[derive(Clone, Copy)]
 pub enum Standing {

@@ -3,7 +3,7 @@ use Rattle.std.proofs.Common.{◌≡◌, ◌∙◌, Bool, true, false, List, [],
 use Rattle.occ_base.specs.declared.diag.Diag.{Diag}
 use Rattle.occ_bounds.specs.Bounds.{Env}
 use Rattle.occ_bounds.specs.declared.uses.Use.{Use}
-use Rattle.occ_project.specs.declared.expanded.Place.{Place as Line}
+use Rattle.occ_project.specs.declared.expanded.Location.{Location}
 use Rattle.occ_typing.specs.Forms.{BlockKind, TypedForm}
 use Rattle.occ_typing.specs.BlockVariants as block
 use Rattle.occ_typing.specs.FormVariants as form
@@ -16,24 +16,24 @@ use Rattle.occ_usage.specs.ParallelRule.{block_faults, own_faults, parallel_at}
 use Rattle.occ_usage.specs.Trees.{Head, Trees}
 use Rattle.occ_usage.specs.Walk.{Told, line_told, rounds_told, told_of, under_told, under_told_by}
 
-block_alike : (kind : BlockKind) (line : Line) (env : Env) (xs ys : List (List Use)) → is_compared kind ≡ false → block_faults kind line env xs ≡ block_faults kind line env ys
+block_alike : (kind : BlockKind) (line : Location) (env : Env) (xs ys : List (List Use)) → is_compared kind ≡ false → block_faults kind line env xs ≡ block_faults kind line env ys
 block_alike block.Parallel line env xs ys h = cc
 block_alike block.Sequence line env xs ys h = refl
 block_alike block.Conditional line env xs ys h = refl
 block_alike block.Alternation line env xs ys h = refl
 
-pub own_alike : (f : TypedForm) (line : Line) (env : Env) (xs ys : List (List Use)) → are_compared f ≡ false → own_faults f line env xs ≡ own_faults f line env ys
+pub own_alike : (f : TypedForm) (line : Location) (env : Env) (xs ys : List (List Use)) → are_compared f ≡ false → own_faults f line env xs ≡ own_faults f line env ys
 own_alike (form.Block kind r) line env xs ys h = block_alike kind line env xs ys h
 own_alike (form.Assignment els es) line env xs ys h = refl
 own_alike other line env xs ys h = refl
 
-block_compared : (kind : BlockKind) (line : Line) (env : Env) (xs : List (List Use)) → is_compared kind ≡ true → block_faults kind line env xs ≡ component_faults line env xs
+block_compared : (kind : BlockKind) (line : Location) (env : Env) (xs : List (List Use)) → is_compared kind ≡ true → block_faults kind line env xs ≡ component_faults line env xs
 block_compared block.Parallel line env xs h = refl
 block_compared block.Sequence line env xs h = cc
 block_compared block.Conditional line env xs h = cc
 block_compared block.Alternation line env xs h = cc
 
-own_compared : (f : TypedForm) (line : Line) (env : Env) (xs : List (List Use)) → are_compared f ≡ true → own_faults f line env xs ≡ component_faults line env xs
+own_compared : (f : TypedForm) (line : Location) (env : Env) (xs : List (List Use)) → are_compared f ≡ true → own_faults f line env xs ≡ component_faults line env xs
 own_compared (form.Block kind r) line env xs h = block_compared kind line env xs h
 own_compared (form.Assignment els es) line env xs h = cc
 own_compared other line env xs h = cc

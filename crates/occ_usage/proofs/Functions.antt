@@ -2,7 +2,7 @@
 use Rattle.std.proofs.Common.{arith, ◌≡◌, ◌∙◌, ℕ, Bool, true, false, ◌||◌, Option, Some, None, List, [], ◌++◌, length, refl, ap, sym}
 use Rattle.occ_base.specs.declared.diag.Diag.{Diag}
 use Rattle.occ_bounds.specs.Bounds.{Env}
-use Rattle.occ_project.specs.declared.expanded.Place.{Place as Line}
+use Rattle.occ_project.specs.declared.expanded.Location.{Location}
 use Rattle.occ_typing.specs.Forms.{TypedForm}
 use Rattle.occ_typing.specs.FormVariants as form
 use Rattle.occ_replicators.specs.declared.tree.KnownReplicator.{KnownReplicator}
@@ -21,7 +21,7 @@ right_false : (a c : Bool) → (a || c) ≡ false → c ≡ false
 right_false true c e = absurd (grind (arith, e))
 right_false false c e = e
 
-of_one_line : (f : TypedForm) (env : Env) (line : Line) → is_function f ≡ false → one_line_faults f env line ≡ []
+of_one_line : (f : TypedForm) (env : Env) (line : Location) → is_function f ≡ false → one_line_faults f env line ≡ []
 of_one_line (form.OneLineFunction formals results) env line e = absurd (grind (arith, e))
 of_one_line other env line e = refl
 

@@ -2,6 +2,4 @@ pub mod Trees
 pub mod Walking
 pub mod Compared
 pub mod Sizes
-pub mod Standing
 pub mod Functions
-pub mod Anew

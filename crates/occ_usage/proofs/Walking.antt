@@ -7,11 +7,11 @@ use Rattle.occ_bounds.specs.Bounds.{Env}
 use Rattle.occ_bounds.specs.declared.uses.Use.{Use}
 use Rattle.occ_clashes.specs.Components.{joined}
 use Rattle.occ_line_uses.specs.Entering.{body_bound, specified}
-use Rattle.occ_names.specs.declared.meaning.Entry.{Entry}
+use Rattle.occ_names.specs.declared.meaning.ScopeEntry.{ScopeEntry}
 use Rattle.occ_usage.specs.Effect.{effect_behind, effect_under, is_body, line_effect, lines_effect}
 use Rattle.occ_usage.specs.FunctionRule.{faults, whole_faults}
 use Rattle.occ_usage.specs.Lines.{added, added_by, body_over, behind_by, behind_line, behind_lines, ends_item, items, items_of, line_uses}
-use Rattle.occ_usage.specs.Processes.{process_uses, whole_uses}
+use Rattle.occ_usage.specs.Processes.{all_passed, passed, process_uses, whole_uses}
 use Rattle.occ_usage.specs.Trees.{Empty, Head, Tree, Trees}
 use Rattle.occ_usage.specs.Walk.{Rule, line_told, told, told_of}
 use Rattle.occ_usage.specs.declared.function.Within.{Within}
@@ -45,7 +45,7 @@ pub end_stands : (s : Bool) (depth : ℕ) (outer env more grown behind : Env) �
 end_stands s depth outer env more grown behind h round is e =
     subst (λ (z : Env). (depth ≤ length z) × (take depth z ≡ outer)) (sym (e ∙ ended s depth outer env more grown h round is)) (stands_by s depth outer env more h round)
 
-behind_is : (adds : Option (List Entry)) (outer env : Env) (h : Head) (t : Trees) → (if ends_item adds then outer else env ++ added env h t (items_of t)) ≡ behind_by outer env h t adds
+behind_is : (adds : Option (List ScopeEntry)) (outer env : Env) (h : Head) (t : Trees) → (if ends_item adds then outer else env ++ added env h t (items_of t)) ≡ behind_by outer env h t adds
 behind_is None outer env h t = refl
 behind_is (Some entries) outer env h t = refl
 
@@ -134,7 +134,7 @@ step_joined h t rest all depth outer env grown behind uses more whole within rou
 
 -- ---- what comes into scope behind a line: of the uses under it only by a body
 
-pub added_alike : (env : Env) (h : Head) (us vs : List Use) (does : Bool) (adds : Option (List Entry)) → (is_body h.form ≡ true → us ≡ vs) → added_by env h us does adds ≡ added_by env h vs does adds
+pub added_alike : (env : Env) (h : Head) (us vs : List Use) (does : Bool) (adds : Option (List ScopeEntry)) → (is_body h.form ≡ true → us ≡ vs) → added_by env h us does adds ≡ added_by env h vs does adds
 added_alike env h us vs does None e = refl
 added_alike env h us vs does (Some entries) e = by_body (is_body h.form) refl where
   by_body : (s : Bool) → is_body h.form ≡ s
@@ -188,21 +188,31 @@ step_faults w h t rest all outer env behind found found1 whole is before more e 
 
 -- ---- uses of a process
 
-pub step_process : (n : ℕ) (h : Head) (t rest all : Trees) (outer env behind : Env) (found found1 whole : List Use)
+pub step_process : (left next : Option ℕ) (h : Head) (t rest all : Trees) (outer env behind : Env) (found found1 whole : List Use)
     → all ≡ Tree h t rest
-    → found ++ process_uses n all outer env ≡ whole
-    → found1 ≡ found ++ whole_uses n h t env
+    → found ++ process_uses left all outer env ≡ whole
+    → found1 ≡ found ++ whole_uses left h t env
+    → next ≡ all_passed t (passed h.is_process left)
     → behind ≡ behind_line outer env h t
-    → found1 ++ process_uses n rest outer behind ≡ whole
-step_process n h t rest all outer env behind found found1 whole is before more e =
-    ap (λ (z : Env). found1 ++ process_uses n rest outer z) e
-    ∙ ap (λ (z : List Use). z ++ process_uses n rest outer (behind_line outer env h t)) more
-    ∙ append_assoc found (whole_uses n h t env) (process_uses n rest outer (behind_line outer env h t))
-    ∙ ap (λ (z : Trees). found ++ process_uses n z outer env) (sym is)
+    → found1 ++ process_uses next rest outer behind ≡ whole
+step_process left next h t rest all outer env behind found found1 whole is before more on e =
+    let after = all_passed t (passed h.is_process left) in
+    ap (λ (z : Env). found1 ++ process_uses next rest outer z) e
+    ∙ ap (λ (z : Option ℕ). found1 ++ process_uses z rest outer (behind_line outer env h t)) on
+    ∙ ap (λ (z : List Use). z ++ process_uses after rest outer (behind_line outer env h t)) more
+    ∙ append_assoc found (whole_uses left h t env) (process_uses after rest outer (behind_line outer env h t))
+    ∙ ap (λ (z : Trees). found ++ process_uses left z outer env) (sym is)
     ∙ before
 
+pub step_passed : (left next last : Option ℕ) (h : Head) (t rest all : Trees)
+    → all ≡ Tree h t rest
+    → all_passed all left ≡ last
+    → next ≡ all_passed t (passed h.is_process left)
+    → all_passed rest next ≡ last
+step_passed left next last h t rest all is before on = ap (all_passed rest) on ∙ ap (λ (z : Trees). all_passed z left) (sym is) ∙ before
+
 -- behind a line where the walk itself goes
-behind_stands_by : (adds : Option (List Entry)) (depth : ℕ) (outer env : Env) (h : Head) (t : Trees) → depth ≤ length env → take depth env ≡ outer
+behind_stands_by : (adds : Option (List ScopeEntry)) (depth : ℕ) (outer env : Env) (h : Head) (t : Trees) → depth ≤ length env → take depth env ≡ outer
     → (depth ≤ length (behind_by (take depth env) env h t adds)) × (take depth (behind_by (take depth env) env h t adds) ≡ outer)
 behind_stands_by None depth outer env h t within round =
     let r = cut_back depth outer env within round in
@@ -218,7 +228,7 @@ behind_stands depth outer env behind h t within round e =
 
 -- ---- effects
 
-effect_stands_by : (adds : Option (List Entry)) (depth : ℕ) (outer env : Env) (h : Head) (does : Bool) → depth ≤ length env → take depth env ≡ outer
+effect_stands_by : (adds : Option (List ScopeEntry)) (depth : ℕ) (outer env : Env) (h : Head) (does : Bool) → depth ≤ length env → take depth env ≡ outer
     → (depth ≤ length (effect_behind (take depth env) env h does adds)) × (take depth (effect_behind (take depth env) env h does adds) ≡ outer)
 effect_stands_by None depth outer env h does within round =
     let r = cut_back depth outer env within round in

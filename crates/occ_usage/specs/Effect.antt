@@ -4,7 +4,7 @@ use Rattle.std.specs.Prelude.{Bool, true, false, ◌||◌, ◌&&◌, not, Option
 use Rattle.occ_bounds.specs.Bounds.{Env}
 use Rattle.occ_line_uses.specs.Effects.{form_effect}
 use Rattle.occ_line_uses.specs.Entering.{body_bound, entry_bounds, specified}
-use Rattle.occ_names.specs.declared.meaning.Entry.{Entry}
+use Rattle.occ_names.specs.declared.meaning.ScopeEntry.{ScopeEntry}
 use Rattle.occ_typing.specs.Forms.{TypedForm}
 use Rattle.occ_typing.specs.FormVariants as form
 use Rattle.occ_usage.specs.Trees.{Empty, Head, Tree, Trees}
@@ -20,7 +20,7 @@ abbrev pub inner : Env → Head → Env
 inner env h = env ++ entry_bounds h.enters
 
 -- in scope behind a line, where a body has this effect and its uses are not asked for; outer stands round its item
-abbrev pub effect_behind : Env → Env → Head → Bool → Option (List Entry) → Env
+abbrev pub effect_behind : Env → Env → Head → Bool → Option (List ScopeEntry) → Env
 effect_behind outer env h does None = outer
 effect_behind outer env h does (Some entries) = env ++ (if is_body h.form then body_bound [] does ∷ [] else specified env h.place entries h.form)
 

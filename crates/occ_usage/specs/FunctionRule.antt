@@ -13,8 +13,8 @@ use Rattle.occ_clashes.specs.ParallelRule.{root_name}
 use Rattle.occ_line_uses.specs.Effects.{each_effect, form_effect}
 use Rattle.occ_line_uses.specs.Entering.{entry_bounds}
 use Rattle.occ_line_uses.specs.Forms.{each_uses, form_uses}
-use Rattle.occ_names.specs.declared.meaning.Entry.{Entry}
-use Rattle.occ_project.specs.declared.expanded.Place.{Place as Line}
+use Rattle.occ_names.specs.declared.meaning.ScopeEntry.{ScopeEntry}
+use Rattle.occ_project.specs.declared.expanded.Location.{Location}
 use Rattle.occ_replicators.specs.declared.tree.KnownReplicator.{KnownReplicator}
 use Rattle.occ_typed.specs.declared.expr.TypedExpr.{TypedExpr}
 use Rattle.occ_typing.specs.Forms.{TypedForm}
@@ -35,13 +35,13 @@ write_faults n env [] = []
 write_faults n env (u ∷ us) = write_fault n env u ++ write_faults n env us
 
 -- a FUNCTION of one line: its results with its formals in scope
-abbrev pub results_faults : List Entry → List TypedExpr → Env → Line → List Diag
-results_faults formals results env line =
+abbrev pub side_effect_faults : List ScopeEntry → List TypedExpr → Env → Location → List Diag
+side_effect_faults formals results env line =
     let body = env ++ entry_bounds formals in
     error_if (each_effect results body) line.file line.line F1 ++ write_faults (length env) body (each_uses results body line)
 
-abbrev pub one_line_faults : TypedForm → Env → Line → List Diag
-one_line_faults (form.OneLineFunction formals results) env line = results_faults formals results env line
+abbrev pub one_line_faults : TypedForm → Env → Location → List Diag
+one_line_faults (form.OneLineFunction formals results) env line = side_effect_faults formals results env line
 one_line_faults other env line = []
 
 -- a line in the body of a FUNCTION, or in none

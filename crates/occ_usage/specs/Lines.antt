@@ -10,7 +10,7 @@ use Rattle.occ_clashes.specs.Components.{joined}
 use Rattle.occ_clashes.specs.Distinct.{distinct}
 use Rattle.occ_line_uses.specs.Entering.{body_bound, index_value, specified}
 use Rattle.occ_line_uses.specs.Forms.{form_uses}
-use Rattle.occ_names.specs.declared.meaning.Entry.{Entry}
+use Rattle.occ_names.specs.declared.meaning.ScopeEntry.{ScopeEntry}
 use Rattle.occ_replicators.specs.declared.tree.KnownReplicator.{KnownReplicator}
 use Rattle.occ_replicators.specs.declared.tree.TypedReplicator.{TypedReplicator}
 use Rattle.occ_typing.specs.Forms.{TypedForm}
@@ -73,10 +73,10 @@ abbrev pub body_over : Env → Head → List Use → Bool → Bound
 body_over env h us does = body_bound (body_uses (length env) (length env + length h.enters) h.place us) does
 
 -- by which these names come into scope
-abbrev pub entered : Env → Head → List Use → Bool → List Entry → List Bound
+abbrev pub entered : Env → Head → List Use → Bool → List ScopeEntry → List Bound
 entered env h us does entries = if is_body h.form then body_over env h us does ∷ [] else specified env h.place entries h.form
 
-abbrev pub added_by : Env → Head → List Use → Bool → Option (List Entry) → List Bound
+abbrev pub added_by : Env → Head → List Use → Bool → Option (List ScopeEntry) → List Bound
 added_by env h us does None = []
 added_by env h us does (Some entries) = entered env h us does entries
 
@@ -86,7 +86,7 @@ added env h t under = added_by env h (joined (components env h under)) (effect_u
 
 -- ---- lines
 
-abbrev pub ends_item : Option (List Entry) → Bool
+abbrev pub ends_item : Option (List ScopeEntry) → Bool
 ends_item None = true
 ends_item (Some entries) = false
 
@@ -103,7 +103,7 @@ abbrev pub items_of : Trees → Under
 items_of t env = items t env env []
 
 -- in scope behind a line: a specification adds to the item, a main line ends it
-abbrev pub behind_by : Env → Env → Head → Trees → Option (List Entry) → Env
+abbrev pub behind_by : Env → Env → Head → Trees → Option (List ScopeEntry) → Env
 behind_by outer env h t None = outer
 behind_by outer env h t (Some entries) = env ++ added env h t (items_of t)
 

@@ -6,7 +6,7 @@ use Rattle.occ_bounds.specs.Bounds.{Env}
 use Rattle.occ_bounds.specs.declared.uses.Use.{Use}
 use Rattle.occ_clashes.specs.ParallelRule.{component_faults, target_faults}
 use Rattle.occ_line_uses.specs.Forms.{used}
-use Rattle.occ_project.specs.declared.expanded.Place.{Place as Line}
+use Rattle.occ_project.specs.declared.expanded.Location.{Location}
 use Rattle.occ_typed.specs.declared.expr.TypedElement.{TypedElement}
 use Rattle.occ_typing.specs.Forms.{BlockKind, TypedForm}
 use Rattle.occ_typing.specs.BlockVariants as block
@@ -17,24 +17,24 @@ use Rattle.occ_usage.specs.Lines.{components, items_of}
 use Rattle.occ_usage.specs.Walk.{Rule, unit_told}
 
 -- each target of an assignment as a component: what it writes, and what its subscripts and bounds use
-abbrev pub targets : List TypedElement → Env → Line → List (List Use)
+abbrev pub targets : List TypedElement → Env → Location → List (List Use)
 targets [] env line = []
 targets (el ∷ els) env line = used kind.Write el env line ∷ targets els env line
 
 -- of several targets: one is compared with nothing
-abbrev pub assignment_faults : List TypedElement → Env → Line → List Diag
+abbrev pub assignment_faults : List TypedElement → Env → Location → List Diag
 assignment_faults [] env line = []
 assignment_faults (el ∷ []) env line = []
 assignment_faults (el ∷ other ∷ els) env line = target_faults line env (targets (el ∷ other ∷ els) env line)
 
-abbrev pub block_faults : BlockKind → Line → Env → List (List Use) → List Diag
+abbrev pub block_faults : BlockKind → Location → Env → List (List Use) → List Diag
 block_faults block.Parallel line env comps = component_faults line env comps
 block_faults block.Sequence line env comps = []
 block_faults block.Conditional line env comps = []
 block_faults block.Alternation line env comps = []
 
 -- of a line with these components
-abbrev pub own_faults : TypedForm → Line → Env → List (List Use) → List Diag
+abbrev pub own_faults : TypedForm → Location → Env → List (List Use) → List Diag
 own_faults (form.Block kind r) line env comps = block_faults kind line env comps
 own_faults (form.Assignment els es) line env comps = assignment_faults els env line
 own_faults other line env comps = []

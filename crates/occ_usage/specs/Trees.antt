@@ -1,7 +1,7 @@
 -- The typed lines of a unit as trees.
-use Rattle.std.specs.Prelude.{ℕ, Option, List, [], ◌∷◌, map}
-use Rattle.occ_names.specs.declared.meaning.Entry.{Entry}
-use Rattle.occ_project.specs.declared.expanded.Place.{Place as Line}
+use Rattle.std.specs.Prelude.{Bool, Option, List, [], ◌∷◌, map}
+use Rattle.occ_names.specs.declared.meaning.ScopeEntry.{ScopeEntry}
+use Rattle.occ_project.specs.declared.expanded.Location.{Location}
 use Rattle.occ_typing.specs.Forms.{TypedForm}
 use Rattle.occ_typing.specs.declared.tree.TypedLine.{TypedLine, out-TypedLine}
 use Rattle.occ_typing.specs.declared.tree.TypedLine.TheFolds.{fold-TypedLine}
@@ -9,11 +9,11 @@ use Rattle.occ_typing.specs.declared.tree.TypedLine.TheOpen.{TypedLine-F}
 
 -- a line by itself
 pub record Head : Type 0 where
-  pub place : Line
-  pub process : Option ℕ
+  pub place : Location
+  pub is_process : Bool
   pub form : TypedForm
-  pub enters : List Entry
-  pub adds : Option (List Entry)
+  pub enters : List ScopeEntry
+  pub adds : Option (List ScopeEntry)
 
 -- none, or a line, the lines under it, and those behind it
 pub data Trees : Type 0 where
@@ -26,7 +26,7 @@ one_behind_other [] = Empty
 one_behind_other (t ∷ ts) = t (one_behind_other ts)
 
 abbrev pub head_in : {X : Type 0} → TypedLine-F X → Head
-head_in n = record { place = n.place; process = n.process; form = n.form; enters = n.enters; adds = n.adds }
+head_in n = record { place = n.place; is_process = n.is_process; form = n.form; enters = n.enters; adds = n.adds }
 
 abbrev pub tree_step : TypedLine-F (Trees → Trees) → Trees → Trees
 tree_step n behind = Tree (head_in n) (one_behind_other n.under) behind

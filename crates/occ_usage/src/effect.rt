@@ -1,3 +1,4 @@
+//! Whether the lines under a line have an effect, and which lines are heads of bodies.
 #![tactic(auto, using(crate::proofs::Trees::first_tree))]
 
 ghost use Rattle.std.specs.Prelude.{◌≡◌, ◌||◌, IfOk, OnOk, take};
@@ -5,7 +6,7 @@ ghost use Rattle.occ_usage.specs.Effect.{effect_behind as told_behind, effect_un
 ghost use Rattle.occ_usage.specs.Trees.{head_of, trees_of, under as lines_under};
 
 use occ_base::Items;
-use occ_line_uses::{Scope, body_bound, enter_all, enter_line, form_effect};
+use occ_line_uses::{UsageScope, body_bound, enter_all, enter_line, form_effect};
 use occ_typing::{TypedForm, TypedLine};
 use std::alloc::{AllocError, Global};
 
@@ -13,11 +14,7 @@ use std::alloc::{AllocError, Global};
 pub(crate) fn is_body(form: &TypedForm) -> bool
     ensures { result ≡ tells_body form.now }
 {
-    match form {
-        TypedForm::ProcedureHead => true,
-        TypedForm::FunctionHead => true,
-        _ => false,
-    }
+    matches!(form, TypedForm::ProcedureHead | TypedForm::FunctionHead)
 }
 
 /// Whether one of the two is so.
@@ -33,7 +30,7 @@ fn go_behind(
     line: &TypedLine,
     has_effect: bool,
     depth: usize,
-    env: &mut Scope,
+    env: &mut UsageScope,
 ) -> Result<(), AllocError>
     ensures { OnOk result (env.new ≡ told_behind (take depth env.old) env.old (head_of line.now) has_effect (head_of line.now).adds) }
 {
@@ -52,7 +49,7 @@ fn go_behind(
 pub(crate) fn effect_under(
     alloc: Global,
     line: &TypedLine,
-    env: &mut Scope,
+    env: &mut UsageScope,
 ) -> Result<bool, AllocError>
     ensures found { IfOk result (λ found. found ≡ told_under (lines_under line.now) env.old (head_of line.now)) }
     ensures env { OnOk result (env.new ≡ env.old) }
@@ -73,7 +70,7 @@ fn line_effect(
     alloc: Global,
     line: &TypedLine,
     depth: usize,
-    env: &mut Scope,
+    env: &mut UsageScope,
 ) -> Result<bool, AllocError>
     ensures found { IfOk result (λ found. found ≡ told_line env.old (head_of line.now) (told_under (lines_under line.now) env.old (head_of line.now))) }
     ensures env { OnOk result (env.new ≡ told_behind (take depth env.old) env.old (head_of line.now) (told_under (lines_under line.now) env.old (head_of line.now)) (head_of line.now).adds) }
@@ -86,7 +83,11 @@ fn line_effect(
 
 /// Whether lines have an input, an output, a PAR or an ALT, or call a body with one.
 #[cycle(effect)]
-fn lines_effect(alloc: Global, lines: &[TypedLine], env: &mut Scope) -> Result<bool, AllocError>
+fn lines_effect(
+    alloc: Global,
+    lines: &[TypedLine],
+    env: &mut UsageScope,
+) -> Result<bool, AllocError>
     ensures found { IfOk result (λ found. found ≡ told_lines (trees_of lines.now) env.old env.old) }
     ensures env { OnOk result (env.new ≡ env.old) }
 {

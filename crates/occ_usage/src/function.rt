@@ -1,10 +1,12 @@
+//! The function rule, in a walk of its own: writes of what is outside, and effects, in the body of each FUNCTION.
+//! `docs/LANGUAGE.md, The function rule`.
 #![tactic(auto, using(crate::proofs::Trees::first_tree))]
 
 ghost use Rattle.std.specs.Prelude.{◌≡◌, ◌≤◌, ◌++◌, IfOk, OnOk, length, take};
 ghost use Rattle.occ_base.specs.Errors.{error_if};
 ghost use Rattle.occ_base.specs.declared.code.Code.TheVariants.{F1};
 ghost use Rattle.occ_usage.specs.Effect.{inner as told_inner};
-ghost use Rattle.occ_usage.specs.FunctionRule.{counted as told_counted, faults as told_faults, function_faults as told_function, has_function as tells_some, is_function as tells_function, line_faults as told_line, one_line_faults as told_one_line, results_faults as told_results, whole_faults as told_whole, within_under as told_within, write_fault as told_write, write_faults as told_writes};
+ghost use Rattle.occ_usage.specs.FunctionRule.{counted as told_counted, faults as told_faults, function_faults as told_function, has_function as tells_some, is_function as tells_function, line_faults as told_line, one_line_faults as told_one_line, side_effect_faults as told_results, whole_faults as told_whole, within_under as told_within, write_fault as told_write, write_faults as told_writes};
 ghost use Rattle.occ_usage.specs.Lines.{behind_line};
 ghost use Rattle.occ_usage.specs.Trees.{head_of, trees_of, under as lines_under};
 
@@ -12,9 +14,11 @@ use super::walk::{Told, go_over, known_replicator};
 use occ_base::{Code, Diag, Items, Shared};
 use occ_bounds::{Bound, Use};
 use occ_clashes::root_name;
-use occ_line_uses::{Scope, each_effect, each_uses, enter_all, form_effect, form_uses, is_write};
-use occ_names::Entry;
-use occ_project::Place as Line;
+use occ_line_uses::{
+    UsageScope, each_effect, each_uses, enter_all, form_effect, form_uses, is_write,
+};
+use occ_names::ScopeEntry;
+use occ_project::Location;
 use occ_typed::TypedExpr;
 use occ_typing::{Typed, TypedForm, TypedLine};
 use std::alloc::{AllocError, Global};
@@ -61,7 +65,11 @@ fn write_faults(
 }
 
 /// What is told of a line that perhaps has an effect.
-fn effect_fault(has_effect: bool, line: &Line, faults: &mut Items<Diag>) -> Result<(), AllocError>
+fn effect_fault(
+    has_effect: bool,
+    line: &Location,
+    faults: &mut Items<Diag>,
+) -> Result<(), AllocError>
     ensures { OnOk result (faults.new ≡ faults.old ++ error_if has_effect line.now.file line.now.line F1) }
 {
     if has_effect {
@@ -94,12 +102,12 @@ fn line_faults(
 }
 
 /// What is told of the results of a FUNCTION of one line.
-fn results_faults(
+fn side_effect_faults(
     alloc: Global,
-    formals: &[Entry],
+    formals: &[ScopeEntry],
     results: &[Shared<TypedExpr>],
-    line: &Line,
-    env: &mut Scope,
+    line: &Location,
+    env: &mut UsageScope,
     faults: &mut Items<Diag>,
 ) -> Result<(), AllocError>
     ensures faults { OnOk result (faults.new ≡ faults.old ++ told_results formals.now results.now env.old line.now) }
@@ -119,14 +127,14 @@ fn results_faults(
 fn one_line_faults(
     alloc: Global,
     line: &TypedLine,
-    env: &mut Scope,
+    env: &mut UsageScope,
     faults: &mut Items<Diag>,
 ) -> Result<(), AllocError>
     ensures faults { OnOk result (faults.new ≡ faults.old ++ told_one_line (head_of line.now).form env.old (head_of line.now).place) }
     ensures env { OnOk result (env.new ≡ env.old) }
 {
     match line.form.get() {
-        TypedForm::OneLineFunction(formals, results) => results_faults(
+        TypedForm::OneLineFunction(formals, results) => side_effect_faults(
             alloc,
             formals.as_slice(),
             results.as_slice(),
@@ -168,7 +176,7 @@ pub(crate) fn go_behind(
     alloc: Global,
     line: &TypedLine,
     depth: usize,
-    env: &mut Scope,
+    env: &mut UsageScope,
 ) -> Result<(), AllocError>
     ensures { OnOk result (depth ≤ length env.old → env.new ≡ behind_line (take depth env.old) env.old (head_of line.now) (lines_under line.now)) }
 {
@@ -186,7 +194,7 @@ fn under_faults(
     alloc: Global,
     line: &TypedLine,
     within: Within,
-    env: &mut Scope,
+    env: &mut UsageScope,
     faults: &mut Items<Diag>,
 ) -> Result<(), AllocError>
     ensures faults { OnOk result (faults.new ≡ faults.old ++ told_faults within (lines_under line.now) (told_inner env.old (head_of line.now)) (told_inner env.old (head_of line.now))) }
@@ -206,7 +214,7 @@ fn line(
     line: &TypedLine,
     depth: usize,
     within: Within,
-    env: &mut Scope,
+    env: &mut UsageScope,
     faults: &mut Items<Diag>,
 ) -> Result<(), AllocError>
     ensures faults { OnOk result (faults.new ≡ faults.old ++ told_whole within (head_of line.now) (lines_under line.now) env.old) }
@@ -224,7 +232,7 @@ fn lines(
     alloc: Global,
     lines: &[TypedLine],
     within: Within,
-    env: &mut Scope,
+    env: &mut UsageScope,
     faults: &mut Items<Diag>,
 ) -> Result<(), AllocError>
     ensures faults { OnOk result (faults.new ≡ faults.old ++ told_faults within (trees_of lines.now) env.old env.old) }
@@ -241,11 +249,10 @@ fn lines(
 fn is_function(form: &TypedForm) -> bool
     ensures { result ≡ tells_function form.now }
 {
-    match form {
-        TypedForm::FunctionHead => true,
-        TypedForm::OneLineFunction(_, _) => true,
-        _ => false,
-    }
+    matches!(
+        form,
+        TypedForm::FunctionHead | TypedForm::OneLineFunction(_, _)
+    )
 }
 
 /// Whether a FUNCTION is specified at one of the lines, or under it.
@@ -265,7 +272,7 @@ fn has_function(lines: &[TypedLine]) -> bool
 pub fn function_faults(alloc: Global, typed: &Typed) -> Result<Items<Diag>, AllocError>
     ensures { IfOk result (λ faults. faults ≡ told_function typed.now.lines) }
 {
-    let mut env = Scope::new(alloc);
+    let mut env = UsageScope::new(alloc);
     let mut faults = Items::new(alloc);
     if !has_function(typed.lines.as_slice()) {
         return Ok(faults);

@@ -5,13 +5,11 @@
 
 mod effect;
 mod function;
-mod laws;
 mod multiple;
 mod process;
 mod walk;
 
 pub use function::function_faults;
-pub use laws::{place_law, scope_law};
 pub use occ_typing::{Import, TypeFault, Typed, type_unit};
-pub use process::{Summary, uses_of};
+pub use process::{ProcessId, Summary, uses_of};
 pub use walk::{UnitUses, alias_faults, par_faults, unit_uses};

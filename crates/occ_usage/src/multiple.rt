@@ -1,3 +1,4 @@
+//! Assignments of several targets, each target as a component with what its subscripts read.
 ghost use Rattle.std.specs.Prelude.{◌≡◌, ◌++◌, IfOk, OnOk};
 ghost use Rattle.occ_line_uses.specs.Forms.{used as told_used};
 ghost use Rattle.occ_types.specs.declared.interface.UseKind.TheVariants as kinds;
@@ -7,7 +8,7 @@ use occ_base::{Diag, Items};
 use occ_bounds::{Bound, Use};
 use occ_clashes::target_faults;
 use occ_line_uses::used;
-use occ_project::Place as Line;
+use occ_project::Location;
 use occ_typed::TypedElement;
 use occ_types::UseKind;
 use std::alloc::{AllocError, Global};
@@ -17,7 +18,7 @@ fn target(
     alloc: Global,
     element: &TypedElement,
     env: &[Bound],
-    line: &Line,
+    line: &Location,
 ) -> Result<Items<Use>, AllocError>
     ensures { IfOk result (λ own. own ≡ told_used kinds.Write element.now env.now line.now) }
 {
@@ -31,7 +32,7 @@ fn targets(
     alloc: Global,
     elements: &[TypedElement],
     env: &[Bound],
-    line: &Line,
+    line: &Location,
 ) -> Result<Vec<Items<Use>>, AllocError>
     ensures { IfOk result (λ found. found.items ≡ told_targets elements.now env.now line.now) }
 {
@@ -47,7 +48,7 @@ pub(crate) fn assignment_faults(
     alloc: Global,
     elements: &[TypedElement],
     env: &[Bound],
-    line: &Line,
+    line: &Location,
     faults: &mut Items<Diag>,
 ) -> Result<(), AllocError>
     ensures { OnOk result (faults.new ≡ faults.old ++ told_assignment elements.now env.now line.now) }

@@ -1,18 +1,22 @@
+//! What one process uses of what is around it. Processes count from 0 in the order of the lines.
 #![tactic(auto, using(crate::proofs::Trees::first_tree))]
 
 ghost use Rattle.std.specs.Prelude.{◌≡◌, ◌≤◌, ◌++◌, ◌∷◌, [], IfOk, OnOk, length, take};
 ghost use Rattle.occ_usage.specs.Effect.{inner as told_inner};
 ghost use Rattle.occ_usage.specs.Lines.{behind_line, items_of, line_uses as told_line_uses};
-ghost use Rattle.occ_usage.specs.Processes.{from_round, is_number as tells_number, own_uses as told_own, process_uses as told_uses, uses_in, whole_uses as told_whole};
+ghost use Rattle.occ_usage.specs.Processes.{all_passed, from_round, is_asked, own_uses as told_own, passed, process_uses as told_uses, uses_in, whole_uses as told_whole};
 ghost use Rattle.occ_usage.specs.Trees.{head_of, trees_of, under as lines_under};
 
 use super::function::go_behind;
 use super::walk::{Told, line as judged_line};
 use occ_base::Items;
 use occ_bounds::Use;
-use occ_line_uses::{Scope, enter_all};
-use occ_typing::{ProcessId, Typed, TypedLine};
+use occ_line_uses::{UsageScope, enter_all};
+use occ_typing::{Typed, TypedLine};
 use std::alloc::{AllocError, Global};
+
+/// The number of a process of a unit: how many stand before it in the listing.
+pub type ProcessId = usize;
 
 /// What a process uses of what stands round it.
 #[derive(Drop)]
@@ -22,7 +26,11 @@ pub struct Summary {
 }
 
 /// What a line uses with those under it.
-fn line_uses(alloc: Global, line: &TypedLine, env: &mut Scope) -> Result<Items<Use>, AllocError>
+fn line_uses(
+    alloc: Global,
+    line: &TypedLine,
+    env: &mut UsageScope,
+) -> Result<Items<Use>, AllocError>
     ensures uses { IfOk result (λ uses. uses ≡ told_line_uses env.old (head_of line.now) (items_of (lines_under line.now))) }
     ensures env { OnOk result (env.new ≡ env.old) }
 {
@@ -65,86 +73,101 @@ fn add_from_round(
     Ok(())
 }
 
-/// Whether a number is that of a process, if there is one.
-fn is_number(number: ProcessId, process: Option<ProcessId>) -> bool
-    ensures { result ≡ tells_number number process }
+/// Whether a line is the process that is asked for, where so many processes are still to be passed.
+fn pass(is_process: bool, left: &mut Option<usize>) -> bool
+    ensures asked { result ≡ is_asked is_process left.old }
+    ensures left { left.new ≡ passed is_process left.old }
 {
-    match process {
-        Some(other) => other == number,
+    if !is_process {
+        return false;
+    }
+    match *left {
         None => false,
+        Some(0) => {
+            *left = None;
+            true
+        }
+        Some(more) => {
+            *left = Some(more - 1);
+            false
+        }
     }
 }
 
-/// Adds the uses of a line, if it is the process with this number.
+/// Adds the uses of a line, if it is the process that is asked for.
 fn add_own_uses(
     alloc: Global,
     line: &TypedLine,
-    process: ProcessId,
-    env: &mut Scope,
+    left: &mut Option<usize>,
+    env: &mut UsageScope,
     found: &mut Items<Use>,
 ) -> Result<(), AllocError>
-    ensures found { OnOk result (found.new ≡ found.old ++ told_own process (head_of line.now) (lines_under line.now) env.old) }
+    ensures found { OnOk result (found.new ≡ found.old ++ told_own left.old (head_of line.now) (lines_under line.now) env.old) }
+    ensures left { OnOk result (left.new ≡ passed (head_of line.now).is_process left.old) }
     ensures env { OnOk result (env.new ≡ env.old) }
 {
-    if !is_number(process, line.process) {
+    if !pass(line.is_process, left) {
         return Ok(());
     }
     let uses = line_uses(alloc, line, env)?;
     add_from_round(alloc, env.len(), uses.as_slice(), found)
 }
 
-/// Adds the uses of the process with this number, if it stands under a line.
+/// Adds the uses of the process that is asked for, if it stands under a line.
 #[cycle(process)]
 fn add_under(
     alloc: Global,
     line: &TypedLine,
-    process: ProcessId,
-    env: &mut Scope,
+    left: &mut Option<usize>,
+    env: &mut UsageScope,
     found: &mut Items<Use>,
 ) -> Result<(), AllocError>
-    ensures found { OnOk result (found.new ≡ found.old ++ told_uses process (lines_under line.now) (told_inner env.old (head_of line.now)) (told_inner env.old (head_of line.now))) }
+    ensures found { OnOk result (found.new ≡ found.old ++ told_uses left.old (lines_under line.now) (told_inner env.old (head_of line.now)) (told_inner env.old (head_of line.now))) }
+    ensures left { OnOk result (left.new ≡ all_passed (lines_under line.now) left.old) }
     ensures env { OnOk result (env.new ≡ env.old) }
 {
     let depth = env.len();
     enter_all(alloc, line.enters.as_slice(), env)?;
-    lines(alloc, line.under.as_slice(), process, env, found)?;
+    lines(alloc, line.under.as_slice(), left, env, found)?;
     env.cut(depth);
     Ok(())
 }
 
-/// Adds the uses of the process with this number, if it is a line or stands under it, and goes behind the line.
+/// Adds the uses of the process that is asked for, if it is a line or stands under it, and goes behind the line.
 #[cycle(process)]
 fn line(
     alloc: Global,
     line: &TypedLine,
     depth: usize,
-    process: ProcessId,
-    env: &mut Scope,
+    left: &mut Option<usize>,
+    env: &mut UsageScope,
     found: &mut Items<Use>,
 ) -> Result<(), AllocError>
-    ensures found { OnOk result (found.new ≡ found.old ++ told_whole process (head_of line.now) (lines_under line.now) env.old) }
+    ensures found { OnOk result (found.new ≡ found.old ++ told_whole left.old (head_of line.now) (lines_under line.now) env.old) }
+    ensures left { OnOk result (left.new ≡ all_passed (lines_under line.now) (passed (head_of line.now).is_process left.old)) }
     ensures env { OnOk result (depth ≤ length env.old → env.new ≡ behind_line (take depth env.old) env.old (head_of line.now) (lines_under line.now)) }
 {
-    add_own_uses(alloc, line, process, env, found)?;
-    add_under(alloc, line, process, env, found)?;
+    add_own_uses(alloc, line, left, env, found)?;
+    add_under(alloc, line, left, env, found)?;
     go_behind(alloc, line, depth, env)
 }
 
-/// Adds the uses of the process with this number, if it stands in lines.
+/// Adds the uses of the process that is asked for, if it stands in lines.
 #[cycle(process)]
 fn lines(
     alloc: Global,
     lines: &[TypedLine],
-    process: ProcessId,
-    env: &mut Scope,
+    left: &mut Option<usize>,
+    env: &mut UsageScope,
     found: &mut Items<Use>,
 ) -> Result<(), AllocError>
-    ensures found { OnOk result (found.new ≡ found.old ++ told_uses process (trees_of lines.now) env.old env.old) }
+    ensures found { OnOk result (found.new ≡ found.old ++ told_uses left.old (trees_of lines.now) env.old env.old) }
+    ensures left { OnOk result (left.new ≡ all_passed (trees_of lines.now) left.old) }
     ensures env { OnOk result (env.new ≡ env.old) }
 {
     let depth = env.len();
     for one in lines {
-        line(alloc, one, depth, process, env, found)?;
+        line(alloc, one, depth, left, env, found)?;
     }
     env.cut(depth);
     Ok(())
@@ -154,8 +177,15 @@ fn lines(
 pub fn uses_of(alloc: Global, typed: &Typed, process: ProcessId) -> Result<Summary, AllocError>
     ensures { IfOk result (λ summary. summary.uses ≡ uses_in typed.now.lines process) }
 {
-    let mut env = Scope::new(alloc);
+    let mut left = Some(process);
+    let mut env = UsageScope::new(alloc);
     let mut uses = Items::new(alloc);
-    lines(alloc, typed.lines.as_slice(), process, &mut env, &mut uses)?;
+    lines(
+        alloc,
+        typed.lines.as_slice(),
+        &mut left,
+        &mut env,
+        &mut uses,
+    )?;
     Ok(Summary { uses })
 }

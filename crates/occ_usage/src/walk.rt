@@ -1,3 +1,5 @@
+//! The walk over the typed lines. It yields the uses of each item, in each round of known replicators, and the faults of
+//! the parallel and the abbreviation rule. The uses of a line are made once. `docs/LANGUAGE.md, The parallel rule`.
 #![tactic(auto, using(crate::proofs::Trees::first_tree))]
 
 ghost use Rattle.std.specs.Prelude.{◌≡◌, ◌≤◌, ◌++◌, ◌∷◌, [], if◌then◌else◌, true, IfOk, None, OnOk, Some, length, take};
@@ -19,9 +21,10 @@ use occ_base::{Diag, Items};
 use occ_bounds::{Bound, Use};
 use occ_clashes::{append, append_joined, component_faults, distinct, outside_uses, parted_faults};
 use occ_line_uses::{
-    Scope, body_bound, enter_all, enter_index, enter_line, form_uses, index_value, number_behind,
+    UsageScope, body_bound, enter_all, enter_index, enter_line, form_uses, index_value,
+    number_behind,
 };
-use occ_names::Entry;
+use occ_names::ScopeEntry;
 use occ_replicators::KnownReplicator;
 use occ_typing::{BlockKind, Typed, TypedForm, TypedLine};
 use std::alloc::{AllocError, Global};
@@ -60,20 +63,14 @@ pub(crate) fn known_replicator(form: &TypedForm) -> Option<KnownReplicator>
 fn is_replicated(form: &TypedForm) -> bool
     ensures { result ≡ tells_replicated form.now }
 {
-    match form {
-        TypedForm::Block(_, Some(_)) => true,
-        _ => false,
-    }
+    matches!(form, TypedForm::Block(_, Some(_)))
 }
 
 /// Whether the components of a line are compared.
 fn is_parallel(form: &TypedForm) -> bool
     ensures { result ≡ tells_compared form.now }
 {
-    match form {
-        TypedForm::Block(BlockKind::Parallel, _) => true,
-        _ => false,
-    }
+    matches!(form, TypedForm::Block(BlockKind::Parallel, _))
 }
 
 /// Adds the uses of the lines under a line in one round of its replicator, and what is told of them.
@@ -83,7 +80,7 @@ fn add_round(
     base: i32,
     index: u32,
     lines: &[TypedLine],
-    env: &mut Scope,
+    env: &mut UsageScope,
     uses: &mut Items<Use>,
     told: &mut Told,
 ) -> Result<(), AllocError>
@@ -112,7 +109,7 @@ fn rounds(
     alloc: Global,
     known: KnownReplicator,
     lines: &[TypedLine],
-    env: &mut Scope,
+    env: &mut UsageScope,
     told: &mut Told,
 ) -> Result<EachRound, AllocError>
     ensures found { IfOk result (λ found. parted found.sizes.items found.uses ≡ rounds_to known.count known.base env.old (items_of (trees_of lines.now))) }
@@ -137,7 +134,7 @@ fn add_rounds(
     alloc: Global,
     known: KnownReplicator,
     lines: &[TypedLine],
-    env: &mut Scope,
+    env: &mut UsageScope,
     uses: &mut Items<Use>,
     told: &mut Told,
 ) -> Result<(), AllocError>
@@ -157,7 +154,7 @@ fn add_rounds(
 fn inner(
     alloc: Global,
     line: &TypedLine,
-    env: &mut Scope,
+    env: &mut UsageScope,
     told: &mut Told,
 ) -> Result<Vec<Items<Use>>, AllocError>
     ensures found { IfOk result (λ found. found.items ≡ items_of (lines_under line.now) (told_inner env.old (head_of line.now))) }
@@ -177,7 +174,7 @@ fn inner(
 fn add_inner(
     alloc: Global,
     line: &TypedLine,
-    env: &mut Scope,
+    env: &mut UsageScope,
     uses: &mut Items<Use>,
     told: &mut Told,
 ) -> Result<(), AllocError>
@@ -198,7 +195,7 @@ fn add_inner(
 fn add_components(
     alloc: Global,
     line: &TypedLine,
-    env: &mut Scope,
+    env: &mut UsageScope,
     uses: &mut Items<Use>,
     told: &mut Told,
 ) -> Result<(), AllocError>
@@ -257,7 +254,7 @@ fn add_compared_rounds(
     alloc: Global,
     known: KnownReplicator,
     line: &TypedLine,
-    env: &mut Scope,
+    env: &mut UsageScope,
     uses: &mut Items<Use>,
     told: &mut Told,
 ) -> Result<(), AllocError>
@@ -285,7 +282,7 @@ fn add_compared_rounds(
 fn add_compared_items(
     alloc: Global,
     line: &TypedLine,
-    env: &mut Scope,
+    env: &mut UsageScope,
     uses: &mut Items<Use>,
     told: &mut Told,
 ) -> Result<(), AllocError>
@@ -311,7 +308,7 @@ fn add_compared_items(
 fn add_compared(
     alloc: Global,
     line: &TypedLine,
-    env: &mut Scope,
+    env: &mut UsageScope,
     uses: &mut Items<Use>,
     told: &mut Told,
 ) -> Result<(), AllocError>
@@ -332,7 +329,7 @@ fn add_compared(
 fn add_judged(
     alloc: Global,
     line: &TypedLine,
-    env: &mut Scope,
+    env: &mut UsageScope,
     uses: &mut Items<Use>,
     told: &mut Told,
 ) -> Result<(), AllocError>
@@ -353,7 +350,7 @@ fn body_over(
     alloc: Global,
     line: &TypedLine,
     uses: Items<Use>,
-    env: &mut Scope,
+    env: &mut UsageScope,
 ) -> Result<Bound, AllocError>
     ensures bound { IfOk result (λ bound. bound ≡ told_body env.old (head_of line.now) uses (told_effect (lines_under line.now) env.old (head_of line.now))) }
     ensures env { OnOk result (env.new ≡ env.old) }
@@ -369,9 +366,9 @@ fn body_over(
 fn enter_behind(
     alloc: Global,
     line: &TypedLine,
-    entries: &[Entry],
+    entries: &[ScopeEntry],
     uses: Items<Use>,
-    env: &mut Scope,
+    env: &mut UsageScope,
 ) -> Result<(), AllocError>
     ensures { OnOk result (env.new ≡ env.old ++ told_entered env.old (head_of line.now) uses (told_effect (lines_under line.now) env.old (head_of line.now)) entries.now) }
 {
@@ -387,7 +384,7 @@ fn go_behind(
     alloc: Global,
     line: &TypedLine,
     uses: Items<Use>,
-    env: &mut Scope,
+    env: &mut UsageScope,
 ) -> Result<(), AllocError>
     ensures { OnOk result (env.new ≡ env.old ++ told_added env.old (head_of line.now) uses (told_effect (lines_under line.now) env.old (head_of line.now)) (head_of line.now).adds) }
 {
@@ -403,7 +400,7 @@ fn go_behind(
 fn under_uses(
     alloc: Global,
     line: &TypedLine,
-    env: &mut Scope,
+    env: &mut UsageScope,
     uses: &mut Items<Use>,
     told: &mut Told,
 ) -> Result<Items<Use>, AllocError>
@@ -432,7 +429,7 @@ fn under_uses(
 fn own_uses(
     alloc: Global,
     line: &TypedLine,
-    env: &mut Scope,
+    env: &mut UsageScope,
     uses: &mut Items<Use>,
     faults: &mut Items<Diag>,
 ) -> Result<(), AllocError>
@@ -453,7 +450,7 @@ fn own_uses(
 pub(crate) fn line(
     alloc: Global,
     line: &TypedLine,
-    env: &mut Scope,
+    env: &mut UsageScope,
     uses: &mut Items<Use>,
     told: &mut Told,
 ) -> Result<(), AllocError>
@@ -470,7 +467,7 @@ pub(crate) fn line(
 }
 
 /// Ends an item behind its main line in what stands in scope: so many specifications stand round it.
-fn end_scope(line: &TypedLine, depth: usize, env: &mut Scope)
+fn end_scope(line: &TypedLine, depth: usize, env: &mut UsageScope)
     ensures { env.new ≡ (if ends_item (head_of line.now).adds then take depth env.old else env.old) }
 {
     if line.adds.is_none() {
@@ -483,7 +480,7 @@ fn end_item(
     alloc: Global,
     line: &TypedLine,
     depth: usize,
-    env: &mut Scope,
+    env: &mut UsageScope,
     own: &mut Items<Use>,
     found: &mut Vec<Items<Use>>,
 ) -> Result<(), AllocError>
@@ -504,7 +501,7 @@ fn end_item(
 fn items(
     alloc: Global,
     lines: &[TypedLine],
-    env: &mut Scope,
+    env: &mut UsageScope,
     told: &mut Told,
 ) -> Result<Vec<Items<Use>>, AllocError>
     ensures found { IfOk result (λ found. found.items ≡ items_of (trees_of lines.now) env.old) }
@@ -529,7 +526,7 @@ fn items(
 fn add_items(
     alloc: Global,
     lines: &[TypedLine],
-    env: &mut Scope,
+    env: &mut UsageScope,
     uses: &mut Items<Use>,
     told: &mut Told,
 ) -> Result<(), AllocError>
@@ -551,7 +548,7 @@ fn add_items(
 fn go_through(
     alloc: Global,
     lines: &[TypedLine],
-    env: &mut Scope,
+    env: &mut UsageScope,
     told: &mut Told,
 ) -> Result<(), AllocError>
     ensures env { OnOk result (env.new ≡ behind_lines (trees_of lines.now) env.old env.old) }
@@ -571,7 +568,7 @@ pub(crate) fn go_over(
     alloc: Global,
     one: &TypedLine,
     depth: usize,
-    env: &mut Scope,
+    env: &mut UsageScope,
     told: &mut Told,
 ) -> Result<(), AllocError>
     ensures env { OnOk result (depth ≤ length env.old → env.new ≡ behind_line (take depth env.old) env.old (head_of one.now) (lines_under one.now)) }
@@ -602,7 +599,7 @@ pub fn unit_uses(alloc: Global, typed: &Typed) -> Result<UnitUses, AllocError>
     ensures abbreviations { IfOk result (λ found. found.abbreviations ≡ abbreviation_faults typed.now.lines) }
     ensures bounds { IfOk result (λ found. found.bounds ≡ behind_unit typed.now.lines) }
 {
-    let mut env = Scope::new(alloc);
+    let mut env = UsageScope::new(alloc);
     let mut told = Told::nothing(alloc);
     go_through(alloc, typed.lines.as_slice(), &mut env, &mut told)?;
     let Told {

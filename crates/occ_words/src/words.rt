@@ -1,3 +1,5 @@
+//! The words of the command line, read by `clap`: one script step by step, or sessions with workers. `docs/MACHINE.md,
+//! Command line`.
 ghost use Rattle.std.specs.Prelude.{◌≡◌, ◌≤◌, IfOk, map, true};
 ghost use Rattle.std.specs.String.{string_bytes};
 ghost use Rattle.occ_words.specs.Modes.{IsAllowed, IsFew, inputs};

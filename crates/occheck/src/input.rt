@@ -1,3 +1,4 @@
+//! Where a script is read from: standard input or a file.
 use std::fs::File;
 use std::io::{self, Read, Stdin};
 

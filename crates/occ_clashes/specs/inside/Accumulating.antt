@@ -6,7 +6,7 @@ use Rattle.occ_bounds.specs.declared.bound.Bound.{Bound}
 use Rattle.occ_bounds.specs.declared.uses.Use.{Use}
 use Rattle.occ_parts.specs.Keeping.{meets_some}
 use Rattle.occ_parts.specs.Parts.{are_apart}
-use Rattle.occ_project.specs.declared.expanded.Place.{Place as Line}
+use Rattle.occ_project.specs.declared.expanded.Location.{Location}
 use Rattle.occ_types.specs.declared.interface.PartSelector.{PartSelector}
 use Rattle.occ_types.specs.declared.interface.UseKind.{UseKind}
 use Rattle.occ_types.specs.declared.interface.UseKind.TheVariants as kind
@@ -85,10 +85,10 @@ pub record Adds (k : UseKind) (p : List PartSelector) (before after : RootUses) 
 
 -- ---- what is told
 
-abbrev pub broken_faults : Line → List Bound → ℕ → Option RootUses → List Diag
+abbrev pub broken_faults : Location → List Bound → ℕ → Option RootUses → List Diag
 broken_faults line env root None = []
 broken_faults line env root (Some r) =
     fault_if r.breaks_written rule.Written line env root ++ fault_if r.breaks_input rule.Input line env root ++ fault_if r.breaks_output rule.Output line env root
 
-abbrev pub faults_in : Line → List Bound → List RootUses → ℕ → List Diag
+abbrev pub faults_in : Location → List Bound → List RootUses → ℕ → List Diag
 faults_in line env table root = broken_faults line env root (slice_get table root)

@@ -5,7 +5,7 @@ use Rattle.occ_bounds.specs.declared.bound.Bound.{Bound}
 use Rattle.occ_bounds.specs.declared.uses.Use.{Use}
 use Rattle.occ_clashes.specs.Kinds.{is_write}
 use Rattle.occ_line_uses.specs.Concern.{concerns_some, has_read, names_root}
-use Rattle.occ_line_uses.specs.declared.scope.Scope.TheInside.{Inside}
+use Rattle.occ_line_uses.specs.declared.scope.UsageScope.TheInside.{Inside}
 
 abbrev pub Lists : Type 0
 Lists = List (List ℕ)

@@ -7,16 +7,16 @@ use Rattle.occ_board.specs.declared.entry.EditFault.{EditFault}
 use Rattle.occ_board.specs.Rules.{Input}
 use Rattle.occ_forms.specs.Prepared.{Prepared}
 use Rattle.occ_script.specs.Machine.{board_word}
-use Rattle.occ_script.specs.declared.edit.Given.{Given}
-use Rattle.occ_script.specs.declared.edit.Given.TheVariants as given
+use Rattle.occ_script.specs.declared.edit.RequestedEdit.{RequestedEdit}
+use Rattle.occ_script.specs.declared.edit.RequestedEdit.TheVariants as given
 
 -- the word that refuses what a command gives
-abbrev pub refused_by : Given → Option (List ℕ)
+abbrev pub refused_by : RequestedEdit → Option (List ℕ)
 refused_by (given.File file source) = None
 refused_by (given.Refused word) = Some word.now
 
 -- what it gives, if it is not refused, is this file and this text
-abbrev pub IsFile : Given → List ℕ → Prepared → Type 0
+abbrev pub IsFile : RequestedEdit → List ℕ → Prepared → Type 0
 IsFile (given.File file source) name text = (file ≡ name) × (source ≡ text)
 IsFile (given.Refused word) name text = Unit {0}
 

@@ -1,22 +1,9 @@
 -- What is known of a whole tree at its root, and of the types that drafts have of their own.
-use Rattle.std.proofs.Common.{List, [], ◌∷◌, Option, Some, None, sym, subst, arith}
-use Rattle.occ_expr.specs.Drafts.{by_value, operands_type, own_type, type_layer, type_or}
-use Rattle.occ_operands.specs.Settling.{int}
 use Rattle.occ_typed.specs.Placing.{known_layer, known_of}
-use Rattle.occ_typed.specs.declared.draft.Draft.{Draft, out-Draft, roll-Draft}
-use Rattle.occ_typed.specs.declared.draft.Draft.TheOpen.{Draft-F}
-use Rattle.occ_typed.specs.declared.draft.Draft.TheVariants as dr
-use Rattle.occ_typed.specs.declared.draft.Draft.TheViews.{roll-out-Draft}
 use Rattle.occ_typed.specs.declared.expr.TypedExpr.{TypedExpr, out-TypedExpr}
-use Rattle.occ_typed.proofs.Drafting.{placed_typed}
-use Rattle.occ_types.specs.declared.types.OccType.{OccType}
 use Rattle.occ_typing.specs.Known.{IsKnownType}
-use Rattle.occ_typing.specs.WholeTrees.{AreWholeActuals, AreWholeExprs, ExprForm, IsWholeExpr, IsWholeExprForm, no_actual, no_expr, one_actual, one_expr, whole_element, whole_expr}
+use Rattle.occ_typing.specs.WholeTrees.{ExprForm, IsWholeExpr, IsWholeExprForm, whole_element, whole_expr}
 use Rattle.occ_typing.specs.WholeTrees as wholes
-use Rattle.occ_typing.proofs.whole.Clean.{Has}
-use Rattle.occ_typing.proofs.whole.Made as made
-use Rattle.occ_typing.proofs.whole.Reading.{HasTree, int_known}
-use Rattle.occ_typing.proofs.whole.Trees.{Trees}
 
 -- ---- trees
 
@@ -34,39 +21,3 @@ root_form _ (wholes.call x callee actuals h g i) = h
 pub root_known : (t : TypedExpr) → IsWholeExpr t → IsKnownType (known_of t).of
 unfolding known_of
 root_known _ (whole_expr t h) = root_form (out-TypedExpr t) h
-
-pub actuals_by_value : (ts : List TypedExpr) → AreWholeExprs ts → AreWholeActuals (by_value ts)
-actuals_by_value _ no_expr = no_actual
-actuals_by_value _ (one_expr t ts h g) = one_actual _ (by_value ts) (made.value t h) (actuals_by_value ts g)
-
--- ---- drafts
-
-typed_whole : (t : TypedExpr) → HasTree 0 (dr.Typed t) → IsWholeExpr t
-typed_whole t h = subst (Has IsWholeExpr) (placed_typed t int) (h int (omega arith) int_known)
-
--- a type that is there is known
-abbrev MayBeKnown : Option OccType → Type 0
-MayBeKnown None = Unit {0}
-MayBeKnown (Some of) = IsKnownType of
-
-own_layer : (y : Draft-F Draft) → HasTree 0 (roll-Draft y) → MayBeKnown (type_layer y)
-own_layer Draft-F.Faulty h = tt
-own_layer (Draft-F.Typed t) h = root_known t (typed_whole t (subst (HasTree 0) (dr.rolls-Typed t) h))
-own_layer (Draft-F.Literal f) h = tt
-own_layer (Draft-F.Operation f op ds) h = tt
-own_layer (Draft-F.Applied f op x) h = tt
-own_layer (Draft-F.Shifted f op x count) h = tt
-own_layer (Draft-F.Table ds) h = tt
-
-own_known : (x : Draft) → HasTree 0 x → MayBeKnown (own_type x)
-unfolding own_type
-own_known x h = own_layer (out-Draft x) (subst (HasTree 0) (sym (roll-out-Draft x)) h)
-
-or_known : (own : Option OccType) (of : OccType) → MayBeKnown own → IsKnownType of → IsKnownType (type_or own of)
-or_known None of h g = g
-or_known (Some own) of h g = h
-
--- the type that operands take is known
-pub operands_known : (xs : List Draft) → Trees 0 xs → IsKnownType (operands_type xs)
-operands_known [] h = int_known
-operands_known (x ∷ xs) h = or_known (own_type x) (operands_type xs) (own_known x h.0) (operands_known xs h.1)

@@ -1,18 +1,18 @@
 -- A line whose children are not typed yet.
-use Rattle.std.specs.Prelude.{ℕ, List}
-use Rattle.occ_project.specs.Places.{place_of}
+use Rattle.std.specs.Prelude.{List}
+use Rattle.occ_project.specs.Locations.{location_of}
 use Rattle.occ_project.specs.declared.expanded.ExpandedLine.{ExpandedLine}
 use Rattle.occ_typed_lines.specs.Lines.{Judged}
-use Rattle.occ_typing.specs.TypedLines.{process_number}
+use Rattle.occ_typing.specs.TypedLines.{is_process}
 use Rattle.occ_typed_lines.specs.declared.parent.Parent.{Parent}
 use Rattle.occ_typing.specs.declared.tree.TypedLine.{TypedLine, roll-TypedLine}
 use Rattle.occ_typing.specs.declared.walk.Opened.{Opened}
 
-abbrev pub opened_at : Parent → ℕ → ExpandedLine → Judged → Opened
-opened_at p n l x =
+abbrev pub opened_at : Parent → ExpandedLine → Judged → Opened
+opened_at p l x =
     record {
-      place = place_of l;
-      process = process_number n p l;
+      place = location_of l;
+      is_process = is_process p l.body;
       form = x.line.form;
       enters = x.line.enters;
       next = x.line.next;
@@ -23,7 +23,7 @@ abbrev pub with_children : Opened → List TypedLine → TypedLine
 with_children x under =
     roll-TypedLine record {
       place = x.place;
-      process = x.process;
+      is_process = x.is_process;
       form = x.form;
       enters = x.enters;
       adds = x.adds;

@@ -1,6 +1,6 @@
 use Rattle.std.proofs.Common.{◌≡◌, length}
-use Rattle.occ_base.specs.Order.{diag_order}
-use Rattle.occ_check.specs.Order.{in_order, placed}
+use Rattle.occ_base.specs.Order.{diag_order, placed}
+use Rattle.occ_check.specs.Order.{in_order}
 use Rattle.occ_check.proofs.order.in_order.Given as goal
 
 abbrev pub invariant-loop-diag : goal.invariant-loop-diag

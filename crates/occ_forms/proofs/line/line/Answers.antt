@@ -1,7 +1,7 @@
 use Rattle.std.proofs.Common.{sym, ◌∙◌}
 use Rattle.occ_forms.specs.declared.tree.Action.TheVariants as ac
 use Rattle.occ_forms.specs.declared.tree.Form.TheVariants as fo
-use Rattle.occ_forms.specs.declared.tree.Part.TheVariants as pa
+use Rattle.occ_forms.specs.declared.tree.PartForm.TheVariants as pa
 use Rattle.occ_forms.proofs.Classes.{alone_line, assignment_line, case_line, close_line, else_alone, expressions_line, guard_line, input_line, output_line, packed_record_alone, record_alone, replicable_line, result_line, skip_alone, specified_line, stop_alone, tagged_line, value_of_alone, while_line}
 use Rattle.occ_forms.proofs.line.line.Goals as goal
 

@@ -1,5 +1,5 @@
 use Rattle.std.proofs.Common.{◌≡◌, length, map}
-use Rattle.occ_operands.specs.declared.kind.Outcome.TheVariants as o
+use Rattle.occ_operands.specs.declared.kind.TypedValue.TheVariants as o
 use Rattle.occ_operands.specs.Operators.{outcome_in}
 use Rattle.occ_operands.specs.Outcomes.{run}
 use Rattle.occ_operands.proofs.operate.with_value.Given as goal

@@ -1,5 +1,5 @@
 use Rattle.std.proofs.lemmas.List.{nil_from_length}
-use Rattle.occ_operands.specs.declared.kind.Outcome.TheVariants as o
+use Rattle.occ_operands.specs.declared.kind.TypedValue.TheVariants as o
 use Rattle.occ_operands.specs.declared.kind.Wrong.TheVariants as w
 use Rattle.occ_operands.specs.Operators.{outcome_in}
 use Rattle.occ_operands.proofs.Runs as runs

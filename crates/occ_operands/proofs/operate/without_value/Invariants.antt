@@ -1,6 +1,6 @@
 use Rattle.std.proofs.Common.{◌≡◌, length, map}
 use Rattle.occ_types.specs.declared.value.Value.{Value}
-use Rattle.occ_operands.specs.declared.kind.Outcome.TheVariants as o
+use Rattle.occ_operands.specs.declared.kind.TypedValue.TheVariants as o
 use Rattle.occ_operands.specs.declared.kind.Wrong.TheVariants as w
 use Rattle.occ_operands.specs.Operators.{outcome_in}
 use Rattle.occ_operands.specs.Outcomes.{if_constant, worst}

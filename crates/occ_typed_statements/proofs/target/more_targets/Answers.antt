@@ -6,7 +6,8 @@ use Rattle.occ_operands.specs.Operators.{all_faults, kinds}
 use Rattle.occ_operands.specs.declared.kind.Kind.{Kind}
 use Rattle.occ_typed.specs.declared.expr.TypedElement.{TypedElement}
 use Rattle.occ_typed_statements.specs.StatementTrees.{one_element, target_trees, with_elements}
-use Rattle.occ_typed_statements.specs.Targets.{target_of, targets}
+use Rattle.occ_expr.specs.Targets.{target_of}
+use Rattle.occ_typed_statements.specs.Targets.{targets}
 use Rattle.occ_typed_statements.proofs.Elements.{front_of_front}
 use Rattle.occ_typed_statements.proofs.target.more_targets.Goals as goal
 

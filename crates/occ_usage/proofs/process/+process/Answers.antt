@@ -1,5 +1,5 @@
 use Rattle.occ_usage.proofs.Trees.{from_line}
-use Rattle.occ_usage.proofs.Walking.{behind_stands, step_process}
+use Rattle.occ_usage.proofs.Walking.{behind_stands, step_passed, step_process}
 use Rattle.occ_usage.specs.Trees.{head_of, under}
 use Rattle.occ_usage.proofs.process.+process.Goals as goal
 
@@ -11,5 +11,6 @@ lines-loop-one-preserved t c =
     let stands = behind_stands _ _ _ _ h u c.loop-one.invariant.0 c.loop-one.invariant.1 (c.in_ok-line.ensures.env c.loop-one.invariant.0) in (
       stands.0,
       stands.1,
-      step_process _ h u _ _ _ _ _ _ _ _ split c.loop-one.invariant.2 c.in_ok-line.ensures.found stands.2,
+      step_process _ _ h u _ _ _ _ _ _ _ _ split c.loop-one.invariant.2 c.in_ok-line.ensures.found c.in_ok-line.ensures.left stands.2,
+      step_passed _ _ _ h u _ _ split c.loop-one.invariant.3 c.in_ok-line.ensures.left,
     )

@@ -1,5 +1,0 @@
-use Rattle.occ_board.proofs.Working.{worked}
-use Rattle.occ_board.proofs.laws.work_law.Goals as goal
-
-pub returns : goal.returns
-returns c = λ s es spelled work. worked c.source_law.ensures c.reads_law.ensures.alone c.reads_law.ensures.itself c.done_law.ensures.project c.done_law.ensures.done c.height_law.ensures s es spelled work

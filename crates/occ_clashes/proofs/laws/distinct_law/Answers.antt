@@ -1,5 +1,0 @@
-use Rattle.occ_clashes.proofs.Once.{among_law}
-use Rattle.occ_clashes.proofs.laws.distinct_law.Goals as goal
-
-pub returns-clause-among : goal.returns-clause-among
-returns-clause-among c = among_law

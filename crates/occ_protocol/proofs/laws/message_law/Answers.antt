@@ -1,8 +1,0 @@
-use Rattle.occ_protocol.proofs.Messages.{message_silent, silent_message}
-use Rattle.occ_protocol.proofs.laws.message_law.Goals as goal
-
-pub returns-clause-silent : goal.returns-clause-silent
-returns-clause-silent c = message_silent
-
-pub returns-clause-message : goal.returns-clause-message
-returns-clause-message c = silent_message

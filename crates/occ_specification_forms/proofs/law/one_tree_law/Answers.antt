@@ -1,5 +1,0 @@
-use Rattle.occ_specification_forms.proofs.OneTree.{one_tree}
-use Rattle.occ_specification_forms.proofs.law.one_tree_law.Goals as goal
-
-pub returns : goal.returns
-returns c = one_tree

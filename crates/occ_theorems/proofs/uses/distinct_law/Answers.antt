@@ -1,0 +1,5 @@
+use Rattle.occ_theorems.proofs.Once.{among_law}
+use Rattle.occ_theorems.proofs.uses.distinct_law.Goals as goal
+
+pub returns-clause-among : goal.returns-clause-among
+returns-clause-among c = among_law

@@ -1,0 +1,24 @@
+-- no faults, then what was found is whole
+pub mod Clean
+pub mod Names
+pub mod Types
+pub mod Reading
+pub mod Trees
+pub mod Roots
+pub mod Filled
+pub mod Sound
+pub mod Operating
+pub mod Literals
+pub mod Elements
+pub mod Written
+pub mod Expressions
+pub mod Statements
+pub mod Specifications
+pub mod Heads
+pub mod Protocols
+pub mod Exchanges
+pub mod Rows
+pub mod Bodies
+pub mod Instances
+pub mod Lines
+pub mod Walk

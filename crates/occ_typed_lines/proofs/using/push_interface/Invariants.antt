@@ -1,6 +1,0 @@
-use Rattle.std.proofs.Common.{◌≡◌, ◌++◌, drop}
-use Rattle.occ_typed_lines.specs.Using.{interface_of}
-use Rattle.occ_typed_lines.proofs.using.push_interface.Given as goal
-
-abbrev pub invariant-loop-import : goal.invariant-loop-import
-invariant-loop-import l = l.found ++ interface_of l.unit (drop l.import-index l.imports) ≡ l.initial.found ++ interface_of l.unit l.imports

@@ -1,8 +1,0 @@
-use Rattle.occ_types.proofs.Wraps.{wrapped_near, wrapped_in, one_in_range}
-use Rattle.occ_types.proofs.laws.wrap_law.Goals as goal
-
-pub returns-clause-congruent : goal.returns-clause-congruent
-returns-clause-congruent c = wrapped_near
-
-pub returns-clause-only : goal.returns-clause-only
-returns-clause-only c t m n h near = one_in_range t m _ n h (wrapped_in t n) near (wrapped_near t n)
