@@ -1,4 +1,4 @@
--- Of uses that a specification does not concern nothing is told.
+-- Of uses that a specification does not concern nothing is reported.
 use Rattle.std.specs.Prelude.{◌+◌, ◌==◌, nat_lt, slice_get}
 use Rattle.std.proofs.Common.{arith, ◌≡◌, ◌∙◌, ℕ, zero, suc, Bool, true, false, ◌||◌, ◌&&◌, Option, Some, None, List, [], ◌∷◌, ◌++◌, length, refl, ap, sym, append_assoc, if◌then◌else◌}
 use Rattle.std.specs.List.{list_any}
@@ -7,18 +7,18 @@ use Rattle.occ_alias.specs.inside.Choosing.{chosen_faults, numbered_faults}
 use Rattle.occ_base.specs.declared.code.Code.{Code}
 use Rattle.occ_base.specs.declared.code.Code.TheVariants as code
 use Rattle.occ_base.specs.declared.diag.Diag.{Diag}
-use Rattle.occ_bounds.specs.Bounds.{Env}
-use Rattle.occ_bounds.specs.declared.bound.Bound.{Bound}
-use Rattle.occ_bounds.specs.declared.bound.Bound.TheVariants as b
-use Rattle.occ_bounds.specs.declared.uses.Use.{Use}
-use Rattle.occ_clashes.specs.Kinds.{is_read, is_write}
-use Rattle.occ_clashes.specs.ParallelRule.{root_name}
-use Rattle.occ_line_uses.specs.Concern.{are_of, concerned, concerns_some, is_of}
-use Rattle.occ_parts.specs.Parts.{overlap_of_selectors}
-use Rattle.occ_parts.specs.Selecting.{part_of}
-use Rattle.occ_parts.specs.declared.part.Overlap.TheVariants as o
-use Rattle.occ_parts.specs.declared.part.Part.{Part}
-use Rattle.occ_parts.specs.declared.place.SelectedPart.{SelectedPart}
+use Rattle.occ_usage_values.specs.Bounds.{Env}
+use Rattle.occ_usage_values.specs.declared.bound.Bound.{Bound}
+use Rattle.occ_usage_values.specs.declared.bound.Bound.TheVariants as b
+use Rattle.occ_usage_values.specs.declared.uses.Use.{Use}
+use Rattle.occ_usage_conflicts.specs.Kinds.{is_read, is_write}
+use Rattle.occ_usage_conflicts.specs.ParallelRule.{root_name}
+use Rattle.occ_usage_lines.specs.Concern.{are_of, concerned, concerns_some, is_of}
+use Rattle.occ_usage_parts.specs.Parts.{overlap_of_selectors}
+use Rattle.occ_usage_parts.specs.Selecting.{part_of}
+use Rattle.occ_usage_parts.specs.declared.part.Overlap.TheVariants as o
+use Rattle.occ_usage_parts.specs.declared.part.Part.{Part}
+use Rattle.occ_usage_parts.specs.declared.place.SelectedPart.{SelectedPart}
 use Rattle.occ_project.specs.declared.expanded.Location.{Location}
 
 left_false : (a c : Bool) → (a || c) ≡ false → a ≡ false
@@ -123,15 +123,15 @@ unconcerned n env b.Other us e = refl
 
 -- ---- those in scope
 
--- there is none behind the last
+-- there is none after the last
 pub none_at : (env : Env) (n : ℕ) → nat_lt n (length env) ≡ false → slice_get env n ≡ None
 none_at [] n e = refl
 none_at (x ∷ env) zero e = absurd (grind (arith, e))
 none_at (x ∷ env) (suc n) e = let f : nat_lt n (length env) ≡ false = grind (arith, e) in none_at env n f
 
-at_end : (front behind : Env) (x : Bound) → slice_get (front ++ x ∷ behind) (length front) ≡ Some x
-at_end [] behind x = refl
-at_end (y ∷ front) behind x = at_end front behind x
+at_end : (front following : Env) (x : Bound) → slice_get (front ++ x ∷ following) (length front) ≡ Some x
+at_end [] following x = refl
+at_end (y ∷ front) following x = at_end front following x
 
 one_longer : (front : Env) (x : Bound) → length (front ++ x ∷ []) ≡ length front + 1
 one_longer [] x = refl
@@ -144,16 +144,16 @@ by_concern true n env x us ns rest e at h =
     ap (λ (o : Option Bound). numbered_faults n env o us ++ chosen_faults env us ns) at ∙ ap (λ (ds : List Diag). bound_faults n env x us ++ ds) h
 by_concern false n env x us ns rest e at h = h ∙ sym (ap (λ (ds : List Diag). ds ++ rest) (unconcerned n env x us e))
 
--- of those that concern the uses as much is told as of all
-concerned_tell : (env front behind : Env) (n : ℕ) (us : List Use) → env ≡ front ++ behind → n ≡ length front
-    → chosen_faults env us (concerned n behind us) ≡ scope_faults n env behind us
-concerned_tell env front [] n us e f = refl
-concerned_tell env front (x ∷ behind) n us e f =
-    by_concern (concerns_some x us) n env x us (concerned (n + 1) behind us) (scope_faults (n + 1) env behind us) refl
-    (ap (λ (xs : Env). slice_get xs n) e ∙ ap (λ (k : ℕ). slice_get (front ++ x ∷ behind) k) f ∙ at_end front behind x)
-    (concerned_tell env (front ++ x ∷ []) behind (n + 1) us
-    (e ∙ sym (append_assoc front (x ∷ []) behind))
+-- of those that concern the uses as much is reported as of all
+concerned_report : (env front following : Env) (n : ℕ) (us : List Use) → env ≡ front ++ following → n ≡ length front
+    → chosen_faults env us (concerned n following us) ≡ scope_faults n env following us
+concerned_report env front [] n us e f = refl
+concerned_report env front (x ∷ following) n us e f =
+    by_concern (concerns_some x us) n env x us (concerned (n + 1) following us) (scope_faults (n + 1) env following us) refl
+    (ap (λ (xs : Env). slice_get xs n) e ∙ ap (λ (k : ℕ). slice_get (front ++ x ∷ following) k) f ∙ at_end front following x)
+    (concerned_report env (front ++ x ∷ []) following (n + 1) us
+    (e ∙ sym (append_assoc front (x ∷ []) following))
     (ap (λ (k : ℕ). k + 1) f ∙ sym (one_longer front x)))
 
-pub all_tell : (env : Env) (us : List Use) → chosen_faults env us (concerned 0 env us) ≡ scope_faults 0 env env us
-all_tell env us = concerned_tell env [] env 0 us refl refl
+pub all_report : (env : Env) (us : List Use) → chosen_faults env us (concerned 0 env us) ≡ scope_faults 0 env env us
+all_report env us = concerned_report env [] env 0 us refl refl

@@ -1,4 +1,4 @@
--- What the abbreviation rule tells of a line, by what stands in scope there. The abbreviations in whose scope a line stands are
+-- What the abbreviation rule reports of a line, by what stands in scope there. The abbreviations in whose scope a line stands are
 -- those in scope there: so each use of a line is compared with each of them, and of a body that is specified in their scope each
 -- line is one of these too.
 use Rattle.std.specs.Prelude.{ℕ, ◌+◌, ◌==◌, nat_lt, ◌&&◌, Option, Some, None, List, [], ◌∷◌, ◌++◌, slice_get, if◌then◌else◌}
@@ -8,37 +8,37 @@ use Rattle.occ_base.specs.declared.code.Code.TheVariants as code
 use Rattle.occ_base.specs.declared.code.Grade.{Grade}
 use Rattle.occ_base.specs.declared.code.Grade.TheVariants as grade
 use Rattle.occ_base.specs.declared.diag.Diag.{Diag}
-use Rattle.occ_bounds.specs.Bounds.{Env, body_of}
-use Rattle.occ_bounds.specs.declared.bound.Bound.{Bound}
-use Rattle.occ_bounds.specs.declared.bound.Bound.TheVariants as b
-use Rattle.occ_bounds.specs.declared.call.Call.{Call}
-use Rattle.occ_bounds.specs.declared.uses.Use.{Use}
-use Rattle.occ_clashes.specs.Kinds.{is_read, is_write}
-use Rattle.occ_clashes.specs.ParallelRule.{root_name}
-use Rattle.occ_line_uses.specs.Entering.{entry_bounds}
-use Rattle.occ_line_uses.specs.Forms.{each_uses, form_uses}
-use Rattle.occ_names.specs.declared.meaning.ScopeEntry.{ScopeEntry}
-use Rattle.occ_parts.specs.Parts.{overlap_of}
-use Rattle.occ_parts.specs.Selecting.{part_of}
-use Rattle.occ_parts.specs.declared.part.Overlap.{Overlap}
-use Rattle.occ_parts.specs.declared.part.Overlap.TheVariants as o
-use Rattle.occ_parts.specs.declared.part.Part.{Part}
-use Rattle.occ_parts.specs.declared.place.SelectedPart.{SelectedPart}
+use Rattle.occ_usage_values.specs.Bounds.{Env, body_of}
+use Rattle.occ_usage_values.specs.declared.bound.Bound.{Bound}
+use Rattle.occ_usage_values.specs.declared.bound.Bound.TheVariants as b
+use Rattle.occ_usage_values.specs.declared.call.Call.{Call}
+use Rattle.occ_usage_values.specs.declared.uses.Use.{Use}
+use Rattle.occ_usage_conflicts.specs.Kinds.{is_read, is_write}
+use Rattle.occ_usage_conflicts.specs.ParallelRule.{root_name}
+use Rattle.occ_usage_lines.specs.Entering.{entry_bounds}
+use Rattle.occ_usage_lines.specs.Forms.{each_uses, form_uses}
+use Rattle.occ_scope.specs.declared.meaning.ScopeEntry.{ScopeEntry}
+use Rattle.occ_usage_parts.specs.Parts.{overlap_of}
+use Rattle.occ_usage_parts.specs.Selecting.{part_of}
+use Rattle.occ_usage_parts.specs.declared.part.Overlap.{Overlap}
+use Rattle.occ_usage_parts.specs.declared.part.Overlap.TheVariants as o
+use Rattle.occ_usage_parts.specs.declared.part.Part.{Part}
+use Rattle.occ_usage_parts.specs.declared.place.SelectedPart.{SelectedPart}
 use Rattle.occ_project.specs.declared.expanded.Location.{Location}
-use Rattle.occ_typed.specs.declared.expr.TypedExpr.{TypedExpr}
-use Rattle.occ_typed_lines.specs.declared.tree.TypedForm.{TypedForm}
-use Rattle.occ_typed_lines.specs.declared.tree.TypedForm.TheVariants as form
+use Rattle.occ_typing_rules.specs.declared.expr.TypedExpr.{TypedExpr}
+use Rattle.occ_usage_lines.specs.TypedForm.{TypedForm}
+use Rattle.occ_usage_lines.specs.TypedForm.TheVariants as form
 use Rattle.occ_alias.specs.LineCalls.{each_calls, form_calls}
 
 -- ---- two parts that are not apart: an error where they surely have an element in common, else a check
 
-abbrev pub told_at : Location → Code → Grade → Option (List ℕ) → List Diag
-told_at line c g name = (record { file = line.file; line = line.line; code = c; grade = g; name = name }) ∷ []
+abbrev pub reported_at : Location → Code → Grade → Option (List ℕ) → List Diag
+reported_at line c g name = (record { file = line.file; line = line.line; code = c; grade = g; name = name }) ∷ []
 
 abbrev pub graded : Location → Code → Option (List ℕ) → Overlap → List Diag
 graded line c name o.Apart = []
-graded line c name o.May = told_at line c grade.Check name
-graded line c name o.Must = told_at line c grade.Error name
+graded line c name o.May = reported_at line c grade.Check name
+graded line c name o.Must = reported_at line c grade.Error name
 
 abbrev pub pair_faults : Location → Code → Env → Part → Part → List Diag
 pair_faults line c env p q = graded line c (root_name env p.root) (overlap_of p q)
@@ -89,7 +89,7 @@ abbrev pub place_pair : Location → Env → Part → Option SelectedPart → Li
 place_pair line env p None = []
 place_pair line env p (Some q) = pair_faults line code.A4 env p (part_of q)
 
--- an actual and those behind it
+-- an actual and those after it
 abbrev pub place_pairs : Location → Env → Part → List (Option SelectedPart) → List Diag
 place_pairs line env p [] = []
 place_pairs line env p (q ∷ qs) = place_pair line env p q ++ place_pairs line env p qs
@@ -133,9 +133,9 @@ results_faults formals results env line =
     evaluated_faults line body (each_uses results body line) (each_calls results body line)
 
 -- a line that uses these itself
-abbrev pub told_with : TypedForm → Env → Location → List Use → List Diag
-told_with (form.OneLineFunction formals results) env line us = results_faults formals results env line
-told_with other env line us = evaluated_faults line env us (form_calls other env line)
+abbrev pub reported_with : TypedForm → Env → Location → List Use → List Diag
+reported_with (form.OneLineFunction formals results) env line us = results_faults formals results env line
+reported_with other env line us = evaluated_faults line env us (form_calls other env line)
 
 abbrev pub line_faults : TypedForm → Env → Location → List Diag
-line_faults f env line = told_with f env line (form_uses f env line)
+line_faults f env line = reported_with f env line (form_uses f env line)

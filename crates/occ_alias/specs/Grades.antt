@@ -1,4 +1,4 @@
--- Of an error and a check that are told with one code at one line with one name the error alone.
+-- Of an error and a check that are reported with one code at one line with one name the error alone.
 use Rattle.std.specs.Prelude.{Bool, true, false, List, [], ◌∷◌, ◌++◌, if◌then◌else◌}
 use Rattle.std.specs.BTreeMap.{is_at}
 use Rattle.std.specs.BTreeSet.{insert_key}
@@ -34,20 +34,20 @@ abbrev pub checks_of : List Diag → List Diag
 checks_of [] = []
 checks_of (d ∷ ds) = checks_of ds ++ if_check d
 
--- ---- the checks that are not told as errors too, the last first
+-- ---- the checks that are not reported as errors too, the last first
 
 -- whether it is one of these
 abbrev pub is_among : List Diag → Diag → Bool
 is_among ds d = list_any (is_at (diag_order d)) ds
 
-abbrev pub unless_told : List Diag → Diag → List Diag
-unless_told errors d = if is_among errors (graded_as grade.Error d) then [] else graded_as grade.Check d ∷ []
+abbrev pub unless_reported : List Diag → Diag → List Diag
+unless_reported errors d = if is_among errors (graded_as grade.Error d) then [] else graded_as grade.Check d ∷ []
 
-abbrev pub all_unless_told : List Diag → List Diag → List Diag
-all_unless_told errors [] = []
-all_unless_told errors (d ∷ ds) = all_unless_told errors ds ++ unless_told errors d
+abbrev pub all_unless_reported : List Diag → List Diag → List Diag
+all_unless_reported errors [] = []
+all_unless_reported errors (d ∷ ds) = all_unless_reported errors ds ++ unless_reported errors d
 
 -- ---- both
 
 abbrev pub graver : List Diag → List Diag
-graver ds = all_unless_told (with_errors [] ds) (checks_of ds) ++ with_errors [] ds
+graver ds = all_unless_reported (with_errors [] ds) (checks_of ds) ++ with_errors [] ds

@@ -1,20 +1,20 @@
 -- The calls that are evaluated at a line, without those of the lines under it. Options, sizes and types are constants and call
 -- nothing.
 use Rattle.std.specs.Prelude.{Option, Some, None, List, [], ◌∷◌, ◌++◌}
-use Rattle.occ_bounds.specs.Views.{Calls, actual_views, call_calls, element_view, expr_view}
-use Rattle.occ_replicators.specs.declared.tree.TypedReplicator.{TypedReplicator}
-use Rattle.occ_typed.specs.declared.expr.TypedElement.{TypedElement}
-use Rattle.occ_typed.specs.declared.expr.TypedExpr.{TypedExpr}
-use Rattle.occ_typed_exchanges.specs.declared.tree.TypedInput.{TypedInput}
-use Rattle.occ_typed_exchanges.specs.declared.tree.TypedInput.TheVariants as input
-use Rattle.occ_typed_exchanges.specs.declared.tree.TypedOutput.{TypedOutput}
-use Rattle.occ_typed_exchanges.specs.declared.tree.TypedOutput.TheVariants as output
-use Rattle.occ_typed_exchanges.specs.declared.tree.TypedTarget.{TypedTarget}
-use Rattle.occ_typed_exchanges.specs.declared.tree.TypedTarget.TheVariants as target
-use Rattle.occ_typed_lines.specs.declared.tree.TypedForm.{TypedForm}
-use Rattle.occ_typed_lines.specs.declared.tree.TypedForm.TheVariants as form
-use Rattle.occ_typed_lines.specs.declared.tree.TypedGuard.{TypedGuard}
-use Rattle.occ_typed_lines.specs.declared.tree.TypedGuard.TheVariants as guard
+use Rattle.occ_usage_values.specs.Views.{Calls, actual_views, call_calls, element_view, expr_view}
+use Rattle.occ_typing_statements.specs.declared.replicator_tree.TypedReplicator.{TypedReplicator}
+use Rattle.occ_typing_rules.specs.declared.expr.TypedElement.{TypedElement}
+use Rattle.occ_typing_rules.specs.declared.expr.TypedExpr.{TypedExpr}
+use Rattle.occ_typing_statements.specs.declared.exchange_tree.TypedInput.{TypedInput}
+use Rattle.occ_typing_statements.specs.declared.exchange_tree.TypedInput.TheVariants as input
+use Rattle.occ_typing_statements.specs.declared.exchange_tree.TypedOutput.{TypedOutput}
+use Rattle.occ_typing_statements.specs.declared.exchange_tree.TypedOutput.TheVariants as output
+use Rattle.occ_typing_statements.specs.declared.exchange_tree.TypedTarget.{TypedTarget}
+use Rattle.occ_typing_statements.specs.declared.exchange_tree.TypedTarget.TheVariants as target
+use Rattle.occ_usage_lines.specs.TypedForm.{TypedForm}
+use Rattle.occ_usage_lines.specs.TypedForm.TheVariants as form
+use Rattle.occ_usage_lines.specs.TypedGuard.{TypedGuard}
+use Rattle.occ_usage_lines.specs.TypedGuard.TheVariants as guard
 
 abbrev pub each_calls : List TypedExpr → Calls
 each_calls [] env line = []

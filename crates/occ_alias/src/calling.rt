@@ -1,16 +1,16 @@
 //! A4: the actuals of a call against each other, against what its body uses, and what they read against its writes.
 //! `docs/LANGUAGE.md, The abbreviation rule`.
 ghost use Rattle.std.specs.Prelude.{◌≡◌, ◌++◌, OnOk};
-ghost use Rattle.occ_alias.specs.AbbreviationRule.{actual_faults as told_actual, actuals_faults as told_actuals, call_faults as told_call, calls_faults as told_calls, free_fault as told_free, free_faults as told_frees, place_pair as told_pair, place_pairs as told_pairs};
+ghost use Rattle.occ_alias.specs.AbbreviationRule.{actual_faults as spec_actual_faults, actuals_faults as spec_actuals_faults, call_faults as spec_call_faults, calls_faults as spec_calls_faults, free_fault as spec_free_fault, free_faults as spec_free_faults, place_pair as spec_place_pair, place_pairs as spec_place_pairs};
 
 use super::pairs::{pair_faults, written_faults};
 use occ_base::{Code, Diag, Items};
-use occ_bounds::{Bound, Call, Use, body_at};
-use occ_parts::{Part, SelectedPart};
 use occ_project::Location;
+use occ_usage_parts::{Part, SelectedPart};
+use occ_usage_values::{Bound, Call, Use, body_at};
 use std::alloc::{AllocError, Global};
 
-/// What is told of an actual with this part and another one.
+/// What is reported of an actual with this part and another one.
 fn place_pair(
     alloc: Global,
     line: &Location,
@@ -19,7 +19,7 @@ fn place_pair(
     other: &Option<SelectedPart>,
     faults: &mut Items<Diag>,
 ) -> Result<(), AllocError>
-    ensures { OnOk result (faults.new ≡ faults.old ++ told_pair line.now env.now part.now other.now) }
+    ensures { OnOk result (faults.new ≡ faults.old ++ spec_place_pair line.now env.now part.now other.now) }
 {
     let Some(other) = other else {
         return Ok(());
@@ -28,7 +28,7 @@ fn place_pair(
     pair_faults(alloc, line, Code::A4, env, part, &other, faults)
 }
 
-/// What is told of an actual with this part and those behind it.
+/// What is reported of an actual with this part and those after it.
 fn place_pairs(
     alloc: Global,
     line: &Location,
@@ -37,7 +37,7 @@ fn place_pairs(
     others: &[Option<SelectedPart>],
     faults: &mut Items<Diag>,
 ) -> Result<(), AllocError>
-    ensures { OnOk result (faults.new ≡ faults.old ++ told_pairs line.now env.now part.now others.now) }
+    ensures { OnOk result (faults.new ≡ faults.old ++ spec_place_pairs line.now env.now part.now others.now) }
 {
     for other in others {
         place_pair(alloc, line, env, part, other, faults)?;
@@ -45,7 +45,7 @@ fn place_pairs(
     Ok(())
 }
 
-/// What is told of an actual with this part and a use by the body with this number.
+/// What is reported of an actual with this part and a use by the body with this number.
 fn free_fault(
     alloc: Global,
     line: &Location,
@@ -55,7 +55,7 @@ fn free_fault(
     found: &Use,
     faults: &mut Items<Diag>,
 ) -> Result<(), AllocError>
-    ensures { OnOk result (faults.new ≡ faults.old ++ told_free line.now callee env.now part.now found.now) }
+    ensures { OnOk result (faults.new ≡ faults.old ++ spec_free_fault line.now callee env.now part.now found.now) }
 {
     if found.part.root >= callee {
         return Ok(());
@@ -63,7 +63,7 @@ fn free_fault(
     pair_faults(alloc, line, Code::A4, env, part, &found.part, faults)
 }
 
-/// What is told of an actual with this part and the uses by the body with this number.
+/// What is reported of an actual with this part and the uses by the body with this number.
 fn free_faults(
     alloc: Global,
     line: &Location,
@@ -73,7 +73,7 @@ fn free_faults(
     body: &[Use],
     faults: &mut Items<Diag>,
 ) -> Result<(), AllocError>
-    ensures { OnOk result (faults.new ≡ faults.old ++ told_frees line.now callee env.now part.now body.now) }
+    ensures { OnOk result (faults.new ≡ faults.old ++ spec_free_faults line.now callee env.now part.now body.now) }
 {
     for found in body {
         free_fault(alloc, line, callee, env, part, found, faults)?;
@@ -81,7 +81,7 @@ fn free_faults(
     Ok(())
 }
 
-/// What is told of an actual, with those behind it and the uses by the body with this number.
+/// What is reported of an actual, with those after it and the uses by the body with this number.
 fn actual_faults(
     alloc: Global,
     line: &Location,
@@ -92,7 +92,7 @@ fn actual_faults(
     others: &[Option<SelectedPart>],
     faults: &mut Items<Diag>,
 ) -> Result<(), AllocError>
-    ensures { OnOk result (faults.new ≡ faults.old ++ told_actual line.now callee env.now body.now place.now others.now) }
+    ensures { OnOk result (faults.new ≡ faults.old ++ spec_actual_faults line.now callee env.now body.now place.now others.now) }
 {
     let Some(place) = place else {
         return Ok(());
@@ -102,7 +102,7 @@ fn actual_faults(
     free_faults(alloc, line, callee, env, &part, body, faults)
 }
 
-/// What is told of the actuals of a call of the body with this number.
+/// What is reported of the actuals of a call of the body with this number.
 fn actuals_faults(
     alloc: Global,
     line: &Location,
@@ -112,7 +112,7 @@ fn actuals_faults(
     places: &[Option<SelectedPart>],
     faults: &mut Items<Diag>,
 ) -> Result<(), AllocError>
-    ensures { OnOk result (faults.new ≡ faults.old ++ told_actuals line.now callee env.now body.now places.now) }
+    ensures { OnOk result (faults.new ≡ faults.old ++ spec_actuals_faults line.now callee env.now body.now places.now) }
 {
     for (at, place) in places.iter().enumerate() {
         let others = places.split_at(at + 1).1;
@@ -121,7 +121,7 @@ fn actuals_faults(
     Ok(())
 }
 
-/// What is told of a call at a line.
+/// What is reported of a call at a line.
 fn call_faults(
     alloc: Global,
     line: &Location,
@@ -129,7 +129,7 @@ fn call_faults(
     call: &Call,
     faults: &mut Items<Diag>,
 ) -> Result<(), AllocError>
-    ensures { OnOk result (faults.new ≡ faults.old ++ told_call line.now env.now call.now) }
+    ensures { OnOk result (faults.new ≡ faults.old ++ spec_call_faults line.now env.now call.now) }
 {
     let body = body_at(env, call.callee);
     actuals_faults(
@@ -151,7 +151,7 @@ fn call_faults(
     )
 }
 
-/// What is told of calls at a line.
+/// What is reported of calls at a line.
 pub(crate) fn calls_faults(
     alloc: Global,
     line: &Location,
@@ -159,7 +159,7 @@ pub(crate) fn calls_faults(
     calls: &[Call],
     faults: &mut Items<Diag>,
 ) -> Result<(), AllocError>
-    ensures { OnOk result (faults.new ≡ faults.old ++ told_calls line.now env.now calls.now) }
+    ensures { OnOk result (faults.new ≡ faults.old ++ spec_calls_faults line.now env.now calls.now) }
 {
     for call in calls {
         call_faults(alloc, line, env, call, faults)?;

@@ -1,6 +1,6 @@
 //! Of an error and a check that differ in nothing else the error alone.
 ghost use Rattle.std.specs.Prelude.{◌≡◌, ◌++◌, IfOk, OnOk};
-ghost use Rattle.occ_alias.specs.Grades.{all_unless_told, checks_of, graded_as as told_graded_as, graver as told_graver, if_check, unless_told, with_error, with_errors};
+ghost use Rattle.occ_alias.specs.Grades.{all_unless_reported, checks_of, graded_as as spec_graded_as, graver as spec_graver, if_check, unless_reported, with_error, with_errors};
 
 use occ_base::{Diag, Grade, Items};
 use std::alloc::{AllocError, Global};
@@ -8,7 +8,7 @@ use std::collections::BTreeSet;
 
 /// The same diagnostic, with this grade.
 fn graded_as(grade: Grade, diag: Diag) -> Diag
-    ensures { result ≡ told_graded_as grade diag }
+    ensures { result ≡ spec_graded_as grade diag }
 {
     Diag {
         file: diag.file,
@@ -52,9 +52,9 @@ fn divide_all(
     Ok(())
 }
 
-/// Keeps a check that is not told as an error too.
+/// Keeps a check that is not reported as an error too.
 fn keep(errors: &BTreeSet<Diag>, check: Diag, kept: &mut Items<Diag>) -> Result<(), AllocError>
-    ensures { OnOk result (kept.new ≡ kept.old ++ unless_told errors.now.keys check) }
+    ensures { OnOk result (kept.new ≡ kept.old ++ unless_reported errors.now.keys check) }
 {
     let raised = graded_as(Grade::Error, check);
     if errors.contains(&raised) {
@@ -63,13 +63,13 @@ fn keep(errors: &BTreeSet<Diag>, check: Diag, kept: &mut Items<Diag>) -> Result<
     kept.push(graded_as(Grade::Check, raised))
 }
 
-/// Keeps the checks that are not told as errors too, from the last on.
+/// Keeps the checks that are not reported as errors too, from the last on.
 fn keep_all(
     errors: &BTreeSet<Diag>,
     mut checks: Items<Diag>,
     kept: &mut Items<Diag>,
 ) -> Result<(), AllocError>
-    ensures { OnOk result (kept.new ≡ kept.old ++ all_unless_told errors.now.keys checks) }
+    ensures { OnOk result (kept.new ≡ kept.old ++ all_unless_reported errors.now.keys checks) }
 {
     while let Some(check) = checks.pop() {
         keep(errors, check, kept)?;
@@ -77,9 +77,9 @@ fn keep_all(
     Ok(())
 }
 
-/// Of an error and a check that are told with one code at one line with one name the error alone; the errors each once.
+/// Of an error and a check that are reported with one code at one line with one name the error alone; the errors each once.
 pub fn graver(alloc: Global, found: Items<Diag>) -> Result<Items<Diag>, AllocError>
-    ensures { IfOk result (λ diags. diags ≡ told_graver found) }
+    ensures { IfOk result (λ diags. diags ≡ spec_graver found) }
 {
     let mut errors = BTreeSet::new(alloc);
     let mut checks = Items::new(alloc);

@@ -1,21 +1,20 @@
 //! The abbreviation rule at one line, over its uses and calls.
 ghost use Rattle.std.specs.Prelude.{◌≡◌, ◌++◌, OnOk};
-ghost use Rattle.occ_alias.specs.AbbreviationRule.{evaluated_faults as told_evaluated, results_faults as told_results, told_with};
-ghost use Rattle.occ_alias.specs.LineCalls.{form_calls as told_calls};
+ghost use Rattle.occ_alias.specs.AbbreviationRule.{evaluated_faults as spec_evaluated_faults, results_faults as spec_results_faults, reported_with};
+ghost use Rattle.occ_alias.specs.LineCalls.{form_calls as spec_form_calls};
 
 use super::calling::calls_faults;
 use super::line_calls::{each_calls, form_calls};
 use super::scope::scope_faults;
 use occ_base::{Diag, Items, Shared};
-use occ_bounds::{Call, Use};
-use occ_line_uses::{UsageScope, each_uses, enter_all};
-use occ_names::ScopeEntry;
 use occ_project::Location;
-use occ_typed::TypedExpr;
-use occ_typed_lines::TypedForm;
+use occ_scope::ScopeEntry;
+use occ_typing_rules::TypedExpr;
+use occ_usage_lines::{TypedForm, UsageScope, each_uses, enter_all};
+use occ_usage_values::{Call, Use};
 use std::alloc::{AllocError, Global};
 
-/// What is told of these uses and calls at a line.
+/// What is reported of these uses and calls at a line.
 fn evaluated_faults(
     alloc: Global,
     line: &Location,
@@ -24,13 +23,13 @@ fn evaluated_faults(
     calls: &[Call],
     faults: &mut Items<Diag>,
 ) -> Result<(), AllocError>
-    ensures { OnOk result (faults.new ≡ faults.old ++ told_evaluated line.now env.now uses.now calls.now) }
+    ensures { OnOk result (faults.new ≡ faults.old ++ spec_evaluated_faults line.now env.now uses.now calls.now) }
 {
     scope_faults(alloc, env, uses, faults)?;
     calls_faults(alloc, line, env.as_slice(), calls, faults)
 }
 
-/// What is told of the results of a FUNCTION of one line.
+/// What is reported of the results of a FUNCTION of one line.
 fn results_faults(
     alloc: Global,
     formals: &[ScopeEntry],
@@ -39,7 +38,7 @@ fn results_faults(
     env: &mut UsageScope,
     faults: &mut Items<Diag>,
 ) -> Result<(), AllocError>
-    ensures faults { OnOk result (faults.new ≡ faults.old ++ told_results formals.now results.now env.old line.now) }
+    ensures faults { OnOk result (faults.new ≡ faults.old ++ spec_results_faults formals.now results.now env.old line.now) }
     ensures env { OnOk result (env.new ≡ env.old) }
 {
     let depth = env.len();
@@ -53,7 +52,7 @@ fn results_faults(
     Ok(())
 }
 
-/// What is told of a line that uses these itself, without those under it.
+/// What is reported of a line that uses these itself, without those under it.
 fn form_faults(
     alloc: Global,
     form: &TypedForm,
@@ -62,14 +61,14 @@ fn form_faults(
     env: &UsageScope,
     faults: &mut Items<Diag>,
 ) -> Result<(), AllocError>
-    ensures { OnOk result (faults.new ≡ faults.old ++ told_evaluated line.now env.now uses.now (told_calls form.now env.now line.now)) }
+    ensures { OnOk result (faults.new ≡ faults.old ++ spec_evaluated_faults line.now env.now uses.now (spec_form_calls form.now env.now line.now)) }
 {
     let mut calls = Items::new(alloc);
     form_calls(alloc, form, env.as_slice(), line, &mut calls)?;
     evaluated_faults(alloc, line, env, uses, calls.as_slice(), faults)
 }
 
-/// What the abbreviation rule tells of a line that uses these itself, without those under it, with both grades.
+/// What the abbreviation rule reports of a line that uses these itself, without those under it, with both grades.
 pub fn line_faults(
     alloc: Global,
     form: &TypedForm,
@@ -78,7 +77,7 @@ pub fn line_faults(
     env: &mut UsageScope,
     faults: &mut Items<Diag>,
 ) -> Result<(), AllocError>
-    ensures faults { OnOk result (faults.new ≡ faults.old ++ told_with form.now env.old line.now uses.now) }
+    ensures faults { OnOk result (faults.new ≡ faults.old ++ reported_with form.now env.old line.now uses.now) }
     ensures env { OnOk result (env.new ≡ env.old) }
 {
     match form {

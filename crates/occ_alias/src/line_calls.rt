@@ -1,14 +1,13 @@
 //! The calls that are evaluated at a line, form by form.
 ghost use Rattle.std.specs.Prelude.{◌≡◌, ◌++◌, OnOk};
-ghost use Rattle.occ_alias.specs.LineCalls.{each_calls as told_each, elements_calls as told_elements, form_calls as told_form, guard_calls as told_guard, input_calls as told_input, output_calls as told_output, outputs_calls as told_outputs, replicator_calls as told_replicator, target_calls as told_target, targets_calls as told_targets};
+ghost use Rattle.occ_alias.specs.LineCalls.{each_calls as spec_each_calls, elements_calls as spec_elements_calls, form_calls as spec_form_calls, guard_calls as spec_guard_calls, input_calls as spec_input_calls, output_calls as spec_output_calls, outputs_calls as spec_outputs_calls, replicator_calls as spec_replicator_calls, target_calls as spec_target_calls, targets_calls as spec_targets_calls};
 
 use occ_base::{Items, Shared};
-use occ_bounds::{Bound, Call, element_calls, expression_calls, instance_calls};
 use occ_project::Location;
-use occ_replicators::TypedReplicator;
-use occ_typed::{TypedElement, TypedExpr};
-use occ_typed_exchanges::{TypedInput, TypedOutput, TypedTarget};
-use occ_typed_lines::{TypedForm, TypedGuard};
+use occ_typing_rules::{TypedElement, TypedExpr};
+use occ_typing_statements::{TypedInput, TypedOutput, TypedReplicator, TypedTarget};
+use occ_usage_lines::{TypedForm, TypedGuard};
+use occ_usage_values::{Bound, Call, element_calls, expression_calls, instance_calls};
 use std::alloc::{AllocError, Global};
 
 /// The calls in expressions that are evaluated.
@@ -19,7 +18,7 @@ pub fn each_calls(
     line: &Location,
     calls: &mut Items<Call>,
 ) -> Result<(), AllocError>
-    ensures { OnOk result (calls.new ≡ calls.old ++ told_each exprs.now env.now line.now) }
+    ensures { OnOk result (calls.new ≡ calls.old ++ spec_each_calls exprs.now env.now line.now) }
 {
     for expr in exprs {
         expression_calls(alloc, expr.get(), env, line, calls)?;
@@ -35,7 +34,7 @@ fn elements_calls(
     line: &Location,
     calls: &mut Items<Call>,
 ) -> Result<(), AllocError>
-    ensures { OnOk result (calls.new ≡ calls.old ++ told_elements elements.now env.now line.now) }
+    ensures { OnOk result (calls.new ≡ calls.old ++ spec_elements_calls elements.now env.now line.now) }
 {
     for element in elements {
         element_calls(alloc, element, env, line, calls)?;
@@ -51,7 +50,7 @@ fn target_calls(
     line: &Location,
     calls: &mut Items<Call>,
 ) -> Result<(), AllocError>
-    ensures { OnOk result (calls.new ≡ calls.old ++ told_target target.now env.now line.now) }
+    ensures { OnOk result (calls.new ≡ calls.old ++ spec_target_calls target.now env.now line.now) }
 {
     match target {
         TypedTarget::Single(element) => element_calls(alloc, element, env, line, calls),
@@ -70,7 +69,7 @@ fn targets_calls(
     line: &Location,
     calls: &mut Items<Call>,
 ) -> Result<(), AllocError>
-    ensures { OnOk result (calls.new ≡ calls.old ++ told_targets targets.now env.now line.now) }
+    ensures { OnOk result (calls.new ≡ calls.old ++ spec_targets_calls targets.now env.now line.now) }
 {
     for one in targets {
         target_calls(alloc, one, env, line, calls)?;
@@ -86,7 +85,7 @@ fn output_calls(
     line: &Location,
     calls: &mut Items<Call>,
 ) -> Result<(), AllocError>
-    ensures { OnOk result (calls.new ≡ calls.old ++ told_output output.now env.now line.now) }
+    ensures { OnOk result (calls.new ≡ calls.old ++ spec_output_calls output.now env.now line.now) }
 {
     match output {
         TypedOutput::Value(expr) => expression_calls(alloc, expr.get(), env, line, calls),
@@ -106,7 +105,7 @@ fn outputs_calls(
     line: &Location,
     calls: &mut Items<Call>,
 ) -> Result<(), AllocError>
-    ensures { OnOk result (calls.new ≡ calls.old ++ told_outputs outputs.now env.now line.now) }
+    ensures { OnOk result (calls.new ≡ calls.old ++ spec_outputs_calls outputs.now env.now line.now) }
 {
     for one in outputs {
         output_calls(alloc, one, env, line, calls)?;
@@ -122,7 +121,7 @@ fn input_calls(
     line: &Location,
     calls: &mut Items<Call>,
 ) -> Result<(), AllocError>
-    ensures { OnOk result (calls.new ≡ calls.old ++ told_input input.now env.now line.now) }
+    ensures { OnOk result (calls.new ≡ calls.old ++ spec_input_calls input.now env.now line.now) }
 {
     match input {
         TypedInput::Plain(channel, to) => {
@@ -144,7 +143,7 @@ fn input_calls(
     }
 }
 
-/// The calls in what stands behind the `&` of a guard.
+/// The calls in what stands after the `&` of a guard.
 fn guard_calls(
     alloc: Global,
     guard: &TypedGuard,
@@ -152,7 +151,7 @@ fn guard_calls(
     line: &Location,
     calls: &mut Items<Call>,
 ) -> Result<(), AllocError>
-    ensures { OnOk result (calls.new ≡ calls.old ++ told_guard guard.now env.now line.now) }
+    ensures { OnOk result (calls.new ≡ calls.old ++ spec_guard_calls guard.now env.now line.now) }
 {
     match guard {
         TypedGuard::Skip => Ok(()),
@@ -169,7 +168,7 @@ fn replicator_calls(
     line: &Location,
     calls: &mut Items<Call>,
 ) -> Result<(), AllocError>
-    ensures { OnOk result (calls.new ≡ calls.old ++ told_replicator replicator.now env.now line.now) }
+    ensures { OnOk result (calls.new ≡ calls.old ++ spec_replicator_calls replicator.now env.now line.now) }
 {
     match replicator {
         Some(found) => {
@@ -188,7 +187,7 @@ pub fn form_calls(
     line: &Location,
     calls: &mut Items<Call>,
 ) -> Result<(), AllocError>
-    ensures { OnOk result (calls.new ≡ calls.old ++ told_form form.now env.now line.now) }
+    ensures { OnOk result (calls.new ≡ calls.old ++ spec_form_calls form.now env.now line.now) }
 {
     match form {
         TypedForm::Abbreviation(element) => element_calls(alloc, element, env, line, calls),

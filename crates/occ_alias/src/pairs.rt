@@ -1,19 +1,19 @@
 //! Two parts that are not apart, as an error or a check; and writes of what was read (A2, A3).
 ghost use Rattle.std.specs.Prelude.{◌≡◌, ◌++◌, OnOk};
-ghost use Rattle.occ_alias.specs.AbbreviationRule.{graded as told_graded, pair_faults as told_pair, written_by as told_by, written_fault as told_written, written_faults as told_all_written};
-ghost use Rattle.occ_clashes.specs.Kinds.{is_read as tells_read};
+ghost use Rattle.occ_alias.specs.AbbreviationRule.{graded as spec_graded, pair_faults as spec_pair_faults, written_by as spec_written_by, written_fault as spec_written_fault, written_faults as spec_written_faults};
+ghost use Rattle.occ_usage_conflicts.specs.Kinds.{is_read as spec_is_read};
 
 use occ_base::{Code, Diag, Grade, Items, Name};
-use occ_bounds::{Bound, Use};
-use occ_clashes::root_name;
-use occ_line_uses::is_write;
-use occ_parts::{Overlap, Part, overlap};
 use occ_project::Location;
 use occ_types::UseKind;
+use occ_usage_conflicts::root_name;
+use occ_usage_lines::is_write;
+use occ_usage_parts::{Overlap, Part, overlap};
+use occ_usage_values::{Bound, Use};
 use std::alloc::{AllocError, Global};
 
 fn is_read(kind: UseKind) -> bool
-    ensures { result ≡ tells_read kind }
+    ensures { result ≡ spec_is_read kind }
 {
     match kind {
         UseKind::Read => true,
@@ -23,7 +23,7 @@ fn is_read(kind: UseKind) -> bool
     }
 }
 
-/// What is told of two parts with this overlap.
+/// What is reported of two parts with this overlap.
 fn graded(
     line: &Location,
     code: Code,
@@ -31,7 +31,7 @@ fn graded(
     found: Overlap,
     faults: &mut Items<Diag>,
 ) -> Result<(), AllocError>
-    ensures { OnOk result (faults.new ≡ faults.old ++ told_graded line.now code name found) }
+    ensures { OnOk result (faults.new ≡ faults.old ++ spec_graded line.now code name found) }
 {
     let grade = match found {
         Overlap::Apart => return Ok(()),
@@ -47,7 +47,7 @@ fn graded(
     })
 }
 
-/// What is told of two parts, if they are not apart.
+/// What is reported of two parts, if they are not apart.
 pub(crate) fn pair_faults(
     alloc: Global,
     line: &Location,
@@ -57,7 +57,7 @@ pub(crate) fn pair_faults(
     other: &Part,
     faults: &mut Items<Diag>,
 ) -> Result<(), AllocError>
-    ensures { OnOk result (faults.new ≡ faults.old ++ told_pair line.now code env.now one.now other.now) }
+    ensures { OnOk result (faults.new ≡ faults.old ++ spec_pair_faults line.now code env.now one.now other.now) }
 {
     let found = overlap(one, other);
     if found == Overlap::Apart {
@@ -67,7 +67,7 @@ pub(crate) fn pair_faults(
     graded(line, code, name, found, faults)
 }
 
-/// What is told of a use, if it writes what another has read.
+/// What is reported of a use, if it writes what another has read.
 fn written_fault(
     alloc: Global,
     code: Code,
@@ -76,7 +76,7 @@ fn written_fault(
     read: &Use,
     faults: &mut Items<Diag>,
 ) -> Result<(), AllocError>
-    ensures { OnOk result (faults.new ≡ faults.old ++ told_written code env.now found.now read.now) }
+    ensures { OnOk result (faults.new ≡ faults.old ++ spec_written_fault code env.now found.now read.now) }
 {
     if !(is_write(found.kind) && is_read(read.kind)) {
         return Ok(());
@@ -92,7 +92,7 @@ fn written_fault(
     )
 }
 
-/// What is told of a use, if it writes what some of these have read.
+/// What is reported of a use, if it writes what some of these have read.
 fn written_by(
     alloc: Global,
     code: Code,
@@ -101,7 +101,7 @@ fn written_by(
     reads: &[Use],
     faults: &mut Items<Diag>,
 ) -> Result<(), AllocError>
-    ensures { OnOk result (faults.new ≡ faults.old ++ told_by code env.now found.now reads.now) }
+    ensures { OnOk result (faults.new ≡ faults.old ++ spec_written_by code env.now found.now reads.now) }
 {
     for read in reads {
         written_fault(alloc, code, env, found, read, faults)?;
@@ -109,7 +109,7 @@ fn written_by(
     Ok(())
 }
 
-/// What is told of uses that write what some of these have read.
+/// What is reported of uses that write what some of these have read.
 pub(crate) fn written_faults(
     alloc: Global,
     code: Code,
@@ -118,7 +118,7 @@ pub(crate) fn written_faults(
     reads: &[Use],
     faults: &mut Items<Diag>,
 ) -> Result<(), AllocError>
-    ensures { OnOk result (faults.new ≡ faults.old ++ told_all_written code env.now uses.now reads.now) }
+    ensures { OnOk result (faults.new ≡ faults.old ++ spec_written_faults code env.now uses.now reads.now) }
 {
     for found in uses {
         written_by(alloc, code, env, found, reads, faults)?;

@@ -2,14 +2,14 @@
 //! abbreviation rule`.
 ghost use Rattle.std.specs.List.{list_any};
 ghost use Rattle.std.specs.Prelude.{◌≡◌, ◌++◌, ◌==◌, ℕ, OnOk, slice_get};
-ghost use Rattle.occ_alias.specs.AbbreviationRule.{bound_faults as told_bound, element_fault as told_element, element_faults as told_elements, place_faults as told_place, scope_faults as told_scope};
-ghost use Rattle.occ_alias.specs.inside.Choosing.{chosen_faults as told_chosen, numbered_faults as told_numbered};
+ghost use Rattle.occ_alias.specs.AbbreviationRule.{bound_faults as spec_bound_faults, element_fault as spec_element_fault, element_faults as spec_element_faults, place_faults as spec_place_faults, scope_faults as spec_scope_faults};
+ghost use Rattle.occ_alias.specs.inside.Choosing.{chosen_faults as spec_chosen_faults, numbered_faults as spec_numbered_faults};
 
 use super::pairs::{pair_faults, written_faults};
 use occ_base::{Code, Diag, Items};
-use occ_bounds::{Bound, Use};
-use occ_line_uses::UsageScope;
-use occ_parts::{Part, SelectedPart};
+use occ_usage_lines::UsageScope;
+use occ_usage_parts::{Part, SelectedPart};
+use occ_usage_values::{Bound, Use};
 use std::alloc::{AllocError, Global};
 
 /// Whether a use is made by the name of the abbreviation with this number, or by one made from it.
@@ -19,7 +19,7 @@ fn is_by(chain: &[usize], number: usize) -> bool
     chain.iter().any(|name| *name == number)
 }
 
-/// What is told of a use in the scope of the abbreviation with this number, of which this is the element.
+/// What is reported of a use in the scope of the abbreviation with this number, of which this is the element.
 fn element_fault(
     alloc: Global,
     number: usize,
@@ -28,7 +28,7 @@ fn element_fault(
     found: &Use,
     faults: &mut Items<Diag>,
 ) -> Result<(), AllocError>
-    ensures { OnOk result (faults.new ≡ faults.old ++ told_element number env.now element.now found.now) }
+    ensures { OnOk result (faults.new ≡ faults.old ++ spec_element_fault number env.now element.now found.now) }
 {
     if is_by(found.chain.as_slice(), number) {
         return Ok(());
@@ -52,7 +52,7 @@ fn element_faults(
     uses: &[Use],
     faults: &mut Items<Diag>,
 ) -> Result<(), AllocError>
-    ensures { OnOk result (faults.new ≡ faults.old ++ told_elements number env.now element.now uses.now) }
+    ensures { OnOk result (faults.new ≡ faults.old ++ spec_element_faults number env.now element.now uses.now) }
 {
     for found in uses {
         element_fault(alloc, number, env, element, found, faults)?;
@@ -60,7 +60,7 @@ fn element_faults(
     Ok(())
 }
 
-/// What is told of uses in the scope of the abbreviation with this number, which has this place.
+/// What is reported of uses in the scope of the abbreviation with this number, which has this place.
 fn place_faults(
     alloc: Global,
     number: usize,
@@ -69,7 +69,7 @@ fn place_faults(
     uses: &[Use],
     faults: &mut Items<Diag>,
 ) -> Result<(), AllocError>
-    ensures { OnOk result (faults.new ≡ faults.old ++ told_place number env.now place.now uses.now) }
+    ensures { OnOk result (faults.new ≡ faults.old ++ spec_place_faults number env.now place.now uses.now) }
 {
     let Some(place) = place else {
         return Ok(());
@@ -78,7 +78,7 @@ fn place_faults(
     element_faults(alloc, number, env, &element, uses, faults)
 }
 
-/// What is told of uses in the scope of the specification with this number.
+/// What is reported of uses in the scope of the specification with this number.
 fn bound_faults(
     alloc: Global,
     number: usize,
@@ -87,7 +87,7 @@ fn bound_faults(
     uses: &[Use],
     faults: &mut Items<Diag>,
 ) -> Result<(), AllocError>
-    ensures { OnOk result (faults.new ≡ faults.old ++ told_bound number env.now bound.now uses.now) }
+    ensures { OnOk result (faults.new ≡ faults.old ++ spec_bound_faults number env.now bound.now uses.now) }
 {
     match bound {
         Bound::Abbreviation(place, _, reads) => {
@@ -103,7 +103,7 @@ fn bound_faults(
     }
 }
 
-/// What is told of uses in the scope of the specification with this number, if there is one.
+/// What is reported of uses in the scope of the specification with this number, if there is one.
 fn numbered_faults(
     alloc: Global,
     number: usize,
@@ -111,7 +111,7 @@ fn numbered_faults(
     uses: &[Use],
     faults: &mut Items<Diag>,
 ) -> Result<(), AllocError>
-    ensures { OnOk result (faults.new ≡ faults.old ++ told_numbered number env.now (slice_get env.now number) uses.now) }
+    ensures { OnOk result (faults.new ≡ faults.old ++ spec_numbered_faults number env.now (slice_get env.now number) uses.now) }
 {
     match env.get(number) {
         Some(bound) => bound_faults(alloc, number, env, bound, uses, faults),
@@ -119,7 +119,7 @@ fn numbered_faults(
     }
 }
 
-/// What is told of uses in the scope of the specifications with these numbers.
+/// What is reported of uses in the scope of the specifications with these numbers.
 fn chosen_faults(
     alloc: Global,
     numbers: &[usize],
@@ -127,7 +127,7 @@ fn chosen_faults(
     uses: &[Use],
     faults: &mut Items<Diag>,
 ) -> Result<(), AllocError>
-    ensures { OnOk result (faults.new ≡ faults.old ++ told_chosen env.now uses.now numbers.now) }
+    ensures { OnOk result (faults.new ≡ faults.old ++ spec_chosen_faults env.now uses.now numbers.now) }
 {
     for number in numbers {
         numbered_faults(alloc, *number, env, uses, faults)?;
@@ -135,15 +135,15 @@ fn chosen_faults(
     Ok(())
 }
 
-/// What is told of uses where these specifications are in scope: by those that concern the uses, since the others tell nothing.
-#[tactic(auto, using(crate::proofs::Elements::all_tell))]
+/// What is reported of uses where these specifications are in scope: by those that concern the uses, since the others report nothing.
+#[tactic(auto, using(crate::proofs::Elements::all_report))]
 pub(crate) fn scope_faults(
     alloc: Global,
     env: &UsageScope,
     uses: &[Use],
     faults: &mut Items<Diag>,
 ) -> Result<(), AllocError>
-    ensures { OnOk result (faults.new ≡ faults.old ++ told_scope 0 env.now env.now uses.now) }
+    ensures { OnOk result (faults.new ≡ faults.old ++ spec_scope_faults 0 env.now env.now uses.now) }
 {
     let numbers = env.concerned(alloc, uses)?;
     chosen_faults(alloc, numbers.as_slice(), env.as_slice(), uses, faults)

@@ -2,3 +2,4 @@ pub mod Names
 pub mod Filled
 pub mod Order
 pub mod Placed
+pub mod Fronts

@@ -4,7 +4,7 @@ use Rattle.std.specs.Cmp.Lexicographic.{slice_cmp}
 use Rattle.std.specs.Ordering.{nat_cmp}
 use Rattle.std.specs.declared.cmp.Ordering.TheVariants.{Greater}
 
--- bytes that are left stand behind none
+-- bytes that are left stand after none
 pub longer : (xs rest : List ℕ) (i : ℕ) → i < length xs → length rest < 1 → slice_cmp nat_cmp (drop i xs) rest ≡ Greater
 longer [] rest i h e = absurd (omega (arith, h))
 longer (x ∷ xs) [] zero h e = refl

@@ -6,7 +6,7 @@ use Rattle.occ_base.specs.declared.code.Grade.{Grade}
 use Rattle.occ_base.specs.declared.code.Grade.TheVariants as grade
 use Rattle.occ_base.specs.declared.diag.Diag.{Diag}
 
--- an error at a line of a file, with the name that it tells
+-- an error at a line of a file, with the name that it reports
 abbrev pub error_at : List ℕ → ℕ → Code → Option (List ℕ) → Diag
 error_at file line code name = record { file = file; line = line; code = code; grade = grade.Error; name = name }
 

@@ -5,4 +5,5 @@ pub mod Sample
 pub mod Order
 pub mod formers
 pub mod Errors
-pub mod Telling
+pub mod Reporting
+pub mod Lists

@@ -1,4 +1,4 @@
--- How a file name is held: its bytes at the front of 64, and zeros behind.
+-- How a file name is held: its bytes at the front of 64, and zeros after.
 use Rattle.std.specs.Prelude.{ℕ, ◌≡◌, ◌≤◌, ◌-◌, List, take, drop, length, ◌++◌, replicate}
 use Rattle.std.proofs.Common.{arith, ap, ◌∙◌, length-take, take-append-drop}
 use Rattle.occ_base.specs.FileName.{IsFileName}

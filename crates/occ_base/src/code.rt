@@ -2,8 +2,8 @@
 ghost use Rattle.std.specs.Prelude.{◌≡◌};
 ghost use Rattle.occ_base.specs.Diag.{code_text, grade_text};
 
-/// The codes of diagnostics, in the order in which diagnostics at one line are told. docs/LANGUAGE.md says
-/// where those stand that are told today.
+/// The codes of diagnostics, in the order in which diagnostics at one line are reported. docs/LANGUAGE.md says
+/// where those stand that are reported today.
 #[derive(Clone, Copy, Debug, PartialEq, Eq, PartialOrd, Ord)]
 pub enum Code {
     G1,

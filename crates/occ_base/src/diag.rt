@@ -1,9 +1,11 @@
 //! Diagnostics: file, line, code, grade and perhaps a name. Their order, and their line as a report prints it.
 ghost use Rattle.std.specs.Prelude.{◌≡◌, ◌++◌, IfOk, OnErr, OnOk};
 ghost use Rattle.occ_base.specs.Diag.{diag_line, name_text};
-ghost use Rattle.occ_base.specs.Errors.{error_at, error_if, has_error as any_error};
+ghost use Rattle.occ_base.specs.Errors.{error_at, error_if, has_error as spec_has_error};
 
-use super::{Code, FileName, Grade, Name};
+use super::code::{Code, Grade};
+use super::file_name::FileName;
+use super::name::Name;
 use sqlite_items::Items;
 use std::alloc::{AllocError, Global};
 
@@ -19,7 +21,7 @@ pub struct Diag {
 }
 
 impl Diag {
-    /// An error at a line of a file, with the name that it tells.
+    /// An error at a line of a file, with the name that it reports.
     pub fn error(file: FileName, line: u32, code: Code, name: Option<Name>) -> Diag
         ensures { result ≡ error_at file line code name }
     {
@@ -52,7 +54,7 @@ pub fn add_error_if(
 
 /// Whether one of the diagnostics has the grade error.
 pub fn has_error(diags: &[Diag]) -> bool
-    ensures { result ≡ any_error diags.now }
+    ensures { result ≡ spec_has_error diags.now }
 {
     diags.iter().any(|diag| diag.grade == Grade::Error)
 }
@@ -84,7 +86,7 @@ fn line_of(alloc: Global, diag: &Diag) -> Result<Vec<u8>, AllocError>
     Ok(line)
 }
 
-/// The bytes that tell the name of a diagnostic.
+/// The bytes that report the name of a diagnostic.
 fn name_of(diag: &Diag) -> &[u8]
     ensures { result.now ≡ name_text diag.now.name }
 {

@@ -1,12 +1,13 @@
 //! Faults, which are diagnostics before their line is known: a code and perhaps a name.
 ghost use Rattle.std.specs.Prelude.{◌≡◌, ◌++◌, OnOk, [], ◌∷◌};
-ghost use Rattle.occ_base.specs.Telling.{nameless};
+ghost use Rattle.occ_base.specs.Reporting.{nameless};
 
-use super::{Code, Name};
+use super::code::Code;
+use super::name::Name;
 use sqlite_items::Items;
 use std::alloc::AllocError;
 
-/// A fault of a line: its code, and the name that is told with it.
+/// A fault of a line: its code, and the name that is reported with it.
 pub struct Fault {
     pub code: Code,
     pub name: Option<Name>,
@@ -19,8 +20,8 @@ impl Drop for Fault {
     }
 }
 
-/// A fault without a name is told.
-pub fn tell(faults: &mut Items<Fault>, code: Code) -> Result<(), AllocError>
+/// A fault without a name is reported.
+pub fn report(faults: &mut Items<Fault>, code: Code) -> Result<(), AllocError>
     ensures { OnOk result (faults.new ≡ faults.old ++ nameless code ∷ []) }
 {
     faults.push(Fault { code, name: None })

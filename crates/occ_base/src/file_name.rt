@@ -9,13 +9,13 @@ ghost use Rattle.std.specs.Ordering.{as_partial_cmp, nat_cmp};
 ghost use Rattle.std.specs.Prelude.{◌≡◌, ◌≤◌, ◌↔◌, IfOk, IsTrue, length};
 ghost use Rattle.std.specs.Result.{result_err};
 ghost use Rattle.std.specs.Str.{bytes_eq};
-ghost use Rattle.occ_base.specs.FileName.{IsFileName, has_length as a_length, has_suffix as a_suffix, is_file_byte as a_file_byte, is_unit, name_fault};
+ghost use Rattle.occ_base.specs.FileName.{IsFileName, has_length as spec_has_length, has_suffix as spec_has_suffix, is_file_byte as spec_is_file_byte, is_unit, name_fault};
 
 use std::cmp::Ordering;
 use std::marker::Model;
 use thiserror::Error;
 
-/// Why bytes are no file name. Where several hold, the first of this order is told.
+/// Why bytes are no file name. Where several hold, the first of this order is reported.
 #[derive(Clone, Copy, Debug, Error)]
 pub enum NameFault {
     /// There is no byte, or there are more than 64.
@@ -100,25 +100,25 @@ fn fault(bytes: &[u8]) -> Option<NameFault>
 }
 
 fn has_length(bytes: &[u8]) -> bool
-    ensures { result ≡ a_length bytes.now }
+    ensures { result ≡ spec_has_length bytes.now }
 {
     1 <= bytes.len() && bytes.len() <= 64
 }
 
 fn has_file_bytes(bytes: &[u8]) -> bool
-    ensures { result ≡ list_all a_file_byte bytes.now }
+    ensures { result ≡ list_all spec_is_file_byte bytes.now }
 {
     bytes.iter().all(|b| is_file_byte(*b))
 }
 
 fn is_file_byte(b: u8) -> bool
-    ensures { result ≡ a_file_byte b }
+    ensures { result ≡ spec_is_file_byte b }
 {
     b.is_ascii_alphanumeric() || b == b'.' || b == b'_' || b == b'-'
 }
 
 fn has_suffix(bytes: &[u8]) -> bool
-    ensures { result ≡ a_suffix bytes.now }
+    ensures { result ≡ spec_has_suffix bytes.now }
 {
     bytes.ends_with(b".occ") || bytes.ends_with(b".inc")
 }
@@ -182,7 +182,7 @@ impl PartialEq for FileName {
     }
 }
 
-/// Which of two names comes first: the first bytes that differ decide, and else the longer one is behind the other.
+/// Which of two names comes first: the first bytes that differ decide, and else the longer one is after the other.
 fn order(a: &[u8], b: &[u8]) -> Ordering
     ensures { result ≡ slice_cmp nat_cmp a.now b.now }
 {

@@ -1,5 +1,5 @@
-//! What every other crate speaks of: file names, diagnostics with their order, and the types that all
-//! trees are made of.
+//! What every other crate speaks of: file names, diagnostics with their order, the types that all trees are made of, and
+//! lists that are there only if each of their parts is.
 #![tactic(auto)]
 
 mod code;
@@ -7,15 +7,18 @@ mod diag;
 mod fault;
 mod file_name;
 mod items;
+mod list;
+pub mod list_rows;
 mod name;
 mod rows;
 mod shared;
 
 pub use code::{Code, Grade};
 pub use diag::{Diag, add_error_if, has_error, write_diag};
-pub use fault::{Fault, tell};
+pub use fault::{Fault, report};
 pub use file_name::{FileName, NameFault};
 pub use items::one_item;
+pub use list::with_part;
 pub use name::Name;
 pub use rows::{diag_rows, file_name_rows, order_rows};
 pub use shared::Shared;

@@ -33,7 +33,7 @@ pub fn diag_rows()
 {}
 
 /// The order of diagnostics: by file, then by line, then by code, then an error before a check, then by name; each
-/// row is a list in rising order in which what stands behind the deciding part would turn it.
+/// row is a list in rising order in which what stands after the deciding part would turn it.
 pub fn order_rows()
     ensures files { is_rising (sample (codes "Z.occ") 9 code.F1 grade.Check (Some (codes "z")) ∷ sample (codes "a.occ") 8 code.U1 grade.Check (Some (codes "y")) ∷ sample (codes "a1.occ") 1 code.G1 grade.Error None ∷ []) ≡ true }
     ensures lines { is_rising (sample (codes "a.occ") 2 code.F1 grade.Check (Some (codes "z")) ∷ sample (codes "a.occ") 10 code.G1 grade.Error None ∷ []) ≡ true }

@@ -6,38 +6,38 @@ use Rattle.std.specs.Option.{is_some, unwrap_or}
 use Rattle.std.specs.Str.{bytes_eq}
 use Rattle.occ_base.specs.FileName.{is_unit}
 use Rattle.occ_board.proofs.Heights.{along_rests}
-use Rattle.occ_board.proofs.Settled.{is_step, step_kept, step_open, step_rests}
+use Rattle.occ_board.proofs.Settled.{is_step, step_cached, step_open, step_rests}
 use Rattle.occ_board.proofs.Trees.{inputs_are_one}
 use Rattle.occ_board.proofs.Truths.{all_by, both_true, either_true, not_both, or_left, or_right}
-use Rattle.occ_board.specs.Done.{done, done_step, is_kept, is_that, kept_of, pending_units}
+use Rattle.occ_board.specs.Done.{done, done_step, is_cached, is_that, cached_of, pending_units}
 use Rattle.occ_board.specs.Journal.{is_open}
-use Rattle.occ_board.specs.Machine.{with_kept}
+use Rattle.occ_board.specs.Machine.{with_cached}
 use Rattle.occ_board.specs.inside.Ready.{is_rested}
-use Rattle.occ_report.specs.Inputs.{Input}
+use Rattle.occ_check.specs.Input.{Input}
 use Rattle.occ_project.specs.Entries.{is_among}
 use Rattle.occ_project.specs.Reads.{member}
 use Rattle.occ_project.specs.declared.reads.Read.{Read}
-use Rattle.occ_report.specs.Checks.{input}
-use Rattle.occ_report.specs.Report.{is_open_unit, open_units}
-use Rattle.occ_units.proofs.Looks.{same_bytes}
-use Rattle.occ_units.specs.Places.{rest_units}
+use Rattle.occ_check.specs.Checks.{input}
+use Rattle.occ_check.specs.Report.{is_open_unit, open_units}
+use Rattle.occ_project_units.proofs.Looks.{same_bytes}
+use Rattle.occ_project_units.specs.Indices.{rest_units}
 
--- of its unit it is the one that is kept
-pub kept_here : (js : List Input) (i : Input) → kept_of (with_kept js i) i.unit ≡ Some i
-kept_here [] i = ap (λ (b : Bool). cond b (Some i) None) (same_bytes i.unit)
-kept_here (j ∷ js) i = by (bytes_eq j.unit i.unit) refl (kept_here js i) where
-  by : (b : Bool) → bytes_eq j.unit i.unit ≡ b → kept_of (with_kept js i) i.unit ≡ Some i → kept_of (if b then i ∷ js else j ∷ with_kept js i) i.unit ≡ Some i
-  by true e rest = ap (λ (b : Bool). cond b (Some i) (kept_of js i.unit)) (same_bytes i.unit)
-  by false e rest = ap (λ (b : Bool). cond b (Some j) (kept_of (with_kept js i) i.unit)) e ∙ rest
+-- of its unit it is the one that is cached
+pub cached_here : (js : List Input) (i : Input) → cached_of (with_cached js i) i.unit ≡ Some i
+cached_here [] i = ap (λ (b : Bool). cond b (Some i) None) (same_bytes i.unit)
+cached_here (j ∷ js) i = by (bytes_eq j.unit i.unit) refl (cached_here js i) where
+  by : (b : Bool) → bytes_eq j.unit i.unit ≡ b → cached_of (with_cached js i) i.unit ≡ Some i → cached_of (if b then i ∷ js else j ∷ with_cached js i) i.unit ≡ Some i
+  by true e rest = ap (λ (b : Bool). cond b (Some i) (cached_of js i.unit)) (same_bytes i.unit)
+  by false e rest = ap (λ (b : Bool). cond b (Some j) (cached_of (with_cached js i) i.unit)) e ∙ rest
 
 -- and of others the same as before
-pub kept_other : (js : List Input) (i : Input) (u : List ℕ) → bytes_eq i.unit u ≡ false → kept_of (with_kept js i) u ≡ kept_of js u
-kept_other [] i u h = ap (λ (b : Bool). cond b (Some i) None) h
-kept_other (j ∷ js) i u h = by (bytes_eq j.unit i.unit) refl (kept_other js i u h) where
-  by : (b : Bool) → bytes_eq j.unit i.unit ≡ b → kept_of (with_kept js i) u ≡ kept_of js u → kept_of (if b then i ∷ js else j ∷ with_kept js i) u ≡ kept_of (j ∷ js) u
+pub cached_other : (js : List Input) (i : Input) (u : List ℕ) → bytes_eq i.unit u ≡ false → cached_of (with_cached js i) u ≡ cached_of js u
+cached_other [] i u h = ap (λ (b : Bool). cond b (Some i) None) h
+cached_other (j ∷ js) i u h = by (bytes_eq j.unit i.unit) refl (cached_other js i u h) where
+  by : (b : Bool) → bytes_eq j.unit i.unit ≡ b → cached_of (with_cached js i) u ≡ cached_of js u → cached_of (if b then i ∷ js else j ∷ with_cached js i) u ≡ cached_of (j ∷ js) u
   by true e rest =
       let same : j.unit ≡ i.unit = (bytes_eq-Decides j.unit i.unit).0 e in
-      ap (λ (b : Bool). cond b (Some i) (kept_of js u)) h ∙ sym (ap (λ (b : Bool). cond b (Some j) (kept_of js u)) (ap (λ (n : List ℕ). bytes_eq n u) same ∙ h))
+      ap (λ (b : Bool). cond b (Some i) (cached_of js u)) h ∙ sym (ap (λ (b : Bool). cond b (Some j) (cached_of js u)) (ap (λ (n : List ℕ). bytes_eq n u) same ∙ h))
   by false e rest = ap (λ (o : Option Input). cond (bytes_eq j.unit u) (Some j) o) rest
 
 itself : (i j : Input) → i ≡ j → is_that (Some i) j ≡ true
@@ -87,49 +87,49 @@ open_among (file ∷ files) u h o = by (bytes_eq file.name u) refl (open_among f
       ap (λ (c : Bool). is_among (map (λ f. f.name) (cond c (file ∷ filter is_open_unit files) (filter is_open_unit files))) u) is ∙ or_left (bytes_eq file.name u) (is_among (open_units files) u) e
   by false e rest k = more (is_open_unit file) (rest k)
 
-module _ (files : List Read) (law : (kept : List Input) (u : List ℕ) → done files kept u ≡ done_step files kept u (done files kept)) (h : List ℕ → ℕ) (fall : (u v : List ℕ) → is_among (rest_units files u) v ≡ true → h v < h u) where
-  -- where more is kept, no less is done
-  done_more : (kept better : List Input) → ((u : List ℕ) → is_kept kept (input files u) ≡ true → is_kept better (input files u) ≡ true) → (u : List ℕ) → done files kept u ≡ true → done files better u ≡ true
-  done_more kept better good = along_rests files h fall (λ u. done files kept u ≡ true → done files better u ≡ true) (λ u rests d.
-      let step : done_step files kept u (done files kept) ≡ true = sym (law kept u) ∙ d in
+module _ (files : List Read) (law : (cached : List Input) (u : List ℕ) → done files cached u ≡ done_step files cached u (done files cached)) (h : List ℕ → ℕ) (fall : (u v : List ℕ) → is_among (rest_units files u) v ≡ true → h v < h u) where
+  -- where more is cached, no less is done
+  done_more : (cached better : List Input) → ((u : List ℕ) → is_cached cached (input files u) ≡ true → is_cached better (input files u) ≡ true) → (u : List ℕ) → done files cached u ≡ true → done files better u ≡ true
+  done_more cached better good = along_rests files h fall (λ u. done files cached u ≡ true → done files better u ≡ true) (λ u rests d.
+      let step : done_step files cached u (done files cached) ≡ true = sym (law cached u) ∙ d in
       law better u
-      ∙ is_step files better u (done files better) (step_open files kept u (done files kept) step) (good u (step_kept files kept u (done files kept) step)) (all_by (done files kept) (done files better) (rest_units files u) rests (step_rests files kept u (done files kept) step)))
+      ∙ is_step files better u (done files better) (step_open files cached u (done files cached) step) (good u (step_cached files cached u (done files cached) step)) (all_by (done files cached) (done files better) (rest_units files u) rests (step_rests files cached u (done files cached) step)))
 
-  module _ (kept : List Input) (i : Input) (now : i ≡ input files i.unit) where
-    better : (u : List ℕ) → is_kept kept (input files u) ≡ true → is_kept (with_kept kept i) (input files u) ≡ true
+  module _ (cached : List Input) (i : Input) (now : i ≡ input files i.unit) where
+    better : (u : List ℕ) → is_cached cached (input files u) ≡ true → is_cached (with_cached cached i) (input files u) ≡ true
     better u k = by (bytes_eq i.unit u) refl where
-      by : (b : Bool) → bytes_eq i.unit u ≡ b → is_kept (with_kept kept i) (input files u) ≡ true
+      by : (b : Bool) → bytes_eq i.unit u ≡ b → is_cached (with_cached cached i) (input files u) ≡ true
       by true e =
           let same : i.unit ≡ u = (bytes_eq-Decides i.unit u).0 e in
-          ap (λ (n : List ℕ). is_that (kept_of (with_kept kept i) n) (input files u)) (sym same)
-          ∙ ap (λ (o : Option Input). is_that o (input files u)) (kept_here kept i)
+          ap (λ (n : List ℕ). is_that (cached_of (with_cached cached i) n) (input files u)) (sym same)
+          ∙ ap (λ (o : Option Input). is_that o (input files u)) (cached_here cached i)
           ∙ itself i (input files u) (now ∙ ap (input files) same)
-      by false e = ap (λ (o : Option Input). is_that o (input files u)) (kept_other kept i u e) ∙ k
+      by false e = ap (λ (o : Option Input). is_that o (input files u)) (cached_other cached i u e) ∙ k
 
-    pub more_done : (u : List ℕ) → done files kept u ≡ true → done files (with_kept kept i) u ≡ true
-    more_done = done_more kept (with_kept kept i) better
+    pub more_done : (u : List ℕ) → done files cached u ≡ true → done files (with_cached cached i) u ≡ true
+    more_done = done_more cached (with_cached cached i) better
 
-    pub now_done : is_open files i.unit ≡ true → is_rested files kept i.unit ≡ true → done files (with_kept kept i) i.unit ≡ true
+    pub now_done : is_open files i.unit ≡ true → is_rested files cached i.unit ≡ true → done files (with_cached cached i) i.unit ≡ true
     now_done opened rested =
-        law (with_kept kept i) i.unit
-        ∙ is_step files (with_kept kept i) i.unit (done files (with_kept kept i)) opened
-        (ap (λ (o : Option Input). is_that o (input files i.unit)) (kept_here kept i) ∙ itself i (input files i.unit) now)
-        (all_by (done files kept) (done files (with_kept kept i)) (rest_units files i.unit) (λ v a. more_done v) rested)
+        law (with_cached cached i) i.unit
+        ∙ is_step files (with_cached cached i) i.unit (done files (with_cached cached i)) opened
+        (ap (λ (o : Option Input). is_that o (input files i.unit)) (cached_here cached i) ∙ itself i (input files i.unit) now)
+        (all_by (done files cached) (done files (with_cached cached i)) (rest_units files i.unit) (λ v a. more_done v) rested)
 
-    was_pending : is_kept kept i ≡ false → done files kept i.unit ≡ true → ⊥
+    was_pending : is_cached cached i ≡ false → done files cached i.unit ≡ true → ⊥
     was_pending none d =
-        let was : is_kept kept (input files i.unit) ≡ true = step_kept files kept i.unit (done files kept) (sym (law kept i.unit) ∙ d) in
-        not_both (is_kept kept i) (ap (is_kept kept) now ∙ was) none
+        let was : is_cached cached (input files i.unit) ≡ true = step_cached files cached i.unit (done files cached) (sym (law cached i.unit) ∙ d) in
+        not_both (is_cached cached i) (ap (is_cached cached) now ∙ was) none
 
-    pub fewer_pending : is_unit i.unit ≡ true → is_open files i.unit ≡ true → is_rested files kept i.unit ≡ true → is_kept kept i ≡ false → length (pending_units files (with_kept kept i)) < length (pending_units files kept)
+    pub fewer_pending : is_unit i.unit ≡ true → is_open files i.unit ≡ true → is_rested files cached i.unit ≡ true → is_cached cached i ≡ false → length (pending_units files (with_cached cached i)) < length (pending_units files cached)
     fewer_pending unit opened rested none =
-        fewer_than (λ u. not (done files kept u)) (λ u. not (done files (with_kept kept i) u)) (open_units files) i.unit (λ v n. still v (done files kept v) refl n) (open_among files i.unit unit opened)
-        (pending (done files kept i.unit) (was_pending none)) (ap not (now_done opened rested))
+        fewer_than (λ u. not (done files cached u)) (λ u. not (done files (with_cached cached i) u)) (open_units files) i.unit (λ v n. still v (done files cached v) refl n) (open_among files i.unit unit opened)
+        (pending (done files cached i.unit) (was_pending none)) (ap not (now_done opened rested))
       where
         pending : (b : Bool) → (b ≡ true → ⊥) → not b ≡ true
         pending true f = absurd (f refl)
         pending false f = refl
 
-        still : (v : List ℕ) (b : Bool) → done files kept v ≡ b → not (done files (with_kept kept i) v) ≡ true → not (done files kept v) ≡ true
-        still v true e n = let k : not (done files (with_kept kept i) v) ≡ false = ap not (more_done v e) in absurd (not_both (not (done files (with_kept kept i) v)) n k)
+        still : (v : List ℕ) (b : Bool) → done files cached v ≡ b → not (done files (with_cached cached i) v) ≡ true → not (done files cached v) ≡ true
+        still v true e n = let k : not (done files (with_cached cached i) v) ≡ false = ap not (more_done v e) in absurd (not_both (not (done files (with_cached cached i) v)) n k)
         still v false e n = ap not e

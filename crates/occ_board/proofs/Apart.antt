@@ -10,24 +10,25 @@ use Rattle.occ_board.proofs.Judged.{file_lines}
 use Rattle.occ_board.proofs.Stands.{used_by}
 use Rattle.occ_board.proofs.Resting.{same_all}
 use Rattle.occ_board.proofs.Truths.{among_first, either_true, not_both, or_left, or_right, same_truth}
-use Rattle.occ_board.specs.Done.{done, done_step, is_kept}
+use Rattle.occ_board.specs.Done.{done, done_step, is_cached}
 use Rattle.occ_board.specs.Edits.{IsApart, IsUnder}
 use Rattle.occ_board.specs.Journal.{is_open}
-use Rattle.occ_board.specs.inside.Fresh.{kept_check, looked}
-use Rattle.occ_report.specs.Inputs.{Input, UsedUnit}
+use Rattle.occ_board.specs.inside.Verified.{cached_check, looked}
+use Rattle.occ_check.specs.Input.{Input}
+use Rattle.occ_check.specs.declared.used.UsedUnit.{UsedUnit}
 use Rattle.occ_project.specs.Entries.{is_among}
 use Rattle.occ_project.specs.Expansion.{Expansion, expansion}
 use Rattle.occ_project.specs.Reads.{lines_of, open_lines}
 use Rattle.occ_project.specs.Uses.{used_in}
 use Rattle.occ_project.specs.declared.reads.Read.{Read}
-use Rattle.occ_report.proofs.Local.{map_among}
-use Rattle.occ_report.specs.Checks.{check_of, check_step, checked, input, input_with, used_as, used_unit}
-use Rattle.occ_report.specs.declared.checked.Checked.{Checked}
-use Rattle.occ_units.specs.Places.{is_below, is_circular, rest_units, standing_of}
-use Rattle.occ_units.specs.Project.{file_of, put}
-use Rattle.occ_units.specs.Units.{IsCircular, Reaches, Uses, UsesBy, unit_reads, used_units}
-use Rattle.occ_units.specs.declared.standing.Standing.{Standing}
-use Rattle.occ_units.specs.declared.standing.Standing.TheVariants as standing
+use Rattle.occ_check.proofs.Local.{map_among}
+use Rattle.occ_check.specs.Checks.{check_of, check_step, checked, input, input_with, used_as, used_unit}
+use Rattle.occ_check.specs.declared.checked.Checked.{Checked}
+use Rattle.occ_project_units.specs.Indices.{is_below, is_circular, rest_units, standing_of}
+use Rattle.occ_project_units.specs.Project.{file_of, put}
+use Rattle.occ_project_units.specs.Units.{IsCircular, Reaches, Uses, UsesBy, unit_reads, used_units}
+use Rattle.occ_project_units.specs.declared.standing.Standing.{Standing}
+use Rattle.occ_project_units.specs.declared.standing.Standing.TheVariants as standing
 
 among_more : (b : Bool) (w v : List ℕ) (vs : List (List ℕ)) → is_among vs v ≡ true → is_among (cond b (w ∷ vs) vs) v ≡ true
 among_more true w v vs h = or_right (bytes_eq w v) (is_among vs v) h
@@ -42,11 +43,11 @@ among_all p [] v h = h
 among_all p (w ∷ vs) v h = among_fewer (p w) w v (filter p vs) vs h (among_all p vs v)
 
 -- what passes a test is among those that pass it
-pub kept_among : (p : List ℕ → Bool) (vs : List (List ℕ)) (v : List ℕ) → p v ≡ true → is_among vs v ≡ true → is_among (filter p vs) v ≡ true
-kept_among p [] v h a = absurd cc
-kept_among p (w ∷ vs) v h a = either_true (bytes_eq w v) (is_among vs v) a
+pub cached_among : (p : List ℕ → Bool) (vs : List (List ℕ)) (v : List ℕ) → p v ≡ true → is_among vs v ≡ true → is_among (filter p vs) v ≡ true
+cached_among p [] v h a = absurd cc
+cached_among p (w ∷ vs) v h a = either_true (bytes_eq w v) (is_among vs v) a
     (λ e. ap (λ (c : Bool). is_among (cond c (w ∷ filter p vs) (filter p vs)) v) (ap p ((bytes_eq-Decides w v).0 e) ∙ h) ∙ or_left (bytes_eq w v) (is_among (filter p vs) v) e)
-    (λ k. among_more (p w) w v (filter p vs) (kept_among p vs v h k))
+    (λ k. among_more (p w) w v (filter p vs) (cached_among p vs v h k))
 
 -- tests that agree on names leave the same of them
 same_filter : (p q : List ℕ → Bool) (vs : List (List ℕ)) → ((v : List ℕ) → is_among vs v ≡ true → p v ≡ q v) → filter p vs ≡ filter q vs
@@ -144,11 +145,11 @@ module _ (files : List Read) (file : Read) (root : List ℕ) (apart : IsApart fi
       ∙ ap (λ (us : List UsedUnit). record { unit = u; reads = unit_reads files u; used = us }) (map_among (used_unit later u f) (used_unit files u g) (used_units files u) (λ v a.
       let stands = same_standing u v under a in
       ap (λ (s : Standing). record { unit = v; used = used_as s (f v).interface }) stands
-      ∙ ap (λ x. record { unit = v; used = x }) (used_by (standing_of files u v) (f v).interface (g v).interface (λ b. ap (λ (c : Checked). c.interface) (same v (kept_among (λ w. is_below (standing_of files u w)) (used_units files u) v b a))))))
+      ∙ ap (λ x. record { unit = v; used = x }) (used_by (standing_of files u v) (f v).interface (g v).interface (λ b. ap (λ (c : Checked). c.interface) (same v (cached_among (λ w. is_below (standing_of files u w)) (used_units files u) v b a))))))
 
-  -- so what they would look at by what is kept
-  pub same_looked_there : (kept : List Input) → looked later kept root ≡ looked files kept root
-  same_looked_there kept = input_by (kept_check kept) (kept_check kept) root (inl refl) (λ v a. refl)
+  -- so what they would look at by what is cached
+  pub same_looked_there : (cached : List Input) → looked later cached root ≡ looked files cached root
+  same_looked_there cached = input_by (cached_check cached) (cached_check cached) root (inl refl) (λ v a. refl)
 
   module _ (h : List ℕ → ℕ) (fall : (u v : List ℕ) → is_among (rest_units files u) v ≡ true → h v < h u) where
     module _ (here : (u : List ℕ) → checked files u ≡ check_step files u (checked files)) (then : (u : List ℕ) → checked later u ≡ check_step later u (checked later)) where
@@ -162,15 +163,15 @@ module _ (files : List Read) (file : Read) (root : List ℕ) (apart : IsApart fi
       pub same_input_there : input later root ≡ input files root
       same_input_there = same_input root (inl refl)
 
-      module _ (kept : List Input) (done_here : (u : List ℕ) → done files kept u ≡ done_step files kept u (done files kept)) (done_then : (u : List ℕ) → done later kept u ≡ done_step later kept u (done later kept)) where
-        same_done : (u : List ℕ) → IsUnder files root u → done later kept u ≡ done files kept u
-        same_done = along_rests files h fall (λ u. IsUnder files root u → done later kept u ≡ done files kept u) (λ u rests under.
+      module _ (cached : List Input) (done_here : (u : List ℕ) → done files cached u ≡ done_step files cached u (done files cached)) (done_then : (u : List ℕ) → done later cached u ≡ done_step later cached u (done later cached)) where
+        same_done : (u : List ℕ) → IsUnder files root u → done later cached u ≡ done files cached u
+        same_done = along_rests files h fall (λ u. IsUnder files root u → done later cached u ≡ done files cached u) (λ u rests under.
             done_then u
-            ∙ ap (λ (f : Read). is_some f.source && (is_kept kept (input later u) && list_all (done later kept) (rest_units later u))) (same_file u u under (itself files u))
-            ∙ ap (λ (i : Input). is_open files u && (is_kept kept i && list_all (done later kept) (rest_units later u))) (same_input u under)
-            ∙ ap (λ (us : List (List ℕ)). is_open files u && (is_kept kept (input files u) && list_all (done later kept) us)) (same_rests u under)
-            ∙ ap (λ (b : Bool). is_open files u && (is_kept kept (input files u) && b)) (same_all (done later kept) (done files kept) (rest_units files u) (λ v a. rests v a (under_on u v under (rest_uses u v a))))
+            ∙ ap (λ (f : Read). is_some f.source && (is_cached cached (input later u) && list_all (done later cached) (rest_units later u))) (same_file u u under (itself files u))
+            ∙ ap (λ (i : Input). is_open files u && (is_cached cached i && list_all (done later cached) (rest_units later u))) (same_input u under)
+            ∙ ap (λ (us : List (List ℕ)). is_open files u && (is_cached cached (input files u) && list_all (done later cached) us)) (same_rests u under)
+            ∙ ap (λ (b : Bool). is_open files u && (is_cached cached (input files u) && b)) (same_all (done later cached) (done files cached) (rest_units files u) (λ v a. rests v a (under_on u v under (rest_uses u v a))))
             ∙ sym (done_here u))
 
-        pub same_done_there : done later kept root ≡ done files kept root
+        pub same_done_there : done later cached root ≡ done files cached root
         same_done_there = same_done root (inl refl)

@@ -5,35 +5,35 @@ use Rattle.occ_base.specs.FileName.{is_unit}
 use Rattle.occ_board.proofs.Edits.{edited_is, legal_more, replay_more, room}
 use Rattle.occ_board.proofs.Opened.{open_after, units_after}
 use Rattle.occ_board.proofs.Resting.{none_is_project}
-use Rattle.occ_board.proofs.Told.{before_more, told_then}
+use Rattle.occ_board.proofs.Revisions.{before_more, reported_then}
 use Rattle.occ_board.specs.Done.{done, done_step}
 use Rattle.occ_board.specs.Journal.{IsLegal, edited, open_number, refusal, refusal_of, replay}
 use Rattle.occ_board.specs.declared.entry.Edit.{Edit}
 use Rattle.occ_board.specs.declared.entry.Entry.{Entry}
 use Rattle.occ_board.specs.inside.Flagged.{AreFlags}
 use Rattle.occ_board.specs.inside.Holding.{IsBoard, count_then}
-use Rattle.occ_board.specs.inside.Told.{AreBefore}
-use Rattle.occ_report.specs.Inputs.{Input}
+use Rattle.occ_board.specs.inside.Revisions.{AreBefore}
+use Rattle.occ_check.specs.Input.{Input}
 use Rattle.occ_forms.specs.Prepared.{Prepared}
 use Rattle.occ_project.specs.declared.reads.Read.{Read}
-use Rattle.occ_report.specs.Report.{open_units}
-use Rattle.occ_units.specs.Project.{IsProject, file_of, put}
-use Rattle.occ_units.specs.Spelled.{AreSpelled, IsSpelled}
+use Rattle.occ_check.specs.Report.{open_units}
+use Rattle.occ_project_units.specs.Project.{IsProject, file_of, put}
+use Rattle.occ_project_units.specs.Spelled.{AreSpelled, IsSpelled}
 
-none : ((files : List Read) (kept : List Input) (u : List ℕ) → IsProject files → done files kept u ≡ done_step files kept u (done files kept)) → IsBoard [] [] [] [] 0 0
-none law = record { few = omega arith; legal = tt; files_are = refl; spelled = λ name. tt; len = refl; flags_are = λ u. sym (law [] [] u none_is_project); of_units = tt; told = λ k i got. absurd cc; before = λ k i got. absurd cc; opened_are = refl; units_are = refl }
+none : ((files : List Read) (cached : List Input) (u : List ℕ) → IsProject files → done files cached u ≡ done_step files cached u (done files cached)) → IsBoard [] [] [] [] 0 0
+none law = record { few = omega arith; legal = tt; files_are = refl; spelled = λ name. tt; len = refl; flags_are = λ u. sym (law [] [] u none_is_project); of_units = tt; reported = λ k i got. absurd cc; before = λ k i got. absurd cc; opened_are = refl; units_are = refl }
 
-pub begins : (journal : List Entry) (kept : List Input) (files : List Read) (flags : List Bool) → journal ≡ [] → kept ≡ [] → files ≡ [] → flags ≡ []
-    → ((files : List Read) (kept : List Input) (u : List ℕ) → IsProject files → done files kept u ≡ done_step files kept u (done files kept)) → IsBoard journal kept files flags 0 0
-begins journal kept files flags j k f g law =
-    subst (λ (x : List Entry). IsBoard x kept files flags 0 0) (sym j)
+pub begins : (journal : List Entry) (cached : List Input) (files : List Read) (flags : List Bool) → journal ≡ [] → cached ≡ [] → files ≡ [] → flags ≡ []
+    → ((files : List Read) (cached : List Input) (u : List ℕ) → IsProject files → done files cached u ≡ done_step files cached u (done files cached)) → IsBoard journal cached files flags 0 0
+begins journal cached files flags j k f g law =
+    subst (λ (x : List Entry). IsBoard x cached files flags 0 0) (sym j)
     (subst (λ (x : List Input). IsBoard [] x files flags 0 0) (sym k) (subst (λ (x : List Read). IsBoard [] [] x flags 0 0) (sym f) (subst (λ (x : List Bool). IsBoard [] [] [] x 0 0) (sym g) (none law))))
 
--- and one behind one more edit
-pub accepts : (journal next : List Entry) (kept : List Input) (files later : List Read) (flags now : List Bool) (opened units opened_then units_then n session : ℕ) (e : Edit) (name : List ℕ) (source : Option Prepared) → IsBoard journal kept files flags opened units → refusal journal e ≡ None
+-- and one after one more edit
+pub accepts : (journal next : List Entry) (cached : List Input) (files later : List Read) (flags now : List Bool) (opened units opened_then units_then n session : ℕ) (e : Edit) (name : List ℕ) (source : Option Prepared) → IsBoard journal cached files flags opened units → refusal journal e ≡ None
     → later ≡ put files (record { name = name; revision = n; source = source }) → n ≡ length journal + 1 → name ≡ (edited 0 e).name → source ≡ (edited 0 e).source → next ≡ journal ++ (record { session = session; edit = e }) ∷ []
-    → ((files : List Read) (file : Read) → AreSpelled files → IsSpelled file.source → AreSpelled (put files file)) → ((files : List Read) (file : Read) (name : List ℕ) → file_of (put files file) name ≡ cond (bytes_eq file.name name) file (file_of files name)) → IsSpelled source → length now ≡ length later → AreFlags later kept now → opened_then ≡ count_then true opened e → units_then ≡ count_then (is_unit name) units e → IsProject files → IsBoard next kept later now opened_then units_then
-accepts journal next kept files later flags now opened units opened_then units_then n session e name source board fine put_is number named with_text more spelled law text len are then_opened then_units project =
+    → ((files : List Read) (file : Read) → AreSpelled files → IsSpelled file.source → AreSpelled (put files file)) → ((files : List Read) (file : Read) (name : List ℕ) → file_of (put files file) name ≡ cond (bytes_eq file.name name) file (file_of files name)) → IsSpelled source → length now ≡ length later → AreFlags later cached now → opened_then ≡ count_then true opened e → units_then ≡ count_then (is_unit name) units e → IsProject files → IsBoard next cached later now opened_then units_then
+accepts journal next cached files later flags now opened units opened_then units_then n session e name source board fine put_is number named with_text more spelled law text len are then_opened then_units project =
     let entry : Entry = record { session = session; edit = e } in
     let under : length journal < 10000 = room (replay journal) (length journal) e fine in
     let longer : length next ≡ length journal + 1 = ap (length {A = Entry}) more ∙ length-append journal (entry ∷ []) in
@@ -56,8 +56,8 @@ accepts journal next kept files later flags now opened units opened_then units_t
       len = len;
       flags_are = are;
       of_units = board.of_units;
-      told = told_then files later (record { name = name; revision = n; source = source }) kept (law files (record { name = name; revision = n; source = source })) put_is board.told (subst (λ (m : ℕ). AreBefore m kept) (sym number) board.before);
-      before = before_more (length journal + 1) (length next + 1) kept (omega (arith, longer)) board.before;
+      reported = reported_then files later (record { name = name; revision = n; source = source }) cached (law files (record { name = name; revision = n; source = source })) put_is board.reported (subst (λ (m : ℕ). AreBefore m cached) (sym number) board.before);
+      before = before_more (length journal + 1) (length next + 1) cached (omega (arith, longer)) board.before;
       opened_are =
           then_opened
           ∙ ap (λ (m : ℕ). count_then true m e) board.opened_are

@@ -1,4 +1,4 @@
--- How many flags are set, and which places are marked.
+-- How many flags are set, and which indices are marked.
 use Rattle.std.proofs.Common.{◌≡◌, ◌∙◌, ◌<◌, ◌≤◌, ◌+◌, ◌||◌, ℕ, zero, suc, Bool, true, false, cond, List, [], ◌∷◌, ◌++◌, length, get_or, replicate, refl, sym, ap, subst, arith}
 use Rattle.std.proofs.lemmas.Bool.{eqb-false, eqb-true}
 use Rattle.std.specs.List.{insert}
@@ -7,7 +7,7 @@ use Rattle.occ_board.proofs.Marked.{among_append}
 use Rattle.occ_board.proofs.Spread.{set_apart, set_here}
 use Rattle.occ_board.specs.inside.Flagged.{flagged}
 use Rattle.occ_board.specs.inside.Touched.{AreMarked}
-use Rattle.occ_graph.specs.Graph.{is_among}
+use Rattle.occ_project_graph.specs.Graph.{is_among}
 
 abbrev one : Bool → ℕ
 one b = cond b 1 0
@@ -45,14 +45,14 @@ flagged_under [] p lt e = absurd (omega (arith, lt))
 flagged_under (f ∷ flags) zero lt e = let none : one f ≡ 0 = ap one e in let rest = flagged_most flags in omega (arith, none, rest)
 flagged_under (f ∷ flags) (suc p) lt e = let here = most f in let rest = flagged_under flags p (omega (arith, lt)) e in omega (arith, here, rest)
 
--- places of marks
+-- indices of marks
 pub none_marked : (n : ℕ) → AreMarked (replicate n false) []
 none_marked zero p = refl
 none_marked (suc n) zero = refl
 none_marked (suc n) (suc p) = none_marked n p
 
-pub one_marked : (marks : List Bool) (places : List ℕ) (at : ℕ) → AreMarked marks places → at < length marks → AreMarked (slice_set marks at true) (places ++ at ∷ [])
-one_marked marks places at are lt p = among_append places at p ∙ by (at == p) refl where
+pub one_marked : (marks : List Bool) (indices : List ℕ) (at : ℕ) → AreMarked marks indices → at < length marks → AreMarked (slice_set marks at true) (indices ++ at ∷ [])
+one_marked marks indices at are lt p = among_append indices at p ∙ by (at == p) refl where
   or_true : (b : Bool) → (b || true) ≡ true
   or_true true = refl
   or_true false = refl
@@ -61,6 +61,6 @@ one_marked marks places at are lt p = among_append places at p ∙ by (at == p) 
   or_false true = refl
   or_false false = refl
 
-  by : (b : Bool) → (at == p) ≡ b → (is_among places p || b) ≡ get_or (slice_set marks at true) p false
-  by true e = or_true (is_among places p) ∙ sym (subst (λ (q : ℕ). get_or (slice_set marks at true) q false ≡ true) (eqb-true at p e) (set_here marks at lt))
-  by false e = or_false (is_among places p) ∙ are p ∙ sym (set_apart marks at p (λ q. eqb-false at p e (sym q)))
+  by : (b : Bool) → (at == p) ≡ b → (is_among indices p || b) ≡ get_or (slice_set marks at true) p false
+  by true e = or_true (is_among indices p) ∙ sym (subst (λ (q : ℕ). get_or (slice_set marks at true) q false ≡ true) (eqb-true at p e) (set_here marks at lt))
+  by false e = or_false (is_among indices p) ∙ are p ∙ sym (set_apart marks at p (λ q. eqb-false at p e (sym q)))

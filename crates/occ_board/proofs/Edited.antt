@@ -10,15 +10,15 @@ use Rattle.occ_board.specs.Machine.{Event, State, after, after_edit, edit_answer
 use Rattle.occ_board.specs.declared.entry.Edit.{Edit}
 use Rattle.occ_board.specs.declared.entry.EditFault.{EditFault}
 use Rattle.occ_board.specs.declared.entry.Entry.{Entry}
-use Rattle.occ_report.specs.Inputs.{Input}
+use Rattle.occ_check.specs.Input.{Input}
 use Rattle.occ_project.specs.Entries.{is_among}
 use Rattle.occ_project.specs.Expansion.{expansion}
 use Rattle.occ_project.specs.Reads.{open_lines}
 use Rattle.occ_project.specs.declared.reads.Read.{Read}
-use Rattle.occ_report.specs.Checks.{check_step, checked, input}
-use Rattle.occ_units.specs.Places.{is_circular, rest_units}
-use Rattle.occ_units.specs.Project.{IsProject, file_of, put}
-use Rattle.occ_units.specs.Units.{IsCircular}
+use Rattle.occ_check.specs.Checks.{check_step, checked, input}
+use Rattle.occ_project_units.specs.Indices.{is_circular, rest_units}
+use Rattle.occ_project_units.specs.Project.{IsProject, file_of, put}
+use Rattle.occ_project_units.specs.Units.{IsCircular}
 
 module _ (put_is : (files : List Read) (file : Read) (name : List ℕ) → file_of (put files file) name ≡ cond (bytes_eq file.name name) file (file_of files name))
     (put_rises : (files : List Read) (file : Read) → IsProject files → IsProject (put files file))
@@ -45,12 +45,12 @@ module _ (put_is : (files : List Read) (file : Read) (name : List ℕ) → file_
   pub same_input_later : (s : State) (session : ℕ) (e : Edit) (u : List ℕ) → IsApart (files_of s) (edited 0 e).name u → input (files_of (after s (Event.Edited session e))) u ≡ input (files_of s) u
   same_input_later s session e u apart = by_answer (λ files. input files u) s session e (λ file n. same_inputs (files_of s) file u (project s.journal) (subst (λ (name : List ℕ). IsApart (files_of s) name u) (sym n) apart))
 
-  module _ (done_step_is : (files : List Read) (kept : List Input) (u : List ℕ) → IsProject files → done files kept u ≡ done_step files kept u (done files kept)) where
-    pub same_dones : (files : List Read) (file : Read) (kept : List Input) (u : List ℕ) → IsProject files → IsApart files file.name u → done (put files file) kept u ≡ done files kept u
-    same_dones files file kept u h apart =
+  module _ (done_step_is : (files : List Read) (cached : List Input) (u : List ℕ) → IsProject files → done files cached u ≡ done_step files cached u (done files cached)) where
+    pub same_dones : (files : List Read) (file : Read) (cached : List Input) (u : List ℕ) → IsProject files → IsApart files file.name u → done (put files file) cached u ≡ done files cached u
+    same_dones files file cached u h apart =
         let high = heights files h in
         let later = put_rises files file h in
-        same_done_there files file u apart (put_is files file) alone itself circles high.0 high.1 (step files h) (step (put files file) later) kept (λ v. done_step_is files kept v h) (λ v. done_step_is (put files file) kept v later)
+        same_done_there files file u apart (put_is files file) alone itself circles high.0 high.1 (step files h) (step (put files file) later) cached (λ v. done_step_is files cached v h) (λ v. done_step_is (put files file) cached v later)
 
-    pub same_done_later : (s : State) (session : ℕ) (e : Edit) (u : List ℕ) → IsApart (files_of s) (edited 0 e).name u → done (files_of (after s (Event.Edited session e))) s.kept u ≡ done (files_of s) s.kept u
-    same_done_later s session e u apart = by_answer (λ files. done files s.kept u) s session e (λ file n. same_dones (files_of s) file s.kept u (project s.journal) (subst (λ (name : List ℕ). IsApart (files_of s) name u) (sym n) apart))
+    pub same_done_later : (s : State) (session : ℕ) (e : Edit) (u : List ℕ) → IsApart (files_of s) (edited 0 e).name u → done (files_of (after s (Event.Edited session e))) s.cached u ≡ done (files_of s) s.cached u
+    same_done_later s session e u apart = by_answer (λ files. done files s.cached u) s session e (λ file n. same_dones (files_of s) file s.cached u (project s.journal) (subst (λ (name : List ℕ). IsApart (files_of s) name u) (sym n) apart))

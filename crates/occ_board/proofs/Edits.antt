@@ -1,13 +1,13 @@
--- The files and the journal behind one more edit.
+-- The files and the journal after one more edit.
 use Rattle.std.proofs.Common.{not, ◌≡◌, ◌∙◌, ◌++◌, ◌+◌, ◌<◌, Bool, true, false, ℕ, suc, List, [], ◌∷◌, length, Option, None, refl, sym, ap, arith, append_assoc, append-nil, nat_le}
-use Rattle.occ_board.specs.Journal.{IsLegal, IsLegalBehind, edited, else_fault, if_full, is_open, open_number, refusal, refusal_of, replay, replay_from}
+use Rattle.occ_board.specs.Journal.{IsLegal, IsLegalAfter, edited, else_fault, if_full, is_open, open_number, refusal, refusal_of, replay, replay_from}
 use Rattle.occ_board.specs.declared.entry.Edit.{Edit}
 use Rattle.occ_board.specs.declared.entry.Edit.TheVariants as edit
 use Rattle.occ_board.specs.declared.entry.EditFault.{EditFault}
 use Rattle.occ_board.specs.declared.entry.EditFault.TheVariants as fault
 use Rattle.occ_board.specs.declared.entry.Entry.{Entry}
 use Rattle.occ_project.specs.declared.reads.Read.{Read}
-use Rattle.occ_units.specs.Project.{put}
+use Rattle.occ_project_units.specs.Project.{put}
 
 replay_last : (n : ℕ) (files : List Read) (es : List Entry) (e : Entry) → replay_from n files (es ++ e ∷ []) ≡ put (replay_from n files es) (edited (n + length es) e.edit)
 replay_last n files [] e = ap (λ (m : ℕ). put files (edited m e.edit)) (let k : n ≡ n + 0 = omega arith in k)
@@ -24,12 +24,12 @@ edited_is n (edit.Added name source) = refl
 edited_is n (edit.Changed name source) = refl
 edited_is n (edit.Removed name) = refl
 
-legal_behind : (before es : List Entry) (e : Entry) → IsLegalBehind before es → refusal (before ++ es) e.edit ≡ None → IsLegalBehind before (es ++ e ∷ [])
-legal_behind before [] e h r = (ap (λ (xs : List Entry). refusal xs e.edit) (sym (append-nil before)) ∙ r, tt)
-legal_behind before (x ∷ es) e h r = (h.0, legal_behind (before ++ x ∷ []) es e h.1 (ap (λ (xs : List Entry). refusal xs e.edit) (append_assoc before (x ∷ []) es) ∙ r))
+legal_after : (before es : List Entry) (e : Entry) → IsLegalAfter before es → refusal (before ++ es) e.edit ≡ None → IsLegalAfter before (es ++ e ∷ [])
+legal_after before [] e h r = (ap (λ (xs : List Entry). refusal xs e.edit) (sym (append-nil before)) ∙ r, tt)
+legal_after before (x ∷ es) e h r = (h.0, legal_after (before ++ x ∷ []) es e h.1 (ap (λ (xs : List Entry). refusal xs e.edit) (append_assoc before (x ∷ []) es) ∙ r))
 
 pub legal_more : (es : List Entry) (e : Entry) → IsLegal es → refusal es e.edit ≡ None → IsLegal (es ++ e ∷ [])
-legal_more es e h r = legal_behind [] es e h r
+legal_more es e h r = legal_after [] es e h r
 
 -- what is not refused finds room
 passed : (b : Bool) (f : EditFault) (later : Option EditFault) → else_fault b f later ≡ None → (b ≡ false) × (later ≡ None)

@@ -5,8 +5,8 @@ use Rattle.std.specs.Str.{bytes_eq}
 use Rattle.occ_board.proofs.Truths.{among_first, either_true, or_right}
 use Rattle.occ_project.specs.Entries.{is_among}
 use Rattle.occ_project.specs.declared.reads.Read.{Read}
-use Rattle.occ_units.specs.Along.{IsLocal, along}
-use Rattle.occ_units.specs.Places.{rest_units}
+use Rattle.occ_project_units.specs.Along.{IsLocal, along}
+use Rattle.occ_project_units.specs.Indices.{rest_units}
 
 abbrev pub total : (List ℕ → ℕ) → List (List ℕ) → ℕ
 total h [] = 0

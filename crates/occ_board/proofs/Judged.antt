@@ -7,14 +7,15 @@ use Rattle.std.specs.Str.{bytes_eq}
 use Rattle.occ_base.specs.FileName.{is_unit}
 use Rattle.occ_board.proofs.Trees.{used_are_one}
 use Rattle.occ_board.proofs.Truths.{both_true, left_true, right_true}
-use Rattle.occ_board.specs.Done.{done, is_kept}
+use Rattle.occ_board.specs.Done.{done, is_cached}
 use Rattle.occ_board.specs.Journal.{is_open}
 use Rattle.occ_board.specs.Same.{same_used}
 use Rattle.occ_board.specs.Verdicts.{is_as_read, is_off, off_read, reads_verdict}
 use Rattle.occ_board.specs.declared.verdict.Verdict.{Verdict}
 use Rattle.occ_board.specs.declared.verdict.Verdict.TheVariants as verdict
 use Rattle.occ_board.specs.inside.Ready.{IsAcceptable, is_rested}
-use Rattle.occ_report.specs.Inputs.{Input, IsInput, UsedUnit, expansion_in}
+use Rattle.occ_check.specs.Input.{Input, IsInput, expansion_in}
+use Rattle.occ_check.specs.declared.used.UsedUnit.{UsedUnit}
 use Rattle.occ_forms.specs.Prepared.{Prepared}
 use Rattle.occ_forms.specs.declared.source.SourceLine.{SourceLine}
 use Rattle.occ_project.specs.Entries.{is_among}
@@ -22,10 +23,10 @@ use Rattle.occ_project.specs.Expansion.{Expansion, expansion}
 use Rattle.occ_project.specs.Reads.{lines_of, member, open_lines}
 use Rattle.occ_project.specs.Uses.{used_in}
 use Rattle.occ_project.specs.declared.reads.Read.{Read}
-use Rattle.occ_report.specs.Checks.{checked, input, used_unit}
-use Rattle.occ_units.specs.Places.{is_below, standing_of}
-use Rattle.occ_units.specs.Project.{file_of}
-use Rattle.occ_units.specs.Units.{unit_reads, used_units}
+use Rattle.occ_check.specs.Checks.{checked, input, used_unit}
+use Rattle.occ_project_units.specs.Indices.{is_below, standing_of}
+use Rattle.occ_project_units.specs.Project.{file_of}
+use Rattle.occ_project_units.specs.Units.{unit_reads, used_units}
 
 -- the lines of the file of a name, by the file
 pub file_lines : (files : List Read) (name : List ℕ) → lines_of (file_of files name) ≡ open_lines files name
@@ -80,30 +81,30 @@ on_by true false same h = absurd cc
 on_by false done true h = (refl, λ e. absurd cc)
 on_by false done false h = absurd cc
 
-module _ (files : List Read) (kept : List Input) (u : List ℕ) where
-  is_on : (one : UsedUnit) → is_off files kept u one ≡ false → (one ≡ used_unit files u (checked files) one.unit) × (is_below (standing_of files u one.unit) ≡ true → done files kept one.unit ≡ true)
+module _ (files : List Read) (cached : List Input) (u : List ℕ) where
+  is_on : (one : UsedUnit) → is_off files cached u one ≡ false → (one ≡ used_unit files u (checked files) one.unit) × (is_below (standing_of files u one.unit) ≡ true → done files cached one.unit ≡ true)
   is_on one h =
-      let parts = on_by (is_below (standing_of files u one.unit)) (done files kept one.unit) (same_used one (used_unit files u (checked files) one.unit)) h in
+      let parts = on_by (is_below (standing_of files u one.unit)) (done files cached one.unit) (same_used one (used_unit files u (checked files) one.unit)) h in
       ((used_are_one one (used_unit files u (checked files) one.unit)).0 parts.0, parts.1)
 
-  used_on : (ones : List UsedUnit) → find (is_off files kept u) ones ≡ None → ones ≡ map (used_unit files u (checked files)) (map (λ one. one.unit) ones)
+  used_on : (ones : List UsedUnit) → find (is_off files cached u) ones ≡ None → ones ≡ map (used_unit files u (checked files)) (map (λ one. one.unit) ones)
   used_on [] h = refl
   used_on (one ∷ ones) h =
-      let parts = none_off (is_off files kept u) one ones h in
+      let parts = none_off (is_off files cached u) one ones h in
       ap (λ (x : UsedUnit). x ∷ ones) (is_on one parts.0).0 ∙ ap (λ (xs : List UsedUnit). used_unit files u (checked files) one.unit ∷ xs) (used_on ones parts.1)
 
-  rests_on : (ones : List UsedUnit) → find (is_off files kept u) ones ≡ None → list_all (done files kept) (filter (λ v. is_below (standing_of files u v)) (map (λ one. one.unit) ones)) ≡ true
+  rests_on : (ones : List UsedUnit) → find (is_off files cached u) ones ≡ None → list_all (done files cached) (filter (λ v. is_below (standing_of files u v)) (map (λ one. one.unit) ones)) ≡ true
   rests_on [] h = refl
   rests_on (one ∷ ones) h =
-      let parts = none_off (is_off files kept u) one ones h in
+      let parts = none_off (is_off files cached u) one ones h in
       by (is_below (standing_of files u one.unit)) (rests_on ones parts.1) (is_on one parts.0).1
     where
-      by : (b : Bool) → list_all (done files kept) (filter (λ v. is_below (standing_of files u v)) (map (λ one. one.unit) ones)) ≡ true → (b ≡ true → done files kept one.unit ≡ true)
-          → list_all (done files kept) (cond b (one.unit ∷ filter (λ v. is_below (standing_of files u v)) (map (λ one. one.unit) ones)) (filter (λ v. is_below (standing_of files u v)) (map (λ one. one.unit) ones))) ≡ true
-      by true rest d = both_true (done files kept one.unit) (list_all (done files kept) (filter (λ v. is_below (standing_of files u v)) (map (λ one. one.unit) ones))) (d refl) rest
+      by : (b : Bool) → list_all (done files cached) (filter (λ v. is_below (standing_of files u v)) (map (λ one. one.unit) ones)) ≡ true → (b ≡ true → done files cached one.unit ≡ true)
+          → list_all (done files cached) (cond b (one.unit ∷ filter (λ v. is_below (standing_of files u v)) (map (λ one. one.unit) ones)) (filter (λ v. is_below (standing_of files u v)) (map (λ one. one.unit) ones))) ≡ true
+      by true rest d = both_true (done files cached one.unit) (list_all (done files cached) (filter (λ v. is_below (standing_of files u v)) (map (λ one. one.unit) ones))) (d refl) rest
       by false rest d = rest
 
-module _ (files : List Read) (kept : List Input) (i : Input) (is : IsInput i) (now : i.reads ≡ map (now_of files) i.reads) (on : find (is_off files kept i.unit) i.used ≡ None)
+module _ (files : List Read) (cached : List Input) (i : Input) (is : IsInput i) (now : i.reads ≡ map (now_of files) i.reads) (on : find (is_off files cached i.unit) i.used ≡ None)
     (alone : ((name : List ℕ) → is_among (expansion_in i).reads name ≡ true → open_lines files name ≡ open_lines i.reads name) → expansion files i.unit ≡ expansion_in i) where
   unit : is_unit i.unit ≡ true
   unit = left_true (is_unit i.unit) (is_some (open_lines i.reads i.unit)) is.0.present
@@ -125,7 +126,7 @@ module _ (files : List Read) (kept : List Input) (i : Input) (is : IsInput i) (n
   pub input_is : i ≡ input files i.unit
   input_is =
       ap (λ (rs : List Read). record { unit = i.unit; reads = rs; used = i.used }) reads_are
-      ∙ ap (λ (us : List UsedUnit). record { unit = i.unit; reads = unit_reads files i.unit; used = us }) (used_on files kept i.unit i.used on ∙ ap (map (used_unit files i.unit (checked files))) names_are)
+      ∙ ap (λ (us : List UsedUnit). record { unit = i.unit; reads = unit_reads files i.unit; used = us }) (used_on files cached i.unit i.used on ∙ ap (map (used_unit files i.unit (checked files))) names_are)
 
   -- the unit is one of its reads
   pub opened_is : is_among (expansion_in i).reads i.unit ≡ true → is_open files i.unit ≡ true
@@ -137,28 +138,28 @@ module _ (files : List Read) (kept : List Input) (i : Input) (is : IsInput i) (n
   pub unit_is : is_unit i.unit ≡ true
   unit_is = unit
 
-  pub rested_is : is_rested files kept i.unit ≡ true
-  rested_is = ap (λ (ns : List (List ℕ)). list_all (done files kept) (filter (λ v. is_below (standing_of files i.unit v)) ns)) (sym names_are) ∙ rests_on files kept i.unit i.used on
+  pub rested_is : is_rested files cached i.unit ≡ true
+  rested_is = ap (λ (ns : List (List ℕ)). list_all (done files cached) (filter (λ v. is_below (standing_of files i.unit v)) ns)) (sym names_are) ∙ rests_on files cached i.unit i.used on
 
 nothing_found : (o : Option UsedUnit) (q : Option Verdict) → q ≡ option_map (λ one. verdict.Stale one.unit) o → q ≡ None → o ≡ None
 nothing_found None q e n = refl
 nothing_found (Some one) q e n = absurd cc
 
--- so an outcome that nothing decides against may be kept
-pub acceptable : (files : List Read) (kept : List Input) (i : Input) (used : List UsedUnit) (user : List ℕ) (k : Bool) → IsInput i
-    → used ≡ i.used → user ≡ i.unit → i.reads ≡ map (now_of files) i.reads → None ≡ option_map (λ one. verdict.Stale one.unit) (find (is_off files kept user) used) → false ≡ is_kept kept i
+-- so an outcome that nothing decides against may be cached
+pub acceptable : (files : List Read) (cached : List Input) (i : Input) (used : List UsedUnit) (user : List ℕ) (k : Bool) → IsInput i
+    → used ≡ i.used → user ≡ i.unit → i.reads ≡ map (now_of files) i.reads → None ≡ option_map (λ one. verdict.Stale one.unit) (find (is_off files cached user) used) → false ≡ is_cached cached i
     → ((fs others : List Read) (unit : List ℕ) → ((name : List ℕ) → is_among (expansion fs unit).reads name ≡ true → open_lines others name ≡ open_lines fs name) → expansion others unit ≡ expansion fs unit)
     → ((fs : List Read) (unit : List ℕ) → is_among (expansion fs unit).reads unit ≡ true)
-    → IsAcceptable files kept i
-acceptable files kept i used user k is ones n now none other alone itself =
-    let on : find (is_off files kept i.unit) i.used ≡ None =
-    ap (λ (u : List ℕ). find (is_off files kept u) i.used) (sym n) ∙ ap (find (is_off files kept user)) (sym ones) ∙ nothing_found (find (is_off files kept user) used) None none refl in
+    → IsAcceptable files cached i
+acceptable files cached i used user k is ones n now none other alone itself =
+    let on : find (is_off files cached i.unit) i.used ≡ None =
+    ap (λ (u : List ℕ). find (is_off files cached u) i.used) (sym n) ∙ ap (find (is_off files cached user)) (sym ones) ∙ nothing_found (find (is_off files cached user) used) None none refl in
     record {
-      now = input_is files kept i is now on (alone i.reads files i.unit);
+      now = input_is files cached i is now on (alone i.reads files i.unit);
       job = record {
-        unit = unit_is files kept i is now on (alone i.reads files i.unit);
-        opened = opened_is files kept i is now on (alone i.reads files i.unit) (itself i.reads i.unit);
-        rested = rested_is files kept i is now on (alone i.reads files i.unit);
+        unit = unit_is files cached i is now on (alone i.reads files i.unit);
+        opened = opened_is files cached i is now on (alone i.reads files i.unit) (itself i.reads i.unit);
+        rested = rested_is files cached i is now on (alone i.reads files i.unit);
       };
       other = sym other;
     }

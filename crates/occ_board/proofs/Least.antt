@@ -6,22 +6,22 @@ use Rattle.std.specs.Option.{is_some}
 use Rattle.std.specs.Str.{bytes_eq}
 use Rattle.occ_base.specs.FileName.{is_unit}
 use Rattle.occ_board.proofs.Accepted.{open_among}
-use Rattle.occ_board.proofs.Apart.{among_all, kept_among}
+use Rattle.occ_board.proofs.Apart.{among_all, cached_among}
 use Rattle.occ_board.proofs.Heights.{along_rests}
-use Rattle.occ_board.proofs.Places.{filed}
+use Rattle.occ_board.proofs.Indices.{filed}
 use Rattle.occ_board.proofs.Truths.{among_first, either_true, left_true, not_both, or_right, right_true}
 use Rattle.occ_board.specs.Done.{NoneIsHanded, done, is_input_among, pending_units, ready_units}
 use Rattle.occ_board.specs.Journal.{is_open}
 use Rattle.occ_board.specs.Machine.{next_input}
-use Rattle.occ_report.specs.Inputs.{Input}
+use Rattle.occ_check.specs.Input.{Input}
 use Rattle.occ_project.specs.Entries.{is_among}
 use Rattle.occ_project.specs.declared.reads.Read.{Read}
-use Rattle.occ_report.specs.Checks.{input}
-use Rattle.occ_report.specs.Report.{is_open_unit, open_units}
-use Rattle.occ_units.specs.Places.{is_below, is_circular, rest_units, standing_of}
-use Rattle.occ_units.specs.Project.{IsProject, file_of}
-use Rattle.occ_units.specs.Units.{Uses, used_units}
-use Rattle.occ_units.specs.declared.standing.Standing.TheVariants as standing
+use Rattle.occ_check.specs.Checks.{input}
+use Rattle.occ_check.specs.Report.{is_open_unit, open_units}
+use Rattle.occ_project_units.specs.Indices.{is_below, is_circular, rest_units, standing_of}
+use Rattle.occ_project_units.specs.Project.{IsProject, file_of}
+use Rattle.occ_project_units.specs.Units.{Uses, used_units}
+use Rattle.occ_project_units.specs.declared.standing.Standing.TheVariants as standing
 
 -- a name that fails a test, where not all pass
 fails : (f : List ℕ → Bool) (vs : List (List ℕ)) → list_all f vs ≡ false → (v : List ℕ) × ((is_among vs v ≡ true) × (f v ≡ false))
@@ -78,39 +78,39 @@ below_open : (b c : Bool) → is_below (cond b (cond c standing.Circular standin
 below_open true c h = refl
 below_open false c h = absurd cc
 
-record IsReady (files : List Read) (kept : List Input) (u : List ℕ) : Type 0 where
+record IsReady (files : List Read) (cached : List Input) (u : List ℕ) : Type 0 where
   pub unit : is_unit u ≡ true
   pub opened : is_open files u ≡ true
-  pub pending : done files kept u ≡ false
-  pub rested : list_all (done files kept) (rest_units files u) ≡ true
+  pub pending : done files cached u ≡ false
+  pub rested : list_all (done files cached) (rest_units files u) ≡ true
 
-module _ (files : List Read) (project : IsProject files) (names : (u v : List ℕ) → Uses files u v → is_unit v ≡ true) (h : List ℕ → ℕ) (fall : (u v : List ℕ) → is_among (rest_units files u) v ≡ true → h v < h u) (kept : List Input) where
+module _ (files : List Read) (project : IsProject files) (names : (u v : List ℕ) → Uses files u v → is_unit v ≡ true) (h : List ℕ → ℕ) (fall : (u v : List ℕ) → is_among (rest_units files u) v ≡ true → h v < h u) (cached : List Input) where
   abbrev Leads : List ℕ → Type 0
-  Leads u = is_unit u ≡ true → is_open files u ≡ true → done files kept u ≡ false → (v : List ℕ) × IsReady files kept v
+  Leads u = is_unit u ≡ true → is_open files u ≡ true → done files cached u ≡ false → (v : List ℕ) × IsReady files cached v
 
   -- down to a unit that rests on none that is pending
-  down : (u : List ℕ) (b : Bool) → list_all (done files kept) (rest_units files u) ≡ b → ((v : List ℕ) → is_among (rest_units files u) v ≡ true → Leads v) → Leads u
+  down : (u : List ℕ) (b : Bool) → list_all (done files cached) (rest_units files u) ≡ b → ((v : List ℕ) → is_among (rest_units files u) v ≡ true → Leads v) → Leads u
   down u true e rests unit opened pending = (u, record { unit = unit; opened = opened; pending = pending; rested = e })
   down u false e rests unit opened pending =
-      let one = fails (done files kept) (rest_units files u) e in
+      let one = fails (done files cached) (rest_units files u) e in
       let v = one.0 in
       let below = passes (λ w. is_below (standing_of files u w)) (used_units files u) v one.1.0 in
       let used : Uses files u v = among_all (λ w. is_below (standing_of files u w)) (used_units files u) v one.1.0 in
       rests v one.1.0 (names u v used) (below_open (is_some (file_of files v).source) (is_circular files u v) below) one.1.1
 
   leads : (u : List ℕ) → Leads u
-  leads = along_rests files h fall Leads (λ u rests. down u (list_all (done files kept) (rest_units files u)) refl rests)
+  leads = along_rests files h fall Leads (λ u rests. down u (list_all (done files cached) (rest_units files u)) refl rests)
 
   pending_is : (b : Bool) → not b ≡ true → b ≡ false
   pending_is true e = absurd cc
   pending_is false e = refl
 
-  pub one_ready : (handed : List Input) → 0 < length (pending_units files kept) → NoneIsHanded files kept handed → is_some (next_input files kept handed) ≡ true
+  pub one_ready : (handed : List Input) → 0 < length (pending_units files cached) → NoneIsHanded files cached handed → is_some (next_input files cached handed) ≡ true
   one_ready handed lt none =
-      let one = first (pending_units files kept) lt in
-      let is = opened_unit files one.0 project (among_all (λ u. not (done files kept u)) (open_units files) one.0 one.1) in
-      let ready = leads one.0 is.0 is.1 (pending_is (done files kept one.0) (passes (λ u. not (done files kept u)) (open_units files) one.0 one.1)) in
+      let one = first (pending_units files cached) lt in
+      let is = opened_unit files one.0 project (among_all (λ u. not (done files cached u)) (open_units files) one.0 one.1) in
+      let ready = leads one.0 is.0 is.1 (pending_is (done files cached one.0) (passes (λ u. not (done files cached u)) (open_units files) one.0 one.1)) in
       let v = ready.0 in
-      let among : is_among (pending_units files kept) v ≡ true = kept_among (λ u. not (done files kept u)) (open_units files) v (ap not ready.1.pending) (open_among files v ready.1.unit ready.1.opened) in
-      let first : is_among (ready_units files kept) v ≡ true = kept_among (λ u. list_all (done files kept) (rest_units files u)) (pending_units files kept) v ready.1.rested among in
-      some_found (λ i. not (is_input_among handed i)) (input files) (ready_units files kept) v (ap not (none v among)) first
+      let among : is_among (pending_units files cached) v ≡ true = cached_among (λ u. not (done files cached u)) (open_units files) v (ap not ready.1.pending) (open_among files v ready.1.unit ready.1.opened) in
+      let first : is_among (ready_units files cached) v ≡ true = cached_among (λ u. list_all (done files cached) (rest_units files u)) (pending_units files cached) v ready.1.rested among in
+      some_found (λ i. not (is_input_among handed i)) (input files) (ready_units files cached) v (ap not (none v among)) first

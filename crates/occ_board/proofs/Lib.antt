@@ -3,7 +3,7 @@ pub mod Run
 pub mod AllShown
 pub mod Resting
 pub mod Truths
-pub mod Places
+pub mod Indices
 pub mod Heights
 pub mod Settled
 pub mod Rests
@@ -13,7 +13,7 @@ pub mod Spelled
 pub mod Nexts
 pub mod Shows
 pub mod Edits
-pub mod Keeps
+pub mod Caches
 pub mod Judged
 pub mod Apart
 pub mod Accepted
@@ -29,5 +29,5 @@ pub mod Least
 pub mod Newly
 pub mod Opened
 pub mod Counted
-pub mod Told
+pub mod Revisions
 pub mod Waits

@@ -8,34 +8,34 @@ use Rattle.std.specs.Option.{is_some}
 use Rattle.std.specs.Prelude.{◌==◌, slice_set}
 use Rattle.std.specs.Str.{bytes_eq}
 use Rattle.occ_base.specs.FileName.{is_unit}
-use Rattle.occ_board.proofs.Places.{name_there}
+use Rattle.occ_board.proofs.Indices.{name_there}
 use Rattle.occ_board.proofs.Settled.{flag_at, no_flag, set_fewer, step_done}
 use Rattle.occ_board.proofs.Spread.{placed_there, set_apart, set_here, set_stays}
-use Rattle.occ_board.specs.Done.{done, done_step, is_kept}
+use Rattle.occ_board.specs.Done.{done, done_step, is_cached}
 use Rattle.occ_board.specs.Edits.{IsApart}
 use Rattle.occ_board.specs.inside.Flagged.{AreFlags, IsFull, IsFullAt, IsSound, unflagged}
 use Rattle.occ_board.specs.Journal.{is_open}
-use Rattle.occ_board.specs.inside.Fresh.{kept_check, looked}
+use Rattle.occ_board.specs.inside.Verified.{cached_check, looked}
 use Rattle.occ_board.specs.inside.Touched.{IsClosed}
-use Rattle.occ_report.specs.Inputs.{Input}
-use Rattle.occ_graph.specs.Graph.{has_edge, is_among}
+use Rattle.occ_check.specs.Input.{Input}
+use Rattle.occ_project_graph.specs.Graph.{has_edge, is_among}
 use Rattle.occ_project.specs.Entries as names
 use Rattle.occ_project.specs.Expansion.{expansion}
-use Rattle.occ_project.specs.Reads.{place}
+use Rattle.occ_project.specs.Reads.{index}
 use Rattle.occ_project.specs.declared.reads.Read.{Read}
 use Rattle.occ_project.specs.Uses.{used_in}
-use Rattle.occ_report.specs.Checks.{checked, input_with, used_unit}
-use Rattle.occ_report.specs.declared.checked.Checked.{Checked}
-use Rattle.occ_units.proofs.Edges.{absent_reads, edge, placed_user}
-use Rattle.occ_units.proofs.Finding.{place_within}
-use Rattle.occ_units.proofs.Renewed.{still_long, still_placed, there_among}
-use Rattle.occ_units.specs.Along.{name_at}
-use Rattle.occ_units.specs.Places.{graph_of, is_below, readers_at, rest_units, standing_of, users_at}
-use Rattle.occ_units.specs.Project.{IsProject, file_of, put}
-use Rattle.occ_units.specs.Spelled.{AreSpelled}
-use Rattle.occ_units.specs.Units.{Uses, UsesBy, read_names}
+use Rattle.occ_check.specs.Checks.{checked, input_with, used_unit}
+use Rattle.occ_check.specs.declared.checked.Checked.{Checked}
+use Rattle.occ_project_units.proofs.Edges.{absent_reads, edge, placed_user}
+use Rattle.occ_project_units.proofs.Finding.{index_within}
+use Rattle.occ_project_units.proofs.Renewed.{still_long, still_placed, there_among}
+use Rattle.occ_project_units.specs.Along.{name_at}
+use Rattle.occ_project_units.specs.Indices.{graph_of, is_below, readers_at, rest_units, standing_of, users_at}
+use Rattle.occ_project_units.specs.Project.{IsProject, file_of, put}
+use Rattle.occ_project_units.specs.Spelled.{AreSpelled}
+use Rattle.occ_project_units.specs.Units.{Uses, UsesBy, read_names}
 
--- what marking along the first i users of the unit at a place has come to
+-- what marking along the first i users of the unit at an index has come to
 pub record IsTouch (files : List Read) (users : List ℕ) (old marks : List Bool) (at i : ℕ) : Type 0 where
   pub len : length marks ≡ length files
   pub fewer : unflagged marks < unflagged old
@@ -50,9 +50,9 @@ long_set (f ∷ flags) (suc p) = ap suc (long_set flags p)
 
 module _ (files : List Read) where
   -- one mark is set
-  pub touch_begun : (told : (p q : ℕ) → (is_among (users_at files q) p ≡ true) ↔ (has_edge (graph_of files) p q ≡ true)) (users : List ℕ) (old marks : List Bool) (at : ℕ) → users ≡ users_at files at → marks ≡ slice_set old at true → length old ≡ length files
+  pub touch_begun : (reported : (p q : ℕ) → (is_among (users_at files q) p ≡ true) ↔ (has_edge (graph_of files) p q ≡ true)) (users : List ℕ) (old marks : List Bool) (at : ℕ) → users ≡ users_at files at → marks ≡ slice_set old at true → length old ≡ length files
       → at < length files → get_or old at false ≡ false → IsTouch files users old marks at 0
-  touch_begun told users old marks at u m len lt none = subst (λ (ms : List Bool). IsTouch files users old ms at 0) (sym m) (record {
+  touch_begun reported users old marks at u m len lt none = subst (λ (ms : List Bool). IsTouch files users old ms at 0) (sym m) (record {
     len = long_set old at ∙ len;
     fewer = set_fewer old at (omega (arith, len, lt)) none;
     more = set_stays old at;
@@ -63,7 +63,7 @@ module _ (files : List Read) where
         → (get_or (slice_set old at true) p false ≡ true) ⊎ ((at ≡ q) × (is_among users p ≡ true))
     by p q true t e o h =
         let same : q ≡ at = eqb-true q at t in
-        inr (sym same, ap (λ (ws : List ℕ). is_among ws p) u ∙ (told p at).1 (subst (λ (x : ℕ). has_edge (graph_of files) p x ≡ true) same e))
+        inr (sym same, ap (λ (ws : List ℕ). is_among ws p) u ∙ (reported p at).1 (subst (λ (x : ℕ). has_edge (graph_of files) p x ≡ true) same e))
     by p q false t e o h = let k : get_or old q false ≡ true = sym (set_apart old at q (eqb-false q at t)) ∙ h in absurd (cc (k, o))
 
   -- and what one more user marks
@@ -106,12 +106,12 @@ module _ (files : List Read) where
   -- marks that were closed stay so
   pub closed_more : (old marks : List Bool) → IsClosed (graph_of files) old → ((p : ℕ) → get_or old p false ≡ true → get_or marks p false ≡ true)
       → ((p q : ℕ) → has_edge (graph_of files) p q ≡ true → get_or old q false ≡ false → get_or marks q false ≡ true → get_or marks p false ≡ true) → IsClosed (graph_of files) marks
-  closed_more old marks was more told p q e k = by (get_or old q false) refl where
+  closed_more old marks was more reported p q e k = by (get_or old q false) refl where
     by : (b : Bool) → get_or old q false ≡ b → get_or marks p false ≡ true
     by true o = more p (was p q e o)
-    by false o = told p q e o k
+    by false o = reported p q e o k
 
-  -- what marking the file at a place and along the first n of its readers has come to
+  -- what marking the file at an index and along the first n of its readers has come to
   pub record IsTouched (at : ℕ) (readers : List ℕ) (marks : List Bool) (n : ℕ) : Type 0 where
     pub len : length marks ≡ length files
     pub here : get_or marks at false ≡ true
@@ -152,24 +152,24 @@ no_input fs f u none = ap (λ (b : Bool). record { unit = u; reads = map (file_o
 no_rests : (fs : List Read) (u : List ℕ) → is_unit u ≡ false → rest_units fs u ≡ []
 no_rests fs u none = ap (λ (b : Bool). filter (λ v. is_below (standing_of fs u v)) (cond b (used_in (expansion fs u).lines) [])) none
 
-pub no_unit_step : (kept : List Input) (step : (fs : List Read) (ks : List Input) (u : List ℕ) → IsProject fs → done fs ks u ≡ done_step fs ks u (done fs ks)) (fs : List Read) (u : List ℕ) → is_unit u ≡ false → IsProject fs
-    → done fs kept u ≡ (is_open fs u && (is_kept kept (record { unit = u; reads = []; used = [] }) && true))
-no_unit_step kept step fs u none p =
-    step fs kept u p
-    ∙ ap (λ (i : Input). is_open fs u && (is_kept kept i && list_all (done fs kept) (rest_units fs u))) (no_input fs (checked fs) u none)
-    ∙ ap (λ (vs : List (List ℕ)). is_open fs u && (is_kept kept (record { unit = u; reads = []; used = [] }) && list_all (done fs kept) vs)) (no_rests fs u none)
+pub no_unit_step : (cached : List Input) (step : (fs : List Read) (ks : List Input) (u : List ℕ) → IsProject fs → done fs ks u ≡ done_step fs ks u (done fs ks)) (fs : List Read) (u : List ℕ) → is_unit u ≡ false → IsProject fs
+    → done fs cached u ≡ (is_open fs u && (is_cached cached (record { unit = u; reads = []; used = [] }) && true))
+no_unit_step cached step fs u none p =
+    step fs cached u p
+    ∙ ap (λ (i : Input). is_open fs u && (is_cached cached i && list_all (done fs cached) (rest_units fs u))) (no_input fs (checked fs) u none)
+    ∙ ap (λ (vs : List (List ℕ)). is_open fs u && (is_cached cached (record { unit = u; reads = []; used = [] }) && list_all (done fs cached) vs)) (no_rests fs u none)
 
 pub reads_by : (files : List Read) (name : List ℕ) (b : Bool) (v : List ℕ) → is_unit v ≡ b → b ≡ true → names.is_among (read_names files v) name ≡ false → names.is_among (expansion files v).reads name ≡ false
 reads_by files name true v u t h = sym (ap (λ (b : Bool). names.is_among (cond b (expansion files v).reads []) name) u) ∙ h
 reads_by files name false v u t h = cc
 
 -- a unit that is not marked is one that the edit does not concern
-module _ (files : List Read) (project : IsProject files) (name : List ℕ) (at : ℕ) (marks : List Bool) (e : place name files ≡ Some at) (readers : (p : ℕ) → is_among (readers_at files at) p ≡ true → get_or marks p false ≡ true)
+module _ (files : List Read) (project : IsProject files) (name : List ℕ) (at : ℕ) (marks : List Bool) (e : index name files ≡ Some at) (readers : (p : ℕ) → is_among (readers_at files at) p ≡ true → get_or marks p false ≡ true)
     (closed : IsClosed (graph_of files) marks)
     (reading : (p q : ℕ) → IsProject files → p < length files → q < length files → is_among (readers_at files q) p ≡ names.is_among (read_names files (name_at files p)) (name_at files q))
     (units : (u v : List ℕ) → Uses files u v → is_unit v ≡ true) where
   abbrev Unmarked : List ℕ → Type 0
-  Unmarked v = (q : ℕ) → place v files ≡ Some q → get_or marks q false ≡ false
+  Unmarked v = (q : ℕ) → index v files ≡ Some q → get_or marks q false ≡ false
 
   false_by : (b : Bool) → (b ≡ true → ⊥) → b ≡ false
   false_by true f = absurd (f refl)
@@ -186,23 +186,23 @@ module _ (files : List Read) (project : IsProject files) (name : List ℕ) (at :
   way_unmarked u [] v h uses = (next_unmarked u v h uses, units u v uses)
   way_unmarked u (w ∷ ws) v h uses = way_unmarked w ws v (next_unmarked u w h uses.0) uses.1
 
-  not_alone : (v : List ℕ) → place v files ≡ None → names.is_among (v ∷ []) name ≡ false
+  not_alone : (v : List ℕ) → index v files ≡ None → names.is_among (v ∷ []) name ≡ false
   not_alone v none = false_by (names.is_among (v ∷ []) name) (λ k. by (bytes_eq v name) refl k) where
     by : (b : Bool) → bytes_eq v name ≡ b → (b || false) ≡ true → ⊥
     by true h k =
         let same : v ≡ name = (bytes_eq-Decides v name).0 h in
-        let there : place name files ≡ None = ap (λ (n : List ℕ). place n files) (sym same) ∙ none in
+        let there : index name files ≡ None = ap (λ (n : List ℕ). index n files) (sym same) ∙ none in
         cc (there, e)
     by false h k = cc
 
   unmarked_reads : (v : List ℕ) → is_unit v ≡ true → Unmarked v → names.is_among (expansion files v).reads name ≡ false
-  unmarked_reads v unit h = by (place v files) refl where
-    by : (o : Option ℕ) → place v files ≡ o → names.is_among (expansion files v).reads name ≡ false
+  unmarked_reads v unit h = by (index v files) refl where
+    by : (o : Option ℕ) → index v files ≡ o → names.is_among (expansion files v).reads name ≡ false
     by None k = ap (λ (ns : List (List ℕ)). names.is_among ns name) (absent_reads files v k) ∙ not_alone v k
     by (Some q) k =
         let named : name_at files q ≡ v = name_there files v q k in
         let its : name_at files at ≡ name = name_there files name at e in
-        let law = reading q at project (place_within v files q k) (place_within name files at e) in
+        let law = reading q at project (index_within v files q k) (index_within name files at e) in
         let none : names.is_among (read_names files v) name ≡ false =
         false_by (names.is_among (read_names files v) name) (λ r.
         let reads : is_among (readers_at files at) q ≡ true = law ∙ ap (λ (n : List ℕ). names.is_among (read_names files n) (name_at files at)) named ∙ ap (names.is_among (read_names files v)) its ∙ r in
@@ -217,7 +217,7 @@ module _ (files : List Read) (project : IsProject files) (name : List ℕ) (at :
   unmarked_apart u unit h v (inr way) = let there = way_unmarked u way.0 v h way.1 in unmarked_reads v there.1 there.0
 
   -- nor does it concern what is no unit, but for the file itself
-  module _ (later : List Read) (file : Read) (kept : List Input) (named : file.name ≡ name) (put_is : later ≡ put files file) (here : get_or marks at false ≡ true)
+  module _ (later : List Read) (file : Read) (cached : List Input) (named : file.name ≡ name) (put_is : later ≡ put files file) (here : get_or marks at false ≡ true)
       (apart : (fs : List Read) (f : Read) (ks : List Input) (u : List ℕ) → IsProject fs → IsApart fs f.name u → done (put fs f) ks u ≡ done fs ks u)
       (files_put : (fs : List Read) (f : Read) (n : List ℕ) → file_of (put fs f) n ≡ cond (bytes_eq f.name n) f (file_of fs n)) (rises : (fs : List Read) (f : Read) → IsProject fs → IsProject (put fs f))
       (step : (fs : List Read) (ks : List Input) (u : List ℕ) → IsProject fs → done fs ks u ≡ done_step fs ks u (done fs ks)) where
@@ -226,20 +226,20 @@ module _ (files : List Read) (project : IsProject files) (name : List ℕ) (at :
       by : (b : Bool) → bytes_eq file.name u ≡ b → is_open later u ≡ is_open files u
       by true k =
           let same : name ≡ u = sym named ∙ (bytes_eq-Decides file.name u).0 k in
-          let none = h at (ap (λ (n : List ℕ). place n files) (sym same) ∙ e) in
+          let none = h at (ap (λ (n : List ℕ). index n files) (sym same) ∙ e) in
           absurd (cc (none, here))
       by false k = ap (λ (f : Read). is_some f.source) (ap (λ (fs : List Read). file_of fs u) put_is ∙ files_put files file u ∙ ap (λ (b : Bool). cond b file (file_of files u)) k)
 
-    pub unmarked_same : (u : List ℕ) → Unmarked u → done later kept u ≡ done files kept u
+    pub unmarked_same : (u : List ℕ) → Unmarked u → done later cached u ≡ done files cached u
     unmarked_same u h = by (is_unit u) refl where
-      by : (b : Bool) → is_unit u ≡ b → done later kept u ≡ done files kept u
-      by true unit = ap (λ (fs : List Read). done fs kept u) put_is ∙ apart files file kept u project (subst (λ (n : List ℕ). IsApart files n u) (sym named) (unmarked_apart u unit h))
+      by : (b : Bool) → is_unit u ≡ b → done later cached u ≡ done files cached u
+      by true unit = ap (λ (fs : List Read). done fs cached u) put_is ∙ apart files file cached u project (subst (λ (n : List ℕ). IsApart files n u) (sym named) (unmarked_apart u unit h))
       by false none =
-          no_unit_step kept step later u none (subst IsProject (sym put_is) (rises files file project))
-          ∙ ap (λ (b : Bool). b && (is_kept kept (record { unit = u; reads = []; used = [] }) && true)) (still_open u h)
-          ∙ sym (no_unit_step kept step files u none project)
+          no_unit_step cached step later u none (subst IsProject (sym put_is) (rises files file project))
+          ∙ ap (λ (b : Bool). b && (is_cached cached (record { unit = u; reads = []; used = [] }) && true)) (still_open u h)
+          ∙ sym (no_unit_step cached step files u none project)
 
--- the flags behind the edit of a file that was there
+-- the flags after the edit of a file that was there
 pub left_by : (a b : Bool) → (a && not b) ≡ true → (a ≡ true) × (b ≡ false)
 left_by true true h = absurd cc
 left_by true false h = (refl, refl)
@@ -248,27 +248,27 @@ left_by false b h = absurd cc
 some_is : (m n : ℕ) → Some m ≡ Some n → m ≡ n
 some_is m n s = cc
 
-module _ (files later : List Read) (name : List ℕ) (kept : List Input) (flags marks next : List Bool) (are : AreFlags files kept flags) (places : (u : List ℕ) → place u later ≡ place u files) (left : (p : ℕ) → get_or next p false ≡ (get_or flags p false && not (get_or marks p false)))
-    (same : (u : List ℕ) → ((q : ℕ) → place u files ≡ Some q → get_or marks q false ≡ false) → done later kept u ≡ done files kept u) where
-  at_only : (u : List ℕ) (p : ℕ) → place u later ≡ Some p → get_or marks p false ≡ false → (q : ℕ) → place u files ≡ Some q → get_or marks q false ≡ false
-  at_only u p e m q f = let is : Some p ≡ Some q = sym e ∙ places u ∙ f in subst (λ (x : ℕ). get_or marks x false ≡ false) (some_is p q is) m
+module _ (files later : List Read) (name : List ℕ) (cached : List Input) (flags marks next : List Bool) (are : AreFlags files cached flags) (indices : (u : List ℕ) → index u later ≡ index u files) (left : (p : ℕ) → get_or next p false ≡ (get_or flags p false && not (get_or marks p false)))
+    (same : (u : List ℕ) → ((q : ℕ) → index u files ≡ Some q → get_or marks q false ≡ false) → done later cached u ≡ done files cached u) where
+  at_only : (u : List ℕ) (p : ℕ) → index u later ≡ Some p → get_or marks p false ≡ false → (q : ℕ) → index u files ≡ Some q → get_or marks q false ≡ false
+  at_only u p e m q f = let is : Some p ≡ Some q = sym e ∙ indices u ∙ f in subst (λ (x : ℕ). get_or marks x false ≡ false) (some_is p q is) m
 
-  flagged : (u : List ℕ) (p : ℕ) → place u later ≡ Some p → get_or flags p false ≡ done files kept u
-  flagged u p e = sym (flag_at files flags u p (sym (places u) ∙ e)) ∙ are u
+  flagged : (u : List ℕ) (p : ℕ) → index u later ≡ Some p → get_or flags p false ≡ done files cached u
+  flagged u p e = sym (flag_at files flags u p (sym (indices u) ∙ e)) ∙ are u
 
-  pub sound_behind : IsSound later kept next
-  sound_behind u h = by (place u later) refl where
-    by : (o : Option ℕ) → place u later ≡ o → done later kept u ≡ true
+  pub sound_after : IsSound later cached next
+  sound_after u h = by (index u later) refl where
+    by : (o : Option ℕ) → index u later ≡ o → done later cached u ≡ true
     by None e = let none = no_flag later next u e in absurd (cc (none, h))
     by (Some p) e =
         let parts = left_by (get_or flags p false) (get_or marks p false) (sym (left p) ∙ sym (flag_at later next u p e) ∙ h) in
         same u (at_only u p e parts.1) ∙ sym (flagged u p e) ∙ parts.0
 
-  pub full_behind : IsProject later → ((u : List ℕ) → done later kept u ≡ done_step later kept u (done later kept)) → (p : ℕ) → p < length later → get_or marks p false ≡ false → IsFullAt later kept next p
-  full_behind project law p lt m h =
+  pub full_after : IsProject later → ((u : List ℕ) → done later cached u ≡ done_step later cached u (done later cached)) → (p : ℕ) → p < length later → get_or marks p false ≡ false → IsFullAt later cached next p
+  full_after project law p lt m h =
       let u : List ℕ = name_at later p in
-      let e : place u later ≡ Some p = placed_there later kept project p lt in
-      let is : done later kept u ≡ true = step_done later kept law next u sound_behind h in
+      let e : index u later ≡ Some p = placed_there later cached project p lt in
+      let is : done later cached u ≡ true = step_done later cached law next u sound_after h in
       left p ∙ ap (λ (b : Bool). b && not (get_or marks p false)) (flagged u p e ∙ sym (same u (at_only u p e m)) ∙ is) ∙ ap not m
 
 -- marked units lose their flags one after the other
@@ -303,21 +303,21 @@ get_unset (f ∷ flags) zero = refl
 get_unset (f ∷ flags) (suc n) = get_unset flags n
 
 -- the first n of them
-pub record IsUnflagged (old : List Bool) (places : List ℕ) (flags : List Bool) (n : ℕ) : Type 0 where
+pub record IsUnflagged (old : List Bool) (indices : List ℕ) (flags : List Bool) (n : ℕ) : Type 0 where
   pub len : length flags ≡ length old
-  pub each : (p : ℕ) → get_or flags p false ≡ (get_or old p false && not (is_among (take n places) p))
+  pub each : (p : ℕ) → get_or flags p false ≡ (get_or old p false && not (is_among (take n indices) p))
 
 and_true : (b : Bool) → b ≡ (b && true)
 and_true true = refl
 and_true false = refl
 
-pub unflag_begun : (old : List Bool) (places : List ℕ) → IsUnflagged old places old 0
-unflag_begun old places = record { len = refl; each = λ p. and_true (get_or old p false) }
+pub unflag_begun : (old : List Bool) (indices : List ℕ) → IsUnflagged old indices old 0
+unflag_begun old indices = record { len = refl; each = λ p. and_true (get_or old p false) }
 
-pub unflag_more : (old : List Bool) (places : List ℕ) (flags next : List Bool) (n place : ℕ) → IsUnflagged old places flags n → n < length places → place ≡ get_or places n 0 → next ≡ slice_set flags place false → IsUnflagged old places next (n + 1)
-unflag_more old places flags next n place h lt here put = record {
-  len = ap (length {A = Bool}) put ∙ set_as_long flags place false ∙ h.len;
-  each = λ p. ap (λ (fs : List Bool). get_or fs p false) put ∙ by p (place == p) refl ∙ ap (λ (b : Bool). get_or old p false && not b) (sym (among_take places n p lt ∙ ap (λ (x : ℕ). is_among (take n places) p || (x == p)) (sym here)));
+pub unflag_more : (old : List Bool) (indices : List ℕ) (flags next : List Bool) (n index : ℕ) → IsUnflagged old indices flags n → n < length indices → index ≡ get_or indices n 0 → next ≡ slice_set flags index false → IsUnflagged old indices next (n + 1)
+unflag_more old indices flags next n index h lt here put = record {
+  len = ap (length {A = Bool}) put ∙ set_as_long flags index false ∙ h.len;
+  each = λ p. ap (λ (fs : List Bool). get_or fs p false) put ∙ by p (index == p) refl ∙ ap (λ (b : Bool). get_or old p false && not b) (sym (among_take indices n p lt ∙ ap (λ (x : ℕ). is_among (take n indices) p || (x == p)) (sym here)));
 } where
   none : (a b : Bool) → false ≡ (a && not (b || true))
   none true true = refl
@@ -329,11 +329,11 @@ unflag_more old places flags next n place h lt here put = record {
   same true false = refl
   same false b = refl
 
-  by : (p : ℕ) (b : Bool) → (place == p) ≡ b → get_or (slice_set flags place false) p false ≡ (get_or old p false && not (is_among (take n places) p || (place == p)))
-  by p true e = subst (λ (q : ℕ). get_or (slice_set flags place false) q false ≡ false) (eqb-true place p e) (get_unset flags place)
-      ∙ none (get_or old p false) (is_among (take n places) p) ∙ ap (λ (b : Bool). get_or old p false && not (is_among (take n places) p || b)) (sym e)
-  by p false e = get_set_apart flags place p false (λ q. eqb-false place p e (sym q)) ∙ h.each p ∙ same (get_or old p false) (is_among (take n places) p)
-      ∙ ap (λ (b : Bool). get_or old p false && not (is_among (take n places) p || b)) (sym e)
+  by : (p : ℕ) (b : Bool) → (index == p) ≡ b → get_or (slice_set flags index false) p false ≡ (get_or old p false && not (is_among (take n indices) p || (index == p)))
+  by p true e = subst (λ (q : ℕ). get_or (slice_set flags index false) q false ≡ false) (eqb-true index p e) (get_unset flags index)
+      ∙ none (get_or old p false) (is_among (take n indices) p) ∙ ap (λ (b : Bool). get_or old p false && not (is_among (take n indices) p || b)) (sym e)
+  by p false e = get_set_apart flags index p false (λ q. eqb-false index p e (sym q)) ∙ h.each p ∙ same (get_or old p false) (is_among (take n indices) p)
+      ∙ ap (λ (b : Bool). get_or old p false && not (is_among (take n indices) p || b)) (sym e)
 
 take_all : (ws : List ℕ) (n : ℕ) → length ws ≤ n → take n ws ≡ ws
 take_all [] zero h = refl
@@ -341,8 +341,8 @@ take_all [] (suc n) h = refl
 take_all (w ∷ ws) zero h = absurd (omega (arith, h))
 take_all (w ∷ ws) (suc n) h = ap (λ (xs : List ℕ). w ∷ xs) (take_all ws n (omega (arith, h)))
 
-pub unflag_over : (old : List Bool) (places : List ℕ) (flags : List Bool) (n : ℕ) → IsUnflagged old places flags n → length places ≤ n → (p : ℕ) → get_or flags p false ≡ (get_or old p false && not (is_among places p))
-unflag_over old places flags n h most p = h.each p ∙ ap (λ (ws : List ℕ). get_or old p false && not (is_among ws p)) (take_all places n most)
+pub unflag_over : (old : List Bool) (indices : List ℕ) (flags : List Bool) (n : ℕ) → IsUnflagged old indices flags n → length indices ≤ n → (p : ℕ) → get_or flags p false ≡ (get_or old p false && not (is_among indices p))
+unflag_over old indices flags n h most p = h.each p ∙ ap (λ (ws : List ℕ). get_or old p false && not (is_among ws p)) (take_all indices n most)
 
 -- what is marked is there
 pub marked_there : (marks : List Bool) (p : ℕ) → get_or marks p false ≡ true → p < length marks
@@ -350,80 +350,80 @@ marked_there [] p h = absurd cc
 marked_there (m ∷ marks) zero h = omega arith
 marked_there (m ∷ marks) (suc p) h = let k = marked_there marks p h in omega (arith, k)
 
--- none is behind all of them
-pub none_behind : (ws : List ℕ) (n p : ℕ) → length ws ≤ n → is_among (drop n ws) p ≡ false
-none_behind [] zero p le = refl
-none_behind [] (suc n) p le = refl
-none_behind (w ∷ ws) zero p le = absurd (omega (arith, le))
-none_behind (w ∷ ws) (suc n) p le = none_behind ws n p (omega (arith, le))
+-- none is after all of them
+pub none_following : (ws : List ℕ) (n p : ℕ) → length ws ≤ n → is_among (drop n ws) p ≡ false
+none_following [] zero p le = refl
+none_following [] (suc n) p le = refl
+none_following (w ∷ ws) zero p le = absurd (omega (arith, le))
+none_following (w ∷ ws) (suc n) p le = none_following ws n p (omega (arith, le))
 
 -- marked units one after the other
-module _ (files : List Read) (kept : List Input) (places : List ℕ) where
-  -- no flag is missing but those of the units behind the first n of them
+module _ (files : List Read) (cached : List Input) (indices : List ℕ) where
+  -- no flag is missing but those of the units after the first n of them
   abbrev pub IsResettled : List Bool → ℕ → Type 0
-  IsResettled flags n = (p : ℕ) → p < length files → IsFullAt files kept flags p ⊎ (is_among (drop n places) p ≡ true)
+  IsResettled flags n = (p : ℕ) → p < length files → IsFullAt files cached flags p ⊎ (is_among (drop n indices) p ≡ true)
 
-  pub resettled_begun : (marks flags : List Bool) → ((p : ℕ) → is_among places p ≡ get_or marks p false) → ((p : ℕ) → p < length files → get_or marks p false ≡ false → IsFullAt files kept flags p) → IsResettled flags 0
-  resettled_begun marks flags told full p lt = by (get_or marks p false) refl where
-    by : (b : Bool) → get_or marks p false ≡ b → IsFullAt files kept flags p ⊎ (is_among places p ≡ true)
-    by true e = inr (told p ∙ e)
+  pub resettled_begun : (marks flags : List Bool) → ((p : ℕ) → is_among indices p ≡ get_or marks p false) → ((p : ℕ) → p < length files → get_or marks p false ≡ false → IsFullAt files cached flags p) → IsResettled flags 0
+  resettled_begun marks flags reported full p lt = by (get_or marks p false) refl where
+    by : (b : Bool) → get_or marks p false ≡ b → IsFullAt files cached flags p ⊎ (is_among indices p ≡ true)
+    by true e = inr (reported p ∙ e)
     by false e = inl (full p lt e)
 
-  pub resettled_more : (flags next : List Bool) (n place : ℕ) → IsResettled flags n → drop n places ≡ place ∷ drop (n + 1) places
-      → ((p : ℕ) → p < length files → IsFullAt files kept flags p ⊎ (place ≡ p) → IsFullAt files kept next p) → IsResettled next (n + 1)
-  resettled_more flags next n place h split more p lt = elim (h p lt) [
+  pub resettled_more : (flags next : List Bool) (n index : ℕ) → IsResettled flags n → drop n indices ≡ index ∷ drop (n + 1) indices
+      → ((p : ℕ) → p < length files → IsFullAt files cached flags p ⊎ (index ≡ p) → IsFullAt files cached next p) → IsResettled next (n + 1)
+  resettled_more flags next n index h split more p lt = elim (h p lt) [
     | inl k ↦ inl (more p lt (inl k))
-    | inr k ↦ by (place == p) refl (sym (ap (λ (ws : List ℕ). is_among ws p) split) ∙ k)
+    | inr k ↦ by (index == p) refl (sym (ap (λ (ws : List ℕ). is_among ws p) split) ∙ k)
   ] where
-    by : (b : Bool) → (place == p) ≡ b → (b || is_among (drop (n + 1) places) p) ≡ true → IsFullAt files kept next p ⊎ (is_among (drop (n + 1) places) p ≡ true)
-    by true e m = inl (more p lt (inr (eqb-true place p e)))
+    by : (b : Bool) → (index == p) ≡ b → (b || is_among (drop (n + 1) indices) p) ≡ true → IsFullAt files cached next p ⊎ (is_among (drop (n + 1) indices) p ≡ true)
+    by true e m = inl (more p lt (inr (eqb-true index p e)))
     by false e m = inr m
 
-  pub all_resettled : (flags : List Bool) (n : ℕ) → length places ≤ n → IsResettled flags n → IsFull files kept flags (length files)
+  pub all_resettled : (flags : List Bool) (n : ℕ) → length indices ≤ n → IsResettled flags n → IsFull files cached flags (length files)
   all_resettled flags n most h p lt = elim (h p lt) [
     | inl k ↦ k
-    | inr k ↦ let none = none_behind places n p most in absurd (cc (none, k))
+    | inr k ↦ let none = none_following indices n p most in absurd (cc (none, k))
   ]
 
--- the flags behind the edit of the file at a place
-module _ (files one later : List Read) (file : Read) (at : ℕ) (project : IsProject files) (same : one ≡ files) (put_is : later ≡ put one file) (e : place file.name files ≡ Some at) where
+-- the flags after the edit of the file at an index
+module _ (files one later : List Read) (file : Read) (at : ℕ) (project : IsProject files) (same : one ≡ files) (put_is : later ≡ put one file) (e : index file.name files ≡ Some at) where
   put_later : later ≡ put files file
   put_later = put_is ∙ ap (λ (fs : List Read). put fs file) same
 
   pub long_at : length later ≡ length files
   long_at = still_long files later file at project put_later e
 
-  module _ (kept : List Input) (readers slice : List ℕ) (marks flags next : List Bool) (r : readers ≡ readers_at files at) (s : slice ≡ readers) (are : AreFlags files kept flags)
-      (here : get_or marks at false ≡ true) (told : (p : ℕ) → is_among slice p ≡ true → get_or marks p false ≡ true) (closed : IsClosed (graph_of one) marks)
+  module _ (cached : List Input) (readers slice : List ℕ) (marks flags next : List Bool) (r : readers ≡ readers_at files at) (s : slice ≡ readers) (are : AreFlags files cached flags)
+      (here : get_or marks at false ≡ true) (reported : (p : ℕ) → is_among slice p ≡ true → get_or marks p false ≡ true) (closed : IsClosed (graph_of one) marks)
       (left : (p : ℕ) → get_or next p false ≡ (get_or flags p false && not (get_or marks p false)))
       (reading : (fs : List Read) (p q : ℕ) → IsProject fs → p < length fs → q < length fs → is_among (readers_at fs q) p ≡ names.is_among (read_names fs (name_at fs p)) (name_at fs q))
       (spelled : AreSpelled files) (units : (fs : List Read) (u v : List ℕ) → AreSpelled fs → Uses fs u v → is_unit v ≡ true)
       (apart : (fs : List Read) (f : Read) (ks : List Input) (u : List ℕ) → IsProject fs → IsApart fs f.name u → done (put fs f) ks u ≡ done fs ks u)
       (files_put : (fs : List Read) (f : Read) (n : List ℕ) → file_of (put fs f) n ≡ cond (bytes_eq f.name n) f (file_of fs n)) (rises : (fs : List Read) (f : Read) → IsProject fs → IsProject (put fs f))
       (step : (fs : List Read) (ks : List Input) (u : List ℕ) → IsProject fs → done fs ks u ≡ done_step fs ks u (done fs ks)) where
-    same_at : (u : List ℕ) → ((q : ℕ) → place u files ≡ Some q → get_or marks q false ≡ false) → done later kept u ≡ done files kept u
+    same_at : (u : List ℕ) → ((q : ℕ) → index u files ≡ Some q → get_or marks q false ≡ false) → done later cached u ≡ done files cached u
     same_at u h =
-        unmarked_same files project file.name at marks e (λ p k. told p (ap (λ (ws : List ℕ). is_among ws p) (s ∙ r) ∙ k)) (subst (λ (fs : List Read). IsClosed (graph_of fs) marks) same closed)
-        (λ p q. reading files p q) (λ v w. units files v w spelled) later file kept refl put_later here apart files_put rises step u h
+        unmarked_same files project file.name at marks e (λ p k. reported p (ap (λ (ws : List ℕ). is_among ws p) (s ∙ r) ∙ k)) (subst (λ (fs : List Read). IsClosed (graph_of fs) marks) same closed)
+        (λ p q. reading files p q) (λ v w. units files v w spelled) later file cached refl put_later here apart files_put rises step u h
 
     -- and what an outcome of it would have looked at
-    pub looked_at : ((fs : List Read) (f : Read) (ks : List Input) (u : List ℕ) → IsApart fs f.name u → looked (put fs f) ks u ≡ looked fs ks u) → (u : List ℕ) → ((q : ℕ) → place u files ≡ Some q → get_or marks q false ≡ false) → looked later kept u ≡ looked files kept u
+    pub looked_at : ((fs : List Read) (f : Read) (ks : List Input) (u : List ℕ) → IsApart fs f.name u → looked (put fs f) ks u ≡ looked fs ks u) → (u : List ℕ) → ((q : ℕ) → index u files ≡ Some q → get_or marks q false ≡ false) → looked later cached u ≡ looked files cached u
     looked_at law u h = by (is_unit u) refl where
-      by : (b : Bool) → is_unit u ≡ b → looked later kept u ≡ looked files kept u
+      by : (b : Bool) → is_unit u ≡ b → looked later cached u ≡ looked files cached u
       by true unit =
-          ap (λ (fs : List Read). looked fs kept u) put_later
-          ∙ law files file kept u (unmarked_apart files project file.name at marks e (λ p k. told p (ap (λ (ws : List ℕ). is_among ws p) (s ∙ r) ∙ k)) (subst (λ (fs : List Read). IsClosed (graph_of fs) marks) same closed)
+          ap (λ (fs : List Read). looked fs cached u) put_later
+          ∙ law files file cached u (unmarked_apart files project file.name at marks e (λ p k. reported p (ap (λ (ws : List ℕ). is_among ws p) (s ∙ r) ∙ k)) (subst (λ (fs : List Read). IsClosed (graph_of fs) marks) same closed)
           (λ p q. reading files p q) (λ v w. units files v w spelled) u unit h)
-      by false none = no_input later (kept_check kept) u none ∙ sym (no_input files (kept_check kept) u none)
+      by false none = no_input later (cached_check cached) u none ∙ sym (no_input files (cached_check cached) u none)
 
-    places_at : (u : List ℕ) → place u later ≡ place u files
-    places_at u = still_placed files later file at project put_later e u
+    indices_at : (u : List ℕ) → index u later ≡ index u files
+    indices_at u = still_placed files later file at project put_later e u
 
     later_project : IsProject later
     later_project = subst IsProject (sym put_later) (rises files file project)
 
-    pub sound_at : IsSound later kept next
-    sound_at = sound_behind files later file.name kept flags marks next are places_at left same_at
+    pub sound_at : IsSound later cached next
+    sound_at = sound_after files later file.name cached flags marks next are indices_at left same_at
 
-    pub full_at : (p : ℕ) → p < length later → get_or marks p false ≡ false → IsFullAt later kept next p
-    full_at = full_behind files later file.name kept flags marks next are places_at left same_at later_project (λ u. step later kept u later_project)
+    pub full_at : (p : ℕ) → p < length later → get_or marks p false ≡ false → IsFullAt later cached next p
+    full_at = full_after files later file.name cached flags marks next are indices_at left same_at later_project (λ u. step later cached u later_project)

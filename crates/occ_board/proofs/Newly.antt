@@ -1,4 +1,4 @@
--- The flags behind an edit of a file that is new, and that no file looks for.
+-- The flags after an edit of a file that is new, and that no file looks for.
 use Rattle.std.proofs.Common.{◌≡◌, ◌∙◌, ◌<◌, ◌≤◌, ◌+◌, ◌&&◌, ◌||◌, ℕ, Bool, true, false, cond, List, [], ◌∷◌, length, get_or, replicate, Option, Some, None, refl, sym, ap, subst, inl, inr, arith}
 use Rattle.std.proofs.lemmas.Bool.{cases_lt}
 use Rattle.std.proofs.lemmas.List.{length-replicate}
@@ -9,34 +9,34 @@ use Rattle.std.specs.Option.{is_some, option_map}
 use Rattle.std.specs.Str.{bytes_eq}
 use Rattle.occ_base.specs.FileName.{is_unit}
 use Rattle.occ_board.proofs.Marked.{no_unit_step, reads_by}
-use Rattle.occ_board.proofs.Places.{name_there}
+use Rattle.occ_board.proofs.Indices.{name_there}
 use Rattle.occ_board.proofs.Settled.{flag_at, no_flag, step_done}
 use Rattle.occ_board.proofs.Spread.{placed_there}
-use Rattle.occ_board.specs.Done.{done, done_step, is_kept}
+use Rattle.occ_board.specs.Done.{done, done_step, is_cached}
 use Rattle.occ_board.specs.Edits.{IsApart}
 use Rattle.occ_board.specs.Journal.{is_open}
 use Rattle.occ_board.specs.inside.Flagged.{AreFlags, IsFullAt, IsSound, flag_of}
-use Rattle.occ_report.specs.Inputs.{Input}
-use Rattle.occ_graph.specs.Adding.{raised}
-use Rattle.occ_graph.proofs.Added.{raised_above, raised_below}
+use Rattle.occ_check.specs.Input.{Input}
+use Rattle.occ_project_graph.specs.Adding.{raised}
+use Rattle.occ_project_graph.proofs.Added.{raised_above, raised_below}
 use Rattle.occ_project.specs.Entries.{is_among}
 use Rattle.occ_project.specs.Expansion.{expansion}
-use Rattle.occ_project.specs.Reads.{place}
+use Rattle.occ_project.specs.Reads.{index}
 use Rattle.occ_project.specs.declared.reads.Read.{Read}
-use Rattle.occ_units.proofs.Added.{place_new, place_then, put_long, put_longer}
-use Rattle.occ_units.proofs.Edges.{absent_reads, placed_user}
-use Rattle.occ_units.proofs.Finding.{place_within}
-use Rattle.occ_units.specs.Along.{name_at}
-use Rattle.occ_units.specs.New.{IsNew}
-use Rattle.occ_units.specs.Project.{IsProject, file_of, put}
-use Rattle.occ_units.specs.Spelled.{AreSpelled}
-use Rattle.occ_units.specs.Units.{Uses, UsesBy, read_names, used_units}
+use Rattle.occ_project_units.proofs.Added.{index_new, index_then, put_long, put_longer}
+use Rattle.occ_project_units.proofs.Edges.{absent_reads, placed_user}
+use Rattle.occ_project_units.proofs.Finding.{index_within}
+use Rattle.occ_project_units.specs.Along.{name_at}
+use Rattle.occ_project_units.specs.New.{IsNew}
+use Rattle.occ_project_units.specs.Project.{IsProject, file_of, put}
+use Rattle.occ_project_units.specs.Spelled.{AreSpelled}
+use Rattle.occ_project_units.specs.Units.{Uses, UsesBy, read_names, used_units}
 
 none_by : (b : Bool) → (b ≡ true → ⊥) → b ≡ false
 none_by true f = absurd (f refl)
 none_by false f = refl
 
--- flags, with one that is not set at a place among them
+-- flags, with one that is not set at an index among them
 module _ (flags : List Bool) (at : ℕ) (le : at ≤ length flags) where
   pub flag_then : (p : ℕ) → get_or (insert flags at false) (raised at p) false ≡ get_or flags p false
   flag_then p = elim (cases_lt p at) [
@@ -50,15 +50,15 @@ module _ (flags : List Bool) (at : ℕ) (le : at ≤ length flags) where
 -- the file is a read of no unit that is there, nor of one that such a unit reaches
 module _ (files : List Read) (name : List ℕ) (at : ℕ) (new : IsNew files name at) (units : (u v : List ℕ) → Uses files u v → is_unit v ≡ true) where
   new_reads : (v : List ℕ) → is_unit v ≡ true → bytes_eq v name ≡ false → is_among (expansion files v).reads name ≡ false
-  new_reads v unit other = by (place v files) refl where
-    by : (o : Option ℕ) → place v files ≡ o → is_among (expansion files v).reads name ≡ false
+  new_reads v unit other = by (index v files) refl where
+    by : (o : Option ℕ) → index v files ≡ o → is_among (expansion files v).reads name ≡ false
     by None e = ap (λ (ns : List (List ℕ)). is_among ns name) (absent_reads files v e) ∙ ap (λ (b : Bool). b || false) other
-    by (Some q) e = reads_by files name (is_unit v) v refl unit (ap (λ (n : List ℕ). is_among (read_names files n) name) (sym (name_there files v q e)) ∙ new.unread q (place_within v files q e))
+    by (Some q) e = reads_by files name (is_unit v) v refl unit (ap (λ (n : List ℕ). is_among (read_names files n) name) (sym (name_there files v q e)) ∙ new.unread q (index_within v files q e))
 
   used_other : (u v : List ℕ) → Uses files u v → bytes_eq v name ≡ false
   used_other u v uses = none_by (bytes_eq v name) (λ k.
       let from = placed_user files u v uses in
-      let none : is_among (used_units files u) name ≡ false = ap (λ (n : List ℕ). is_among (used_units files n) name) (sym (name_there files u from.0 from.1)) ∙ new.unused from.0 (place_within u files from.0 from.1) in
+      let none : is_among (used_units files u) name ≡ false = ap (λ (n : List ℕ). is_among (used_units files n) name) (sym (name_there files u from.0 from.1)) ∙ new.unused from.0 (index_within u files from.0 from.1) in
       let some : is_among (used_units files u) name ≡ true = ap (is_among (used_units files u)) (sym ((bytes_eq-Decides v name).0 k)) ∙ uses in
       cc (none, some))
 
@@ -73,7 +73,7 @@ module _ (files : List Read) (name : List ℕ) (at : ℕ) (new : IsNew files nam
 pub swapped : (a b : List ℕ) → bytes_eq a b ≡ false → bytes_eq b a ≡ false
 swapped a b h = none_by (bytes_eq b a) (λ k. let here : bytes_eq a b ≡ true = (bytes_eq-Decides a b).1 (sym ((bytes_eq-Decides b a).0 k)) in cc (h, here))
 
-module _ (files later : List Read) (file : Read) (at : ℕ) (project : IsProject files) (new : IsNew files file.name at) (put_is : later ≡ put files file) (kept : List Input) (flags next : List Bool) (len : length flags ≡ length files) (are : AreFlags files kept flags) (n : next ≡ insert flags at false)
+module _ (files later : List Read) (file : Read) (at : ℕ) (project : IsProject files) (new : IsNew files file.name at) (put_is : later ≡ put files file) (cached : List Input) (flags next : List Bool) (len : length flags ≡ length files) (are : AreFlags files cached flags) (n : next ≡ insert flags at false)
     (spelled : AreSpelled files) (units : (fs : List Read) (u v : List ℕ) → AreSpelled fs → Uses fs u v → is_unit v ≡ true)
     (apart : (fs : List Read) (f : Read) (ks : List Input) (u : List ℕ) → IsProject fs → IsApart fs f.name u → done (put fs f) ks u ≡ done fs ks u)
     (files_put : (fs : List Read) (f : Read) (n : List ℕ) → file_of (put fs f) n ≡ cond (bytes_eq f.name n) f (file_of fs n)) (rises : (fs : List Read) (f : Read) → IsProject fs → IsProject (put fs f))
@@ -90,55 +90,55 @@ module _ (files later : List Read) (file : Read) (at : ℕ) (project : IsProject
   still_open : (u : List ℕ) → bytes_eq file.name u ≡ false → is_open later u ≡ is_open files u
   still_open u other = ap (λ (f : Read). is_some f.source) (ap (λ (fs : List Read). file_of fs u) put_is ∙ files_put files file u ∙ ap (λ (b : Bool). cond b file (file_of files u)) other)
 
-  same_done : (u : List ℕ) → bytes_eq file.name u ≡ false → done later kept u ≡ done files kept u
+  same_done : (u : List ℕ) → bytes_eq file.name u ≡ false → done later cached u ≡ done files cached u
   same_done u other = by (is_unit u) refl where
-    by : (b : Bool) → is_unit u ≡ b → done later kept u ≡ done files kept u
-    by true unit = ap (λ (fs : List Read). done fs kept u) put_is ∙ apart files file kept u project (new_apart files file.name at new (λ v w. units files v w spelled) u unit (swapped file.name u other))
+    by : (b : Bool) → is_unit u ≡ b → done later cached u ≡ done files cached u
+    by true unit = ap (λ (fs : List Read). done fs cached u) put_is ∙ apart files file cached u project (new_apart files file.name at new (λ v w. units files v w spelled) u unit (swapped file.name u other))
     by false none =
-        no_unit_step kept step later u none later_project
-        ∙ ap (λ (b : Bool). b && (is_kept kept (record { unit = u; reads = []; used = [] }) && true)) (still_open u other)
-        ∙ sym (no_unit_step kept step files u none project)
+        no_unit_step cached step later u none later_project
+        ∙ ap (λ (b : Bool). b && (is_cached cached (record { unit = u; reads = []; used = [] }) && true)) (still_open u other)
+        ∙ sym (no_unit_step cached step files u none project)
 
-  placed_then : (u : List ℕ) → bytes_eq file.name u ≡ false → place u later ≡ option_map (raised at) (place u files)
-  placed_then u other = ap (place u) put_is ∙ place_then files file at new u other
+  placed_then : (u : List ℕ) → bytes_eq file.name u ≡ false → index u later ≡ option_map (raised at) (index u files)
+  placed_then u other = ap (index u) put_is ∙ index_then files file at new u other
 
-  flag_there : (u : List ℕ) (q : ℕ) → place u files ≡ Some q → get_or next (raised at q) false ≡ done files kept u
+  flag_there : (u : List ℕ) (q : ℕ) → index u files ≡ Some q → get_or next (raised at q) false ≡ done files cached u
   flag_there u q e = ap (λ (fs : List Bool). get_or fs (raised at q) false) n ∙ flag_then flags at room q ∙ sym (flag_at files flags u q e) ∙ are u
 
-  pub new_sound : IsSound later kept next
+  pub new_sound : IsSound later cached next
   new_sound u h = by (bytes_eq file.name u) refl where
-    there : (o : Option ℕ) → place u files ≡ o → bytes_eq file.name u ≡ false → done later kept u ≡ true
+    there : (o : Option ℕ) → index u files ≡ o → bytes_eq file.name u ≡ false → done later cached u ≡ true
     there None e other = let none = no_flag later next u (placed_then u other ∙ ap (option_map (raised at)) e) in absurd (cc (none, h))
     there (Some q) e other =
-        let at_place : place u later ≡ Some (raised at q) = placed_then u other ∙ ap (option_map (raised at)) e in
-        same_done u other ∙ sym (flag_there u q e) ∙ sym (flag_at later next u (raised at q) at_place) ∙ h
+        let at_index : index u later ≡ Some (raised at q) = placed_then u other ∙ ap (option_map (raised at)) e in
+        same_done u other ∙ sym (flag_there u q e) ∙ sym (flag_at later next u (raised at q) at_index) ∙ h
 
-    by : (b : Bool) → bytes_eq file.name u ≡ b → done later kept u ≡ true
+    by : (b : Bool) → bytes_eq file.name u ≡ b → done later cached u ≡ true
     by true e =
         let same : file.name ≡ u = (bytes_eq-Decides file.name u).0 e in
-        let here : place u later ≡ Some at = ap (place u) put_is ∙ ap (λ (m : List ℕ). place m (put files file)) (sym same) ∙ place_new files file at new in
+        let here : index u later ≡ Some at = ap (index u) put_is ∙ ap (λ (m : List ℕ). index m (put files file)) (sym same) ∙ index_new files file at new in
         let none : flag_of later next u ≡ false = flag_at later next u at here ∙ ap (λ (fs : List Bool). get_or fs at false) n ∙ flag_new flags at room in
         absurd (cc (none, h))
-    by false e = there (place u files) refl e
+    by false e = there (index u files) refl e
 
-  pub new_full : (p : ℕ) → p < length later → bytes_eq file.name (name_at later p) ≡ false → IsFullAt later kept next p
-  new_full p lt other h = by (place (name_at later p) files) refl where
+  pub new_full : (p : ℕ) → p < length later → bytes_eq file.name (name_at later p) ≡ false → IsFullAt later cached next p
+  new_full p lt other h = by (index (name_at later p) files) refl where
     u : List ℕ
     u = name_at later p
 
-    here : place u later ≡ Some p
-    here = placed_there later kept later_project p lt
+    here : index u later ≡ Some p
+    here = placed_there later cached later_project p lt
 
-    is : done later kept u ≡ true
-    is = step_done later kept (λ v. step later kept v later_project) next u new_sound h
+    is : done later cached u ≡ true
+    is = step_done later cached (λ v. step later cached v later_project) next u new_sound h
 
-    by : (o : Option ℕ) → place u files ≡ o → get_or next p false ≡ true
-    by None e = let none : place u later ≡ None = placed_then u other ∙ ap (option_map (raised at)) e in absurd (cc (none, here))
+    by : (o : Option ℕ) → index u files ≡ o → get_or next p false ≡ true
+    by None e = let none : index u later ≡ None = placed_then u other ∙ ap (option_map (raised at)) e in absurd (cc (none, here))
     by (Some q) e =
-        let there : place u later ≡ Some (raised at q) = placed_then u other ∙ ap (option_map (raised at)) e in
+        let there : index u later ≡ Some (raised at q) = placed_then u other ∙ ap (option_map (raised at)) e in
         let same : raised at q ≡ p = cc (there, here) in
         ap (λ (x : ℕ). get_or next x false) (sym same) ∙ flag_there u q e ∙ sym (same_done u other) ∙ is
 
 -- no flag is set where all are found anew
-pub all_long : (files later : List Read) (file : Read) (flags : List Bool) (count : ℕ) → flags ≡ replicate count false → count ≡ length files + 1 → later ≡ put files file → place file.name files ≡ None → length flags ≡ length later
+pub all_long : (files later : List Read) (file : Read) (flags : List Bool) (count : ℕ) → flags ≡ replicate count false → count ≡ length files + 1 → later ≡ put files file → index file.name files ≡ None → length flags ≡ length later
 all_long files later file flags count f n e none = ap (length {A = Bool}) f ∙ length-replicate count false ∙ n ∙ sym (ap (length {A = Read}) e ∙ put_longer files file none)

@@ -4,7 +4,7 @@ use Rattle.std.proofs.lemmas.List.{drop_all, drop_more}
 use Rattle.std.specs.List.{filter, find, list_all, slice_get}
 use Rattle.std.specs.Option.{is_some, option_map}
 use Rattle.occ_base.specs.FileName.{is_unit}
-use Rattle.occ_board.proofs.Places.{filed, named, placed}
+use Rattle.occ_board.proofs.Indices.{filed, named, placed}
 use Rattle.occ_board.proofs.Resting.{same_all}
 use Rattle.occ_board.proofs.Settled.{flag_at}
 use Rattle.occ_board.proofs.Shows.{there}
@@ -13,13 +13,13 @@ use Rattle.occ_board.specs.Done.{done, is_input_among}
 use Rattle.occ_board.specs.Machine.{next_input}
 use Rattle.occ_board.specs.inside.Flagged.{AreFlags, flag_of}
 use Rattle.occ_board.specs.inside.Ready.{HasJob, NoneIsReady, is_next, is_ready, is_rested}
-use Rattle.occ_report.specs.Inputs.{Input}
+use Rattle.occ_check.specs.Input.{Input}
 use Rattle.occ_project.specs.declared.reads.Read.{Read}
-use Rattle.occ_report.specs.Checks.{input}
-use Rattle.occ_report.specs.Report.{is_open_unit}
-use Rattle.occ_units.specs.Along.{name_at}
-use Rattle.occ_units.specs.Places.{rest_units}
-use Rattle.occ_units.specs.Project.{IsProject, file_of}
+use Rattle.occ_check.specs.Checks.{input}
+use Rattle.occ_check.specs.Report.{is_open_unit}
+use Rattle.occ_project_units.specs.Along.{name_at}
+use Rattle.occ_project_units.specs.Indices.{rest_units}
+use Rattle.occ_project_units.specs.Project.{IsProject, file_of}
 
 abbrev names_in : List Read → List (List ℕ)
 names_in files = map (λ file. file.name) files
@@ -49,22 +49,22 @@ module _ (f : List ℕ → Input) (q r : List ℕ → Bool) (t : Input → Bool)
   first_is [] = refl
   first_is (file ∷ files) = by_open (is_open_unit file) file (filter is_open_unit files) (find (λ file. is_open_unit file && (q file.name && (r file.name && t (f file.name)))) files) (first_is files)
 
-pub next_is : (files : List Read) (kept handed : List Input) → next_input files kept handed ≡ option_map (λ file. input files file.name) (find (is_next files kept handed) files)
-next_is files kept handed = first_is (input files) (λ u. not (done files kept u)) (is_rested files kept) (λ i. not (is_input_among handed i)) files
+pub next_is : (files : List Read) (cached handed : List Input) → next_input files cached handed ≡ option_map (λ file. input files file.name) (find (is_next files cached handed) files)
+next_is files cached handed = first_is (input files) (λ u. not (done files cached u)) (is_rested files cached) (λ i. not (is_input_among handed i)) files
 
 -- there is a job of it
-pub next_has_job : (files : List Read) (kept handed : List Input) (file : Read) → file_of files file.name ≡ file → is_next files kept handed file ≡ true → HasJob files kept file.name
-next_has_job files kept handed file here h =
-    let opened = left_true (is_open_unit file) (not (done files kept file.name) && (is_rested files kept file.name && not (is_input_among handed (input files file.name)))) h in
-    let rest = right_true (is_open_unit file) (not (done files kept file.name) && (is_rested files kept file.name && not (is_input_among handed (input files file.name)))) h in
-    let ready = right_true (not (done files kept file.name)) (is_rested files kept file.name && not (is_input_among handed (input files file.name))) rest in
+pub next_has_job : (files : List Read) (cached handed : List Input) (file : Read) → file_of files file.name ≡ file → is_next files cached handed file ≡ true → HasJob files cached file.name
+next_has_job files cached handed file here h =
+    let opened = left_true (is_open_unit file) (not (done files cached file.name) && (is_rested files cached file.name && not (is_input_among handed (input files file.name)))) h in
+    let rest = right_true (is_open_unit file) (not (done files cached file.name) && (is_rested files cached file.name && not (is_input_among handed (input files file.name)))) h in
+    let ready = right_true (not (done files cached file.name)) (is_rested files cached file.name && not (is_input_among handed (input files file.name))) rest in
     record {
       unit = left_true (is_unit file.name) (is_some file.source) opened;
       opened = ap (λ (f : Read). is_some f.source) here ∙ right_true (is_unit file.name) (is_some file.source) opened;
-      rested = left_true (is_rested files kept file.name) (not (is_input_among handed (input files file.name))) ready;
+      rested = left_true (is_rested files cached file.name) (not (is_input_among handed (input files file.name))) ready;
     }
 
--- nothing before a place passes the test
+-- nothing before an index passes the test
 pub none_before : {X : Type 0} (t : X → Bool) (xs : List X) (n : ℕ) → ((p : ℕ) (x : X) → p < n → slice_get xs p ≡ Some x → t x ≡ false) → find t (drop n xs) ≡ find t xs
 none_before t xs zero h = refl
 none_before t [] (suc n) h = refl
@@ -90,31 +90,31 @@ ready_rests o true r e = absurd cc
 ready_rests o false true e = refl
 ready_rests o false false e = absurd cc
 
-module _ (files : List Read) (kept handed : List Input) (flags : List Bool) (p : ℕ) (file : Read) (project : IsProject files) (are : AreFlags files kept flags) (here : slice_get files p ≡ Some file) where
-  -- the flag at the place
-  flag_here : get_or flags p false ≡ done files kept file.name
+module _ (files : List Read) (cached handed : List Input) (flags : List Bool) (p : ℕ) (file : Read) (project : IsProject files) (are : AreFlags files cached flags) (here : slice_get files p ≡ Some file) where
+  -- the flag at the index
+  flag_here : get_or flags p false ≡ done files cached file.name
   flag_here = sym (flag_at files flags file.name p (placed files p file project here)) ∙ are file.name
 
-  pub rested_here : list_all (flag_of files flags) (rest_units files (name_at files p)) ≡ is_rested files kept file.name
+  pub rested_here : list_all (flag_of files flags) (rest_units files (name_at files p)) ≡ is_rested files cached file.name
   rested_here =
       ap (λ (n : List ℕ). list_all (flag_of files flags) (rest_units files n)) (named files p file here)
-      ∙ same_all (flag_of files flags) (done files kept) (rest_units files file.name) (λ v a. are v)
+      ∙ same_all (flag_of files flags) (done files cached) (rest_units files file.name) (λ v a. are v)
 
-  ready_is : is_ready files flags p file ≡ (not (done files kept file.name) && (is_rested files kept file.name && is_open_unit file))
+  ready_is : is_ready files flags p file ≡ (not (done files cached file.name) && (is_rested files cached file.name && is_open_unit file))
   ready_is =
       ap (λ (b : Bool). not b && (list_all (flag_of files flags) (rest_units files (name_at files p)) && is_open_unit file)) flag_here
-      ∙ ap (λ (b : Bool). not (done files kept file.name) && (b && is_open_unit file)) rested_here
+      ∙ ap (λ (b : Bool). not (done files cached file.name) && (b && is_open_unit file)) rested_here
 
-  pub rested_by : is_ready files flags p file ≡ true → is_rested files kept file.name ≡ true
-  rested_by e = ready_rests (is_open_unit file) (done files kept file.name) (is_rested files kept file.name) (sym ready_is ∙ e)
+  pub rested_by : is_ready files flags p file ≡ true → is_rested files cached file.name ≡ true
+  rested_by e = ready_rests (is_open_unit file) (done files cached file.name) (is_rested files cached file.name) (sym ready_is ∙ e)
 
-  pub next_waits : is_ready files flags p file ≡ false → is_next files kept handed file ≡ false
-  next_waits e = not_ready (is_open_unit file) (done files kept file.name) (is_rested files kept file.name) (not (is_input_among handed (input files file.name))) (sym ready_is ∙ e)
+  pub next_waits : is_ready files flags p file ≡ false → is_next files cached handed file ≡ false
+  next_waits e = not_ready (is_open_unit file) (done files cached file.name) (is_rested files cached file.name) (not (is_input_among handed (input files file.name))) (sym ready_is ∙ e)
 
-  pub next_by : (h : Bool) → is_ready files flags p file ≡ true → h ≡ is_input_among handed (input files file.name) → not h ≡ is_next files kept handed file
+  pub next_by : (h : Bool) → is_ready files flags p file ≡ true → h ≡ is_input_among handed (input files file.name) → not h ≡ is_next files cached handed file
   next_by h e g =
       ap not g
-      ∙ if_ready (is_open_unit file) (done files kept file.name) (is_rested files kept file.name) (not (is_input_among handed (input files file.name))) (sym ready_is ∙ e)
+      ∙ if_ready (is_open_unit file) (done files cached file.name) (is_rested files cached file.name) (not (is_input_among handed (input files file.name))) (sym ready_is ∙ e)
 
 -- the first file that is next
 module _ {X : Type 0} (t : X → Bool) (xs ys : List X) (same : ys ≡ xs) (p : ℕ) (sofar : find t (drop p xs) ≡ find t xs) where
@@ -133,14 +133,14 @@ module _ {X : Type 0} (t : X → Bool) (xs ys : List X) (same : ys ≡ xs) (p : 
   first_none le = sym sofar ∙ ap (find t) (drop_all p xs (subst (λ (zs : List X). length zs ≤ p) same le))
 
 -- so there is a job of it
-pub job_there : (files ys : List Read) (kept handed : List Input) (p : ℕ) (file : Read) → IsProject files → ys ≡ files → p < length ys → file ≡ get_or ys p file → is_next files kept handed file ≡ true → HasJob files kept file.name
-job_there files ys kept handed p file project same lt e h =
+pub job_there : (files ys : List Read) (cached handed : List Input) (p : ℕ) (file : Read) → IsProject files → ys ≡ files → p < length ys → file ≡ get_or ys p file → is_next files cached handed file ≡ true → HasJob files cached file.name
+job_there files ys cached handed p file project same lt e h =
     let here : file ≡ get_or files p file = e ∙ ap (λ (zs : List Read). get_or zs p file) same in
-    next_has_job files kept handed file (filed files p file project (there files p file (subst (λ (zs : List Read). p < length zs) same lt) here)) h
+    next_has_job files cached handed file (filed files p file project (there files p file (subst (λ (zs : List Read). p < length zs) same lt) here)) h
 
--- where no unit before a place is ready, none there is next
-pub next_from : (files : List Read) (kept handed : List Input) (flags : List Bool) (n : ℕ) → IsProject files → AreFlags files kept flags → NoneIsReady files flags n → find (is_next files kept handed) (drop n files) ≡ find (is_next files kept handed) files
-next_from files kept handed flags n project are none = none_before (is_next files kept handed) files n (λ p file lt e. next_waits files kept handed flags p file project are e (none p file lt e))
+-- where no unit before an index is ready, none there is next
+pub next_from : (files : List Read) (cached handed : List Input) (flags : List Bool) (n : ℕ) → IsProject files → AreFlags files cached flags → NoneIsReady files flags n → find (is_next files cached handed) (drop n files) ≡ find (is_next files cached handed) files
+next_from files cached handed flags n project are none = none_before (is_next files cached handed) files n (λ p file lt e. next_waits files cached handed flags p file project are e (none p file lt e))
 
 -- the file at a place of the same files
 pub file_there : (files ys : List Read) (p : ℕ) (file : Read) → ys ≡ files → p < length ys → file ≡ get_or ys p file → slice_get files p ≡ Some file

@@ -9,13 +9,13 @@ use Rattle.std.proofs.lemmas.Slice.Eq.{bytes_eq-Decides}
 use Rattle.std.specs.declared.cmp.Ordering.{Ordering}
 use Rattle.std.specs.declared.cmp.Ordering.TheVariants.{Less, Equal, Greater}
 use Rattle.occ_base.specs.FileName.{is_unit}
-use Rattle.occ_board.proofs.Places.{at_place, file_named, filed, placed}
+use Rattle.occ_board.proofs.Indices.{at_index, file_named, filed, placed}
 use Rattle.occ_board.proofs.Readers.{few_files}
-use Rattle.occ_board.proofs.Settled.{flag_at, step_kept, step_open}
+use Rattle.occ_board.proofs.Settled.{flag_at, step_cached, step_open}
 use Rattle.occ_board.proofs.Truths.{both_true}
-use Rattle.occ_board.specs.Done.{done, done_step, is_that, kept_of, pending_units}
+use Rattle.occ_board.specs.Done.{done, done_step, is_that, cached_of, pending_units}
 use Rattle.occ_board.specs.Journal.{edited, else_fault, if_full, is_open, open_number, refusal_of, replay}
-use Rattle.occ_board.specs.Machine.{with_kept}
+use Rattle.occ_board.specs.Machine.{with_cached}
 use Rattle.occ_board.specs.declared.entry.Edit.{Edit}
 use Rattle.occ_board.specs.declared.entry.Edit.TheVariants as edit
 use Rattle.occ_board.specs.declared.entry.EditFault.{EditFault}
@@ -23,15 +23,15 @@ use Rattle.occ_board.specs.declared.entry.EditFault.TheVariants as fault
 use Rattle.occ_board.specs.declared.entry.Entry.{Entry}
 use Rattle.occ_board.specs.inside.Flagged.{AreFlags, flagged}
 use Rattle.occ_board.specs.inside.Holding.{count_then}
-use Rattle.occ_report.specs.Inputs.{Input}
-use Rattle.occ_project.specs.Reads.{name_cmp, place}
+use Rattle.occ_check.specs.Input.{Input}
+use Rattle.occ_project.specs.Reads.{name_cmp, index}
 use Rattle.occ_project.specs.declared.reads.Read.{Read}
-use Rattle.occ_report.specs.Report.{is_open_unit, open_units}
-use Rattle.occ_units.proofs.Finding.{member_at}
-use Rattle.occ_units.proofs.Looks.{same_bytes}
-use Rattle.occ_units.proofs.Putting.{put_at}
-use Rattle.occ_units.proofs.Rising.{equal_names}
-use Rattle.occ_units.specs.Project.{IsProject, file_of, put}
+use Rattle.occ_check.specs.Report.{is_open_unit, open_units}
+use Rattle.occ_project_units.proofs.Finding.{member_at}
+use Rattle.occ_project_units.proofs.Looks.{same_bytes}
+use Rattle.occ_project_units.proofs.Putting.{put_at}
+use Rattle.occ_project_units.proofs.Rising.{equal_names}
+use Rattle.occ_project_units.specs.Project.{IsProject, file_of, put}
 
 abbrev one : Bool → ℕ
 one b = cond b 1 0
@@ -44,8 +44,8 @@ not_false : (b : Bool) → not b ≡ false → b ≡ true
 not_false true e = refl
 not_false false e = absurd cc
 
--- a name without a place is of no file
-no_file : (files : List Read) (name : List ℕ) → place name files ≡ None → file_of files name ≡ record { name = name; revision = 0; source = None }
+-- a name without an index is of no file
+no_file : (files : List Read) (name : List ℕ) → index name files ≡ None → file_of files name ≡ record { name = name; revision = 0; source = None }
 no_file files name e = ap (λ (m : Option Read). unwrap_or m (record { name = name; revision = 0; source = None })) (sym (member_at name files) ∙ ap (option_and_then (slice_get files)) e)
 
 -- ---- how many files pass a test that no absent file passes
@@ -64,14 +64,14 @@ module _ (q : Read → Bool) (absent : (name : List ℕ) → q (record { name = 
   rest_none false None e = refl
   rest_none false (Some n) e = absurd cc
 
-  new : (files : List Read) (file : Read) → place file.name files ≡ None → length (filter q (put files file)) ≡ one (q file) + length (filter q files)
+  new : (files : List Read) (file : Read) → index file.name files ≡ None → length (filter q (put files file)) ≡ one (q file) + length (filter q files)
   new [] file none = more file []
-  new (x ∷ files) file none = by (name_cmp file.name x.name) refl (new files file (rest_none (bytes_eq x.name file.name) (place file.name files) none)) where
+  new (x ∷ files) file none = by (name_cmp file.name x.name) refl (new files file (rest_none (bytes_eq x.name file.name) (index file.name files) none)) where
     by : (o : Ordering) → name_cmp file.name x.name ≡ o → length (filter q (put files file)) ≡ one (q file) + length (filter q files)
         → length (filter q (match_ordering o (file ∷ x ∷ files) (file ∷ files) (x ∷ put files file))) ≡ one (q file) + length (filter q (x ∷ files))
     by Less e rest = more file (x ∷ files)
     by Equal e rest =
-        let here : place file.name (x ∷ files) ≡ Some 0 = ap (λ (b : Bool). cond b (Some 0) (option_map suc (place file.name files))) (ap (bytes_eq x.name) (equal_names file.name x.name e) ∙ same_bytes x.name) in
+        let here : index file.name (x ∷ files) ≡ Some 0 = ap (λ (b : Bool). cond b (Some 0) (option_map suc (index file.name files))) (ap (bytes_eq x.name) (equal_names file.name x.name e) ∙ same_bytes x.name) in
         absurd (cc (here, none))
     by Greater e rest =
         let m = more x (put files file) in
@@ -93,20 +93,20 @@ module _ (q : Read → Bool) (absent : (name : List ℕ) → q (record { name = 
       omega (arith, m, k, rest)
 
   put_counted : (files : List Read) (file : Read) → IsProject files → length (filter q (put files file)) + one (q (file_of files file.name)) ≡ length (filter q files) + one (q file)
-  put_counted files file project = by (place file.name files) refl where
-    by : (o : Option ℕ) → place file.name files ≡ o → length (filter q (put files file)) + one (q (file_of files file.name)) ≡ length (filter q files) + one (q file)
+  put_counted files file project = by (index file.name files) refl where
+    by : (o : Option ℕ) → index file.name files ≡ o → length (filter q (put files file)) + one (q (file_of files file.name)) ≡ length (filter q files) + one (q file)
     by None e =
         let zero_is : one (q (file_of files file.name)) ≡ 0 = ap (λ (f : Read). one (q f)) (no_file files file.name e) ∙ ap one (absent file.name) in
         let longer = new files file e in
         omega (arith, zero_is, longer)
     by (Some at) e =
-        let there = at_place files file.name at e in
+        let there = at_index files file.name at e in
         let was : one (q there.0) ≡ one (q (file_of files file.name)) = ap (λ (f : Read). one (q f)) (sym there.1.1.1) in
         let other = instead files at there.0 file there.1.0 in
         let same : length (filter q (set files at file)) ≡ length (filter q (put files file)) = ap (λ (fs : List Read). length (filter q fs)) (put_at files file at project e) in
         omega (arith, was, other, same)
 
-  -- ---- behind an edit that is not refused, where an open file passes by its name or does not
+  -- ---- after an edit that is not refused, where an open file passes by its name or does not
 
   module _ (b : Bool) (files : List Read) (accepted : ℕ) (project : IsProject files) where
     now_by : (n : ℕ) (e : Edit) (was is : Bool) → q (file_of files (edited n e).name) ≡ (b && was) → q (edited n e) ≡ (b && is)
@@ -207,22 +207,22 @@ open_few es few =
     let b = few_files es in
     omega (arith, a, b, few)
 
--- ---- what is kept is of units
+-- ---- what is cached is of units
 
 abbrev pub AreUnits : List Input → Type 0
-AreUnits kept = AllByRecursion (λ (i : Input). is_unit i.unit ≡ true) kept
+AreUnits cached = AllByRecursion (λ (i : Input). is_unit i.unit ≡ true) cached
 
-pub units_with : (kept : List Input) (i : Input) → AreUnits kept → is_unit i.unit ≡ true → AreUnits (with_kept kept i)
+pub units_with : (cached : List Input) (i : Input) → AreUnits cached → is_unit i.unit ≡ true → AreUnits (with_cached cached i)
 units_with [] i h unit = (unit, tt)
 units_with (j ∷ js) i h unit = by (bytes_eq j.unit i.unit) (units_with js i h.1 unit) where
-  by : (b : Bool) → AreUnits (with_kept js i) → AreUnits (if b then i ∷ js else j ∷ with_kept js i)
+  by : (b : Bool) → AreUnits (with_cached js i) → AreUnits (if b then i ∷ js else j ∷ with_cached js i)
   by true rest = (unit, h.1)
   by false rest = (h.0, rest)
 
-unit_kept : (kept : List Input) (u : List ℕ) (i : Input) → AreUnits kept → is_that (kept_of kept u) i ≡ true → is_unit u ≡ true
-unit_kept [] u i h k = absurd cc
-unit_kept (j ∷ js) u i h k = by (bytes_eq j.unit u) refl (unit_kept js u i h.1) k where
-  by : (b : Bool) → bytes_eq j.unit u ≡ b → (is_that (kept_of js u) i ≡ true → is_unit u ≡ true) → is_that (cond b (Some j) (kept_of js u)) i ≡ true → is_unit u ≡ true
+unit_cached : (cached : List Input) (u : List ℕ) (i : Input) → AreUnits cached → is_that (cached_of cached u) i ≡ true → is_unit u ≡ true
+unit_cached [] u i h k = absurd cc
+unit_cached (j ∷ js) u i h k = by (bytes_eq j.unit u) refl (unit_cached js u i h.1) k where
+  by : (b : Bool) → bytes_eq j.unit u ≡ b → (is_that (cached_of js u) i ≡ true → is_unit u ≡ true) → is_that (cond b (Some j) (cached_of js u)) i ≡ true → is_unit u ≡ true
   by true e rest t = subst (λ (n : List ℕ). is_unit n ≡ true) ((bytes_eq-Decides j.unit u).0 e) h.0
   by false e rest t = rest t
 
@@ -241,20 +241,20 @@ one_more q f rest false true d n k e h m =
     omega (arith, same, m)
 one_more q f rest false false d n k e h m = omega (arith, m)
 
-module _ (files : List Read) (kept : List Input) where
-  left : (some : List Read) (flags : List Bool) → length flags ≡ length some → ((p : ℕ) (f : Read) → slice_get some p ≡ Some f → get_or flags p false ≡ done files kept f.name)
-      → ((p : ℕ) (f : Read) → slice_get some p ≡ Some f → done files kept f.name ≡ true → is_open_unit f ≡ true) → flagged flags + length (filter (λ u. not (done files kept u)) (open_units some)) ≡ length (open_units some)
+module _ (files : List Read) (cached : List Input) where
+  left : (some : List Read) (flags : List Bool) → length flags ≡ length some → ((p : ℕ) (f : Read) → slice_get some p ≡ Some f → get_or flags p false ≡ done files cached f.name)
+      → ((p : ℕ) (f : Read) → slice_get some p ≡ Some f → done files cached f.name ≡ true → is_open_unit f ≡ true) → flagged flags + length (filter (λ u. not (done files cached u)) (open_units some)) ≡ length (open_units some)
   left [] [] len is unit = refl
   left [] (b ∷ flags) len is unit = absurd cc
   left (f ∷ some) [] len is unit = absurd cc
   left (f ∷ some) (b ∷ flags) len is unit =
-      one_more (λ u. not (done files kept u)) f (filter is_open_unit some) b (is_open_unit f) (done files kept f.name) (flagged flags) refl (is 0 f refl) (unit 0 f refl)
+      one_more (λ u. not (done files cached u)) f (filter is_open_unit some) b (is_open_unit f) (done files cached f.name) (flagged flags) refl (is 0 f refl) (unit 0 f refl)
       (left some flags (omega (arith, len)) (λ p x e. is (suc p) x e) (λ p x e. unit (suc p) x e))
 
-  pub done_counted : (flags : List Bool) → IsProject files → AreUnits kept → (done_is : (u : List ℕ) → done files kept u ≡ done_step files kept u (done files kept)) → AreFlags files kept flags → length flags ≡ length files
-      → flagged flags + length (pending_units files kept) ≡ length (open_units files)
+  pub done_counted : (flags : List Bool) → IsProject files → AreUnits cached → (done_is : (u : List ℕ) → done files cached u ≡ done_step files cached u (done files cached)) → AreFlags files cached flags → length flags ≡ length files
+      → flagged flags + length (pending_units files cached) ≡ length (open_units files)
   done_counted flags project units law are len =
       left files flags len (λ p f e. sym (flag_at files flags f.name p (placed files p f project e)) ∙ are f.name) (λ p f e d.
-      let step : done_step files kept f.name (done files kept) ≡ true = sym (law f.name) ∙ d in
-      let opened : is_some f.source ≡ true = ap (λ (x : Read). is_some x.source) (sym (filed files p f project e)) ∙ step_open files kept f.name (done files kept) step in
-      both_true (is_unit f.name) (is_some f.source) (unit_kept kept f.name _ units (step_kept files kept f.name (done files kept) step)) opened)
+      let step : done_step files cached f.name (done files cached) ≡ true = sym (law f.name) ∙ d in
+      let opened : is_some f.source ≡ true = ap (λ (x : Read). is_some x.source) (sym (filed files p f project e)) ∙ step_open files cached f.name (done files cached) step in
+      both_true (is_unit f.name) (is_some f.source) (unit_cached cached f.name _ units (step_cached files cached f.name (done files cached) step)) opened)

@@ -11,9 +11,9 @@ use Rattle.occ_board.specs.declared.entry.Entry.{Entry}
 use Rattle.occ_project.specs.Entries.{is_among}
 use Rattle.occ_project.specs.Reads.{name_cmp}
 use Rattle.occ_project.specs.declared.reads.Read.{Read}
-use Rattle.occ_report.specs.Report.{is_open_unit}
-use Rattle.occ_units.specs.Project.{put}
-use Rattle.occ_units.specs.Units.{read_names}
+use Rattle.occ_check.specs.Report.{is_open_unit}
+use Rattle.occ_project_units.specs.Project.{put}
+use Rattle.occ_project_units.specs.Units.{read_names}
 
 abbrev pub readers_in : List Read → List ℕ → List Read → ℕ
 readers_in files name some = length (filter (λ u. is_among (read_names files u) name) (units_in some))

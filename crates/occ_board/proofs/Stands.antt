@@ -1,39 +1,41 @@
--- The outcomes that are kept of units that are done show what the rules give.
+-- The outcomes that are cached of units that are done show what the rules give.
 use Rattle.std.proofs.Common.{◌≡◌, ◌↔◌, ◌∙◌, ◌&&◌, ◌||◌, Bool, true, false, not, ℕ, List, map, Option, Some, None, refl, sym, ap, subst}
 use Rattle.std.proofs.lemmas.Slice.Eq.{bytes_eq-Decides}
 use Rattle.std.specs.Str.{bytes_eq}
 use Rattle.occ_forms.specs.Prepared.{IsPrepared, Prepared}
 use Rattle.occ_forms.specs.declared.source.SourceLine.{SourceLine}
 use Rattle.std.specs.Option.{option_and_then}
-use Rattle.occ_board.proofs.Places.{file_named}
+use Rattle.occ_board.proofs.Indices.{file_named}
 use Rattle.std.specs.List.{slice_get}
-use Rattle.occ_board.proofs.Settled.{step_kept}
+use Rattle.occ_board.proofs.Settled.{step_cached}
 use Rattle.occ_board.proofs.Trees.{inputs_are_one, used_are_one}
 use Rattle.occ_board.proofs.Truths.{all_at, not_both, same_truth}
-use Rattle.occ_board.specs.Done.{done, done_step, is_kept, is_that, kept_of}
+use Rattle.occ_board.specs.Done.{done, done_step, is_cached, is_that, cached_of}
 use Rattle.occ_board.specs.Same.{same_input, same_used}
 use Rattle.occ_board.specs.Verdicts.{is_off}
 use Rattle.occ_board.specs.inside.Ready.{AreRested, is_rested}
-use Rattle.occ_report.specs.Inputs.{Input, UsedUnit, interface_of}
+use Rattle.occ_check.specs.Diagnostics.{interface_of}
+use Rattle.occ_check.specs.Input.{Input}
+use Rattle.occ_check.specs.declared.used.UsedUnit.{UsedUnit}
 use Rattle.occ_project.specs.declared.reads.Read.{Read}
-use Rattle.occ_report.specs.Checks.{checked, input, interface, used_as, used_unit}
+use Rattle.occ_check.specs.Checks.{checked, input, interface, used_as, used_unit}
 use Rattle.occ_types.specs.declared.interface.Interface.{Interface}
-use Rattle.occ_units.specs.Places.{is_below, standing_of}
-use Rattle.occ_units.specs.Project.{file_of}
-use Rattle.occ_units.specs.Units.{read_names, unit_reads, used_units}
-use Rattle.occ_units.specs.declared.standing.Standing.{Standing}
-use Rattle.occ_units.specs.declared.standing.Standing.TheVariants as standing
+use Rattle.occ_project_units.specs.Indices.{is_below, standing_of}
+use Rattle.occ_project_units.specs.Project.{file_of}
+use Rattle.occ_project_units.specs.Units.{read_names, unit_reads, used_units}
+use Rattle.occ_project_units.specs.declared.standing.Standing.{Standing}
+use Rattle.occ_project_units.specs.declared.standing.Standing.TheVariants as standing
 
 that_one : (o : Option Input) (i : Input) → is_that o i ≡ true → o ≡ Some i
 that_one None i h = absurd cc
 that_one (Some j) i h = ap Some ((inputs_are_one j i).0 h)
 
-pub kept_is : (files : List Read) (kept : List Input) (u : List ℕ) → done files kept u ≡ done_step files kept u (done files kept) → done files kept u ≡ true → kept_of kept u ≡ Some (input files u)
-kept_is files kept u law h = that_one (kept_of kept u) (input files u) (step_kept files kept u (done files kept) (sym law ∙ h))
+pub cached_is : (files : List Read) (cached : List Input) (u : List ℕ) → done files cached u ≡ done_step files cached u (done files cached) → done files cached u ≡ true → cached_of cached u ≡ Some (input files u)
+cached_is files cached u law h = that_one (cached_of cached u) (input files u) (step_cached files cached u (done files cached) (sym law ∙ h))
 
 -- what it shows
-pub shown_is : (files : List Read) (kept : List Input) (u : List ℕ) → interface files u ≡ interface_of (input files u) → kept_of kept u ≡ Some (input files u) → option_and_then interface_of (kept_of kept u) ≡ interface files u
-shown_is files kept u law e = ap (option_and_then interface_of) e ∙ sym law
+pub shown_is : (files : List Read) (cached : List Input) (u : List ℕ) → interface files u ≡ interface_of (input files u) → cached_of cached u ≡ Some (input files u) → option_and_then interface_of (cached_of cached u) ≡ interface files u
+shown_is files cached u law e = ap (option_and_then interface_of) e ∙ sym law
 
 -- how a unit is used, where what it shows is asked only of those below
 pub used_by : (s : Standing) (a b : Option Interface) → (is_below s ≡ true → a ≡ b) → used_as s a ≡ used_as s b
@@ -44,10 +46,10 @@ used_by standing.Below a b e = ap (used_as standing.Below) (e refl)
 pub used_now : (files : List Read) (u v : List ℕ) (shown : Option Interface) → (is_below (standing_of files u v) ≡ true → shown ≡ interface files v) → used_as (standing_of files u v) shown ≡ (used_unit files u (checked files) v).used
 used_now files u v shown e = used_by (standing_of files u v) shown (interface files v) e
 
-pub rested : (files : List Read) (kept : List Input) (u : List ℕ) (names : List (List ℕ)) → names ≡ used_units files u → is_rested files kept u ≡ true → AreRested files kept u names
-rested files kept u names e h i v at below = all_at (done files kept) (λ v. is_below (standing_of files u v)) (used_units files u) i v h (ap (λ (ns : List (List ℕ)). slice_get ns i) (sym e) ∙ at) below
+pub rested : (files : List Read) (cached : List Input) (u : List ℕ) (names : List (List ℕ)) → names ≡ used_units files u → is_rested files cached u ≡ true → AreRested files cached u names
+rested files cached u names e h i v at below = all_at (done files cached) (λ v. is_below (standing_of files u v)) (used_units files u) i v h (ap (λ (ns : List (List ℕ)). slice_get ns i) (sym e) ∙ at) below
 
--- tests that tell whether two are one
+-- tests that say whether two are one
 pub same_inputs : (r : Bool) (i j : Input) → (r ≡ true → i ≡ j) → (i ≡ j → r ≡ true) → r ≡ same_input i j
 same_inputs r i j f g = same_truth r (same_input i j) (λ h. (inputs_are_one i j).1 (f h)) (λ h. g ((inputs_are_one i j).0 h))
 
@@ -76,14 +78,14 @@ other_reads r i files project u reads names rs ps ns apart iff =
     same_inputs false i (input files u) (λ h. absurd cc)
     (λ e. absurd (not_both r (iff.1 (rs ∙ ap (λ (x : Input). x.reads) e ∙ sym (ap (λ (fs : List Read). map (file_of fs) names) ps ∙ ap (map (file_of files)) ns))) apart))
 
--- whether it is the one that is kept
-pub kept_that : (r : Bool) (kept : List Input) (i j : Input) (u : List ℕ) → u ≡ i.unit → Some j ≡ kept_of kept u → ((r ≡ true) ↔ (j ≡ i)) → r ≡ is_kept kept i
-kept_that r kept i j u n e iff = same_inputs r j i iff.0 iff.1 ∙ ap (λ (o : Option Input). is_that o i) (e ∙ ap (kept_of kept) n)
+-- whether it is the one that is cached
+pub cached_that : (r : Bool) (cached : List Input) (i j : Input) (u : List ℕ) → u ≡ i.unit → Some j ≡ cached_of cached u → ((r ≡ true) ↔ (j ≡ i)) → r ≡ is_cached cached i
+cached_that r cached i j u n e iff = same_inputs r j i iff.0 iff.1 ∙ ap (λ (o : Option Input). is_that o i) (e ∙ ap (cached_of cached) n)
 
 -- whether a used unit is off
-pub is_off_by : (r : Bool) (files : List Read) (kept : List Input) (u : List ℕ) (one : UsedUnit) → false ≡ (is_below (standing_of files u one.unit) && not (done files kept one.unit)) → ((r ≡ true) ↔ (one ≡ used_unit files u (checked files) one.unit))
-    → not r ≡ is_off files kept u one
-is_off_by r files kept u one w iff =
+pub is_off_by : (r : Bool) (files : List Read) (cached : List Input) (u : List ℕ) (one : UsedUnit) → false ≡ (is_below (standing_of files u one.unit) && not (done files cached one.unit)) → ((r ≡ true) ↔ (one ≡ used_unit files u (checked files) one.unit))
+    → not r ≡ is_off files cached u one
+is_off_by r files cached u one w iff =
     ap not (same_uses r one (used_unit files u (checked files) one.unit) iff.0 iff.1)
     ∙ ap (λ (b : Bool). b || not (same_used one (used_unit files u (checked files) one.unit))) w
 

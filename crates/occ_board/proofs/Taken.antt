@@ -5,27 +5,28 @@ use Rattle.std.specs.List.{filter, find, list_all, slice_get}
 use Rattle.std.specs.Option.{option_map}
 use Rattle.occ_board.proofs.Accepted.{fewer_pending}
 use Rattle.occ_board.proofs.Nexts.{next_has_job, next_is}
-use Rattle.occ_board.proofs.Places.{file_named, filed}
+use Rattle.occ_board.proofs.Indices.{file_named, filed}
 use Rattle.occ_board.proofs.Settled.{is_step}
 use Rattle.occ_board.proofs.Trees.{used_are_one}
 use Rattle.occ_board.proofs.Truths.{left_true, not_both, right_true}
-use Rattle.occ_board.specs.Done.{done, done_step, is_input_among, is_kept, pending_units}
-use Rattle.occ_board.specs.Machine.{kept_after, next_input}
+use Rattle.occ_board.specs.Done.{done, done_step, is_input_among, is_cached, pending_units}
+use Rattle.occ_board.specs.Machine.{cached_after, next_input}
 use Rattle.occ_board.specs.Same.{same_used}
 use Rattle.occ_board.specs.Verdicts.{is_as_read, is_off, off_read, or_else, reads_verdict, same_text, verdict_of}
 use Rattle.occ_board.specs.declared.verdict.Verdict.{Verdict}
 use Rattle.occ_board.specs.declared.verdict.Verdict.TheVariants as verdict
 use Rattle.occ_board.specs.inside.Ready.{HasJob, is_next, is_rested}
-use Rattle.occ_report.specs.Inputs.{Input, UsedUnit}
+use Rattle.occ_check.specs.Input.{Input}
+use Rattle.occ_check.specs.declared.used.UsedUnit.{UsedUnit}
 use Rattle.occ_forms.specs.Prepared.{Prepared}
 use Rattle.occ_project.specs.Entries.{is_among}
 use Rattle.occ_project.specs.declared.reads.Read.{Read}
-use Rattle.occ_report.specs.Checks.{checked, input, used_unit}
-use Rattle.occ_report.specs.Report.{is_open_unit}
-use Rattle.occ_units.proofs.Looks.{same_bytes}
-use Rattle.occ_units.specs.Places.{is_below, rest_units, standing_of}
-use Rattle.occ_units.specs.Project.{IsProject, file_of}
-use Rattle.occ_units.specs.Units.{read_names, used_units}
+use Rattle.occ_check.specs.Checks.{checked, input, used_unit}
+use Rattle.occ_check.specs.Report.{is_open_unit}
+use Rattle.occ_project_units.proofs.Looks.{same_bytes}
+use Rattle.occ_project_units.specs.Indices.{is_below, rest_units, standing_of}
+use Rattle.occ_project_units.specs.Project.{IsProject, file_of}
+use Rattle.occ_project_units.specs.Units.{read_names, used_units}
 
 same_as_it_is : (text : Option Prepared) → same_text text text ≡ true
 same_as_it_is None = refl
@@ -50,28 +51,28 @@ none_waits true false true f e = let k = f refl in absurd cc
 none_waits false d true f e = refl
 none_waits below d false f e = absurd cc
 
-none_off : (files : List Read) (kept : List Input) (u : List ℕ) (vs : List (List ℕ)) → list_all (done files kept) (filter (λ v. is_below (standing_of files u v)) vs) ≡ true
-    → find (is_off files kept u) (map (used_unit files u (checked files)) vs) ≡ None
-none_off files kept u [] h = refl
-none_off files kept u (v ∷ vs) h = by (is_below (standing_of files u v)) refl h (none_off files kept u vs) where
+none_off : (files : List Read) (cached : List Input) (u : List ℕ) (vs : List (List ℕ)) → list_all (done files cached) (filter (λ v. is_below (standing_of files u v)) vs) ≡ true
+    → find (is_off files cached u) (map (used_unit files u (checked files)) vs) ≡ None
+none_off files cached u [] h = refl
+none_off files cached u (v ∷ vs) h = by (is_below (standing_of files u v)) refl h (none_off files cached u vs) where
   one : UsedUnit
   one = used_unit files u (checked files) v
 
   rests : List (List ℕ)
   rests = filter (λ v. is_below (standing_of files u v)) vs
 
-  step : (is_below (standing_of files u v) ≡ true → done files kept v ≡ true) → find (is_off files kept u) (map (used_unit files u (checked files)) vs) ≡ None → find (is_off files kept u) (one ∷ map (used_unit files u (checked files)) vs) ≡ None
+  step : (is_below (standing_of files u v) ≡ true → done files cached v ≡ true) → find (is_off files cached u) (map (used_unit files u (checked files)) vs) ≡ None → find (is_off files cached u) (one ∷ map (used_unit files u (checked files)) vs) ≡ None
   step waits rest =
-      ap (λ (b : Bool). cond b (Some one) (find (is_off files kept u) (map (used_unit files u (checked files)) vs)))
-      (none_waits (is_below (standing_of files u v)) (done files kept v) (same_used one one) waits ((used_are_one one one).1 refl))
+      ap (λ (b : Bool). cond b (Some one) (find (is_off files cached u) (map (used_unit files u (checked files)) vs)))
+      (none_waits (is_below (standing_of files u v)) (done files cached v) (same_used one one) waits ((used_are_one one one).1 refl))
       ∙ rest
 
-  by : (b : Bool) → is_below (standing_of files u v) ≡ b → list_all (done files kept) (cond b (v ∷ rests) rests) ≡ true → (list_all (done files kept) rests ≡ true → find (is_off files kept u) (map (used_unit files u (checked files)) vs) ≡ None)
-      → find (is_off files kept u) (map (used_unit files u (checked files)) (v ∷ vs)) ≡ None
-  by true e k rest = step (λ b. left_true (done files kept v) (list_all (done files kept) rests) k) (rest (right_true (done files kept v) (list_all (done files kept) rests) k))
+  by : (b : Bool) → is_below (standing_of files u v) ≡ b → list_all (done files cached) (cond b (v ∷ rests) rests) ≡ true → (list_all (done files cached) rests ≡ true → find (is_off files cached u) (map (used_unit files u (checked files)) vs) ≡ None)
+      → find (is_off files cached u) (map (used_unit files u (checked files)) (v ∷ vs)) ≡ None
+  by true e k rest = step (λ b. left_true (done files cached v) (list_all (done files cached) rests) k) (rest (right_true (done files cached v) (list_all (done files cached) rests) k))
   by false e k rest = step (λ b. absurd (not_both (is_below (standing_of files u v)) b e)) (rest k)
 
--- the first that passes a test stands at a place, and passes it
+-- the first that passes a test stands at an index, and passes it
 found : {X : Type 0} (t : X → Bool) (xs : List X) (x : X) → find t xs ≡ Some x → (p : ℕ) × ((slice_get xs p ≡ Some x) × (t x ≡ true))
 found t [] x e = absurd cc
 found t (y ∷ ys) x e = by (t y) refl e (found t ys x) where
@@ -87,49 +88,49 @@ not_true : (b : Bool) → (b ≡ true → ⊥) → b ≡ false
 not_true true f = absurd (f refl)
 not_true false f = refl
 
-module _ (files : List Read) (project : IsProject files) (law : (kept : List Input) (u : List ℕ) → done files kept u ≡ done_step files kept u (done files kept)) (h : List ℕ → ℕ) (fall : (u v : List ℕ) → is_among (rest_units files u) v ≡ true → h v < h u) (kept : List Input) where
-  -- what is ready has a job, and is not kept
-  other : (u : List ℕ) → HasJob files kept u → not (done files kept u) ≡ true → is_kept kept (input files u) ≡ false
-  other u job pending = not_true (is_kept kept (input files u)) (λ k.
-      let is : done files kept u ≡ true = law kept u ∙ is_step files kept u (done files kept) job.opened k job.rested in
-      not_both (not (done files kept u)) pending (ap not is))
+module _ (files : List Read) (project : IsProject files) (law : (cached : List Input) (u : List ℕ) → done files cached u ≡ done_step files cached u (done files cached)) (h : List ℕ → ℕ) (fall : (u v : List ℕ) → is_among (rest_units files u) v ≡ true → h v < h u) (cached : List Input) where
+  -- what is ready has a job, and is not cached
+  other : (u : List ℕ) → HasJob files cached u → not (done files cached u) ≡ true → is_cached cached (input files u) ≡ false
+  other u job pending = not_true (is_cached cached (input files u)) (λ k.
+      let is : done files cached u ≡ true = law cached u ∙ is_step files cached u (done files cached) job.opened k job.rested in
+      not_both (not (done files cached u)) pending (ap not is))
 
-  judged : (accepted : ℕ) (u : List ℕ) → HasJob files kept u → not (done files kept u) ≡ true → verdict_of files accepted kept (input files u) ≡ verdict.Accepted
+  judged : (accepted : ℕ) (u : List ℕ) → HasJob files cached u → not (done files cached u) ≡ true → verdict_of files accepted cached (input files u) ≡ verdict.Accepted
   judged accepted u job pending =
-      ap (λ (o : Option Verdict). or_else o (or_else (option_map (λ one. verdict.Stale one.unit) (find (is_off files kept u) (input files u).used)) (if is_kept kept (input files u) then verdict.Repeated else verdict.Accepted))) (none_read files accepted (read_names files u))
-      ∙ ap (λ (o : Option UsedUnit). or_else (option_map (λ one. verdict.Stale one.unit) o) (if is_kept kept (input files u) then verdict.Repeated else verdict.Accepted)) (none_off files kept u (used_units files u) job.rested)
+      ap (λ (o : Option Verdict). or_else o (or_else (option_map (λ one. verdict.Stale one.unit) (find (is_off files cached u) (input files u).used)) (if is_cached cached (input files u) then verdict.Repeated else verdict.Accepted))) (none_read files accepted (read_names files u))
+      ∙ ap (λ (o : Option UsedUnit). or_else (option_map (λ one. verdict.Stale one.unit) o) (if is_cached cached (input files u) then verdict.Repeated else verdict.Accepted)) (none_off files cached u (used_units files u) job.rested)
       ∙ ap (λ (b : Bool). if b then verdict.Repeated else verdict.Accepted) (other u job pending)
 
-  fewer : (accepted : ℕ) (u : List ℕ) → HasJob files kept u → not (done files kept u) ≡ true
-      → length (pending_units files (kept_after (verdict_of files accepted kept (input files u)) kept (input files u))) < length (pending_units files kept)
+  fewer : (accepted : ℕ) (u : List ℕ) → HasJob files cached u → not (done files cached u) ≡ true
+      → length (pending_units files (cached_after (verdict_of files accepted cached (input files u)) cached (input files u))) < length (pending_units files cached)
   fewer accepted u job pending =
-      subst (λ (v : Verdict). length (pending_units files (kept_after v kept (input files u))) < length (pending_units files kept)) (sym (judged accepted u job pending))
-      (fewer_pending files law h fall kept (input files u) refl job.unit job.opened job.rested (other u job pending))
+      subst (λ (v : Verdict). length (pending_units files (cached_after v cached (input files u))) < length (pending_units files cached)) (sym (judged accepted u job pending))
+      (fewer_pending files law h fall cached (input files u) refl job.unit job.opened job.rested (other u job pending))
 
   -- what is next
-  next : (handed : List Input) (i : Input) → next_input files kept handed ≡ Some i → (u : List ℕ) × ((i ≡ input files u) × (HasJob files kept u × (not (done files kept u) ≡ true)))
+  next : (handed : List Input) (i : Input) → next_input files cached handed ≡ Some i → (u : List ℕ) × ((i ≡ input files u) × (HasJob files cached u × (not (done files cached u) ≡ true)))
   next handed i e =
-      let one = of_some (λ (file : Read). input files file.name) (find (is_next files kept handed) files) i (sym (next_is files kept handed) ∙ e) in
-      let at = found (is_next files kept handed) files one.0 one.1.0 in
+      let one = of_some (λ (file : Read). input files file.name) (find (is_next files cached handed) files) i (sym (next_is files cached handed) ∙ e) in
+      let at = found (is_next files cached handed) files one.0 one.1.0 in
       let file = one.0 in
-      let pending = left_true (not (done files kept file.name)) (is_rested files kept file.name && not (is_input_among handed (input files file.name)))
-      (right_true (is_open_unit file) (not (done files kept file.name) && (is_rested files kept file.name && not (is_input_among handed (input files file.name)))) at.1.1) in
-      (file.name, (one.1.1, (next_has_job files kept handed file (filed files at.0 file project at.1.0) at.1.1, pending)))
+      let pending = left_true (not (done files cached file.name)) (is_rested files cached file.name && not (is_input_among handed (input files file.name)))
+      (right_true (is_open_unit file) (not (done files cached file.name) && (is_rested files cached file.name && not (is_input_among handed (input files file.name)))) at.1.1) in
+      (file.name, (one.1.1, (next_has_job files cached handed file (filed files at.0 file project at.1.0) at.1.1, pending)))
 
-  pub next_accepted : (accepted : ℕ) (handed : List Input) (i : Input) → next_input files kept handed ≡ Some i → verdict_of files accepted kept i ≡ verdict.Accepted
-  next_accepted accepted handed i e = let n = next handed i e in ap (verdict_of files accepted kept) n.1.0 ∙ judged accepted n.0 n.1.1.0 n.1.1.1
+  pub next_accepted : (accepted : ℕ) (handed : List Input) (i : Input) → next_input files cached handed ≡ Some i → verdict_of files accepted cached i ≡ verdict.Accepted
+  next_accepted accepted handed i e = let n = next handed i e in ap (verdict_of files accepted cached) n.1.0 ∙ judged accepted n.0 n.1.1.0 n.1.1.1
 
-  pub next_fewer : (accepted : ℕ) (handed : List Input) (i : Input) → next_input files kept handed ≡ Some i
-      → length (pending_units files (kept_after (verdict_of files accepted kept i) kept i)) < length (pending_units files kept)
+  pub next_fewer : (accepted : ℕ) (handed : List Input) (i : Input) → next_input files cached handed ≡ Some i
+      → length (pending_units files (cached_after (verdict_of files accepted cached i) cached i)) < length (pending_units files cached)
   next_fewer accepted handed i e =
       let n = next handed i e in
-      subst (λ (j : Input). length (pending_units files (kept_after (verdict_of files accepted kept j) kept j)) < length (pending_units files kept)) (sym n.1.0) (fewer accepted n.0 n.1.1.0 n.1.1.1)
+      subst (λ (j : Input). length (pending_units files (cached_after (verdict_of files accepted cached j) cached j)) < length (pending_units files cached)) (sym n.1.0) (fewer accepted n.0 n.1.1.0 n.1.1.1)
 
 none_left : {X : Type 0} (xs : List X) → length xs ≡ 0 → xs ≡ []
 none_left [] e = refl
 none_left (x ∷ xs) e = absurd cc
 
 -- with nothing pending nothing is next
-pub none_next : (files : List Read) (kept handed : List Input) → length (pending_units files kept) ≡ 0 → next_input files kept handed ≡ None
-none_next files kept handed e =
-    ap (λ (us : List (List ℕ)). find (λ i. not (is_input_among handed i)) (map (input files) (filter (λ u. list_all (done files kept) (rest_units files u)) us))) (none_left (pending_units files kept) e)
+pub none_next : (files : List Read) (cached handed : List Input) → length (pending_units files cached) ≡ 0 → next_input files cached handed ≡ None
+none_next files cached handed e =
+    ap (λ (us : List (List ℕ)). find (λ i. not (is_input_among handed i)) (map (input files) (filter (λ u. list_all (done files cached) (rest_units files u)) us))) (none_left (pending_units files cached) e)

@@ -1,9 +1,10 @@
--- The test for trees of numbers tells whether two are one.
+-- The test for trees of numbers says whether two are one.
 use base.Stored.{Gv, gnil, gnum, gcons}
 use Rattle.std.proofs.Common.{◌≡◌, ◌↔◌, ◌∙◌, ◌&&◌, Bool, true, false, refl, sym, ap}
 use Rattle.std.proofs.lemmas.Bool.Decides.{Decides-eqb}
 use Rattle.occ_board.specs.Same.{coded_input, coded_used, same_input, same_tree, same_used}
-use Rattle.occ_report.specs.Inputs.{Input, UsedUnit}
+use Rattle.occ_check.specs.Input.{Input}
+use Rattle.occ_check.specs.declared.used.UsedUnit.{UsedUnit}
 
 left_of : (a b : Bool) → (a && b) ≡ true → a ≡ true
 left_of true b h = refl

@@ -4,7 +4,7 @@ use Rattle.std.proofs.lemmas.Slice.Eq.{bytes_eq-Decides}
 use Rattle.std.specs.List.{filter, list_all, slice_get}
 use Rattle.std.specs.Str.{bytes_eq}
 use Rattle.occ_project.specs.Entries.{is_among}
-use Rattle.occ_units.proofs.Looks.{same_bytes}
+use Rattle.occ_project_units.proofs.Looks.{same_bytes}
 
 pub left_true : (a b : Bool) → (a && b) ≡ true → a ≡ true
 left_true true b h = refl
@@ -50,9 +50,9 @@ all_by f g (v ∷ vs) h e =
     both_true (g v) (list_all g vs) (h v (among_first v vs) (left_true (f v) (list_all f vs) e))
     (all_by f g vs (λ w a k. h w (or_right (bytes_eq v w) (is_among vs w) a) k) (right_true (f v) (list_all f vs) e))
 
-all_behind : {X : Type 0} (f : X → Bool) (b : Bool) (y : X) (ys : List X) → list_all f (cond b (y ∷ ys) ys) ≡ true → list_all f ys ≡ true
-all_behind f true y ys h = right_true (f y) (list_all f ys) h
-all_behind f false y ys h = h
+all_after : {X : Type 0} (f : X → Bool) (b : Bool) (y : X) (ys : List X) → list_all f (cond b (y ∷ ys) ys) ≡ true → list_all f ys ≡ true
+all_after f true y ys h = right_true (f y) (list_all f ys) h
+all_after f false y ys h = h
 
 pub all_at : {X : Type 0} (f g : X → Bool) (xs : List X) (i : ℕ) (x : X) → list_all f (filter g xs) ≡ true → slice_get xs i ≡ Some x → g x ≡ true → f x ≡ true
 all_at f g [] i x h e k = absurd cc
@@ -60,7 +60,7 @@ all_at f g (y ∷ xs) zero x h e k =
     let same : y ≡ x = cc in
     let passes : g y ≡ true = ap g same ∙ k in
     ap f (sym same) ∙ left_true (f y) (list_all f (filter g xs)) (ap (λ (b : Bool). list_all f (cond b (y ∷ filter g xs) (filter g xs))) (sym passes) ∙ h)
-all_at f g (y ∷ xs) (suc i) x h e k = all_at f g xs i x (all_behind f (g y) y (filter g xs) h) e k
+all_at f g (y ∷ xs) (suc i) x h e k = all_at f g xs i x (all_after f (g y) y (filter g xs) h) e k
 
 -- and of each of them
 pub all_among : (f : List ℕ → Bool) (vs : List (List ℕ)) (v : List ℕ) → list_all f vs ≡ true → is_among vs v ≡ true → f v ≡ true
@@ -69,6 +69,6 @@ all_among f (w ∷ vs) v h a = either_true (bytes_eq w v) (is_among vs v) a
     (λ e. ap f (sym ((bytes_eq-Decides w v).0 e)) ∙ left_true (f w) (list_all f vs) h)
     (λ k. all_among f vs v (right_true (f w) (list_all f vs) h) k)
 
--- a test that tells that two names are not one
+-- a test that says that two names are not one
 pub differ : (a b : List ℕ) → bytes_eq a b ≡ false → a ≡ b → ⊥
 differ a b e same = not_both (bytes_eq a b) (ap (bytes_eq a) (sym same) ∙ same_bytes a) e

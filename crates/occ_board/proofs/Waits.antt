@@ -1,30 +1,30 @@
--- Places before which no unit is ready, as far as flags tell.
+-- Places before which no unit is ready, as far as flags report.
 use Rattle.std.proofs.Common.{◌≡◌, ◌∙◌, ◌<◌, ◌≤◌, ◌+◌, ◌&&◌, ◌||◌, ◌⊎◌, ℕ, suc, Bool, true, false, not, List, [], ◌∷◌, drop, length, get_or, Some, refl, sym, ap, subst, arith, inl, inr}
 use Rattle.std.specs.List.{list_all, slice_get}
 use Rattle.std.specs.Prelude.{◌==◌, slice_set}
 use Rattle.std.proofs.lemmas.Bool.{eqb-true}
 use Rattle.std.specs.Str.{bytes_eq}
 use Rattle.std.proofs.lemmas.Slice.Eq.{bytes_eq-Decides}
-use Rattle.occ_board.proofs.Marked.{marked_there, none_behind}
-use Rattle.occ_board.proofs.Places.{within}
+use Rattle.occ_board.proofs.Marked.{marked_there, none_following}
+use Rattle.occ_board.proofs.Indices.{within}
 use Rattle.occ_board.proofs.Settled.{flag_at, last_or_less}
 use Rattle.occ_board.proofs.Spread.{placed_there, rests_same, set_stays, some_is}
 use Rattle.occ_board.specs.inside.Flagged.{AreFlags, IsFullAt, IsSound, flag_of, flagged}
 use Rattle.occ_board.specs.inside.Ready.{NoneIsReady, is_ready}
-use Rattle.occ_report.specs.Inputs.{Input}
-use Rattle.occ_graph.specs.Graph.{is_among, rests}
-use Rattle.occ_project.specs.Reads.{place}
+use Rattle.occ_check.specs.Input.{Input}
+use Rattle.occ_project_graph.specs.Graph.{is_among, rests}
+use Rattle.occ_project.specs.Reads.{index}
 use Rattle.occ_project.specs.declared.reads.Read.{Read}
-use Rattle.occ_report.specs.Report.{is_open_unit}
-use Rattle.occ_units.specs.Along.{name_at}
-use Rattle.occ_units.specs.Places.{graph_of, rest_units, users_at}
-use Rattle.occ_units.specs.Project.{IsProject}
+use Rattle.occ_check.specs.Report.{is_open_unit}
+use Rattle.occ_project_units.specs.Along.{name_at}
+use Rattle.occ_project_units.specs.Indices.{graph_of, rest_units, users_at}
+use Rattle.occ_project_units.specs.Project.{IsProject}
 
--- before the first place there is none
+-- before the first index there is none
 pub first_waits : (files : List Read) (flags : List Bool) → NoneIsReady files flags 0
 first_waits files flags p file lt e = absurd (omega (arith, lt))
 
--- one place more
+-- one index more
 pub one_waits : (files : List Read) (flags : List Bool) (n : ℕ) (here : Read) → slice_get files n ≡ Some here → is_ready files flags n here ≡ false → NoneIsReady files flags n → NoneIsReady files flags (n + 1)
 one_waits files flags n here e none before p file lt is = elim (last_or_less n p lt) [
   | inl s ↦
@@ -79,12 +79,12 @@ no_truth : (b : Bool) → (b ≡ true → ⊥) → b ≡ false
 no_truth true f = absurd (f refl)
 no_truth false f = refl
 
-module _ (files : List Read) (kept : List Input) (project : IsProject files) where
+module _ (files : List Read) (cached : List Input) (project : IsProject files) where
   -- a flag that is set stays where all are those of the units that are done
-  pub stays_set : (flags next : List Bool) → length flags ≡ length files → IsSound files kept flags → AreFlags files kept next → (p : ℕ) → get_or flags p false ≡ true → get_or next p false ≡ true
+  pub stays_set : (flags next : List Bool) → length flags ≡ length files → IsSound files cached flags → AreFlags files cached next → (p : ℕ) → get_or flags p false ≡ true → get_or next p false ≡ true
   stays_set flags next len sound are p h =
       let long = marked_there flags p h in
-      let at = placed_there files kept project p (omega (arith, long, len)) in
+      let at = placed_there files cached project p (omega (arith, long, len)) in
       sym (flag_at files next (name_at files p) p at) ∙ (are (name_at files p) ∙ sound (name_at files p) (flag_at files flags (name_at files p) p at ∙ h))
 
   -- with one flag more no unit is ready but what rests on that one
@@ -94,20 +94,20 @@ module _ (files : List Read) (kept : List Input) (project : IsProject files) whe
       let none : is_among (users_at files w) p ≡ false = no_truth (is_among (users_at files w) p) (λ h. let k = least p h in omega (arith, k, lt)) in
       ap (λ (fs : List Bool). is_ready files fs p file) same
       ∙ still_unready (get_or flags p false) (get_or (slice_set flags w true) p false) (list_all (flag_of files flags) (rest_units files (name_at files p))) (list_all (flag_of files (slice_set flags w true)) (rest_units files (name_at files p))) (is_open_unit file)
-      (set_stays flags w p) (rests_same files kept project users flags w p (within files p file e) none) (before p file (omega (arith, lt, most)) e)
+      (set_stays flags w p) (rests_same files cached project users flags w p (within files p file e) none) (before p file (omega (arith, lt, most)) e)
 
-  -- of each place a flag is not missing, or it is that of the unit
-  pub full_or : (flags : List Bool) (unit : List ℕ) (at : ℕ) → place unit files ≡ Some at → ((p : ℕ) → p < length files → bytes_eq unit (name_at files p) ≡ false → IsFullAt files kept flags p)
-      → (p : ℕ) → p < length files → IsFullAt files kept flags p ⊎ (at ≡ p)
+  -- of each index a flag is not missing, or it is that of the unit
+  pub full_or : (flags : List Bool) (unit : List ℕ) (at : ℕ) → index unit files ≡ Some at → ((p : ℕ) → p < length files → bytes_eq unit (name_at files p) ≡ false → IsFullAt files cached flags p)
+      → (p : ℕ) → p < length files → IsFullAt files cached flags p ⊎ (at ≡ p)
   full_or flags unit at e others p lt = by (bytes_eq unit (name_at files p)) refl where
-    by : (b : Bool) → bytes_eq unit (name_at files p) ≡ b → IsFullAt files kept flags p ⊎ (at ≡ p)
+    by : (b : Bool) → bytes_eq unit (name_at files p) ≡ b → IsFullAt files cached flags p ⊎ (at ≡ p)
     by true h =
         let same : unit ≡ name_at files p = (bytes_eq-Decides unit (name_at files p)).0 h in
-        let here : Some at ≡ Some p = sym e ∙ ap (λ (n : List ℕ). place n files) same ∙ placed_there files kept project p lt in
-        inr (some_is files kept project at p here)
+        let here : Some at ≡ Some p = sym e ∙ ap (λ (n : List ℕ). index n files) same ∙ placed_there files cached project p lt in
+        inr (some_is files cached project at p here)
     by false h = inl (others p lt h)
 
--- the least of the places that were gone through is no more than each
+-- the least of the indices that were gone through is no more than each
 pub least_more : (ws vs : List ℕ) (x p m n : ℕ) → ws ≡ x ∷ vs → n ≤ m → n ≤ x → (m ≤ p) ⊎ (is_among ws p ≡ true) → (n ≤ p) ⊎ (is_among vs p ≡ true)
 least_more ws vs x p m n split less here h = elim h [
   | inl k ↦ inl (omega (arith, k, less))
@@ -120,5 +120,5 @@ least_more ws vs x p m n split less here h = elim h [
 pub least_over : (ws : List ℕ) (i p n : ℕ) → length ws ≤ i → (n ≤ p) ⊎ (is_among (drop i ws) p ≡ true) → n ≤ p
 least_over ws i p n over h = elim h [
   | inl k ↦ k
-  | inr k ↦ let none = none_behind ws i p over in absurd (cc (none, k))
+  | inr k ↦ let none = none_following ws i p over in absurd (cc (none, k))
 ]

@@ -1,4 +1,4 @@
--- Lists that are compared, place by place, with what names give.
+-- Lists that are compared, index by index, with what names give.
 use Rattle.std.proofs.Common.{◌≡◌, ◌∙◌, ◌++◌, ◌+◌, ◌<◌, ℕ, List, [], ◌∷◌, length, map, take, get_or, ap, sym}
 use Rattle.std.proofs.lemmas.List.{get_or-map, map-append, take_more}
 

@@ -3,7 +3,7 @@ use Rattle.std.specs.Prelude.{◌≡◌, ◌⊎◌, ℕ, false, List}
 use Rattle.occ_project.specs.Entries.{is_among}
 use Rattle.occ_project.specs.Expansion.{expansion}
 use Rattle.occ_project.specs.declared.reads.Read.{Read}
-use Rattle.occ_units.specs.Units.{Reaches}
+use Rattle.occ_project_units.specs.Units.{Reaches}
 
 -- v is u, or a unit that u reaches
 abbrev pub IsUnder : List Read → List ℕ → List ℕ → Type 0

@@ -8,15 +8,15 @@ use Rattle.occ_board.specs.declared.entry.EditFault.{EditFault}
 use Rattle.occ_board.specs.declared.entry.EditFault.TheVariants as fault
 use Rattle.occ_board.specs.declared.entry.Entry.{Entry}
 use Rattle.occ_project.specs.declared.reads.Read.{Read}
-use Rattle.occ_units.specs.Project.{file_of, put}
+use Rattle.occ_project_units.specs.Project.{file_of, put}
 
--- the file behind edit n
+-- the file after edit n
 abbrev pub edited : ℕ → Edit → Read
 edited n (edit.Added name source) = record { name = name; revision = n; source = Some source }
 edited n (edit.Changed name source) = record { name = name; revision = n; source = Some source }
 edited n (edit.Removed name) = record { name = name; revision = n; source = None }
 
--- the files behind these edits, the first of which has number n
+-- the files after these edits, the first of which has number n
 abbrev pub replay_from : ℕ → List Read → List Entry → List Read
 replay_from n files [] = files
 replay_from n files (e ∷ es) = replay_from (n + 1) (put files (edited n e.edit)) es
@@ -34,11 +34,11 @@ open_number files = length (filter (λ file. is_some file.source) files)
 abbrev pub else_fault : Bool → EditFault → Option EditFault → Option EditFault
 else_fault test fault later = if test then Some fault else later
 
--- no more edits are accepted behind so many
+-- no more edits are accepted after so many
 abbrev pub if_full : ℕ → Option EditFault
 if_full accepted = else_fault (nat_le 10000 accepted) fault.JournalFull None
 
--- why an edit of these files is refused behind so many, the first that holds
+-- why an edit of these files is refused after so many, the first that holds
 abbrev pub refusal_of : List Read → ℕ → Edit → Option EditFault
 refusal_of files accepted (edit.Added name source) =
     else_fault (is_open files name) fault.AlreadyOpen (else_fault (nat_le 1024 (open_number files)) fault.TooManyFiles (if_full accepted))
@@ -48,10 +48,10 @@ refusal_of files accepted (edit.Removed name) = else_fault (not (is_open files n
 abbrev pub refusal : List Entry → Edit → Option EditFault
 refusal es e = refusal_of (replay es) (length es) e
 
--- behind these, no edit was accepted that should have been refused
-abbrev pub IsLegalBehind : List Entry → List Entry → Type 0
-IsLegalBehind before [] = Unit {0}
-IsLegalBehind before (e ∷ es) = (refusal before e.edit ≡ None) × IsLegalBehind (before ++ e ∷ []) es
+-- after these, no edit was accepted that should have been refused
+abbrev pub IsLegalAfter : List Entry → List Entry → Type 0
+IsLegalAfter before [] = Unit {0}
+IsLegalAfter before (e ∷ es) = (refusal before e.edit ≡ None) × IsLegalAfter (before ++ e ∷ []) es
 
 abbrev pub IsLegal : List Entry → Type 0
-IsLegal es = IsLegalBehind [] es
+IsLegal es = IsLegalAfter [] es

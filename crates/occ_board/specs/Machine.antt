@@ -14,22 +14,22 @@ use Rattle.occ_board.specs.declared.report.Row.{Row}
 use Rattle.occ_board.specs.declared.report.Shown.TheVariants as shown
 use Rattle.occ_board.specs.declared.verdict.Verdict.{Verdict}
 use Rattle.occ_board.specs.declared.verdict.Verdict.TheVariants as verdict
-use Rattle.occ_report.specs.Inputs.{Input, IsInput}
+use Rattle.occ_check.specs.Input.{Input, IsInput}
 use Rattle.occ_project.specs.Entries.{is_among}
 use Rattle.occ_project.specs.declared.reads.Read.{Read}
-use Rattle.occ_report.specs.Checks.{diags, input}
-use Rattle.occ_report.specs.Report.{open_units}
-use Rattle.occ_units.specs.Spelled.{IsSpelled}
-use Rattle.occ_units.specs.Units.{read_names}
+use Rattle.occ_check.specs.Checks.{diags, input}
+use Rattle.occ_check.specs.Report.{open_units}
+use Rattle.occ_project_units.specs.Spelled.{IsSpelled}
+use Rattle.occ_project_units.specs.Units.{read_names}
 
--- the edits that were accepted; the inputs of the outcomes that are kept, one for each unit at most; those handed out
+-- the edits that were accepted; the inputs of the outcomes that are cached, one for each unit at most; those handed out
 pub record State : Type 0 where
   pub journal : List Entry
-  pub kept : List Input
+  pub cached : List Input
   pub handed : List Input
 
 abbrev pub start : State
-start = record { journal = []; kept = []; handed = [] }
+start = record { journal = []; cached = []; handed = [] }
 
 abbrev pub files_of : State → List Read
 files_of s = replay s.journal
@@ -44,66 +44,66 @@ abbrev pub edit_number : State → ℕ
 edit_number s = length s.journal + 1
 
 abbrev pub after_edit : Option EditFault → State → ℕ → Edit → State
-after_edit None s session e = record { journal = s.journal ++ (record { session = session; edit = e }) ∷ []; kept = s.kept; handed = s.handed }
+after_edit None s session e = record { journal = s.journal ++ (record { session = session; edit = e }) ∷ []; cached = s.cached; handed = s.handed }
 after_edit (Some fault) s session e = s
 
 -- ---- jobs
 
 -- the present input of the least ready unit that is not handed out with it
 abbrev pub next_input : List Read → List Input → List Input → Option Input
-next_input files kept handed = find (λ i. not (is_input_among handed i)) (map (input files) (ready_units files kept))
+next_input files cached handed = find (λ i. not (is_input_among handed i)) (map (input files) (ready_units files cached))
 
 abbrev pub take_answer : State → Option Input
-take_answer s = next_input (files_of s) s.kept s.handed
+take_answer s = next_input (files_of s) s.cached s.handed
 
 abbrev pub handed_out : List Input → Option Input → List Input
 handed_out handed None = handed
 handed_out handed (Some i) = handed ++ i ∷ []
 
 abbrev pub after_take : State → State
-after_take s = record { journal = s.journal; kept = s.kept; handed = handed_out s.handed (take_answer s) }
+after_take s = record { journal = s.journal; cached = s.cached; handed = handed_out s.handed (take_answer s) }
 
 -- without this one
 abbrev pub unhanded : List Input → Input → List Input
 unhanded handed i = filter (λ j. not (same_input j i)) handed
 
 abbrev pub after_abandon : State → Input → State
-after_abandon s i = record { journal = s.journal; kept = s.kept; handed = unhanded s.handed i }
+after_abandon s i = record { journal = s.journal; cached = s.cached; handed = unhanded s.handed i }
 
 -- ---- outcomes
 
 abbrev pub finish_answer : State → Input → Verdict
-finish_answer s i = verdict_of (files_of s) (length s.journal) s.kept i
+finish_answer s i = verdict_of (files_of s) (length s.journal) s.cached i
 
--- in place of the one that is kept of its unit, if one is
-abbrev pub with_kept : List Input → Input → List Input
-with_kept [] i = i ∷ []
-with_kept (j ∷ js) i = if bytes_eq j.unit i.unit then i ∷ js else j ∷ with_kept js i
+-- in place of the one that is cached of its unit, if one is
+abbrev pub with_cached : List Input → Input → List Input
+with_cached [] i = i ∷ []
+with_cached (j ∷ js) i = if bytes_eq j.unit i.unit then i ∷ js else j ∷ with_cached js i
 
-abbrev pub kept_after : Verdict → List Input → Input → List Input
-kept_after verdict.Accepted kept i = with_kept kept i
-kept_after verdict.Repeated kept i = kept
-kept_after (verdict.Stale name) kept i = kept
-kept_after (verdict.Foreign name) kept i = kept
+abbrev pub cached_after : Verdict → List Input → Input → List Input
+cached_after verdict.Accepted cached i = with_cached cached i
+cached_after verdict.Repeated cached i = cached
+cached_after (verdict.Stale name) cached i = cached
+cached_after (verdict.Foreign name) cached i = cached
 
 abbrev pub after_finish : State → Input → State
-after_finish s i = record { journal = s.journal; kept = kept_after (finish_answer s i) s.kept i; handed = unhanded s.handed i }
+after_finish s i = record { journal = s.journal; cached = cached_after (finish_answer s i) s.cached i; handed = unhanded s.handed i }
 
 -- ---- what is asked
 
 -- a unit with its diagnostics in order if it is done, else as pending
 abbrev pub row_of : List Read → List Input → List ℕ → Row
-row_of files kept u = record { unit = u; shown = if done files kept u then shown.Done (diags files u) else shown.Pending }
+row_of files cached u = record { unit = u; shown = if done files cached u then shown.Done (diags files u) else shown.Pending }
 
 -- each open unit in order of name
 abbrev pub rows_of : List Read → List Input → List Row
-rows_of files kept = map (row_of files kept) (open_units files)
+rows_of files cached = map (row_of files cached) (open_units files)
 
 abbrev pub report_answer : State → List Row
-report_answer s = rows_of (files_of s) s.kept
+report_answer s = rows_of (files_of s) s.cached
 
 abbrev pub pending_answer : State → ℕ
-pending_answer s = length (pending_units (files_of s) s.kept)
+pending_answer s = length (pending_units (files_of s) s.cached)
 
 -- the open units that have the file of that name among their reads, in order of name
 abbrev pub readers : List Read → List ℕ → List (List ℕ)
@@ -158,7 +158,7 @@ after s (Event.Abandon i) = after_abandon s i
 after s Event.Report = s
 after s Event.Pending = s
 
--- behind these events, one after the other
+-- after these events, one after the other
 abbrev pub after_all : State → List Event → State
 after_all s [] = s
 after_all s (e ∷ es) = after_all (after s e) es

@@ -3,12 +3,13 @@
 use base.Stored.{Coded, Gv, gnil, gnum, gcons}
 use Rattle.std.specs.Prelude.{Bool, true, false, ◌&&◌, ◌==◌}
 use Rattle.std.specs.Coded.{codes}
-use Rattle.occ_report.specs.Inputs.{Input, UsedUnit}
-use Rattle.occ_expression_forms.specs.contracts.tree.Builtin as builtins
-use Rattle.occ_expression_forms.specs.contracts.tree.Dimension as dimensions
-use Rattle.occ_expression_forms.specs.contracts.tree.Element as elements
-use Rattle.occ_expression_forms.specs.contracts.tree.Expr as expressions
-use Rattle.occ_expression_forms.specs.contracts.tree.TypeForm as type_forms
+use Rattle.occ_check.specs.Input.{Input}
+use Rattle.occ_check.specs.declared.used.UsedUnit.{UsedUnit}
+use Rattle.occ_forms_expressions.specs.contracts.tree.Builtin as builtins
+use Rattle.occ_forms_expressions.specs.contracts.tree.Dimension as dimensions
+use Rattle.occ_forms_expressions.specs.contracts.tree.Element as elements
+use Rattle.occ_forms_expressions.specs.contracts.tree.Expr as expressions
+use Rattle.occ_forms_expressions.specs.contracts.tree.TypeForm as type_forms
 use Rattle.occ_types.specs.contracts.types.OccType as types
 
 abbrev pub same_tree : Gv → Gv → Bool

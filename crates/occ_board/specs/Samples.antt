@@ -4,10 +4,10 @@ use Rattle.occ_board.specs.Machine.{Event, State, after, after_all, files_of, st
 use Rattle.occ_board.specs.declared.entry.Edit.{Edit}
 use Rattle.occ_board.specs.declared.entry.Edit.TheVariants as edit
 use Rattle.occ_board.specs.declared.entry.Entry.{Entry}
-use Rattle.occ_report.specs.Inputs.{Input}
+use Rattle.occ_check.specs.Input.{Input}
 use Rattle.occ_forms.specs.Prepared.{Prepared}
 use Rattle.occ_project.specs.Samples.{use_at}
-use Rattle.occ_report.specs.Checks.{input}
+use Rattle.occ_check.specs.Checks.{input}
 
 -- a text whose lines hold nothing
 abbrev pub blank : List ℕ → Prepared
@@ -34,6 +34,6 @@ one_unit = after start (Event.Edited 1 (edit.Added (codes "a.occ") (using [] (co
 abbrev pub its_input : Input
 its_input = input (files_of one_unit) (codes "a.occ")
 
--- its outcome is kept
+-- its outcome is cached
 abbrev pub checked_unit : State
 checked_unit = after_all one_unit (Event.Take ∷ Event.Finish its_input ∷ [])

@@ -1,7 +1,7 @@
 -- what no contract of a public call rests on
 pub mod Flagged
-pub mod Fresh
+pub mod Verified
 pub mod Holding
 pub mod Ready
-pub mod Told
+pub mod Revisions
 pub mod Touched

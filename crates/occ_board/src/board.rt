@@ -1,56 +1,57 @@
 //! The board: edits, jobs, outcomes and reports. Each public call is one event of the machine. The graph, the flags of
 //! done units and the marks of verified outcomes are cached beside its state. `docs/MACHINE.md, The board`.
 ghost use Rattle.occ_board.specs.Done.{NoneIsHanded};
-ghost use Rattle.occ_board.specs.Journal.{IsLegal, refusal as why_refused};
-ghost use Rattle.occ_board.specs.Machine.{Answer, Event, after, answer, edit_number, expanded_answer, files_of, finish_answer, pending_answer, report_answer, start, take_answer, unhanded, with_kept};
+ghost use Rattle.occ_board.specs.Journal.{IsLegal, refusal as spec_refusal};
+ghost use Rattle.occ_board.specs.Machine.{Answer, Event, after, answer, edit_number, expanded_answer, files_of, finish_answer, pending_answer, report_answer, start, take_answer, unhanded, with_cached};
 ghost use Rattle.occ_board.specs.declared.entry.Edit.TheVariants as an_edit;
 ghost use Rattle.occ_board.specs.declared.entry.EditFault.TheVariants as fault;
 ghost use Rattle.occ_board.specs.declared.entry.EditFault.{EditFault as AFault};
 ghost use Rattle.occ_board.specs.declared.verdict.Verdict.TheVariants as verdicts;
 ghost use Rattle.occ_board.specs.inside.Ready.{HasJob, IsAcceptable};
-ghost use Rattle.occ_report.specs.Checks.{input};
-ghost use Rattle.occ_units.specs.Spelled.{AreSpelled};
+ghost use Rattle.occ_check.specs.Checks.{input};
+ghost use Rattle.occ_project_units.specs.Spelled.{AreSpelled};
 ghost use Rattle.std.specs.Option.{is_some, option_map};
 ghost use Rattle.std.specs.Prelude.{◌≡◌, ◌<◌, ◌⊎◌, Err, IfErr, IfOk, IfSome, None, OnErr, OnOk, length, true};
 
+use super::cached::Cached;
+use super::caching::unhand;
 use super::copying::copied_job;
+use super::entry::{Edit, EditFault, Entry};
 use super::expanding::count_readers;
-use super::flags::{Flags, settle_kept};
-use super::fresh::{forget_users, fresh_law};
-use super::journal::{count_behind, refusal};
+use super::flags::{Flags, settle_cached};
+use super::journal::{count_after, refusal};
 use super::judging::judge;
-use super::keeping::unhand;
-use super::kept::Kept;
 use super::laws::{done_law, height_law, ready_law, taking_law};
-use super::report::rows;
+use super::report::{Row, rows};
 use super::taking::{first_ready, job_now, next_unit};
 use super::touching::renew;
-use super::{Edit, EditFault, Entry, Row, Verdict};
+use super::verdict::Verdict;
+use super::verified::{forget_users, verified_law};
 use occ_base::{FileName, Items, Shared};
+use occ_check::{Job, Outcome};
 use occ_forms::Source;
-use occ_report::{Job, Outcome};
-use occ_units::Graph;
-use occ_units::laws::put_law;
+use occ_project_units::Graph;
+use occ_project_units::laws::put_law;
 use std::alloc::{AllocError, Global};
 use std::marker::Model;
 
 /// The state of everything. In contracts it is the state of the machine: the edits that were accepted, the inputs of the
-/// outcomes that are kept, and those that are handed out.
+/// outcomes that are cached, and those that are handed out.
 pub struct Board {
     journal: Vec<Entry>,
-    kept: Kept,
+    cached: Cached,
     handed: Vec<Job>,
     /// The graph of the project that the edits make.
     graph: Graph,
     /// Of each file of the project whether it is a unit that is done.
     flags: Flags,
-    /// Of each file of the project whether it is a unit of which a fresh outcome is kept, as far as that is known.
-    fresh: Flags,
+    /// Of each file of the project whether it is a unit of which a verified outcome is cached, as far as that is known.
+    verified: Flags,
     /// How many files are open.
     opened: usize,
     /// How many units are open.
     units: usize,
-    /// A place before which no unit is ready.
+    /// An index before which no unit is ready.
     waiting: usize,
 }
 
@@ -59,11 +60,11 @@ impl Drop for Board {
     fn drop(self) {
         let Board {
             journal: _,
-            kept: _,
+            cached: _,
             handed: _,
             graph: _,
             flags: _,
-            fresh: _,
+            verified: _,
             opened: _,
             units: _,
             waiting: _,
@@ -72,11 +73,11 @@ impl Drop for Board {
 }
 
 impl Model for Board {
-    ghost use Rattle.occ_expression_forms.specs.contracts.tree.Builtin as builtins;
-    ghost use Rattle.occ_expression_forms.specs.contracts.tree.Dimension as dimensions;
-    ghost use Rattle.occ_expression_forms.specs.contracts.tree.Element as elements;
-    ghost use Rattle.occ_expression_forms.specs.contracts.tree.Expr as expressions;
-    ghost use Rattle.occ_expression_forms.specs.contracts.tree.TypeForm as type_forms;
+    ghost use Rattle.occ_forms_expressions.specs.contracts.tree.Builtin as builtins;
+    ghost use Rattle.occ_forms_expressions.specs.contracts.tree.Dimension as dimensions;
+    ghost use Rattle.occ_forms_expressions.specs.contracts.tree.Element as elements;
+    ghost use Rattle.occ_forms_expressions.specs.contracts.tree.Expr as expressions;
+    ghost use Rattle.occ_forms_expressions.specs.contracts.tree.TypeForm as type_forms;
     ghost use Rattle.occ_types.specs.contracts.types.OccType as types;
     ghost use Rattle.occ_board.specs.Machine.{State};
     ghost use Rattle.std.specs.Coded.{codes};
@@ -85,13 +86,13 @@ impl Model for Board {
 
     ghost coded = { Prim.hlevel (codes, builtins.the_row.coded, dimensions.the_row.coded, elements.the_row.coded, expressions.the_row.coded, type_forms.the_row.coded, types.the_row.coded) };
 
-    ghost use Rattle.occ_board.specs.inside.Fresh.{AreFresh};
+    ghost use Rattle.occ_board.specs.inside.Verified.{AreVerified};
     ghost use Rattle.occ_board.specs.inside.Holding.{IsBoard};
     ghost use Rattle.occ_board.specs.inside.Ready.{NoneIsReady};
 
-    ghost view = { λ b. record { journal = b.journal.items; kept = b.kept; handed = b.handed.items } };
+    ghost view = { λ b. record { journal = b.journal.items; cached = b.cached; handed = b.handed.items } };
 
-    ghost invariant = { λ b. IsBoard b.journal.items b.kept b.graph b.flags b.opened b.units × NoneIsReady b.graph b.flags b.waiting × AreFresh b.graph b.kept b.fresh };
+    ghost invariant = { λ b. IsBoard b.journal.items b.cached b.graph b.flags b.opened b.units × NoneIsReady b.graph b.flags b.waiting × AreVerified b.graph b.cached b.verified };
 }
 
 impl Board {
@@ -102,11 +103,11 @@ impl Board {
         done_law();
         Board {
             journal: Vec::new(alloc),
-            kept: Kept::new(alloc),
+            cached: Cached::new(alloc),
             handed: Vec::new(alloc),
             graph: Graph::new(alloc),
             flags: Flags::new(alloc),
-            fresh: Flags::new(alloc),
+            verified: Flags::new(alloc),
             opened: 0,
             units: 0,
             waiting: 0,
@@ -160,7 +161,7 @@ impl Board {
 
     /// Why an edit is refused, the first that holds.
     fn refusal(&self, edit: &Edit) -> Option<EditFault>
-        ensures { result ≡ why_refused self.now.journal edit.now }
+        ensures { result ≡ spec_refusal self.now.journal edit.now }
     {
         refusal(self.graph.project(), self.opened, self.journal.len(), edit)
     }
@@ -180,7 +181,7 @@ impl Board {
 
     /// Makes an edit that is not refused. All that takes memory comes before the first change but that of the journal.
     fn accept(&mut self, alloc: Global, session: u32, edit: Edit) -> Result<u32, AllocError>
-        requires { why_refused self.old.journal edit ≡ None }
+        requires { spec_refusal self.old.journal edit ≡ None }
         ensures number { IfOk result (λ number. number ≡ edit_number self.old) }
         ensures after { OnOk result (self.new ≡ after self.old (Event.Edited session edit)) }
         ensures err { OnErr result (self.new ≡ self.old) }
@@ -189,16 +190,16 @@ impl Board {
         done_law();
         let number = self.journal.len() as u32 + 1;
         let name = edit.name();
-        let opened = count_behind(self.opened, &edit, true);
-        let units = count_behind(self.units, &edit, name.is_unit());
+        let opened = count_after(self.opened, &edit, true);
+        let units = count_after(self.units, &edit, name.is_unit());
         let source = edit.shared()?;
         self.journal.push(Entry { session, edit })?;
         let renewed = renew(
             alloc,
             &mut self.graph,
-            &self.kept,
+            &self.cached,
             &mut self.flags,
-            &mut self.fresh,
+            &mut self.verified,
             name,
             number,
             source,
@@ -210,7 +211,7 @@ impl Board {
         self.opened = opened;
         self.units = units;
         self.waiting = 0;
-        self.kept.follow(self.graph.project(), name);
+        self.cached.follow(self.graph.project(), name);
         Ok(number)
     }
 
@@ -219,7 +220,7 @@ impl Board {
     pub fn take(&mut self, alloc: Global) -> Result<Option<Job>, AllocError>
         ensures answered { IfOk result (λ job. Answer.Job job ≡ answer self.old Event.Take) }
         ensures after { OnOk result (self.new ≡ after self.old Event.Take) }
-        ensures given { IfOk result (λ job. 0 < pending_answer self.old → NoneIsHanded (files_of self.old) self.old.kept self.old.handed → is_some job ≡ true) }
+        ensures given { IfOk result (λ job. 0 < pending_answer self.old → NoneIsHanded (files_of self.old) self.old.cached self.old.handed → is_some job ≡ true) }
         ensures err { OnErr result (self.new ≡ self.old) }
     {
         ready_law();
@@ -239,26 +240,26 @@ impl Board {
     /// The least unit that is ready and whose present job is not handed out.
     fn next_unit(&self) -> Option<FileName>
         ensures next { option_map (input (files_of self.now)) result ≡ take_answer self.now }
-        ensures job { IfSome result (λ unit. HasJob (files_of self.now) self.now.kept unit) }
+        ensures job { IfSome result (λ unit. HasJob (files_of self.now) self.now.cached unit) }
     {
         next_unit(
             &self.graph,
-            &self.kept,
+            &self.cached,
             self.handed.as_slice(),
             self.flags.as_slice(),
             self.waiting,
         )
     }
 
-    /// The job of an open unit, which is looked for at a place first, that looks at what is so at present.
+    /// The job of an open unit, which is looked for at an index first, that looks at what is so at present.
     fn job(&self, alloc: Global, file: usize, unit: FileName) -> Result<Job, AllocError>
-        requires { HasJob (files_of self.now) self.now.kept unit }
+        requires { HasJob (files_of self.now) self.now.cached unit }
         ensures { IfOk result (λ job. job ≡ input (files_of self.now) unit) }
     {
-        job_now(alloc, &self.graph, &self.kept, file, unit)
+        job_now(alloc, &self.graph, &self.cached, file, unit)
     }
 
-    /// Judges an outcome, and keeps it if it is accepted. Its job is handed out no more. Where memory is refused, which
+    /// Judges an outcome, and caches it if it is accepted. Its job is handed out no more. Where memory is refused, which
     /// only an outcome wants that is accepted, nothing is changed and it comes back.
     pub fn finish(&mut self, outcome: Outcome) -> Result<Verdict, (Outcome, AllocError)>
         ensures answered { IfOk result (λ verdict. Answer.Judged verdict ≡ answer self.old (Event.Finish outcome)) }
@@ -276,35 +277,35 @@ impl Board {
         Ok(verdict)
     }
 
-    /// Where a unit is looked for first. It promises nothing: a place that is wrong costs time.
+    /// Where a unit is looked for first. It promises nothing: an index that is wrong costs time.
     fn hint(&self, unit: FileName) -> usize {
-        match self.graph.project().place_near(self.waiting, unit) {
-            Some(place) => place,
+        match self.graph.project().index_near(self.waiting, unit) {
+            Some(index) => index,
             None => 0,
         }
     }
 
     /// Keeps an outcome that looked at what is so at present, and hands its job out no more. What was done stays so. Its unit is
-    /// looked for at a place first.
+    /// looked for at an index first.
     fn accept_outcome(&mut self, file: usize, outcome: Outcome) -> Result<(), (Outcome, AllocError)>
-        requires { IsAcceptable (files_of self.old) self.old.kept outcome }
-        ensures ok { OnOk result (self.new ≡ record { journal = self.old.journal; kept = with_kept self.old.kept outcome; handed = unhanded self.old.handed outcome }) }
+        requires { IsAcceptable (files_of self.old) self.old.cached outcome }
+        ensures ok { OnOk result (self.new ≡ record { journal = self.old.journal; cached = with_cached self.old.cached outcome; handed = unhanded self.old.handed outcome }) }
         ensures fewer { OnOk result (pending_answer self.new < pending_answer self.old) }
         ensures err { IfErr result (λ refused. (refused.0 ≡ outcome) × (self.new ≡ self.old)) }
     {
         put_law();
         done_law();
         height_law();
-        fresh_law();
-        let found = self.kept.keep(file, outcome)?;
-        let job = self.kept.at(found.0).job();
+        verified_law();
+        let found = self.cached.cache(file, outcome)?;
+        let job = self.cached.at(found.0).job();
         unhand(&mut self.handed, job);
-        forget_users(&self.graph, &mut self.fresh, file, job.unit(), found.1);
-        self.waiting = settle_kept(
+        forget_users(&self.graph, &mut self.verified, file, job.unit(), found.1);
+        self.waiting = settle_cached(
             &self.graph,
-            &self.kept,
+            &self.cached,
             &mut self.flags,
-            &mut self.fresh,
+            &mut self.verified,
             self.waiting,
             file,
             job.unit(),
@@ -312,22 +313,22 @@ impl Board {
         Ok(())
     }
 
-    /// What becomes of the outcome of a job, whose unit is looked for at a place first.
+    /// What becomes of the outcome of a job, whose unit is looked for at an index first.
     fn judge(&self, file: usize, job: &Job) -> Verdict
         ensures value { result ≡ finish_answer self.now job.now }
-        ensures acceptable { result ≡ verdicts.Accepted → IsAcceptable (files_of self.now) self.now.kept job.now }
+        ensures acceptable { result ≡ verdicts.Accepted → IsAcceptable (files_of self.now) self.now.cached job.now }
     {
         judge(
             &self.graph,
             self.journal.len(),
-            &self.kept,
+            &self.cached,
             self.flags.as_slice(),
             file,
             job,
         )
     }
 
-    /// A job is handed out no more, and nothing is kept.
+    /// A job is handed out no more, and nothing is cached.
     pub fn abandon(&mut self, job: &Job)
         ensures { self.new ≡ after self.old (Event.Abandon job.now) }
     {
@@ -338,7 +339,7 @@ impl Board {
     pub fn report(&self, alloc: Global) -> Result<Items<Row>, AllocError>
         ensures { IfOk result (λ rows. rows ≡ report_answer self.now) }
     {
-        rows(alloc, &self.graph, &self.kept, self.flags.as_slice())
+        rows(alloc, &self.graph, &self.cached, self.flags.as_slice())
     }
 
     /// How many open units are pending.

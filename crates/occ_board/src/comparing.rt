@@ -6,9 +6,9 @@ ghost use Rattle.std.specs.Prelude.{◌≡◌, ◌↔◌, IsTrue};
 
 use super::sources::source_law;
 use occ_base::Shared;
+use occ_check::{Job, Used, UsedUnit};
 use occ_forms::Source;
 use occ_project::Read;
-use occ_report::{Job, Used, UsedUnit};
 use occ_types::{Export, Formal, FormalUse, Interface, OccType, PartSelector, same_type};
 
 /// What is compared whole.
@@ -141,7 +141,7 @@ impl Same for PartSelector {
     fn is_same(&self, other: &PartSelector) -> bool {
         match (self, other) {
             (PartSelector::Field(name), PartSelector::Field(other)) => name == other,
-            (PartSelector::Interval(places), PartSelector::Interval(others)) => places == others,
+            (PartSelector::Interval(indices), PartSelector::Interval(others)) => indices == others,
             _ => false,
         }
     }

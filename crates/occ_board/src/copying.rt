@@ -2,9 +2,9 @@
 ghost use Rattle.std.specs.Prelude.{◌≡◌, IfOk};
 
 use occ_base::Items;
+use occ_check::{Job, Used, UsedUnit};
 use occ_project::{Read, Reads};
-use occ_report::{Job, Used, UsedUnit};
-use occ_units::share;
+use occ_project_units::share;
 use std::alloc::{AllocError, Global};
 
 /// The same reads.

@@ -1,7 +1,7 @@
 //! Edits, the entries of the journal, and why an edit is refused.
 ghost use Rattle.occ_board.specs.Journal.{edited};
 ghost use Rattle.occ_board.specs.declared.entry.EditFault.TheVariants as fault;
-ghost use Rattle.occ_units.specs.Spelled.{IsSpelled};
+ghost use Rattle.occ_project_units.specs.Spelled.{IsSpelled};
 ghost use Rattle.std.specs.Option.{option_copied};
 ghost use Rattle.std.specs.Prelude.{◌≡◌, IfOk};
 
@@ -71,7 +71,7 @@ impl Drop for Entry {
     }
 }
 
-/// Why an edit is refused. Where several hold, the first of this order is told.
+/// Why an edit is refused. Where several hold, the first of this order is reported.
 #[derive(Clone, Copy)]
 pub enum EditFault {
     /// The file that is to be opened is open.

@@ -1,20 +1,20 @@
 //! How many open units read the file of the last edit, counted when it is asked.
 ghost use Rattle.occ_board.specs.Machine.{readers};
 ghost use Rattle.occ_project.specs.Entries.{is_among};
-ghost use Rattle.occ_report.specs.Report.{is_open_unit};
-ghost use Rattle.occ_units.specs.Units.{read_names};
+ghost use Rattle.occ_check.specs.Report.{is_open_unit};
+ghost use Rattle.occ_project_units.specs.Units.{read_names};
 ghost use Rattle.std.specs.Prelude.{◌≡◌, ◌<◌, ◌^◌, ◌&&◌, ◌+◌, Some, cond, length, slice_get};
 
 use occ_base::FileName;
 use occ_project::Read;
-use occ_units::Graph;
+use occ_project_units::Graph;
 
-/// Whether the file at a place is an open unit that has the one of that name among its reads.
-fn is_reader(graph: &Graph, place: usize, file: &Read, name: FileName) -> bool
-    requires { slice_get graph.now place ≡ Some file.now }
+/// Whether the file at an index is an open unit that has the one of that name among its reads.
+fn is_reader(graph: &Graph, index: usize, file: &Read, name: FileName) -> bool
+    requires { slice_get graph.now index ≡ Some file.now }
     ensures { result ≡ (is_open_unit file.now && is_among (read_names graph.now file.now.name) name) }
 {
-    file.name.is_unit() && file.source.is_some() && graph.does_read(place, name)
+    file.name.is_unit() && file.source.is_some() && graph.does_read(index, name)
 }
 
 /// One more, if it is counted.
@@ -31,8 +31,8 @@ pub fn count_readers(graph: &Graph, name: FileName) -> u32
     ensures { result ≡ length (readers graph.now name) }
 {
     let mut count = 0;
-    for (place, file) in graph.project().files().iter().enumerate() {
-        let is_one = is_reader(graph, place, file, name);
+    for (index, file) in graph.project().files().iter().enumerate() {
+        let is_one = is_reader(graph, index, file, name);
         count = counted(count, is_one);
     }
     count

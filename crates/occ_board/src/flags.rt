@@ -1,25 +1,25 @@
 //! The flags of done units and how many are set. After an accepted outcome they are set along users, after some edits in
 //! passes. If no flag is wrong and none is missing, exactly the done units are flagged.
 ghost use Rattle.occ_board.specs.Done.{done, done_step};
-ghost use Rattle.occ_board.specs.inside.Fresh.{AreFresh};
+ghost use Rattle.occ_board.specs.inside.Verified.{AreVerified};
 ghost use Rattle.occ_board.specs.inside.Flagged.{AreFlags, IsFull, IsFullAt, IsSound, flag_of, flagged, rest_flag, unflagged};
 ghost use Rattle.occ_board.specs.inside.Ready.{NoneIsReady};
-ghost use Rattle.occ_board.specs.inside.Told.{AllTold};
-ghost use Rattle.occ_graph.specs.Graph.{is_among as is_place, rests};
-ghost use Rattle.occ_units.specs.Along.{name_at};
-ghost use Rattle.occ_units.specs.Places.{graph_of, rest_units};
-ghost use Rattle.occ_units.specs.Project.{IsProject};
+ghost use Rattle.occ_board.specs.inside.Revisions.{AllGivenByRevision};
+ghost use Rattle.occ_project_graph.specs.Graph.{is_among as spec_is_among, rests};
+ghost use Rattle.occ_project_units.specs.Along.{name_at};
+ghost use Rattle.occ_project_units.specs.Indices.{graph_of, rest_units};
+ghost use Rattle.occ_project_units.specs.Project.{IsProject};
 ghost use Rattle.std.specs.List.{insert, list_all};
 ghost use Rattle.std.specs.Prelude.{◌≡◌, ◌<◌, ◌≤◌, ◌&&◌, ◌⊎◌, [], IfOk, IsFalse, IsTrue, Some, false, get_or, length, not, replicate, slice_get, slice_set, true, ℕ};
 ghost use Rattle.std.specs.Str.{bytes_eq};
 
-use super::fresh::{fresh_law, is_current};
-use super::kept::Kept;
+use super::cached::Cached;
 use super::laws::{done_law, height_law};
+use super::verified::{is_current, verified_law};
 use occ_base::{FileName, Items};
 use occ_project::Read;
-use occ_units::Graph;
-use occ_units::laws::users_law;
+use occ_project_units::Graph;
+use occ_project_units::laws::users_law;
 use sqlite_items::at;
 use std::alloc::{AllocError, Global};
 use std::marker::Model;
@@ -31,7 +31,7 @@ pub fn no_flags(alloc: Global, count: usize) -> Result<Items<bool>, AllocError>
     Ok(Items::from_vec(vec![in alloc; false; count]?))
 }
 
-/// A flag for each place, and how many are set. In contracts it is the list of the flags.
+/// A flag for each index, and how many are set. In contracts it is the list of the flags.
 #[derive(Drop)]
 pub struct Flags {
     flags: Items<bool>,
@@ -53,7 +53,7 @@ impl Model for Flags {
 }
 
 impl Flags {
-    /// For no place.
+    /// For no index.
     pub fn new(alloc: Global) -> Flags
         ensures { result ≡ [] }
     {
@@ -63,7 +63,7 @@ impl Flags {
         }
     }
 
-    /// For so many places, none of which is set.
+    /// For so many indices, none of which is set.
     pub fn none(alloc: Global, count: usize) -> Result<Flags, AllocError>
         ensures { IfOk result (λ flags. flags ≡ replicate count false) }
     {
@@ -73,20 +73,20 @@ impl Flags {
         })
     }
 
-    /// These, and one that is not set where a place is new.
-    pub fn with_place(&self, alloc: Global, place: usize) -> Result<Flags, AllocError>
-        requires { place ≤ length self.now }
-        ensures { IfOk result (λ next. next ≡ insert self.now place false) }
+    /// These, and one that is not set where an index is new.
+    pub fn with_index(&self, alloc: Global, index: usize) -> Result<Flags, AllocError>
+        requires { index ≤ length self.now }
+        ensures { IfOk result (λ next. next ≡ insert self.now index false) }
     {
         let mut flags = Vec::from_slice(alloc, self.flags.as_slice())?;
-        flags.insert(place, false)?;
+        flags.insert(index, false)?;
         Ok(Flags {
             flags: Items::from_vec(flags),
             set: self.set,
         })
     }
 
-    /// The flags, in order of their places.
+    /// The flags, in order of their indices.
     pub fn as_slice(&self) -> &[bool]
         ensures { result.now ≡ self.now }
     {
@@ -100,170 +100,182 @@ impl Flags {
         self.set
     }
 
-    /// Sets the flag of a place.
-    pub fn set(&mut self, place: usize)
-        ensures { self.new ≡ slice_set self.old place true }
+    /// Sets the flag of an index.
+    pub fn set(&mut self, index: usize)
+        ensures { self.new ≡ slice_set self.old index true }
     {
-        if place < self.flags.len() && !is_flagged(self.flags.as_slice(), place) {
-            self.flags.set(place, true);
+        if index < self.flags.len() && !is_flagged(self.flags.as_slice(), index) {
+            self.flags.set(index, true);
             self.set += 1;
         }
     }
 
-    /// Takes the flag of a place.
-    pub fn unset(&mut self, place: usize)
-        ensures { self.new ≡ slice_set self.old place false }
+    /// Takes the flag of an index.
+    pub fn unset(&mut self, index: usize)
+        ensures { self.new ≡ slice_set self.old index false }
     {
-        if is_flagged(self.flags.as_slice(), place) {
-            self.flags.set(place, false);
+        if is_flagged(self.flags.as_slice(), index) {
+            self.flags.set(index, false);
             self.set -= 1;
         }
     }
 }
 
-/// Takes the flags of these places.
-pub fn unflag(flags: &mut Flags, places: &[usize])
+/// Takes the flags of these indices.
+pub fn unflag(flags: &mut Flags, indices: &[usize])
     ensures len { length flags.new ≡ length flags.old }
-    ensures flags { (p : ℕ) → get_or flags.new p false ≡ (get_or flags.old p false && not (is_place places.now p)) }
+    ensures flags { (p : ℕ) → get_or flags.new p false ≡ (get_or flags.old p false && not (spec_is_among indices.now p)) }
 {
-    for place in places {
-        flags.unset(*place);
+    for index in indices {
+        flags.unset(*index);
     }
 }
 
-/// Whether the flag at a place is set.
-pub fn is_flagged(flags: &[bool], place: usize) -> bool
-    ensures { result ≡ get_or flags.now place false }
+/// Whether the flag at an index is set.
+pub fn is_flagged(flags: &[bool], index: usize) -> bool
+    ensures { result ≡ get_or flags.now index false }
 {
-    match flags.get(place) {
+    match flags.get(index) {
         Some(flag) => *flag,
         None => false,
     }
 }
 
-/// Whether a unit, which is looked for at a place first, has its flag.
+/// Whether a unit, which is looked for at an index first, has its flag.
 pub fn has_flag(graph: &Graph, flags: &[bool], hint: usize, unit: FileName) -> bool
     ensures { result ≡ flag_of graph.now flags.now unit }
 {
-    match graph.project().place_near(hint, unit) {
-        Some(place) => is_flagged(flags, place),
+    match graph.project().index_near(hint, unit) {
+        Some(index) => is_flagged(flags, index),
         None => false,
     }
 }
 
-/// Whether the file at a place is absent, or has its flag.
-fn is_rest_flagged(files: &[Read], flags: &[bool], place: usize) -> bool
-    ensures { result ≡ rest_flag files.now flags.now place }
+/// Whether the file at an index is absent, or has its flag.
+fn is_rest_flagged(files: &[Read], flags: &[bool], index: usize) -> bool
+    ensures { result ≡ rest_flag files.now flags.now index }
 {
-    match at(files, place) {
-        Some(file) => file.source.is_none() || is_flagged(flags, place),
+    match at(files, index) {
+        Some(file) => file.source.is_none() || is_flagged(flags, index),
         None => true,
     }
 }
 
-/// Whether the files at these places are absent, or have their flags.
-fn are_flagged(files: &[Read], flags: &[bool], places: &[usize]) -> bool
-    ensures { result ≡ list_all (rest_flag files.now flags.now) places.now }
+/// Whether the files at these indices are absent, or have their flags.
+fn are_flagged(files: &[Read], flags: &[bool], indices: &[usize]) -> bool
+    ensures { result ≡ list_all (rest_flag files.now flags.now) indices.now }
 {
-    for place in places {
-        if !is_rest_flagged(files, flags, *place) {
+    for index in indices {
+        if !is_rest_flagged(files, flags, *index) {
             return false;
         }
     }
     true
 }
 
-/// Whether all units that the one at a place rests on have their flags.
-pub fn are_rests_flagged(graph: &Graph, flags: &[bool], place: usize) -> bool
-    requires { place < length graph.now }
-    ensures { result ≡ list_all (flag_of graph.now flags.now) (rest_units graph.now (name_at graph.now place)) }
+/// Whether all units that the one at an index rests on have their flags.
+pub fn are_rests_flagged(graph: &Graph, flags: &[bool], index: usize) -> bool
+    requires { index < length graph.now }
+    ensures { result ≡ list_all (flag_of graph.now flags.now) (rest_units graph.now (name_at graph.now index)) }
 {
-    are_flagged(graph.project().files(), flags, graph.rests(place))
+    are_flagged(graph.project().files(), flags, graph.rests(index))
 }
 
-/// Whether the file at a place is done, as far as the flags tell.
+/// Whether the file at an index is done, as far as the flags report.
 fn is_file_done(
     graph: &Graph,
-    kept: &Kept,
+    cached: &Cached,
     flags: &[bool],
-    fresh: &[bool],
-    place: usize,
+    verified: &[bool],
+    index: usize,
     file: &Read,
 ) -> bool
     requires project { IsProject graph.now }
-    requires file { slice_get graph.now place ≡ Some file.now }
-    requires sound { IsSound graph.now kept.now flags.now }
-    requires told { AllTold graph.now kept.now }
-    requires fresh { AreFresh graph.now kept.now fresh.now }
-    ensures { result ≡ done_step graph.now kept.now file.now.name (flag_of graph.now flags.now) }
+    requires file { slice_get graph.now index ≡ Some file.now }
+    requires sound { IsSound graph.now cached.now flags.now }
+    requires reported { AllGivenByRevision graph.now cached.now }
+    requires verified { AreVerified graph.now cached.now verified.now }
+    ensures { result ≡ done_step graph.now cached.now file.now.name (flag_of graph.now flags.now) }
 {
     if file.source.is_none() {
         return false;
     }
-    if !are_rests_flagged(graph, flags, place) {
+    if !are_rests_flagged(graph, flags, index) {
         return false;
     }
-    is_current(graph, kept, fresh, place, file.name)
+    is_current(graph, cached, verified, index, file.name)
 }
 
-/// The same of a place.
-fn is_done_by(graph: &Graph, kept: &Kept, flags: &[bool], fresh: &[bool], place: usize) -> bool
-    requires within { place < length graph.now }
-    requires sound { IsSound graph.now kept.now flags.now }
-    requires told { AllTold graph.now kept.now }
-    requires fresh { AreFresh graph.now kept.now fresh.now }
-    ensures value { result ≡ done_step graph.now kept.now (name_at graph.now place) (flag_of graph.now flags.now) }
-    ensures done { IsTrue result → done graph.now kept.now (name_at graph.now place) ≡ true }
+/// The same of an index.
+fn is_done_by(
+    graph: &Graph,
+    cached: &Cached,
+    flags: &[bool],
+    verified: &[bool],
+    index: usize,
+) -> bool
+    requires within { index < length graph.now }
+    requires sound { IsSound graph.now cached.now flags.now }
+    requires reported { AllGivenByRevision graph.now cached.now }
+    requires verified { AreVerified graph.now cached.now verified.now }
+    ensures value { result ≡ done_step graph.now cached.now (name_at graph.now index) (flag_of graph.now flags.now) }
+    ensures done { IsTrue result → done graph.now cached.now (name_at graph.now index) ≡ true }
 {
     done_law();
-    match at(graph.project().files(), place) {
-        Some(file) => is_file_done(graph, kept, flags, fresh, place, file),
+    match at(graph.project().files(), index) {
+        Some(file) => is_file_done(graph, cached, flags, verified, index, file),
         None => false,
     }
 }
 
-/// Sets the flag of a unit that is done by the flags that are set, and tells whether it did.
-fn advance(graph: &Graph, kept: &Kept, flags: &mut Flags, fresh: &mut Flags, place: usize) -> bool
-    requires within { place < length graph.now }
+/// Sets the flag of a unit that is done by the flags that are set, and says whether it did.
+fn advance(
+    graph: &Graph,
+    cached: &Cached,
+    flags: &mut Flags,
+    verified: &mut Flags,
+    index: usize,
+) -> bool
+    requires within { index < length graph.now }
     requires len { length flags.old ≡ length graph.now }
-    requires sound { IsSound graph.now kept.now flags.old }
-    requires told { AllTold graph.now kept.now }
-    requires fresh { AreFresh graph.now kept.now fresh.old }
+    requires sound { IsSound graph.now cached.now flags.old }
+    requires reported { AllGivenByRevision graph.now cached.now }
+    requires verified { AreVerified graph.now cached.now verified.old }
     ensures len { length flags.new ≡ length graph.now }
-    ensures sound { IsSound graph.now kept.now flags.new }
-    ensures fresh { AreFresh graph.now kept.now fresh.new }
+    ensures sound { IsSound graph.now cached.now flags.new }
+    ensures verified { AreVerified graph.now cached.now verified.new }
     ensures fewer { IsTrue result → unflagged flags.new < unflagged flags.old }
-    ensures set { IsTrue result → flags.new ≡ slice_set flags.old place true }
+    ensures set { IsTrue result → flags.new ≡ slice_set flags.old index true }
     ensures same { IsFalse result → flags.new ≡ flags.old }
-    ensures full { IsFalse result → IsFullAt graph.now kept.now flags.new place }
+    ensures full { IsFalse result → IsFullAt graph.now cached.now flags.new index }
 {
     let _files = graph.project().files();
-    fresh_law();
-    if is_flagged(flags.as_slice(), place)
-        || !is_done_by(graph, kept, flags.as_slice(), fresh.as_slice(), place)
+    verified_law();
+    if is_flagged(flags.as_slice(), index)
+        || !is_done_by(graph, cached, flags.as_slice(), verified.as_slice(), index)
     {
         return false;
     }
-    flags.set(place);
-    fresh.set(place);
+    flags.set(index);
+    verified.set(index);
     true
 }
 
-/// Goes once through all units, and tells whether it set a flag.
-fn pass(graph: &Graph, kept: &Kept, flags: &mut Flags, fresh: &mut Flags) -> bool
+/// Goes once through all units, and says whether it set a flag.
+fn pass(graph: &Graph, cached: &Cached, flags: &mut Flags, verified: &mut Flags) -> bool
     requires len { length flags.old ≡ length graph.now }
-    requires sound { IsSound graph.now kept.now flags.old }
-    requires told { AllTold graph.now kept.now }
-    requires fresh { AreFresh graph.now kept.now fresh.old }
+    requires sound { IsSound graph.now cached.now flags.old }
+    requires reported { AllGivenByRevision graph.now cached.now }
+    requires verified { AreVerified graph.now cached.now verified.old }
     ensures len { length flags.new ≡ length graph.now }
-    ensures sound { IsSound graph.now kept.now flags.new }
-    ensures fresh { AreFresh graph.now kept.now fresh.new }
+    ensures sound { IsSound graph.now cached.now flags.new }
+    ensures verified { AreVerified graph.now cached.now verified.new }
     ensures fewer { IsTrue result → unflagged flags.new < unflagged flags.old }
-    ensures full { IsFalse result → IsFull graph.now kept.now flags.new (length graph.now) }
+    ensures full { IsFalse result → IsFull graph.now cached.now flags.new (length graph.now) }
 {
     let mut advanced = false;
-    for place in 0..flags.as_slice().len() {
-        if advance(graph, kept, flags, fresh, place) {
+    for index in 0..flags.as_slice().len() {
+        if advance(graph, cached, flags, verified, index) {
             advanced = true;
         }
     }
@@ -271,106 +283,106 @@ fn pass(graph: &Graph, kept: &Kept, flags: &mut Flags, fresh: &mut Flags) -> boo
 }
 
 /// Sets the flags of all units that are done. It takes no memory.
-pub fn settle(graph: &Graph, kept: &Kept, flags: &mut Flags, fresh: &mut Flags)
+pub fn settle(graph: &Graph, cached: &Cached, flags: &mut Flags, verified: &mut Flags)
     requires len { length flags.old ≡ length graph.now }
-    requires sound { IsSound graph.now kept.now flags.old }
-    requires told { AllTold graph.now kept.now }
-    requires fresh { AreFresh graph.now kept.now fresh.old }
+    requires sound { IsSound graph.now cached.now flags.old }
+    requires reported { AllGivenByRevision graph.now cached.now }
+    requires verified { AreVerified graph.now cached.now verified.old }
     ensures len { length flags.new ≡ length graph.now }
-    ensures flags { AreFlags graph.now kept.now flags.new }
-    ensures fresh { AreFresh graph.now kept.now fresh.new }
+    ensures flags { AreFlags graph.now cached.now flags.new }
+    ensures verified { AreVerified graph.now cached.now verified.new }
 {
     let _files = graph.project().files();
     done_law();
     height_law();
-    while pass(graph, kept, flags, fresh) {}
+    while pass(graph, cached, flags, verified) {}
 }
 
-/// Sets the flag of the unit at a place, if it is done by the flags that are set, and then so of each that rests on it. If
+/// Sets the flag of the unit at an index, if it is done by the flags that are set, and then so of each that rests on it. If
 /// no other flag was missing, none is then. It takes no memory, and goes no deeper than there are units.
 #[cycle(spread)]
-fn spread(graph: &Graph, kept: &Kept, flags: &mut Flags, fresh: &mut Flags, place: usize)
-    requires within { place < length graph.now }
+fn spread(graph: &Graph, cached: &Cached, flags: &mut Flags, verified: &mut Flags, index: usize)
+    requires within { index < length graph.now }
     requires len { length flags.old ≡ length graph.now }
-    requires sound { IsSound graph.now kept.now flags.old }
-    requires told { AllTold graph.now kept.now }
-    requires fresh { AreFresh graph.now kept.now fresh.old }
+    requires sound { IsSound graph.now cached.now flags.old }
+    requires reported { AllGivenByRevision graph.now cached.now }
+    requires verified { AreVerified graph.now cached.now verified.old }
     ensures len { length flags.new ≡ length graph.now }
-    ensures sound { IsSound graph.now kept.now flags.new }
-    ensures fresh { AreFresh graph.now kept.now fresh.new }
+    ensures sound { IsSound graph.now cached.now flags.new }
+    ensures verified { AreVerified graph.now cached.now verified.new }
     ensures least { unflagged flags.new ≤ unflagged flags.old }
-    ensures full { (p : ℕ) → p < length graph.now → IsFullAt graph.now kept.now flags.old p ⊎ (place ≡ p) → IsFullAt graph.now kept.now flags.new p }
+    ensures full { (p : ℕ) → p < length graph.now → IsFullAt graph.now cached.now flags.old p ⊎ (index ≡ p) → IsFullAt graph.now cached.now flags.new p }
 {
     let _files = graph.project().files();
     users_law();
-    if !advance(graph, kept, flags, fresh, place) {
+    if !advance(graph, cached, flags, verified, index) {
         return;
     }
-    let users = graph.users(place);
+    let users = graph.users(index);
     for user in users {
-        spread(graph, kept, flags, fresh, *user);
+        spread(graph, cached, flags, verified, *user);
     }
 }
 
-/// Sets the flags of all units that are done, where none was missing but those of the units at these places. It takes no
+/// Sets the flags of all units that are done, where none was missing but those of the units at these indices. It takes no
 /// memory.
 pub fn settle_among(
     graph: &Graph,
-    kept: &Kept,
+    cached: &Cached,
     flags: &mut Flags,
-    fresh: &mut Flags,
-    places: &[usize],
+    verified: &mut Flags,
+    indices: &[usize],
 )
-    requires within { (p : ℕ) → is_place places.now p ≡ true → p < length graph.now }
+    requires within { (p : ℕ) → spec_is_among indices.now p ≡ true → p < length graph.now }
     requires len { length flags.old ≡ length graph.now }
-    requires sound { IsSound graph.now kept.now flags.old }
-    requires told { AllTold graph.now kept.now }
-    requires fresh { AreFresh graph.now kept.now fresh.old }
-    requires full { (p : ℕ) → p < length graph.now → IsFullAt graph.now kept.now flags.old p ⊎ (is_place places.now p ≡ true) }
+    requires sound { IsSound graph.now cached.now flags.old }
+    requires reported { AllGivenByRevision graph.now cached.now }
+    requires verified { AreVerified graph.now cached.now verified.old }
+    requires full { (p : ℕ) → p < length graph.now → IsFullAt graph.now cached.now flags.old p ⊎ (spec_is_among indices.now p ≡ true) }
     ensures len { length flags.new ≡ length graph.now }
-    ensures flags { AreFlags graph.now kept.now flags.new }
-    ensures fresh { AreFresh graph.now kept.now fresh.new }
+    ensures flags { AreFlags graph.now cached.now flags.new }
+    ensures verified { AreVerified graph.now cached.now verified.new }
 {
     let _files = graph.project().files();
     done_law();
     height_law();
-    for place in places {
-        spread(graph, kept, flags, fresh, *place);
+    for index in indices {
+        spread(graph, cached, flags, verified, *index);
     }
 }
 
-/// Sets the flags of all units that are done, where none was missing but that of the unit at a place, which is done, and those
-/// of units that rest on it. It tells whether no other was. It takes no memory.
+/// Sets the flags of all units that are done, where none was missing but that of the unit at an index, which is done, and those
+/// of units that rest on it. It says whether no other was. It takes no memory.
 fn settle_done(
     graph: &Graph,
-    kept: &Kept,
+    cached: &Cached,
     flags: &mut Flags,
-    fresh: &mut Flags,
-    place: usize,
+    verified: &mut Flags,
+    index: usize,
 ) -> bool
-    requires within { place < length graph.now }
+    requires within { index < length graph.now }
     requires len { length flags.old ≡ length graph.now }
-    requires sound { IsSound graph.now kept.now flags.old }
-    requires told { AllTold graph.now kept.now }
-    requires fresh { AreFresh graph.now kept.now fresh.old }
-    requires done { done graph.now kept.now (name_at graph.now place) ≡ true }
-    requires full { (p : ℕ) → p < length graph.now → IsFullAt graph.now kept.now flags.old p ⊎ (place ≡ p) }
+    requires sound { IsSound graph.now cached.now flags.old }
+    requires reported { AllGivenByRevision graph.now cached.now }
+    requires verified { AreVerified graph.now cached.now verified.old }
+    requires done { done graph.now cached.now (name_at graph.now index) ≡ true }
+    requires full { (p : ℕ) → p < length graph.now → IsFullAt graph.now cached.now flags.old p ⊎ (index ≡ p) }
     ensures len { length flags.new ≡ length graph.now }
-    ensures flags { AreFlags graph.now kept.now flags.new }
-    ensures fresh { AreFresh graph.now kept.now fresh.new }
-    ensures alone { IsTrue result → flags.new ≡ slice_set flags.old place true }
+    ensures flags { AreFlags graph.now cached.now flags.new }
+    ensures verified { AreVerified graph.now cached.now verified.new }
+    ensures alone { IsTrue result → flags.new ≡ slice_set flags.old index true }
 {
     let _files = graph.project().files();
     users_law();
-    fresh_law();
-    flags.set(place);
-    fresh.set(place);
+    verified_law();
+    flags.set(index);
+    verified.set(index);
     let count = flags.count();
-    settle_among(graph, kept, flags, fresh, graph.users(place));
+    settle_among(graph, cached, flags, verified, graph.users(index));
     flags.count() == count
 }
 
-/// The lower of two places.
+/// The lower of two indices.
 fn lower(a: usize, b: usize) -> usize
     ensures first { result ≤ a }
     ensures second { result ≤ b }
@@ -378,80 +390,80 @@ fn lower(a: usize, b: usize) -> usize
     if a < b { a } else { b }
 }
 
-/// The least of these places, or this one, if it is less.
-fn least_of(places: &[usize], least: usize) -> usize
+/// The least of these indices, or this one, if it is less.
+fn least_of(indices: &[usize], least: usize) -> usize
     ensures most { result ≤ least }
-    ensures each { (p : ℕ) → is_place places.now p ≡ true → result ≤ p }
+    ensures each { (p : ℕ) → spec_is_among indices.now p ≡ true → result ≤ p }
 {
     let mut found = least;
-    for place in places {
-        found = lower(*place, found);
+    for index in indices {
+        found = lower(*index, found);
     }
     found
 }
 
 /// Sets the flags of all units that are done, where none was missing but that of this unit, which is done and looked for at a
-/// place first, and those of units that rest on it. No unit before a place was ready; it tells one before which none is then.
+/// index first, and those of units that rest on it. No unit before an index was ready; it reports one before which none is then.
 /// It takes no memory.
-pub fn settle_kept(
+pub fn settle_cached(
     graph: &Graph,
-    kept: &Kept,
+    cached: &Cached,
     flags: &mut Flags,
-    fresh: &mut Flags,
+    verified: &mut Flags,
     from: usize,
     hint: usize,
     unit: FileName,
 ) -> usize
     requires len { length flags.old ≡ length graph.now }
-    requires sound { IsSound graph.now kept.now flags.old }
-    requires told { AllTold graph.now kept.now }
-    requires fresh { AreFresh graph.now kept.now fresh.old }
+    requires sound { IsSound graph.now cached.now flags.old }
+    requires reported { AllGivenByRevision graph.now cached.now }
+    requires verified { AreVerified graph.now cached.now verified.old }
     requires from { NoneIsReady graph.now flags.old from }
-    requires done { done graph.now kept.now unit ≡ true }
-    requires full { (p : ℕ) → p < length graph.now → bytes_eq unit (name_at graph.now p) ≡ false → IsFullAt graph.now kept.now flags.old p }
+    requires done { done graph.now cached.now unit ≡ true }
+    requires full { (p : ℕ) → p < length graph.now → bytes_eq unit (name_at graph.now p) ≡ false → IsFullAt graph.now cached.now flags.old p }
     ensures len { length flags.new ≡ length graph.now }
-    ensures flags { AreFlags graph.now kept.now flags.new }
-    ensures fresh { AreFresh graph.now kept.now fresh.new }
+    ensures flags { AreFlags graph.now cached.now flags.new }
+    ensures verified { AreVerified graph.now cached.now verified.new }
     ensures from { NoneIsReady graph.now flags.new result }
 {
     let _files = graph.project().files();
     done_law();
     height_law();
     users_law();
-    let Some(place) = graph.project().place_near(hint, unit) else {
+    let Some(index) = graph.project().index_near(hint, unit) else {
         return 0;
     };
-    if settle_done(graph, kept, flags, fresh, place) {
-        least_of(graph.users(place), from)
+    if settle_done(graph, cached, flags, verified, index) {
+        least_of(graph.users(index), from)
     } else {
         0
     }
 }
 
-/// Sets the flags of all units that are done, where none was missing but that of this unit, which is looked for at a place
+/// Sets the flags of all units that are done, where none was missing but that of this unit, which is looked for at an index
 /// first. It takes no memory.
 pub fn settle_from(
     graph: &Graph,
-    kept: &Kept,
+    cached: &Cached,
     flags: &mut Flags,
-    fresh: &mut Flags,
+    verified: &mut Flags,
     hint: usize,
     unit: FileName,
 )
     requires len { length flags.old ≡ length graph.now }
-    requires sound { IsSound graph.now kept.now flags.old }
-    requires told { AllTold graph.now kept.now }
-    requires fresh { AreFresh graph.now kept.now fresh.old }
-    requires full { (p : ℕ) → p < length graph.now → bytes_eq unit (name_at graph.now p) ≡ false → IsFullAt graph.now kept.now flags.old p }
+    requires sound { IsSound graph.now cached.now flags.old }
+    requires reported { AllGivenByRevision graph.now cached.now }
+    requires verified { AreVerified graph.now cached.now verified.old }
+    requires full { (p : ℕ) → p < length graph.now → bytes_eq unit (name_at graph.now p) ≡ false → IsFullAt graph.now cached.now flags.old p }
     ensures len { length flags.new ≡ length graph.now }
-    ensures flags { AreFlags graph.now kept.now flags.new }
-    ensures fresh { AreFresh graph.now kept.now fresh.new }
+    ensures flags { AreFlags graph.now cached.now flags.new }
+    ensures verified { AreVerified graph.now cached.now verified.new }
 {
     let _files = graph.project().files();
     done_law();
     height_law();
-    let Some(place) = graph.project().place_near(hint, unit) else {
+    let Some(index) = graph.project().index_near(hint, unit) else {
         return;
     };
-    spread(graph, kept, flags, fresh, place);
+    spread(graph, cached, flags, verified, index);
 }

@@ -1,30 +1,30 @@
 //! What becomes of an outcome: foreign, stale, repeated or accepted, the first case that holds. `docs/MACHINE.md, The
 //! board`.
-ghost use Rattle.occ_board.specs.Done.{is_kept};
-ghost use Rattle.occ_board.specs.Verdicts.{is_off as is_off_now, off_read as read_off, or_else, reads_verdict, uses_verdict, verdict_of};
+ghost use Rattle.occ_board.specs.Done.{is_cached};
+ghost use Rattle.occ_board.specs.Verdicts.{is_off as spec_is_off, off_read as spec_off_read, or_else, reads_verdict, uses_verdict, verdict_of};
 ghost use Rattle.occ_board.specs.declared.verdict.Verdict.TheVariants as verdict;
 ghost use Rattle.occ_board.specs.inside.Flagged.{AreFlags, flag_of};
 ghost use Rattle.occ_board.specs.inside.Ready.{IsAcceptable};
-ghost use Rattle.occ_units.specs.Places.{is_below, standing_of};
-ghost use Rattle.occ_units.specs.Project.{file_of};
+ghost use Rattle.occ_project_units.specs.Indices.{is_below, standing_of};
+ghost use Rattle.occ_project_units.specs.Project.{file_of};
 ghost use Rattle.std.specs.List.{find};
 ghost use Rattle.std.specs.Option.{option_map};
 ghost use Rattle.std.specs.Prelude.{◌≡◌, ◌&&◌, None, cond, map, not};
 
-use super::Verdict;
+use super::cached::Cached;
 use super::comparing::Same;
 use super::flags::has_flag;
-use super::kept::Kept;
 use super::present::{is_read_now, is_unit_now};
+use super::verdict::Verdict;
 use occ_base::FileName;
+use occ_check::{Job, UsedUnit};
 use occ_project::Read;
-use occ_report::{Job, UsedUnit};
-use occ_units::laws::reads_law;
-use occ_units::{Graph, Project, Standing};
+use occ_project_units::laws::reads_law;
+use occ_project_units::{Graph, Project, Standing};
 
 /// What a read decides that is not of its file as that is at present, where so many edits were accepted.
 fn off_read(project: &Project, accepted: usize, read: &Read) -> Verdict
-    ensures { result ≡ read_off accepted read.now (file_of project.now read.now.name) }
+    ensures { result ≡ spec_off_read accepted read.now (file_of project.now read.now.name) }
 {
     if accepted < read.revision as usize || read.revision == project.revision(read.name) {
         Verdict::Foreign(read.name)
@@ -47,7 +47,7 @@ fn judge_reads(project: &Project, accepted: usize, hint: usize, reads: &[Read]) 
 }
 
 /// Whether a used unit is open, in no circle with its user and without its flag. The user and the unit are looked for at these
-/// places first.
+/// indices first.
 fn is_waiting(
     graph: &Graph,
     flags: &[bool],
@@ -67,65 +67,65 @@ fn is_waiting(
 /// Whether a used unit is open, in no circle with its user and pending, or stands otherwise than at present.
 fn is_off(
     graph: &Graph,
-    kept: &Kept,
+    cached: &Cached,
     flags: &[bool],
     hint: usize,
     used_hint: usize,
     user: FileName,
     one: &UsedUnit,
 ) -> bool
-    requires { AreFlags graph.now kept.now flags.now }
-    ensures { result ≡ is_off_now graph.now kept.now user one.now }
+    requires { AreFlags graph.now cached.now flags.now }
+    ensures { result ≡ spec_is_off graph.now cached.now user one.now }
 {
     if is_waiting(graph, flags, hint, used_hint, user, one.unit) {
         return true;
     }
-    !is_unit_now(graph, kept, hint, used_hint, user, one)
+    !is_unit_now(graph, cached, hint, used_hint, user, one)
 }
 
 /// What the first used unit decides that is so.
 fn judge_used(
     graph: &Graph,
-    kept: &Kept,
+    cached: &Cached,
     flags: &[bool],
     hint: usize,
     user: FileName,
     used: &[UsedUnit],
 ) -> Option<Verdict>
-    requires { AreFlags graph.now kept.now flags.now }
-    ensures { result ≡ option_map (λ one. verdict.Stale one.unit) (find (is_off_now graph.now kept.now user) used.now) }
+    requires { AreFlags graph.now cached.now flags.now }
+    ensures { result ≡ option_map (λ one. verdict.Stale one.unit) (find (spec_is_off graph.now cached.now user) used.now) }
 {
     for (number, one) in used.iter().enumerate() {
         let used_hint = graph.used_hint(hint, number);
-        if is_off(graph, kept, flags, hint, used_hint, user, one) {
+        if is_off(graph, cached, flags, hint, used_hint, user, one) {
             return Some(Verdict::Stale(one.unit));
         }
     }
     None
 }
 
-/// Whether the outcome that is kept of its unit, which is looked for at a place first, is of the same job.
-fn is_repeated(kept: &Kept, hint: usize, job: &Job) -> bool
-    ensures { result ≡ is_kept kept.now job.now }
+/// Whether the outcome that is cached of its unit, which is looked for at an index first, is of the same job.
+fn is_repeated(cached: &Cached, hint: usize, job: &Job) -> bool
+    ensures { result ≡ is_cached cached.now job.now }
 {
-    match kept.get_near(hint, job.unit()) {
+    match cached.get_near(hint, job.unit()) {
         Some(outcome) => outcome.job().is_same(job),
         None => false,
     }
 }
 
 /// What becomes of an outcome of a job whose reads are of their files as they are at present.
-fn judge_now(graph: &Graph, kept: &Kept, flags: &[bool], hint: usize, job: &Job) -> Verdict
-    requires flags { AreFlags graph.now kept.now flags.now }
+fn judge_now(graph: &Graph, cached: &Cached, flags: &[bool], hint: usize, job: &Job) -> Verdict
+    requires flags { AreFlags graph.now cached.now flags.now }
     requires now { job.now.reads ≡ map (λ read. file_of graph.now read.name) job.now.reads }
-    ensures value { result ≡ or_else (uses_verdict graph.now kept.now job.now) (cond (is_kept kept.now job.now) verdict.Repeated verdict.Accepted) }
-    ensures acceptable { result ≡ verdict.Accepted → IsAcceptable graph.now kept.now job.now }
+    ensures value { result ≡ or_else (uses_verdict graph.now cached.now job.now) (cond (is_cached cached.now job.now) verdict.Repeated verdict.Accepted) }
+    ensures acceptable { result ≡ verdict.Accepted → IsAcceptable graph.now cached.now job.now }
 {
     reads_law();
-    match judge_used(graph, kept, flags, hint, job.unit(), job.used()) {
+    match judge_used(graph, cached, flags, hint, job.unit(), job.used()) {
         Some(verdict) => verdict,
         None => {
-            if is_repeated(kept, hint, job) {
+            if is_repeated(cached, hint, job) {
                 Verdict::Repeated
             } else {
                 Verdict::Accepted
@@ -134,21 +134,21 @@ fn judge_now(graph: &Graph, kept: &Kept, flags: &[bool], hint: usize, job: &Job)
     }
 }
 
-/// What becomes of an outcome of a job, where so many edits were accepted. Its unit is looked for at a place first.
+/// What becomes of an outcome of a job, where so many edits were accepted. Its unit is looked for at an index first.
 pub fn judge(
     graph: &Graph,
     accepted: usize,
-    kept: &Kept,
+    cached: &Cached,
     flags: &[bool],
     hint: usize,
     job: &Job,
 ) -> Verdict
-    requires { AreFlags graph.now kept.now flags.now }
-    ensures value { result ≡ verdict_of graph.now accepted kept.now job.now }
-    ensures acceptable { result ≡ verdict.Accepted → IsAcceptable graph.now kept.now job.now }
+    requires { AreFlags graph.now cached.now flags.now }
+    ensures value { result ≡ verdict_of graph.now accepted cached.now job.now }
+    ensures acceptable { result ≡ verdict.Accepted → IsAcceptable graph.now cached.now job.now }
 {
     match judge_reads(graph.project(), accepted, hint, job.reads().as_slice()) {
         Some(verdict) => verdict,
-        None => judge_now(graph, kept, flags, hint, job),
+        None => judge_now(graph, cached, flags, hint, job),
     }
 }

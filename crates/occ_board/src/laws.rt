@@ -1,22 +1,22 @@
 //! Laws of the machine.
-ghost use Rattle.occ_board.specs.Done.{NoneIsHanded, done, done_step, kept_of};
+ghost use Rattle.occ_board.specs.Done.{NoneIsHanded, done, done_step, cached_of};
 ghost use Rattle.occ_board.specs.Journal.{replay};
 ghost use Rattle.occ_board.specs.Machine.{Event, State, after, files_of, finish_answer, pending_answer, report_answer, take_answer};
 ghost use Rattle.occ_board.specs.declared.entry.Entry.{Entry as AnEntry};
 ghost use Rattle.occ_board.specs.declared.report.Shown.TheVariants as shown;
 ghost use Rattle.occ_board.specs.declared.verdict.Verdict.TheVariants as verdict;
-ghost use Rattle.occ_report.specs.Inputs.{Input};
+ghost use Rattle.occ_check.specs.Input.{Input};
 ghost use Rattle.occ_project.specs.Entries.{is_among};
 ghost use Rattle.occ_project.specs.declared.reads.Read.{Read};
-ghost use Rattle.occ_report.specs.Checks.{input};
-ghost use Rattle.occ_report.specs.Report.{whole_report};
-ghost use Rattle.occ_units.specs.Places.{rest_units};
-ghost use Rattle.occ_units.specs.Project.{IsProject};
-ghost use Rattle.occ_units.specs.Spelled.{AreSpelled};
+ghost use Rattle.occ_check.specs.Checks.{input};
+ghost use Rattle.occ_check.specs.Report.{whole_report};
+ghost use Rattle.occ_project_units.specs.Indices.{rest_units};
+ghost use Rattle.occ_project_units.specs.Project.{IsProject};
+ghost use Rattle.occ_project_units.specs.Spelled.{AreSpelled};
 ghost use Rattle.std.specs.Option.{is_some};
 ghost use Rattle.std.specs.Prelude.{◌≡◌, ◌<◌, ℕ, List, None, Some, map, true};
 
-use occ_units::laws::{along_law, names_law, put_law};
+use occ_project_units::laws::{along_law, names_law, put_law};
 
 /// With no unit pending the report is the report from nothing.
 pub fn report_law()
@@ -24,10 +24,10 @@ pub fn report_law()
 {}
 
 /// The files that edits make stand in order of name. A unit is done exactly if it is open, its present input is the one
-/// that is kept of it, and all units that it rests on are done.
+/// that is cached of it, and all units that it rests on are done.
 pub fn done_law()
     ensures project { (es : List AnEntry) → IsProject (replay es) }
-    ensures done { (files : List Read) (kept : List Input) (u : List ℕ) → IsProject files → done files kept u ≡ done_step files kept u (done files kept) }
+    ensures done { (files : List Read) (cached : List Input) (u : List ℕ) → IsProject files → done files cached u ≡ done_step files cached u (done files cached) }
 {
     put_law();
     along_law::<bool>();
@@ -40,9 +40,9 @@ pub fn height_law()
     along_law::<usize>();
 }
 
-/// Of a unit that is done the present input is kept.
-pub fn kept_law()
-    ensures { (files : List Read) (kept : List Input) (u : List ℕ) → IsProject files → done files kept u ≡ true → kept_of kept u ≡ Some (input files u) }
+/// Of a unit that is done the present input is cached.
+pub fn cached_law()
+    ensures { (files : List Read) (cached : List Input) (u : List ℕ) → IsProject files → done files cached u ≡ true → cached_of cached u ≡ Some (input files u) }
 {
     done_law();
 }
@@ -50,7 +50,7 @@ pub fn kept_law()
 /// Where a unit is pending, and no unit that is pending is handed out with its present input, there is a job: of the units
 /// that are pending one rests on none that is. The files have the lines that their texts spell, as those of a board have.
 pub fn ready_law()
-    ensures { (s : State) → AreSpelled (files_of s) → 0 < pending_answer s → NoneIsHanded (files_of s) s.kept s.handed → is_some (take_answer s) ≡ true }
+    ensures { (s : State) → AreSpelled (files_of s) → 0 < pending_answer s → NoneIsHanded (files_of s) s.cached s.handed → is_some (take_answer s) ≡ true }
 {
     names_law();
     done_law();

@@ -1,19 +1,19 @@
 //! The rows of a report: each open unit with its diagnostics, or as pending.
-ghost use Rattle.occ_board.specs.Done.{done as is_done};
+ghost use Rattle.occ_board.specs.Done.{done as spec_done};
 ghost use Rattle.occ_board.specs.Machine.{row_of, rows_of};
 ghost use Rattle.occ_board.specs.declared.report.Shown.TheVariants as variants;
 ghost use Rattle.occ_board.specs.inside.Flagged.{AreFlags};
-ghost use Rattle.occ_report.specs.Checks.{diags as the_diags};
-ghost use Rattle.occ_report.specs.Report.{is_open_unit};
+ghost use Rattle.occ_check.specs.Checks.{diags as spec_diags};
+ghost use Rattle.occ_check.specs.Report.{is_open_unit};
 ghost use Rattle.std.specs.Prelude.{◌≡◌, ◌&&◌, ◌∷◌, ◌++◌, [], IfOk, OnOk, cond, not, true};
 
+use super::cached::Cached;
 use super::flags::is_flagged;
-use super::kept::Kept;
-use super::laws::kept_law;
+use super::laws::cached_law;
 use occ_base::{Diag, FileName, Items};
+use occ_check::laws::input_law;
 use occ_project::Read;
-use occ_report::laws::input_law;
-use occ_units::Graph;
+use occ_project_units::Graph;
 use std::alloc::{AllocError, Global};
 
 /// What a report shows of a unit.
@@ -75,62 +75,62 @@ fn all_copied(alloc: Global, diags: &[Diag]) -> Result<Items<Diag>, AllocError>
     Ok(found)
 }
 
-/// The diagnostics of a unit that is done, whose outcome is looked for at a place first.
+/// The diagnostics of a unit that is done, whose outcome is looked for at an index first.
 fn diags_of(
     alloc: Global,
     graph: &Graph,
-    kept: &Kept,
+    cached: &Cached,
     hint: usize,
     unit: FileName,
 ) -> Result<Items<Diag>, AllocError>
-    requires { is_done graph.now kept.now unit ≡ true }
-    ensures { IfOk result (λ diags. diags ≡ the_diags graph.now unit) }
+    requires { spec_done graph.now cached.now unit ≡ true }
+    ensures { IfOk result (λ diags. diags ≡ spec_diags graph.now unit) }
 {
     let _files = graph.project().files();
-    kept_law();
+    cached_law();
     input_law();
-    match kept.get_near(hint, unit) {
+    match cached.get_near(hint, unit) {
         Some(outcome) => all_copied(alloc, outcome.diags()),
         None => unreachable!(),
     }
 }
 
-/// What is shown of a unit, whose outcome is looked for at a place first, if it is done, or if it is not.
+/// What is shown of a unit, whose outcome is looked for at an index first, if it is done, or if it is not.
 fn show(
     alloc: Global,
     graph: &Graph,
-    kept: &Kept,
+    cached: &Cached,
     hint: usize,
     done: bool,
     unit: FileName,
 ) -> Result<Shown, AllocError>
-    requires { done ≡ is_done graph.now kept.now unit }
-    ensures { IfOk result (λ shown. shown ≡ (row_of graph.now kept.now unit).shown) }
+    requires { done ≡ spec_done graph.now cached.now unit }
+    ensures { IfOk result (λ shown. shown ≡ (row_of graph.now cached.now unit).shown) }
 {
     if done {
-        Ok(Shown::Done(diags_of(alloc, graph, kept, hint, unit)?))
+        Ok(Shown::Done(diags_of(alloc, graph, cached, hint, unit)?))
     } else {
         Ok(Shown::Pending)
     }
 }
 
-/// Adds the row of a file, if it is an open unit. Its outcome is looked for at a place first.
+/// Adds the row of a file, if it is an open unit. Its outcome is looked for at an index first.
 fn add_row(
     alloc: Global,
     graph: &Graph,
-    kept: &Kept,
+    cached: &Cached,
     hint: usize,
     done: bool,
     file: &Read,
     rows: &mut Items<Row>,
 ) -> Result<(), AllocError>
-    requires { done ≡ is_done graph.now kept.now file.now.name }
-    ensures { OnOk result (rows.new ≡ rows.old ++ cond (is_open_unit file.now) (row_of graph.now kept.now file.now.name ∷ []) []) }
+    requires { done ≡ spec_done graph.now cached.now file.now.name }
+    ensures { OnOk result (rows.new ≡ rows.old ++ cond (is_open_unit file.now) (row_of graph.now cached.now file.now.name ∷ []) []) }
 {
     if file.name.is_unit() && file.source.is_some() {
         rows.push(Row {
             unit: file.name,
-            shown: show(alloc, graph, kept, hint, done, file.name)?,
+            shown: show(alloc, graph, cached, hint, done, file.name)?,
         })?;
     }
     Ok(())
@@ -140,16 +140,16 @@ fn add_row(
 pub fn rows(
     alloc: Global,
     graph: &Graph,
-    kept: &Kept,
+    cached: &Cached,
     flags: &[bool],
 ) -> Result<Items<Row>, AllocError>
-    requires { AreFlags graph.now kept.now flags.now }
-    ensures { IfOk result (λ rows. rows ≡ rows_of graph.now kept.now) }
+    requires { AreFlags graph.now cached.now flags.now }
+    ensures { IfOk result (λ rows. rows ≡ rows_of graph.now cached.now) }
 {
     let mut rows = Items::new(alloc);
-    for (place, file) in graph.project().files().iter().enumerate() {
-        let done = is_flagged(flags, place);
-        add_row(alloc, graph, kept, place, done, file, &mut rows)?;
+    for (index, file) in graph.project().files().iter().enumerate() {
+        let done = is_flagged(flags, index);
+        add_row(alloc, graph, cached, index, done, file, &mut rows)?;
     }
     Ok(rows)
 }

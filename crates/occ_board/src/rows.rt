@@ -33,8 +33,8 @@ pub fn read_rows()
     ensures first { reads_verdict [] 3 (edited 1 (edit.Removed (codes "k.inc")) ∷ edited 9 (edit.Removed (codes "j.inc")) ∷ []) ≡ Some (verdict.Stale (codes "k.inc")) }
 {}
 
-/// A unit is pending until an outcome of it is kept that has looked at what is so at present; its job is handed out once.
-#[tactic(auto, unfolding(crate::specs::Done::done, occ_units::specs::Along::along, occ_project::specs::Expansion::expansion, occ_project::specs::Entries::entries))]
+/// A unit is pending until an outcome of it is cached that has looked at what is so at present; its job is handed out once.
+#[tactic(auto, unfolding(crate::specs::Done::done, occ_project_units::specs::Along::along, occ_project::specs::Expansion::expansion, occ_project::specs::Entries::entries))]
 pub fn machine_rows()
     ensures nothing { pending_answer start ≡ 0 }
     ensures pending { pending_answer one_unit ≡ 1 }

@@ -1,5 +1,5 @@
 //! Marks of the files that an edit may concern, and a list of those that are marked.
-ghost use Rattle.occ_graph.specs.Graph.{is_among as is_place};
+ghost use Rattle.occ_project_graph.specs.Graph.{is_among as spec_is_among};
 ghost use Rattle.std.specs.Prelude.{◌≡◌, ◌<◌, ℕ, IfOk, OnOk, false, get_or, length, replicate, slice_set, true};
 
 use super::flags::{is_flagged, no_flags};
@@ -7,12 +7,12 @@ use occ_base::Items;
 use std::alloc::{AllocError, Global};
 use std::marker::Model;
 
-/// Marks of the files that an edit may concern, and the places of those that are marked. In contracts it is the list of the
+/// Marks of the files that an edit may concern, and the indices of those that are marked. In contracts it is the list of the
 /// marks.
 #[derive(Drop)]
 pub struct Touched {
     marks: Items<bool>,
-    places: Items<usize>,
+    indices: Items<usize>,
 }
 
 impl Model for Touched {
@@ -26,7 +26,7 @@ impl Model for Touched {
 
     ghost view = { λ touched. touched.marks };
 
-    ghost invariant = { λ touched. AreMarked touched.marks touched.places };
+    ghost invariant = { λ touched. AreMarked touched.marks touched.indices };
 }
 
 impl Touched {
@@ -36,31 +36,31 @@ impl Touched {
     {
         Ok(Touched {
             marks: no_flags(alloc, count)?,
-            places: Items::new(alloc),
+            indices: Items::new(alloc),
         })
     }
 
-    /// Whether the file at a place is marked.
-    pub fn has(&self, place: usize) -> bool
-        ensures { result ≡ get_or self.now place false }
+    /// Whether the file at an index is marked.
+    pub fn has(&self, index: usize) -> bool
+        ensures { result ≡ get_or self.now index false }
     {
-        is_flagged(self.marks.as_slice(), place)
+        is_flagged(self.marks.as_slice(), index)
     }
 
-    /// Marks the file at a place.
-    pub fn mark(&mut self, place: usize) -> Result<(), AllocError>
-        requires { place < length self.old }
-        ensures { OnOk result (self.new ≡ slice_set self.old place true) }
+    /// Marks the file at an index.
+    pub fn mark(&mut self, index: usize) -> Result<(), AllocError>
+        requires { index < length self.old }
+        ensures { OnOk result (self.new ≡ slice_set self.old index true) }
     {
-        self.places.push(place)?;
-        self.marks.set(place, true);
+        self.indices.push(index)?;
+        self.marks.set(index, true);
         Ok(())
     }
 
-    /// The places of the files that are marked.
-    pub fn places(&self) -> &[usize]
-        ensures { (p : ℕ) → is_place result.now p ≡ get_or self.now p false }
+    /// The indices of the files that are marked.
+    pub fn indices(&self) -> &[usize]
+        ensures { (p : ℕ) → spec_is_among result.now p ≡ get_or self.now p false }
     {
-        self.places.as_slice()
+        self.indices.as_slice()
     }
 }

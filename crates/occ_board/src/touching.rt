@@ -3,39 +3,39 @@
 ghost use Rattle.occ_board.specs.Done.{done};
 ghost use Rattle.occ_board.specs.Edits.{IsApart};
 ghost use Rattle.occ_board.specs.inside.Flagged.{AreFlags, IsFullAt, IsSound, unflagged};
-ghost use Rattle.occ_board.specs.inside.Fresh.{AreFresh, looked};
-ghost use Rattle.occ_board.specs.inside.Told.{AllTold, AreBefore};
+ghost use Rattle.occ_board.specs.inside.Verified.{AreVerified, looked};
+ghost use Rattle.occ_board.specs.inside.Revisions.{AllGivenByRevision, AreBefore};
 ghost use Rattle.occ_board.specs.inside.Touched.{IsClosed};
-ghost use Rattle.occ_report.specs.Inputs.{Input};
-ghost use Rattle.occ_graph.specs.Graph.{has_edge, is_among as is_place};
-ghost use Rattle.occ_project.specs.Reads.{place as place_of};
+ghost use Rattle.occ_check.specs.Input.{Input};
+ghost use Rattle.occ_project_graph.specs.Graph.{has_edge, is_among as spec_is_among};
+ghost use Rattle.occ_project.specs.Reads.{index as spec_index};
 ghost use Rattle.occ_project.specs.declared.reads.Read.{Read};
-ghost use Rattle.occ_units.specs.New.{IsNew};
-ghost use Rattle.occ_units.specs.Places.{graph_of, readers_at};
-ghost use Rattle.occ_units.specs.Project.{IsProject, put};
-ghost use Rattle.occ_units.specs.Spelled.{AreSpelled};
+ghost use Rattle.occ_project_units.specs.New.{IsNew};
+ghost use Rattle.occ_project_units.specs.Indices.{graph_of, readers_at};
+ghost use Rattle.occ_project_units.specs.Project.{IsProject, put};
+ghost use Rattle.occ_project_units.specs.Spelled.{AreSpelled};
 ghost use Rattle.std.specs.List.{insert};
 ghost use Rattle.std.specs.Prelude.{◌≡◌, ◌<◌, ◌≤◌, ◌&&◌, IfOk, List, None, OnErr, OnOk, Some, false, get_or, length, not, true, ℕ};
 
+use super::cached::Cached;
 use super::flags::{Flags, settle, settle_among, settle_from, unflag};
-use super::fresh::{forget_readers, fresh_with_place};
-use super::kept::Kept;
 use super::laws::{done_law, height_law};
 use super::touched::Touched;
+use super::verified::{forget_readers, verified_with_index};
 use occ_base::{FileName, Shared};
+use occ_check::Checked;
 use occ_forms::Source;
-use occ_report::Checked;
-use occ_units::Graph;
-use occ_units::laws::{
+use occ_project_units::Graph;
+use occ_project_units::laws::{
     along_law, circle_law, names_law, put_law, readers_law, reads_law, users_law,
 };
 use std::alloc::{AllocError, Global};
 
-/// An edit of a file changes neither whether a unit is done nor what a fresh outcome of it looked at, if the file is a read neither
+/// An edit of a file changes neither whether a unit is done nor what a verified outcome of it looked at, if the file is a read neither
 /// of the unit nor of a unit that it reaches.
 fn apart_law()
-    ensures done { (files : List Read) (file : Read) (kept : List Input) (u : List ℕ) → IsProject files → IsApart files file.name u → done (put files file) kept u ≡ done files kept u }
-    ensures looked { (files : List Read) (file : Read) (kept : List Input) (u : List ℕ) → IsApart files file.name u → looked (put files file) kept u ≡ looked files kept u }
+    ensures done { (files : List Read) (file : Read) (cached : List Input) (u : List ℕ) → IsProject files → IsApart files file.name u → done (put files file) cached u ≡ done files cached u }
+    ensures looked { (files : List Read) (file : Read) (cached : List Input) (u : List ℕ) → IsApart files file.name u → looked (put files file) cached u ≡ looked files cached u }
 {
     put_law();
     reads_law();
@@ -45,61 +45,61 @@ fn apart_law()
     along_law::<Checked>();
 }
 
-/// Marks the unit at a place, unless it is marked, and then so each that uses it. It goes no deeper than there are units.
+/// Marks the unit at an index, unless it is marked, and then so each that uses it. It goes no deeper than there are units.
 #[cycle(touch)]
-fn touch(graph: &Graph, touched: &mut Touched, place: usize) -> Result<(), AllocError>
-    requires within { place < length graph.now }
+fn touch(graph: &Graph, touched: &mut Touched, index: usize) -> Result<(), AllocError>
+    requires within { index < length graph.now }
     requires len { length touched.old ≡ length graph.now }
     ensures len { OnOk result (length touched.new ≡ length graph.now) }
     ensures least { OnOk result (unflagged touched.new ≤ unflagged touched.old) }
     ensures more { OnOk result ((p : ℕ) → get_or touched.old p false ≡ true → get_or touched.new p false ≡ true) }
-    ensures here { OnOk result (get_or touched.new place false ≡ true) }
+    ensures here { OnOk result (get_or touched.new index false ≡ true) }
     ensures closed { OnOk result ((p q : ℕ) → has_edge (graph_of graph.now) p q ≡ true → get_or touched.old q false ≡ false → get_or touched.new q false ≡ true → get_or touched.new p false ≡ true) }
 {
     users_law();
-    if touched.has(place) {
+    if touched.has(index) {
         return Ok(());
     }
-    touched.mark(place)?;
-    let users = graph.users(place);
+    touched.mark(index)?;
+    let users = graph.users(index);
     for user in users {
         touch(graph, touched, *user)?;
     }
     Ok(())
 }
 
-/// The same where what uses a marked one is marked, which is so behind it.
-fn touch_also(graph: &Graph, touched: &mut Touched, place: usize) -> Result<(), AllocError>
-    requires within { place < length graph.now }
+/// The same where what uses a marked one is marked, which is so after it.
+fn touch_also(graph: &Graph, touched: &mut Touched, index: usize) -> Result<(), AllocError>
+    requires within { index < length graph.now }
     requires len { length touched.old ≡ length graph.now }
     requires closed { IsClosed (graph_of graph.now) touched.old }
     ensures len { OnOk result (length touched.new ≡ length graph.now) }
     ensures more { OnOk result ((p : ℕ) → get_or touched.old p false ≡ true → get_or touched.new p false ≡ true) }
-    ensures here { OnOk result (get_or touched.new place false ≡ true) }
+    ensures here { OnOk result (get_or touched.new index false ≡ true) }
     ensures closed { OnOk result (IsClosed (graph_of graph.now) touched.new) }
 {
-    touch(graph, touched, place)?;
+    touch(graph, touched, index)?;
     Ok(())
 }
 
-/// Marks of the files that an edit of the one at a place may concern: that file, the units that read it, and those that reach
+/// Marks of the files that an edit of the one at an index may concern: that file, the units that read it, and those that reach
 /// one of these.
 fn touched_by(
     alloc: Global,
     graph: &Graph,
-    place: usize,
+    index: usize,
     readers: &[usize],
 ) -> Result<Touched, AllocError>
-    requires within { place < length graph.now }
-    requires readers { readers.now ≡ readers_at graph.now place }
+    requires within { index < length graph.now }
+    requires readers { readers.now ≡ readers_at graph.now index }
     ensures len { IfOk result (λ touched. length touched ≡ length graph.now) }
-    ensures here { IfOk result (λ touched. get_or touched place false ≡ true) }
-    ensures readers { IfOk result (λ touched. (p : ℕ) → is_place readers.now p ≡ true → get_or touched p false ≡ true) }
+    ensures here { IfOk result (λ touched. get_or touched index false ≡ true) }
+    ensures readers { IfOk result (λ touched. (p : ℕ) → spec_is_among readers.now p ≡ true → get_or touched p false ≡ true) }
     ensures closed { IfOk result (λ touched. IsClosed (graph_of graph.now) touched) }
 {
     readers_law();
     let mut touched = Touched::none(alloc, graph.project().files().len())?;
-    touch_also(graph, &mut touched, place)?;
+    touch_also(graph, &mut touched, index)?;
     for reader in readers {
         touch_also(graph, &mut touched, *reader)?;
     }
@@ -107,79 +107,85 @@ fn touched_by(
 }
 
 /// Sets the flags of all units that are done, where none was missing but those of marked units. It takes no memory.
-fn resettle(graph: &Graph, kept: &Kept, flags: &mut Flags, fresh: &mut Flags, touched: &Touched)
+fn resettle(
+    graph: &Graph,
+    cached: &Cached,
+    flags: &mut Flags,
+    verified: &mut Flags,
+    touched: &Touched,
+)
     requires len { length flags.old ≡ length graph.now }
     requires marks { length touched.now ≡ length graph.now }
-    requires sound { IsSound graph.now kept.now flags.old }
-    requires told { AllTold graph.now kept.now }
-    requires fresh { AreFresh graph.now kept.now fresh.old }
-    requires full { (p : ℕ) → p < length graph.now → get_or touched.now p false ≡ false → IsFullAt graph.now kept.now flags.old p }
+    requires sound { IsSound graph.now cached.now flags.old }
+    requires reported { AllGivenByRevision graph.now cached.now }
+    requires verified { AreVerified graph.now cached.now verified.old }
+    requires full { (p : ℕ) → p < length graph.now → get_or touched.now p false ≡ false → IsFullAt graph.now cached.now flags.old p }
     ensures len { length flags.new ≡ length graph.now }
-    ensures flags { AreFlags graph.now kept.now flags.new }
-    ensures fresh { AreFresh graph.now kept.now fresh.new }
+    ensures flags { AreFlags graph.now cached.now flags.new }
+    ensures verified { AreVerified graph.now cached.now verified.new }
 {
-    settle_among(graph, kept, flags, fresh, touched.places());
+    settle_among(graph, cached, flags, verified, touched.indices());
 }
 
-/// The graph, the flags and what is fresh behind the edit of a file that was not there, and that no file looks for. What there
-/// was stays, but for its places.
+/// The graph, the flags and what is verified after the edit of a file that was not there, and that no file looks for. What there
+/// was stays, but for its indices.
 fn renew_new(
     alloc: Global,
     graph: &mut Graph,
-    kept: &Kept,
+    cached: &Cached,
     flags: &mut Flags,
-    fresh: &mut Flags,
-    place: usize,
+    verified: &mut Flags,
+    index: usize,
     name: FileName,
     revision: u32,
     source: Option<Shared<Source>>,
 ) -> Result<(), AllocError>
-    requires new { IsNew graph.old name place }
+    requires new { IsNew graph.old name index }
     requires spelled { AreSpelled graph.old }
     requires len { length flags.old ≡ length graph.old }
-    requires flags { AreFlags graph.old kept.now flags.old }
-    requires told { AllTold graph.old kept.now }
-    requires fresh { AreFresh graph.old kept.now fresh.old }
-    requires before { AreBefore revision kept.now }
+    requires flags { AreFlags graph.old cached.now flags.old }
+    requires reported { AllGivenByRevision graph.old cached.now }
+    requires verified { AreVerified graph.old cached.now verified.old }
+    requires before { AreBefore revision cached.now }
     ensures graph { OnOk result (graph.new ≡ put graph.old (record { name = name; revision = revision; source = source })) }
     ensures len { OnOk result (length flags.new ≡ length graph.new) }
-    ensures flags { OnOk result (AreFlags graph.new kept.now flags.new) }
-    ensures fresh { OnOk result (AreFresh graph.new kept.now fresh.new) }
-    ensures err { OnErr result ((graph.new ≡ graph.old) × (flags.new ≡ flags.old) × (fresh.new ≡ fresh.old)) }
+    ensures flags { OnOk result (AreFlags graph.new cached.now flags.new) }
+    ensures verified { OnOk result (AreVerified graph.new cached.now verified.new) }
+    ensures err { OnErr result ((graph.new ≡ graph.old) × (flags.new ≡ flags.old) × (verified.new ≡ verified.old)) }
 {
     let _files = graph.project().files();
     apart_law();
     put_law();
     done_law();
     names_law();
-    let next = flags.with_place(alloc, place)?;
-    let known = fresh_with_place(alloc, fresh, place)?;
-    graph.add(alloc, place, name, revision, source)?;
+    let next = flags.with_index(alloc, index)?;
+    let known = verified_with_index(alloc, verified, index)?;
+    graph.add(alloc, index, name, revision, source)?;
     *flags = next;
-    *fresh = known;
-    settle_from(graph, kept, flags, fresh, place, name);
+    *verified = known;
+    settle_from(graph, cached, flags, verified, index, name);
     Ok(())
 }
 
-/// The graph, the flags and what is fresh behind the edit of a file that was not there, and that others look for.
+/// The graph, the flags and what is verified after the edit of a file that was not there, and that others look for.
 fn renew_all(
     alloc: Global,
     graph: &mut Graph,
-    kept: &Kept,
+    cached: &Cached,
     flags: &mut Flags,
-    fresh: &mut Flags,
+    verified: &mut Flags,
     name: FileName,
     revision: u32,
     source: Option<Shared<Source>>,
 ) -> Result<(), AllocError>
-    requires new { place_of name graph.old ≡ None }
-    requires told { AllTold graph.old kept.now }
-    requires before { AreBefore revision kept.now }
+    requires new { spec_index name graph.old ≡ None }
+    requires reported { AllGivenByRevision graph.old cached.now }
+    requires before { AreBefore revision cached.now }
     ensures graph { OnOk result (graph.new ≡ put graph.old (record { name = name; revision = revision; source = source })) }
     ensures len { OnOk result (length flags.new ≡ length graph.new) }
-    ensures flags { OnOk result (AreFlags graph.new kept.now flags.new) }
-    ensures fresh { OnOk result (AreFresh graph.new kept.now fresh.new) }
-    ensures err { OnErr result ((graph.new ≡ graph.old) × (flags.new ≡ flags.old) × (fresh.new ≡ fresh.old)) }
+    ensures flags { OnOk result (AreFlags graph.new cached.now flags.new) }
+    ensures verified { OnOk result (AreVerified graph.new cached.now verified.new) }
+    ensures err { OnErr result ((graph.new ≡ graph.old) × (flags.new ≡ flags.old) × (verified.new ≡ verified.old)) }
 {
     put_law();
     let count = graph.project().files().len() + 1;
@@ -187,36 +193,36 @@ fn renew_all(
     let none = Flags::none(alloc, count)?;
     graph.put(alloc, name, revision, source)?;
     *flags = next;
-    *fresh = none;
-    settle(graph, kept, flags, fresh);
+    *verified = none;
+    settle(graph, cached, flags, verified);
     Ok(())
 }
 
-/// The graph, the flags and what is fresh behind the edit of the file at a place. What the edit does not concern stays where it
+/// The graph, the flags and what is verified after the edit of the file at an index. What the edit does not concern stays where it
 /// is.
 fn renew_at(
     alloc: Global,
     graph: &mut Graph,
-    kept: &Kept,
+    cached: &Cached,
     flags: &mut Flags,
-    fresh: &mut Flags,
-    place: usize,
+    verified: &mut Flags,
+    index: usize,
     name: FileName,
     revision: u32,
     source: Option<Shared<Source>>,
 ) -> Result<(), AllocError>
-    requires place { place_of name graph.old ≡ Some place }
+    requires index { spec_index name graph.old ≡ Some index }
     requires spelled { AreSpelled graph.old }
     requires len { length flags.old ≡ length graph.old }
-    requires flags { AreFlags graph.old kept.now flags.old }
-    requires told { AllTold graph.old kept.now }
-    requires fresh { AreFresh graph.old kept.now fresh.old }
-    requires before { AreBefore revision kept.now }
+    requires flags { AreFlags graph.old cached.now flags.old }
+    requires reported { AllGivenByRevision graph.old cached.now }
+    requires verified { AreVerified graph.old cached.now verified.old }
+    requires before { AreBefore revision cached.now }
     ensures graph { OnOk result (graph.new ≡ put graph.old (record { name = name; revision = revision; source = source })) }
     ensures len { OnOk result (length flags.new ≡ length graph.new) }
-    ensures flags { OnOk result (AreFlags graph.new kept.now flags.new) }
-    ensures fresh { OnOk result (AreFresh graph.new kept.now fresh.new) }
-    ensures err { OnErr result ((graph.new ≡ graph.old) × (flags.new ≡ flags.old) × (fresh.new ≡ fresh.old)) }
+    ensures flags { OnOk result (AreFlags graph.new cached.now flags.new) }
+    ensures verified { OnOk result (AreVerified graph.new cached.now verified.new) }
+    ensures err { OnErr result ((graph.new ≡ graph.old) × (flags.new ≡ flags.old) × (verified.new ≡ verified.old)) }
 {
     let _files = graph.project().files();
     apart_law();
@@ -225,48 +231,50 @@ fn renew_at(
     names_law();
     readers_law();
     reads_law();
-    let readers = graph.readers(alloc, place)?;
-    let touched = touched_by(alloc, graph, place, readers.as_slice())?;
-    let alike = graph.set(alloc, place, readers.as_slice(), name, revision, source)?;
-    forget_readers(fresh, readers.as_slice(), &touched, alike);
-    unflag(flags, touched.places());
-    resettle(graph, kept, flags, fresh, &touched);
+    let readers = graph.readers(alloc, index)?;
+    let touched = touched_by(alloc, graph, index, readers.as_slice())?;
+    let alike = graph.set(alloc, index, readers.as_slice(), name, revision, source)?;
+    forget_readers(verified, readers.as_slice(), &touched, alike);
+    unflag(flags, touched.indices());
+    resettle(graph, cached, flags, verified, &touched);
     Ok(())
 }
 
 /// Gives a file this text, or takes it away, by the edit of that number. Where these were the flags of the units that are
-/// done, they are so behind it.
+/// done, they are so after it.
 pub fn renew(
     alloc: Global,
     graph: &mut Graph,
-    kept: &Kept,
+    cached: &Cached,
     flags: &mut Flags,
-    fresh: &mut Flags,
+    verified: &mut Flags,
     name: FileName,
     revision: u32,
     source: Option<Shared<Source>>,
 ) -> Result<(), AllocError>
     requires spelled { AreSpelled graph.old }
     requires len { length flags.old ≡ length graph.old }
-    requires flags { AreFlags graph.old kept.now flags.old }
-    requires told { AllTold graph.old kept.now }
-    requires fresh { AreFresh graph.old kept.now fresh.old }
-    requires before { AreBefore revision kept.now }
+    requires flags { AreFlags graph.old cached.now flags.old }
+    requires reported { AllGivenByRevision graph.old cached.now }
+    requires verified { AreVerified graph.old cached.now verified.old }
+    requires before { AreBefore revision cached.now }
     ensures graph { OnOk result (graph.new ≡ put graph.old (record { name = name; revision = revision; source = source })) }
     ensures len { OnOk result (length flags.new ≡ length graph.new) }
-    ensures flags { OnOk result (AreFlags graph.new kept.now flags.new) }
-    ensures fresh { OnOk result (AreFresh graph.new kept.now fresh.new) }
-    ensures err { OnErr result ((graph.new ≡ graph.old) × (flags.new ≡ flags.old) × (fresh.new ≡ fresh.old)) }
+    ensures flags { OnOk result (AreFlags graph.new cached.now flags.new) }
+    ensures verified { OnOk result (AreVerified graph.new cached.now verified.new) }
+    ensures err { OnErr result ((graph.new ≡ graph.old) × (flags.new ≡ flags.old) × (verified.new ≡ verified.old)) }
 {
-    if let Some(place) = graph.project().place(name) {
+    if let Some(index) = graph.project().index(name) {
         return renew_at(
-            alloc, graph, kept, flags, fresh, place, name, revision, source,
+            alloc, graph, cached, flags, verified, index, name, revision, source,
         );
     }
-    match graph.place_for(name) {
-        Some(place) => renew_new(
-            alloc, graph, kept, flags, fresh, place, name, revision, source,
+    match graph.index_for(name) {
+        Some(index) => renew_new(
+            alloc, graph, cached, flags, verified, index, name, revision, source,
         ),
-        None => renew_all(alloc, graph, kept, flags, fresh, name, revision, source),
+        None => renew_all(
+            alloc, graph, cached, flags, verified, name, revision, source,
+        ),
     }
 }

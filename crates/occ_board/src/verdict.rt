@@ -4,9 +4,9 @@ use occ_base::FileName;
 /// What becomes of an outcome.
 #[derive(Clone, Copy)]
 pub enum Verdict {
-    /// It is kept.
+    /// It is cached.
     Accepted,
-    /// The outcome that is kept of the unit has looked at the same.
+    /// The outcome that is cached of the unit has looked at the same.
     Repeated,
     /// This file, or this unit, is not what the outcome looked at any more.
     Stale(FileName),

@@ -1,2 +1,6 @@
+pub mod Exported
+pub mod Coded
 pub mod Names
 pub mod Firsts
+pub mod Local
+pub mod Inputs

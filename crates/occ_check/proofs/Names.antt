@@ -4,7 +4,7 @@ use Rattle.std.proofs.lemmas.List.{get_or-map, map-append, take_more}
 use Rattle.std.proofs.lemmas.Slice.Eq.{bytes_eq-Decides}
 use Rattle.std.specs.Str.{bytes_eq}
 
--- a test that tells that the two names are one, and one that tells that they are not
+-- a test that says that the two names are one, and one that says that they are not
 is_one : (a b : List ℕ) (test : Bool) → test ≡ not (bytes_eq a b) → not test ≡ true → a ≡ b
 is_one a b test e t = (bytes_eq-Decides a b).0 (by_cases (bytes_eq a b) test e t) where
   by_cases : (r test : Bool) → test ≡ not r → not test ≡ true → r ≡ true

@@ -4,7 +4,7 @@ use Rattle.occ_base.specs.Errors.{has_error}
 use Rattle.occ_base.specs.declared.diag.Diag.{Diag}
 use Rattle.occ_check.specs.Faults.{line_faults}
 use Rattle.occ_check.specs.Input.{Input, expansion_in}
-use Rattle.occ_check.specs.Language.{behind, lines_judged}
+use Rattle.occ_check.specs.Language.{following, lines_judged}
 use Rattle.occ_check.specs.Order.{in_order}
 use Rattle.occ_check.specs.declared.language.Judgement.{Judgement}
 use Rattle.occ_types.specs.declared.interface.Interface.{Interface}
@@ -15,7 +15,7 @@ unit_faults i = (expansion_in i).faults ++ line_faults i.used (expansion_in i).l
 
 -- these alone, if there are any, else what the language says of the lines
 abbrev pub judged : Input → Judgement
-judged i = behind (unit_faults i) (lines_judged (expansion_in i).lines i.used)
+judged i = following (unit_faults i) (lines_judged (expansion_in i).lines i.used)
 
 -- in order, each once
 unfoldable pub diags_of : Input → List Diag

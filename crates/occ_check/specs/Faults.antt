@@ -1,4 +1,4 @@
--- What is told at the lines of a unit before its shape is looked at.
+-- What is reported at the lines of a unit before its shape is looked at.
 use Rattle.std.specs.Prelude.{ℕ, cond, List, [], ◌∷◌, Option, Some, None}
 use Rattle.std.specs.List.{flat_map}
 use Rattle.std.specs.Str.{bytes_eq}
@@ -26,12 +26,12 @@ use_code how.Faulty = Some G3
 use_code (how.Clean interface) = None
 
 -- at the line of the use, with the name of the used unit
-abbrev pub told_use : ExpandedLine → List ℕ → Option Code → List Diag
-told_use l unit None = []
-told_use l unit (Some code) = error_at l.file l.line code (Some unit) ∷ []
+abbrev pub reported_use : ExpandedLine → List ℕ → Option Code → List Diag
+reported_use l unit None = []
+reported_use l unit (Some code) = error_at l.file l.line code (Some unit) ∷ []
 
 abbrev pub use_faults : List UsedUnit → ExpandedLine → List ℕ → List Diag
-use_faults used l unit = told_use l unit (use_code (standing used unit))
+use_faults used l unit = reported_use l unit (use_code (standing used unit))
 
 -- the fault that the line has instead of a form, or that of the unit that it uses
 abbrev pub body_faults : List UsedUnit → ExpandedLine → ExpandedBody → List Diag

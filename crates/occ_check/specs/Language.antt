@@ -8,19 +8,19 @@ use Rattle.occ_check.specs.declared.language.Judgement.{Judgement}
 use Rattle.occ_check.specs.declared.used.Used.{Used}
 use Rattle.occ_check.specs.declared.used.Used.TheVariants as how
 use Rattle.occ_check.specs.declared.used.UsedUnit.{UsedUnit}
-use Rattle.occ_interfaces.specs.Exports.{interface_in}
+use Rattle.occ_check.specs.Exports.{interface_in}
 use Rattle.occ_project.specs.declared.expanded.ExpandedLine.{ExpandedLine}
 use Rattle.occ_tree.specs.Faults.{shape_faults}
 use Rattle.occ_tree.specs.Forest.{nested}
 use Rattle.occ_usage.specs.Typing.{Import, TypedLine, type_faults, typed_unit}
 use Rattle.occ_usage.specs.FunctionRule.{function_faults}
-use Rattle.occ_usage.specs.Lines.{behind_unit}
+use Rattle.occ_usage.specs.Lines.{after_unit}
 use Rattle.occ_usage.specs.ParallelRule.{parallel_faults}
 
 -- these alone, if there are any, else what comes later
-abbrev pub behind : List Diag → Judgement → Judgement
-behind [] later = later
-behind (d ∷ ds) later = record { faults = d ∷ ds; interface = None }
+abbrev pub following : List Diag → Judgement → Judgement
+following [] later = later
+following (d ∷ ds) later = record { faults = d ∷ ds; interface = None }
 
 -- what a unit shows that is used so
 abbrev pub shown : List ℕ → Used → List Import
@@ -42,12 +42,12 @@ use_faults ls = (parallel_faults ls ++ function_faults ls) ++ abbreviation_fault
 
 -- of the typed lines of a unit
 abbrev pub uses_judged : List TypedLine → Judgement
-uses_judged ls = record { faults = use_faults ls; interface = Some (interface_in (behind_unit ls) ls) }
+uses_judged ls = record { faults = use_faults ls; interface = Some (interface_in (after_unit ls) ls) }
 
 -- of names and types; else of uses
 abbrev pub lines_typed : List ExpandedLine → List Import → Judgement
-lines_typed ls shows = behind (type_faults shows (nested ls)) (uses_judged (typed_unit shows (nested ls)))
+lines_typed ls shows = following (type_faults shows (nested ls)) (uses_judged (typed_unit shows (nested ls)))
 
 -- of the lines of a unit that uses these: first what is wrong with their shape, else what they mean
 unfoldable pub lines_judged : List ExpandedLine → List UsedUnit → Judgement
-lines_judged ls used = behind (shape_faults ls) (lines_typed ls (imports used))
+lines_judged ls used = following (shape_faults ls) (lines_typed ls (imports used))

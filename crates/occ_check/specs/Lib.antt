@@ -1,6 +1,11 @@
+pub mod Codes
+pub mod FormalUses
+pub mod Exports
 pub mod Order
 pub mod Input
 pub mod Faults
 pub mod Language
 pub mod Diagnostics
 pub mod Samples
+pub mod Checks
+pub mod Report

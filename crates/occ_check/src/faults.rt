@@ -1,6 +1,6 @@
 //! Faults of lines (L1 to L4, S1, S3), and of used units (G1 to G3). `docs/LANGUAGE.md, Codes`.
 ghost use Rattle.std.specs.Prelude.{◌≡◌, ◌++◌, OnOk};
-ghost use Rattle.occ_check.specs.Faults.{line_faults, own_faults, standing, use_code as code_of_use, use_faults};
+ghost use Rattle.occ_check.specs.Faults.{line_faults, own_faults, standing, use_code as spec_use_code, use_faults};
 
 use super::used::{Used, UsedUnit};
 use occ_base::{Code, Diag, FileName, Items, Name};
@@ -9,7 +9,7 @@ use std::alloc::{AllocError, Global};
 
 /// What is wrong with a use of the unit, as it stands among these: one that is not among them is absent.
 fn use_code(used: &[UsedUnit], unit: FileName) -> Option<Code>
-    ensures { result ≡ code_of_use (standing used.now unit) }
+    ensures { result ≡ spec_use_code (standing used.now unit) }
 {
     for one in used {
         if one.unit == unit {

@@ -12,7 +12,7 @@ use std::alloc::{AllocError, Global};
 use std::marker::Model;
 use thiserror::Error;
 
-/// Why there is no such job. Where several hold, the first of this order is told.
+/// Why there is no such job. Where several hold, the first of this order is reported.
 #[derive(Clone, Copy, Debug, Error)]
 pub enum JobFault {
     /// The file is no unit, it is not open, or the names of the reads are not exactly those that its expansion looks
@@ -54,11 +54,11 @@ impl Drop for Job {
 }
 
 impl Model for Job {
-    ghost use Rattle.occ_expression_forms.specs.contracts.tree.Builtin as builtins;
-    ghost use Rattle.occ_expression_forms.specs.contracts.tree.Dimension as dimensions;
-    ghost use Rattle.occ_expression_forms.specs.contracts.tree.Element as elements;
-    ghost use Rattle.occ_expression_forms.specs.contracts.tree.Expr as expressions;
-    ghost use Rattle.occ_expression_forms.specs.contracts.tree.TypeForm as type_forms;
+    ghost use Rattle.occ_forms_expressions.specs.contracts.tree.Builtin as builtins;
+    ghost use Rattle.occ_forms_expressions.specs.contracts.tree.Dimension as dimensions;
+    ghost use Rattle.occ_forms_expressions.specs.contracts.tree.Element as elements;
+    ghost use Rattle.occ_forms_expressions.specs.contracts.tree.Expr as expressions;
+    ghost use Rattle.occ_forms_expressions.specs.contracts.tree.TypeForm as type_forms;
     ghost use Rattle.occ_types.specs.contracts.types.OccType as types;
     ghost use Rattle.occ_check.specs.Input.{Input, IsInput};
     ghost use Rattle.std.specs.Coded.{codes};

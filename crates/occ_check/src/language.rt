@@ -1,12 +1,12 @@
 //! What the language says of a unit: shape, then names and types, then uses. No other module asks all of them.
 ghost use Rattle.std.specs.Prelude.{◌≡◌, IfOk, None, Some};
-ghost use Rattle.occ_check.specs.Language.{behind, imports as shown_imports, lines_judged, uses_judged};
+ghost use Rattle.occ_check.specs.Language.{following, imports as spec_imports, lines_judged, uses_judged};
 ghost use Rattle.occ_tree.specs.Forest.{forest_of};
 ghost use Rattle.occ_usage.specs.Typing.{type_faults, typed_unit};
 
+use super::export::interface_of;
 use super::used::{Used, UsedUnit};
 use occ_base::{Diag, Items};
-use occ_interfaces::interface_of;
 use occ_project::ExpandedLine;
 use occ_tree::{ShapeFault, Unit, shape};
 use occ_types::Interface;
@@ -23,7 +23,7 @@ pub struct Judgement {
 }
 
 impl Judgement {
-    /// What is said of a unit with these diagnostics, at least one, behind which nothing more is looked at.
+    /// What is said of a unit with these diagnostics, at least one, after which nothing more is looked at.
     pub fn of_faults(faults: Items<Diag>) -> Judgement
         ensures { result ≡ record { faults = faults; interface = None } }
     {
@@ -36,7 +36,7 @@ impl Judgement {
 
 /// What the used units show, of those that are clean.
 fn imports(alloc: Global, used: &[UsedUnit]) -> Result<Items<Import>, AllocError>
-    ensures { IfOk result (λ imports. imports ≡ shown_imports used.now) }
+    ensures { IfOk result (λ imports. imports ≡ spec_imports used.now) }
 {
     let mut found = Items::new(alloc);
     for one in used {
@@ -68,10 +68,10 @@ fn judge_uses(alloc: Global, typed: &Typed) -> Result<Judgement, AllocError>
     })
 }
 
-/// What names and types say of a unit, and behind them the rules of uses.
+/// What names and types say of a unit, and after them the rules of uses.
 #[tactic(auto, using(crate::proofs::Firsts::first_is_all))]
 fn judge_meaning(alloc: Global, unit: &Unit, imports: &[Import]) -> Result<Judgement, AllocError>
-    ensures { IfOk result (λ judgement. judgement ≡ behind (type_faults imports.now (forest_of unit.now.roots)) (uses_judged (typed_unit imports.now (forest_of unit.now.roots)))) }
+    ensures { IfOk result (λ judgement. judgement ≡ following (type_faults imports.now (forest_of unit.now.roots)) (uses_judged (typed_unit imports.now (forest_of unit.now.roots)))) }
 {
     match type_unit(alloc, unit, imports) {
         Ok(typed) => judge_uses(alloc, &typed),

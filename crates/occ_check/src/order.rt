@@ -1,6 +1,6 @@
 //! Diagnostics in order, each once.
 ghost use Rattle.std.specs.Prelude.{◌≡◌, IfOk};
-ghost use Rattle.occ_check.specs.Order.{in_order as ordered};
+ghost use Rattle.occ_check.specs.Order.{in_order as spec_in_order};
 
 use occ_base::{Diag, Items};
 use std::alloc::{AllocError, Global};
@@ -9,7 +9,7 @@ use std::collections::BTreeSet;
 /// The diagnostics in order, each once.
 #[tactic(auto, using(occ_base::proofs::Placed::placed_last))]
 pub fn in_order(alloc: Global, mut found: Items<Diag>) -> Result<Items<Diag>, AllocError>
-    ensures { IfOk result (λ diags. diags ≡ ordered found) }
+    ensures { IfOk result (λ diags. diags ≡ spec_in_order found) }
 {
     let mut set = BTreeSet::new(alloc);
     while let Some(diag) = found.pop() {

@@ -1,8 +1,8 @@
 //! The check of a job. An outcome has, by its type, the diagnostics and the interface that the rules give for its input.
 ghost use Rattle.std.specs.Option.{option_copied};
 ghost use Rattle.std.specs.Prelude.{◌≡◌, if◌then◌else◌, IfErr, IfOk, None};
-ghost use Rattle.occ_base.specs.Errors.{has_error as any_error};
-ghost use Rattle.occ_check.specs.Diagnostics.{diags_of, interface_of, judged as judgement_of};
+ghost use Rattle.occ_base.specs.Errors.{has_error as spec_has_error};
+ghost use Rattle.occ_check.specs.Diagnostics.{diags_of, interface_of, judged as spec_judged};
 
 use super::faults::find_line_faults;
 use super::job::Job;
@@ -34,11 +34,11 @@ impl Drop for Outcome {
 
 impl Model for Outcome {
     ghost use Rattle.std.specs.Prelude.{◌≡◌};
-    ghost use Rattle.occ_expression_forms.specs.contracts.tree.Builtin as builtins;
-    ghost use Rattle.occ_expression_forms.specs.contracts.tree.Dimension as dimensions;
-    ghost use Rattle.occ_expression_forms.specs.contracts.tree.Element as elements;
-    ghost use Rattle.occ_expression_forms.specs.contracts.tree.Expr as expressions;
-    ghost use Rattle.occ_expression_forms.specs.contracts.tree.TypeForm as type_forms;
+    ghost use Rattle.occ_forms_expressions.specs.contracts.tree.Builtin as builtins;
+    ghost use Rattle.occ_forms_expressions.specs.contracts.tree.Dimension as dimensions;
+    ghost use Rattle.occ_forms_expressions.specs.contracts.tree.Element as elements;
+    ghost use Rattle.occ_forms_expressions.specs.contracts.tree.Expr as expressions;
+    ghost use Rattle.occ_forms_expressions.specs.contracts.tree.TypeForm as type_forms;
     ghost use Rattle.occ_types.specs.contracts.types.OccType as types;
     ghost use Rattle.occ_check.specs.Input.{Input};
     ghost use Rattle.std.specs.Coded.{codes};
@@ -47,7 +47,7 @@ impl Model for Outcome {
 
     ghost coded = { Prim.hlevel (codes, builtins.the_row.coded, dimensions.the_row.coded, elements.the_row.coded, expressions.the_row.coded, type_forms.the_row.coded, types.the_row.coded) };
 
-    ghost use Rattle.occ_base.specs.Errors.{has_error as any_error};
+    ghost use Rattle.occ_base.specs.Errors.{has_error as spec_has_error};
     ghost use Rattle.occ_check.specs.Diagnostics.{diags_of, interface_of};
 
     ghost view = { λ o. o.job };
@@ -78,11 +78,11 @@ impl Outcome {
     }
 }
 
-/// What is told of the files of the unit, of its lines and of the units that it uses, if anything is; else what the
+/// What is reported of the files of the unit, of its lines and of the units that it uses, if anything is; else what the
 /// language says.
 #[tactic(auto, using(crate::proofs::Firsts::first_is_all))]
 fn judged(alloc: Global, job: &Job) -> Result<Judgement, AllocError>
-    ensures { IfOk result (λ judgement. judgement ≡ judgement_of job.now) }
+    ensures { IfOk result (λ judgement. judgement ≡ spec_judged job.now) }
 {
     let expanded = expand_over(alloc, job.reads(), job.unit())?;
     let (lines, mut faults) = expanded.into_lines();
@@ -100,7 +100,7 @@ fn shown(
     diags: &[Diag],
     interface: Option<Interface>,
 ) -> Result<Option<Shared<Interface>>, AllocError>
-    ensures { IfOk result (λ shown. shown ≡ (if any_error diags.now then None else interface)) }
+    ensures { IfOk result (λ shown. shown ≡ (if spec_has_error diags.now then None else interface)) }
 {
     match interface {
         Some(interface) if !has_error(diags) => Ok(Some(Shared::new(alloc, interface)?)),

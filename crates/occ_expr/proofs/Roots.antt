@@ -1,11 +1,11 @@
 -- The name of which each form of an element is a part.
 use Rattle.std.proofs.Common.{◌≡◌, ◌∙◌, ℕ, List, ap, sym}
-use Rattle.occ_expression_forms.specs.declared.tree.Bounds.{Bounds}
-use Rattle.occ_expression_forms.specs.declared.tree.Bounds.TheFolds.{fold-roll-Element}
-use Rattle.occ_expression_forms.specs.declared.tree.Bounds.TheOpen.{Element-F}
-use Rattle.occ_expression_forms.specs.declared.tree.Element.{Element}
-use Rattle.occ_expression_forms.specs.declared.tree.Element.TheVariants as ev
-use Rattle.occ_expression_forms.specs.declared.tree.Expr.{Expr}
+use Rattle.occ_forms_expressions.specs.declared.tree.Bounds.{Bounds}
+use Rattle.occ_forms_expressions.specs.declared.tree.Bounds.TheFolds.{fold-roll-Element}
+use Rattle.occ_forms_expressions.specs.declared.tree.Bounds.TheOpen.{Element-F}
+use Rattle.occ_forms_expressions.specs.declared.tree.Element.{Element}
+use Rattle.occ_forms_expressions.specs.declared.tree.Element.TheVariants as ev
+use Rattle.occ_forms_expressions.specs.declared.tree.Expr.{Expr}
 use Rattle.occ_expr.specs.Targets.{root, root_step}
 
 pub root_named : (name : List ℕ) (es : List Expr) → root (ev.Named name es) ≡ name

@@ -2,24 +2,11 @@
 //! wanted of it, and its typed tree as far as that does not depend on its place.
 #![tactic(auto)]
 
-mod calling;
-mod drafting;
-mod literals;
-mod operation;
-mod parts;
-mod reading;
 pub mod rows;
-mod selecting;
 mod sides;
 mod target;
 mod walk;
-mod written;
 
-pub use calling::one_call;
-pub use parts::{element_name, name_alone};
-pub use reading::{Reading, Readings};
-pub use selecting::ElementReading;
 pub use sides::{each_one, side};
 pub use target::{root, target_of};
 pub use walk::{array_form, data_form, element, expression, named_type, type_form, word_form};
-pub use written::{Opening, count_type};

@@ -1,20 +1,19 @@
 //! Whole right sides: several expressions, or one call of a function with several results.
-#![tactic(auto, using(crate::proofs::Views::expr_rules))]
+#![tactic(auto, using(occ_expr_operations::proofs::Views::expr_rules))]
 
 ghost use Rattle.std.specs.Prelude.{◌≡◌, ◌∷◌, ◌++◌, IfOk, OnOk};
-ghost use Rattle.occ_expr.specs.Sides.{each_one as told_each, results_side as told_results_side, side as told_side};
+ghost use Rattle.occ_expr_operations.specs.Sides.{each_one as spec_each_one, results_side as spec_results_side, side as spec_side};
 
-use super::calling::{all_results, one_call};
-use super::reading::{Readings, faulty_reading};
 use super::walk::{actuals, expression, more_items};
 use occ_base::{Fault, Items, Name, Shared};
-use occ_expression_forms::Expr;
-use occ_names::{Meaning, Scope};
+use occ_expr_operations::{Readings, all_results, faulty_reading, one_call};
+use occ_forms_expressions::Expr;
+use occ_scope::{Meaning, Scope};
 use occ_types::{Formal, OccType};
 use std::alloc::{AllocError, Global};
 
 /// What is read of a call of a function that is a whole right side.
-#[tactic(auto, unfolding(crate::specs::Sides::results_side))]
+#[tactic(auto, unfolding(occ_expr_operations::specs::Sides::results_side))]
 fn results_side(
     alloc: Global,
     name: &Name,
@@ -24,15 +23,15 @@ fn results_side(
     scope: &Scope,
     faults: &mut Items<Fault>,
 ) -> Result<Readings, AllocError>
-    ensures terms { IfOk result (λ all. all.terms ≡ (told_results_side scope.now name.now exprs.now formals.now results.now).terms) }
-    ensures drafts { IfOk result (λ all. all.drafts ≡ (told_results_side scope.now name.now exprs.now formals.now results.now).drafts) }
-    ensures faults { OnOk result (faults.new ≡ faults.old ++ (told_results_side scope.now name.now exprs.now formals.now results.now).faults) }
+    ensures terms { IfOk result (λ all. all.terms ≡ (spec_results_side scope.now name.now exprs.now formals.now results.now).terms) }
+    ensures open_exprs { IfOk result (λ all. all.open_exprs ≡ (spec_results_side scope.now name.now exprs.now formals.now results.now).open_exprs) }
+    ensures faults { OnOk result (faults.new ≡ faults.old ++ (spec_results_side scope.now name.now exprs.now formals.now results.now).faults) }
 {
-    let (is_faulty, drafts) = actuals(alloc, exprs, formals, scope, faults)?;
+    let (is_faulty, open_exprs) = actuals(alloc, exprs, formals, scope, faults)?;
     if is_faulty {
         return Readings::one(alloc, faulty_reading());
     }
-    all_results(alloc, scope, name, results, formals, drafts.as_slice())
+    all_results(alloc, scope, name, results, formals, open_exprs.as_slice())
 }
 
 /// What is read of each expression of a list.
@@ -42,16 +41,16 @@ pub fn each_one(
     scope: &Scope,
     faults: &mut Items<Fault>,
 ) -> Result<Readings, AllocError>
-    ensures terms { IfOk result (λ all. all.terms ≡ (told_each scope.now exprs.now).terms) }
-    ensures drafts { IfOk result (λ all. all.drafts ≡ (told_each scope.now exprs.now).drafts) }
-    ensures faults { OnOk result (faults.new ≡ faults.old ++ (told_each scope.now exprs.now).faults) }
+    ensures terms { IfOk result (λ all. all.terms ≡ (spec_each_one scope.now exprs.now).terms) }
+    ensures open_exprs { IfOk result (λ all. all.open_exprs ≡ (spec_each_one scope.now exprs.now).open_exprs) }
+    ensures faults { OnOk result (faults.new ≡ faults.old ++ (spec_each_one scope.now exprs.now).faults) }
 {
     let mut all = Readings::new(alloc);
     more_items(alloc, exprs, scope, &mut all, faults)?;
     Ok(all)
 }
 
-/// What is read of the first expression of a list and of those behind it.
+/// What is read of the first expression of a list and of those after it.
 fn first_and_more(
     alloc: Global,
     first: &Expr,
@@ -59,9 +58,9 @@ fn first_and_more(
     scope: &Scope,
     faults: &mut Items<Fault>,
 ) -> Result<Readings, AllocError>
-    ensures terms { IfOk result (λ all. all.terms ≡ (told_each scope.now (first.now ∷ more.now)).terms) }
-    ensures drafts { IfOk result (λ all. all.drafts ≡ (told_each scope.now (first.now ∷ more.now)).drafts) }
-    ensures faults { OnOk result (faults.new ≡ faults.old ++ (told_each scope.now (first.now ∷ more.now)).faults) }
+    ensures terms { IfOk result (λ all. all.terms ≡ (spec_each_one scope.now (first.now ∷ more.now)).terms) }
+    ensures open_exprs { IfOk result (λ all. all.open_exprs ≡ (spec_each_one scope.now (first.now ∷ more.now)).open_exprs) }
+    ensures faults { OnOk result (faults.new ≡ faults.old ++ (spec_each_one scope.now (first.now ∷ more.now)).faults) }
 {
     let first = expression(alloc, first, scope, faults)?;
     let mut all = Readings::one(alloc, first)?;
@@ -71,7 +70,7 @@ fn first_and_more(
 
 /// What is read of a whole right side: of an assignment, or of what gives a FUNCTION its results. One call of a function
 /// counts there as all of its results.
-#[tactic(auto, unfolding(crate::specs::Sides::side))]
+#[tactic(auto, unfolding(occ_expr_operations::specs::Sides::side))]
 pub fn side(
     alloc: Global,
     first: &Expr,
@@ -79,9 +78,9 @@ pub fn side(
     scope: &Scope,
     faults: &mut Items<Fault>,
 ) -> Result<Readings, AllocError>
-    ensures terms { IfOk result (λ all. all.terms ≡ (told_side scope.now (first.now ∷ more.now)).terms) }
-    ensures drafts { IfOk result (λ all. all.drafts ≡ (told_side scope.now (first.now ∷ more.now)).drafts) }
-    ensures faults { OnOk result (faults.new ≡ faults.old ++ (told_side scope.now (first.now ∷ more.now)).faults) }
+    ensures terms { IfOk result (λ all. all.terms ≡ (spec_side scope.now (first.now ∷ more.now)).terms) }
+    ensures open_exprs { IfOk result (λ all. all.open_exprs ≡ (spec_side scope.now (first.now ∷ more.now)).open_exprs) }
+    ensures faults { OnOk result (faults.new ≡ faults.old ++ (spec_side scope.now (first.now ∷ more.now)).faults) }
 {
     let Some((name, exprs)) = one_call(first, more) else {
         return first_and_more(alloc, first, more, scope, faults);

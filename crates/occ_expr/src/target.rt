@@ -1,22 +1,22 @@
 //! Targets: the name of which an element is a part, and what is read of an element that is written to.
 ghost use Rattle.std.specs.Prelude.{◌≡◌, ◌++◌, IfOk, OnOk};
-ghost use Rattle.occ_names.specs.Visible.{visible};
-ghost use Rattle.occ_expr.specs.Targets.{reached as told_reached, root as root_of, target_of as told_target};
-ghost use Rattle.occ_expr.specs.Views.{element_view};
+ghost use Rattle.occ_scope.specs.Visible.{visible};
+ghost use Rattle.occ_expr.specs.Targets.{reached as spec_reached, root as spec_root, target_of as spec_target_of};
+ghost use Rattle.occ_expr_operations.specs.Views.{element_view};
 
-use super::selecting::ElementReading;
 use super::walk::element;
 use occ_base::{Fault, Items, Name};
-use occ_expression_forms::Element;
-use occ_names::{Meaning, Scope};
-use occ_operands::Kind;
-use occ_type_rules::target;
+use occ_expr_operations::ElementReading;
+use occ_forms_expressions::Element;
+use occ_scope::{Meaning, Scope};
+use occ_typing_operands::Kind;
+use occ_typing_rules::target;
 use std::alloc::{AllocError, Global};
 
 /// The name of which an element is a part.
 #[tactic(auto, using(crate::proofs::Roots::root_rules))]
 pub fn root(element: &Element) -> &Name
-    ensures { result.now ≡ root_of element.now }
+    ensures { result.now ≡ spec_root element.now }
 {
     match element {
         Element::Named(name, _) => name,
@@ -32,8 +32,8 @@ fn reached(
     kind: Kind,
     faults: &mut Items<Fault>,
 ) -> Result<Kind, AllocError>
-    ensures kind { IfOk result (λ target. target ≡ (told_reached (visible scope.now name.now) kind).kind) }
-    ensures faults { OnOk result (faults.new ≡ faults.old ++ (told_reached (visible scope.now name.now) kind).faults) }
+    ensures kind { IfOk result (λ target. target ≡ (spec_reached (visible scope.now name.now) kind).kind) }
+    ensures faults { OnOk result (faults.new ≡ faults.old ++ (spec_reached (visible scope.now name.now) kind).faults) }
 {
     match scope.find(name) {
         Some(Meaning::Element(whole)) => target(alloc, kind, whole, faults),
@@ -54,9 +54,9 @@ pub fn target_of(
     scope: &Scope,
     faults: &mut Items<Fault>,
 ) -> Result<ElementReading, AllocError>
-    ensures kind { IfOk result (λ target. target.kind ≡ (told_target scope.now written.now).kind) }
+    ensures kind { IfOk result (λ target. target.kind ≡ (spec_target_of scope.now written.now).kind) }
     ensures tree { IfOk result (λ target. target.tree ≡ (element_view written.now).tree scope.now) }
-    ensures faults { OnOk result (faults.new ≡ faults.old ++ (told_target scope.now written.now).faults) }
+    ensures faults { OnOk result (faults.new ≡ faults.old ++ (spec_target_of scope.now written.now).faults) }
 {
     let read = element(alloc, written, scope, faults)?;
     let kind = reached(alloc, scope, root(written), read.kind, faults)?;

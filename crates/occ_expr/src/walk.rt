@@ -1,55 +1,46 @@
 //! The one walk down a tree of an expression, an element or a written type, as one cycle of functions. Each part is read
 //! once, so the work is linear in the tokens. `docs/LANGUAGE.md, Expressions, elements and written types`.
 ghost use Rattle.std.specs.Prelude.{◌≡◌, ◌∷◌, ◌++◌, [], IfOk, OnOk};
-ghost use Rattle.occ_expr.specs.declared.written.Opening.TheVariants as opened;
-ghost use Rattle.occ_expression_forms.specs.declared.tree.Bounds.TheVariants as bounds_form;
-ghost use Rattle.occ_expression_forms.specs.declared.tree.Expr.TheVariants as form;
-ghost use Rattle.occ_names.specs.Lookup.{data_type as data_type_named};
-ghost use Rattle.occ_names.specs.Visible.{referent, visible};
-ghost use Rattle.occ_types.specs.Fits.{unnamed as no_names};
+ghost use Rattle.occ_expr_operations.specs.declared.written.Opening.TheVariants as opened;
+ghost use Rattle.occ_forms_expressions.specs.declared.tree.Bounds.TheVariants as bounds_form;
+ghost use Rattle.occ_forms_expressions.specs.declared.tree.Expr.TheVariants as form;
+ghost use Rattle.occ_scope.specs.Lookup.{data_type as spec_data_type};
+ghost use Rattle.occ_scope.specs.Visible.{referent, visible};
+ghost use Rattle.occ_types.specs.Fits.{unnamed as spec_unnamed};
 ghost use Rattle.occ_types.specs.View.{fields_in};
-ghost use Rattle.occ_expr.specs.Parts.{actuals as told_actuals, call as told_call, call_of_type as told_call_of_type, table_as as told_table, component as told_component, behind_a_fault as told_behind_a_fault, function_call as told_function_call, in_scope, named_element as told_named_element, no_call as told_no_call, only as only_one, own_faults, part as told_part, segment_within as told_within, subscript as told_subscript, subscripts as told_subscripts, terms as terms_of, whole_element as told_whole_element};
-ghost use Rattle.occ_expr.specs.Drafts.{decorated_draft as drafted_table, literal_draft as drafted_literal, operand_call as operand_drafted};
-ghost use Rattle.occ_tables.specs.Terms.{hidden_faults, judged_all};
-ghost use Rattle.occ_tables.specs.declared.term.Term.TheVariants as v;
-ghost use Rattle.occ_typed.specs.declared.draft.Draft.TheVariants as d;
-ghost use Rattle.occ_expr.specs.Literals.{literal as told_literal, truth as told_truth};
-ghost use Rattle.occ_expr.specs.Elements.{component_at as selected_component, element_draft as drafted_element, place_tree as the_place, selector as the_selector, selector_in, selectors as the_selectors, with_selectors};
-ghost use Rattle.occ_expr.specs.Views.{bounds_view, components_of as the_components, call_draft as drafted_call, converted_call, decorated as told_decorated, item_drafts as drafted_items, named_tree as the_named_tree, operand_drafts as drafted_operands, whole_element_draft as drafted_whole, builtin_view, dimension_view, dimension_views, each, element_view, expr_view, expr_views, named_operand_view, operand_view, operand_views, operands as said_operands, type_form_view};
-ghost use Rattle.occ_expr.specs.Written.{all_spanning_faults, array_behind as written_behind, array_over as written_over, array_over_more as written_over_more, channel as written_channel, data_form as written_data, extents as the_extents};
+ghost use Rattle.occ_expr_operations.specs.Parts.{actuals as spec_actuals, call as spec_call, call_of_type as spec_call_of_type, table_as as spec_table_as, component as spec_component, after_a_fault as spec_after_a_fault, function_call as spec_function_call, in_scope, named_element as spec_named_element, no_call as spec_no_call, only as spec_only, own_faults, part as spec_part, segment_within as spec_segment_within, subscript as spec_subscript, subscripts as spec_subscripts, terms as spec_terms, whole_element as spec_whole_element};
+ghost use Rattle.occ_expr_operations.specs.OpenExprs.{decorated_open as spec_decorated_open, literal_open as spec_literal_open, operand_call as spec_operand_call};
+ghost use Rattle.occ_typing_tables.specs.Terms.{hidden_faults, judged_all};
+ghost use Rattle.occ_typing_tables.specs.declared.term.Term.TheVariants as v;
+ghost use Rattle.occ_typing_rules.specs.declared.open_expr.OpenExpr.TheVariants as d;
+ghost use Rattle.occ_expr_operations.specs.Literals.{literal as spec_literal, truth as spec_truth};
+ghost use Rattle.occ_expr_operations.specs.Elements.{component_at as spec_component_at, element_open as spec_element_open, place_tree as spec_place_tree, selector as spec_selector, selector_in, selectors as spec_selectors, with_selectors};
+ghost use Rattle.occ_expr_operations.specs.Views.{bounds_view, components_of as spec_components_of, call_open as spec_call_open, converted_call, decorated as spec_decorated, item_opens as spec_item_opens, named_tree as spec_named_tree, operand_opens as spec_operand_opens, whole_element_open as spec_whole_element_open, builtin_view, dimension_view, dimension_views, each, element_view, expr_view, expr_views, named_operand_view, operand_view, operand_views, operands as spec_operands, type_form_view};
+ghost use Rattle.occ_expr_operations.specs.Written.{all_spanning_faults, array_after as spec_array_after, array_over as spec_array_over, array_over_more as spec_array_over_more, channel as spec_channel, data_form as spec_data_form, extents as spec_extents};
 
-use super::calling::{one_result, operand_call};
-use super::drafting::{decorated_draft, place_tree};
-use super::literals::{decorated_literal, literal, truth};
-use super::operation::{applied, converted, extreme_of, operation_of, pair, run_operator};
-use super::parts::{
-    component_of, converted_table, digits_of, name_alone, only, referred, segment_of, shared_type,
-    sized_dimension, table_as, tell_alone, tell_no_function,
-};
-use super::reading::{Reading, Readings, faulty_reading, literal_reading};
-use super::selecting::{
-    BoundsReading, ElementReading, components_of, element_of, element_reading, field_selector,
-    for_of, from_for_of, from_of, part_of, with_selector,
-};
-use super::written::{
-    Extent, Opening, array_type, base_type, count_type, counted_type, named_channel,
-    open_dimension, primitive_of, values_channel,
-};
 use occ_base::{Fault, Items, Name, Shared, one_item};
-use occ_expression_forms::{
+use occ_expr_operations::{
+    BoundsReading, ElementReading, Extent, Opening, Reading, Readings, applied, array_type,
+    base_type, component_of, components_of, converted, converted_table, count_type, counted_type,
+    decorated_literal, decorated_open, digits_of, element_of, element_reading, extreme_of,
+    faulty_reading, field_selector, for_of, from_for_of, from_of, literal, literal_reading,
+    name_alone, named_channel, one_result, only, open_dimension, operand_call, operation_of, pair,
+    part_of, place_tree, primitive_of, referred, report_alone, report_no_function, run_operator,
+    segment_of, shared_type, sized_dimension, table_as, truth, values_channel, with_selector,
+};
+use occ_forms_expressions::{
     Bounds, Builtin, DataBase, Dimension, Element, Expr, Extreme, Literal, MonadicOperator,
     NamedOperand, Operand, TypeForm,
 };
-use occ_names::{Meaning, Scope, carries, data_type};
-use occ_operands::{Kind, field};
-use occ_tables::{BoundTerms, Term, tell_hidden};
-use occ_type_rules::matched;
-use occ_typed::{Draft, Selector, TypedExpr};
+use occ_scope::{Meaning, Scope, carries, data_type};
 use occ_types::{Formal, OccType, Protocol, fields_of, unnamed};
+use occ_typing_operands::{Kind, field};
+use occ_typing_rules::{OpenExpr, Selector, TypedExpr, matched};
+use occ_typing_tables::{BoundTerms, Term, report_hidden};
 use std::alloc::{AllocError, Global};
 
 /// What is read of an expression before a type is wanted of it.
-#[tactic(auto, using(crate::proofs::Views::expr_rules))]
+#[tactic(auto, using(occ_expr_operations::proofs::Views::expr_rules))]
 #[cycle(walk)]
 pub fn expression(
     alloc: Global,
@@ -58,17 +49,17 @@ pub fn expression(
     faults: &mut Items<Fault>,
 ) -> Result<Reading, AllocError>
     ensures term { IfOk result (λ whole. whole.term ≡ ((expr_view expr.now).said scope.now).term) }
-    ensures draft { IfOk result (λ whole. whole.draft ≡ (expr_view expr.now).draft scope.now) }
+    ensures open_expr { IfOk result (λ whole. whole.open_expr ≡ (expr_view expr.now).open_expr scope.now) }
     ensures faults { OnOk result (faults.new ≡ faults.old ++ ((expr_view expr.now).said scope.now).faults) }
 {
     match expr {
-        Expr::Alone(behind) => whole_operand(alloc, behind.get(), scope, faults),
+        Expr::Alone(following) => whole_operand(alloc, following.get(), scope, faults),
         _ => composed(alloc, expr, scope, faults),
     }
 }
 
 /// What is read of an expression that is more than an operand alone. It stands by itself since its locals are many.
-#[tactic(auto, using(crate::proofs::Views::expr_rules))]
+#[tactic(auto, using(occ_expr_operations::proofs::Views::expr_rules))]
 #[cycle(walk)]
 fn composed(
     alloc: Global,
@@ -77,11 +68,11 @@ fn composed(
     faults: &mut Items<Fault>,
 ) -> Result<Reading, AllocError>
     ensures term { IfOk result (λ whole. whole.term ≡ ((expr_view expr.now).said scope.now).term) }
-    ensures draft { IfOk result (λ whole. whole.draft ≡ (expr_view expr.now).draft scope.now) }
+    ensures open_expr { IfOk result (λ whole. whole.open_expr ≡ (expr_view expr.now).open_expr scope.now) }
     ensures faults { OnOk result (faults.new ≡ faults.old ++ ((expr_view expr.now).said scope.now).faults) }
 {
     match expr {
-        Expr::Alone(behind) => whole_operand(alloc, behind.get(), scope, faults),
+        Expr::Alone(following) => whole_operand(alloc, following.get(), scope, faults),
         Expr::Run(operator, first, second, more) => {
             let mut readings = Readings::with_room(alloc, more.len().saturating_add(2))?;
             let first = operand(alloc, first.get(), scope, faults)?;
@@ -96,10 +87,10 @@ fn composed(
             let second = operand(alloc, second.get(), scope, faults)?;
             pair(alloc, first, *operator, second, faults)
         }
-        Expr::Applied(operator, behind) => {
-            applied_reading(alloc, *operator, behind.get(), scope, faults)
+        Expr::Applied(operator, following) => {
+            applied_reading(alloc, *operator, following.get(), scope, faults)
         }
-        Expr::Converted(dims, word, behind) => {
+        Expr::Converted(dims, word, following) => {
             let of = builtin(alloc, word.get(), scope, faults)?;
             let to = array_over(
                 alloc,
@@ -110,10 +101,10 @@ fn composed(
                 scope,
                 faults,
             )?;
-            let reading = operand(alloc, behind.get(), scope, faults)?;
+            let reading = operand(alloc, following.get(), scope, faults)?;
             converted(alloc, reading, to, faults)
         }
-        Expr::ArrayConverted(first, more, name, behind) => {
+        Expr::ArrayConverted(first, more, name, following) => {
             let of = data_type(alloc, scope, name, faults)?;
             let first = dimension(alloc, first.get(), Opening::Refused, scope, faults)?;
             let extents = one_item(alloc, first)?;
@@ -126,53 +117,53 @@ fn composed(
                 scope,
                 faults,
             )?;
-            let reading = operand(alloc, behind.get(), scope, faults)?;
+            let reading = operand(alloc, following.get(), scope, faults)?;
             converted(alloc, reading, to, faults)
         }
-        Expr::Named(name, behind) => named_reading(alloc, name, behind.get(), scope, faults),
+        Expr::Named(name, following) => named_reading(alloc, name, following.get(), scope, faults),
         Expr::Most(extreme, of) => most_reading(alloc, *extreme, of.get(), scope, faults),
     }
 }
 
 /// What is read of an operator in front of an operand.
-#[tactic(auto, using(crate::proofs::Views::expr_rules))]
+#[tactic(auto, using(occ_expr_operations::proofs::Views::expr_rules))]
 #[cycle(walk)]
 fn applied_reading(
     alloc: Global,
     operator: MonadicOperator,
-    behind: &Operand,
+    following: &Operand,
     scope: &Scope,
     faults: &mut Items<Fault>,
 ) -> Result<Reading, AllocError>
-    ensures term { IfOk result (λ whole. whole.term ≡ ((expr_view (form.Applied operator behind.now)).said scope.now).term) }
-    ensures draft { IfOk result (λ whole. whole.draft ≡ (expr_view (form.Applied operator behind.now)).draft scope.now) }
-    ensures faults { OnOk result (faults.new ≡ faults.old ++ ((expr_view (form.Applied operator behind.now)).said scope.now).faults) }
+    ensures term { IfOk result (λ whole. whole.term ≡ ((expr_view (form.Applied operator following.now)).said scope.now).term) }
+    ensures open_expr { IfOk result (λ whole. whole.open_expr ≡ (expr_view (form.Applied operator following.now)).open_expr scope.now) }
+    ensures faults { OnOk result (faults.new ≡ faults.old ++ ((expr_view (form.Applied operator following.now)).said scope.now).faults) }
 {
-    let reading = operand(alloc, behind, scope, faults)?;
-    applied(alloc, reading, operator, digits_of(behind), faults)
+    let reading = operand(alloc, following, scope, faults)?;
+    applied(alloc, reading, operator, digits_of(following), faults)
 }
 
 /// What is read of a conversion to the type of a name.
-#[tactic(auto, using(crate::proofs::Views::expr_rules))]
+#[tactic(auto, using(occ_expr_operations::proofs::Views::expr_rules))]
 #[cycle(walk)]
 fn named_reading(
     alloc: Global,
     name: &Name,
-    behind: &NamedOperand,
+    following: &NamedOperand,
     scope: &Scope,
     faults: &mut Items<Fault>,
 ) -> Result<Reading, AllocError>
-    ensures term { IfOk result (λ whole. whole.term ≡ ((expr_view (form.Named name.now behind.now)).said scope.now).term) }
-    ensures draft { IfOk result (λ whole. whole.draft ≡ (expr_view (form.Named name.now behind.now)).draft scope.now) }
-    ensures faults { OnOk result (faults.new ≡ faults.old ++ ((expr_view (form.Named name.now behind.now)).said scope.now).faults) }
+    ensures term { IfOk result (λ whole. whole.term ≡ ((expr_view (form.Named name.now following.now)).said scope.now).term) }
+    ensures open_expr { IfOk result (λ whole. whole.open_expr ≡ (expr_view (form.Named name.now following.now)).open_expr scope.now) }
+    ensures faults { OnOk result (faults.new ≡ faults.old ++ ((expr_view (form.Named name.now following.now)).said scope.now).faults) }
 {
     let to = named_type(alloc, name, scope, faults)?;
-    let reading = named_operand(alloc, behind, scope, faults)?;
+    let reading = named_operand(alloc, following, scope, faults)?;
     converted(alloc, reading, to, faults)
 }
 
 /// What is read of the greatest or the least value of a type.
-#[tactic(auto, using(crate::proofs::Views::expr_rules))]
+#[tactic(auto, using(occ_expr_operations::proofs::Views::expr_rules))]
 #[cycle(walk)]
 fn most_reading(
     alloc: Global,
@@ -182,7 +173,7 @@ fn most_reading(
     faults: &mut Items<Fault>,
 ) -> Result<Reading, AllocError>
     ensures term { IfOk result (λ whole. whole.term ≡ ((expr_view (form.Most extreme of.now)).said scope.now).term) }
-    ensures draft { IfOk result (λ whole. whole.draft ≡ (expr_view (form.Most extreme of.now)).draft scope.now) }
+    ensures open_expr { IfOk result (λ whole. whole.open_expr ≡ (expr_view (form.Most extreme of.now)).open_expr scope.now) }
     ensures faults { OnOk result (faults.new ≡ faults.old ++ ((expr_view (form.Most extreme of.now)).said scope.now).faults) }
 {
     let of = type_form(alloc, of, Opening::Refused, scope, faults)?;
@@ -190,8 +181,8 @@ fn most_reading(
     literal_reading(alloc, kind)
 }
 
-/// What is read of an operand beside an operator, or behind a type.
-#[tactic(auto, using(crate::proofs::Views::operand_rules))]
+/// What is read of an operand beside an operator, or after a type.
+#[tactic(auto, using(occ_expr_operations::proofs::Views::operand_rules))]
 #[cycle(walk)]
 fn operand(
     alloc: Global,
@@ -200,7 +191,7 @@ fn operand(
     faults: &mut Items<Fault>,
 ) -> Result<Reading, AllocError>
     ensures term { IfOk result (λ whole. whole.term ≡ ((operand_view operand.now).said scope.now).term) }
-    ensures draft { IfOk result (λ whole. whole.draft ≡ (operand_view operand.now).draft scope.now) }
+    ensures open_expr { IfOk result (λ whole. whole.open_expr ≡ (operand_view operand.now).open_expr scope.now) }
     ensures faults { OnOk result (faults.new ≡ faults.old ++ ((operand_view operand.now).said scope.now).faults) }
 {
     match operand {
@@ -234,9 +225,9 @@ fn element_operand(
     scope: &Scope,
     faults: &mut Items<Fault>,
 ) -> Result<Reading, AllocError>
-    ensures term { IfOk result (λ whole. whole.term ≡ v.Single ((element_view part.now).told scope.now).kind) }
-    ensures draft { IfOk result (λ whole. whole.draft ≡ drafted_element ((element_view part.now).tree scope.now)) }
-    ensures faults { OnOk result (faults.new ≡ faults.old ++ ((element_view part.now).told scope.now).faults) }
+    ensures term { IfOk result (λ whole. whole.term ≡ v.Single ((element_view part.now).reported scope.now).kind) }
+    ensures open_expr { IfOk result (λ whole. whole.open_expr ≡ spec_element_open ((element_view part.now).tree scope.now)) }
+    ensures faults { OnOk result (faults.new ≡ faults.old ++ ((element_view part.now).reported scope.now).faults) }
 {
     let read = element(alloc, part, scope, faults)?;
     element_reading(alloc, read)
@@ -248,25 +239,25 @@ fn literal_operand(
     written: &Literal,
     faults: &mut Items<Fault>,
 ) -> Result<Reading, AllocError>
-    ensures term { IfOk result (λ whole. whole.term ≡ v.Single (told_literal written.now).kind) }
-    ensures draft { IfOk result (λ whole. whole.draft ≡ drafted_literal (told_literal written.now).kind) }
-    ensures faults { OnOk result (faults.new ≡ faults.old ++ (told_literal written.now).faults) }
+    ensures term { IfOk result (λ whole. whole.term ≡ v.Single (spec_literal written.now).kind) }
+    ensures open_expr { IfOk result (λ whole. whole.open_expr ≡ spec_literal_open (spec_literal written.now).kind) }
+    ensures faults { OnOk result (faults.new ≡ faults.old ++ (spec_literal written.now).faults) }
 {
     let kind = literal(alloc, written, faults)?;
     literal_reading(alloc, kind)
 }
 
 /// What is read of one literal more, without a type of its own. Undecorated decimal digits are put where they belong at once.
-#[tactic(auto, unfolding(crate::specs::Literals::literal))]
+#[tactic(auto, unfolding(occ_expr_operations::specs::Literals::literal))]
 fn literal_more(
     alloc: Global,
     written: &Literal,
     readings: &mut Readings,
     faults: &mut Items<Fault>,
 ) -> Result<(), AllocError>
-    ensures terms { OnOk result (readings.new.terms ≡ readings.old.terms ++ v.Single (told_literal written.now).kind ∷ []) }
-    ensures drafts { OnOk result (readings.new.drafts ≡ readings.old.drafts ++ drafted_literal (told_literal written.now).kind ∷ []) }
-    ensures faults { OnOk result (faults.new ≡ faults.old ++ (told_literal written.now).faults) }
+    ensures terms { OnOk result (readings.new.terms ≡ readings.old.terms ++ v.Single (spec_literal written.now).kind ∷ []) }
+    ensures open_exprs { OnOk result (readings.new.open_exprs ≡ readings.old.open_exprs ++ spec_literal_open (spec_literal written.now).kind ∷ []) }
+    ensures faults { OnOk result (faults.new ≡ faults.old ++ (spec_literal written.now).faults) }
 {
     match written {
         Literal::Decimal(n) => readings.push_decimal(*n),
@@ -286,9 +277,9 @@ fn decorated_operand(
     scope: &Scope,
     faults: &mut Items<Fault>,
 ) -> Result<Reading, AllocError>
-    ensures term { IfOk result (λ whole. whole.term ≡ v.Single (told_decorated (type_form_view of.now opened.Refused scope.now) written.now).kind) }
-    ensures draft { IfOk result (λ whole. whole.draft ≡ drafted_literal (told_decorated (type_form_view of.now opened.Refused scope.now) written.now).kind) }
-    ensures faults { OnOk result (faults.new ≡ faults.old ++ (told_decorated (type_form_view of.now opened.Refused scope.now) written.now).faults) }
+    ensures term { IfOk result (λ whole. whole.term ≡ v.Single (spec_decorated (type_form_view of.now opened.Refused scope.now) written.now).kind) }
+    ensures open_expr { IfOk result (λ whole. whole.open_expr ≡ spec_literal_open (spec_decorated (type_form_view of.now opened.Refused scope.now) written.now).kind) }
+    ensures faults { OnOk result (faults.new ≡ faults.old ++ (spec_decorated (type_form_view of.now opened.Refused scope.now) written.now).faults) }
 {
     let to = type_form(alloc, of, Opening::Refused, scope, faults)?;
     let kind = decorated_literal(alloc, written, to, faults)?;
@@ -297,8 +288,8 @@ fn decorated_operand(
 
 /// What is read of `TRUE` or `FALSE`.
 fn truth_operand(alloc: Global, value: bool) -> Result<Reading, AllocError>
-    ensures term { IfOk result (λ whole. whole.term ≡ v.Single (told_truth value).kind) }
-    ensures draft { IfOk result (λ whole. whole.draft ≡ drafted_literal (told_truth value).kind) }
+    ensures term { IfOk result (λ whole. whole.term ≡ v.Single (spec_truth value).kind) }
+    ensures open_expr { IfOk result (λ whole. whole.open_expr ≡ spec_literal_open (spec_truth value).kind) }
 {
     let kind = truth(alloc, value)?;
     literal_reading(alloc, kind)
@@ -313,9 +304,9 @@ fn operands(
     readings: &mut Readings,
     faults: &mut Items<Fault>,
 ) -> Result<(), AllocError>
-    ensures terms { OnOk result (readings.new.terms ≡ readings.old.terms ++ terms_of (said_operands scope.now (operand_views operands.now))) }
-    ensures drafts { OnOk result (readings.new.drafts ≡ readings.old.drafts ++ drafted_operands scope.now (operand_views operands.now)) }
-    ensures faults { OnOk result (faults.new ≡ faults.old ++ own_faults (said_operands scope.now (operand_views operands.now))) }
+    ensures terms { OnOk result (readings.new.terms ≡ readings.old.terms ++ spec_terms (spec_operands scope.now (operand_views operands.now))) }
+    ensures open_exprs { OnOk result (readings.new.open_exprs ≡ readings.old.open_exprs ++ spec_operand_opens scope.now (operand_views operands.now)) }
+    ensures faults { OnOk result (faults.new ≡ faults.old ++ own_faults (spec_operands scope.now (operand_views operands.now))) }
 {
     for one in operands {
         operand_more(alloc, one, scope, readings, faults)?;
@@ -324,7 +315,7 @@ fn operands(
 }
 
 /// The same of one operand more.
-#[tactic(auto, using(crate::proofs::Views::operand_rules))]
+#[tactic(auto, using(occ_expr_operations::proofs::Views::operand_rules))]
 #[cycle(walk)]
 fn operand_more(
     alloc: Global,
@@ -334,7 +325,7 @@ fn operand_more(
     faults: &mut Items<Fault>,
 ) -> Result<(), AllocError>
     ensures terms { OnOk result (readings.new.terms ≡ readings.old.terms ++ ((operand_view one.now).said scope.now).term ∷ []) }
-    ensures drafts { OnOk result (readings.new.drafts ≡ readings.old.drafts ++ (operand_view one.now).draft scope.now ∷ []) }
+    ensures open_exprs { OnOk result (readings.new.open_exprs ≡ readings.old.open_exprs ++ (operand_view one.now).open_expr scope.now ∷ []) }
     ensures faults { OnOk result (faults.new ≡ faults.old ++ ((operand_view one.now).said scope.now).faults) }
 {
     match one {
@@ -347,7 +338,7 @@ fn operand_more(
 }
 
 /// What is read of an operand that is a whole expression.
-#[tactic(auto, using(crate::proofs::Views::operand_rules))]
+#[tactic(auto, using(occ_expr_operations::proofs::Views::operand_rules))]
 #[cycle(walk)]
 fn whole_operand(
     alloc: Global,
@@ -356,7 +347,7 @@ fn whole_operand(
     faults: &mut Items<Fault>,
 ) -> Result<Reading, AllocError>
     ensures term { IfOk result (λ read. read.term ≡ ((operand_view whole.now).whole scope.now).term) }
-    ensures draft { IfOk result (λ read. read.draft ≡ (operand_view whole.now).whole_draft scope.now) }
+    ensures open_expr { IfOk result (λ read. read.open_expr ≡ (operand_view whole.now).whole_open scope.now) }
     ensures faults { OnOk result (faults.new ≡ faults.old ++ ((operand_view whole.now).whole scope.now).faults) }
 {
     match whole {
@@ -371,8 +362,8 @@ fn whole_operand(
     }
 }
 
-/// What is read of an operand that stands directly behind the name of a type.
-#[tactic(auto, using(crate::proofs::Views::named_operand_rules))]
+/// What is read of an operand that stands directly after the name of a type.
+#[tactic(auto, using(occ_expr_operations::proofs::Views::named_operand_rules))]
 #[cycle(walk)]
 fn named_operand(
     alloc: Global,
@@ -381,7 +372,7 @@ fn named_operand(
     faults: &mut Items<Fault>,
 ) -> Result<Reading, AllocError>
     ensures term { IfOk result (λ whole. whole.term ≡ ((named_operand_view operand.now).said scope.now).term) }
-    ensures draft { IfOk result (λ whole. whole.draft ≡ (named_operand_view operand.now).draft scope.now) }
+    ensures open_expr { IfOk result (λ whole. whole.open_expr ≡ (named_operand_view operand.now).open_expr scope.now) }
     ensures faults { OnOk result (faults.new ≡ faults.old ++ ((named_operand_view operand.now).said scope.now).faults) }
 {
     match operand {
@@ -413,11 +404,11 @@ fn named_operand(
 /// A table of these items without its type.
 fn table_reading(items: Readings) -> Reading
     ensures term { result.term ≡ v.Table items.terms }
-    ensures draft { result.draft ≡ d.Table items.drafts }
+    ensures open_expr { result.open_expr ≡ d.Table items.open_exprs }
 {
     Reading {
         term: Term::Table(items.terms),
-        draft: Draft::Table(items.drafts),
+        open_expr: OpenExpr::Table(items.open_exprs),
     }
 }
 
@@ -428,15 +419,15 @@ fn decorated_reading(
     to: Option<Shared<OccType>>,
     faults: &mut Items<Fault>,
 ) -> Result<Reading, AllocError>
-    ensures term { IfOk result (λ whole. whole.term ≡ v.Single (told_table to items.terms).kind) }
-    ensures draft { IfOk result (λ whole. whole.draft ≡ drafted_table (told_table to items.terms).kind items.drafts) }
-    ensures faults { OnOk result (faults.new ≡ faults.old ++ (told_table to items.terms).faults) }
+    ensures term { IfOk result (λ whole. whole.term ≡ v.Single (spec_table_as to items.terms).kind) }
+    ensures open_expr { IfOk result (λ whole. whole.open_expr ≡ spec_decorated_open (spec_table_as to items.terms).kind items.open_exprs) }
+    ensures faults { OnOk result (faults.new ≡ faults.old ++ (spec_table_as to items.terms).faults) }
 {
     let kind = table_as(alloc, items.terms.as_slice(), to, faults)?;
-    let draft = decorated_draft(alloc, &kind, items.drafts.as_slice())?;
+    let open_expr = decorated_open(alloc, &kind, items.open_exprs.as_slice())?;
     Ok(Reading {
         term: Term::Single(kind),
-        draft,
+        open_expr,
     })
 }
 
@@ -449,7 +440,7 @@ fn first_item(
     faults: &mut Items<Fault>,
 ) -> Result<Readings, AllocError>
     ensures terms { IfOk result (λ all. all.terms ≡ ((expr_view expr.now).said scope.now).term ∷ []) }
-    ensures drafts { IfOk result (λ all. all.drafts ≡ (expr_view expr.now).draft scope.now ∷ []) }
+    ensures open_exprs { IfOk result (λ all. all.open_exprs ≡ (expr_view expr.now).open_expr scope.now ∷ []) }
     ensures faults { OnOk result (faults.new ≡ faults.old ++ ((expr_view expr.now).said scope.now).faults) }
 {
     let item = expression(alloc, expr, scope, faults)?;
@@ -465,8 +456,8 @@ pub fn more_items(
     items: &mut Readings,
     faults: &mut Items<Fault>,
 ) -> Result<(), AllocError>
-    ensures terms { OnOk result (items.new.terms ≡ items.old.terms ++ terms_of (in_scope scope.now (expr_views exprs.now))) }
-    ensures drafts { OnOk result (items.new.drafts ≡ items.old.drafts ++ drafted_items scope.now (expr_views exprs.now)) }
+    ensures terms { OnOk result (items.new.terms ≡ items.old.terms ++ spec_terms (in_scope scope.now (expr_views exprs.now))) }
+    ensures open_exprs { OnOk result (items.new.open_exprs ≡ items.old.open_exprs ++ spec_item_opens scope.now (expr_views exprs.now)) }
     ensures faults { OnOk result (faults.new ≡ faults.old ++ own_faults (in_scope scope.now (expr_views exprs.now))) }
 {
     for expr in exprs {
@@ -476,7 +467,7 @@ pub fn more_items(
     Ok(())
 }
 
-/// What is told of each argument of a call of which it is hidden what is wanted.
+/// What is reported of each argument of a call of which it is hidden what is wanted.
 #[cycle(walk)]
 fn arguments(
     alloc: Global,
@@ -484,15 +475,15 @@ fn arguments(
     scope: &Scope,
     faults: &mut Items<Fault>,
 ) -> Result<(), AllocError>
-    ensures { OnOk result (faults.new ≡ faults.old ++ (own_faults (in_scope scope.now (expr_views exprs.now)) ++ hidden_faults (judged_all (terms_of (in_scope scope.now (expr_views exprs.now)))))) }
+    ensures { OnOk result (faults.new ≡ faults.old ++ (own_faults (in_scope scope.now (expr_views exprs.now)) ++ hidden_faults (judged_all (spec_terms (in_scope scope.now (expr_views exprs.now)))))) }
 {
     let mut readings = Readings::new(alloc);
     more_items(alloc, exprs, scope, &mut readings, faults)?;
-    tell_hidden(alloc, readings.terms.as_slice(), faults)
+    report_hidden(alloc, readings.terms.as_slice(), faults)
 }
 
-/// What is told of a call of what is no function, and converts nothing.
-#[tactic(auto, unfolding(crate::specs::Parts::no_call))]
+/// What is reported of a call of what is no function, and converts nothing.
+#[tactic(auto, unfolding(occ_expr_operations::specs::Parts::no_call))]
 #[cycle(walk)]
 fn no_call(
     alloc: Global,
@@ -501,14 +492,14 @@ fn no_call(
     scope: &Scope,
     faults: &mut Items<Fault>,
 ) -> Result<(), AllocError>
-    ensures { OnOk result (faults.new ≡ faults.old ++ (told_no_call scope.now name.now (expr_views exprs.now)).faults) }
+    ensures { OnOk result (faults.new ≡ faults.old ++ (spec_no_call scope.now name.now (expr_views exprs.now)).faults) }
 {
-    tell_no_function(alloc, scope, name, faults)?;
+    report_no_function(alloc, scope, name, faults)?;
     arguments(alloc, exprs, scope, faults)
 }
 
 /// The actuals of a call of a function with these formals: whether one of them is faulty, or their number, and their
-/// drafts.
+/// open expressions.
 #[cycle(walk)]
 pub fn actuals(
     alloc: Global,
@@ -516,19 +507,19 @@ pub fn actuals(
     formals: &[Formal],
     scope: &Scope,
     faults: &mut Items<Fault>,
-) -> Result<(bool, Items<Draft>), AllocError>
-    ensures is_faulty { IfOk result (λ r. r.0 ≡ (told_actuals formals.now (in_scope scope.now (expr_views exprs.now))).is_faulty) }
-    ensures drafts { IfOk result (λ r. r.1 ≡ drafted_items scope.now (expr_views exprs.now)) }
-    ensures faults { OnOk result (faults.new ≡ faults.old ++ (told_actuals formals.now (in_scope scope.now (expr_views exprs.now))).faults) }
+) -> Result<(bool, Items<OpenExpr>), AllocError>
+    ensures is_faulty { IfOk result (λ r. r.0 ≡ (spec_actuals formals.now (in_scope scope.now (expr_views exprs.now))).is_faulty) }
+    ensures open_exprs { IfOk result (λ r. r.1 ≡ spec_item_opens scope.now (expr_views exprs.now)) }
+    ensures faults { OnOk result (faults.new ≡ faults.old ++ (spec_actuals formals.now (in_scope scope.now (expr_views exprs.now))).faults) }
 {
     let mut readings = Readings::new(alloc);
     more_items(alloc, exprs, scope, &mut readings, faults)?;
     let is_faulty = matched(alloc, formals, readings.terms.as_slice(), faults)?;
-    Ok((is_faulty, readings.drafts))
+    Ok((is_faulty, readings.open_exprs))
 }
 
 /// What is read of a call of a function as an operand.
-#[tactic(auto, unfolding(crate::specs::Parts::function_call))]
+#[tactic(auto, unfolding(occ_expr_operations::specs::Parts::function_call))]
 #[cycle(walk)]
 fn function_call(
     alloc: Global,
@@ -539,24 +530,24 @@ fn function_call(
     scope: &Scope,
     faults: &mut Items<Fault>,
 ) -> Result<Reading, AllocError>
-    ensures term { IfOk result (λ whole. whole.term ≡ v.Single (told_function_call formals.now results.now (in_scope scope.now (expr_views exprs.now))).kind) }
-    ensures draft { IfOk result (λ whole. whole.draft ≡ operand_drafted (told_function_call formals.now results.now (in_scope scope.now (expr_views exprs.now))).kind (referent scope.now name.now) formals.now (drafted_items scope.now (expr_views exprs.now))) }
-    ensures faults { OnOk result (faults.new ≡ faults.old ++ (told_function_call formals.now results.now (in_scope scope.now (expr_views exprs.now))).faults) }
+    ensures term { IfOk result (λ whole. whole.term ≡ v.Single (spec_function_call formals.now results.now (in_scope scope.now (expr_views exprs.now))).kind) }
+    ensures open_expr { IfOk result (λ whole. whole.open_expr ≡ spec_operand_call (spec_function_call formals.now results.now (in_scope scope.now (expr_views exprs.now))).kind (referent scope.now name.now) formals.now (spec_item_opens scope.now (expr_views exprs.now))) }
+    ensures faults { OnOk result (faults.new ≡ faults.old ++ (spec_function_call formals.now results.now (in_scope scope.now (expr_views exprs.now))).faults) }
 {
-    let (is_faulty, drafts) = actuals(alloc, exprs, formals, scope, faults)?;
+    let (is_faulty, open_exprs) = actuals(alloc, exprs, formals, scope, faults)?;
     if is_faulty {
         return Ok(faulty_reading());
     }
     let kind = one_result(results, faults)?;
-    let draft = operand_call(alloc, scope, name, &kind, formals, drafts.as_slice())?;
+    let open_expr = operand_call(alloc, scope, name, &kind, formals, open_exprs.as_slice())?;
     Ok(Reading {
         term: Term::Single(kind),
-        draft,
+        open_expr,
     })
 }
 
 /// What is read of a call whose name stands for a type: it is a conversion, if it has one argument.
-#[tactic(auto, unfolding(crate::specs::Parts::no_call))]
+#[tactic(auto, unfolding(occ_expr_operations::specs::Parts::no_call))]
 #[cycle(walk)]
 fn call_of_type(
     alloc: Global,
@@ -566,9 +557,9 @@ fn call_of_type(
     scope: &Scope,
     faults: &mut Items<Fault>,
 ) -> Result<Reading, AllocError>
-    ensures term { IfOk result (λ whole. whole.term ≡ v.Single (told_call_of_type scope.now name.now (expr_views exprs.now) to.now (only_one (expr_views exprs.now))).kind) }
-    ensures draft { IfOk result (λ whole. whole.draft ≡ converted_call scope.now to.now (only_one (expr_views exprs.now))) }
-    ensures faults { OnOk result (faults.new ≡ faults.old ++ (told_call_of_type scope.now name.now (expr_views exprs.now) to.now (only_one (expr_views exprs.now))).faults) }
+    ensures term { IfOk result (λ whole. whole.term ≡ v.Single (spec_call_of_type scope.now name.now (expr_views exprs.now) to.now (spec_only (expr_views exprs.now))).kind) }
+    ensures open_expr { IfOk result (λ whole. whole.open_expr ≡ converted_call scope.now to.now (spec_only (expr_views exprs.now))) }
+    ensures faults { OnOk result (faults.new ≡ faults.old ++ (spec_call_of_type scope.now name.now (expr_views exprs.now) to.now (spec_only (expr_views exprs.now))).faults) }
 {
     let Some(expr) = only(exprs) else {
         no_call(alloc, name, exprs, scope, faults)?;
@@ -580,7 +571,7 @@ fn call_of_type(
 }
 
 /// What is read of a call: of a function, or a conversion, if it names a data type and has one argument.
-#[tactic(auto, unfolding(crate::specs::Parts::call, crate::specs::Parts::no_call, crate::specs::Views::call_draft))]
+#[tactic(auto, unfolding(occ_expr_operations::specs::Parts::call, occ_expr_operations::specs::Parts::no_call, occ_expr_operations::specs::Views::call_open))]
 #[cycle(walk)]
 fn call(
     alloc: Global,
@@ -589,9 +580,9 @@ fn call(
     scope: &Scope,
     faults: &mut Items<Fault>,
 ) -> Result<Reading, AllocError>
-    ensures term { IfOk result (λ whole. whole.term ≡ v.Single (told_call scope.now name.now (expr_views exprs.now)).kind) }
-    ensures draft { IfOk result (λ whole. whole.draft ≡ drafted_call scope.now name.now (expr_views exprs.now)) }
-    ensures faults { OnOk result (faults.new ≡ faults.old ++ (told_call scope.now name.now (expr_views exprs.now)).faults) }
+    ensures term { IfOk result (λ whole. whole.term ≡ v.Single (spec_call scope.now name.now (expr_views exprs.now)).kind) }
+    ensures open_expr { IfOk result (λ whole. whole.open_expr ≡ spec_call_open scope.now name.now (expr_views exprs.now)) }
+    ensures faults { OnOk result (faults.new ≡ faults.old ++ (spec_call scope.now name.now (expr_views exprs.now)).faults) }
 {
     match scope.find(name) {
         Some(Meaning::Type(to)) => call_of_type(alloc, name, exprs, to, scope, faults),
@@ -612,7 +603,7 @@ fn call(
 }
 
 /// What is read of an element.
-#[tactic(auto, using(crate::proofs::Views::element_rules))]
+#[tactic(auto, using(occ_expr_operations::proofs::Views::element_rules))]
 #[cycle(walk)]
 pub fn element(
     alloc: Global,
@@ -620,9 +611,9 @@ pub fn element(
     scope: &Scope,
     faults: &mut Items<Fault>,
 ) -> Result<ElementReading, AllocError>
-    ensures kind { IfOk result (λ read. read.kind ≡ ((element_view element.now).told scope.now).kind) }
+    ensures kind { IfOk result (λ read. read.kind ≡ ((element_view element.now).reported scope.now).kind) }
     ensures tree { IfOk result (λ read. read.tree ≡ (element_view element.now).tree scope.now) }
-    ensures faults { OnOk result (faults.new ≡ faults.old ++ ((element_view element.now).told scope.now).faults) }
+    ensures faults { OnOk result (faults.new ≡ faults.old ++ ((element_view element.now).reported scope.now).faults) }
 {
     match element {
         Element::Named(name, exprs) => named_element(alloc, name, exprs.as_slice(), scope, faults),
@@ -631,7 +622,7 @@ pub fn element(
 }
 
 /// What is read of an element that is a segment with subscripts. It stands by itself since its locals are many.
-#[tactic(auto, using(crate::proofs::Views::element_rules))]
+#[tactic(auto, using(occ_expr_operations::proofs::Views::element_rules))]
 #[cycle(walk)]
 fn segment_reading(
     alloc: Global,
@@ -639,9 +630,9 @@ fn segment_reading(
     scope: &Scope,
     faults: &mut Items<Fault>,
 ) -> Result<ElementReading, AllocError>
-    ensures kind { IfOk result (λ read. read.kind ≡ ((element_view element.now).told scope.now).kind) }
+    ensures kind { IfOk result (λ read. read.kind ≡ ((element_view element.now).reported scope.now).kind) }
     ensures tree { IfOk result (λ read. read.tree ≡ (element_view element.now).tree scope.now) }
-    ensures faults { OnOk result (faults.new ≡ faults.old ++ ((element_view element.now).told scope.now).faults) }
+    ensures faults { OnOk result (faults.new ≡ faults.old ++ ((element_view element.now).reported scope.now).faults) }
 {
     match element {
         Element::Named(name, exprs) => named_element(alloc, name, exprs.as_slice(), scope, faults),
@@ -655,7 +646,7 @@ fn segment_reading(
                 faults,
             )?;
             let selectors = Some(Items::new(alloc));
-            let (kind, behind) = subscripts(
+            let (kind, following) = subscripts(
                 alloc,
                 exprs.as_slice(),
                 segment,
@@ -663,7 +654,7 @@ fn segment_reading(
                 scope,
                 faults,
             )?;
-            let tree = part_of(&kind, inner.tree, selector, behind)?;
+            let tree = part_of(&kind, inner.tree, selector, following)?;
             Ok(ElementReading { kind, tree })
         }
     }
@@ -678,9 +669,9 @@ fn segment_within(
     scope: &Scope,
     faults: &mut Items<Fault>,
 ) -> Result<(Kind, Option<Selector>), AllocError>
-    ensures kind { IfOk result (λ r. r.0 ≡ (told_within ((bounds_view part.now).said scope.now) whole.now).kind) }
-    ensures selector { IfOk result (λ r. r.1 ≡ (bounds_view part.now).tree scope.now (the_components whole.now)) }
-    ensures faults { OnOk result (faults.new ≡ faults.old ++ (told_within ((bounds_view part.now).said scope.now) whole.now).faults) }
+    ensures kind { IfOk result (λ r. r.0 ≡ (spec_segment_within ((bounds_view part.now).said scope.now) whole.now).kind) }
+    ensures selector { IfOk result (λ r. r.1 ≡ (bounds_view part.now).tree scope.now (spec_components_of whole.now)) }
+    ensures faults { OnOk result (faults.new ≡ faults.old ++ (spec_segment_within ((bounds_view part.now).said scope.now) whole.now).faults) }
 {
     let components = components_of(whole);
     let BoundsReading {
@@ -694,7 +685,7 @@ fn segment_within(
 
 /// What is read of an element that is a whole expression: the conversion of a table of one item, if it names a data type
 /// and has one subscript.
-#[tactic(auto, using(crate::proofs::Views::element_rules))]
+#[tactic(auto, using(occ_expr_operations::proofs::Views::element_rules))]
 #[cycle(walk)]
 fn whole_element(
     alloc: Global,
@@ -703,7 +694,7 @@ fn whole_element(
     faults: &mut Items<Fault>,
 ) -> Result<Reading, AllocError>
     ensures term { IfOk result (λ read. read.term ≡ v.Single ((element_view whole.now).whole scope.now).kind) }
-    ensures draft { IfOk result (λ read. read.draft ≡ (element_view whole.now).whole_draft scope.now) }
+    ensures open_expr { IfOk result (λ read. read.open_expr ≡ (element_view whole.now).whole_open scope.now) }
     ensures faults { OnOk result (faults.new ≡ faults.old ++ ((element_view whole.now).whole scope.now).faults) }
 {
     match whole {
@@ -715,7 +706,7 @@ fn whole_element(
 }
 
 /// The same of a name with subscripts.
-#[tactic(auto, unfolding(crate::specs::Parts::whole_element, crate::specs::Views::whole_element_draft))]
+#[tactic(auto, unfolding(occ_expr_operations::specs::Parts::whole_element, occ_expr_operations::specs::Views::whole_element_open))]
 #[cycle(walk)]
 fn whole_named_element(
     alloc: Global,
@@ -724,9 +715,9 @@ fn whole_named_element(
     scope: &Scope,
     faults: &mut Items<Fault>,
 ) -> Result<Reading, AllocError>
-    ensures term { IfOk result (λ read. read.term ≡ v.Single (told_whole_element scope.now name.now (expr_views exprs.now)).kind) }
-    ensures draft { IfOk result (λ read. read.draft ≡ drafted_whole scope.now name.now (expr_views exprs.now)) }
-    ensures faults { OnOk result (faults.new ≡ faults.old ++ (told_whole_element scope.now name.now (expr_views exprs.now)).faults) }
+    ensures term { IfOk result (λ read. read.term ≡ v.Single (spec_whole_element scope.now name.now (expr_views exprs.now)).kind) }
+    ensures open_expr { IfOk result (λ read. read.open_expr ≡ spec_whole_element_open scope.now name.now (expr_views exprs.now)) }
+    ensures faults { OnOk result (faults.new ≡ faults.old ++ (spec_whole_element scope.now name.now (expr_views exprs.now)).faults) }
 {
     let (Some(Meaning::Type(to)), Some(expr)) = (scope.find(name), only(exprs)) else {
         let read = named_element(alloc, name, exprs, scope, faults)?;
@@ -738,7 +729,7 @@ fn whole_named_element(
 }
 
 /// A name with subscripts.
-#[tactic(auto, using(crate::proofs::Fields::front_rules), unfolding(crate::specs::Parts::named_element, crate::specs::Views::named_tree))]
+#[tactic(auto, using(occ_expr_operations::proofs::Fields::front_rules), unfolding(occ_expr_operations::specs::Parts::named_element, occ_expr_operations::specs::Views::named_tree))]
 #[cycle(walk)]
 fn named_element(
     alloc: Global,
@@ -747,9 +738,9 @@ fn named_element(
     scope: &Scope,
     faults: &mut Items<Fault>,
 ) -> Result<ElementReading, AllocError>
-    ensures kind { IfOk result (λ read. read.kind ≡ (told_named_element scope.now name.now (expr_views exprs.now)).kind) }
-    ensures tree { IfOk result (λ read. read.tree ≡ the_named_tree scope.now name.now (expr_views exprs.now)) }
-    ensures faults { OnOk result (faults.new ≡ faults.old ++ (told_named_element scope.now name.now (expr_views exprs.now)).faults) }
+    ensures kind { IfOk result (λ read. read.kind ≡ (spec_named_element scope.now name.now (expr_views exprs.now)).kind) }
+    ensures tree { IfOk result (λ read. read.tree ≡ spec_named_tree scope.now name.now (expr_views exprs.now)) }
+    ensures faults { OnOk result (faults.new ≡ faults.old ++ (spec_named_element scope.now name.now (expr_views exprs.now)).faults) }
 {
     let referent = scope.referent(name)?;
     let whole = referred(alloc, scope, name, &referent, faults)?;
@@ -759,8 +750,8 @@ fn named_element(
     Ok(ElementReading { kind, tree })
 }
 
-/// What subscripts select of what is known, and how, behind those that selected it.
-#[tactic(auto, using(crate::proofs::Fields::front_rules))]
+/// What subscripts select of what is known, and how, after those that selected it.
+#[tactic(auto, using(occ_expr_operations::proofs::Fields::front_rules))]
 #[cycle(walk)]
 fn subscripts(
     alloc: Global,
@@ -770,9 +761,9 @@ fn subscripts(
     scope: &Scope,
     faults: &mut Items<Fault>,
 ) -> Result<(Kind, Option<Items<Selector>>), AllocError>
-    ensures kind { IfOk result (λ r. r.0 ≡ (told_subscripts scope.now (expr_views exprs.now) kind).kind) }
-    ensures selectors { IfOk result (λ r. r.1 ≡ with_selectors selectors (the_selectors scope.now (expr_views exprs.now) kind)) }
-    ensures faults { OnOk result (faults.new ≡ faults.old ++ (told_subscripts scope.now (expr_views exprs.now) kind).faults) }
+    ensures kind { IfOk result (λ r. r.0 ≡ (spec_subscripts scope.now (expr_views exprs.now) kind).kind) }
+    ensures selectors { IfOk result (λ r. r.1 ≡ with_selectors selectors (spec_selectors scope.now (expr_views exprs.now) kind)) }
+    ensures faults { OnOk result (faults.new ≡ faults.old ++ (spec_subscripts scope.now (expr_views exprs.now) kind).faults) }
 {
     for expr in exprs {
         let (next, selector) = subscript(alloc, expr, &kind, scope, faults)?;
@@ -783,7 +774,7 @@ fn subscripts(
 }
 
 /// What a subscript selects of what is known, and how.
-#[tactic(auto, unfolding(crate::specs::Parts::subscript, crate::specs::Elements::selector))]
+#[tactic(auto, unfolding(occ_expr_operations::specs::Parts::subscript, occ_expr_operations::specs::Elements::selector))]
 #[cycle(walk)]
 fn subscript(
     alloc: Global,
@@ -792,45 +783,45 @@ fn subscript(
     scope: &Scope,
     faults: &mut Items<Fault>,
 ) -> Result<(Kind, Option<Selector>), AllocError>
-    ensures kind { IfOk result (λ r. r.0 ≡ (told_subscript scope.now (expr_view expr.now) whole.now).kind) }
-    ensures selector { IfOk result (λ r. r.1 ≡ the_selector scope.now (expr_view expr.now) whole.now) }
-    ensures faults { OnOk result (faults.new ≡ faults.old ++ (told_subscript scope.now (expr_view expr.now) whole.now).faults) }
+    ensures kind { IfOk result (λ r. r.0 ≡ (spec_subscript scope.now (expr_view expr.now) whole.now).kind) }
+    ensures selector { IfOk result (λ r. r.1 ≡ spec_selector scope.now (expr_view expr.now) whole.now) }
+    ensures faults { OnOk result (faults.new ≡ faults.old ++ (spec_subscript scope.now (expr_view expr.now) whole.now).faults) }
 {
     match whole {
         Kind::Known(found) => part(alloc, expr, found.of.get(), scope, faults),
         Kind::Faulty => {
-            behind_a_fault(alloc, expr, scope, faults)?;
+            after_a_fault(alloc, expr, scope, faults)?;
             Ok((Kind::Faulty, None))
         }
-        Kind::Free(_) => {
-            behind_a_fault(alloc, expr, scope, faults)?;
+        Kind::Untyped(_) => {
+            after_a_fault(alloc, expr, scope, faults)?;
             Ok((Kind::Faulty, None))
         }
     }
 }
 
-/// What is told of a subscript of what has a fault: a name alone may be a field's, and is not looked up.
-#[tactic(auto, unfolding(crate::specs::Parts::behind_a_fault))]
+/// What is reported of a subscript of what has a fault: a name alone may be a field's, and is not looked up.
+#[tactic(auto, unfolding(occ_expr_operations::specs::Parts::after_a_fault))]
 #[cycle(walk)]
-fn behind_a_fault(
+fn after_a_fault(
     alloc: Global,
     expr: &Expr,
     scope: &Scope,
     faults: &mut Items<Fault>,
 ) -> Result<(), AllocError>
-    ensures { OnOk result (faults.new ≡ faults.old ++ told_behind_a_fault scope.now (expr_view expr.now)) }
+    ensures { OnOk result (faults.new ≡ faults.old ++ spec_after_a_fault scope.now (expr_view expr.now)) }
 {
     if name_alone(expr).is_some() {
         return Ok(());
     }
     let read = expression(alloc, expr, scope, faults)?;
-    let told = tell_alone(alloc, &read.term, faults);
+    let reported = report_alone(alloc, &read.term, faults);
     drop(read);
-    told
+    reported
 }
 
 /// What a subscript selects of a value of a type, and how: of a record, a field.
-#[tactic(auto, unfolding(crate::specs::Parts::part))]
+#[tactic(auto, unfolding(occ_expr_operations::specs::Parts::part))]
 #[cycle(walk)]
 fn part(
     alloc: Global,
@@ -839,9 +830,9 @@ fn part(
     scope: &Scope,
     faults: &mut Items<Fault>,
 ) -> Result<(Kind, Option<Selector>), AllocError>
-    ensures kind { IfOk result (λ r. r.0 ≡ (told_part scope.now of.now (fields_in (no_names of.now)) (expr_view expr.now)).kind) }
-    ensures selector { IfOk result (λ r. r.1 ≡ selector_in scope.now (expr_view expr.now) (fields_in (no_names of.now)) (expr_view expr.now).name) }
-    ensures faults { OnOk result (faults.new ≡ faults.old ++ (told_part scope.now of.now (fields_in (no_names of.now)) (expr_view expr.now)).faults) }
+    ensures kind { IfOk result (λ r. r.0 ≡ (spec_part scope.now of.now (fields_in (spec_unnamed of.now)) (expr_view expr.now)).kind) }
+    ensures selector { IfOk result (λ r. r.1 ≡ selector_in scope.now (expr_view expr.now) (fields_in (spec_unnamed of.now)) (expr_view expr.now).name) }
+    ensures faults { OnOk result (faults.new ≡ faults.old ++ (spec_part scope.now of.now (fields_in (spec_unnamed of.now)) (expr_view expr.now)).faults) }
 {
     let (Some(fields), Some(name)) = (fields_of(unnamed(of)), name_alone(expr)) else {
         return component(alloc, expr, of, scope, faults);
@@ -852,7 +843,7 @@ fn part(
 }
 
 /// What a subscript selects that is no name of a field, and how.
-#[tactic(auto, unfolding(crate::specs::Parts::component))]
+#[tactic(auto, unfolding(occ_expr_operations::specs::Parts::component))]
 #[cycle(walk)]
 fn component(
     alloc: Global,
@@ -861,9 +852,9 @@ fn component(
     scope: &Scope,
     faults: &mut Items<Fault>,
 ) -> Result<(Kind, Option<Selector>), AllocError>
-    ensures kind { IfOk result (λ r. r.0 ≡ (told_component scope.now of.now (expr_view expr.now)).kind) }
-    ensures selector { IfOk result (λ r. r.1 ≡ selected_component (the_place scope.now (expr_view expr.now))) }
-    ensures faults { OnOk result (faults.new ≡ faults.old ++ (told_component scope.now of.now (expr_view expr.now)).faults) }
+    ensures kind { IfOk result (λ r. r.0 ≡ (spec_component scope.now of.now (expr_view expr.now)).kind) }
+    ensures selector { IfOk result (λ r. r.1 ≡ spec_component_at (spec_place_tree scope.now (expr_view expr.now))) }
+    ensures faults { OnOk result (faults.new ≡ faults.old ++ (spec_component scope.now of.now (expr_view expr.now)).faults) }
 {
     let place = expression(alloc, expr, scope, faults)?;
     let selected = component_of(alloc, &place, of, faults);
@@ -872,7 +863,7 @@ fn component(
 }
 
 /// The bounds of a segment of so many components, if their number is known.
-#[tactic(auto, using(crate::proofs::Views::bounds_rules))]
+#[tactic(auto, using(occ_expr_operations::proofs::Views::bounds_rules))]
 #[cycle(walk)]
 fn bounds(
     alloc: Global,
@@ -908,17 +899,17 @@ fn place_reading(
     faults: &mut Items<Fault>,
 ) -> Result<(Term, Option<Shared<TypedExpr>>), AllocError>
     ensures term { IfOk result (λ r. r.0 ≡ ((expr_view expr.now).said scope.now).term) }
-    ensures tree { IfOk result (λ r. r.1 ≡ the_place scope.now (expr_view expr.now)) }
+    ensures tree { IfOk result (λ r. r.1 ≡ spec_place_tree scope.now (expr_view expr.now)) }
     ensures faults { OnOk result (faults.new ≡ faults.old ++ ((expr_view expr.now).said scope.now).faults) }
 {
-    let Reading { term, draft } = expression(alloc, expr, scope, faults)?;
-    let tree = place_tree(alloc, &draft);
-    drop(draft);
+    let Reading { term, open_expr } = expression(alloc, expr, scope, faults)?;
+    let tree = place_tree(alloc, &open_expr);
+    drop(open_expr);
     Ok((term, tree?))
 }
 
 /// `FROM e` of so many components.
-#[tactic(auto, using(crate::proofs::Views::bounds_rules))]
+#[tactic(auto, using(occ_expr_operations::proofs::Views::bounds_rules))]
 #[cycle(walk)]
 fn from_reading(
     alloc: Global,
@@ -939,7 +930,7 @@ fn from_reading(
 }
 
 /// `FOR e` of so many components.
-#[tactic(auto, using(crate::proofs::Views::bounds_rules))]
+#[tactic(auto, using(occ_expr_operations::proofs::Views::bounds_rules))]
 #[cycle(walk)]
 fn for_reading(
     alloc: Global,
@@ -960,7 +951,7 @@ fn for_reading(
 }
 
 /// A type, if nothing is wrong with it.
-#[tactic(auto, using(crate::proofs::Views::type_form_rules))]
+#[tactic(auto, using(occ_expr_operations::proofs::Views::type_form_rules))]
 #[cycle(walk)]
 pub fn type_form(
     alloc: Global,
@@ -1001,22 +992,22 @@ pub fn type_form(
 }
 
 /// The data type of this name.
-#[tactic(auto, unfolding(crate::specs::Written::array_behind))]
+#[tactic(auto, unfolding(occ_expr_operations::specs::Written::array_after))]
 pub fn named_type(
     alloc: Global,
     name: &Name,
     scope: &Scope,
     faults: &mut Items<Fault>,
 ) -> Result<Option<Shared<OccType>>, AllocError>
-    ensures found { IfOk result (λ found. found ≡ (written_over [] (data_type_named name.now (visible scope.now name.now))).found) }
-    ensures faults { OnOk result (faults.new ≡ faults.old ++ (written_over [] (data_type_named name.now (visible scope.now name.now))).faults) }
+    ensures found { IfOk result (λ found. found ≡ (spec_array_over [] (spec_data_type name.now (visible scope.now name.now))).found) }
+    ensures faults { OnOk result (faults.new ≡ faults.old ++ (spec_array_over [] (spec_data_type name.now (visible scope.now name.now))).faults) }
 {
     let of = data_type(alloc, scope, name, faults)?;
     array_type(alloc, &[], of, faults)
 }
 
-/// An array of components of this type, if that has no fault, with these dimensions behind the others.
-#[tactic(auto, unfolding(crate::specs::Written::array_behind))]
+/// An array of components of this type, if that has no fault, with these dimensions after the others.
+#[tactic(auto, unfolding(occ_expr_operations::specs::Written::array_after))]
 #[cycle(walk)]
 fn array_over(
     alloc: Global,
@@ -1027,8 +1018,8 @@ fn array_over(
     scope: &Scope,
     faults: &mut Items<Fault>,
 ) -> Result<Option<Shared<OccType>>, AllocError>
-    ensures found { IfOk result (λ found. found ≡ (written_behind extents (each opening scope.now (dimension_views dims.now)) of).found) }
-    ensures faults { OnOk result (faults.new ≡ faults.old ++ (written_behind extents (each opening scope.now (dimension_views dims.now)) of).faults) }
+    ensures found { IfOk result (λ found. found ≡ (spec_array_after extents (each opening scope.now (dimension_views dims.now)) of).found) }
+    ensures faults { OnOk result (faults.new ≡ faults.old ++ (spec_array_after extents (each opening scope.now (dimension_views dims.now)) of).faults) }
 {
     dimensions(alloc, dims, opening, scope, &mut extents, faults)?;
     array_type(alloc, extents.as_slice(), of, faults)
@@ -1044,7 +1035,7 @@ fn dimensions(
     extents: &mut Items<Extent>,
     faults: &mut Items<Fault>,
 ) -> Result<(), AllocError>
-    ensures extents { OnOk result (extents.new ≡ extents.old ++ the_extents (each opening scope.now (dimension_views dims.now))) }
+    ensures extents { OnOk result (extents.new ≡ extents.old ++ spec_extents (each opening scope.now (dimension_views dims.now))) }
     ensures faults { OnOk result (faults.new ≡ faults.old ++ all_spanning_faults (each opening scope.now (dimension_views dims.now))) }
 {
     for one in dims {
@@ -1055,7 +1046,7 @@ fn dimensions(
 }
 
 /// A dimension of a type.
-#[tactic(auto, using(crate::proofs::Views::dimension_rules))]
+#[tactic(auto, using(occ_expr_operations::proofs::Views::dimension_rules))]
 #[cycle(walk)]
 fn dimension(
     alloc: Global,
@@ -1079,7 +1070,7 @@ fn dimension(
 }
 
 /// A type that begins with a reserved word.
-#[tactic(auto, using(crate::proofs::Views::builtin_rules))]
+#[tactic(auto, using(occ_expr_operations::proofs::Views::builtin_rules))]
 #[cycle(walk)]
 fn builtin(
     alloc: Global,
@@ -1125,7 +1116,7 @@ fn builtin(
 }
 
 /// A data type of these dimensions over this base, if nothing is wrong with it.
-#[tactic(auto, unfolding(crate::specs::Written::data_form))]
+#[tactic(auto, unfolding(occ_expr_operations::specs::Written::data_form))]
 #[cycle(walk)]
 pub fn data_form(
     alloc: Global,
@@ -1135,15 +1126,15 @@ pub fn data_form(
     scope: &Scope,
     faults: &mut Items<Fault>,
 ) -> Result<Option<Shared<OccType>>, AllocError>
-    ensures found { IfOk result (λ found. found ≡ (written_data scope.now (each opening scope.now (dimension_views dims.now)) base.now).found) }
-    ensures faults { OnOk result (faults.new ≡ faults.old ++ (written_data scope.now (each opening scope.now (dimension_views dims.now)) base.now).faults) }
+    ensures found { IfOk result (λ found. found ≡ (spec_data_form scope.now (each opening scope.now (dimension_views dims.now)) base.now).found) }
+    ensures faults { OnOk result (faults.new ≡ faults.old ++ (spec_data_form scope.now (each opening scope.now (dimension_views dims.now)) base.now).faults) }
 {
     let of = base_type(alloc, scope, base, faults)?;
     array_over(alloc, dims, Items::new(alloc), of, opening, scope, faults)
 }
 
 /// The type of a channel that carries what is named here: values of a data type, or those of a protocol.
-#[tactic(auto, unfolding(crate::specs::Written::channel))]
+#[tactic(auto, unfolding(occ_expr_operations::specs::Written::channel))]
 #[cycle(walk)]
 fn channel(
     alloc: Global,
@@ -1152,8 +1143,8 @@ fn channel(
     scope: &Scope,
     faults: &mut Items<Fault>,
 ) -> Result<Option<Shared<OccType>>, AllocError>
-    ensures found { IfOk result (λ found. found ≡ (written_channel scope.now (each opened.Refused scope.now (dimension_views dims.now)) base.now).found) }
-    ensures faults { OnOk result (faults.new ≡ faults.old ++ (written_channel scope.now (each opened.Refused scope.now (dimension_views dims.now)) base.now).faults) }
+    ensures found { IfOk result (λ found. found ≡ (spec_channel scope.now (each opened.Refused scope.now (dimension_views dims.now)) base.now).found) }
+    ensures faults { OnOk result (faults.new ≡ faults.old ++ (spec_channel scope.now (each opened.Refused scope.now (dimension_views dims.now)) base.now).faults) }
 {
     match (dims.split_first(), base) {
         (None, DataBase::Named(name)) => {
@@ -1171,7 +1162,7 @@ fn channel(
     }
 }
 
-/// A type that begins with a reserved word behind these dimensions, if nothing is wrong with it.
+/// A type that begins with a reserved word after these dimensions, if nothing is wrong with it.
 pub fn word_form(
     alloc: Global,
     dims: &[Dimension],
@@ -1180,14 +1171,14 @@ pub fn word_form(
     scope: &Scope,
     faults: &mut Items<Fault>,
 ) -> Result<Option<Shared<OccType>>, AllocError>
-    ensures found { IfOk result (λ found. found ≡ (written_over (each opening scope.now (dimension_views dims.now)) (builtin_view word.now scope.now)).found) }
-    ensures faults { OnOk result (faults.new ≡ faults.old ++ (written_over (each opening scope.now (dimension_views dims.now)) (builtin_view word.now scope.now)).faults) }
+    ensures found { IfOk result (λ found. found ≡ (spec_array_over (each opening scope.now (dimension_views dims.now)) (builtin_view word.now scope.now)).found) }
+    ensures faults { OnOk result (faults.new ≡ faults.old ++ (spec_array_over (each opening scope.now (dimension_views dims.now)) (builtin_view word.now scope.now)).faults) }
 {
     let of = builtin(alloc, word, scope, faults)?;
     array_over(alloc, dims, Items::new(alloc), of, opening, scope, faults)
 }
 
-/// The type of this name behind dimensions, of which there is a first one, if nothing is wrong with it.
+/// The type of this name after dimensions, of which there is a first one, if nothing is wrong with it.
 pub fn array_form(
     alloc: Global,
     first: &Dimension,
@@ -1197,8 +1188,8 @@ pub fn array_form(
     scope: &Scope,
     faults: &mut Items<Fault>,
 ) -> Result<Option<Shared<OccType>>, AllocError>
-    ensures found { IfOk result (λ found. found ≡ (written_over_more (dimension_view first.now opening scope.now) (each opening scope.now (dimension_views more.now)) (data_type_named name.now (visible scope.now name.now))).found) }
-    ensures faults { OnOk result (faults.new ≡ faults.old ++ (written_over_more (dimension_view first.now opening scope.now) (each opening scope.now (dimension_views more.now)) (data_type_named name.now (visible scope.now name.now))).faults) }
+    ensures found { IfOk result (λ found. found ≡ (spec_array_over_more (dimension_view first.now opening scope.now) (each opening scope.now (dimension_views more.now)) (spec_data_type name.now (visible scope.now name.now))).found) }
+    ensures faults { OnOk result (faults.new ≡ faults.old ++ (spec_array_over_more (dimension_view first.now opening scope.now) (each opening scope.now (dimension_views more.now)) (spec_data_type name.now (visible scope.now name.now))).faults) }
 {
     let of = data_type(alloc, scope, name, faults)?;
     let first = dimension(alloc, first, opening, scope, faults)?;

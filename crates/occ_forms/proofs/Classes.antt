@@ -4,13 +4,13 @@ use Rattle.std.specs.declared.alloc.AllocError.{AllocError}
 use Rattle.occ_lines.specs.declared.token.Symbol.TheVariants as s
 use Rattle.occ_lines.specs.declared.token.Token.{Token}
 use Rattle.occ_lines.specs.declared.token.Token.TheVariants as t
-use Rattle.occ_expression_forms.specs.declared.tree.Element.{Element}
-use Rattle.occ_expression_forms.specs.declared.tree.Expr.{Expr}
-use Rattle.occ_expression_forms.specs.Marks.{first_mark}
-use Rattle.occ_expression_forms.specs.declared.tree.TypeForm.{TypeForm}
-use Rattle.occ_expression_forms.specs.Spelling.{Spelling, element_then, expr_then, many, type_form_then}
-use Rattle.occ_expression_forms.proofs.Inner.{inner_type_form}
-use Rattle.occ_expression_forms.proofs.Marks.{PassesMarks, element_mark, expr_mark, type_form_mark}
+use Rattle.occ_forms_expressions.specs.declared.tree.Element.{Element}
+use Rattle.occ_forms_expressions.specs.declared.tree.Expr.{Expr}
+use Rattle.occ_forms_expressions.specs.Marks.{first_mark}
+use Rattle.occ_forms_expressions.specs.declared.tree.TypeForm.{TypeForm}
+use Rattle.occ_forms_expressions.specs.Spelling.{Spelling, element_then, expr_then, many, type_form_then}
+use Rattle.occ_forms_expressions.proofs.Inner.{inner_type_form}
+use Rattle.occ_forms_expressions.proofs.Marks.{PassesMarks, element_mark, expr_mark, type_form_mark}
 use Rattle.occ_forms.specs.declared.class.Class.{Class}
 use Rattle.occ_forms.specs.declared.class.Class.TheVariants as cl
 use Rattle.occ_forms.specs.declared.tree.Action.TheVariants as ac
@@ -26,16 +26,16 @@ use Rattle.occ_forms.specs.declared.tree.ConstructKind.TheVariants as ki
 use Rattle.occ_forms.specs.declared.tree.OutputItem.{OutputItem}
 use Rattle.occ_forms.specs.declared.tree.PartForm.TheVariants as pa
 use Rattle.occ_forms.specs.declared.tree.Replicator.{Replicator}
-use Rattle.occ_specification_forms.specs.Spelling.{colon, function_head_then, function_then, inlined_then, listed, name_then, next, recast_word, specified_tokens}
-use Rattle.occ_specification_forms.specs.declared.tree.FunctionHead.{FunctionHead}
-use Rattle.occ_specification_forms.specs.declared.tree.Head.TheVariants as he
-use Rattle.occ_specification_forms.specs.declared.tree.Inlined.{Inlined}
-use Rattle.occ_specification_forms.specs.declared.tree.Inlined.TheVariants as nl
-use Rattle.occ_specification_forms.specs.declared.tree.Recast.{Recast}
-use Rattle.occ_specification_forms.specs.declared.tree.Recast.TheVariants as rc
-use Rattle.occ_specification_forms.specs.declared.tree.Specification.TheVariants as sp
-use Rattle.occ_specification_forms.specs.declared.tree.Specified.{Specified}
-use Rattle.occ_specification_forms.specs.declared.tree.Specified.TheVariants as sd
+use Rattle.occ_forms.specs.SpecificationSpelling.{colon, function_head_then, function_then, inlined_then, listed, name_then, next, recast_word, specified_tokens}
+use Rattle.occ_forms.specs.declared.specification_tree.FunctionHead.{FunctionHead}
+use Rattle.occ_forms.specs.declared.specification_tree.Head.TheVariants as he
+use Rattle.occ_forms.specs.declared.specification_tree.Inlined.{Inlined}
+use Rattle.occ_forms.specs.declared.specification_tree.Inlined.TheVariants as nl
+use Rattle.occ_forms.specs.declared.specification_tree.Recast.{Recast}
+use Rattle.occ_forms.specs.declared.specification_tree.Recast.TheVariants as rc
+use Rattle.occ_forms.specs.declared.specification_tree.Specification.TheVariants as sp
+use Rattle.occ_forms.specs.declared.specification_tree.Specified.{Specified}
+use Rattle.occ_forms.specs.declared.specification_tree.Specified.TheVariants as sd
 use Rattle.occ_lines.specs.declared.token.Word.TheVariants as w
 use Rattle.occ_forms.specs.inside.Classes.{class_at, class_of}
 use Rattle.occ_forms.specs.Reading.{IsFormOf}

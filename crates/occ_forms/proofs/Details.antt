@@ -5,36 +5,36 @@ use Rattle.occ_lines.specs.declared.token.Symbol.TheVariants as s
 use Rattle.occ_lines.specs.declared.token.Token.{Token}
 use Rattle.occ_lines.specs.declared.token.Token.TheVariants as t
 use Rattle.occ_lines.specs.declared.token.Word.TheVariants as w
-use Rattle.occ_expression_forms.specs.declared.bracket.Closing.TheVariants as cl
-use Rattle.occ_expression_forms.specs.declared.tree.Bounds.{Bounds}
-use Rattle.occ_expression_forms.specs.declared.tree.Bounds.TheOpen.{TypeForm-F}
-use Rattle.occ_expression_forms.specs.declared.tree.Bounds.TheViews.{out-roll-TypeForm}
-use Rattle.occ_expression_forms.specs.declared.tree.Builtin.{Builtin}
-use Rattle.occ_expression_forms.specs.declared.tree.Builtin.TheVariants as uv
-use Rattle.occ_expression_forms.specs.declared.tree.ChannelWords.{ChannelWords}
-use Rattle.occ_expression_forms.specs.declared.tree.ChannelWords.TheVariants as ch
-use Rattle.occ_expression_forms.specs.declared.tree.DataBase.{DataBase}
-use Rattle.occ_expression_forms.specs.declared.tree.DataBase.TheVariants as da
-use Rattle.occ_expression_forms.specs.declared.tree.DataForm.{DataForm}
-use Rattle.occ_expression_forms.specs.declared.tree.Dimension.{Dimension}
-use Rattle.occ_expression_forms.specs.declared.tree.Element.{Element}
-use Rattle.occ_expression_forms.specs.declared.tree.Element.TheVariants as ev
-use Rattle.occ_expression_forms.specs.declared.tree.Expr.{Expr}
-use Rattle.occ_expression_forms.specs.declared.tree.Expr.TheVariants as xv
-use Rattle.occ_expression_forms.specs.declared.tree.NamedOperand.{NamedOperand}
-use Rattle.occ_expression_forms.specs.declared.tree.Operand.{Operand}
-use Rattle.occ_expression_forms.specs.declared.tree.Operand.TheVariants as ov
-use Rattle.occ_expression_forms.specs.declared.tree.PrimitiveWord.{PrimitiveWord}
-use Rattle.occ_expression_forms.specs.declared.tree.TypeForm.{TypeForm, out-TypeForm}
-use Rattle.occ_expression_forms.specs.declared.tree.TypeForm.TheVariants as tv
-use Rattle.occ_expression_forms.specs.inside.Brackets.{bounds_begin, closing_then}
-use Rattle.occ_expression_forms.specs.Reading.{IsNotCounted, Reads, ends_expr, is_counted}
-use Rattle.occ_expression_forms.specs.Spelling.{bounds_then, builtin_then, channel_words, counted_array, data_base_token, data_form_then, dimension_then, element_then, expr_then, many, subscript_of, type_form_then}
-use Rattle.occ_expression_forms.proofs.Begins.{no_expr}
-use Rattle.occ_expression_forms.proofs.Cases.{BoundsIs, bounds_is, bounds_is_for, bounds_is_from, bounds_is_from_for, bounds_for_spells, bounds_from_for_spells, bounds_from_spells, BuiltinIs, builtin_is, builtin_is_any_channel, builtin_is_channel, builtin_is_counted, builtin_is_primitive, builtin_is_timer, builtin_any_channel_spells, builtin_channel_spells, builtin_counted_spells, builtin_primitive_spells, builtin_timer_spells, DimensionIs, dimension_is, dimension_is_open, dimension_is_sized, dimension_open_spells, dimension_sized_spells, ElementIs, element_is, element_is_named, element_is_segment, element_named_spells, element_segment_spells, expr_alone_spells, operand_element_spells, type_form_builtin_spells}
-use Rattle.occ_expression_forms.proofs.Closings.{closing_ends}
-use Rattle.occ_expression_forms.proofs.Dimensions.{base_ends, builtin_ends, data_word, dimension_begins}
-use Rattle.occ_expression_forms.proofs.UniqueExprs.{one_dimension_of, one_expr}
+use Rattle.occ_forms_expressions.specs.declared.bracket.Closing.TheVariants as cl
+use Rattle.occ_forms_expressions.specs.declared.tree.Bounds.{Bounds}
+use Rattle.occ_forms_expressions.specs.declared.tree.Bounds.TheOpen.{TypeForm-F}
+use Rattle.occ_forms_expressions.specs.declared.tree.Bounds.TheViews.{out-roll-TypeForm}
+use Rattle.occ_forms_expressions.specs.declared.tree.Builtin.{Builtin}
+use Rattle.occ_forms_expressions.specs.declared.tree.Builtin.TheVariants as uv
+use Rattle.occ_forms_expressions.specs.declared.tree.ChannelWords.{ChannelWords}
+use Rattle.occ_forms_expressions.specs.declared.tree.ChannelWords.TheVariants as ch
+use Rattle.occ_forms_expressions.specs.declared.tree.DataBase.{DataBase}
+use Rattle.occ_forms_expressions.specs.declared.tree.DataBase.TheVariants as da
+use Rattle.occ_forms_expressions.specs.declared.tree.DataForm.{DataForm}
+use Rattle.occ_forms_expressions.specs.declared.tree.Dimension.{Dimension}
+use Rattle.occ_forms_expressions.specs.declared.tree.Element.{Element}
+use Rattle.occ_forms_expressions.specs.declared.tree.Element.TheVariants as ev
+use Rattle.occ_forms_expressions.specs.declared.tree.Expr.{Expr}
+use Rattle.occ_forms_expressions.specs.declared.tree.Expr.TheVariants as xv
+use Rattle.occ_forms_expressions.specs.declared.tree.NamedOperand.{NamedOperand}
+use Rattle.occ_forms_expressions.specs.declared.tree.Operand.{Operand}
+use Rattle.occ_forms_expressions.specs.declared.tree.Operand.TheVariants as ov
+use Rattle.occ_forms_expressions.specs.declared.tree.PrimitiveWord.{PrimitiveWord}
+use Rattle.occ_forms_expressions.specs.declared.tree.TypeForm.{TypeForm, out-TypeForm}
+use Rattle.occ_forms_expressions.specs.declared.tree.TypeForm.TheVariants as tv
+use Rattle.occ_forms_expressions.specs.inside.Brackets.{bounds_begin, closing_then}
+use Rattle.occ_forms_expressions.specs.Reading.{IsNotCounted, Reads, ends_expr, is_counted}
+use Rattle.occ_forms_expressions.specs.Spelling.{bounds_then, builtin_then, channel_words, counted_array, data_base_token, data_form_then, dimension_then, element_then, expr_then, many, subscript_of, type_form_then}
+use Rattle.occ_forms_expressions.proofs.Begins.{no_expr}
+use Rattle.occ_forms_expressions.proofs.Cases.{BoundsIs, bounds_is, bounds_is_for, bounds_is_from, bounds_is_from_for, bounds_for_spells, bounds_from_for_spells, bounds_from_spells, BuiltinIs, builtin_is, builtin_is_any_channel, builtin_is_channel, builtin_is_counted, builtin_is_primitive, builtin_is_timer, builtin_any_channel_spells, builtin_channel_spells, builtin_counted_spells, builtin_primitive_spells, builtin_timer_spells, DimensionIs, dimension_is, dimension_is_open, dimension_is_sized, dimension_open_spells, dimension_sized_spells, ElementIs, element_is, element_is_named, element_is_segment, element_named_spells, element_segment_spells, expr_alone_spells, operand_element_spells, type_form_builtin_spells}
+use Rattle.occ_forms_expressions.proofs.Closings.{closing_ends}
+use Rattle.occ_forms_expressions.proofs.Dimensions.{base_ends, builtin_ends, data_word, dimension_begins}
+use Rattle.occ_forms_expressions.proofs.UniqueExprs.{one_dimension_of, one_expr}
 use Rattle.occ_forms.specs.declared.tree.Detail.{Detail}
 use Rattle.occ_forms.specs.declared.tree.Detail.TheVariants as de
 use Rattle.occ_forms.specs.inside.Details.{typed_of}
@@ -42,8 +42,8 @@ use Rattle.occ_forms.specs.Reading.{IsItemEnd, ends_item}
 use Rattle.occ_forms.specs.Spelling.{counted, detail_then}
 use Rattle.occ_forms.proofs.Ends.{count_ends}
 
-behind_token : (token : Token) (j k : List Token) → token ∷ j ≡ token ∷ k → j ≡ k
-behind_token token j k e = cc
+after_token : (token : Token) (j k : List Token) → token ∷ j ≡ token ∷ k → j ≡ k
+after_token token j k e = cc
 
 bounds_begins : (b : Bounds) (k : List Token) → bounds_begin (bounds_then b k) ≡ true
 bounds_begins b k = by b k (bounds_is b) where
@@ -66,9 +66,9 @@ segment_no_dimension el b es k d j e = by (dimension_is d) where
 
   by : DimensionIs d → ⊥
   by (dimension_is_open q) = let h = sym (segment_begins el b es k) ∙ e ∙ ap (λ (x : Dimension). dimension_then x j) q ∙ dimension_open_spells j in
-      no_expr (xv.Alone (ov.Element el)) _ (t.Symbol s.CloseIndex ∷ j) refl (sym (behind_token _ _ _ h))
+      no_expr (xv.Alone (ov.Element el)) _ (t.Symbol s.CloseIndex ∷ j) refl (sym (after_token _ _ _ h))
   by (dimension_is_sized x q) = let h = sym (segment_begins el b es k) ∙ e ∙ ap (λ (y : Dimension). dimension_then y j) q ∙ dimension_sized_spells x j in
-      let m = one_expr (xv.Alone (ov.Element el)) x (closing_then (cl.Segment b es) k) (t.Symbol s.CloseIndex ∷ j) (closing_ends (cl.Segment b es) k) refl (behind_token _ _ _ h) in
+      let m = one_expr (xv.Alone (ov.Element el)) x (closing_then (cl.Segment b es) k) (t.Symbol s.CloseIndex ∷ j) (closing_ends (cl.Segment b es) k) refl (after_token _ _ _ h) in
       let c : true ≡ false = sym (bounds_begins b _) ∙ ap bounds_begin m.1 in absurd cc
 
 -- nor is any element spelled as an array's type
@@ -127,13 +127,13 @@ builtin_form tokens form rest ds b k found read e = let h = data_primitive form.
     let m = read (record { dimensions = ds; base = da.Primitive h.0 }) k (e ∙ ap (λ (x : Builtin). many dimension_then ds (builtin_then x k)) h.1 ∙ ap (many dimension_then ds) (builtin_primitive_spells h.0 k)) in
     (h.0, h.1, m.0, m.1)
 
--- `::[]` stands behind no part
+-- `::[]` stands after no part
 pub no_count : (begun k : List Token) → IsItemEnd k → k ≡ counted_array begun → ⊥
 no_count begun k ends e = let h : true ≡ false = sym ends ∙ ap ends_item e in absurd cc
 
-no_count_behind : (begun k : List Token) (es : List Expr) → ends_item k ≡ true → many subscript_of es k ≡ counted_array begun → ⊥
-no_count_behind begun k [] ends e = no_count begun k ends e
-no_count_behind begun k (x ∷ es) ends e = absurd cc
+no_count_after : (begun k : List Token) (es : List Expr) → ends_item k ≡ true → many subscript_of es k ≡ counted_array begun → ⊥
+no_count_after begun k [] ends e = no_count begun k ends e
+no_count_after begun k (x ∷ es) ends e = absurd cc
 
 no_count_between : (begun k : List Token) (es : List Expr) (array : Element) → many subscript_of es (t.Symbol s.Counted ∷ element_then array k) ≡ counted_array begun → ⊥
 no_count_between begun k [] array e = let h : true ≡ false = sym (count_ends array k) ∙ ap ends_expr e in absurd cc
@@ -153,7 +153,7 @@ count_inside a b q = cc
 -- where `::[]` follows the data type, the part is a counted array of that count
 pub counted_part : (tokens : List Token) (form : DataForm) (rest begun : List Token) → tokens ≡ data_form_then form rest → IsFormRead tokens form rest → rest ≡ counted_array begun
     → (x : Detail) (k : List Token) → IsItemEnd k → tokens ≡ detail_then x k → (c : DataForm) × (de.CountedType form c ≡ x) × (begun ≡ data_form_then c k)
-counted_part tokens form rest begun found read is (de.Element el) k ends e = let h = element_name tokens form rest el k found read e in absurd (no_count_behind begun k h.1 ends (sym h.3 ∙ is))
+counted_part tokens form rest begun found read is (de.Element el) k ends e = let h = element_name tokens form rest el k found read e in absurd (no_count_after begun k h.1 ends (sym h.3 ∙ is))
 counted_part tokens form rest begun found read is (de.Counted el array) k ends e = let h = element_name tokens form rest el _ found read e in absurd (no_count_between begun k h.1 array (sym h.3 ∙ is))
 counted_part tokens form rest begun found read is (de.Array d ds n) k ends e = let h = read (record { dimensions = d ∷ ds; base = da.Named n }) k e in absurd (no_count begun k ends (sym h.1 ∙ is))
 counted_part tokens form rest begun found read is (de.Builtin ds b) k ends e = let h = builtin_form tokens form rest ds b k found read e in absurd (no_count begun k ends (sym h.3 ∙ is))

@@ -3,10 +3,10 @@ use Rattle.std.proofs.Common.{◌≡◌, ◌∙◌, refl, ap, true, List, [], �
 use Rattle.occ_lines.specs.declared.token.Symbol.TheVariants as s
 use Rattle.occ_lines.specs.declared.token.Token.{Token}
 use Rattle.occ_lines.specs.declared.token.Token.TheVariants as t
-use Rattle.occ_expression_forms.specs.declared.tree.Element.{Element}
-use Rattle.occ_expression_forms.specs.Reading.{IsEnd, ends_expr}
-use Rattle.occ_expression_forms.specs.Spelling.{element_then}
-use Rattle.occ_expression_forms.proofs.Cases.{ElementIs, element_is, element_is_named, element_is_segment, element_named_spells, element_segment_spells}
+use Rattle.occ_forms_expressions.specs.declared.tree.Element.{Element}
+use Rattle.occ_forms_expressions.specs.Reading.{IsEnd, ends_expr}
+use Rattle.occ_forms_expressions.specs.Spelling.{element_then}
+use Rattle.occ_forms_expressions.proofs.Cases.{ElementIs, element_is, element_is_named, element_is_segment, element_named_spells, element_segment_spells}
 use Rattle.occ_forms.specs.Reading.{IsItemEnd}
 
 -- what ends an item of a list ends an element

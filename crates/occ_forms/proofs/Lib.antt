@@ -1,3 +1,12 @@
+pub mod Groups
+pub mod SpecificationLists
+pub mod Named
+pub mod NoForm
+pub mod Once
+pub mod OneTree
+pub mod Results
+pub mod Starts
+pub mod Types
 pub mod Classes
 pub mod Deep
 pub mod Details

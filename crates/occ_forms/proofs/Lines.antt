@@ -1,9 +1,9 @@
 -- Lines, step by step as they are read.
 use Rattle.std.proofs.Common.{◌≡◌, List, [], ◌∷◌, refl, sym, ◌∙◌}
 use Rattle.occ_lines.specs.declared.token.Token.{Token}
-use Rattle.occ_expression_forms.specs.declared.tree.Expr.{Expr}
-use Rattle.occ_expression_forms.specs.Spelling.{expr_then}
-use Rattle.occ_expression_forms.proofs.Begins.{no_expr}
+use Rattle.occ_forms_expressions.specs.declared.tree.Expr.{Expr}
+use Rattle.occ_forms_expressions.specs.Spelling.{expr_then}
+use Rattle.occ_forms_expressions.proofs.Begins.{no_expr}
 
 -- an expression is not without tokens
 pub no_empty : {Z : Type 0} (token : Token) (tokens rest : List Token) (x : Expr) → tokens ≡ token ∷ rest → rest ≡ [] → tokens ≡ token ∷ expr_then x [] → Z

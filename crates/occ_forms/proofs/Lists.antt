@@ -4,7 +4,7 @@ use Rattle.occ_lines.specs.declared.token.Symbol.{Symbol}
 use Rattle.occ_lines.specs.declared.token.Symbol.TheVariants as s
 use Rattle.occ_lines.specs.declared.token.Token.{Token}
 use Rattle.occ_lines.specs.declared.token.Token.TheVariants as t
-use Rattle.occ_expression_forms.specs.Reading.{IsEnd, IsNot}
+use Rattle.occ_forms_expressions.specs.Reading.{IsEnd, IsNot}
 
 -- no separator stands at the end of a line
 pub no_more : (separator : Symbol) → IsNot separator []

@@ -5,15 +5,15 @@ use Rattle.occ_lines.specs.declared.token.Token.{Token}
 use Rattle.occ_lines.specs.declared.token.Token.TheVariants as t
 use Rattle.occ_lines.specs.declared.token.Word.{Word}
 use Rattle.occ_lines.specs.declared.token.Word.TheVariants as w
-use Rattle.occ_expression_forms.specs.declared.tree.Element.{Element}
-use Rattle.occ_expression_forms.specs.declared.tree.Expr.{Expr}
-use Rattle.occ_expression_forms.specs.Reading.{IsEnd}
-use Rattle.occ_expression_forms.specs.Spelling.{element_then, expr_then}
-use Rattle.occ_expression_forms.proofs.UniqueExprs.{one_expr}
-use Rattle.occ_specification_forms.specs.declared.tree.Specified.{Specified}
-use Rattle.occ_specification_forms.proofs.Lists.{ListEnds}
-use Rattle.occ_specification_forms.proofs.Once.{element_once, listed_once, more_once, named_once, same_behind}
-use Rattle.occ_specification_forms.proofs.OneTree.{one_tree}
+use Rattle.occ_forms_expressions.specs.declared.tree.Element.{Element}
+use Rattle.occ_forms_expressions.specs.declared.tree.Expr.{Expr}
+use Rattle.occ_forms_expressions.specs.Reading.{IsEnd}
+use Rattle.occ_forms_expressions.specs.Spelling.{element_then, expr_then}
+use Rattle.occ_forms_expressions.proofs.UniqueExprs.{one_expr}
+use Rattle.occ_forms.specs.declared.specification_tree.Specified.{Specified}
+use Rattle.occ_forms.proofs.SpecificationLists.{ListEnds}
+use Rattle.occ_forms.proofs.Once.{element_once, listed_once, more_once, named_once, same_after}
+use Rattle.occ_forms.proofs.OneTree.{one_tree}
 use Rattle.occ_forms.specs.declared.class.Class.{Class}
 use Rattle.occ_forms.specs.declared.class.Class.TheVariants as cl
 use Rattle.occ_forms.specs.declared.input.Received.{Received}
@@ -58,7 +58,7 @@ one_list x y xs ys e = let h = listed_once s.Comma expr_then IsEnd (λ z k. refl
 
 -- what is received
 from_once : (a b : Element) (j k : List Token) → element_then a (t.Symbol s.Input ∷ j) ≡ element_then b (t.Symbol s.Input ∷ k) → (a ≡ b) × (j ≡ k)
-from_once a b j k e = let h = element_once a b _ _ refl refl e in (h.0, same_behind _ _ _ h.1)
+from_once a b j k e = let h = element_once a b _ _ refl refl e in (h.0, same_after _ _ _ h.1)
 
 item_no_word : {Z : Type 0} (x : InputItem) (k : List Token) (word : Word) (rest : List Token) → input_item_then x k ≡ t.Word word ∷ rest → Z
 item_no_word x k word rest e = absurd (input_item_no_word x k word rest e)
@@ -74,7 +74,7 @@ one_received (re.Input (ip.Plain a x xs)) (re.Case b) e = item_no_word x _ w.Cas
 one_received (re.Input (ip.After a x)) (re.Input (ip.Plain b y ys)) e = item_no_word y _ w.After _ (sym (from_once a b _ _ e).1)
 one_received (re.Input (ip.After a x)) (re.Input (ip.After b y)) e =
     let f = from_once a b _ _ e in
-    let h = one_expr x y [] [] refl refl (same_behind _ _ _ f.1) in
+    let h = one_expr x y [] [] refl refl (same_after _ _ _ f.1) in
     ap (λ (z : Element). re.Input (ip.After z x)) f.0 ∙ ap (λ (z : Expr). re.Input (ip.After b z)) h.0
 one_received (re.Input (ip.After a x)) (re.Input (ip.Tagged b n ys)) e = let h = (from_once a b _ _ e).1 in absurd cc
 one_received (re.Input (ip.After a x)) (re.Case b) e = let h = (from_once a b _ _ e).1 in absurd cc
@@ -82,13 +82,13 @@ one_received (re.Input (ip.Tagged a n xs)) (re.Input (ip.Plain b y ys)) e = item
 one_received (re.Input (ip.Tagged a n xs)) (re.Input (ip.After b y)) e = let h = (from_once a b _ _ e).1 in absurd cc
 one_received (re.Input (ip.Tagged a n xs)) (re.Input (ip.Tagged b m ys)) e =
     let f = from_once a b _ _ e in
-    let g = named_once n m _ _ (same_behind _ _ _ f.1) in
+    let g = named_once n m _ _ (same_after _ _ _ f.1) in
     let h = more_once s.Semicolon input_item_then IsItemEnd (λ z k. refl) input_item_once xs ys [] [] semicolon_ends semicolon_ends g.1 in
     ap (λ (z : Element). re.Input (ip.Tagged z n xs)) f.0 ∙ ap (λ (z : List ℕ). re.Input (ip.Tagged b z xs)) g.0 ∙ ap (λ (z : List InputItem). re.Input (ip.Tagged b m z)) h.0
-one_received (re.Input (ip.Tagged a n xs)) (re.Case b) e = let h = same_behind _ _ _ (from_once a b _ _ e).1 in absurd cc
+one_received (re.Input (ip.Tagged a n xs)) (re.Case b) e = let h = same_after _ _ _ (from_once a b _ _ e).1 in absurd cc
 one_received (re.Case a) (re.Input (ip.Plain b y ys)) e = item_no_word y _ w.Case _ (sym (from_once a b _ _ e).1)
 one_received (re.Case a) (re.Input (ip.After b y)) e = let h = (from_once a b _ _ e).1 in absurd cc
-one_received (re.Case a) (re.Input (ip.Tagged b n ys)) e = let h = same_behind _ _ _ (from_once a b _ _ e).1 in absurd cc
+one_received (re.Case a) (re.Input (ip.Tagged b n ys)) e = let h = same_after _ _ _ (from_once a b _ _ e).1 in absurd cc
 one_received (re.Case a) (re.Case b) e = ap (λ (z : Element). re.Case z) (from_once a b _ _ e).0
 
 one_input : (a b : Input) → received_tokens (re.Input a) ≡ received_tokens (re.Input b) → a ≡ b
@@ -100,7 +100,7 @@ one_case a b e = let h = one_received (re.Case a) (re.Case b) e in (cc)
 no_input_case : {Z : Type 0} (a : Input) (b : Element) → received_tokens (re.Input a) ≡ received_tokens (re.Case b) → Z
 no_input_case a b e = let h = one_received (re.Input a) (re.Case b) e in absurd cc
 
--- what stands behind a guard
+-- what stands after a guard
 received_no_word : {Z : Type 0} (x : Received) (word : Word) (rest : List Token) → received_tokens x ≡ t.Word word ∷ rest → Z
 received_no_word (re.Input (ip.Plain el x xs)) word rest e = absurd (element_no_word el _ word rest e)
 received_no_word (re.Input (ip.After el x)) word rest e = absurd (element_no_word el _ word rest e)
@@ -118,14 +118,14 @@ one_guarded (gu.CaseInput a) gu.Skip e = received_no_word (re.Case a) w.Skip [] 
 one_guarded (gu.CaseInput a) (gu.Input b) e = no_input_case b a (sym e)
 one_guarded (gu.CaseInput a) (gu.CaseInput b) e = ap (λ (z : Element). gu.CaseInput z) (one_case a b e)
 
--- the words of a construct, and what stands behind them
-abbrev behind_pri : Word → List Token → Option (ConstructKind × List Token)
-behind_pri w.Par k = Some (ki.PriParallel, k)
-behind_pri w.Alt k = Some (ki.PriAlternation, k)
-behind_pri other k = None
+-- the words of a construct, and what stands after them
+abbrev following_pri : Word → List Token → Option (ConstructKind × List Token)
+following_pri w.Par k = Some (ki.PriParallel, k)
+following_pri w.Alt k = Some (ki.PriAlternation, k)
+following_pri other k = None
 
 abbrev after_pri : List Token → Option (ConstructKind × List Token)
-after_pri (t.Word word ∷ k) = behind_pri word k
+after_pri (t.Word word ∷ k) = following_pri word k
 after_pri other = None
 
 abbrev at_word : Word → List Token → Option (ConstructKind × List Token)
@@ -165,22 +165,22 @@ one_replicator None (Some r) e = absurd cc
 one_replicator (Some r) None e = absurd cc
 one_replicator (Some r) (Some q) e =
     let n = named_once r.name q.name _ _ e in
-    let b = one_expr r.base q.base _ _ refl refl (same_behind _ _ _ n.1) in
-    let c = one_expr r.count q.count [] [] refl refl (same_behind _ _ _ b.1) in
+    let b = one_expr r.base q.base _ _ refl refl (same_after _ _ _ n.1) in
+    let c = one_expr r.count q.count [] [] refl refl (same_after _ _ _ b.1) in
     ap (λ (z : Replicator). Some z) (replicator_same r q n.0 b.0 c.0)
 
 -- each form against its like
 assignments : (a b : Element) (fs gs : List Element) (x y : Expr) (xs ys : List Expr) → form_tokens (fo.Action (ac.Assignment a fs x xs)) ≡ form_tokens (fo.Action (ac.Assignment b gs y ys)) → fo.Action (ac.Assignment a fs x xs) ≡ fo.Action (ac.Assignment b gs y ys)
 assignments a b fs gs x y xs ys e =
     let h = listed_once s.Comma element_then IsEnd (λ z k. refl) element_once a b fs gs _ _ (values_follow _) (values_follow _) e in
-    let i = one_list x y xs ys (same_behind _ _ _ h.2) in
+    let i = one_list x y xs ys (same_after _ _ _ h.2) in
     ap (λ (z : Element). fo.Action (ac.Assignment z fs x xs)) h.0 ∙ ap (λ (z : List Element). fo.Action (ac.Assignment b z x xs)) h.1
     ∙ ap (λ (z : Expr). fo.Action (ac.Assignment b gs z xs)) i.0 ∙ ap (λ (z : List Expr). fo.Action (ac.Assignment b gs y z)) i.1
 
 outputs : (a b : Element) (x y : OutputItem) (xs ys : List OutputItem) → form_tokens (fo.Action (ac.Output a x xs)) ≡ form_tokens (fo.Action (ac.Output b y ys)) → fo.Action (ac.Output a x xs) ≡ fo.Action (ac.Output b y ys)
 outputs a b x y xs ys e =
     let h = element_once a b _ _ refl refl e in
-    let i = listed_once s.Semicolon output_item_then IsItemEnd (λ z k. refl) output_item_once x y xs ys [] [] semicolon_ends semicolon_ends (same_behind _ _ _ h.1) in
+    let i = listed_once s.Semicolon output_item_then IsItemEnd (λ z k. refl) output_item_once x y xs ys [] [] semicolon_ends semicolon_ends (same_after _ _ _ h.1) in
     ap (λ (z : Element). fo.Action (ac.Output z x xs)) h.0 ∙ ap (λ (z : OutputItem). fo.Action (ac.Output b z xs)) i.0 ∙ ap (λ (z : List OutputItem). fo.Action (ac.Output b y z)) i.1
 
 replicables : (k l : ConstructKind) (r q : Option Replicator) → form_tokens (fo.Construct (co.Replicable k r)) ≡ form_tokens (fo.Construct (co.Replicable l q)) → fo.Construct (co.Replicable k r) ≡ fo.Construct (co.Replicable l q)
@@ -191,24 +191,24 @@ replicables k l r q e =
 guards : (x y : Expr) (a b : Guarded) → form_tokens (fo.Part (pa.Guard x a)) ≡ form_tokens (fo.Part (pa.Guard y b)) → fo.Part (pa.Guard x a) ≡ fo.Part (pa.Guard y b)
 guards x y a b e =
     let h = one_expr x y _ _ refl refl e in
-    ap (λ (z : Expr). fo.Part (pa.Guard z a)) h.0 ∙ ap (λ (z : Guarded). fo.Part (pa.Guard y z)) (one_guarded a b (same_behind _ _ _ h.1))
+    ap (λ (z : Expr). fo.Part (pa.Guard z a)) h.0 ∙ ap (λ (z : Guarded). fo.Part (pa.Guard y z)) (one_guarded a b (same_after _ _ _ h.1))
 
 results : (x y : Expr) (xs ys : List Expr) → form_tokens (fo.Part (pa.Result x xs)) ≡ form_tokens (fo.Part (pa.Result y ys)) → fo.Part (pa.Result x xs) ≡ fo.Part (pa.Result y ys)
-results x y xs ys e = let h = one_list x y xs ys (same_behind _ _ _ e) in
+results x y xs ys e = let h = one_list x y xs ys (same_after _ _ _ e) in
     ap (λ (z : Expr). fo.Part (pa.Result z xs)) h.0 ∙ ap (λ (z : List Expr). fo.Part (pa.Result y z)) h.1
 
 tags : (n m : List ℕ) (x y : Detail) (xs ys : List Detail) → form_tokens (fo.Tagged n x xs) ≡ form_tokens (fo.Tagged m y ys) → fo.Tagged n x xs ≡ fo.Tagged m y ys
 tags n m x y xs ys e =
     let h = named_once n m _ _ e in
-    let i = listed_once s.Semicolon detail_then IsItemEnd (λ z k. refl) detail_once x y xs ys [] [] semicolon_ends semicolon_ends (same_behind _ _ _ h.1) in
+    let i = listed_once s.Semicolon detail_then IsItemEnd (λ z k. refl) detail_once x y xs ys [] [] semicolon_ends semicolon_ends (same_after _ _ _ h.1) in
     ap (λ (z : List ℕ). fo.Tagged z x xs) h.0 ∙ ap (λ (z : Detail). fo.Tagged m z xs) i.0 ∙ ap (λ (z : List Detail). fo.Tagged m y z) i.1
 
 specifications : (x y : Specified) → form_tokens (fo.Specified x) ≡ form_tokens (fo.Specified y) → fo.Specified x ≡ fo.Specified y
 specifications x y e = ap (λ (z : Specified). fo.Specified z) (one_tree x y e)
 
--- an expression behind a word
-behind_word : (word : Token) (x y : Expr) → word ∷ expr_then x [] ≡ word ∷ expr_then y [] → x ≡ y
-behind_word word x y e = (one_expr x y [] [] refl refl (same_behind _ _ _ e)).0
+-- an expression after a word
+after_word : (word : Token) (x y : Expr) → word ∷ expr_then x [] ≡ word ∷ expr_then y [] → x ≡ y
+after_word word x y e = (one_expr x y [] [] refl refl (same_after _ _ _ e)).0
 
 as_seen : (a b x y : Form) → a ≡ x → b ≡ y → (form_tokens x ≡ form_tokens y → x ≡ y) → form_tokens a ≡ form_tokens b → a ≡ b
 as_seen a b x y p q one e = p ∙ one (sym (ap form_tokens p) ∙ e ∙ ap form_tokens q) ∙ sym q
@@ -232,8 +232,8 @@ by a b cl.Input (at_input x p) (at_case_input f q) e = as_seen a b _ _ p q (λ h
 by a b cl.Input (at_case_input f p) (at_input x q) e = as_seen a b _ _ p q (λ h. no_input_case x f (sym h)) e
 by a b cl.Input (at_case_input f p) (at_case_input g q) e = as_seen a b _ _ p q (λ h. ap (λ (z : Element). fo.Construct (co.CaseInput z)) (one_case f g h)) e
 by a b cl.Replicable (at_replicable k r p) (at_replicable l g q) e = as_seen a b _ _ p q (replicables k l r g) e
-by a b cl.While (at_while x p) (at_while y q) e = as_seen a b _ _ p q (λ h. ap (λ (z : Expr). fo.Construct (co.While z)) (behind_word _ x y h)) e
-by a b cl.Case (at_case x p) (at_case y q) e = as_seen a b _ _ p q (λ h. ap (λ (z : Expr). fo.Construct (co.Case z)) (behind_word _ x y h)) e
+by a b cl.While (at_while x p) (at_while y q) e = as_seen a b _ _ p q (λ h. ap (λ (z : Expr). fo.Construct (co.While z)) (after_word _ x y h)) e
+by a b cl.Case (at_case x p) (at_case y q) e = as_seen a b _ _ p q (λ h. ap (λ (z : Expr). fo.Construct (co.Case z)) (after_word _ x y h)) e
 by a b cl.Case (at_case x p) (at_case_alone q) e = as_seen a b _ _ p q (λ h. no_empty (t.Word w.Case) _ [] x refl refl (sym h)) e
 by a b cl.Case (at_case_alone p) (at_case x q) e = as_seen a b _ _ p q (λ h. no_empty (t.Word w.Case) _ [] x refl refl h) e
 by a b cl.Case (at_case_alone p) (at_case_alone q) e = p ∙ sym q

@@ -4,19 +4,19 @@ use Rattle.occ_lines.specs.declared.token.Symbol.TheVariants as s
 use Rattle.occ_lines.specs.declared.token.Token.{Token}
 use Rattle.occ_lines.specs.declared.token.Token.TheVariants as t
 use Rattle.occ_lines.specs.declared.token.Word.{Word}
-use Rattle.occ_expression_forms.specs.declared.tree.Builtin.{Builtin}
-use Rattle.occ_expression_forms.specs.declared.tree.DataBase.TheVariants as da
-use Rattle.occ_expression_forms.specs.declared.tree.DataForm.{DataForm}
-use Rattle.occ_expression_forms.specs.declared.tree.Dimension.{Dimension}
-use Rattle.occ_expression_forms.specs.declared.tree.Element.{Element}
-use Rattle.occ_expression_forms.specs.declared.tree.Expr.{Expr}
-use Rattle.occ_expression_forms.specs.declared.tree.TypeForm.TheVariants as tv
-use Rattle.occ_expression_forms.specs.Spelling.{counted_array, data_form_then, element_then, expr_then, many, subscript_of}
-use Rattle.occ_expression_forms.proofs.Cases.{ElementIs, element_is, element_is_named, element_is_segment, element_named_spells, element_segment_spells, type_form_builtin_spells}
-use Rattle.occ_expression_forms.proofs.Classes.{plain_ends}
-use Rattle.occ_expression_forms.proofs.TypeEnds.{array_ends, one_counting}
-use Rattle.occ_expression_forms.proofs.UniqueExprs.{end_no_count, end_of_run, one_data_form, one_expr, one_type}
-use Rattle.occ_specification_forms.proofs.Once.{Once, element_once, same_behind}
+use Rattle.occ_forms_expressions.specs.declared.tree.Builtin.{Builtin}
+use Rattle.occ_forms_expressions.specs.declared.tree.DataBase.TheVariants as da
+use Rattle.occ_forms_expressions.specs.declared.tree.DataForm.{DataForm}
+use Rattle.occ_forms_expressions.specs.declared.tree.Dimension.{Dimension}
+use Rattle.occ_forms_expressions.specs.declared.tree.Element.{Element}
+use Rattle.occ_forms_expressions.specs.declared.tree.Expr.{Expr}
+use Rattle.occ_forms_expressions.specs.declared.tree.TypeForm.TheVariants as tv
+use Rattle.occ_forms_expressions.specs.Spelling.{counted_array, data_form_then, element_then, expr_then, many, subscript_of}
+use Rattle.occ_forms_expressions.proofs.Cases.{ElementIs, element_is, element_is_named, element_is_segment, element_named_spells, element_segment_spells, type_form_builtin_spells}
+use Rattle.occ_forms_expressions.proofs.Classes.{plain_ends}
+use Rattle.occ_forms_expressions.proofs.TypeEnds.{array_ends, one_counting}
+use Rattle.occ_forms_expressions.proofs.UniqueExprs.{end_no_count, end_of_run, one_data_form, one_expr, one_type}
+use Rattle.occ_forms.proofs.Once.{Once, element_once, same_after}
 use Rattle.occ_forms.specs.declared.tree.Detail.{Detail}
 use Rattle.occ_forms.specs.declared.tree.Detail.TheVariants as de
 use Rattle.occ_forms.specs.declared.tree.InputItem.{InputItem}
@@ -31,7 +31,7 @@ use Rattle.occ_forms.proofs.Outputs.{no_count}
 -- outputs
 counting : (e f g h : Expr) (j k : List Token) → expr_then e (t.Symbol s.Counted ∷ expr_then g j) ≡ expr_then f (t.Symbol s.Counted ∷ expr_then h k) → (e ≡ f) × (expr_then g j ≡ expr_then h k)
 counting e f g h j k q =
-    let m = one_counting e f _ _ refl refl (λ x type p. array_ends g j type) (λ x type p. array_ends h k type) q in (m.0, same_behind _ _ _ m.1)
+    let m = one_counting e f _ _ refl refl (λ x type p. array_ends g j type) (λ x type p. array_ends h k type) q in (m.0, same_after _ _ _ m.1)
 
 plain_no_count : (e f g : Expr) (j k : List Token) → IsItemEnd j → expr_then e j ≡ expr_then f (t.Symbol s.Counted ∷ expr_then g k) → ⊥
 plain_no_count e f g j k ends q =
@@ -56,7 +56,7 @@ element_no_count a b c j k ends e = no_count (element_then c k) j ends (element_
 counted_elements : (a b c d : Element) (j k : List Token) → IsItemEnd j → IsItemEnd k → counted (element_then a) (element_then c) j ≡ counted (element_then b) (element_then d) k → (a ≡ b) × (c ≡ d) × (j ≡ k)
 counted_elements a b c d j k ej ek e =
     let h = element_once a b _ _ (count_ends c j) (count_ends d k) e in
-    let m = item_element c d j k ej ek (same_behind _ _ _ h.1) in (h.0, m.0, m.1)
+    let m = item_element c d j k ej ek (same_after _ _ _ h.1) in (h.0, m.0, m.1)
 
 -- inputs
 pub input_item_once : Once input_item_then IsItemEnd

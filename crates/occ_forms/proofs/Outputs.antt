@@ -3,23 +3,23 @@ use Rattle.std.proofs.Common.{◌≡◌, ◌≢◌, ◌∙◌, refl, sym, ap, su
 use Rattle.occ_lines.specs.declared.token.Symbol.TheVariants as s
 use Rattle.occ_lines.specs.declared.token.Token.{Token}
 use Rattle.occ_lines.specs.declared.token.Token.TheVariants as t
-use Rattle.occ_expression_forms.specs.declared.tree.Bounds.{Bounds}
-use Rattle.occ_expression_forms.specs.declared.tree.Bounds.TheOpen.{Expr-F}
-use Rattle.occ_expression_forms.specs.declared.tree.Bounds.TheViews.{out-roll-Expr}
-use Rattle.occ_expression_forms.specs.declared.tree.Builtin.{Builtin}
-use Rattle.occ_expression_forms.specs.declared.tree.Dimension.{Dimension}
-use Rattle.occ_expression_forms.specs.declared.tree.Element.{Element}
-use Rattle.occ_expression_forms.specs.declared.tree.Expr.{Expr, out-Expr}
-use Rattle.occ_expression_forms.specs.declared.tree.Expr.TheVariants as xv
-use Rattle.occ_expression_forms.specs.declared.tree.Extreme.{Extreme}
-use Rattle.occ_expression_forms.specs.declared.tree.NamedOperand.{NamedOperand}
-use Rattle.occ_expression_forms.specs.declared.tree.Operand.{Operand}
-use Rattle.occ_expression_forms.specs.declared.tree.TypeForm.{TypeForm}
-use Rattle.occ_expression_forms.specs.Reading.{IsEnd, IsEndOfRun}
-use Rattle.occ_expression_forms.specs.Spelling.{expr_then}
-use Rattle.occ_expression_forms.specs.TypeEnds.{EndsMost}
-use Rattle.occ_expression_forms.proofs.Cases.{ExprIs, expr_is, expr_is_alone, expr_is_applied, expr_is_array_converted, expr_is_converted, expr_is_most, expr_is_named, expr_is_pair, expr_is_run}
-use Rattle.occ_expression_forms.proofs.TypeEnds.{array_ends}
+use Rattle.occ_forms_expressions.specs.declared.tree.Bounds.{Bounds}
+use Rattle.occ_forms_expressions.specs.declared.tree.Bounds.TheOpen.{Expr-F}
+use Rattle.occ_forms_expressions.specs.declared.tree.Bounds.TheViews.{out-roll-Expr}
+use Rattle.occ_forms_expressions.specs.declared.tree.Builtin.{Builtin}
+use Rattle.occ_forms_expressions.specs.declared.tree.Dimension.{Dimension}
+use Rattle.occ_forms_expressions.specs.declared.tree.Element.{Element}
+use Rattle.occ_forms_expressions.specs.declared.tree.Expr.{Expr, out-Expr}
+use Rattle.occ_forms_expressions.specs.declared.tree.Expr.TheVariants as xv
+use Rattle.occ_forms_expressions.specs.declared.tree.Extreme.{Extreme}
+use Rattle.occ_forms_expressions.specs.declared.tree.NamedOperand.{NamedOperand}
+use Rattle.occ_forms_expressions.specs.declared.tree.Operand.{Operand}
+use Rattle.occ_forms_expressions.specs.declared.tree.TypeForm.{TypeForm}
+use Rattle.occ_forms_expressions.specs.Reading.{IsEnd, IsEndOfRun}
+use Rattle.occ_forms_expressions.specs.Spelling.{expr_then}
+use Rattle.occ_forms_expressions.specs.TypeEnds.{EndsMost}
+use Rattle.occ_forms_expressions.proofs.Cases.{ExprIs, expr_is, expr_is_alone, expr_is_applied, expr_is_array_converted, expr_is_converted, expr_is_most, expr_is_named, expr_is_pair, expr_is_run}
+use Rattle.occ_forms_expressions.proofs.TypeEnds.{array_ends}
 use Rattle.occ_forms.specs.declared.tree.OutputItem.{OutputItem}
 use Rattle.occ_forms.specs.declared.tree.OutputItem.TheVariants as oi
 use Rattle.occ_forms.specs.Reading.{IsItemEnd, ends_item}

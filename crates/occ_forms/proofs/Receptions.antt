@@ -1,14 +1,14 @@
--- What stands behind `el ?`, as it is read.
+-- What stands after `el ?`, as it is read.
 use Rattle.std.proofs.Common.{◌≡◌, ◌≢◌, ℕ, List, [], ◌∷◌, Option, Some, None, Result, Ok, Err, IfOk, refl, sym, ◌∙◌, ap}
 use Rattle.std.specs.declared.alloc.AllocError.{AllocError}
 use Rattle.occ_lines.specs.declared.token.Symbol.TheVariants as s
 use Rattle.occ_lines.specs.declared.token.Token.{Token}
 use Rattle.occ_lines.specs.declared.token.Token.TheVariants as t
 use Rattle.occ_lines.specs.declared.token.Word.TheVariants as w
-use Rattle.occ_expression_forms.specs.declared.tree.Element.{Element}
-use Rattle.occ_expression_forms.specs.declared.tree.Expr.{Expr}
-use Rattle.occ_expression_forms.specs.Reading.{IsEnd}
-use Rattle.occ_expression_forms.specs.Spelling.{element_then, expr_then}
+use Rattle.occ_forms_expressions.specs.declared.tree.Element.{Element}
+use Rattle.occ_forms_expressions.specs.declared.tree.Expr.{Expr}
+use Rattle.occ_forms_expressions.specs.Reading.{IsEnd}
+use Rattle.occ_forms_expressions.specs.Spelling.{element_then, expr_then}
 use Rattle.occ_forms.specs.declared.input.Received.{Received}
 use Rattle.occ_forms.specs.declared.input.Received.TheVariants as re
 use Rattle.occ_forms.specs.declared.tree.Guarded.{Guarded}
@@ -18,21 +18,21 @@ use Rattle.occ_forms.specs.declared.tree.Input.TheVariants as ip
 use Rattle.occ_forms.specs.declared.tree.InputItem.{InputItem}
 use Rattle.occ_forms.specs.inside.Received.{received_tokens}
 use Rattle.occ_forms.specs.Spelling.{guarded_then, input_item_then, tagged}
-use Rattle.occ_specification_forms.specs.Spelling.{listed}
+use Rattle.occ_forms.specs.SpecificationSpelling.{listed}
 
-inside : (token : Token) (rest behind read : List Token) → rest ≡ token ∷ behind → rest ≡ token ∷ read → behind ≡ read
-inside token rest behind read a b = let h : token ∷ behind ≡ token ∷ read = sym a ∙ b in (cc)
+inside : (token : Token) (rest following read : List Token) → rest ≡ token ∷ following → rest ≡ token ∷ read → following ≡ read
+inside token rest following read a b = let h : token ∷ following ≡ token ∷ read = sym a ∙ b in (cc)
 
-pub reception_only : (tokens rest behind : List Token) (from : Element) (result : Result (Option Received) AllocError)
+pub reception_only : (tokens rest following : List Token) (from : Element) (result : Result (Option Received) AllocError)
     → ((el : Element) (k : List Token) → IsEnd k → tokens ≡ element_then el k → (from ≡ el) × (rest ≡ k))
-    → rest ≡ t.Symbol s.Input ∷ behind
-    → IfOk result (λ r. (x : InputItem) (xs : List InputItem) → behind ≡ listed s.Semicolon input_item_then x xs [] → r ≡ Some (re.Input (ip.Plain from x xs)))
-    → IfOk result (λ r. (e : Expr) → behind ≡ t.Word w.After ∷ expr_then e [] → r ≡ Some (re.Input (ip.After from e)))
-    → IfOk result (λ r. behind ≡ t.Word w.Case ∷ [] → r ≡ Some (re.Case from))
-    → IfOk result (λ r. (n : List ℕ) (xs : List InputItem) → behind ≡ t.Word w.Case ∷ tagged input_item_then n xs [] → r ≡ Some (re.Input (ip.Tagged from n xs)))
+    → rest ≡ t.Symbol s.Input ∷ following
+    → IfOk result (λ r. (x : InputItem) (xs : List InputItem) → following ≡ listed s.Semicolon input_item_then x xs [] → r ≡ Some (re.Input (ip.Plain from x xs)))
+    → IfOk result (λ r. (e : Expr) → following ≡ t.Word w.After ∷ expr_then e [] → r ≡ Some (re.Input (ip.After from e)))
+    → IfOk result (λ r. following ≡ t.Word w.Case ∷ [] → r ≡ Some (re.Case from))
+    → IfOk result (λ r. (n : List ℕ) (xs : List InputItem) → following ≡ t.Word w.Case ∷ tagged input_item_then n xs [] → r ≡ Some (re.Input (ip.Tagged from n xs)))
     → IfOk result (λ r. (x : Received) → tokens ≡ received_tokens x → r ≡ Some x)
-reception_only tokens rest behind from (Err e) one is plain after case tagged = tt
-reception_only tokens rest behind from (Ok r) one is plain after case tagged = by where
+reception_only tokens rest following from (Err e) one is plain after case tagged = tt
+reception_only tokens rest following from (Ok r) one is plain after case tagged = by where
   by : (x : Received) → tokens ≡ received_tokens x → r ≡ Some x
   by (re.Input (ip.Plain el x xs)) e = let h = one el _ refl e in
       plain x xs (inside _ _ _ _ is h.1) ∙ ap (λ (y : Element). Some (re.Input (ip.Plain y x xs))) h.0
@@ -59,7 +59,7 @@ not_both r input el a b = let h : Some (re.Input input) ≡ Some (re.Case el) = 
 pub not_none : {Z : Type 0} (r : Option Received) (x : Received) → r ≡ None → r ≡ Some x → Z
 not_none r x a b = let h : None ≡ Some x = sym a ∙ b in absurd cc
 
--- behind a guard
+-- after a guard
 abbrev pub AnswersReceived : List Token → Option Received → Type 0
 AnswersReceived tokens r = (x : Received) → tokens ≡ received_tokens x → r ≡ Some x
 

@@ -1,8 +1,8 @@
 -- The greatest number of dimensions that a type in a line has, and which lines are too deep.
 use Rattle.std.specs.Prelude.{◌≡◌, ◌<◌, ◌≤◌, ◌⊎◌, max, ℕ, List, ◌∷◌, map, Option, Some, None}
 use Rattle.occ_lines.specs.declared.token.Token.{Token}
-use Rattle.occ_expression_forms.specs.Depth.{all_dimensions, builtin_dimensions, counted_dimensions, data_form_dimensions, element_dimensions, expr_dimensions, greatest, most_open}
-use Rattle.occ_specification_forms.specs.Depth.{specified_dimensions}
+use Rattle.occ_forms_expressions.specs.Depth.{all_dimensions, builtin_dimensions, counted_dimensions, data_form_dimensions, element_dimensions, expr_dimensions, greatest, most_open}
+use Rattle.occ_forms.specs.SpecificationDepth.{specified_dimensions}
 use Rattle.occ_forms.specs.declared.tree.Action.{Action}
 use Rattle.occ_forms.specs.declared.tree.Action.TheVariants as ac
 use Rattle.occ_forms.specs.declared.tree.Construct.{Construct}

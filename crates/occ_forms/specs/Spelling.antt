@@ -4,8 +4,8 @@ use Rattle.occ_lines.specs.declared.token.Token.{Token}
 use Rattle.occ_lines.specs.declared.token.Token.TheVariants as t
 use Rattle.occ_lines.specs.declared.token.Symbol.TheVariants as s
 use Rattle.occ_lines.specs.declared.token.Word.TheVariants as w
-use Rattle.occ_expression_forms.specs.Spelling.{Spelling, builtin_then, counted_array, data_form_then, dimension_then, element_then, expr_then, many}
-use Rattle.occ_specification_forms.specs.Spelling.{listed, next, specified_tokens}
+use Rattle.occ_forms_expressions.specs.Spelling.{Spelling, builtin_then, counted_array, data_form_then, dimension_then, element_then, expr_then, many}
+use Rattle.occ_forms.specs.SpecificationSpelling.{listed, next, specified_tokens}
 use Rattle.occ_forms.specs.declared.tree.Action.{Action}
 use Rattle.occ_forms.specs.declared.tree.Action.TheVariants as ac
 use Rattle.occ_forms.specs.declared.tree.Construct.{Construct}
@@ -47,11 +47,11 @@ detail_then (de.Array d ds name) k = many dimension_then (d ∷ ds) (t.Name name
 detail_then (de.Builtin ds builtin) k = many dimension_then ds (builtin_then builtin k)
 detail_then (de.CountedType count component) k = data_form_then count (counted_array (data_form_then component k))
 
--- `el ?` and what stands behind it
+-- `el ?` and what stands after it
 abbrev pub input_from : Spelling → Spelling → Spelling
 input_from el received k = el (t.Symbol s.Input ∷ received k)
 
--- a name, and further items behind semicolons
+-- a name, and further items after semicolons
 abbrev pub tagged : {X : Type 0} → (X → Spelling) → List ℕ → List X → Spelling
 tagged spells name items k = t.Name name ∷ many (next s.Semicolon spells) items k
 

@@ -1,6 +1,6 @@
 //! Parses processes of one line: assignments, outputs and inputs.
-ghost use Rattle.occ_expression_forms.specs.declared.tree.Element.{Element as AnElement};
-ghost use Rattle.occ_expression_forms.specs.declared.tree.Expr.{Expr as AnExpr};
+ghost use Rattle.occ_forms_expressions.specs.declared.tree.Element.{Element as AnElement};
+ghost use Rattle.occ_forms_expressions.specs.declared.tree.Expr.{Expr as AnExpr};
 ghost use Rattle.occ_forms.specs.Spelling.{form_tokens};
 ghost use Rattle.occ_forms.specs.declared.tree.Action.TheVariants as ac;
 ghost use Rattle.occ_forms.specs.declared.tree.Construct.TheVariants as co;
@@ -9,11 +9,11 @@ ghost use Rattle.occ_forms.specs.declared.tree.Input.{Input as AnInput};
 ghost use Rattle.occ_forms.specs.declared.tree.OutputItem.{OutputItem as AnOutputItem};
 ghost use Rattle.std.specs.Prelude.{IfOk, IfSome, List, Some, ◌≡◌};
 
+use super::from_tokens::{alone, list};
 use super::input::{Received, reception};
-use super::{Action, Construct, Form};
-use occ_expression_forms::{after, element};
+use super::tree::{Action, Construct, Form};
+use occ_forms_expressions::{after, element};
 use occ_lines::{Symbol, Token};
-use occ_specification_forms::{alone, list};
 use std::alloc::{AllocError, Global};
 
 /// An assignment.

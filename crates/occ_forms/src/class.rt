@@ -2,7 +2,7 @@
 ghost use Rattle.occ_forms.specs.inside.Classes.{class_of, mark_class, symbol_class, word_class};
 ghost use Rattle.std.specs.Prelude.{◌≡◌};
 
-use occ_expression_forms::mark;
+use occ_forms_expressions::mark;
 use occ_lines::{Symbol, Token, Word};
 
 /// Which forms a line can have.

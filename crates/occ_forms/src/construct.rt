@@ -1,21 +1,21 @@
 //! Parses heads of constructs: SEQ, PAR, IF, ALT with or without a replicator, WHILE, CASE.
-ghost use Rattle.occ_expression_forms.specs.Spelling.{expr_then};
+ghost use Rattle.occ_forms_expressions.specs.Spelling.{expr_then};
 ghost use Rattle.occ_forms.specs.Spelling.{form_tokens, kind_then, replicator_then};
 ghost use Rattle.occ_forms.specs.declared.tree.Construct.TheVariants as co;
 ghost use Rattle.occ_forms.specs.declared.tree.Form.TheVariants as fo;
 ghost use Rattle.occ_forms.specs.declared.tree.ConstructKind.{ConstructKind as AConstructKind};
 ghost use Rattle.occ_forms.specs.declared.tree.PartForm.TheVariants as pa;
 ghost use Rattle.occ_forms.specs.declared.tree.Replicator.{Replicator as AReplicator};
-ghost use Rattle.occ_expression_forms.specs.declared.tree.Expr.{Expr as AnExpr};
+ghost use Rattle.occ_forms_expressions.specs.declared.tree.Expr.{Expr as AnExpr};
 ghost use Rattle.occ_lines.specs.declared.token.Token.TheVariants as t;
 ghost use Rattle.occ_lines.specs.declared.token.Token.{Token as AToken};
 ghost use Rattle.occ_lines.specs.declared.token.Word.TheVariants as w;
 ghost use Rattle.std.specs.Prelude.{IfOk, IfSome, List, MatchOption, None, Option, Some, [], ◌∷◌, ◌≡◌, ◌≢◌};
 
-use super::{Construct, ConstructKind, Form, PartForm, Replicator};
-use occ_expression_forms::{Expr, after, after_word, expression, name};
+use super::from_tokens::alone;
+use super::tree::{Construct, ConstructKind, Form, PartForm, Replicator};
+use occ_forms_expressions::{Expr, after, after_word, expression, name};
 use occ_lines::{Symbol, Token, Word};
-use occ_specification_forms::alone;
 use std::alloc::{AllocError, Global};
 
 /// An expression that is all the tokens.

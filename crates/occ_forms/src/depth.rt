@@ -2,10 +2,10 @@
 ghost use Rattle.occ_forms.specs.Depth.{action_dimensions, construct_dimensions, detail_dimensions, form_dimensions, guarded_dimensions, input_dimensions, input_item_dimensions, output_item_dimensions, part_dimensions, replicator_dimensions};
 ghost use Rattle.std.specs.Prelude.{IsTrue, ◌<◌, ◌↔◌};
 
-use super::{
+use super::tree::{
     Action, Construct, Detail, Form, Guarded, Input, InputItem, OutputItem, PartForm, Replicator,
 };
-use occ_expression_forms::{
+use occ_forms_expressions::{
     Measured, any_has_many_dimensions, array_has_many_dimensions, counted_has_many_dimensions,
     prefixed_has_many_dimensions,
 };

@@ -1,10 +1,10 @@
 //! Parses the parts of tags and variants: types, `t::[]u`, elements and `el::el`.
-ghost use Rattle.occ_expression_forms.specs.Reading.{Reads};
-ghost use Rattle.occ_expression_forms.specs.Spelling.{builtin_then, counted_array, data_form_then, dimension_then, element_then, many};
-ghost use Rattle.occ_expression_forms.specs.declared.tree.Builtin.{Builtin as ABuiltin};
-ghost use Rattle.occ_expression_forms.specs.declared.tree.DataForm.{DataForm as ADataForm};
-ghost use Rattle.occ_expression_forms.specs.declared.tree.Dimension.{Dimension as ADimension};
-ghost use Rattle.occ_expression_forms.specs.declared.tree.Element.{Element as AnElement};
+ghost use Rattle.occ_forms_expressions.specs.Reading.{Reads};
+ghost use Rattle.occ_forms_expressions.specs.Spelling.{builtin_then, counted_array, data_form_then, dimension_then, element_then, many};
+ghost use Rattle.occ_forms_expressions.specs.declared.tree.Builtin.{Builtin as ABuiltin};
+ghost use Rattle.occ_forms_expressions.specs.declared.tree.DataForm.{DataForm as ADataForm};
+ghost use Rattle.occ_forms_expressions.specs.declared.tree.Dimension.{Dimension as ADimension};
+ghost use Rattle.occ_forms_expressions.specs.declared.tree.Element.{Element as AnElement};
 ghost use Rattle.occ_forms.specs.inside.Details.{typed_of};
 ghost use Rattle.occ_forms.specs.Reading.{IsItemEnd};
 ghost use Rattle.occ_forms.specs.Spelling.{counted, detail_then};
@@ -15,12 +15,12 @@ ghost use Rattle.occ_lines.specs.declared.token.Token.TheVariants as t;
 ghost use Rattle.occ_lines.specs.declared.token.Token.{Token as AToken};
 ghost use Rattle.std.specs.Prelude.{IfOk, IfSome, List, length, ℕ, ◌≡◌, ◌<◌};
 
-use super::Detail;
-use occ_expression_forms::{
+use super::from_tokens::FromTokens;
+use super::tree::Detail;
+use occ_forms_expressions::{
     Builtin, DataBase, DataForm, TypeForm, after, after_counted, data_form, element, type_form,
 };
 use occ_lines::{Symbol, Token};
-use occ_specification_forms::FromTokens;
 use std::alloc::{AllocError, Global};
 
 /// The data type, if it is more than a name alone.
@@ -107,7 +107,7 @@ pub fn element_detail(
     Ok(Some((Detail::Counted(first, array), rest)))
 }
 
-/// A type that begins with a reserved word behind its dimensions.
+/// A type that begins with a reserved word after its dimensions.
 pub fn builtin_detail(
     alloc: Global,
     tokens: &[Token],

@@ -2,9 +2,9 @@
 ghost use Rattle.occ_lines.specs.declared.token.Token.TheVariants as t;
 ghost use Rattle.std.specs.Prelude.{MatchOption, [], ◌∷◌, ◌≡◌, ◌≢◌};
 
-use occ_expression_forms::{after, after_word};
+use super::from_tokens::alone;
+use occ_forms_expressions::{after, after_word};
 use occ_lines::{Symbol, Token, Word};
-use occ_specification_forms::alone;
 
 /// What the word alone stands for.
 pub fn word_alone<T: Drop>(tokens: &[Token], word: Word, meant: T) -> Option<T>

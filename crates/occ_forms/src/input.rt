@@ -1,8 +1,8 @@
 //! Parses what follows `el ?`: items, `AFTER e`, `CASE n; ..`, or the head of a case input.
-ghost use Rattle.occ_expression_forms.specs.Spelling.{element_then, expr_then, many};
-ghost use Rattle.occ_expression_forms.specs.declared.tree.Element.{Element as AnElement};
-ghost use Rattle.occ_expression_forms.specs.declared.tree.Expr.{Expr as AnExpr};
-ghost use Rattle.occ_forms.specs.inside.Received.{received_behind, received_tokens};
+ghost use Rattle.occ_forms_expressions.specs.Spelling.{element_then, expr_then, many};
+ghost use Rattle.occ_forms_expressions.specs.declared.tree.Element.{Element as AnElement};
+ghost use Rattle.occ_forms_expressions.specs.declared.tree.Expr.{Expr as AnExpr};
+ghost use Rattle.occ_forms.specs.inside.Received.{received_after, received_tokens};
 ghost use Rattle.occ_forms.specs.Spelling.{input_item_then, tagged};
 ghost use Rattle.occ_forms.specs.declared.input.Received.TheVariants as re;
 ghost use Rattle.occ_forms.specs.declared.input.Received.{Received as SomeReceived};
@@ -12,14 +12,14 @@ ghost use Rattle.occ_lines.specs.declared.token.Symbol.TheVariants as s;
 ghost use Rattle.occ_lines.specs.declared.token.Token.TheVariants as t;
 ghost use Rattle.occ_lines.specs.declared.token.Token.{Token as AToken};
 ghost use Rattle.occ_lines.specs.declared.token.Word.TheVariants as w;
-ghost use Rattle.occ_specification_forms.specs.Spelling.{listed};
+ghost use Rattle.occ_forms.specs.SpecificationSpelling.{listed};
 ghost use Rattle.std.specs.Prelude.{IfOk, IfSome, List, Some, [], ℕ, ◌∷◌, ◌≡◌};
 
-use super::Input;
 use super::construct::one_expression;
-use occ_expression_forms::{Element, after, after_word, element, name};
+use super::from_tokens::{alone, list, more};
+use super::tree::Input;
+use occ_forms_expressions::{Element, after, after_word, element, name};
 use occ_lines::{Symbol, Token, Word};
-use occ_specification_forms::{alone, list, more};
 use std::alloc::{AllocError, Global};
 
 /// What a line says that begins with `el ?`.
@@ -36,7 +36,7 @@ pub fn delayed(
     from: Element,
     tokens: &[Token],
 ) -> Result<Option<Received>, AllocError>
-    ensures found { IfOk result (λ r. IfSome r (λ x. received_behind from (t.Word w.After ∷ tokens.now) ≡ received_tokens x)) }
+    ensures found { IfOk result (λ r. IfSome r (λ x. received_after from (t.Word w.After ∷ tokens.now) ≡ received_tokens x)) }
     ensures only { IfOk result (λ r. (e : AnExpr) → tokens.now ≡ expr_then e [] → r ≡ Some (re.Input (ip.After from e))) }
 {
     let Some(time) = one_expression(alloc, tokens)? else {
@@ -51,7 +51,7 @@ pub fn variant(
     from: Element,
     tokens: &[Token],
 ) -> Result<Option<Received>, AllocError>
-    ensures found { IfOk result (λ r. IfSome r (λ x. received_behind from (t.Word w.Case ∷ tokens.now) ≡ received_tokens x)) }
+    ensures found { IfOk result (λ r. IfSome r (λ x. received_after from (t.Word w.Case ∷ tokens.now) ≡ received_tokens x)) }
     ensures case { IfOk result (λ r. tokens.now ≡ [] → r ≡ Some (re.Case from)) }
     ensures tagged { IfOk result (λ r. (n : List ℕ) (xs : List AnInputItem) → tokens.now ≡ tagged input_item_then n xs [] → r ≡ Some (re.Input (ip.Tagged from n xs))) }
 {
@@ -69,7 +69,7 @@ pub fn variant(
 
 /// An input of items, of which `?` is read.
 pub fn plain(alloc: Global, from: Element, tokens: &[Token]) -> Result<Option<Received>, AllocError>
-    ensures found { IfOk result (λ r. IfSome r (λ x. received_behind from tokens.now ≡ received_tokens x)) }
+    ensures found { IfOk result (λ r. IfSome r (λ x. received_after from tokens.now ≡ received_tokens x)) }
     ensures only { IfOk result (λ r. (x : AnInputItem) (xs : List AnInputItem) → tokens.now ≡ listed s.Semicolon input_item_then x xs [] → r ≡ Some (re.Input (ip.Plain from x xs))) }
 {
     let Some((first, more, rest)) = list(alloc, tokens, Symbol::Semicolon)? else {
@@ -79,12 +79,12 @@ pub fn plain(alloc: Global, from: Element, tokens: &[Token]) -> Result<Option<Re
 }
 
 /// What is received, of which `?` is read.
-pub fn behind_input(
+pub fn after_input(
     alloc: Global,
     from: Element,
     tokens: &[Token],
 ) -> Result<Option<Received>, AllocError>
-    ensures found { IfOk result (λ r. IfSome r (λ x. received_behind from tokens.now ≡ received_tokens x)) }
+    ensures found { IfOk result (λ r. IfSome r (λ x. received_after from tokens.now ≡ received_tokens x)) }
     ensures plain { IfOk result (λ r. (x : AnInputItem) (xs : List AnInputItem) → tokens.now ≡ listed s.Semicolon input_item_then x xs [] → r ≡ Some (re.Input (ip.Plain from x xs))) }
     ensures after { IfOk result (λ r. (e : AnExpr) → tokens.now ≡ t.Word w.After ∷ expr_then e [] → r ≡ Some (re.Input (ip.After from e))) }
     ensures case { IfOk result (λ r. tokens.now ≡ t.Word w.Case ∷ [] → r ≡ Some (re.Case from)) }
@@ -110,5 +110,5 @@ pub fn reception(alloc: Global, tokens: &[Token]) -> Result<Option<Received>, Al
     let Some(rest) = after(rest, Symbol::Input) else {
         return Ok(None);
     };
-    behind_input(alloc, from, rest)
+    after_input(alloc, from, rest)
 }

@@ -2,10 +2,10 @@
 ghost use Rattle.occ_forms.specs.Reading.{IsItemEnd};
 ghost use Rattle.occ_forms.specs.Spelling.{input_item_then, output_item_then};
 
-use super::{InputItem, OutputItem};
-use occ_expression_forms::{after, element, expression};
+use super::from_tokens::FromTokens;
+use super::tree::{InputItem, OutputItem};
+use occ_forms_expressions::{after, element, expression};
 use occ_lines::{Symbol, Token};
-use occ_specification_forms::FromTokens;
 use std::alloc::{AllocError, Global};
 
 impl FromTokens for InputItem {

@@ -8,7 +8,7 @@ use super::construct::{replicable, selection, while_loop};
 use super::end::word_alone;
 use super::part::{expressions, guard, packed, results, tagged_line};
 use super::specifying::{close_or_declaration, specification};
-use super::{Action, Form, PartForm};
+use super::tree::{Action, Form, PartForm};
 use occ_lines::{Token, Word};
 use std::alloc::{AllocError, Global};
 

@@ -1,14 +1,14 @@
 //! The form of a line, or why it has none: too deep (S3) comes before no form (S1).
-ghost use Rattle.occ_expression_forms.specs.Depth.{most_open};
+ghost use Rattle.occ_forms_expressions.specs.Depth.{most_open};
 ghost use Rattle.occ_forms.specs.Depth.{HasForm, HasNoForm, IsTooDeep};
 ghost use Rattle.occ_forms.specs.Spelling.{form_tokens};
 ghost use Rattle.occ_forms.specs.declared.tree.Form.{Form as AForm};
 ghost use Rattle.occ_forms.specs.declared.parse.LineFault.TheVariants.{Memory};
 ghost use Rattle.std.specs.Prelude.{IfOk, IsErrOf, ◌≡◌, ◌<◌};
 
-use super::Form;
 use super::line::line;
-use occ_expression_forms::{Measured, opens_too_many};
+use super::tree::Form;
+use occ_forms_expressions::{Measured, opens_too_many};
 use occ_lines::Token;
 use std::alloc::{AllocError, Global};
 use thiserror::Error;

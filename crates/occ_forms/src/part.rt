@@ -1,5 +1,5 @@
 //! Parses lines that are parts of what is around them: conditions, results, records, guards, tags and variants.
-ghost use Rattle.occ_expression_forms.specs.declared.tree.Expr.{Expr as AnExpr};
+ghost use Rattle.occ_forms_expressions.specs.declared.tree.Expr.{Expr as AnExpr};
 ghost use Rattle.occ_forms.specs.Spelling.{form_tokens, guarded_then};
 ghost use Rattle.occ_forms.specs.declared.tree.Detail.{Detail as ADetail};
 ghost use Rattle.occ_forms.specs.declared.tree.Form.TheVariants as fo;
@@ -8,11 +8,11 @@ ghost use Rattle.occ_forms.specs.declared.tree.PartForm.TheVariants as pa;
 ghost use Rattle.std.specs.Prelude.{IfOk, IfSome, List, MatchOption, Some, [], ℕ, ◌≡◌, ◌≢◌};
 
 use super::end::word_alone;
+use super::from_tokens::{alone, list};
 use super::input::{Received, reception};
-use super::{Form, Guarded, PartForm};
-use occ_expression_forms::{after, after_word, expression, name};
+use super::tree::{Form, Guarded, PartForm};
+use occ_forms_expressions::{after, after_word, expression, name};
 use occ_lines::{Symbol, Token, Word};
-use occ_specification_forms::{alone, list};
 use std::alloc::{AllocError, Global};
 
 /// Expressions that are the whole line.
@@ -48,8 +48,8 @@ pub fn packed(tokens: &[Token]) -> Option<Form>
     word_alone(rest, Word::Record, Form::Part(PartForm::PackedRecord))
 }
 
-/// What stands behind the `&` of a guard.
-pub fn behind_guard(alloc: Global, tokens: &[Token]) -> Result<Option<Guarded>, AllocError>
+/// What stands after the `&` of a guard.
+pub fn after_guard(alloc: Global, tokens: &[Token]) -> Result<Option<Guarded>, AllocError>
     ensures found { IfOk result (λ r. IfSome r (λ x. tokens.now ≡ guarded_then x [])) }
     ensures only { IfOk result (λ r. (x : SomeGuarded) → tokens.now ≡ guarded_then x [] → r ≡ Some x) }
 {
@@ -74,7 +74,7 @@ pub fn guard(alloc: Global, tokens: &[Token]) -> Result<Option<Form>, AllocError
     let Some(rest) = after(rest, Symbol::Ampersand) else {
         return Ok(None);
     };
-    let Some(guarded) = behind_guard(alloc, rest)? else {
+    let Some(guarded) = after_guard(alloc, rest)? else {
         return Ok(None);
     };
     Ok(Some(Form::Part(PartForm::Guard(condition, guarded))))

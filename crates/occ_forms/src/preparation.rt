@@ -8,7 +8,7 @@ ghost use Rattle.occ_lines.specs.declared.text.Logical.{Logical as ALogical};
 ghost use Rattle.std.specs.Prelude.{IfOk, IsErrOf, List, length, ◌↔◌, ◌≡◌, ◌≤◌, ◌<◌};
 
 use super::parse::{LineFault, form};
-use super::{LineBody, Source, SourceLine};
+use super::source::{LineBody, Source, SourceLine};
 use occ_base::{Code, Items, Shared};
 use occ_lines::{Body, Logical, TextFault, Token, logical};
 use std::alloc::{AllocError, Global};

@@ -1,16 +1,16 @@
 //! Worked rows: what some lines spell, and lines with a fault.
-#![tactic(auto, using(occ_expression_forms::proofs::Cases::spelling_rules))]
+#![tactic(auto, using(occ_forms_expressions::proofs::Cases::spelling_rules))]
 
 ghost use Rattle.occ_base.specs.declared.code.Code.TheVariants.{L1, S1};
-ghost use Rattle.occ_expression_forms.specs.declared.tree.Builtin.TheVariants as u;
-ghost use Rattle.occ_expression_forms.specs.declared.tree.ChannelWords.TheVariants as c;
-ghost use Rattle.occ_expression_forms.specs.declared.tree.DataBase.TheVariants as da;
-ghost use Rattle.occ_expression_forms.specs.declared.tree.Dimension.TheVariants as d;
-ghost use Rattle.occ_expression_forms.specs.declared.tree.Element.TheVariants as el;
-ghost use Rattle.occ_expression_forms.specs.declared.tree.Expr.TheVariants as e;
-ghost use Rattle.occ_expression_forms.specs.declared.tree.Literal.TheVariants as l;
-ghost use Rattle.occ_expression_forms.specs.declared.tree.Operand.TheVariants as o;
-ghost use Rattle.occ_expression_forms.specs.declared.tree.PrimitiveWord.TheVariants as pr;
+ghost use Rattle.occ_forms_expressions.specs.declared.tree.Builtin.TheVariants as u;
+ghost use Rattle.occ_forms_expressions.specs.declared.tree.ChannelWords.TheVariants as c;
+ghost use Rattle.occ_forms_expressions.specs.declared.tree.DataBase.TheVariants as da;
+ghost use Rattle.occ_forms_expressions.specs.declared.tree.Dimension.TheVariants as d;
+ghost use Rattle.occ_forms_expressions.specs.declared.tree.Element.TheVariants as el;
+ghost use Rattle.occ_forms_expressions.specs.declared.tree.Expr.TheVariants as e;
+ghost use Rattle.occ_forms_expressions.specs.declared.tree.Literal.TheVariants as l;
+ghost use Rattle.occ_forms_expressions.specs.declared.tree.Operand.TheVariants as o;
+ghost use Rattle.occ_forms_expressions.specs.declared.tree.PrimitiveWord.TheVariants as pr;
 ghost use Rattle.occ_forms.specs.Prepared.{IsFormed};
 ghost use Rattle.occ_forms.specs.Spelling.{form_tokens};
 ghost use Rattle.occ_forms.specs.declared.source.LineBody.TheVariants as held;
@@ -28,8 +28,8 @@ ghost use Rattle.occ_lines.specs.declared.text.Body.TheVariants as body;
 ghost use Rattle.occ_lines.specs.declared.token.Symbol.TheVariants as s;
 ghost use Rattle.occ_lines.specs.declared.token.Token.TheVariants as t;
 ghost use Rattle.occ_lines.specs.declared.token.Word.TheVariants as w;
-ghost use Rattle.occ_specification_forms.specs.declared.tree.Head.TheVariants as he;
-ghost use Rattle.occ_specification_forms.specs.declared.tree.Specified.TheVariants as sd;
+ghost use Rattle.occ_forms.specs.declared.specification_tree.Head.TheVariants as he;
+ghost use Rattle.occ_forms.specs.declared.specification_tree.Specified.TheVariants as sd;
 ghost use Rattle.std.specs.Prelude.{None, Some, [], codes, true, ◌∷◌, ◌≡◌};
 
 /// What actions spell, in the order of the clauses: `SKIP`, `STOP`, `x := 1`, `a[1], b := 1, 2`, `c ! x`, `c ! 1; 2::a`,

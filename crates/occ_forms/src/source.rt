@@ -2,7 +2,7 @@
 ghost use Rattle.occ_forms.specs.Prepared.{IsPrepared};
 ghost use Rattle.std.specs.Prelude.{◌≡◌};
 
-use super::Form;
+use super::tree::Form;
 use occ_base::{Code, FileName, Items, Shared};
 use std::marker::Model;
 
@@ -43,11 +43,11 @@ impl Drop for Source {
 }
 
 impl Model for Source {
-    ghost use Rattle.occ_expression_forms.specs.contracts.tree.Builtin as builtins;
-    ghost use Rattle.occ_expression_forms.specs.contracts.tree.Dimension as dimensions;
-    ghost use Rattle.occ_expression_forms.specs.contracts.tree.Element as elements;
-    ghost use Rattle.occ_expression_forms.specs.contracts.tree.Expr as expressions;
-    ghost use Rattle.occ_expression_forms.specs.contracts.tree.TypeForm as types;
+    ghost use Rattle.occ_forms_expressions.specs.contracts.tree.Builtin as builtins;
+    ghost use Rattle.occ_forms_expressions.specs.contracts.tree.Dimension as dimensions;
+    ghost use Rattle.occ_forms_expressions.specs.contracts.tree.Element as elements;
+    ghost use Rattle.occ_forms_expressions.specs.contracts.tree.Expr as expressions;
+    ghost use Rattle.occ_forms_expressions.specs.contracts.tree.TypeForm as types;
     ghost use Rattle.occ_forms.specs.Prepared.{IsPrepared, Prepared};
     ghost use Rattle.std.specs.Coded.{codes};
 

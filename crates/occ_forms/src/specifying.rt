@@ -1,14 +1,14 @@
 //! Parses lines of specification, heads of specifications, and closes.
 ghost use Rattle.occ_forms.specs.Spelling.{form_tokens};
 ghost use Rattle.occ_forms.specs.declared.tree.Form.TheVariants as f;
-ghost use Rattle.occ_specification_forms.specs.Spelling.{specified_tokens};
-ghost use Rattle.occ_specification_forms.specs.declared.tree.Specified.{Specified as ASpecified};
+ghost use Rattle.occ_forms.specs.SpecificationSpelling.{specified_tokens};
+ghost use Rattle.occ_forms.specs.declared.specification_tree.Specified.{Specified as ASpecified};
 ghost use Rattle.std.specs.Prelude.{IfOk, IfSome, Some, ◌≡◌};
 
-use super::Form;
 use super::end::symbol_alone;
+use super::specification_line::specified;
+use super::tree::Form;
 use occ_lines::{Symbol, Token};
-use occ_specification_forms::specified;
 use std::alloc::{AllocError, Global};
 
 /// A line that specifies names, or the head of a specification.

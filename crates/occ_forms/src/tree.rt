@@ -1,7 +1,7 @@
 //! The trees of all line forms but those of specification.
+use super::specification_tree::Specified;
 use occ_base::{Items, Name};
-use occ_expression_forms::{Builtin, DataForm, Dimension, Element, Expr};
-use occ_specification_forms::Specified;
+use occ_forms_expressions::{Builtin, DataForm, Dimension, Element, Expr};
 
 /// The form of a line.
 pub enum Form {
@@ -135,7 +135,7 @@ pub enum PartForm {
     Guard(Expr, Guarded),
 }
 
-/// What stands behind the `&` of a guard.
+/// What stands after the `&` of a guard.
 #[derive(Drop)]
 pub enum Guarded {
     /// `SKIP`
@@ -152,9 +152,9 @@ pub enum Detail {
     Element(Element),
     /// `el::el`
     Counted(Element, Element),
-    /// `[e].. n`: a named type behind its dimensions, of which there is a first one.
+    /// `[e].. n`: a named type after its dimensions, of which there is a first one.
     Array(Dimension, Items<Dimension>, Name),
-    /// A type that begins with a reserved word behind its dimensions.
+    /// A type that begins with a reserved word after its dimensions.
     Builtin(Items<Dimension>, Builtin),
     /// `t::[]u`: a counted array.
     CountedType(DataForm, DataForm),

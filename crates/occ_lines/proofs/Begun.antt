@@ -24,7 +24,7 @@ some_or_none : {X : Type 0} (o : Option X) → (o ≡ None) ⊎ ((x : X) × (o �
 some_or_none None = inl refl
 some_or_none (Some x) = inr (x, refl)
 
--- the byte stands first, with what is behind it, or it does not
+-- the byte stands first, with what is after it, or it does not
 pub begins_with : (b : ℕ) (text : List ℕ) → ((after : List ℕ) × (text ≡ b ∷ after)) ⊎ ((after : List ℕ) → text ≡ b ∷ after → ⊥)
 begins_with b [] = inr (λ after h. absurd cc)
 begins_with b (a ∷ more) = elim (cases_Bool (a == b)) [
@@ -32,7 +32,7 @@ begins_with b (a ∷ more) = elim (cases_Bool (a == b)) [
   | inr isnt ↦ inr (λ after h. let same = heads a b more after h in absurd cc)
 ]
 
--- what is behind a spelling between quotes is shorter
+-- what is after a spelling between quotes is shorter
 
 abbrev Within : ℕ → Option (ℕ × List ℕ) → Type 0
 Within n o = IfSome o (λ x. length x.1 < n)

@@ -32,7 +32,7 @@ use Rattle.occ_lines.proofs.Spelled.{one_read}
 abbrev Steps : (List Logical → Option Statement → Type 0) → ℕ → List (List ℕ) → List Logical → Type 0
 Steps holds number lines xs = (ended : List Logical) × (next : Option Statement) × (more : List Logical) × holds ended next × (xs ≡ ended ++ more) × AreLogical next (number + 1) lines more
 
--- a statement is read so far, and then the lines behind
+-- a statement is read so far, and then the lines after
 abbrev Onward : Reached → ℕ → List (List ℕ) → List Logical → Type 0
 Onward (reached.Open statement) number lines xs = AreLogical (Some statement) number lines xs
 Onward (reached.Done x) number lines xs = (more : List Logical) × AreLogical None number lines more × (xs ≡ x ∷ more)
@@ -44,8 +44,8 @@ settles (reached.Done x) number lines xs h = (x ∷ [], None, h.0, (refl, refl),
 -- what is open stays open where a line is skipped
 stays : (r : Reached) (statement : Statement) (number : ℕ) (line : List ℕ) (lines : List (List ℕ)) (xs : List Logical) → r ≡ reached.Open statement → IsWanted statement.wants statement number line [] (Some statement) → Onward r (number + 1) lines xs → Onward r number (line ∷ lines) xs
 stays r statement number line lines xs is same h =
-    let behind : AreLogical (Some statement) (number + 1) lines xs = subst (λ (s : Reached). Onward s (number + 1) lines xs) is h in
-    subst (λ (s : Reached). Onward s number (line ∷ lines) xs) (sym is) ([], Some statement, xs, same, refl, behind)
+    let following : AreLogical (Some statement) (number + 1) lines xs = subst (λ (s : Reached). Onward s (number + 1) lines xs) is h in
+    subst (λ (s : Reached). Onward s number (line ∷ lines) xs) (sym is) ([], Some statement, xs, same, refl, following)
 
 goes : (r : Reached) (statement : Statement) (s : Reached) (number : ℕ) (line : List ℕ) (lines : List (List ℕ)) (xs : List Logical) → r ≡ reached.Open statement
     → ((ended : List Logical) (next : Option Statement) → Settles s ended next → IsWanted statement.wants statement number line ended next) → Onward s (number + 1) lines xs → Onward r number (line ∷ lines) xs
@@ -54,9 +54,9 @@ goes r statement s number line lines xs is wanted h =
     subst (λ (s : Reached). Onward s number (line ∷ lines) xs) (sym is) (steps.0, steps.1, steps.2, wanted steps.0 steps.1 steps.3, steps.4, steps.5)
 
 -- a statement that wants something and is not gone on with
-breaks : (r : Reached) (statement : Statement) (number : ℕ) (behind : List (List ℕ)) (more : List Logical) → r ≡ reached.Open statement
-    → ((line : List ℕ) (lines : List (List ℕ)) → behind ≡ line ∷ lines → (ended : List Logical) (next : Option Statement) → IsFresh number line ended next → IsWanted statement.wants statement number line (broken_off statement ∷ ended) next)
-    → AreLogical None number behind more → Onward r number behind (broken_off statement ∷ more)
+breaks : (r : Reached) (statement : Statement) (number : ℕ) (following : List (List ℕ)) (more : List Logical) → r ≡ reached.Open statement
+    → ((line : List ℕ) (lines : List (List ℕ)) → following ≡ line ∷ lines → (ended : List Logical) (next : Option Statement) → IsFresh number line ended next → IsWanted statement.wants statement number line (broken_off statement ∷ ended) next)
+    → AreLogical None number following more → Onward r number following (broken_off statement ∷ more)
 breaks r statement number [] more is wanted h = subst (λ (s : Reached). Onward s number [] (broken_off statement ∷ more)) (sym is) (ap (λ (xs : List Logical). broken_off statement ∷ xs) h)
 breaks r statement number (line ∷ lines) more is wanted h =
     subst (λ (s : Reached). Onward s number (line ∷ lines) (broken_off statement ∷ more)) (sym is)
@@ -69,34 +69,34 @@ wanting line column tokens w = record { line = line; column = column; tokens = t
 opens : (line column : ℕ) (tokens : List Token) → goes_on tokens ≡ true → settled line column tokens ending.Whole ≡ reached.Open (wanting line column tokens wants.More)
 opens line column tokens is = cond-true _ _ _ is
 
-break_more : (s : Statement) (number : ℕ) (behind : List (List ℕ)) → next_passes (takes s.column) behind ≡ false
-    → (line : List ℕ) (lines : List (List ℕ)) → behind ≡ line ∷ lines → (ended : List Logical) (next : Option Statement) → IsFresh number line ended next → IsWanted wants.More s number line (broken_off s ∷ ended) next
-break_more s number behind none line lines is ended next fresh =
+break_more : (s : Statement) (number : ℕ) (following : List (List ℕ)) → next_passes (takes s.column) following ≡ false
+    → (line : List ℕ) (lines : List (List ℕ)) → following ≡ line ∷ lines → (ended : List Logical) (next : Option Statement) → IsFresh number line ended next → IsWanted wants.More s number line (broken_off s ∷ ended) next
+break_more s number following none line lines is ended next fresh =
     let both = or_parts (is_skipped line) (continues s.column line) (sym (ap (next_passes (takes s.column)) is) ∙ none) in
     other_match _ _ _ both.0 (other_match _ _ _ both.1 (ended, refl, fresh))
 
-break_rest : (s : Statement) (bytes : List ℕ) (number : ℕ) (behind : List (List ℕ)) → next_passes (resumes s.column) behind ≡ false
-    → (line : List ℕ) (lines : List (List ℕ)) → behind ≡ line ∷ lines → (ended : List Logical) (next : Option Statement) → IsFresh number line ended next → IsWanted (wants.Rest bytes) s number line (broken_off s ∷ ended) next
-break_rest s bytes number behind none line lines is ended next fresh =
+break_rest : (s : Statement) (bytes : List ℕ) (number : ℕ) (following : List (List ℕ)) → next_passes (resumes s.column) following ≡ false
+    → (line : List ℕ) (lines : List (List ℕ)) → following ≡ line ∷ lines → (ended : List Logical) (next : Option Statement) → IsFresh number line ended next → IsWanted (wants.Rest bytes) s number line (broken_off s ∷ ended) next
+break_rest s bytes number following none line lines is ended next fresh =
     other_match _ _ _ (sym (ap (next_passes (resumes s.column)) is) ∙ none) (ended, refl, fresh)
 
 -- a statement that takes no further line
-holds_none : (line column : ℕ) (tokens : List Token) (x : Ending) (number : ℕ) (behind : List (List ℕ)) (held : Body) (more : List Logical)
-    → IsHeld column tokens x behind held → AreLogical None number behind more → Onward (settled line column tokens x) number behind (logical_of line column held ∷ more)
-holds_none line column tokens ending.Whole number behind held more h rest = elim (cases_Bool (goes_on tokens)) [
+holds_none : (line column : ℕ) (tokens : List Token) (x : Ending) (number : ℕ) (following : List (List ℕ)) (held : Body) (more : List Logical)
+    → IsHeld column tokens x following held → AreLogical None number following more → Onward (settled line column tokens x) number following (logical_of line column held ∷ more)
+holds_none line column tokens ending.Whole number following held more h rest = elim (cases_Bool (goes_on tokens)) [
   | inl wants_more ↦
-      let lacks = MatchBool-at_true ((next_passes (takes column) behind ≡ false) × (held ≡ body.Fault code.L3)) (held ≡ body.Tokens tokens) wants_more h in
+      let lacks = MatchBool-at_true ((next_passes (takes column) following ≡ false) × (held ≡ body.Fault code.L3)) (held ≡ body.Tokens tokens) wants_more h in
       let s = wanting line column tokens wants.More in
-      rw lacks.1 (breaks _ s number behind more (opens line column tokens wants_more) (break_more s number behind lacks.0) rest)
+      rw lacks.1 (breaks _ s number following more (opens line column tokens wants_more) (break_more s number following lacks.0) rest)
   | inr ends ↦
-      let is = MatchBool-at_false ((next_passes (takes column) behind ≡ false) × (held ≡ body.Fault code.L3)) (held ≡ body.Tokens tokens) ends h in
+      let is = MatchBool-at_false ((next_passes (takes column) following ≡ false) × (held ≡ body.Fault code.L3)) (held ≡ body.Tokens tokens) ends h in
       let done : settled line column tokens ending.Whole ≡ reached.Done (logical_of line column (body.Tokens tokens)) = cond-false _ _ _ ends in
-      subst (λ (r : Reached). Onward r number behind (logical_of line column held ∷ more)) (sym done) (more, rest, ap (λ (b : Body). logical_of line column b ∷ more) is)
+      subst (λ (r : Reached). Onward r number following (logical_of line column held ∷ more)) (sym done) (more, rest, ap (λ (b : Body). logical_of line column b ∷ more) is)
 ]
-holds_none line column tokens (ending.Broken bytes) number behind held more h rest =
+holds_none line column tokens (ending.Broken bytes) number following held more h rest =
     let s = wanting line column tokens (wants.Rest bytes) in
-    rw h.1 (breaks (settled line column tokens (ending.Broken bytes)) s number behind more refl (break_rest s bytes number behind h.0) rest)
-holds_none line column tokens (ending.Bad fault) number behind held more h rest = (more, rest, ap (λ (b : Body). logical_of line column b ∷ more) h)
+    rw h.1 (breaks (settled line column tokens (ending.Broken bytes)) s number following more refl (break_rest s bytes number following h.0) rest)
+holds_none line column tokens (ending.Bad fault) number following held more h rest = (more, rest, ap (λ (b : Body). logical_of line column b ∷ more) h)
 
 -- a statement that takes one more line
 takes_line : (line column : ℕ) (tokens : List Token) (x : Ending) (number : ℕ) (next : List ℕ) (lines : List (List ℕ)) (more : List Token) (y : Ending) (xs : List Logical)
@@ -106,8 +106,8 @@ takes_line line column tokens ending.Whole number next lines more y xs h rest = 
       let same = one_list (after_blanks next) more [] y ending.Whole h.2 (whole_end (after_blanks next) skipped) in
       let is : settled line column (tokens ++ more) y ≡ settled line column tokens ending.Whole =
       ap (λ (ts : List Token). settled line column (tokens ++ ts) y) same.0 ∙ ap (λ (ts : List Token). settled line column ts y) (append-nil tokens) ∙ ap (settled line column tokens) same.1 in
-      let behind = subst (λ (r : Reached). Onward r (number + 1) lines xs) is rest in
-      stays _ (wanting line column tokens wants.More) number next lines xs (opens line column tokens h.0) (same_match _ _ _ skipped (refl, refl)) behind
+      let following = subst (λ (r : Reached). Onward r (number + 1) lines xs) is rest in
+      stays _ (wanting line column tokens wants.More) number next lines xs (opens line column tokens h.0) (same_match _ _ _ skipped (refl, refl)) following
   | inr spoken ↦ elim (or_cases (is_skipped next) (continues column next) h.1) [
     | inl skipped ↦ absurd cc
     | inr on ↦ goes _ (wanting line column tokens wants.More) (settled line column (tokens ++ more) y) number next lines xs (opens line column tokens h.0)
@@ -125,42 +125,42 @@ one_line_more number line lines = omega arith
 no_line_more : (number : ℕ) → number + length {A = List ℕ} [] ≡ number
 no_line_more number = omega arith
 
-holds_all : (line column : ℕ) (tokens : List Token) (x : Ending) (number : ℕ) (lines behind : List (List ℕ)) (held : Body) (more : List Logical)
-    → Holds column tokens x lines behind held → AreLogical None (number + length lines) behind more → Onward (settled line column tokens x) number (lines ++ behind) (logical_of line column held ∷ more)
-holds_all line column tokens x number [] behind held more h rest =
-    holds_none line column tokens x number behind held more h (subst (λ (n : ℕ). AreLogical None n behind more) (no_line_more number) rest)
-holds_all line column tokens x number (next ∷ lines) behind held more h rest =
-    let behind_it = subst (λ (n : ℕ). AreLogical None n behind more) (one_line_more number next lines) rest in
-    takes_line line column tokens x number next (lines ++ behind) h.0 h.1 (logical_of line column held ∷ more) h.2
-    (holds_all line column (tokens ++ h.0) h.1 (number + 1) lines behind held more h.3 behind_it)
+holds_all : (line column : ℕ) (tokens : List Token) (x : Ending) (number : ℕ) (lines following : List (List ℕ)) (held : Body) (more : List Logical)
+    → Holds column tokens x lines following held → AreLogical None (number + length lines) following more → Onward (settled line column tokens x) number (lines ++ following) (logical_of line column held ∷ more)
+holds_all line column tokens x number [] following held more h rest =
+    holds_none line column tokens x number following held more h (subst (λ (n : ℕ). AreLogical None n following more) (no_line_more number) rest)
+holds_all line column tokens x number (next ∷ lines) following held more h rest =
+    let after_it = subst (λ (n : ℕ). AreLogical None n following more) (one_line_more number next lines) rest in
+    takes_line line column tokens x number next (lines ++ following) h.0 h.1 (logical_of line column held ∷ more) h.2
+    (holds_all line column (tokens ++ h.0) h.1 (number + 1) lines following held more h.3 after_it)
 
-spoken_steps : (o : Option Directive) (number : ℕ) (line : List ℕ) (lines behind : List (List ℕ)) (xs more : List Logical)
-    → IsBegun o number line lines behind xs → AreLogical None (number + 1 + length lines) behind more → Steps (Speaks o number line) number (lines ++ behind) (xs ++ more)
-spoken_steps None number line lines behind xs more h rest =
+spoken_steps : (o : Option Directive) (number : ℕ) (line : List ℕ) (lines following : List (List ℕ)) (xs more : List Logical)
+    → IsBegun o number line lines following xs → AreLogical None (number + 1 + length lines) following more → Steps (Speaks o number line) number (lines ++ following) (xs ++ more)
+spoken_steps None number line lines following xs more h rest =
     let margin = column line in
-    let onward = holds_all number margin h.tokens h.end (number + 1) lines behind h.held more h.holds rest in
-    let steps = settles (settled number margin h.tokens h.end) number (lines ++ behind) (logical_of number margin h.held ∷ more) onward in
+    let onward = holds_all number margin h.tokens h.end (number + 1) lines following h.held more h.holds rest in
+    let steps = settles (settled number margin h.tokens h.end) number (lines ++ following) (logical_of number margin h.held ∷ more) onward in
     (steps.0, steps.1, steps.2, (h.tokens, h.end, h.first, steps.3), ap (λ (ys : List Logical). ys ++ more) h.is ∙ steps.4, steps.5)
-spoken_steps (Some d) number line [] behind xs more h rest =
-    (xs, None, more, (h.is, refl), refl, subst (λ (n : ℕ). AreLogical None n behind more) (no_line_more (number + 1)) rest)
-spoken_steps (Some d) number line (other ∷ lines) behind xs more h rest = let e = h.alone in absurd cc
+spoken_steps (Some d) number line [] following xs more h rest =
+    (xs, None, more, (h.is, refl), refl, subst (λ (n : ℕ). AreLogical None n following more) (no_line_more (number + 1)) rest)
+spoken_steps (Some d) number line (other ∷ lines) following xs more h rest = let e = h.alone in absurd cc
 
-skipped_steps : (number : ℕ) (line : List ℕ) (lines behind : List (List ℕ)) (xs more : List Logical) → is_skipped line ≡ true → lines ≡ [] → xs ≡ []
-    → AreLogical None (number + 1 + length lines) behind more → Steps (IsFresh number line) number (lines ++ behind) (xs ++ more)
-skipped_steps number line [] behind xs more is none empty rest =
-    ([], None, more, same_match _ _ _ is (refl, refl), ap (λ (ys : List Logical). ys ++ more) empty, subst (λ (n : ℕ). AreLogical None n behind more) (no_line_more (number + 1)) rest)
-skipped_steps number line (other ∷ lines) behind xs more is none empty rest = absurd cc
+skipped_steps : (number : ℕ) (line : List ℕ) (lines following : List (List ℕ)) (xs more : List Logical) → is_skipped line ≡ true → lines ≡ [] → xs ≡ []
+    → AreLogical None (number + 1 + length lines) following more → Steps (IsFresh number line) number (lines ++ following) (xs ++ more)
+skipped_steps number line [] following xs more is none empty rest =
+    ([], None, more, same_match _ _ _ is (refl, refl), ap (λ (ys : List Logical). ys ++ more) empty, subst (λ (n : ℕ). AreLogical None n following more) (no_line_more (number + 1)) rest)
+skipped_steps number line (other ∷ lines) following xs more is none empty rest = absurd cc
 
-piece_read : (number : ℕ) (piece behind : List (List ℕ)) (xs more : List Logical) → IsPiece number piece behind xs → AreLogical None (number + length piece) behind more → AreLogical None number (piece ++ behind) (xs ++ more)
-piece_read number [] behind xs more h rest = absurd h
-piece_read number (line ∷ lines) behind xs more h rest =
-    let after = subst (λ (n : ℕ). AreLogical None n behind more) (one_line_more number line lines) rest in
+piece_read : (number : ℕ) (piece following : List (List ℕ)) (xs more : List Logical) → IsPiece number piece following xs → AreLogical None (number + length piece) following more → AreLogical None number (piece ++ following) (xs ++ more)
+piece_read number [] following xs more h rest = absurd h
+piece_read number (line ∷ lines) following xs more h rest =
+    let after = subst (λ (n : ℕ). AreLogical None n following more) (one_line_more number line lines) rest in
     let P = (lines ≡ []) × (xs ≡ []) in
-    let Q = IsBegun (directive_of (after_blanks line)) number line lines behind xs in
+    let Q = IsBegun (directive_of (after_blanks line)) number line lines following xs in
     elim (cases_Bool (is_skipped line)) [
-      | inl skipped ↦ let both = MatchBool-at_true P Q skipped h in skipped_steps number line lines behind xs more skipped both.0 both.1 after
+      | inl skipped ↦ let both = MatchBool-at_true P Q skipped h in skipped_steps number line lines following xs more skipped both.0 both.1 after
       | inr spoken ↦
-          let steps = spoken_steps (directive_of (after_blanks line)) number line lines behind xs more (MatchBool-at_false P Q spoken h) after in
+          let steps = spoken_steps (directive_of (after_blanks line)) number line lines following xs more (MatchBool-at_false P Q spoken h) after in
           (steps.0, steps.1, steps.2, other_match _ _ _ spoken steps.3, steps.4, steps.5)
     ]
 
@@ -190,16 +190,16 @@ string_lexes bytes text =
 -- the lines that a statement takes, and what it holds
 record Taken (column : ℕ) (tokens : List Token) (x : Ending) (lines : List (List ℕ)) : Type 0 where
   taken : List (List ℕ)
-  behind : List (List ℕ)
+  following : List (List ℕ)
   held : Body
-  parts : lines ≡ taken ++ behind
-  holds : Holds column tokens x taken behind held
+  parts : lines ≡ taken ++ following
+  holds : Holds column tokens x taken following held
 
 takes_none : (column : ℕ) (tokens : List Token) (x : Ending) (lines : List (List ℕ)) (held : Body) → IsHeld column tokens x lines held → Taken column tokens x lines
-takes_none column tokens x lines held h = record { taken = []; behind = lines; held = held; parts = refl; holds = h }
+takes_none column tokens x lines held h = record { taken = []; following = lines; held = held; parts = refl; holds = h }
 
 takes_one : (column : ℕ) (tokens : List Token) (x : Ending) (line : List ℕ) (lines : List (List ℕ)) (more : List Token) (y : Ending) → GoesOn column tokens x line more y → Taken column (tokens ++ more) y lines → Taken column tokens x (line ∷ lines)
-takes_one column tokens x line lines more y on rest = record { taken = line ∷ rest.taken; behind = rest.behind; held = rest.held; parts = ap (λ (ls : List (List ℕ)). line ∷ ls) rest.parts; holds = (more, y, on, rest.holds) }
+takes_one column tokens x line lines more y on rest = record { taken = line ∷ rest.taken; following = rest.following; held = rest.held; parts = ap (λ (ls : List (List ℕ)). line ∷ ls) rest.parts; holds = (more, y, on, rest.holds) }
 
 -- it holds that where it takes none of the lines
 whole_held : (column : ℕ) (tokens : List Token) (lines : List (List ℕ)) → (goes_on tokens ≡ true → next_passes (takes column) lines ≡ false) → Taken column tokens ending.Whole lines
@@ -231,10 +231,10 @@ taken column tokens (ending.Broken bytes) (line ∷ lines) = elim (cases_Bool (r
 -- the further lines of the piece that a line begins
 record Spoken (o : Option Directive) (number : ℕ) (line : List ℕ) (lines : List (List ℕ)) : Type 0 where
   further : List (List ℕ)
-  behind : List (List ℕ)
+  following : List (List ℕ)
   xs : List Logical
-  parts : lines ≡ further ++ behind
-  spoken : IsBegun o number line further behind xs
+  parts : lines ≡ further ++ following
+  spoken : IsBegun o number line further following xs
 
 speaks : (o : Option Directive) (number : ℕ) (line : List ℕ) (lines : List (List ℕ)) → Spoken o number line lines
 speaks None number line lines =
@@ -242,12 +242,12 @@ speaks None number line lines =
     let rest = taken (column line) begun.tokens begun.end lines in
     record {
       further = rest.taken;
-      behind = rest.behind;
+      following = rest.following;
       xs = logical_of number (column line) rest.held ∷ [];
       parts = rest.parts;
       spoken = record { tokens = begun.tokens; end = begun.end; held = rest.held; first = begun.lexes; holds = rest.holds; is = refl };
     }
-speaks (Some d) number line lines = record { further = []; behind = lines; xs = directive_lines number (column line) (directive_body d (after_blanks line)); parts = refl; spoken = record { alone = refl; is = refl } }
+speaks (Some d) number line lines = record { further = []; following = lines; xs = directive_lines number (column line) (directive_body d (after_blanks line)); parts = refl; spoken = record { alone = refl; is = refl } }
 
 record Pieces (number : ℕ) (lines : List (List ℕ)) : Type 0 where
   pieces : List (List (List ℕ))
@@ -256,8 +256,8 @@ record Pieces (number : ℕ) (lines : List (List ℕ)) : Type 0 where
   are : ArePieces number pieces xs
 
 -- one piece more in front
-in_front : (number : ℕ) (line : List ℕ) (further behind : List (List ℕ)) (xs : List Logical) → ((others : List (List ℕ)) → behind ≡ others → IsPiece number (line ∷ further) others xs) → Pieces (number + length (line ∷ further)) behind → Pieces number (line ∷ (further ++ behind))
-in_front number line further behind xs piece rest = record {
+in_front : (number : ℕ) (line : List ℕ) (further following : List (List ℕ)) (xs : List Logical) → ((others : List (List ℕ)) → following ≡ others → IsPiece number (line ∷ further) others xs) → Pieces (number + length (line ∷ further)) following → Pieces number (line ∷ (further ++ following))
+in_front number line further following xs piece rest = record {
   pieces = (line ∷ further) ∷ rest.pieces;
   xs = xs ++ rest.xs;
   parts = ap (λ (ls : List (List ℕ)). line ∷ (further ++ ls)) rest.parts;
@@ -270,10 +270,10 @@ cut_step (line ∷ lines) again number = elim (cases_Bool (is_skipped line)) [
   | inl skipped ↦ in_front number line [] lines [] (λ others _. same_match _ _ _ skipped (refl, refl)) (again lines (omega arith) (number + length (line ∷ [])))
   | inr spoken ↦
       let s = speaks (directive_of (after_blanks line)) number line lines in
-      let rest = again s.behind (omega (arith, ap length s.parts, length-append s.further s.behind)) (number + length (line ∷ s.further)) in
-      let piece : (others : List (List ℕ)) → s.behind ≡ others → IsPiece number (line ∷ s.further) others s.xs =
+      let rest = again s.following (omega (arith, ap length s.parts, length-append s.further s.following)) (number + length (line ∷ s.further)) in
+      let piece : (others : List (List ℕ)) → s.following ≡ others → IsPiece number (line ∷ s.further) others s.xs =
       λ others is. other_match _ _ _ spoken (subst (λ (ls : List (List ℕ)). IsBegun (directive_of (after_blanks line)) number line s.further ls s.xs) is s.spoken) in
-      subst (λ (ls : List (List ℕ)). Pieces number (line ∷ ls)) (sym s.parts) (in_front number line s.further s.behind s.xs piece rest)
+      subst (λ (ls : List (List ℕ)). Pieces number (line ∷ ls)) (sym s.parts) (in_front number line s.further s.following s.xs piece rest)
 ]
 
 cut : (lines : List (List ℕ)) → Pieces 1 lines

@@ -14,14 +14,14 @@ use Rattle.occ_lines.specs.declared.text.Body.TheVariants as body
 abbrev pub directives : List (List ℕ × Directive)
 directives = (codes "INCLUDE", d.Include) ∷ (codes "USE", d.Use) ∷ (codes "COMMENT", d.Dropped) ∷ (codes "OPTION", d.Dropped) ∷ (codes "PRAGMA", d.Dropped) ∷ []
 
--- the longest front of bytes that may stand in a name, and what is behind it
+-- the longest front of bytes that may stand in a name, and what is after it
 abbrev pub name_front : List ℕ → List ℕ
 name_front text = take (prefix_len is_name_byte text) text
 
-abbrev pub behind_name : List ℕ → List ℕ
-behind_name text = drop (prefix_len is_name_byte text) text
+abbrev pub after_name : List ℕ → List ℕ
+after_name text = drop (prefix_len is_name_byte text) text
 
--- the directive that begins the text: a '#' (35), and its word behind that, the longest name there
+-- the directive that begins the text: a '#' (35), and its word after that, the longest name there
 unfoldable pub directive_of : List ℕ → Option Directive
 directive_of [] = None
 directive_of (b ∷ more) = cond (b == 35) (found_in directives (name_front more)) None
@@ -74,12 +74,12 @@ abbrev pub use_body : Option (List ℕ) → Body
 use_body None = body.Fault code.L1
 use_body (Some name) = if_named (name_fault (unit_name name)) (body.Uses (unit_name name))
 
--- what stands behind the word of the directive that begins the text
-abbrev pub behind_word : List ℕ → List ℕ
-behind_word text = after_blanks (behind_name (drop 1 text))
+-- what stands after the word of the directive that begins the text
+abbrev pub after_word : List ℕ → List ℕ
+after_word text = after_blanks (after_name (drop 1 text))
 
 -- what the line of a directive holds, if it is not dropped
 abbrev pub directive_body : Directive → List ℕ → Option Body
-directive_body d.Include text = Some (include_body (quoted_name (behind_word text)))
-directive_body d.Use text = Some (use_body (quoted_name (behind_word text)))
+directive_body d.Include text = Some (include_body (quoted_name (after_word text)))
+directive_body d.Use text = Some (use_body (quoted_name (after_word text)))
 directive_body d.Dropped text = None

@@ -156,7 +156,7 @@ pub record IsString (text : List ℕ) (token : Token) (rest : List ℕ) : Type 0
 abbrev pub IsToken : List ℕ → Token → List ℕ → Type 0
 IsToken text token rest = IsFirst text token rest ⊎ (IsCharacter text token rest ⊎ IsString text token rest)
 
--- what stands behind the blanks in front
+-- what stands after the blanks in front
 abbrev pub after_blanks : List ℕ → List ℕ
 after_blanks [] = []
 after_blanks (b ∷ more) = cond (is_blank b) (after_blanks more) (b ∷ more)
@@ -167,8 +167,8 @@ is_end [] = true
 is_end (a ∷ []) = false
 is_end (a ∷ b ∷ more) = a == 45 && b == 45
 
--- how a line ends with a string that is not closed on it, whose bytes up to there are these, where what is behind them spells none:
--- nothing is behind them, and the string is not closed; a '*' alone, and it is broken; else a bad byte or escape
+-- how a line ends with a string that is not closed on it, whose bytes up to there are these, where what is after them spells none:
+-- nothing is after them, and the string is not closed; a '*' alone, and it is broken; else a bad byte or escape
 abbrev pub string_ending : List ℕ → List ℕ → Ending
 string_ending bytes [] = ending.Bad code.L4
 string_ending bytes (b ∷ []) = cond (b == 42) (ending.Broken bytes) (ending.Bad code.L1)

@@ -22,7 +22,7 @@ use Rattle.occ_lines.specs.Directive.{directive_body, directive_of}
 use Rattle.occ_lines.specs.Lexeme.{Lexes, after_blanks, is_end, string_ending}
 use Rattle.occ_lines.specs.Quoted.{IsQuoted}
 
--- the column behind the blanks in front, where these begin at a column: a space (32) is one column, and a tab (9) goes to the next multiple of 8
+-- the column after the blanks in front, where these begin at a column: a space (32) is one column, and a tab (9) goes to the next multiple of 8
 abbrev pub column_from : ℕ → List ℕ → ℕ
 column_from column [] = column
 column_from column (b ∷ more) = cond (b == 32) (column_from (column + 1) more) (cond (b == 9) (column_from ((column / 8 + 1) * 8) more) column)
@@ -35,7 +35,7 @@ column line = column_from 0 line
 abbrev pub is_skipped : List ℕ → Bool
 is_skipped line = is_end (after_blanks line)
 
--- a statement goes on behind these words
+-- a statement goes on after these words
 abbrev pub goes_on_word : Word → Bool
 goes_on_word w.Rem = true
 goes_on_word w.Plus = true
@@ -56,7 +56,7 @@ goes_on_word w.Retypes = true
 goes_on_word w.Reshapes = true
 goes_on_word other = false
 
--- and behind every symbol but these
+-- and after every symbol but these
 abbrev pub goes_on_symbol : Symbol → Bool
 goes_on_symbol s.Counted = false
 goes_on_symbol s.Open = false
@@ -136,24 +136,24 @@ abbrev pub next_passes : (List ℕ → Bool) → List (List ℕ) → Bool
 next_passes passes [] = false
 next_passes passes (line ∷ lines) = passes line
 
--- what such a statement holds where it takes none of the lines behind it
+-- what such a statement holds where it takes none of the lines after it
 abbrev pub IsHeld : ℕ → List Token → Ending → List (List ℕ) → Body → Type 0
-IsHeld margin tokens ending.Whole behind held = MatchBool (goes_on tokens) ((next_passes (takes margin) behind ≡ false) × (held ≡ body.Fault code.L3)) (held ≡ body.Tokens tokens)
-IsHeld margin tokens (ending.Broken bytes) behind held = (next_passes (resumes margin) behind ≡ false) × (held ≡ body.Fault code.L4)
-IsHeld margin tokens (ending.Bad fault) behind held = held ≡ body.Fault fault
+IsHeld margin tokens ending.Whole following held = MatchBool (goes_on tokens) ((next_passes (takes margin) following ≡ false) × (held ≡ body.Fault code.L3)) (held ≡ body.Tokens tokens)
+IsHeld margin tokens (ending.Broken bytes) following held = (next_passes (resumes margin) following ≡ false) × (held ≡ body.Fault code.L4)
+IsHeld margin tokens (ending.Bad fault) following held = held ≡ body.Fault fault
 
--- what such a statement holds where it takes these lines, one after the other, and none of those behind them
+-- what such a statement holds where it takes these lines, one after the other, and none of those after them
 abbrev pub Holds : ℕ → List Token → Ending → List (List ℕ) → List (List ℕ) → Body → Type 0
-Holds margin tokens x [] behind held = IsHeld margin tokens x behind held
-Holds margin tokens x (line ∷ lines) behind held = (more : List Token) × (y : Ending) × GoesOn margin tokens x line more y × Holds margin (tokens ++ more) y lines behind held
+Holds margin tokens x [] following held = IsHeld margin tokens x following held
+Holds margin tokens x (line ∷ lines) following held = (more : List Token) × (y : Ending) × GoesOn margin tokens x line more y × Holds margin (tokens ++ more) y lines following held
 
--- a statement begins on the line of that number, takes these further lines and none of those behind them, and is this logical line
-pub record IsStatement (number : ℕ) (line : List ℕ) (further behind : List (List ℕ)) (xs : List Logical) : Type 0 where
+-- a statement begins on the line of that number, takes these further lines and none of those after them, and is this logical line
+pub record IsStatement (number : ℕ) (line : List ℕ) (further following : List (List ℕ)) (xs : List Logical) : Type 0 where
   pub tokens : List Token
   pub end : Ending
   pub held : Body
   pub first : Lexes line tokens end
-  pub holds : Holds (column line) tokens end further behind held
+  pub holds : Holds (column line) tokens end further following held
   pub is : xs ≡ logical_of number (column line) held ∷ []
 
 -- a directive stands on the line of that number alone, and is these logical lines, one or none
@@ -163,13 +163,13 @@ pub record IsDirective (directive : Directive) (number : ℕ) (line : List ℕ) 
 
 -- what the line of that number begins, which is not skipped
 abbrev pub IsBegun : Option Directive → ℕ → List ℕ → List (List ℕ) → List (List ℕ) → List Logical → Type 0
-IsBegun None number line further behind xs = IsStatement number line further behind xs
-IsBegun (Some directive) number line further behind xs = IsDirective directive number line further xs
+IsBegun None number line further following xs = IsStatement number line further following xs
+IsBegun (Some directive) number line further following xs = IsDirective directive number line further xs
 
--- a piece of a text, from the line of that number on, with the lines behind it, and its logical lines: a skipped line, a directive, or a statement with the lines that it takes
+-- a piece of a text, from the line of that number on, with the lines after it, and its logical lines: a skipped line, a directive, or a statement with the lines that it takes
 abbrev pub IsPiece : ℕ → List (List ℕ) → List (List ℕ) → List Logical → Type 0
-IsPiece number [] behind xs = ⊥
-IsPiece number (line ∷ further) behind xs = MatchBool (is_skipped line) ((further ≡ []) × (xs ≡ [])) (IsBegun (directive_of (after_blanks line)) number line further behind xs)
+IsPiece number [] following xs = ⊥
+IsPiece number (line ∷ further) following xs = MatchBool (is_skipped line) ((further ≡ []) × (xs ≡ [])) (IsBegun (directive_of (after_blanks line)) number line further following xs)
 
 -- the lines of pieces, one after the other
 abbrev pub joined : List (List (List ℕ)) → List (List ℕ)
@@ -185,7 +185,7 @@ ArePieces number (piece ∷ pieces) xs = (ended : List Logical) × (more : List 
 unfoldable pub IsLines : List ℕ → List Logical → Type 0
 IsLines text xs = (pieces : List (List (List ℕ))) × (map without_terminator (lines_of text) ≡ joined pieces) × ArePieces 1 pieces xs
 
--- how many lines a text has: its line feeds, and one if bytes stand behind the last
+-- how many lines a text has: its line feeds, and one if bytes stand after the last
 abbrev pub line_count : List ℕ → ℕ
 line_count text = length (lines_of text)
 

@@ -1,18 +1,18 @@
 //! Blanks, comments and columns: where the first other byte is. `docs/LANGUAGE.md, Lines and tokens`.
 ghost use Rattle.std.specs.Prelude.{◌≡◌, ◌≤◌, ◌*◌, length};
-ghost use Rattle.occ_lines.specs.Lexeme.{after_blanks as behind_blanks, is_blank as a_blank, is_end as an_end};
-ghost use Rattle.occ_lines.specs.Lines.{column as the_column};
+ghost use Rattle.occ_lines.specs.Lexeme.{after_blanks as spec_after_blanks, is_blank as spec_is_blank, is_end as spec_is_end};
+ghost use Rattle.occ_lines.specs.Lines.{column as spec_column};
 
 /// Whether the byte is a space or a tab.
 pub fn is_blank(b: u8) -> bool
-    ensures { result ≡ a_blank b }
+    ensures { result ≡ spec_is_blank b }
 {
     b == b' ' || b == b'\t'
 }
 
-/// What stands behind the blanks in front.
+/// What stands after the blanks in front.
 pub fn after_blanks(text: &[u8]) -> &[u8]
-    ensures { result.now ≡ behind_blanks text.now }
+    ensures { result.now ≡ spec_after_blanks text.now }
 {
     for (i, b) in text.iter().enumerate() {
         if !is_blank(*b) {
@@ -24,7 +24,7 @@ pub fn after_blanks(text: &[u8]) -> &[u8]
 
 /// Whether there is nothing, or a comment.
 pub fn is_end(text: &[u8]) -> bool
-    ensures { result ≡ an_end text.now }
+    ensures { result ≡ spec_is_end text.now }
 {
     match text {
         [] | [b'-', b'-', ..] => true,
@@ -35,7 +35,7 @@ pub fn is_end(text: &[u8]) -> bool
 /// The column of the first byte that is no blank.
 pub fn column(line: &[u8]) -> u32
     requires { length line.now ≤ 262144 }
-    ensures value { result ≡ the_column line.now }
+    ensures value { result ≡ spec_column line.now }
     ensures small { result ≤ 8 * length line.now }
 {
     let mut column = 0;

@@ -1,13 +1,13 @@
 //! Directives.
 ghost use Rattle.std.specs.Prelude.{◌≡◌, ◌≤◌, ◌==◌, cond, IfOk, MatchOption, None, Some, length};
 ghost use Rattle.std.specs.List.{prefix_len};
-ghost use Rattle.occ_lines.specs.Directive.{behind_word as the_behind_word, directive_body as the_directive_body, directive_of as the_directive_of, include_body as the_include_body, is_quoted_byte as a_quoted_byte, last_dot as the_last_dot, quoted_name as the_quoted_name, use_body as the_use_body, unit_name as the_unit_name, without_suffix as the_without_suffix};
+ghost use Rattle.occ_lines.specs.Directive.{after_word as spec_after_word, directive_body as spec_directive_body, directive_of as spec_directive_of, include_body as spec_include_body, is_quoted_byte as spec_is_quoted_byte, last_dot as spec_last_dot, quoted_name as spec_quoted_name, use_body as spec_use_body, unit_name as spec_unit_name, without_suffix as spec_without_suffix};
 
-use crate::Body;
-use crate::blanks::{after_blanks, is_end};
-use crate::lexeme::{behind_first, found_in};
-use crate::quoted::behind;
-use crate::scan::name_len;
+use super::blanks::{after_blanks, is_end};
+use super::lexeme::{after_first, found_in};
+use super::quoted::following;
+use super::scan::name_len;
+use super::text::Body;
 use occ_base::{Code, FileName};
 use std::alloc::{AllocError, Global};
 
@@ -34,30 +34,30 @@ const DIRECTIVES: [(&[u8], Directive); 5] = [
 /// The directive that begins the text.
 #[tactic(auto, unfolding(crate::specs::Directive::directive_of))]
 pub fn directive_of(text: &[u8]) -> Option<Directive>
-    ensures { result ≡ the_directive_of text.now }
+    ensures { result ≡ spec_directive_of text.now }
 {
-    let word = behind(text, b'#')?;
+    let word = following(text, b'#')?;
     found_in(&DIRECTIVES, word.split_at(name_len(word)).0)
 }
 
-/// What stands behind the word of a directive.
-fn behind_word(text: &[u8]) -> &[u8]
-    ensures { result.now ≡ the_behind_word text.now }
+/// What stands after the word of a directive.
+fn after_word(text: &[u8]) -> &[u8]
+    ensures { result.now ≡ spec_after_word text.now }
 {
-    let word = behind_first(text);
+    let word = after_first(text);
     after_blanks(word.split_at(name_len(word)).1)
 }
 
 /// Whether the byte may stand in a quoted name.
 fn is_quoted_byte(b: u8) -> bool
-    ensures { result ≡ a_quoted_byte b }
+    ensures { result ≡ spec_is_quoted_byte b }
 {
     32 <= b && b <= 126 && b != b'"'
 }
 
 /// How many bytes in front may stand in a quoted name.
 fn quoted_len(text: &[u8]) -> usize
-    ensures value { result ≡ prefix_len a_quoted_byte text.now }
+    ensures value { result ≡ prefix_len spec_is_quoted_byte text.now }
     ensures within { result ≤ length text.now }
 {
     for (i, b) in text.iter().enumerate() {
@@ -70,11 +70,11 @@ fn quoted_len(text: &[u8]) -> usize
 
 /// The name between quotes, where nothing else stands on the line.
 fn quoted_name(text: &[u8]) -> Option<&[u8]>
-    ensures { MatchOption result (the_quoted_name text.now ≡ None) (λ name. the_quoted_name text.now ≡ Some name.now) }
+    ensures { MatchOption result (spec_quoted_name text.now ≡ None) (λ name. spec_quoted_name text.now ≡ Some name.now) }
 {
-    let body = behind(text, b'"')?;
+    let body = following(text, b'"')?;
     let (name, rest) = body.split_at(quoted_len(body));
-    let rest = behind(rest, b'"')?;
+    let rest = following(rest, b'"')?;
     if is_end(after_blanks(rest)) {
         Some(name)
     } else {
@@ -91,7 +91,7 @@ fn later_dot(last: Option<usize>, place: usize, b: u8) -> Option<usize>
 
 /// Where the last dot stands.
 fn last_dot(name: &[u8]) -> Option<usize>
-    ensures { result ≡ the_last_dot name.now }
+    ensures { result ≡ spec_last_dot name.now }
 {
     let mut last = None;
     for (i, b) in name.iter().enumerate() {
@@ -102,7 +102,7 @@ fn last_dot(name: &[u8]) -> Option<usize>
 
 /// The name without its suffix.
 fn without_suffix(name: &[u8]) -> &[u8]
-    ensures { result.now ≡ the_without_suffix name.now }
+    ensures { result.now ≡ spec_without_suffix name.now }
 {
     match last_dot(name) {
         Some(dot) => name.split_at(dot).0,
@@ -110,9 +110,9 @@ fn without_suffix(name: &[u8]) -> &[u8]
     }
 }
 
-/// What a line holds that includes what is named behind its word.
+/// What a line holds that includes what is named after its word.
 fn include_body(text: &[u8]) -> Body
-    ensures { result ≡ the_include_body (the_quoted_name text.now) }
+    ensures { result ≡ spec_include_body (spec_quoted_name text.now) }
 {
     let Some(name) = quoted_name(text) else {
         return Body::Fault(Code::L1);
@@ -125,7 +125,7 @@ fn include_body(text: &[u8]) -> Body
 
 /// The name of the unit that is used by that name.
 fn unit_name(alloc: Global, name: &[u8]) -> Result<Vec<u8>, AllocError>
-    ensures { IfOk result (λ unit. unit.items ≡ the_unit_name name.now) }
+    ensures { IfOk result (λ unit. unit.items ≡ spec_unit_name name.now) }
 {
     let mut unit = Vec::new(alloc);
     unit.extend_from_slice(without_suffix(name))?;
@@ -133,9 +133,9 @@ fn unit_name(alloc: Global, name: &[u8]) -> Result<Vec<u8>, AllocError>
     Ok(unit)
 }
 
-/// What a line holds that uses what is named behind its word.
+/// What a line holds that uses what is named after its word.
 fn use_body(alloc: Global, text: &[u8]) -> Result<Body, AllocError>
-    ensures { IfOk result (λ body. body ≡ the_use_body (the_quoted_name text.now)) }
+    ensures { IfOk result (λ body. body ≡ spec_use_body (spec_quoted_name text.now)) }
 {
     let Some(name) = quoted_name(text) else {
         return Ok(Body::Fault(Code::L1));
@@ -153,11 +153,11 @@ pub fn directive_body(
     directive: Directive,
     text: &[u8],
 ) -> Result<Option<Body>, AllocError>
-    ensures { IfOk result (λ body. body ≡ the_directive_body directive text.now) }
+    ensures { IfOk result (λ body. body ≡ spec_directive_body directive text.now) }
 {
     match directive {
-        Directive::Include => Ok(Some(include_body(behind_word(text)))),
-        Directive::Use => Ok(Some(use_body(alloc, behind_word(text))?)),
+        Directive::Include => Ok(Some(include_body(after_word(text)))),
+        Directive::Use => Ok(Some(use_body(alloc, after_word(text))?)),
         Directive::Dropped => Ok(None),
     }
 }

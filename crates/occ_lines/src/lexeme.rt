@@ -4,10 +4,10 @@ ghost use Rattle.std.specs.Char.{is_ascii_digit, is_ascii_hexdigit};
 ghost use Rattle.std.specs.List.{list_all};
 ghost use Rattle.std.specs.Str.Parse.{digits_value};
 ghost use Rattle.occ_lines.specs.inside.Scan.{may_end_pair};
-ghost use Rattle.occ_lines.specs.Lexeme.{found_in, greatest, is_hexadecimal as a_hexadecimal, is_name as a_name, is_name_byte as a_name_byte, is_number as a_number, is_symbol as a_symbol, reserved_row as the_reserved_row, starts_hexadecimal as begins_hexadecimal, starts_name as begins_name, starts_number as begins_number, symbol_row as the_symbol_row};
+ghost use Rattle.occ_lines.specs.Lexeme.{found_in, greatest, is_hexadecimal as spec_is_hexadecimal, is_name as spec_is_name, is_name_byte as spec_is_name_byte, is_number as spec_is_number, is_symbol as spec_is_symbol, reserved_row as spec_reserved_row, starts_hexadecimal as spec_starts_hexadecimal, starts_name as spec_starts_name, starts_number as spec_starts_number, symbol_row as spec_symbol_row};
 
-use super::{Symbol, Word};
-use crate::quoted::digit_value;
+use super::quoted::digit_value;
+use super::token::{Symbol, Word};
 
 /// The spellings of symbols of two bytes, each with the symbol that it is.
 const PAIRS: [(&[u8], Symbol); 10] = [
@@ -109,7 +109,7 @@ pub fn found_in<T: Copy>(table: &[(&[u8], T)], bytes: &[u8]) -> Option<T>
 /// What one byte is as a symbol, if it spells one.
 #[tactic(auto, unfolding(crate::specs::Lexeme::symbol_row))]
 fn mark(byte: u8) -> Option<Symbol>
-    ensures { result ≡ the_symbol_row (byte ∷ []) }
+    ensures { result ≡ spec_symbol_row (byte ∷ []) }
 {
     match byte {
         b'+' => Some(Symbol::Plus),
@@ -145,7 +145,7 @@ fn ends_pair(byte: u8) -> bool
 /// What the bytes are as a symbol, if they spell one.
 #[tactic(auto, unfolding(crate::specs::Lexeme::symbol_row))]
 pub fn symbol_row(bytes: &[u8]) -> Option<Symbol>
-    ensures { result ≡ the_symbol_row bytes.now }
+    ensures { result ≡ spec_symbol_row bytes.now }
 {
     match bytes {
         [byte] => mark(*byte),
@@ -157,7 +157,7 @@ pub fn symbol_row(bytes: &[u8]) -> Option<Symbol>
 /// What the bytes are as a reserved word, if they are one. All of these begin with a capital letter.
 #[tactic(auto, unfolding(crate::specs::Lexeme::reserved_row))]
 pub fn reserved_row(bytes: &[u8]) -> Option<Word>
-    ensures { result ≡ the_reserved_row bytes.now }
+    ensures { result ≡ spec_reserved_row bytes.now }
 {
     match bytes {
         [first, ..] if first.is_ascii_uppercase() => found_in(&RESERVED, bytes),
@@ -168,21 +168,21 @@ pub fn reserved_row(bytes: &[u8]) -> Option<Word>
 /// Whether the bytes spell a symbol.
 #[tactic(auto, unfolding(crate::specs::Lexeme::is_symbol))]
 pub fn is_symbol(bytes: &[u8]) -> bool
-    ensures { result ≡ a_symbol bytes.now }
+    ensures { result ≡ spec_is_symbol bytes.now }
 {
     symbol_row(bytes).is_some()
 }
 
 /// Whether the byte may stand in a name.
 pub fn is_name_byte(b: u8) -> bool
-    ensures { result ≡ a_name_byte b }
+    ensures { result ≡ spec_is_name_byte b }
 {
     b.is_ascii_alphanumeric() || b == b'.'
 }
 
 /// Whether the first byte is a letter.
 pub fn starts_name(text: &[u8]) -> bool
-    ensures { result ≡ begins_name text.now }
+    ensures { result ≡ spec_starts_name text.now }
 {
     match text {
         [first, ..] => first.is_ascii_alphabetic(),
@@ -192,7 +192,7 @@ pub fn starts_name(text: &[u8]) -> bool
 
 /// Whether the first byte is a digit.
 pub fn starts_number(text: &[u8]) -> bool
-    ensures { result ≡ begins_number text.now }
+    ensures { result ≡ spec_starts_number text.now }
 {
     match text {
         [first, ..] => first.is_ascii_digit(),
@@ -202,7 +202,7 @@ pub fn starts_number(text: &[u8]) -> bool
 
 /// Whether each byte may stand in a name.
 fn has_name_bytes(bytes: &[u8]) -> bool
-    ensures { result ≡ list_all a_name_byte bytes.now }
+    ensures { result ≡ list_all spec_is_name_byte bytes.now }
 {
     bytes.iter().all(|b| is_name_byte(*b))
 }
@@ -216,21 +216,21 @@ fn has_digits(bytes: &[u8]) -> bool
 
 /// Whether the bytes are a name.
 pub fn is_name(bytes: &[u8]) -> bool
-    ensures { result ≡ a_name bytes.now }
+    ensures { result ≡ spec_is_name bytes.now }
 {
     starts_name(bytes) && has_name_bytes(bytes)
 }
 
 /// Whether the bytes are decimal digits.
 pub fn is_number(bytes: &[u8]) -> bool
-    ensures { result ≡ a_number bytes.now }
+    ensures { result ≡ spec_is_number bytes.now }
 {
     starts_number(bytes) && has_digits(bytes)
 }
 
 /// Whether a `#` and a hexadecimal digit stand first.
 pub fn starts_hexadecimal(text: &[u8]) -> bool
-    ensures { result ≡ begins_hexadecimal text.now }
+    ensures { result ≡ spec_starts_hexadecimal text.now }
 {
     match text {
         [first, second, ..] => *first == b'#' && second.is_ascii_hexdigit(),
@@ -245,8 +245,8 @@ fn has_hexadecimal_digits(bytes: &[u8]) -> bool
     bytes.iter().all(|b| b.is_ascii_hexdigit())
 }
 
-/// What stands behind the first byte.
-pub fn behind_first(text: &[u8]) -> &[u8]
+/// What stands after the first byte.
+pub fn after_first(text: &[u8]) -> &[u8]
     ensures { result.now ≡ drop 1 text.now }
 {
     match text {
@@ -257,12 +257,12 @@ pub fn behind_first(text: &[u8]) -> &[u8]
 
 /// Whether the bytes are a `#` and hexadecimal digits.
 pub fn is_hexadecimal(bytes: &[u8]) -> bool
-    ensures { result ≡ a_hexadecimal bytes.now }
+    ensures { result ≡ spec_is_hexadecimal bytes.now }
 {
-    starts_hexadecimal(bytes) && has_hexadecimal_digits(behind_first(bytes))
+    starts_hexadecimal(bytes) && has_hexadecimal_digits(after_first(bytes))
 }
 
-/// The number with one more digit behind it, where a token holds it.
+/// The number with one more digit after it, where a token holds it.
 pub fn appended(radix: u64, number: u64, digit: u64) -> Option<u64>
     ensures { SomeIff result (number * radix + digit ≤ greatest) (number * radix + digit) }
 {

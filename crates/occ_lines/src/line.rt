@@ -1,30 +1,31 @@
 //! One line of the text after the other.
 ghost use Rattle.std.specs.Prelude.{◌≡◌, ◌≤◌, IfOk, List, length};
-ghost use Rattle.occ_lines.specs.Directive.{directive_body as the_directive_body};
-ghost use Rattle.occ_lines.specs.Lexeme.{after_blanks as behind_blanks};
-ghost use Rattle.occ_lines.specs.Lines.{column as the_column, directive_lines as the_directive_lines, is_skipped as a_skipped, logical_of as the_logical_of};
+ghost use Rattle.occ_lines.specs.Directive.{directive_body as spec_directive_body};
+ghost use Rattle.occ_lines.specs.Lexeme.{after_blanks as spec_after_blanks};
+ghost use Rattle.occ_lines.specs.Lines.{column as spec_column, directive_lines as spec_directive_lines, is_skipped as spec_is_skipped, logical_of as spec_logical_of};
 ghost use Rattle.occ_lines.specs.inside.Walk.{BreaksOff, Continues, IsFresh, IsLine, IsWanted, Resumes, Settles};
 ghost use Rattle.occ_lines.specs.inside.Scan.{Adds};
 ghost use Rattle.occ_lines.specs.declared.text.Body.TheVariants as body;
 
-use super::{Body, Logical, Token};
-use crate::blanks::{after_blanks, column, is_end};
-use crate::directive::{Directive, directive_body, directive_of};
-use crate::lexeme::behind_first;
-use crate::statement::{
+use super::blanks::{after_blanks, column, is_end};
+use super::directive::{Directive, directive_body, directive_of};
+use super::lexeme::after_first;
+use super::statement::{
     Reached, Statement, Wants, continues, logical_of, read_string, resumes, settled,
 };
-use crate::tokens;
+use super::text::{Body, Logical};
+use super::token::Token;
+use super::tokens;
 use occ_base::{Code, Items};
 use std::alloc::{AllocError, Global};
 
 /// For so many tokens there is room where a line begins: more than most lines have.
 const ROOM: usize = 16;
 
-/// The logical lines that are found, and the statement that is open behind them.
+/// The logical lines that are found, and the statement that is open after them.
 type Found = (Items<Logical>, Option<Statement>);
 
-/// A statement that is read so far is put behind those that are found, or stays open.
+/// A statement that is read so far is put after those that are found, or stays open.
 fn settle(found: Items<Logical>, reached: Reached) -> Result<Found, AllocError>
     ensures { IfOk result (λ x. Adds found x.0 (λ ended. Settles reached ended x.1)) }
 {
@@ -65,7 +66,7 @@ fn resumed(
 ) -> Result<Found, AllocError>
     ensures { IfOk result (λ x. Adds found x.0 (λ ended. Resumes first column tokens bytes line.now ended x.1)) }
 {
-    let (tokens, ending) = read_string(alloc, tokens, bytes, behind_first(after_blanks(line)))?;
+    let (tokens, ending) = read_string(alloc, tokens, bytes, after_first(after_blanks(line)))?;
     settle(found, settled(first, column, tokens, ending))
 }
 
@@ -78,7 +79,7 @@ fn directed(
     line: &[u8],
 ) -> Result<Items<Logical>, AllocError>
     requires { length line.now ≤ 262144 }
-    ensures { IfOk result (λ all. Adds found all (λ ended. ended ≡ the_directive_lines number (the_column line.now) (the_directive_body directive (behind_blanks line.now)))) }
+    ensures { IfOk result (λ all. Adds found all (λ ended. ended ≡ spec_directive_lines number (spec_column line.now) (spec_directive_body directive (spec_after_blanks line.now)))) }
 {
     let column = column(line);
     let mut found = found;
@@ -95,7 +96,7 @@ fn directed(
 
 /// Whether the line is blanks, or blanks and a comment.
 fn is_skipped(line: &[u8]) -> bool
-    ensures { result ≡ a_skipped line.now }
+    ensures { result ≡ spec_is_skipped line.now }
 {
     is_end(after_blanks(line))
 }

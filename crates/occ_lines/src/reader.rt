@@ -1,12 +1,12 @@
 //! The logical lines of a text.
 ghost use Rattle.std.specs.Prelude.{◌≡◌, ◌++◌, ◌≤◌, ◌<◌, ◌↔◌, List, IsTrue, IsErrOf, IfOk, length};
 ghost use Rattle.occ_lines.specs.Lines.{IsLines, limit_fault, line_count};
-ghost use Rattle.occ_lines.specs.inside.Walk.{AreRead, unfinished as the_unfinished};
+ghost use Rattle.occ_lines.specs.inside.Walk.{AreRead, unfinished as spec_unfinished};
 ghost use Rattle.occ_lines.specs.declared.text.Logical.{Logical as ALogical};
 
-use super::{Body, Logical, TextFault};
-use crate::line::read_line;
-use crate::statement::{Statement, Wants, logical_of};
+use super::line::read_line;
+use super::statement::{Statement, Wants, logical_of};
+use super::text::{Body, Logical, TextFault};
 use bstr::ByteSlice;
 use occ_base::{Code, Items};
 use std::alloc::{AllocError, Global};
@@ -49,7 +49,7 @@ fn finished(
     found: Items<Logical>,
     statement: Option<Statement>,
 ) -> Result<Items<Logical>, AllocError>
-    ensures { IfOk result (λ all. all ≡ found ++ the_unfinished statement) }
+    ensures { IfOk result (λ all. all ≡ found ++ spec_unfinished statement) }
 {
     let mut found = found;
     if let Some(statement) = statement {

@@ -114,7 +114,7 @@ pub fn line_rows()
     ensures blank { is_skipped (32 ∷ 9 ∷ []) ≡ true }
     ensures comment { is_skipped (codes "   --" ++ 255 ∷ []) ≡ true }
     ensures minus { is_skipped (codes "-") ≡ false }
-    ensures behind { is_skipped (codes "a --") ≡ false }
+    ensures following { is_skipped (codes "a --") ≡ false }
     ensures odd { logical_of 7 1 (body.Fault code.L1) ≡ logical_of 7 1 (body.Fault code.L2) }
     ensures same { continues 2 (codes "   x") ≡ true }
     ensures left { continues 2 (codes " x") ≡ false }
@@ -136,14 +136,14 @@ pub fn directive_rows()
     ensures small { directive_of (codes "#use") ≡ None }
     ensures apart { directive_of (codes "# USE") ≡ None }
     ensures file { directive_body d.Include (codes "#INCLUDE \"k.inc\" --") ≡ Some (body.Include (codes "k.inc")) }
-    ensures behind { directive_body d.Include (codes "#INCLUDE \"k.inc\" x") ≡ Some (body.Fault code.L1) }
+    ensures following { directive_body d.Include (codes "#INCLUDE \"k.inc\" x") ≡ Some (body.Fault code.L1) }
     ensures unit { directive_body d.Use (codes "#USE \"a.b.c\"") ≡ Some (body.Uses (codes "a.b.occ")) }
     ensures empty { directive_body d.Use (codes "#USE\"\"") ≡ Some (body.Uses (codes ".occ")) }
     ensures bad { directive_body d.Use (codes "#USE \"a?b\"") ≡ Some (body.Fault code.L1) }
     ensures dropped { directive_body d.Dropped (codes "#OPTION") ≡ None }
 {}
 
-/// Behind which tokens a statement goes on.
+/// After which tokens a statement goes on.
 pub fn goes_on_rows()
     ensures none { goes_on [] ≡ false }
     ensures assign { goes_on (t.Name (codes "a") ∷ t.Symbol s.Assign ∷ []) ≡ true }

@@ -2,16 +2,16 @@
 ghost use Rattle.std.specs.Prelude.{◌≡◌, ◌≤◌, ◌↔◌, IsTrue, length, take, true};
 ghost use Rattle.std.specs.Char.{is_ascii_digit as a_digit, is_ascii_hexdigit as a_hexdigit};
 ghost use Rattle.std.specs.List.{prefix_len};
-ghost use Rattle.occ_lines.specs.Lexeme.{is_lexeme, is_name_byte as a_name_byte, is_symbol as a_symbol};
+ghost use Rattle.occ_lines.specs.Lexeme.{is_lexeme, is_name_byte as spec_is_name_byte, is_symbol as spec_is_symbol};
 ghost use Rattle.occ_lines.specs.inside.Scan.{IsLongest};
 
-use crate::lexeme::{
-    behind_first, is_name_byte, is_symbol, starts_hexadecimal, starts_name, starts_number,
+use super::lexeme::{
+    after_first, is_name_byte, is_symbol, starts_hexadecimal, starts_name, starts_number,
 };
 
 /// How many bytes in front may stand in a name.
 pub fn name_len(text: &[u8]) -> usize
-    ensures value { result ≡ prefix_len a_name_byte text.now }
+    ensures value { result ≡ prefix_len spec_is_name_byte text.now }
     ensures within { result ≤ length text.now }
 {
     for (i, b) in text.iter().enumerate() {
@@ -48,14 +48,14 @@ fn hexadecimal_len(text: &[u8]) -> usize
 
 /// Whether so many bytes stand in front and spell a symbol.
 fn starts_symbol(text: &[u8], len: usize) -> bool
-    ensures { IsTrue result ↔ ((len ≤ length text.now) × (a_symbol (take len text.now) ≡ true)) }
+    ensures { IsTrue result ↔ ((len ≤ length text.now) × (spec_is_symbol (take len text.now) ≡ true)) }
 {
     len <= text.len() && is_symbol(text.split_at(len).0)
 }
 
 /// The length of the longest symbol that begins the text, or 0.
 fn symbol_len(text: &[u8]) -> usize
-    ensures { IsLongest a_symbol text.now result }
+    ensures { IsLongest spec_is_symbol text.now result }
 {
     if starts_symbol(text, 2) {
         2
@@ -75,7 +75,7 @@ pub fn lexeme_len(text: &[u8]) -> usize
     } else if starts_number(text) {
         number_len(text)
     } else if starts_hexadecimal(text) {
-        1 + hexadecimal_len(behind_first(text))
+        1 + hexadecimal_len(after_first(text))
     } else {
         symbol_len(text)
     }

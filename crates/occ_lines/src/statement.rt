@@ -1,15 +1,16 @@
 //! A statement that is read line by line.
 ghost use Rattle.std.specs.Prelude.{◌≡◌, ◌≤◌, IfOk, List, length};
-ghost use Rattle.occ_lines.specs.Lines.{continues as it_continues, goes_on as it_goes_on, goes_on_symbol as symbol_goes_on, goes_on_token as token_goes_on, goes_on_word as word_goes_on, logical_of as the_logical_of, resumes as it_resumes};
-ghost use Rattle.occ_lines.specs.inside.Walk.{settled as the_settled};
+ghost use Rattle.occ_lines.specs.Lines.{continues as spec_continues, goes_on as spec_goes_on, goes_on_symbol as spec_goes_on_symbol, goes_on_token as spec_goes_on_token, goes_on_word as spec_goes_on_word, logical_of as spec_logical_of, resumes as spec_resumes};
+ghost use Rattle.occ_lines.specs.inside.Walk.{settled as spec_settled};
 ghost use Rattle.occ_lines.specs.inside.Scan.{IsStringRead};
 
-use super::{Body, Logical, Symbol, Token, Word};
-use crate::blanks::{after_blanks, column};
-use crate::directive::directive_of;
-use crate::ending::Ending;
-use crate::quoted::{behind, gather, string_ending};
-use crate::tokens;
+use super::blanks::{after_blanks, column};
+use super::directive::directive_of;
+use super::ending::Ending;
+use super::quoted::{following, gather, string_ending};
+use super::text::{Body, Logical};
+use super::token::{Symbol, Token, Word};
+use super::tokens;
 use occ_base::{Code, Items};
 use std::alloc::{AllocError, Global};
 
@@ -43,9 +44,9 @@ pub enum Reached {
     Done(Logical),
 }
 
-/// Whether a statement goes on behind the word.
+/// Whether a statement goes on after the word.
 fn goes_on_word(word: Word) -> bool
-    ensures { result ≡ word_goes_on word }
+    ensures { result ≡ spec_goes_on_word word }
 {
     matches!(
         word,
@@ -69,9 +70,9 @@ fn goes_on_word(word: Word) -> bool
     )
 }
 
-/// Whether a statement goes on behind the symbol.
+/// Whether a statement goes on after the symbol.
 fn goes_on_symbol(symbol: Symbol) -> bool
-    ensures { result ≡ symbol_goes_on symbol }
+    ensures { result ≡ spec_goes_on_symbol symbol }
 {
     !matches!(
         symbol,
@@ -86,9 +87,9 @@ fn goes_on_symbol(symbol: Symbol) -> bool
     )
 }
 
-/// Whether a statement goes on behind the token.
+/// Whether a statement goes on after the token.
 fn goes_on_token(token: &Token) -> bool
-    ensures { result ≡ token_goes_on token.now }
+    ensures { result ≡ spec_goes_on_token token.now }
 {
     match token {
         Token::Word(word) => goes_on_word(*word),
@@ -101,9 +102,9 @@ fn goes_on_token(token: &Token) -> bool
     }
 }
 
-/// Whether a statement goes on behind these tokens.
+/// Whether a statement goes on after these tokens.
 fn goes_on(tokens: &[Token]) -> bool
-    ensures { result ≡ it_goes_on tokens.now }
+    ensures { result ≡ spec_goes_on tokens.now }
 {
     match tokens {
         [.., last] => goes_on_token(last),
@@ -113,7 +114,7 @@ fn goes_on(tokens: &[Token]) -> bool
 
 /// The logical line that begins on that line and in that column.
 pub fn logical_of(line: u32, column: u32, body: Body) -> Logical
-    ensures { result ≡ the_logical_of line column body }
+    ensures { result ≡ spec_logical_of line column body }
 {
     let body = if column % 2 == 1 {
         Body::Fault(Code::L2)
@@ -129,7 +130,7 @@ pub fn logical_of(line: u32, column: u32, body: Body) -> Logical
 
 /// How far a statement is read, where one of its lines ends so.
 pub fn settled(line: u32, column: u32, tokens: Items<Token>, ending: Ending) -> Reached
-    ensures { result ≡ the_settled line column tokens ending }
+    ensures { result ≡ spec_settled line column tokens ending }
 {
     match ending {
         Ending::Whole => {
@@ -159,7 +160,7 @@ pub fn settled(line: u32, column: u32, tokens: Items<Token>, ending: Ending) -> 
 /// Whether a statement that began in that column goes on with the line, which is not skipped.
 pub fn continues(first: u32, line: &[u8]) -> bool
     requires { length line.now ≤ 262144 }
-    ensures { result ≡ it_continues first line.now }
+    ensures { result ≡ spec_continues first line.now }
 {
     first <= column(line) && directive_of(after_blanks(line)).is_none()
 }
@@ -167,12 +168,12 @@ pub fn continues(first: u32, line: &[u8]) -> bool
 /// Whether a string of a statement that began in that column goes on with the line.
 pub fn resumes(first: u32, line: &[u8]) -> bool
     requires { length line.now ≤ 262144 }
-    ensures { result ≡ it_resumes first line.now }
+    ensures { result ≡ spec_resumes first line.now }
 {
-    first <= column(line) && behind(after_blanks(line), b'*').is_some()
+    first <= column(line) && following(after_blanks(line), b'*').is_some()
 }
 
-/// The tokens of a line that goes on with a string, put behind those that are read already, and how it ends.
+/// The tokens of a line that goes on with a string, put after those that are read already, and how it ends.
 pub fn read_string(
     alloc: Global,
     so_far: Items<Token>,
@@ -183,7 +184,7 @@ pub fn read_string(
 {
     let mut found = so_far;
     let (bytes, rest) = gather(bytes, text)?;
-    match behind(rest, b'"') {
+    match following(rest, b'"') {
         Some(after) => {
             found.push(Token::String(bytes))?;
             tokens::read(alloc, found, after)

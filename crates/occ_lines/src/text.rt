@@ -2,7 +2,7 @@
 ghost use Rattle.std.specs.Prelude.{◌≡◌};
 ghost use Rattle.occ_lines.specs.declared.text.TextFault.TheVariants.{Memory};
 
-use super::Token;
+use super::token::Token;
 use occ_base::{Code, FileName, Items};
 use std::alloc::AllocError;
 use thiserror::Error;
@@ -30,7 +30,7 @@ pub struct Logical {
     pub body: Body,
 }
 
-/// Why a text has no logical lines. The first of this order is told.
+/// Why a text has no logical lines. The first of this order is reported.
 #[derive(Clone, Copy, Debug, Error)]
 pub enum TextFault {
     /// Over 262,144 bytes.

@@ -1,23 +1,23 @@
 //! The tokens of a line of the text.
 ghost use Rattle.std.specs.Prelude.{◌≡◌, ◌<◌, ◌∷◌, List, ℕ, IfErr, IfOk, length, true};
-ghost use Rattle.occ_lines.specs.Lexeme.{IsToken, Lexes, Stops, hexadecimal_token as the_hexadecimal_token, is_hexadecimal as a_hexadecimal, is_name as a_name, is_number as a_number, name_token as the_name_token, number_token as the_number_token, symbol_token as the_symbol_token, token_of as the_token};
+ghost use Rattle.occ_lines.specs.Lexeme.{IsToken, Lexes, Stops, hexadecimal_token as spec_hexadecimal_token, is_hexadecimal as spec_is_hexadecimal, is_name as spec_is_name, is_number as spec_is_number, name_token as spec_name_token, number_token as spec_number_token, symbol_token as spec_symbol_token, token_of as spec_token_of};
 ghost use Rattle.occ_lines.specs.inside.Scan.{IsRead};
 
-use super::Token;
-use crate::blanks::{after_blanks, is_end};
-use crate::ending::Ending;
-use crate::lexeme::{
-    behind_first, is_hexadecimal, is_name, is_number, reserved_row, symbol_row, value,
+use super::blanks::{after_blanks, is_end};
+use super::ending::Ending;
+use super::lexeme::{
+    after_first, is_hexadecimal, is_name, is_number, reserved_row, symbol_row, value,
 };
-use crate::quoted::{behind, gather, string_ending, unit};
-use crate::scan::lexeme_len;
+use super::quoted::{following, gather, string_ending, unit};
+use super::scan::lexeme_len;
+use super::token::Token;
 use occ_base::{Code, Items, Name};
 use std::alloc::{AllocError, Global};
 
 /// The token that a name is.
 #[tactic(auto, unfolding(crate::specs::Lexeme::name_token))]
 fn name_token(alloc: Global, name: &[u8]) -> Result<Token, AllocError>
-    ensures { IfOk result (λ found. found ≡ the_name_token name.now) }
+    ensures { IfOk result (λ found. found ≡ spec_name_token name.now) }
 {
     match reserved_row(name) {
         None => Ok(Token::Name(Name::from_slice(alloc, name)?)),
@@ -28,8 +28,8 @@ fn name_token(alloc: Global, name: &[u8]) -> Result<Token, AllocError>
 /// The token that digits are, if they are one.
 #[tactic(auto, unfolding(crate::specs::Lexeme::number_token))]
 fn number_token(digits: &[u8]) -> Option<Token>
-    requires { a_number digits.now ≡ true }
-    ensures { result ≡ the_number_token digits.now }
+    requires { spec_is_number digits.now ≡ true }
+    ensures { result ≡ spec_number_token digits.now }
 {
     match value(10, digits) {
         Some(value) => Some(Token::Decimal(value)),
@@ -40,10 +40,10 @@ fn number_token(digits: &[u8]) -> Option<Token>
 /// The token that a `#` and hexadecimal digits are, if they are one.
 #[tactic(auto, unfolding(crate::specs::Lexeme::hexadecimal_token))]
 fn hexadecimal_token(bytes: &[u8]) -> Option<Token>
-    requires { a_hexadecimal bytes.now ≡ true }
-    ensures { result ≡ the_hexadecimal_token bytes.now }
+    requires { spec_is_hexadecimal bytes.now ≡ true }
+    ensures { result ≡ spec_hexadecimal_token bytes.now }
 {
-    match value(16, behind_first(bytes)) {
+    match value(16, after_first(bytes)) {
         Some(value) => Some(Token::Hexadecimal(value)),
         None => None,
     }
@@ -52,7 +52,7 @@ fn hexadecimal_token(bytes: &[u8]) -> Option<Token>
 /// The token that a symbol is, if it is one.
 #[tactic(auto, unfolding(crate::specs::Lexeme::symbol_token))]
 fn symbol_token(bytes: &[u8]) -> Option<Token>
-    ensures { result ≡ the_symbol_token bytes.now }
+    ensures { result ≡ spec_symbol_token bytes.now }
 {
     match symbol_row(bytes) {
         Some(symbol) => Some(Token::Symbol(symbol)),
@@ -63,7 +63,7 @@ fn symbol_token(bytes: &[u8]) -> Option<Token>
 /// The token that the bytes are, if they are one.
 #[tactic(auto, unfolding(crate::specs::Lexeme::token_of))]
 fn token_of(alloc: Global, bytes: &[u8]) -> Result<Option<Token>, AllocError>
-    ensures { IfOk result (λ found. found ≡ the_token bytes.now) }
+    ensures { IfOk result (λ found. found ≡ spec_token_of bytes.now) }
 {
     if is_name(bytes) {
         Ok(Some(name_token(alloc, bytes)?))
@@ -101,7 +101,7 @@ fn character<'a>(text: &[u8], body: &'a [u8]) -> Result<(Token, &'a [u8]), Endin
     let Some((value, after)) = unit(b'\'', body) else {
         return Err(Ending::Bad(Code::L1));
     };
-    let Some(rest) = behind(after, b'\'') else {
+    let Some(rest) = following(after, b'\'') else {
         return Err(Ending::Bad(Code::L1));
     };
     Ok((Token::Character(value), rest))
@@ -119,7 +119,7 @@ fn string<'a>(
     ensures stops { IfOk result (λ r. IfErr r (λ ending. Stops text.now ending)) }
 {
     let (bytes, rest) = gather(Items::new(alloc), body)?;
-    match behind(rest, b'"') {
+    match following(rest, b'"') {
         Some(after) => Ok(Ok((Token::String(bytes), after))),
         None => Ok(Err(string_ending(bytes, rest))),
     }
@@ -131,16 +131,16 @@ pub fn first(alloc: Global, text: &[u8]) -> Result<Result<(Token, &[u8]), Ending
     ensures shorter { IfOk result (λ r. IfOk r (λ x. length x.1.now < length text.now)) }
     ensures stops { IfOk result (λ r. IfErr r (λ ending. Stops text.now ending)) }
 {
-    if let Some(body) = behind(text, b'"') {
+    if let Some(body) = following(text, b'"') {
         return string(alloc, text, body);
     }
-    if let Some(body) = behind(text, b'\'') {
+    if let Some(body) = following(text, b'\'') {
         return Ok(character(text, body));
     }
     lexeme(alloc, text)
 }
 
-/// The tokens of a line, put behind those that are read already, and how it ends.
+/// The tokens of a line, put after those that are read already, and how it ends.
 pub fn read(
     alloc: Global,
     so_far: Items<Token>,

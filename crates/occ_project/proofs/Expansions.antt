@@ -7,7 +7,7 @@ use Rattle.occ_project.specs.declared.entry.ExpansionEntry.{ExpansionEntry}
 use Rattle.occ_project.specs.declared.expanded.ExpandedLine.{ExpandedLine}
 use Rattle.occ_project.specs.declared.making.Made.{Made}
 use Rattle.occ_project.specs.declared.reads.Read.{Read}
-use Rattle.occ_project.specs.Expansion.{Expansion, entry_faults, entry_lines, entry_names, expansion, expansion_of, first_places, limit_faults, unit_entries}
+use Rattle.occ_project.specs.Expansion.{Expansion, entry_faults, entry_lines, entry_names, expansion, expansion_of, first_indices, limit_faults, unit_entries}
 use Rattle.occ_project.specs.inside.Making.{after}
 use Rattle.occ_project.specs.Reads.{open_lines}
 use Rattle.occ_project.proofs.Made.{made_of}
@@ -16,16 +16,16 @@ use Rattle.occ_project.proofs.Made.{made_of}
 abbrev pub started : ℕ → List ℕ → Made
 started room unit = record { lines = []; faults = []; names = unit ∷ []; room = room; is_over = false }
 
--- what was made, with the names that were looked up at their first places
+-- what was made, with the names that were looked up at their first indices
 abbrev pub shown : Made → Expansion
-shown made = record { lines = made.lines; reads = first_places made.names; faults = made.faults }
+shown made = record { lines = made.lines; reads = first_indices made.names; faults = made.faults }
 
 whole : (lines : List ExpandedLine) (names : List (List ℕ)) (faults : List Diag) (made : Made) → made.lines ≡ lines → made.names ≡ names → made.faults ≡ faults
-    → shown made ≡ record { lines = lines; reads = first_places names; faults = faults }
+    → shown made ≡ record { lines = lines; reads = first_indices names; faults = faults }
 whole lines names faults made l n f =
-    ap (λ (x : List ExpandedLine). record { lines = x; reads = first_places made.names; faults = made.faults }) l
-    ∙ ap (λ (x : List (List ℕ)). record { lines = lines; reads = first_places x; faults = made.faults }) n
-    ∙ ap (λ (x : List Diag). record { lines = lines; reads = first_places names; faults = x }) f
+    ap (λ (x : List ExpandedLine). record { lines = x; reads = first_indices made.names; faults = made.faults }) l
+    ∙ ap (λ (x : List (List ℕ)). record { lines = lines; reads = first_indices x; faults = made.faults }) n
+    ∙ ap (λ (x : List Diag). record { lines = lines; reads = first_indices names; faults = x }) f
 
 pub made_is : (limit : ℕ) (unit : List ℕ) (all : List ExpansionEntry) → shown (after (started limit unit) all) ≡ expansion_of limit unit all
 made_is limit unit all =

@@ -1,6 +1,6 @@
 pub mod Made
 pub mod Inclusions
 pub mod Members
-pub mod Places
+pub mod Indices
 pub mod Expansions
 pub mod Rising

@@ -1,4 +1,4 @@
--- All entries of a file: one for each of its lines, and behind that of an `#INCLUDE` those of the file that it puts in.
+-- All entries of a file: one for each of its lines, and after that of an `#INCLUDE` those of the file that it puts in.
 use Rattle.std.specs.Prelude.{ℕ, zero, suc, ◌+◌, nat_eq, Bool, cond, List, [], ◌∷◌, ◌++◌, Option, Some, None, Result, Err}
 use Rattle.std.specs.List.{flat_map, list_any}
 use Rattle.std.specs.Option.{ok_or, option_map}
@@ -25,7 +25,7 @@ is_among names name = list_any (λ other. bytes_eq other name) names
 abbrev pub included : List Read → List (List ℕ) → ℕ → List ℕ → Result (List SourceLine) Code
 included reads way left name = cond (is_among way name) (Err G5) (cond (nat_eq left 0) (Err G6) (ok_or (open_lines reads name) G4))
 
--- what the entry of a line holds, where `found` tells what an `#INCLUDE` puts in
+-- what the entry of a line holds, where `found` says what an `#INCLUDE` puts in
 abbrev pub held : (List ℕ → Result (List SourceLine) Code) → ℕ → LineBody → Held
 held found depth (body.Form form) = Line depth (to.Form form)
 held found depth (body.Uses unit) = Line depth (to.Uses unit)
@@ -50,7 +50,7 @@ abbrev pub inner_entries : FileEntries → List (List ℕ) → ℕ → Option (L
 inner_entries inner way raise None = []
 inner_entries inner way raise (Some file) = inner (way ++ file.0 ∷ []) file.0 raise file.1
 
--- the entry of a line, and behind it those of the file that it puts in
+-- the entry of a line, and after it those of the file that it puts in
 abbrev pub line_entries : List Read → ℕ → FileEntries → List (List ℕ) → List ℕ → ℕ → SourceLine → List ExpansionEntry
 line_entries reads left inner way file raise line =
     entry_of (included reads way left) file raise line ∷ inner_entries inner way (raise + line.depth) (put_in (included reads way left) line.body)

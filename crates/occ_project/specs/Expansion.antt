@@ -59,10 +59,10 @@ abbrev pub limit_faults : List ExpansionEntry → List Diag
 limit_faults [] = []
 limit_faults (entry ∷ more) = limit_fault entry ∷ []
 
--- each name at its first place
-abbrev pub first_places : List (List ℕ) → List (List ℕ)
-first_places [] = []
-first_places (name ∷ names) = name ∷ filter (λ other. not (bytes_eq name other)) (first_places names)
+-- each name at its first index
+abbrev pub first_indices : List (List ℕ) → List (List ℕ)
+first_indices [] = []
+first_indices (name ∷ names) = name ∷ filter (λ other. not (bytes_eq name other)) (first_indices names)
 
 -- all entries of a unit with these lines, or without any if it is not open; 16 inclusions may be nested
 abbrev pub unit_entries : List Read → List ℕ → Option (List SourceLine) → List ExpansionEntry
@@ -73,7 +73,7 @@ unit_entries reads unit (Some lines) = entries reads 16 (unit ∷ []) unit 0 lin
 abbrev pub expansion_of : ℕ → List ℕ → List ExpansionEntry → Expansion
 expansion_of limit unit all = record {
   lines = flat_map entry_lines (take limit all);
-  reads = first_places (unit ∷ flat_map entry_names (take limit all));
+  reads = first_indices (unit ∷ flat_map entry_names (take limit all));
   faults = flat_map entry_faults (take limit all) ++ limit_faults (drop limit all);
 }
 

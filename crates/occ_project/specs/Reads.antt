@@ -26,9 +26,9 @@ abbrev pub open_lines : List Read → List ℕ → Option (List SourceLine)
 open_lines reads name = option_and_then lines_of (member reads name)
 
 -- the place of the first member of that name
-abbrev pub place : List ℕ → List Read → Option ℕ
-place name [] = None
-place name (read ∷ reads) = cond (is_named name read) (Some 0) (option_map suc (place name reads))
+abbrev pub index : List ℕ → List Read → Option ℕ
+index name [] = None
+index name (read ∷ reads) = cond (is_named name read) (Some 0) (option_map suc (index name reads))
 
 -- the order of names
 abbrev pub name_cmp : List ℕ → List ℕ → Ordering

@@ -1,5 +1,5 @@
 //! The entries of a file: what each of its lines gives to an expansion. `docs/LANGUAGE.md, Expansion`.
-use super::ExpandedBody;
+use super::expanded::ExpandedBody;
 use occ_base::{Code, FileName};
 
 /// What a line of a file gives to an expansion.

@@ -99,11 +99,11 @@ impl Drop for Expanded {
 }
 
 impl Model for Expanded {
-    ghost use Rattle.occ_expression_forms.specs.contracts.tree.Builtin as builtins;
-    ghost use Rattle.occ_expression_forms.specs.contracts.tree.Dimension as dimensions;
-    ghost use Rattle.occ_expression_forms.specs.contracts.tree.Element as elements;
-    ghost use Rattle.occ_expression_forms.specs.contracts.tree.Expr as expressions;
-    ghost use Rattle.occ_expression_forms.specs.contracts.tree.TypeForm as types;
+    ghost use Rattle.occ_forms_expressions.specs.contracts.tree.Builtin as builtins;
+    ghost use Rattle.occ_forms_expressions.specs.contracts.tree.Dimension as dimensions;
+    ghost use Rattle.occ_forms_expressions.specs.contracts.tree.Element as elements;
+    ghost use Rattle.occ_forms_expressions.specs.contracts.tree.Expr as expressions;
+    ghost use Rattle.occ_forms_expressions.specs.contracts.tree.TypeForm as types;
     ghost use Rattle.occ_project.specs.Expansion.{Expansion};
     ghost use Rattle.std.specs.Coded.{codes};
 

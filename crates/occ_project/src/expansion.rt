@@ -1,6 +1,6 @@
 //! Makes the expansion of a unit, file by file, and after each `#INCLUDE` the lines of its file. `docs/LANGUAGE.md,
 //! Expansion`.
-ghost use Rattle.occ_project.specs.Entries.{entries, held as what_is_held, included, put_in};
+ghost use Rattle.occ_project.specs.Entries.{entries, held as spec_held, included, put_in};
 ghost use Rattle.occ_project.specs.Expansion.{expansion, not_given};
 ghost use Rattle.occ_project.specs.inside.Making.{after};
 ghost use Rattle.occ_project.specs.declared.expansion.ExpandFault.TheVariants.{Memory, NotGiven};
@@ -8,10 +8,11 @@ ghost use Rattle.std.specs.Option.{option_map};
 ghost use Rattle.std.specs.Prelude.{Err, IfOk, List, None, OnOk, Some, ℕ, ◌*◌, ◌+◌, ◌^◌, ◌≡◌, ◌≤◌};
 
 use super::entry::{ExpansionEntry, Held};
+use super::expanded::{Expanded, ExpandedBody};
 use super::files::Files;
 use super::making::Made;
-use super::names::first_places;
-use super::{Expanded, ExpandedBody, Reads};
+use super::names::first_indices;
+use super::reads::Reads;
 use occ_base::{FileName, Items};
 use occ_forms::{LineBody, SourceLine};
 use std::alloc::{AllocError, Global};
@@ -68,7 +69,7 @@ fn held<'a>(
     depth: u64,
     body: &LineBody,
 ) -> Result<(Held, Option<Inner<'a>>), AllocError>
-    ensures entry { IfOk result (λ found. found.0 ≡ what_is_held (included files.now.reads.now way.now left) depth body.now) }
+    ensures entry { IfOk result (λ found. found.0 ≡ spec_held (included files.now.reads.now way.now left) depth body.now) }
     ensures inner { IfOk result (λ found. option_map (λ inner. (inner.name, inner.lines.now)) found.1 ≡ put_in (included files.now.reads.now way.now left) body.now) }
 {
     let body = match body {
@@ -146,7 +147,7 @@ fn expanded(alloc: Global, files: &Files<'_>, unit: FileName) -> Result<Expanded
         way.push(unit)?;
         add_file(alloc, files, &mut way, opened, lines, &mut made)?;
     }
-    let reads = first_places(alloc, made.names.as_slice())?;
+    let reads = first_indices(alloc, made.names.as_slice())?;
     let Made { lines, faults, .. } = made;
     Ok(Expanded::of(lines, reads, faults))
 }

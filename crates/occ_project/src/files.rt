@@ -1,12 +1,12 @@
 //! Looks files up by name, and says what an `#INCLUDE` puts in, or why nothing (G4 to G6).
-ghost use Rattle.occ_project.specs.Entries.{included as what_is_included};
-ghost use Rattle.occ_project.specs.Reads.{member as first_member, name_cmp, open_lines as lines_if_open, place};
+ghost use Rattle.occ_project.specs.Entries.{included as spec_included};
+ghost use Rattle.occ_project.specs.Reads.{member as spec_member, name_cmp, open_lines as spec_open_lines, index};
 ghost use Rattle.std.specs.BTreeMap.{get};
 ghost use Rattle.std.specs.List.{find};
 ghost use Rattle.std.specs.Option.{is_some, option_copied};
 ghost use Rattle.std.specs.Prelude.{Err, IfOk, List, MatchResult, Ok, not, ℕ, ◌≡◌};
 
-use super::{Read, Reads};
+use super::reads::{Read, Reads};
 use occ_base::{Code, FileName};
 use occ_forms::SourceLine;
 use std::alloc::{AllocError, Global};
@@ -16,42 +16,42 @@ use std::collections::BTreeMap;
 #[derive(Drop)]
 pub struct Files<'a> {
     reads: &'a Reads,
-    places: BTreeMap<FileName, usize>,
-    ghost placed: { (name : List ℕ) → get name_cmp places name ≡ place name reads.now },
+    indices: BTreeMap<FileName, usize>,
+    ghost placed: { (name : List ℕ) → get name_cmp indices name ≡ index name reads.now },
 }
 
 /// The place of the first member of each name.
-fn places(alloc: Global, reads: &[Read]) -> Result<BTreeMap<FileName, usize>, AllocError>
-    ensures { IfOk result (λ places. (name : List ℕ) → get name_cmp places name ≡ place name reads.now) }
+fn indices(alloc: Global, reads: &[Read]) -> Result<BTreeMap<FileName, usize>, AllocError>
+    ensures { IfOk result (λ indices. (name : List ℕ) → get name_cmp indices name ≡ index name reads.now) }
 {
-    let mut places = BTreeMap::new(alloc);
+    let mut indices = BTreeMap::new(alloc);
     for (i, read) in reads.iter().enumerate() {
-        if !places.contains_key(&read.name) {
-            places.insert(read.name, i)?;
+        if !indices.contains_key(&read.name) {
+            indices.insert(read.name, i)?;
         }
     }
-    Ok(places)
+    Ok(indices)
 }
 
 impl<'a> Files<'a> {
     pub fn new(alloc: Global, reads: &'a Reads) -> Result<Files<'a>, AllocError>
         ensures { IfOk result (λ files. files.reads.now ≡ reads.now) }
     {
-        let places = places(alloc, reads.as_slice())?;
-        Ok(Files { reads, places })
+        let indices = indices(alloc, reads.as_slice())?;
+        Ok(Files { reads, indices })
     }
 
     /// The first member of that name.
     fn member(&self, name: FileName) -> Option<&Read>
-        ensures { option_copied result ≡ first_member self.now.reads.now name }
+        ensures { option_copied result ≡ spec_member self.now.reads.now name }
     {
-        let place = self.places.get(&name)?;
-        self.reads.get(*place)
+        let index = self.indices.get(&name)?;
+        self.reads.get(*index)
     }
 
     /// The lines of the file of that name, if it is open.
     pub fn open_lines(&self, name: FileName) -> Option<&[SourceLine]>
-        ensures { option_copied result ≡ lines_if_open self.now.reads.now name }
+        ensures { option_copied result ≡ spec_open_lines self.now.reads.now name }
     {
         let source = self.member(name)?.source.as_ref();
         source.map(|source| source.get().lines())
@@ -64,7 +64,7 @@ impl<'a> Files<'a> {
         left: u32,
         name: FileName,
     ) -> Result<&[SourceLine], Code>
-        ensures { MatchResult result (λ lines. what_is_included self.now.reads.now way.now left name ≡ Ok lines.now) (λ fault. what_is_included self.now.reads.now way.now left name ≡ Err fault) }
+        ensures { MatchResult result (λ lines. spec_included self.now.reads.now way.now left name ≡ Ok lines.now) (λ fault. spec_included self.now.reads.now way.now left name ≡ Err fault) }
     {
         if way.contains(&name) {
             return Err(Code::G5);
@@ -77,7 +77,7 @@ impl<'a> Files<'a> {
 
     /// The first of the names that is none of a member.
     pub fn first_without(&self, names: &[FileName]) -> Option<FileName>
-        ensures { result ≡ find (λ name. not (is_some (first_member self.now.reads.now name))) names.now }
+        ensures { result ≡ find (λ name. not (is_some (spec_member self.now.reads.now name))) names.now }
     {
         names
             .iter()

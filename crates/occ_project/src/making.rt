@@ -4,8 +4,8 @@ ghost use Rattle.occ_project.specs.inside.Making.{step};
 ghost use Rattle.occ_project.specs.declared.entry.Held.TheVariants as held;
 ghost use Rattle.std.specs.Prelude.{OnOk, [], false, ◌≡◌, ◌++◌};
 
-use super::ExpandedLine;
 use super::entry::{ExpansionEntry, Held};
+use super::expanded::ExpandedLine;
 use occ_base::{Code, Diag, FileName, Items, Name};
 use std::alloc::{AllocError, Global};
 

@@ -3,7 +3,7 @@
 
 ghost use Rattle.occ_base.specs.Errors.{error_at};
 ghost use Rattle.occ_base.specs.declared.code.Code.TheVariants.{G4, G5, G6};
-ghost use Rattle.occ_project.specs.Expansion.{expansion, first_places, not_given};
+ghost use Rattle.occ_project.specs.Expansion.{expansion, first_indices, not_given};
 ghost use Rattle.occ_project.specs.Samples.{absent_file, chain, close_at, close_in, include_at, limited, open_file, some_names, use_at, use_in};
 ghost use Rattle.occ_project.specs.Uses.{units_of};
 ghost use Rattle.std.specs.Prelude.{None, Some, [], codes, ◌∷◌, ◌≡◌};
@@ -26,7 +26,7 @@ pub fn read_rows()
         ≡ codes "a" ∷ codes "k" ∷ codes "j" ∷ [] }
     ensures itself { (expansion (open_file (codes "a") (include_at 1 0 (codes "a") ∷ []) ∷ []) (codes "a")).reads ≡ codes "a" ∷ [] }
     ensures absent { (expansion [] (codes "a")).reads ≡ codes "a" ∷ [] }
-    ensures places { first_places (codes "b" ∷ codes "a" ∷ codes "b" ∷ codes "c" ∷ codes "a" ∷ []) ≡ codes "b" ∷ codes "a" ∷ codes "c" ∷ [] }
+    ensures indices { first_indices (codes "b" ∷ codes "a" ∷ codes "b" ∷ codes "c" ∷ codes "a" ∷ []) ≡ codes "b" ∷ codes "a" ∷ codes "c" ∷ [] }
     ensures given { not_given (open_file (codes "a") (include_at 1 0 (codes "k") ∷ []) ∷ absent_file (codes "k") ∷ []) (codes "a") ≡ None }
     ensures missing { not_given (open_file (codes "a") (include_at 1 0 (codes "j") ∷ include_at 2 0 (codes "k") ∷ include_at 3 0 (codes "m") ∷ []) ∷ absent_file (codes "j") ∷ []) (codes "a") ≡ Some (codes "k") }
     ensures alone { not_given [] (codes "a") ≡ Some (codes "a") }

@@ -5,7 +5,7 @@ ghost use Rattle.std.specs.List.{flat_map};
 ghost use Rattle.std.specs.Prelude.{IfOk, IsTrue, OnOk, ◌++◌, ◌≡◌};
 ghost use Rattle.std.specs.declared.cmp.Ordering.TheVariants.{Less};
 
-use super::ExpandedLine;
+use super::expanded::ExpandedLine;
 use occ_base::{FileName, Items};
 use std::alloc::{AllocError, Global};
 use std::cmp::Ordering;

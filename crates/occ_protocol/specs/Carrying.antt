@@ -10,8 +10,8 @@ use Rattle.occ_types.specs.declared.types.Item.TheOpen.{Protocol-F}
 use Rattle.occ_types.specs.declared.types.OccType.{OccType}
 use Rattle.occ_types.specs.declared.types.Protocol.{Protocol}
 use Rattle.occ_types.specs.declared.types.Tag.{Tag}
-use Rattle.occ_operands.specs.declared.kind.Kind.{Kind}
-use Rattle.occ_operands.specs.declared.kind.Kind.TheVariants as k
+use Rattle.occ_typing_operands.specs.declared.kind.Kind.{Kind}
+use Rattle.occ_typing_operands.specs.declared.kind.Kind.TheVariants as k
 
 -- ---- what an element carries
 
@@ -61,7 +61,7 @@ of_type of = of_channel (as_channel of) (is_timer of)
 
 abbrev pub carrier : Kind → Carrier
 carrier k.Faulty = Hidden
-carrier (k.Free f) = Hidden
+carrier (k.Untyped f) = Hidden
 carrier (k.Known x) = of_type x.of
 
 -- ---- tags

@@ -4,15 +4,15 @@ use Rattle.occ_base.specs.declared.code.Code.TheVariants as code
 use Rattle.occ_base.specs.declared.fault.Fault.{Fault}
 use Rattle.occ_types.specs.declared.types.Item.TheVariants as i
 use Rattle.occ_types.specs.declared.types.Tag.{Tag}
-use Rattle.occ_operands.specs.Settling.{int}
+use Rattle.occ_typing_operands.specs.Settling.{int}
 use Rattle.occ_protocol.specs.Carrying.{Carrier, place_named, tag_named}
 use Rattle.occ_protocol.specs.Carrying.Carrier.{Hidden, Nothing, Time, Data, Sequence, Variant}
-use Rattle.occ_protocol.specs.Matching.{against, asked, named, told}
+use Rattle.occ_protocol.specs.Matching.{against, asked, named, reported}
 use Rattle.occ_protocol.specs.declared.given.Given.{Given}
 
--- an output, or an input behind CASE and a tag
+-- an output, or an input after CASE and a tag
 abbrev pub exchanged : Carrier → List ℕ → Option (List ℕ) → List Given → List Fault
-exchanged c root tag xs = told root (asked c tag) xs
+exchanged c root tag xs = reported root (asked c tag) xs
 
 -- an input without CASE: a timer gives one INT
 abbrev pub received : Carrier → List ℕ → List Given → List Fault
@@ -41,7 +41,7 @@ cased Data root = named code.P3 root
 cased (Sequence items) root = named code.P3 root
 cased (Variant tags) root = []
 
--- a variant of a case input: its tag, and the items behind it. What the first line told is not told again
+-- a variant of a case input: its tag, and the items after it. What the first line reported is not reported again
 abbrev pub alternative : Carrier → List ℕ → List ℕ → List Given → List Fault
 alternative Hidden root tag xs = []
 alternative Nothing root tag xs = []
@@ -63,7 +63,7 @@ abbrev pub is_missing : Option Tag → Bool
 is_missing None = true
 is_missing (Some tag) = false
 
--- the tag is none of the protocol's, so that P2 tells of it
+-- the tag is none of the protocol's, so that P2 reports of it
 abbrev pub lacks : Carrier → List ℕ → Bool
 lacks Hidden tag = false
 lacks Nothing tag = false

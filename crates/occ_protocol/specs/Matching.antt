@@ -13,10 +13,10 @@ use Rattle.occ_types.specs.declared.types.OccType.{OccType}
 use Rattle.occ_types.specs.declared.types.Protocol.{Protocol}
 use Rattle.occ_types.specs.declared.types.Tag.{Tag}
 use Rattle.occ_types.specs.declared.value.Primitive.{Primitive}
-use Rattle.occ_operands.specs.Operators.{is_faulty, is_there, is_of}
-use Rattle.occ_operands.specs.Settling.{number}
-use Rattle.occ_operands.specs.declared.kind.Kind.{Kind}
-use Rattle.occ_operands.specs.declared.kind.Kind.TheVariants as k
+use Rattle.occ_typing_operands.specs.Operators.{is_faulty, is_there, is_of}
+use Rattle.occ_typing_operands.specs.Settling.{number}
+use Rattle.occ_typing_operands.specs.declared.kind.Kind.{Kind}
+use Rattle.occ_typing_operands.specs.declared.kind.Kind.TheVariants as k
 use Rattle.occ_protocol.specs.Carrying.{Carrier, is_faulty_tag, tag_named}
 use Rattle.occ_protocol.specs.Carrying.Carrier.{Hidden, Nothing, Time, Data, Sequence, Variant}
 use Rattle.occ_protocol.specs.declared.given.Given.{Given}
@@ -24,7 +24,7 @@ use Rattle.occ_protocol.specs.declared.given.Given.TheVariants as g
 
 -- ---- what a list is compared with
 
--- Silent: with nothing, and nothing is told; Instead: with nothing, and this code is told; NoTag: the tag is not in the
+-- Silent: with nothing, and nothing is reported; Instead: with nothing, and this code is reported; NoTag: the tag is not in the
 -- protocol; AnyData: each item is any data; These: with these items, one by one
 pub data Asked : Type 0 where
   Silent : Asked
@@ -33,12 +33,12 @@ pub data Asked : Type 0 where
   AnyData : Asked
   These : List Item → Asked
 
--- what stands behind this tag, of which the protocol says this
-abbrev pub behind : List ℕ → Option Tag → Asked
-behind name None = NoTag name
-behind name (Some tag) = if is_faulty_tag tag then Silent else These tag.items
+-- what stands after this tag, of which the protocol says this
+abbrev pub following : List ℕ → Option Tag → Asked
+following name None = NoTag name
+following name (Some tag) = if is_faulty_tag tag then Silent else These tag.items
 
--- what items are compared with that stand behind a tag, or behind none: a tag is for protocols with tags, and for these
+-- what items are compared with that stand after a tag, or after none: a tag is for protocols with tags, and for these
 -- alone
 abbrev pub asked : Carrier → Option (List ℕ) → Asked
 asked Hidden tag = Silent
@@ -49,20 +49,20 @@ asked Data (Some name) = Instead code.P3
 asked (Sequence items) None = These items
 asked (Sequence items) (Some name) = Instead code.P3
 asked (Variant tags) None = Instead code.P3
-asked (Variant tags) (Some name) = behind name (tag_named tags name)
+asked (Variant tags) (Some name) = following name (tag_named tags name)
 
 -- ---- one item
 
 -- a count of just this type
 abbrev pub is_count : Primitive → Kind → Bool
 is_count count k.Faulty = false
-is_count count (k.Free f) = false
+is_count count (k.Untyped f) = false
 is_count count (k.Known x) = primitive_fits count (as_primitive x.of)
 
 -- an array without a name, of values of this type
 abbrev pub is_row : OccType → Kind → Bool
 is_row of k.Faulty = false
-is_row of (k.Free f) = false
+is_row of (k.Untyped f) = false
 is_row of (k.Known x) = array_fits None (fits of) (as_array x.of)
 
 -- an item meets one of the protocol: a plain one a plain one, a counted one a counted one
@@ -78,19 +78,19 @@ meets item given = meets_layer (out-Item item) given
 -- data of any type
 abbrev pub is_any : Kind → Bool
 is_any k.Faulty = false
-is_any (k.Free f) = false
+is_any (k.Untyped f) = false
 is_any (k.Known x) = is_data x.of
 
 -- a count of an integer type or BYTE
 abbrev pub is_any_count : Kind → Bool
 is_any_count k.Faulty = false
-is_any_count (k.Free f) = false
+is_any_count (k.Untyped f) = false
 is_any_count (k.Known x) = is_there (number (as_primitive x.of))
 
 -- an array without a name, of data
 abbrev pub is_any_row : Kind → Bool
 is_any_row k.Faulty = false
-is_any_row (k.Free f) = false
+is_any_row (k.Untyped f) = false
 is_any_row (k.Known x) = array_fits None is_data (as_array x.of)
 
 -- an item may go through a channel of ANY
@@ -98,7 +98,7 @@ abbrev pub meets_any : Given → Bool
 meets_any (g.Plain x) = is_any x
 meets_any (g.Counted n x) = is_any_count n && is_any_row x
 
--- ---- what is told
+-- ---- what is reported
 
 abbrev pub named : Code → List ℕ → List Fault
 named code name = (record { code = code; name = Some name }) ∷ []
@@ -128,10 +128,10 @@ of_another_number root xs = if list_any has_fault xs then [] else named code.P1 
 abbrev pub against : List ℕ → List Item → List Given → List Fault
 against root items xs = if length items == length xs then each_unmet root items xs else of_another_number root xs
 
--- what is told of a list; the channel is named, and a tag where it is the tag
-abbrev pub told : List ℕ → Asked → List Given → List Fault
-told root Silent xs = []
-told root (Instead code) xs = named code root
-told root (NoTag name) xs = named code.P2 name
-told root AnyData xs = each_unmet_any root xs
-told root (These items) xs = against root items xs
+-- what is reported of a list; the channel is named, and a tag where it is the tag
+abbrev pub reported : List ℕ → Asked → List Given → List Fault
+reported root Silent xs = []
+reported root (Instead code) xs = named code root
+reported root (NoTag name) xs = named code.P2 name
+reported root AnyData xs = each_unmet_any root xs
+reported root (These items) xs = against root items xs

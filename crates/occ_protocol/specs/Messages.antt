@@ -17,12 +17,12 @@ pub data AreData : List Given → Type 0 where
   no_data : AreData []
   one_datum : (x : Given) (xs : List Given) → meets_any x ≡ true → AreData xs → AreData (x ∷ xs)
 
--- these items, behind this tag or behind none, are a message that is carried
+-- these items, after this tag or after none, are a message that is carried
 pub data IsMessage : Carrier → Option (List ℕ) → List Given → Type 0 where
   of_any : (xs : List Given) → AreData xs → IsMessage Data None xs
   of_items : (items : List Item) (xs : List Given) → AreMet items xs → IsMessage (Sequence items) None xs
   of_tag : (tags : List Tag) (name : List ℕ) (tag : Tag) (xs : List Given) → tag_named tags name ≡ Some tag → AreMet tag.items xs → IsMessage (Variant tags) (Some name) xs
 
 -- what the items are compared with is not hidden by a fault of the channel or of the tag
-abbrev pub IsTold : Carrier → Option (List ℕ) → Type 0
-IsTold c tag = asked c tag ≢ Silent
+abbrev pub IsReported : Carrier → Option (List ℕ) → Type 0
+IsReported c tag = asked c tag ≢ Silent

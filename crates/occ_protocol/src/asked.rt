@@ -2,7 +2,7 @@
 //! what is reported both come from it.
 ghost use Rattle.std.specs.Prelude.{◌≡◌, Option, Some, None, map};
 ghost use Rattle.occ_protocol.specs.Carrying.{name_seen};
-ghost use Rattle.occ_protocol.specs.Matching.{asked as asked_in, behind as asked_behind};
+ghost use Rattle.occ_protocol.specs.Matching.{asked as spec_asked, following as spec_after};
 ghost use Rattle.occ_protocol.specs.inside.Seen.{asked_seen, seen, tag_seen};
 
 use super::carrier::{Carrier, is_faulty_tag, tag_named};
@@ -12,9 +12,9 @@ use occ_types::{Item, Tag};
 /// What a list of items is compared with.
 #[derive(Clone, Copy)]
 pub(super) enum Asked<'a> {
-    /// With nothing, and nothing is told.
+    /// With nothing, and nothing is reported.
     Silent,
-    /// With nothing, and this code is told.
+    /// With nothing, and this code is reported.
     Instead(Code),
     /// With nothing: this tag is not in the protocol.
     NoTag(&'a Name),
@@ -24,9 +24,9 @@ pub(super) enum Asked<'a> {
     These(&'a [Item]),
 }
 
-/// What is asked of items behind this tag, of which the protocol says this.
-fn behind<'a>(name: &'a Name, tag: Option<&'a Tag>) -> Asked<'a>
-    ensures { asked_seen result ≡ asked_behind name.now (tag_seen tag.entry) }
+/// What is asked of items after this tag, of which the protocol says this.
+fn following<'a>(name: &'a Name, tag: Option<&'a Tag>) -> Asked<'a>
+    ensures { asked_seen result ≡ spec_after name.now (tag_seen tag.entry) }
 {
     let Some(tag) = tag else {
         return Asked::NoTag(name);
@@ -37,9 +37,9 @@ fn behind<'a>(name: &'a Name, tag: Option<&'a Tag>) -> Asked<'a>
     Asked::These(tag.items.as_slice())
 }
 
-/// What is asked of items behind a tag, or behind none.
+/// What is asked of items after a tag, or after none.
 pub(super) fn asked_of<'a>(carrier: Carrier<'a>, tag: Option<&'a Name>) -> Asked<'a>
-    ensures { asked_seen result ≡ asked_in (seen carrier.entry) (name_seen tag.entry) }
+    ensures { asked_seen result ≡ spec_asked (seen carrier.entry) (name_seen tag.entry) }
 {
     match (carrier, tag) {
         (Carrier::Hidden, _) => Asked::Silent,
@@ -48,6 +48,6 @@ pub(super) fn asked_of<'a>(carrier: Carrier<'a>, tag: Option<&'a Name>) -> Asked
         (Carrier::Data | Carrier::Sequence(_), Some(_)) => Asked::Instead(Code::P3),
         (Carrier::Sequence(items), None) => Asked::These(items),
         (Carrier::Variant(_), None) => Asked::Instead(Code::P3),
-        (Carrier::Variant(tags), Some(name)) => behind(name, tag_named(tags, name)),
+        (Carrier::Variant(tags), Some(name)) => following(name, tag_named(tags, name)),
     }
 }

@@ -3,12 +3,12 @@
 
 ghost use Rattle.std.specs.Prelude.{◌≡◌};
 ghost use Rattle.std.specs.List.{list_any};
-ghost use Rattle.occ_protocol.specs.Carrying.{carried as carried_by, carrier as carrier_in, is_faulty_tag as has_faulty_line, is_unknown_item as has_unknown_type, of_type as type_in, place_named as first_place, tag_named as first_of_name};
+ghost use Rattle.occ_protocol.specs.Carrying.{carried as spec_carried, carrier as spec_carrier, is_faulty_tag as spec_is_faulty_tag, is_unknown_item as spec_is_unknown_item, of_type as spec_of_type, place_named as spec_place_named, tag_named as spec_tag_named};
 ghost use Rattle.occ_protocol.specs.inside.Seen.{seen, tag_seen};
 
 use occ_base::Name;
-use occ_operands::Kind;
 use occ_types::{Item, OccType, Protocol, Tag, is_unknown};
+use occ_typing_operands::Kind;
 
 /// What an element is to those who send and receive through it.
 #[derive(Clone, Copy)]
@@ -29,7 +29,7 @@ pub(super) enum Carrier<'a> {
 
 /// What an element is, by what is known of it.
 pub(super) fn carrier_of(channel: &Kind) -> Carrier<'_>
-    ensures { seen result ≡ carrier_in channel.now }
+    ensures { seen result ≡ spec_carrier channel.now }
 {
     match channel {
         Kind::Known(known) => of_type(known.of.get()),
@@ -39,7 +39,7 @@ pub(super) fn carrier_of(channel: &Kind) -> Carrier<'_>
 
 /// What an element of this type is.
 fn of_type(of: &OccType) -> Carrier<'_>
-    ensures { seen result ≡ type_in of.now }
+    ensures { seen result ≡ spec_of_type of.now }
 {
     match of {
         OccType::Channel(protocol) => carried(protocol.get()),
@@ -51,7 +51,7 @@ fn of_type(of: &OccType) -> Carrier<'_>
 
 /// What a channel of this protocol is.
 fn carried(protocol: &Protocol) -> Carrier<'_>
-    ensures { seen result ≡ carried_by protocol.now }
+    ensures { seen result ≡ spec_carried protocol.now }
 {
     match protocol {
         Protocol::Any => Carrier::Data,
@@ -63,7 +63,7 @@ fn carried(protocol: &Protocol) -> Carrier<'_>
 
 /// The first tag of this name.
 pub(super) fn tag_named<'a>(tags: &'a [Tag], name: &Name) -> Option<&'a Tag>
-    ensures { tag_seen result ≡ first_of_name tags.now name.now }
+    ensures { tag_seen result ≡ spec_tag_named tags.now name.now }
 {
     for tag in tags {
         if tag.name == *name {
@@ -75,7 +75,7 @@ pub(super) fn tag_named<'a>(tags: &'a [Tag], name: &Name) -> Option<&'a Tag>
 
 /// The place of the first tag of this name.
 pub(super) fn place_named(tags: &[Tag], name: &Name) -> Option<usize>
-    ensures { result ≡ first_place tags.now name.now }
+    ensures { result ≡ spec_place_named tags.now name.now }
 {
     let mut place = 0;
     for tag in tags {
@@ -89,7 +89,7 @@ pub(super) fn place_named(tags: &[Tag], name: &Name) -> Option<usize>
 
 /// Whether an item is of unknown type.
 fn is_unknown_item(item: &Item) -> bool
-    ensures { result ≡ has_unknown_type item.now }
+    ensures { result ≡ spec_is_unknown_item item.now }
 {
     match item {
         Item::Value(of) => is_unknown(of.get()),
@@ -99,7 +99,7 @@ fn is_unknown_item(item: &Item) -> bool
 
 /// Whether the line of a tag has a fault.
 pub(super) fn is_faulty_tag(tag: &Tag) -> bool
-    ensures { result ≡ has_faulty_line tag.now }
+    ensures { result ≡ spec_is_faulty_tag tag.now }
 {
     for item in tag.items.as_slice() {
         if is_unknown_item(item) {

@@ -1,7 +1,7 @@
 //! Items that are sent or received, by what is known of them and by how they are written; and what is wanted of them.
 use occ_base::Shared;
-use occ_operands::Kind;
 use occ_types::OccType;
+use occ_typing_operands::Kind;
 
 /// An item that is sent or received, by what is known of its operands.
 #[derive(Drop)]
@@ -22,7 +22,7 @@ pub enum Shape {
 /// What is wanted of an operand where it stands.
 #[derive(Drop)]
 pub enum Want {
-    /// A fault hides it, so the operand is told what it has by itself.
+    /// A fault hides it, so the operand is said what it has by itself.
     Hidden,
     /// Nothing is wanted, so the operand is judged alone.
     Nothing,

@@ -2,23 +2,23 @@
 //! protocols`.
 ghost use Rattle.std.specs.Prelude.{◌≡◌, ◌++◌, IfOk, OnOk, [], ◌∷◌};
 ghost use Rattle.occ_types.specs.declared.types.Item.TheVariants as i;
-ghost use Rattle.occ_operands.specs.Settling.{int as int_type};
-ghost use Rattle.occ_protocol.specs.Carrying.{carrier as carrier_in, name_seen};
-ghost use Rattle.occ_protocol.specs.Lines.{alternative as told_alternative, awaited as told_awaited, cased as told_cased, exchanged as told_exchanged, is_timer as is_time, lacks as is_lacking, received as told_received, tag_place as the_tag_place, takes_tag as is_taking_tag};
+ghost use Rattle.occ_typing_operands.specs.Settling.{int as spec_int};
+ghost use Rattle.occ_protocol.specs.Carrying.{carrier as spec_carrier, name_seen};
+ghost use Rattle.occ_protocol.specs.Lines.{alternative as spec_alternative, awaited as spec_awaited, cased as spec_cased, exchanged as spec_exchanged, is_timer as spec_is_timer, lacks as spec_lacks, received as spec_received, tag_place as spec_tag_place, takes_tag as spec_takes_tag};
 
 use super::asked::asked_of;
 use super::carrier::{Carrier, carrier_of, place_named, tag_named};
 use super::given::Given;
-use super::matching::{against, tell_named, told};
+use super::matching::{against, report_named, reported};
 use occ_base::{Code, Fault, Items, Name};
-use occ_operands::{Kind, int};
 use occ_types::Item;
+use occ_typing_operands::{Kind, int};
 use std::alloc::{AllocError, Global};
 
 /// Whether a name alone that is sent first through `channel` is not looked up: it is a tag, or what it is sent through
 /// is not known.
 pub fn takes_tag(channel: &Kind) -> bool
-    ensures { result ≡ is_taking_tag (carrier_in channel.now) }
+    ensures { result ≡ spec_takes_tag (spec_carrier channel.now) }
 {
     matches!(
         carrier_of(channel),
@@ -26,7 +26,7 @@ pub fn takes_tag(channel: &Kind) -> bool
     )
 }
 
-/// What is told of the items of an output, or of an input behind `CASE` and a tag, through `channel`, whose name is
+/// What is reported of the items of an output, or of an input after `CASE` and a tag, through `channel`, whose name is
 /// `root`. An output has a tag where its first item is a name alone and `takes_tag` says so.
 ///
 /// # Errors
@@ -40,9 +40,9 @@ pub fn exchanged(
     given: &[Given],
     faults: &mut Items<Fault>,
 ) -> Result<(), AllocError>
-    ensures { OnOk result (faults.new ≡ faults.old ++ told_exchanged (carrier_in channel.now) root.now (name_seen tag.entry) given.now) }
+    ensures { OnOk result (faults.new ≡ faults.old ++ spec_exchanged (spec_carrier channel.now) root.now (name_seen tag.entry) given.now) }
 {
-    told(
+    reported(
         alloc,
         root,
         asked_of(carrier_of(channel), tag),
@@ -53,14 +53,14 @@ pub fn exchanged(
 
 /// What a timer gives.
 fn time_items(alloc: Global) -> Result<Items<Item>, AllocError>
-    ensures { IfOk result (λ items. items ≡ i.Value int_type ∷ []) }
+    ensures { IfOk result (λ items. items ≡ i.Value spec_int ∷ []) }
 {
     let mut items = Items::new(alloc);
     items.push(Item::Value(int(alloc)?))?;
     Ok(items)
 }
 
-/// What is told of the items of an input without `CASE`: a channel's, or one INT of a timer.
+/// What is reported of the items of an input without `CASE`: a channel's, or one INT of a timer.
 ///
 /// # Errors
 ///
@@ -72,7 +72,7 @@ pub fn received(
     given: &[Given],
     faults: &mut Items<Fault>,
 ) -> Result<(), AllocError>
-    ensures { OnOk result (faults.new ≡ faults.old ++ told_received (carrier_in channel.now) root.now given.now) }
+    ensures { OnOk result (faults.new ≡ faults.old ++ spec_received (spec_carrier channel.now) root.now given.now) }
 {
     let carrier = carrier_of(channel);
     match carrier {
@@ -80,12 +80,12 @@ pub fn received(
             let items = time_items(alloc)?;
             against(alloc, root, items.as_slice(), given, faults)
         }
-        _ => told(alloc, root, asked_of(carrier, None), given, faults),
+        _ => reported(alloc, root, asked_of(carrier, None), given, faults),
     }
 }
 
-/// What is told of what stands before `? AFTER`, which has to be a timer. Of what stands behind it an INT is wanted, and
-/// that is told as of any operand, whatever this is.
+/// What is reported of what stands before `? AFTER`, which has to be a timer. Of what stands after it an INT is wanted, and
+/// that is reported as of any operand, whatever this is.
 ///
 /// # Errors
 ///
@@ -96,20 +96,16 @@ pub fn awaited(
     root: &Name,
     faults: &mut Items<Fault>,
 ) -> Result<(), AllocError>
-    ensures { OnOk result (faults.new ≡ faults.old ++ told_awaited (carrier_in channel.now) root.now) }
+    ensures { OnOk result (faults.new ≡ faults.old ++ spec_awaited (spec_carrier channel.now) root.now) }
 {
     match carrier_of(channel) {
         Carrier::Hidden | Carrier::Time => Ok(()),
-        Carrier::Nothing | Carrier::Data | Carrier::Sequence(_) | Carrier::Variant(_) => tell_named(
-            alloc,
-            Code::P4,
-            root,
-            faults,
-        ),
+        Carrier::Nothing | Carrier::Data | Carrier::Sequence(_) | Carrier::Variant(_) =>
+            report_named(alloc, Code::P4, root, faults),
     }
 }
 
-/// What is told of the first line of a case input.
+/// What is reported of the first line of a case input.
 ///
 /// # Errors
 ///
@@ -120,16 +116,16 @@ pub fn cased(
     root: &Name,
     faults: &mut Items<Fault>,
 ) -> Result<(), AllocError>
-    ensures { OnOk result (faults.new ≡ faults.old ++ told_cased (carrier_in channel.now) root.now) }
+    ensures { OnOk result (faults.new ≡ faults.old ++ spec_cased (spec_carrier channel.now) root.now) }
 {
     match carrier_of(channel) {
         Carrier::Hidden | Carrier::Variant(_) => Ok(()),
-        Carrier::Nothing | Carrier::Time => tell_named(alloc, Code::P4, root, faults),
-        Carrier::Data | Carrier::Sequence(_) => tell_named(alloc, Code::P3, root, faults),
+        Carrier::Nothing | Carrier::Time => report_named(alloc, Code::P4, root, faults),
+        Carrier::Data | Carrier::Sequence(_) => report_named(alloc, Code::P3, root, faults),
     }
 }
 
-/// What is told of a variant of a case input: of its tag, and of the items behind it.
+/// What is reported of a variant of a case input: of its tag, and of the items after it.
 ///
 /// # Errors
 ///
@@ -142,19 +138,19 @@ pub fn alternative(
     given: &[Given],
     faults: &mut Items<Fault>,
 ) -> Result<(), AllocError>
-    ensures { OnOk result (faults.new ≡ faults.old ++ told_alternative (carrier_in channel.now) root.now tag.now given.now) }
+    ensures { OnOk result (faults.new ≡ faults.old ++ spec_alternative (spec_carrier channel.now) root.now tag.now given.now) }
 {
     let carrier = carrier_of(channel);
     match carrier {
-        Carrier::Variant(_) => told(alloc, root, asked_of(carrier, Some(tag)), given, faults),
+        Carrier::Variant(_) => reported(alloc, root, asked_of(carrier, Some(tag)), given, faults),
         _ => Ok(()),
     }
 }
 
-/// Whether a tag is none of the protocol's, so that P2 tells of it, and not T8 where it stands among the variants of a
+/// Whether a tag is none of the protocol's, so that P2 reports of it, and not T8 where it stands among the variants of a
 /// case input a second time.
 pub fn lacks(channel: &Kind, tag: &Name) -> bool
-    ensures { result ≡ is_lacking (carrier_in channel.now) tag.now }
+    ensures { result ≡ spec_lacks (spec_carrier channel.now) tag.now }
 {
     match carrier_of(channel) {
         Carrier::Variant(tags) => tag_named(tags, tag).is_none(),
@@ -164,7 +160,7 @@ pub fn lacks(channel: &Kind, tag: &Name) -> bool
 
 /// The place of a tag in the protocol of `channel`, from 0: of the first tag of this name.
 pub fn tag_place(channel: &Kind, tag: &Name) -> Option<usize>
-    ensures { result ≡ the_tag_place (carrier_in channel.now) tag.now }
+    ensures { result ≡ spec_tag_place (spec_carrier channel.now) tag.now }
 {
     match carrier_of(channel) {
         Carrier::Variant(tags) => place_named(tags, tag),
@@ -174,7 +170,7 @@ pub fn tag_place(channel: &Kind, tag: &Name) -> Option<usize>
 
 /// Whether an input through `channel` is one from a timer.
 pub fn is_timer(channel: &Kind) -> bool
-    ensures { result ≡ is_time (carrier_in channel.now) }
+    ensures { result ≡ spec_is_timer (spec_carrier channel.now) }
 {
     matches!(carrier_of(channel), Carrier::Time)
 }

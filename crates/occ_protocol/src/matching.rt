@@ -3,19 +3,19 @@
 
 ghost use Rattle.std.specs.Prelude.{◌≡◌, ◌++◌, OnOk};
 ghost use Rattle.std.specs.List.{list_any};
-ghost use Rattle.occ_protocol.specs.Matching.{against as told_against, each_unmet as told_each_unmet, each_unmet_any as told_each_unmet_any, has_fault as is_given_with_fault, is_any as holds_any, is_any_count as counts_any, is_any_row as holds_any_row, is_count as counts, is_row as holds_row, meets as is_met, meets_any as is_met_by_any, named as told_named, of_another_number as told_of_another_number, told as told_of, unmet as told_unmet};
+ghost use Rattle.occ_protocol.specs.Matching.{against as spec_against, each_unmet as spec_each_unmet, each_unmet_any as spec_each_unmet_any, has_fault as spec_has_fault, is_any as spec_is_any, is_any_count as spec_is_any_count, is_any_row as spec_is_any_row, is_count as spec_is_count, is_row as spec_is_row, meets as is_met, meets_any as spec_meets_any, named as spec_named, of_another_number as spec_of_another_number, reported as spec_reported, unmet as spec_unmet};
 ghost use Rattle.occ_protocol.specs.inside.Seen.{asked_seen};
 
 use super::asked::Asked;
 use super::given::Given;
 use occ_base::{Code, Fault, Items, Name, Shared};
-use occ_operands::{Kind, is_faulty, is_of, number};
 use occ_types::{Item, OccType, Primitive, array_of, as_primitive, fits, is_data};
+use occ_typing_operands::{Kind, is_faulty, is_of, number};
 use std::alloc::{AllocError, Global};
 
 /// Whether an operand is a count of just this type.
 fn is_count(count: Primitive, kind: &Kind) -> bool
-    ensures { result ≡ counts count kind.now }
+    ensures { result ≡ spec_is_count count kind.now }
 {
     match kind {
         Kind::Known(known) => match as_primitive(known.of.get()) {
@@ -28,7 +28,7 @@ fn is_count(count: Primitive, kind: &Kind) -> bool
 
 /// Whether an operand is an array without a name, of values of this type.
 fn is_row(of: &OccType, kind: &Kind) -> bool
-    ensures { result ≡ holds_row of.now kind.now }
+    ensures { result ≡ spec_is_row of.now kind.now }
 {
     match kind {
         Kind::Known(known) => match array_of(known.of.get()) {
@@ -54,7 +54,7 @@ fn meets(item: &Item, given: &Given) -> bool
 
 /// Whether an operand is data of any type.
 fn is_any(kind: &Kind) -> bool
-    ensures { result ≡ holds_any kind.now }
+    ensures { result ≡ spec_is_any kind.now }
 {
     match kind {
         Kind::Known(known) => is_data(known.of.get()),
@@ -64,7 +64,7 @@ fn is_any(kind: &Kind) -> bool
 
 /// Whether an operand is a count of an integer type or BYTE.
 fn is_any_count(kind: &Kind) -> bool
-    ensures { result ≡ counts_any kind.now }
+    ensures { result ≡ spec_is_any_count kind.now }
 {
     match kind {
         Kind::Known(known) => number(as_primitive(known.of.get())).is_some(),
@@ -74,7 +74,7 @@ fn is_any_count(kind: &Kind) -> bool
 
 /// Whether an operand is an array without a name, of data.
 fn is_any_row(kind: &Kind) -> bool
-    ensures { result ≡ holds_any_row kind.now }
+    ensures { result ≡ spec_is_any_row kind.now }
 {
     match kind {
         Kind::Known(known) => match array_of(known.of.get()) {
@@ -87,7 +87,7 @@ fn is_any_row(kind: &Kind) -> bool
 
 /// Whether an item may go through a channel of ANY.
 fn meets_any(given: &Given) -> bool
-    ensures { result ≡ is_met_by_any given.now }
+    ensures { result ≡ spec_meets_any given.now }
 {
     match given {
         Given::Plain(x) => is_any(x),
@@ -97,7 +97,7 @@ fn meets_any(given: &Given) -> bool
 
 /// Whether an item is faulty, its count or its array.
 fn has_fault(given: &Given) -> bool
-    ensures { result ≡ is_given_with_fault given.now }
+    ensures { result ≡ spec_has_fault given.now }
 {
     match given {
         Given::Plain(x) => is_faulty(x),
@@ -107,7 +107,7 @@ fn has_fault(given: &Given) -> bool
 
 /// Whether one of the items is faulty.
 fn any_has_fault(given: &[Given]) -> bool
-    ensures { result ≡ list_any is_given_with_fault given.now }
+    ensures { result ≡ list_any spec_has_fault given.now }
 {
     for x in given {
         if has_fault(x) {
@@ -117,20 +117,20 @@ fn any_has_fault(given: &[Given]) -> bool
     false
 }
 
-/// A code is told with a name.
-pub(super) fn tell_named(
+/// A code is reported with a name.
+pub(super) fn report_named(
     alloc: Global,
     code: Code,
     name: &Name,
     faults: &mut Items<Fault>,
 ) -> Result<(), AllocError>
-    ensures { OnOk result (faults.new ≡ faults.old ++ told_named code name.now) }
+    ensures { OnOk result (faults.new ≡ faults.old ++ spec_named code name.now) }
 {
     let name = Some(name.copied(alloc)?);
     faults.push(Fault { code, name })
 }
 
-/// P1 is told of an item that does not meet what is asked, unless it is faulty.
+/// P1 is reported of an item that does not meet what is asked, unless it is faulty.
 fn unmet(
     alloc: Global,
     root: &Name,
@@ -138,12 +138,12 @@ fn unmet(
     given: &Given,
     faults: &mut Items<Fault>,
 ) -> Result<(), AllocError>
-    ensures { OnOk result (faults.new ≡ faults.old ++ told_unmet root.now is_met given.now) }
+    ensures { OnOk result (faults.new ≡ faults.old ++ spec_unmet root.now is_met given.now) }
 {
     if is_met || has_fault(given) {
         return Ok(());
     }
-    tell_named(alloc, Code::P1, root, faults)
+    report_named(alloc, Code::P1, root, faults)
 }
 
 /// As many items as the protocol has.
@@ -154,7 +154,7 @@ fn each_unmet(
     given: &[Given],
     faults: &mut Items<Fault>,
 ) -> Result<(), AllocError>
-    ensures { OnOk result (faults.new ≡ faults.old ++ told_each_unmet root.now items.now given.now) }
+    ensures { OnOk result (faults.new ≡ faults.old ++ spec_each_unmet root.now items.now given.now) }
 {
     let mut given = given;
     for item in items {
@@ -174,7 +174,7 @@ fn each_unmet_any(
     given: &[Given],
     faults: &mut Items<Fault>,
 ) -> Result<(), AllocError>
-    ensures { OnOk result (faults.new ≡ faults.old ++ told_each_unmet_any root.now given.now) }
+    ensures { OnOk result (faults.new ≡ faults.old ++ spec_each_unmet_any root.now given.now) }
 {
     for x in given {
         unmet(alloc, root, meets_any(x), x, faults)?;
@@ -189,12 +189,12 @@ fn of_another_number(
     given: &[Given],
     faults: &mut Items<Fault>,
 ) -> Result<(), AllocError>
-    ensures { OnOk result (faults.new ≡ faults.old ++ told_of_another_number root.now given.now) }
+    ensures { OnOk result (faults.new ≡ faults.old ++ spec_of_another_number root.now given.now) }
 {
     if any_has_fault(given) {
         return Ok(());
     }
-    tell_named(alloc, Code::P1, root, faults)
+    report_named(alloc, Code::P1, root, faults)
 }
 
 /// Items against those of the protocol.
@@ -205,7 +205,7 @@ pub(super) fn against(
     given: &[Given],
     faults: &mut Items<Fault>,
 ) -> Result<(), AllocError>
-    ensures { OnOk result (faults.new ≡ faults.old ++ told_against root.now items.now given.now) }
+    ensures { OnOk result (faults.new ≡ faults.old ++ spec_against root.now items.now given.now) }
 {
     if items.len() == given.len() {
         return each_unmet(alloc, root, items, given, faults);
@@ -213,20 +213,20 @@ pub(super) fn against(
     of_another_number(alloc, root, given, faults)
 }
 
-/// What is told of a list of items.
-pub(super) fn told(
+/// What is reported of a list of items.
+pub(super) fn reported(
     alloc: Global,
     root: &Name,
     asked: Asked<'_>,
     given: &[Given],
     faults: &mut Items<Fault>,
 ) -> Result<(), AllocError>
-    ensures { OnOk result (faults.new ≡ faults.old ++ told_of root.now (asked_seen asked.entry) given.now) }
+    ensures { OnOk result (faults.new ≡ faults.old ++ spec_reported root.now (asked_seen asked.entry) given.now) }
 {
     match asked {
         Asked::Silent => Ok(()),
-        Asked::Instead(code) => tell_named(alloc, code, root, faults),
-        Asked::NoTag(name) => tell_named(alloc, Code::P2, name, faults),
+        Asked::Instead(code) => report_named(alloc, code, root, faults),
+        Asked::NoTag(name) => report_named(alloc, Code::P2, name, faults),
         Asked::AnyData => each_unmet_any(alloc, root, given, faults),
         Asked::These(items) => against(alloc, root, items, given, faults),
     }

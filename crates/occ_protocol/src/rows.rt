@@ -1,8 +1,8 @@
 //! Worked rows: channels, sequences, counted items, ANY, tags, timers, wanted types.
 ghost use Rattle.std.specs.Prelude.{[], ◌∷◌, ◌≡◌, None, Some, codes, false, true};
 ghost use Rattle.occ_base.specs.declared.code.Code.TheVariants as code;
-ghost use Rattle.occ_operands.specs.Settling.{int, known};
-ghost use Rattle.occ_operands.specs.declared.kind.Kind.TheVariants as k;
+ghost use Rattle.occ_typing_operands.specs.Settling.{int, known};
+ghost use Rattle.occ_typing_operands.specs.declared.kind.Kind.TheVariants as k;
 ghost use Rattle.occ_types.specs.declared.types.Item.TheVariants as i;
 ghost use Rattle.occ_types.specs.declared.types.OccType.TheVariants as t;
 ghost use Rattle.occ_types.specs.declared.types.Protocol.TheVariants as protocol;
@@ -75,8 +75,8 @@ pub fn any_rows()
     ensures tag { exchanged Data c (Some (codes "a")) [] ≡ named code.P3 c }
 {}
 
-/// Items of a channel with the tags `a; INT`, `b` and `f`: behind each, behind one that it has not, and behind none. The
-/// line of `f` has a fault. A variant of a case input tells the same, where the channel has tags.
+/// Items of a channel with the tags `a; INT`, `b` and `f`: after each, after one that it has not, and after none. The
+/// line of `f` has a fault. A variant of a case input reports the same, where the channel has tags.
 #[tactic(auto, using(crate::proofs::Primitives::written_rules))]
 pub fn tag_rows()
     ensures good { exchanged choice c (Some (codes "a")) (plain int ∷ []) ≡ [] }
@@ -123,7 +123,7 @@ pub fn timer_rows()
 {}
 
 /// What is wanted: the types of the protocol, in as many items; nothing of more, of a counted one in the place of a plain
-/// one, and through ANY; behind a tag what it has; and through what is hidden, is no channel, or has not the tag, a fault
+/// one, and through ANY; after a tag what it has; and through what is hidden, is no channel, or has not the tag, a fault
 /// hides it. There a name alone that is first is not looked up.
 #[tactic(auto, using(occ_types::proofs::Agreeing::fit_rules, crate::proofs::Meeting::wanting_rules))]
 pub fn want_rows()

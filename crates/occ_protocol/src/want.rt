@@ -2,22 +2,22 @@
 #![tactic(auto, using(crate::proofs::Meeting::wanting_rules))]
 
 ghost use Rattle.std.specs.Prelude.{◌≡◌, IfOk, map};
-ghost use Rattle.occ_protocol.specs.Carrying.{carrier as carrier_in, name_seen};
-ghost use Rattle.occ_protocol.specs.Matching.{asked as asked_in};
-ghost use Rattle.occ_protocol.specs.Wanting.{counted_wanted, each_wanted as wanted_each, hidden as is_hidden, nothing as is_nothing, wanted_against as is_wanted_against, wanted_for as is_wanted_for, wants as wants_of};
+ghost use Rattle.occ_protocol.specs.Carrying.{carrier as spec_carrier, name_seen};
+ghost use Rattle.occ_protocol.specs.Matching.{asked as spec_asked};
+ghost use Rattle.occ_protocol.specs.Wanting.{counted_wanted, each_wanted as spec_each_wanted, hidden as spec_hidden, nothing as spec_nothing, wanted_against as spec_wanted_against, wanted_for as spec_wanted_for, wants as spec_wants};
 ghost use Rattle.occ_protocol.specs.inside.Seen.{asked_seen};
 
 use super::asked::{Asked, asked_of};
 use super::carrier::carrier_of;
 use super::given::{Shape, Want, Wanted};
 use occ_base::{Items, Name, Shared};
-use occ_operands::Kind;
 use occ_types::{Item, OccType, Primitive};
+use occ_typing_operands::Kind;
 use std::alloc::{AllocError, Global};
 
 /// A fault hides what is wanted of an item.
 fn hidden(shape: Shape) -> Wanted
-    ensures { result ≡ is_hidden shape }
+    ensures { result ≡ spec_hidden shape }
 {
     match shape {
         Shape::Plain => Wanted::Plain(Want::Hidden),
@@ -27,7 +27,7 @@ fn hidden(shape: Shape) -> Wanted
 
 /// Nothing is wanted of an item.
 fn nothing(shape: Shape) -> Wanted
-    ensures { result ≡ is_nothing shape }
+    ensures { result ≡ spec_nothing shape }
 {
     match shape {
         Shape::Plain => Wanted::Plain(Want::Nothing),
@@ -36,7 +36,7 @@ fn nothing(shape: Shape) -> Wanted
 }
 
 fn all_hidden(alloc: Global, shapes: &[Shape]) -> Result<Items<Wanted>, AllocError>
-    ensures { IfOk result (λ wanted. wanted ≡ map is_hidden shapes.now) }
+    ensures { IfOk result (λ wanted. wanted ≡ map spec_hidden shapes.now) }
 {
     let mut wanted = Items::new(alloc);
     for shape in shapes {
@@ -46,7 +46,7 @@ fn all_hidden(alloc: Global, shapes: &[Shape]) -> Result<Items<Wanted>, AllocErr
 }
 
 fn all_nothing(alloc: Global, shapes: &[Shape]) -> Result<Items<Wanted>, AllocError>
-    ensures { IfOk result (λ wanted. wanted ≡ map is_nothing shapes.now) }
+    ensures { IfOk result (λ wanted. wanted ≡ map spec_nothing shapes.now) }
 {
     let mut wanted = Items::new(alloc);
     for shape in shapes {
@@ -66,7 +66,7 @@ fn counted(alloc: Global, count: Primitive, of: &Shared<OccType>) -> Result<Want
 
 /// What is wanted of an item for one of the protocol.
 fn wanted_for(alloc: Global, item: &Item, shape: Shape) -> Result<Wanted, AllocError>
-    ensures { IfOk result (λ wanted. wanted ≡ is_wanted_for item.now shape) }
+    ensures { IfOk result (λ wanted. wanted ≡ spec_wanted_for item.now shape) }
 {
     match (item, shape) {
         (Item::Value(of), Shape::Plain) => Ok(Wanted::Plain(Want::Of(of.share()?))),
@@ -78,7 +78,7 @@ fn wanted_for(alloc: Global, item: &Item, shape: Shape) -> Result<Wanted, AllocE
 
 /// As many items as the protocol has.
 fn each_wanted(alloc: Global, items: &[Item], shapes: &[Shape]) -> Result<Items<Wanted>, AllocError>
-    ensures { IfOk result (λ wanted. wanted ≡ wanted_each items.now shapes.now) }
+    ensures { IfOk result (λ wanted. wanted ≡ spec_each_wanted items.now shapes.now) }
 {
     let mut wanted = Items::new(alloc);
     let mut shapes = shapes;
@@ -97,7 +97,7 @@ fn wanted_against(
     items: &[Item],
     shapes: &[Shape],
 ) -> Result<Items<Wanted>, AllocError>
-    ensures { IfOk result (λ wanted. wanted ≡ is_wanted_against items.now shapes.now) }
+    ensures { IfOk result (λ wanted. wanted ≡ spec_wanted_against items.now shapes.now) }
 {
     if items.len() == shapes.len() {
         return each_wanted(alloc, items, shapes);
@@ -106,7 +106,7 @@ fn wanted_against(
 }
 
 fn wanted_by(alloc: Global, asked: Asked<'_>, shapes: &[Shape]) -> Result<Items<Wanted>, AllocError>
-    ensures { IfOk result (λ wanted. wanted ≡ wants_of (asked_seen asked.entry) shapes.now) }
+    ensures { IfOk result (λ wanted. wanted ≡ spec_wants (asked_seen asked.entry) shapes.now) }
 {
     match asked {
         Asked::Silent | Asked::Instead(_) | Asked::NoTag(_) => all_hidden(alloc, shapes),
@@ -115,9 +115,9 @@ fn wanted_by(alloc: Global, asked: Asked<'_>, shapes: &[Shape]) -> Result<Items<
     }
 }
 
-/// What is wanted of each item of an output through `channel`, behind a tag or behind none: of items of these shapes,
+/// What is wanted of each item of an output through `channel`, after a tag or after none: of items of these shapes,
 /// one by one. An item of which something is wanted takes the type if it can (a free one and a table do); that it is then
-/// of another type is told by `exchanged`, as P1.
+/// of another type is reported by `exchanged`, as P1.
 ///
 /// # Errors
 ///
@@ -128,7 +128,7 @@ pub fn wants(
     tag: Option<&Name>,
     shapes: &[Shape],
 ) -> Result<Items<Wanted>, AllocError>
-    ensures { IfOk result (λ wanted. wanted ≡ wants_of (asked_in (carrier_in channel.now) (name_seen tag.entry)) shapes.now) }
+    ensures { IfOk result (λ wanted. wanted ≡ spec_wants (spec_asked (spec_carrier channel.now) (name_seen tag.entry)) shapes.now) }
 {
     wanted_by(alloc, asked_of(carrier_of(channel), tag), shapes)
 }

@@ -11,7 +11,7 @@ abbrev pub names_of : List Entry → List (List ℕ)
 names_of [] = []
 names_of (e ∷ es) = e.name ∷ names_of es
 
--- each entry tells the nearest of its name before it
+-- each entry reports the nearest of its name before it
 abbrev pub AreChained : List (List ℕ) → List Entry → Type 0
 AreChained before [] = Unit {0}
 AreChained before (e ∷ es) = (e.hidden ≡ nearest before e.name) × AreChained (before ++ e.name ∷ []) es

@@ -1,2 +1,4 @@
 pub mod Nearest
 pub mod Kept
+pub mod Visible
+pub mod Lookup

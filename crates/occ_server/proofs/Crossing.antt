@@ -9,14 +9,14 @@ use Rattle.occ_base.proofs.name.Name.TheSendSync as name_cross
 use Rattle.occ_base.specs.contracts.name.Name as name
 use Rattle.std.proofs.Crossing.{Vec-send, Vec-sync}
 use Rattle.std.proofs.MapsCrossing.{BTreeMap-send}
-use Rattle.occ_expression_forms.proofs.tree.Literal.TheSendSync as literal_cross
-use Rattle.occ_expression_forms.proofs.tree.DataBase.TheSendSync as data_base_cross
-use Rattle.occ_expression_forms.proofs.tree.MonadicOperator.TheSendSync as monadic_operator_cross
-use Rattle.occ_expression_forms.proofs.tree.RunOperator.TheSendSync as run_operator_cross
-use Rattle.occ_expression_forms.proofs.tree.PairOperator.TheSendSync as pair_operator_cross
-use Rattle.occ_expression_forms.proofs.tree.Extreme.TheSendSync as extreme_cross
-use Rattle.occ_expression_forms.proofs.tree.PrimitiveWord.TheSendSync as primitive_word_cross
-use Rattle.occ_expression_forms.proofs.tree.ChannelWords.TheSendSync as channel_words_cross
+use Rattle.occ_forms_expressions.proofs.tree.Literal.TheSendSync as literal_cross
+use Rattle.occ_forms_expressions.proofs.tree.DataBase.TheSendSync as data_base_cross
+use Rattle.occ_forms_expressions.proofs.tree.MonadicOperator.TheSendSync as monadic_operator_cross
+use Rattle.occ_forms_expressions.proofs.tree.RunOperator.TheSendSync as run_operator_cross
+use Rattle.occ_forms_expressions.proofs.tree.PairOperator.TheSendSync as pair_operator_cross
+use Rattle.occ_forms_expressions.proofs.tree.Extreme.TheSendSync as extreme_cross
+use Rattle.occ_forms_expressions.proofs.tree.PrimitiveWord.TheSendSync as primitive_word_cross
+use Rattle.occ_forms_expressions.proofs.tree.ChannelWords.TheSendSync as channel_words_cross
 use Rattle.occ_types.proofs.interface.ExportKind.TheSendSync as export_kind_cross
 use Rattle.occ_types.proofs.interface.Effect.TheSendSync as effect_cross
 use Rattle.occ_types.proofs.interface.Passing.TheSendSync as passing_cross
@@ -27,24 +27,24 @@ use Rattle.occ_base.proofs.file_name.FileName.TheSendSync as file_name_cross
 use Rattle.occ_forms.proofs.tree.ConstructKind.TheSendSync as construct_kind_cross
 use Rattle.occ_board.proofs.report.Row.TheSendSync as row_cross
 use Rattle.occ_board.proofs.entry.EditFault.TheSendSync as edit_fault_cross
-use Rattle.occ_expression_forms.proofs.tree.Bounds.TheLaws.TheKnot as tree
+use Rattle.occ_forms_expressions.proofs.tree.Bounds.TheLaws.TheKnot as tree
 use Rattle.occ_types.proofs.types.Item.TheLaws.TheKnot as types
-use Rattle.occ_expression_forms.specs.contracts.tree.Bounds as bounds
-use Rattle.occ_expression_forms.specs.contracts.tree.Builtin as builtin
-use Rattle.occ_expression_forms.specs.contracts.tree.Dimension as dimension
-use Rattle.occ_expression_forms.specs.contracts.tree.Element as element
-use Rattle.occ_expression_forms.specs.contracts.tree.Expr as expr
-use Rattle.occ_expression_forms.specs.contracts.tree.NamedOperand as named_operand
-use Rattle.occ_expression_forms.specs.contracts.tree.Operand as operand
-use Rattle.occ_expression_forms.specs.contracts.tree.TypeForm as type_form
-use Rattle.occ_expression_forms.specs.contracts.tree.DataForm as data_form
-use Rattle.occ_specification_forms.specs.contracts.tree.ItemForm as item_form
-use Rattle.occ_specification_forms.specs.contracts.tree.ValueGroup as value_group
-use Rattle.occ_specification_forms.specs.contracts.tree.FormalGroup as formal_group
-use Rattle.occ_specification_forms.specs.contracts.tree.FunctionHead as function_head
-use Rattle.occ_specification_forms.specs.contracts.tree.Specification as specification
-use Rattle.occ_specification_forms.specs.contracts.tree.Head as head
-use Rattle.occ_specification_forms.specs.contracts.tree.Specified as specified
+use Rattle.occ_forms_expressions.specs.contracts.tree.Bounds as bounds
+use Rattle.occ_forms_expressions.specs.contracts.tree.Builtin as builtin
+use Rattle.occ_forms_expressions.specs.contracts.tree.Dimension as dimension
+use Rattle.occ_forms_expressions.specs.contracts.tree.Element as element
+use Rattle.occ_forms_expressions.specs.contracts.tree.Expr as expr
+use Rattle.occ_forms_expressions.specs.contracts.tree.NamedOperand as named_operand
+use Rattle.occ_forms_expressions.specs.contracts.tree.Operand as operand
+use Rattle.occ_forms_expressions.specs.contracts.tree.TypeForm as type_form
+use Rattle.occ_forms_expressions.specs.contracts.tree.DataForm as data_form
+use Rattle.occ_forms.specs.contracts.specification_tree.ItemForm as item_form
+use Rattle.occ_forms.specs.contracts.specification_tree.ValueGroup as value_group
+use Rattle.occ_forms.specs.contracts.specification_tree.FormalGroup as formal_group
+use Rattle.occ_forms.specs.contracts.specification_tree.FunctionHead as function_head
+use Rattle.occ_forms.specs.contracts.specification_tree.Specification as specification
+use Rattle.occ_forms.specs.contracts.specification_tree.Head as head
+use Rattle.occ_forms.specs.contracts.specification_tree.Specified as specified
 use Rattle.occ_forms.specs.contracts.tree.OutputItem as output_item
 use Rattle.occ_forms.specs.contracts.tree.InputItem as input_item
 use Rattle.occ_forms.specs.contracts.tree.Input as input
@@ -66,21 +66,21 @@ use Rattle.occ_types.specs.contracts.types.OccType as occ_type
 use Rattle.occ_types.specs.contracts.interface.Formal as formal
 use Rattle.occ_types.specs.contracts.interface.Export as export
 use Rattle.occ_types.specs.contracts.interface.Interface as interface
-use Rattle.occ_check.specs.contracts.used.Used as used
-use Rattle.occ_check.specs.contracts.used.UsedUnit as used_unit
-use Rattle.occ_check.specs.contracts.job.Job as job
-use Rattle.occ_check.specs.contracts.outcome.Outcome as outcome
+use Rattle.occ_board.specs.UsedContract as used
+use Rattle.occ_board.specs.UsedUnitContract as used_unit
+use Rattle.occ_board.specs.JobContract as job
+use Rattle.occ_board.specs.OutcomeContract as outcome
 use Rattle.occ_board.specs.contracts.entry.Edit as edit
 use Rattle.occ_board.specs.contracts.entry.Entry as entry
 use Rattle.occ_board.specs.contracts.flags.Flags as flags
-use Rattle.occ_board.specs.contracts.kept.Kept as kept
-use Rattle.occ_units.specs.contracts.project.Project as project
-use Rattle.occ_units.specs.contracts.facts.Facts as facts
-use Rattle.occ_graph.specs.contracts.linked.Linked as links
+use Rattle.occ_board.specs.contracts.cached.Cached as cached
+use Rattle.occ_project_units.specs.contracts.project.Project as project
+use Rattle.occ_project_units.specs.contracts.facts.Facts as facts
+use Rattle.occ_project_graph.specs.contracts.linked.Linked as links
 use Rattle.sqlite_items.specs.contracts.items.Items as items_of
 use Rattle.occ_base.specs.contracts.shared.Shared as shared_of
 use denote.Builtin.{usize}
-use Rattle.occ_units.specs.contracts.graph.Graph as graph
+use Rattle.occ_project_units.specs.contracts.graph.Graph as graph
 use Rattle.occ_board.specs.contracts.board.Board as board
 use Rattle.std.proofs.sync.Mutex.TheSendSync as mutex
 use Rattle.std.proofs.sync.Condvar.TheSendSync as condvar
@@ -678,8 +678,8 @@ graph_field_sync = search (sendable, Vec-sync, project_field_sync, shared_facts_
 graph_send : IsSend graph.the_row
 graph_send = search (sendable, graph_field_send) depth 10
 
-kept_field_send : IsSend kept.the_field.row
-kept_field_send = search (sendable, Vec-send, BTreeMap-send, outcome_field_send, file_name_cross.the_send) depth 30
+cached_field_send : IsSend cached.the_field.row
+cached_field_send = search (sendable, Vec-send, BTreeMap-send, outcome_field_send, file_name_cross.the_send) depth 30
 
 flags_field_send : IsSend flags.the_field.row
 flags_field_send = search (sendable, items.the_send) depth 30
@@ -689,7 +689,7 @@ counts_send : IsSend flags.the_field.row × (IsSend flags.the_field.row × (IsSe
 counts_send = (flags_field_send, (flags_field_send, (number_send, (number_send, (number_send, tt)))))
 
 board_field_send : IsSend board.the_field.row
-board_field_send = search (sendable, Vec-send, entry_send, kept_field_send, job_field_send, graph_field_send, counts_send) depth 30
+board_field_send = search (sendable, Vec-send, entry_send, cached_field_send, job_field_send, graph_field_send, counts_send) depth 30
 
 board_send : IsSend board.the_row
 board_send = search (sendable, board_field_send) depth 10

@@ -1,6 +1,6 @@
 -- A legal journal has 10,000 entries at most.
 use Rattle.std.proofs.Common.{◌≡◌, ◌≤◌, ◌<◌, ◌+◌, ◌++◌, Bool, true, false, ℕ, List, [], ◌∷◌, length, length-append, nat_le, not, Option, None, refl, arith}
-use Rattle.occ_board.specs.Journal.{IsLegal, IsLegalBehind, else_fault, if_full, is_open, open_number, refusal_of, replay}
+use Rattle.occ_board.specs.Journal.{IsLegal, IsLegalAfter, else_fault, if_full, is_open, open_number, refusal_of, replay}
 use Rattle.occ_board.specs.declared.entry.Edit.{Edit}
 use Rattle.occ_board.specs.declared.entry.Edit.TheVariants as edit
 use Rattle.occ_board.specs.declared.entry.EditFault.{EditFault}
@@ -23,13 +23,13 @@ room files n (edit.Added name source) r =
 room files n (edit.Changed name source) r = not_full n (passed (not (is_open files name)) fault.NotOpen (if_full n) r).1
 room files n (edit.Removed name) r = not_full n (passed (not (is_open files name)) fault.NotOpen (if_full n) r).1
 
-few_behind : (before es : List Entry) → IsLegalBehind before es → length before ≤ 10000 → length before + length es ≤ 10000
-few_behind before [] legal small = omega (arith, small)
-few_behind before (e ∷ es) legal small =
+few_after : (before es : List Entry) → IsLegalAfter before es → length before ≤ 10000 → length before + length es ≤ 10000
+few_after before [] legal small = omega (arith, small)
+few_after before (e ∷ es) legal small =
     let free = room (replay before) (length before) e.edit legal.0 in
     let longer : length (before ++ e ∷ []) ≡ length before + 1 = length-append before (e ∷ []) in
-    let rest = few_behind (before ++ e ∷ []) es legal.1 (omega (arith, longer, free)) in
+    let rest = few_after (before ++ e ∷ []) es legal.1 (omega (arith, longer, free)) in
     omega (arith, longer, rest)
 
 pub few : (es : List Entry) → IsLegal es → length es ≤ 10000
-few es legal = let h = few_behind [] es legal (omega arith) in omega (arith, h)
+few es legal = let h = few_after [] es legal (omega arith) in omega (arith, h)

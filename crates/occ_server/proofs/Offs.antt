@@ -2,17 +2,17 @@
 use Rattle.std.proofs.Common.{◌≡◌, ◌⊎◌, ◌∙◌, ◌+◌, ◌<◌, ◌≤◌, ◌==◌, ◌&&◌, ℕ, zero, suc, Bool, true, false, List, [], ◌∷◌, length, take, min, nat_lt, if◌then◌else◌, Option, Some, None, slice_get, refl, sym, ap, subst, arith, inl, inr}
 use Rattle.std.proofs.lemmas.Bool.Decides.{nat_tests}
 use Rattle.occ_board.specs.declared.entry.Entry.{Entry}
-use Rattle.occ_server.specs.Receipts.{Numbered, IsLeastOff, ascends, ascends_behind, entry_at, receipts_from, receipts_of, told_at}
+use Rattle.occ_server.specs.Receipts.{Numbered, IsLeastOff, ascends, ascends_after, entry_at, receipts_from, receipts_of, reported_at}
 
-abbrev pub told_if : Bool → Numbered → List Numbered → ℕ → Option Entry
-told_if b t ts n = if b then Some t.entry else told_at ts n
+abbrev pub reported_if : Bool → Numbered → List Numbered → ℕ → Option Entry
+reported_if b t ts n = if b then Some t.entry else reported_at ts n
 
--- what is told at the head's number, and at others
-pub told_here : (t : Numbered) (ts : List Numbered) (n : ℕ) → t.number ≡ n → told_at (t ∷ ts) n ≡ Some t.entry
-told_here t ts n e = let is : (t.number == n) ≡ true = grind (arith, nat_tests) in ap (λ (b : Bool). told_if b t ts n) is
+-- what is reported at the head's number, and at others
+pub reported_here : (t : Numbered) (ts : List Numbered) (n : ℕ) → t.number ≡ n → reported_at (t ∷ ts) n ≡ Some t.entry
+reported_here t ts n e = let is : (t.number == n) ≡ true = grind (arith, nat_tests) in ap (λ (b : Bool). reported_if b t ts n) is
 
-pub told_later : (t : Numbered) (ts : List Numbered) (n : ℕ) → (t.number ≡ n → ⊥) → told_at (t ∷ ts) n ≡ told_at ts n
-told_later t ts n e = let is : (t.number == n) ≡ false = grind (arith, nat_tests) in ap (λ (b : Bool). told_if b t ts n) is
+pub reported_later : (t : Numbered) (ts : List Numbered) (n : ℕ) → (t.number ≡ n → ⊥) → reported_at (t ∷ ts) n ≡ reported_at ts n
+reported_later t ts n e = let is : (t.number == n) ≡ false = grind (arith, nat_tests) in ap (λ (b : Bool). reported_if b t ts n) is
 
 both : (a b : Bool) → a && b ≡ true → (a ≡ true) × (b ≡ true)
 both true b h = (refl, h)
@@ -21,40 +21,40 @@ both false b h = absurd cc
 below : (m n : ℕ) → nat_lt m n ≡ true → m < n
 below m n h = grind arith
 
-rises : (n : ℕ) (t : Numbered) (ts : List Numbered) → ascends_behind n (t ∷ ts) ≡ true → (n < t.number) × (ascends_behind t.number ts ≡ true)
-rises n t ts h = let b = both (nat_lt n t.number) (ascends_behind t.number ts) h in (below n t.number b.0, b.1)
+rises : (n : ℕ) (t : Numbered) (ts : List Numbered) → ascends_after n (t ∷ ts) ≡ true → (n < t.number) × (ascends_after t.number ts ≡ true)
+rises n t ts h = let b = both (nat_lt n t.number) (ascends_after t.number ts) h in (below n t.number b.0, b.1)
 
--- at the numbers before nothing is told
-none_before : (n m : ℕ) (ts : List Numbered) → ascends_behind n ts ≡ true → m ≤ n → told_at ts m ≡ None
+-- at the numbers before nothing is reported
+none_before : (n m : ℕ) (ts : List Numbered) → ascends_after n ts ≡ true → m ≤ n → reported_at ts m ≡ None
 none_before n m [] h small = refl
 none_before n m (t ∷ ts) h small =
     let r = rises n t ts h in
-    told_later t ts m (λ e. absurd (omega (arith, e, small, r.0))) ∙ none_before t.number m ts r.1 (omega (arith, small, r.0))
+    reported_later t ts m (λ e. absurd (omega (arith, e, small, r.0))) ∙ none_before t.number m ts r.1 (omega (arith, small, r.0))
 
 -- ---- the receipts of a journal
 
-pub receipts_rise : (n : ℕ) (es : List Entry) → ascends_behind n (receipts_from (n + 1) es) ≡ true
+pub receipts_rise : (n : ℕ) (es : List Entry) → ascends_after n (receipts_from (n + 1) es) ≡ true
 receipts_rise n [] = refl
 receipts_rise n (e ∷ es) = rw (receipts_rise (n + 1) es) (grind (arith, nat_tests))
 
-told_from : (n k : ℕ) (es : List Entry) → told_at (receipts_from n es) (n + k) ≡ slice_get es k
-told_from n k [] = refl
-told_from n zero (e ∷ es) = told_here (record { number = n; entry = e }) (receipts_from (n + 1) es) (n + 0) (omega arith)
-told_from n (suc k) (e ∷ es) =
-    told_later (record { number = n; entry = e }) (receipts_from (n + 1) es) (n + suc k) (λ h. absurd (omega (arith, h)))
-    ∙ ap (told_at (receipts_from (n + 1) es)) (omega arith)
-    ∙ told_from (n + 1) k es
+reported_from : (n k : ℕ) (es : List Entry) → reported_at (receipts_from n es) (n + k) ≡ slice_get es k
+reported_from n k [] = refl
+reported_from n zero (e ∷ es) = reported_here (record { number = n; entry = e }) (receipts_from (n + 1) es) (n + 0) (omega arith)
+reported_from n (suc k) (e ∷ es) =
+    reported_later (record { number = n; entry = e }) (receipts_from (n + 1) es) (n + suc k) (λ h. absurd (omega (arith, h)))
+    ∙ ap (reported_at (receipts_from (n + 1) es)) (omega arith)
+    ∙ reported_from (n + 1) k es
 
-pub told_is : (es : List Entry) (n : ℕ) → told_at (receipts_of es) n ≡ entry_at es n
-told_is es zero = none_before 0 0 (receipts_of es) (receipts_rise 0 es) (omega arith)
-told_is es (suc n) = ap (told_at (receipts_of es)) (omega arith) ∙ told_from 1 n es
+pub reported_is : (es : List Entry) (n : ℕ) → reported_at (receipts_of es) n ≡ entry_at es n
+reported_is es zero = none_before 0 0 (receipts_of es) (receipts_rise 0 es) (omega arith)
+reported_is es (suc n) = ap (reported_at (receipts_of es)) (omega arith) ∙ reported_from 1 n es
 
 -- ---- two lists that rise
 
 -- the least number at which they do not have the same
 pub record IsLeast (ts us : List Numbered) (n : ℕ) : Type 0 where
-  pub off : told_at ts n ≡ told_at us n → ⊥
-  pub before : (m : ℕ) → m < n → told_at ts m ≡ told_at us m
+  pub off : reported_at ts n ≡ reported_at us n → ⊥
+  pub before : (m : ℕ) → m < n → reported_at ts m ≡ reported_at us m
 
 some_none : (e : Entry) → Some e ≡ None → ⊥
 some_none e h = absurd cc
@@ -65,20 +65,20 @@ one_some d e h = cc
 one_receipt : (t u : Numbered) → t.number ≡ u.number → t.entry ≡ u.entry → t ≡ u
 one_receipt t u n e = ap (λ (m : ℕ). record { number = m; entry = t.entry }) n ∙ ap (λ (x : Entry). record { number = u.number; entry = x }) e
 
-first_missing : (k : ℕ) (t : Numbered) (ts : List Numbered) → ascends_behind k (t ∷ ts) ≡ true → IsLeast (t ∷ ts) [] t.number
+first_missing : (k : ℕ) (t : Numbered) (ts : List Numbered) → ascends_after k (t ∷ ts) ≡ true → IsLeast (t ∷ ts) [] t.number
 first_missing k t ts h = record {
-  off = λ e. some_none t.entry (sym (told_here t ts t.number refl) ∙ e);
-  before = λ m small. told_later t ts m (λ e. absurd (omega (arith, e, small))) ∙ none_before t.number m ts (rises k t ts h).1 (omega (arith, small));
+  off = λ e. some_none t.entry (sym (reported_here t ts t.number refl) ∙ e);
+  before = λ m small. reported_later t ts m (λ e. absurd (omega (arith, e, small))) ∙ none_before t.number m ts (rises k t ts h).1 (omega (arith, small));
 }
 
 turned : (ts us : List Numbered) (n : ℕ) → IsLeast ts us n → IsLeast us ts n
 turned ts us n l = record { off = λ e. l.off (sym e); before = λ m small. sym (l.before m small) }
 
-nothing_before : (k m : ℕ) (t : Numbered) (ts : List Numbered) → ascends_behind k (t ∷ ts) ≡ true → m < t.number → told_at (t ∷ ts) m ≡ None
-nothing_before k m t ts h small = told_later t ts m (λ e. absurd (omega (arith, e, small))) ∙ none_before t.number m ts (rises k t ts h).1 (omega (arith, small))
+nothing_before : (k m : ℕ) (t : Numbered) (ts : List Numbered) → ascends_after k (t ∷ ts) ≡ true → m < t.number → reported_at (t ∷ ts) m ≡ None
+nothing_before k m t ts h small = reported_later t ts m (λ e. absurd (omega (arith, e, small))) ∙ none_before t.number m ts (rises k t ts h).1 (omega (arith, small))
 
 -- heads that differ
-heads_off : (k : ℕ) (t u : Numbered) (ts us : List Numbered) → ascends_behind k (t ∷ ts) ≡ true → ascends_behind k (u ∷ us) ≡ true → (t ≡ u → ⊥) → IsLeast (t ∷ ts) (u ∷ us) (min u.number t.number)
+heads_off : (k : ℕ) (t u : Numbered) (ts us : List Numbered) → ascends_after k (t ∷ ts) ≡ true → ascends_after k (u ∷ us) ≡ true → (t ≡ u → ⊥) → IsLeast (t ∷ ts) (u ∷ us) (min u.number t.number)
 heads_off k t u ts us h g differ = record {
   off = λ e. off_by e (order t.number u.number);
   before = λ m small. nothing_before k m t ts h (omega (arith, small)) ∙ sym (nothing_before k m u us g (omega (arith, small)));
@@ -89,60 +89,60 @@ heads_off k t u ts us h g differ = record {
   same : t.number ≡ u.number → t.entry ≡ u.entry → t ≡ u
   same n e = one_receipt t u n e
 
-  off_by : told_at (t ∷ ts) (min u.number t.number) ≡ told_at (u ∷ us) (min u.number t.number) → (t.number < u.number) ⊎ ((u.number < t.number) ⊎ (t.number ≡ u.number)) → ⊥
-  off_by e (inl less) = some_none t.entry (sym (told_here t ts (min u.number t.number) (omega (arith, less))) ∙ e ∙ nothing_before k (min u.number t.number) u us g (omega (arith, less)))
-  off_by e (inr (inl more)) = some_none u.entry (sym (told_here u us (min u.number t.number) (omega (arith, more))) ∙ sym e ∙ nothing_before k (min u.number t.number) t ts h (omega (arith, more)))
-  off_by e (inr (inr one)) = differ (same one (one_some t.entry u.entry (sym (told_here t ts (min u.number t.number) (omega (arith, one))) ∙ e ∙ told_here u us (min u.number t.number) (omega (arith, one)))))
+  off_by : reported_at (t ∷ ts) (min u.number t.number) ≡ reported_at (u ∷ us) (min u.number t.number) → (t.number < u.number) ⊎ ((u.number < t.number) ⊎ (t.number ≡ u.number)) → ⊥
+  off_by e (inl less) = some_none t.entry (sym (reported_here t ts (min u.number t.number) (omega (arith, less))) ∙ e ∙ nothing_before k (min u.number t.number) u us g (omega (arith, less)))
+  off_by e (inr (inl more)) = some_none u.entry (sym (reported_here u us (min u.number t.number) (omega (arith, more))) ∙ sym e ∙ nothing_before k (min u.number t.number) t ts h (omega (arith, more)))
+  off_by e (inr (inr one)) = differ (same one (one_some t.entry u.entry (sym (reported_here t ts (min u.number t.number) (omega (arith, one))) ∙ e ∙ reported_here u us (min u.number t.number) (omega (arith, one)))))
 
--- behind a head that they share
-behind : (t : Numbered) (ts us : List Numbered) (n : ℕ) → ascends_behind t.number ts ≡ true → ascends_behind t.number us ≡ true → IsLeast ts us n → IsLeast (t ∷ ts) (t ∷ us) n
+-- after a head that they share
+behind : (t : Numbered) (ts us : List Numbered) (n : ℕ) → ascends_after t.number ts ≡ true → ascends_after t.number us ≡ true → IsLeast ts us n → IsLeast (t ∷ ts) (t ∷ us) n
 behind t ts us n h g l = record {
-  off = λ e. l.off (sym (told_later t ts n (not_here n l.off)) ∙ e ∙ told_later t us n (not_here n l.off));
+  off = λ e. l.off (sym (reported_later t ts n (not_here n l.off)) ∙ e ∙ reported_later t us n (not_here n l.off));
   before = λ m small. by m (l.before m small) (t.number == m) refl;
 } where
-  not_here : (n : ℕ) → (told_at ts n ≡ told_at us n → ⊥) → t.number ≡ n → ⊥
+  not_here : (n : ℕ) → (reported_at ts n ≡ reported_at us n → ⊥) → t.number ≡ n → ⊥
   not_here n off e = off (none_before t.number n ts h (omega (arith, e)) ∙ sym (none_before t.number n us g (omega (arith, e))))
 
-  by : (m : ℕ) → told_at ts m ≡ told_at us m → (b : Bool) → (t.number == m) ≡ b → told_at (t ∷ ts) m ≡ told_at (t ∷ us) m
-  by m e true is = ap (λ (b : Bool). told_if b t ts m) is ∙ sym (ap (λ (b : Bool). told_if b t us m) is)
-  by m e false is = ap (λ (b : Bool). told_if b t ts m) is ∙ e ∙ sym (ap (λ (b : Bool). told_if b t us m) is)
+  by : (m : ℕ) → reported_at ts m ≡ reported_at us m → (b : Bool) → (t.number == m) ≡ b → reported_at (t ∷ ts) m ≡ reported_at (t ∷ us) m
+  by m e true is = ap (λ (b : Bool). reported_if b t ts m) is ∙ sym (ap (λ (b : Bool). reported_if b t us m) is)
+  by m e false is = ap (λ (b : Bool). reported_if b t ts m) is ∙ e ∙ sym (ap (λ (b : Bool). reported_if b t us m) is)
 
--- what the lists have at a place, if that differs, gives the number
+-- what the lists have at an index, if that differs, gives the number
 abbrev lesser : Option Numbered → Option Numbered → ℕ
 lesser None None = 0
 lesser (Some t) None = t.number
 lesser None (Some u) = u.number
 lesser (Some t) (Some u) = min u.number t.number
 
-differ_at : (place k : ℕ) (ts us : List Numbered) → ascends_behind k ts ≡ true → ascends_behind k us ≡ true → take place ts ≡ take place us
-    → (slice_get ts place ≡ slice_get us place → ⊥) → IsLeast ts us (lesser (slice_get ts place) (slice_get us place))
+differ_at : (index k : ℕ) (ts us : List Numbered) → ascends_after k ts ≡ true → ascends_after k us ≡ true → take index ts ≡ take index us
+    → (slice_get ts index ≡ slice_get us index → ⊥) → IsLeast ts us (lesser (slice_get ts index) (slice_get us index))
 differ_at zero k [] [] h g same differ = absurd (differ refl)
 differ_at zero k [] (u ∷ us) h g same differ = turned (u ∷ us) [] u.number (first_missing k u us g)
 differ_at zero k (t ∷ ts) [] h g same differ = first_missing k t ts h
 differ_at zero k (t ∷ ts) (u ∷ us) h g same differ = heads_off k t u ts us h g (λ e. differ (ap Some e))
-differ_at (suc place) k [] [] h g same differ = absurd (differ refl)
-differ_at (suc place) k [] (u ∷ us) h g same differ = absurd cc
-differ_at (suc place) k (t ∷ ts) [] h g same differ = absurd cc
-differ_at (suc place) k (t ∷ ts) (u ∷ us) h g same differ = subst (λ (x : Numbered). IsLeast (t ∷ ts) (x ∷ us) n) head (behind t ts us n (rises k t ts h).1 risen (differ_at place t.number ts us (rises k t ts h).1 risen tail differ)) where
+differ_at (suc index) k [] [] h g same differ = absurd (differ refl)
+differ_at (suc index) k [] (u ∷ us) h g same differ = absurd cc
+differ_at (suc index) k (t ∷ ts) [] h g same differ = absurd cc
+differ_at (suc index) k (t ∷ ts) (u ∷ us) h g same differ = subst (λ (x : Numbered). IsLeast (t ∷ ts) (x ∷ us) n) head (behind t ts us n (rises k t ts h).1 risen (differ_at index t.number ts us (rises k t ts h).1 risen tail differ)) where
   head : t ≡ u
   head = cc
 
-  tail : take place ts ≡ take place us
+  tail : take index ts ≡ take index us
   tail = cc
 
-  risen : ascends_behind t.number us ≡ true
-  risen = subst (λ (x : Numbered). ascends_behind x.number us ≡ true) (sym head) (rises k u us g).1
+  risen : ascends_after t.number us ≡ true
+  risen = subst (λ (x : Numbered). ascends_after x.number us ≡ true) (sym head) (rises k u us g).1
 
   n : ℕ
-  n = lesser (slice_get ts place) (slice_get us place)
+  n = lesser (slice_get ts index) (slice_get us index)
 
 least_off : (ts : List Numbered) (es : List Entry) (n : ℕ) → IsLeast ts (receipts_of es) n → IsLeastOff ts es n
 least_off ts es n l = record {
-  off = λ e. l.off (e ∙ sym (told_is es n));
-  below = λ m small. l.before m small ∙ told_is es m;
+  off = λ e. l.off (e ∙ sym (reported_is es n));
+  below = λ m small. l.before m small ∙ reported_is es m;
 }
 
--- ---- receipts beside a journal, place by place
+-- ---- receipts beside a journal, index by index
 
 receipts_get_from : (n k : ℕ) (es : List Entry) (e : Entry) → slice_get es k ≡ Some e → slice_get (receipts_from n es) k ≡ Some (record { number = n + k; entry = e })
 receipts_get_from n k [] e h = absurd cc
@@ -157,25 +157,25 @@ receipts_past n k [] h = refl
 receipts_past n zero (e ∷ es) h = absurd (omega (arith, h))
 receipts_past n (suc k) (e ∷ es) h = receipts_past (n + 1) k es (omega (arith, h))
 
-rise_all : (es : List Entry) → ascends_behind 0 (receipts_of es) ≡ true
+rise_all : (es : List Entry) → ascends_after 0 (receipts_of es) ≡ true
 rise_all es = receipts_rise 0 es
 
-number_is : (place : ℕ) (ts us : List Numbered) (o p : Option Numbered) → slice_get ts place ≡ o → slice_get us place ≡ p → IsLeast ts us (lesser (slice_get ts place) (slice_get us place)) → IsLeast ts us (lesser o p)
-number_is place ts us o p at there l = subst (λ (x : Option Numbered). IsLeast ts us (lesser o x)) there (subst (λ (x : Option Numbered). IsLeast ts us (lesser x (slice_get us place))) at l)
+number_is : (index : ℕ) (ts us : List Numbered) (o p : Option Numbered) → slice_get ts index ≡ o → slice_get us index ≡ p → IsLeast ts us (lesser (slice_get ts index) (slice_get us index)) → IsLeast ts us (lesser o p)
+number_is index ts us o p at there l = subst (λ (x : Option Numbered). IsLeast ts us (lesser o x)) there (subst (λ (x : Option Numbered). IsLeast ts us (lesser x (slice_get us index))) at l)
 
-pub none_there : (place : ℕ) (ts : List Numbered) (es : List Entry) (e : Entry) → ascends ts ≡ true → take place ts ≡ take place (receipts_of es)
-    → slice_get ts place ≡ None → slice_get es place ≡ Some e → IsLeastOff ts es (place + 1)
-none_there place ts es e h same at here =
-    let there = receipts_get place es e here in
-    least_off ts es (place + 1) (number_is place ts (receipts_of es) None (Some (record { number = place + 1; entry = e })) at there (differ_at place 0 ts (receipts_of es) h (rise_all es) same (λ q. some_none_receipt (record { number = place + 1; entry = e }) (sym there ∙ sym q ∙ at)))) where
+pub none_there : (index : ℕ) (ts : List Numbered) (es : List Entry) (e : Entry) → ascends ts ≡ true → take index ts ≡ take index (receipts_of es)
+    → slice_get ts index ≡ None → slice_get es index ≡ Some e → IsLeastOff ts es (index + 1)
+none_there index ts es e h same at here =
+    let there = receipts_get index es e here in
+    least_off ts es (index + 1) (number_is index ts (receipts_of es) None (Some (record { number = index + 1; entry = e })) at there (differ_at index 0 ts (receipts_of es) h (rise_all es) same (λ q. some_none_receipt (record { number = index + 1; entry = e }) (sym there ∙ sym q ∙ at)))) where
       some_none_receipt : (t : Numbered) → Some t ≡ None → ⊥
       some_none_receipt t h = absurd cc
 
-pub other_there : (place : ℕ) (ts : List Numbered) (es : List Entry) (t : Numbered) (e : Entry) → ascends ts ≡ true → take place ts ≡ take place (receipts_of es)
-    → slice_get ts place ≡ Some t → slice_get es place ≡ Some e → (t ≡ record { number = place + 1; entry = e } → ⊥) → IsLeastOff ts es (min (place + 1) t.number)
-other_there place ts es t e h same at here differ =
-    let there = receipts_get place es e here in
-    least_off ts es (min (place + 1) t.number) (number_is place ts (receipts_of es) (Some t) (Some (record { number = place + 1; entry = e })) at there (differ_at place 0 ts (receipts_of es) h (rise_all es) same (λ q. differ (one_there t (record { number = place + 1; entry = e }) (sym at ∙ q ∙ there))))) where
+pub other_there : (index : ℕ) (ts : List Numbered) (es : List Entry) (t : Numbered) (e : Entry) → ascends ts ≡ true → take index ts ≡ take index (receipts_of es)
+    → slice_get ts index ≡ Some t → slice_get es index ≡ Some e → (t ≡ record { number = index + 1; entry = e } → ⊥) → IsLeastOff ts es (min (index + 1) t.number)
+other_there index ts es t e h same at here differ =
+    let there = receipts_get index es e here in
+    least_off ts es (min (index + 1) t.number) (number_is index ts (receipts_of es) (Some t) (Some (record { number = index + 1; entry = e })) at there (differ_at index 0 ts (receipts_of es) h (rise_all es) same (λ q. differ (one_there t (record { number = index + 1; entry = e }) (sym at ∙ q ∙ there))))) where
       one_there : (t u : Numbered) → Some t ≡ Some u → t ≡ u
       one_there t u h = cc
 
@@ -196,11 +196,11 @@ next_same (suc k) (t ∷ ts) [] h e = absurd cc
 next_same zero (t ∷ ts) (u ∷ us) h e = cc
 next_same (suc k) (t ∷ ts) (u ∷ us) h e = let tail : take k ts ≡ take k us = cc in let more : take (suc k) ts ≡ take (suc k) us = next_same k ts us tail e in cc
 
-pub one_more : (place : ℕ) (ts : List Numbered) (es : List Entry) (t : Numbered) (e : Entry) → take place ts ≡ take place (receipts_of es)
-    → slice_get ts place ≡ Some t → slice_get es place ≡ Some e → t ≡ record { number = place + 1; entry = e } → take (place + 1) ts ≡ take (place + 1) (receipts_of es)
-one_more place ts es t e same at here is =
-    let n : suc place ≡ place + 1 = omega arith in
-    subst (λ (k : ℕ). take k ts ≡ take k (receipts_of es)) n (next_same place ts (receipts_of es) same (at ∙ ap Some is ∙ sym (receipts_get place es e here)))
+pub one_more : (index : ℕ) (ts : List Numbered) (es : List Entry) (t : Numbered) (e : Entry) → take index ts ≡ take index (receipts_of es)
+    → slice_get ts index ≡ Some t → slice_get es index ≡ Some e → t ≡ record { number = index + 1; entry = e } → take (index + 1) ts ≡ take (index + 1) (receipts_of es)
+one_more index ts es t e same at here is =
+    let n : suc index ≡ index + 1 = omega arith in
+    subst (λ (k : ℕ). take k ts ≡ take k (receipts_of es)) n (next_same index ts (receipts_of es) same (at ∙ ap Some is ∙ sym (receipts_get index es e here)))
 
 take_short : (k : ℕ) (ts : List Numbered) → slice_get ts k ≡ None → take k ts ≡ ts
 take_short zero [] h = refl
@@ -213,8 +213,8 @@ all_there ts es same at = sym (take_short (length es) ts at) ∙ same ∙ take_s
 
 -- ---- only the receipts of a journal have at each number what it has
 
--- where the lists have the same at each number, they have the same at each place
-same_lists : (k : ℕ) (ts us : List Numbered) → ascends_behind k ts ≡ true → ascends_behind k us ≡ true → ((n : ℕ) → told_at ts n ≡ told_at us n) → ts ≡ us
+-- where the lists have the same at each number, they have the same at each index
+same_lists : (k : ℕ) (ts us : List Numbered) → ascends_after k ts ≡ true → ascends_after k us ≡ true → ((n : ℕ) → reported_at ts n ≡ reported_at us n) → ts ≡ us
 same_lists k [] [] h g same = refl
 same_lists k [] (u ∷ us) h g same = absurd ((first_missing k u us g).off (sym (same u.number)))
 same_lists k (t ∷ ts) [] h g same = absurd ((first_missing k t ts h).off (same t.number))
@@ -223,9 +223,9 @@ same_lists k (t ∷ ts) (u ∷ us) h g same = ap (λ (xs : List Numbered). t ∷
   order a b = grind arith
 
   head_by : (t.number < u.number) ⊎ ((u.number < t.number) ⊎ (t.number ≡ u.number)) → t ≡ u
-  head_by (inl less) = absurd (some_none t.entry (sym (told_here t ts t.number refl) ∙ same t.number ∙ nothing_before k t.number u us g less))
-  head_by (inr (inl more)) = absurd (some_none u.entry (sym (told_here u us u.number refl) ∙ sym (same u.number) ∙ nothing_before k u.number t ts h more))
-  head_by (inr (inr one)) = one_receipt t u one (one_some t.entry u.entry (sym (told_here t ts t.number refl) ∙ same t.number ∙ told_here u us t.number (sym one)))
+  head_by (inl less) = absurd (some_none t.entry (sym (reported_here t ts t.number refl) ∙ same t.number ∙ nothing_before k t.number u us g less))
+  head_by (inr (inl more)) = absurd (some_none u.entry (sym (reported_here u us u.number refl) ∙ sym (same u.number) ∙ nothing_before k u.number t ts h more))
+  head_by (inr (inr one)) = one_receipt t u one (one_some t.entry u.entry (sym (reported_here t ts t.number refl) ∙ same t.number ∙ reported_here u us t.number (sym one)))
 
   head : t ≡ u
   head = head_by (order t.number u.number)
@@ -233,15 +233,15 @@ same_lists k (t ∷ ts) (u ∷ us) h g same = ap (λ (xs : List Numbered). t ∷
   number : t.number ≡ u.number
   number = ap (λ (x : Numbered). x.number) head
 
-  risen : ascends_behind t.number us ≡ true
-  risen = subst (λ (n : ℕ). ascends_behind n us ≡ true) (sym number) (rises k u us g).1
+  risen : ascends_after t.number us ≡ true
+  risen = subst (λ (n : ℕ). ascends_after n us ≡ true) (sym number) (rises k u us g).1
 
-  by : (n : ℕ) → (b : Bool) → (t.number == n) ≡ b → told_at ts n ≡ told_at us n
+  by : (n : ℕ) → (b : Bool) → (t.number == n) ≡ b → reported_at ts n ≡ reported_at us n
   by n true is = let e : t.number ≡ n = grind (arith, nat_tests) in none_before t.number n ts (rises k t ts h).1 (omega (arith, e)) ∙ sym (none_before t.number n us risen (omega (arith, e)))
-  by n false is = let e : t.number ≡ n → ⊥ = grind (arith, nat_tests) in sym (told_later t ts n e) ∙ same n ∙ told_later u us n (λ q. e (number ∙ q))
+  by n false is = let e : t.number ≡ n → ⊥ = grind (arith, nat_tests) in sym (reported_later t ts n e) ∙ same n ∙ reported_later u us n (λ q. e (number ∙ q))
 
-  later : (n : ℕ) → told_at ts n ≡ told_at us n
+  later : (n : ℕ) → reported_at ts n ≡ reported_at us n
   later n = by n (t.number == n) refl
 
-pub only_these : (ts : List Numbered) (es : List Entry) → ascends ts ≡ true → ((n : ℕ) → told_at ts n ≡ entry_at es n) → ts ≡ receipts_of es
-only_these ts es h same = same_lists 0 ts (receipts_of es) h (rise_all es) (λ n. same n ∙ sym (told_is es n))
+pub only_these : (ts : List Numbered) (es : List Entry) → ascends ts ≡ true → ((n : ℕ) → reported_at ts n ≡ entry_at es n) → ts ≡ receipts_of es
+only_these ts es h same = same_lists 0 ts (receipts_of es) h (rise_all es) (λ n. same n ∙ sym (reported_is es n))

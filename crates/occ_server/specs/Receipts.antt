@@ -13,9 +13,9 @@ entry_at es zero = None
 entry_at es (suc n) = slice_get es n
 
 -- what receipts have at a number
-abbrev pub told_at : List Numbered → ℕ → Option Entry
-told_at [] n = None
-told_at (t ∷ ts) n = if t.number == n then Some t.entry else told_at ts n
+abbrev pub reported_at : List Numbered → ℕ → Option Entry
+reported_at [] n = None
+reported_at (t ∷ ts) n = if t.number == n then Some t.entry else reported_at ts n
 
 -- the receipts of these edits, the first of which has number n
 abbrev pub receipts_from : ℕ → List Entry → List Numbered
@@ -27,14 +27,14 @@ abbrev pub receipts_of : List Entry → List Numbered
 receipts_of es = receipts_from 1 es
 
 -- each number is greater than the one before, and the first than this
-abbrev pub ascends_behind : ℕ → List Numbered → Bool
-ascends_behind n [] = true
-ascends_behind n (t ∷ ts) = nat_lt n t.number && ascends_behind t.number ts
+abbrev pub ascends_after : ℕ → List Numbered → Bool
+ascends_after n [] = true
+ascends_after n (t ∷ ts) = nat_lt n t.number && ascends_after t.number ts
 
 abbrev pub ascends : List Numbered → Bool
-ascends ts = ascends_behind 0 ts
+ascends ts = ascends_after 0 ts
 
 -- the least number at which receipts and journal do not have the same
 pub record IsLeastOff (ts : List Numbered) (es : List Entry) (n : ℕ) : Type 0 where
-  pub off : told_at ts n ≡ entry_at es n → ⊥
-  pub below : (m : ℕ) → m < n → told_at ts m ≡ entry_at es m
+  pub off : reported_at ts n ≡ entry_at es n → ⊥
+  pub below : (m : ℕ) → m < n → reported_at ts m ≡ entry_at es m

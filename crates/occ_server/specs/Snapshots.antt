@@ -38,13 +38,13 @@ abbrev pub Stands : Option Numbered → List Entry → Type 0
 Stands None es = Unit {0}
 Stands (Some t) es = entry_at es t.number ≡ Some t.entry
 
--- a journal that is told to be behind a receipt has something else, or nothing, at the number
+-- a journal that is reported to be after a receipt has something else, or nothing, at the number
 abbrev pub IsBehind : Option Numbered → ReportFault → Type 0
 IsBehind None (fault.Behind found) = ⊥
 IsBehind (Some t) (fault.Behind found) = found ≡ Some t.entry → ⊥
 IsBehind seen fault.Memory = Unit {0}
 
--- what is told to stand there is what the journal has
+-- what is reported to stand there is what the journal has
 abbrev pub IsFound : Option Numbered → List Entry → ReportFault → Type 0
 IsFound None es (fault.Behind found) = ⊥
 IsFound (Some t) es (fault.Behind found) = found ≡ entry_at es t.number

@@ -1,10 +1,10 @@
 //! Compares receipts with a journal: the least number at which they disagree.
-ghost use Rattle.occ_server.specs.Receipts.{IsLeastOff, ascends as do_ascend, entry_at, receipts_of};
+ghost use Rattle.occ_server.specs.Receipts.{IsLeastOff, ascends as spec_ascends, entry_at, receipts_of};
 ghost use Rattle.std.specs.Option.{option_copied};
 ghost use Rattle.std.specs.Prelude.{◌≡◌, ◌≤◌, ◌↔◌, ◌+◌, IfNone, IfSome, IsTrue, Some, length, true};
 
-use super::Receipt;
 use super::laws::source_law;
+use super::receipt::Receipt;
 use occ_board::{Edit, Entry};
 use occ_forms::Source;
 
@@ -68,7 +68,7 @@ fn is_of(receipt: &Receipt, number: usize, entry: &Entry) -> bool
 
 /// Whether the numbers go up, each greater than the one before.
 pub fn ascends(receipts: &[Receipt]) -> bool
-    ensures { result ≡ do_ascend receipts.now }
+    ensures { result ≡ spec_ascends receipts.now }
 {
     let mut last = 0;
     for receipt in receipts {
@@ -82,17 +82,17 @@ pub fn ascends(receipts: &[Receipt]) -> bool
 
 /// The least number at which receipts and journal do not have the same, if there is one.
 pub fn first_off(receipts: &[Receipt], entries: &[Entry]) -> Option<u32>
-    requires order { do_ascend receipts.now ≡ true }
+    requires order { spec_ascends receipts.now ≡ true }
     requires few { length entries.now ≤ 10000 }
     ensures none { IfNone result (receipts.now ≡ receipts_of entries.now) }
     ensures off { IfSome result (λ n. IsLeastOff receipts.now entries.now n) }
 {
-    for (place, entry) in entries.iter().enumerate() {
-        let number = place as u32 + 1;
-        match receipts.get(place) {
+    for (index, entry) in entries.iter().enumerate() {
+        let number = index as u32 + 1;
+        match receipts.get(index) {
             None => return Some(number),
             Some(receipt) => {
-                if !is_of(receipt, place + 1, entry) {
+                if !is_of(receipt, index + 1, entry) {
                     return Some(number.min(receipt.number()));
                 }
             }

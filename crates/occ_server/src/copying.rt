@@ -27,10 +27,7 @@ pub fn copied(entry: &Entry) -> Result<Entry, AllocError>
 }
 
 /// The same entries.
-pub fn all_copied(
-    alloc: Global,
-    entries: &[Entry],
-) -> Result<Items<Entry>, AllocError>
+pub fn all_copied(alloc: Global, entries: &[Entry]) -> Result<Items<Entry>, AllocError>
     ensures { IfOk result (λ copies. copies ≡ entries.now) }
 {
     let mut copies = Items::new(alloc);

@@ -23,7 +23,7 @@ impl From<AllocError> for ReportFault {
     }
 }
 
-/// Why a server is not closed. Where several hold, the first of this order is told.
+/// Why a server is not closed. Where several hold, the first of this order is reported.
 #[derive(Clone, Copy)]
 pub enum CloseFault {
     /// The numbers of the receipts do not go up, each greater than the one before.

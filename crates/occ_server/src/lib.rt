@@ -17,7 +17,10 @@ mod work;
 
 pub use comparing::is_same_entry;
 pub use fault::{CloseFault, ReportFault};
-pub use occ_board::{Edit, EditFault, Entry};
+pub use occ_board::{
+    Board, Edit, EditFault, Entry, Job, JobFault, Outcome, Row, Shown, Used, UsedUnit, Verdict,
+    check,
+};
 pub use receipt::Receipt;
 pub use server::Server;
 pub use snapshot::{Ended, Snapshot};

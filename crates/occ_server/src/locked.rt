@@ -3,7 +3,7 @@ ghost use Rattle.occ_board.specs.Machine.{Answer, Event, after, answer, edit_num
 ghost use Rattle.occ_board.specs.declared.entry.EditFault.TheVariants as fault;
 ghost use Rattle.occ_board.specs.declared.entry.EditFault.{EditFault as AFault};
 ghost use Rattle.occ_board.specs.declared.verdict.Verdict.TheVariants as verdicts;
-ghost use Rattle.occ_server.specs.Receipts.{IsLeastOff, ascends as do_ascend, entry_at, receipts_of};
+ghost use Rattle.occ_server.specs.Receipts.{IsLeastOff, ascends as spec_ascends, entry_at, receipts_of};
 ghost use Rattle.occ_server.specs.Snapshots.{IsBehind, IsFound, Stands};
 ghost use Rattle.occ_server.specs.declared.fault.CloseFault.TheVariants as refusal;
 ghost use Rattle.occ_server.specs.declared.work.Settled.TheVariants as ends;
@@ -12,16 +12,16 @@ ghost use Rattle.std.specs.Prelude.{◌≡◌, ◌<◌, ◌⊎◌, ℕ, ◌&&◌
 
 use super::comparing::{ascends, entry_of, first_off, is_found};
 use super::copying::{all_copied, copied};
+use super::fault::{CloseFault, ReportFault};
 use super::laws::{few_law, receipts_law};
-use super::{
-    CloseFault, Edit, EditFault, Ended, Entry, Receipt, ReportFault, Settled, Snapshot,
-};
+use super::receipt::Receipt;
+use super::snapshot::{Ended, Snapshot};
+use super::work::Settled;
 use occ_board::laws::report_law;
-use occ_board::{Board, Verdict};
-use occ_check::{Job, Outcome};
+use occ_board::{Board, Edit, EditFault, Entry, Job, Outcome, Verdict};
 use std::alloc::{AllocError, Global};
 
-/// What stands behind the lock: a board, which is a state of the machine whose files are those that its journal makes, and
+/// What stands after the lock: a board, which is a state of the machine whose files are those that its journal makes, and
 /// whether the server is stopped. Each method is one critical section.
 #[derive(Drop)]
 pub struct Locked {
@@ -157,8 +157,8 @@ impl Locked {
     pub fn end(&self, alloc: Global, receipts: &[Receipt]) -> Result<Ended, CloseFault>
         ensures entries { IfOk result (λ e. e.entries ≡ self.now.board.journal) }
         ensures agree { IfOk result (λ e. receipts.now ≡ receipts_of self.now.board.journal) }
-        ensures order { do_ascend receipts.now ≡ false → result ≡ Err refusal.OutOfOrder }
-        ensures mismatch { (n : ℕ) → do_ascend receipts.now ≡ true → IsLeastOff receipts.now self.now.board.journal n → result ≡ Err (refusal.Mismatch n) }
+        ensures order { spec_ascends receipts.now ≡ false → result ≡ Err refusal.OutOfOrder }
+        ensures mismatch { (n : ℕ) → spec_ascends receipts.now ≡ true → IsLeastOff receipts.now self.now.board.journal n → result ≡ Err (refusal.Mismatch n) }
         ensures pending { receipts.now ≡ receipts_of self.now.board.journal → 0 < pending_answer self.now.board → result ≡ Err refusal.Pending }
         ensures memory { receipts.now ≡ receipts_of self.now.board.journal → pending_answer self.now.board ≡ 0 → IfErr result (λ f. f ≡ refusal.Memory) }
     {
@@ -173,8 +173,8 @@ impl Locked {
     /// Whether receipts are those of all edits, in order.
     fn agree(&self, receipts: &[Receipt]) -> Result<(), CloseFault>
         ensures agree { OnOk result (receipts.now ≡ receipts_of self.now.board.journal) }
-        ensures order { do_ascend receipts.now ≡ false → result ≡ Err refusal.OutOfOrder }
-        ensures mismatch { (n : ℕ) → do_ascend receipts.now ≡ true → IsLeastOff receipts.now self.now.board.journal n → result ≡ Err (refusal.Mismatch n) }
+        ensures order { spec_ascends receipts.now ≡ false → result ≡ Err refusal.OutOfOrder }
+        ensures mismatch { (n : ℕ) → spec_ascends receipts.now ≡ true → IsLeastOff receipts.now self.now.board.journal n → result ≡ Err (refusal.Mismatch n) }
         ensures same { receipts.now ≡ receipts_of self.now.board.journal → OnErr result ⊥ }
     {
         receipts_law();

@@ -21,11 +21,11 @@ impl Drop for Receipt {
 }
 
 impl Model for Receipt {
-    ghost use Rattle.occ_expression_forms.specs.contracts.tree.Builtin as builtins;
-    ghost use Rattle.occ_expression_forms.specs.contracts.tree.Dimension as dimensions;
-    ghost use Rattle.occ_expression_forms.specs.contracts.tree.Element as elements;
-    ghost use Rattle.occ_expression_forms.specs.contracts.tree.Expr as expressions;
-    ghost use Rattle.occ_expression_forms.specs.contracts.tree.TypeForm as types;
+    ghost use Rattle.occ_forms_expressions.specs.contracts.tree.Builtin as builtins;
+    ghost use Rattle.occ_forms_expressions.specs.contracts.tree.Dimension as dimensions;
+    ghost use Rattle.occ_forms_expressions.specs.contracts.tree.Element as elements;
+    ghost use Rattle.occ_forms_expressions.specs.contracts.tree.Expr as expressions;
+    ghost use Rattle.occ_forms_expressions.specs.contracts.tree.TypeForm as types;
     ghost use Rattle.occ_server.specs.Receipts.{Numbered};
     ghost use Rattle.std.specs.Coded.{codes};
     ghost use Rattle.std.specs.Prelude.{◌<◌};

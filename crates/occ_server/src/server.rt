@@ -6,20 +6,19 @@ ghost use Rattle.std.specs.Option.{option_copied};
 ghost use Rattle.std.specs.Prelude.{◌≡◌, IfErr, IfOk};
 
 use super::copying::copied_edit;
+use super::fault::{CloseFault, ReportFault};
 use super::locked::Locked;
-use super::{
-    CloseFault, Edit, EditFault, Ended, Gate, Receipt, ReportFault, Settled, Snapshot, WorkEnd,
-    Worked,
-};
-use occ_board::Verdict;
-use occ_check::{Job, Outcome, check};
+use super::receipt::Receipt;
+use super::snapshot::{Ended, Snapshot};
+use super::work::{Gate, Settled, WorkEnd, Worked};
+use occ_board::{Edit, EditFault, Job, Outcome, Verdict, check};
 use std::alloc::{AllocError, Global};
 use std::sync::{Condvar, Mutex, Wait};
 
 /// A board that threads share. All calls but `new` and `close` may wait for the lock.
 pub struct Server {
     locked: Mutex<Locked>,
-    /// Told of each change that a thread may wait for.
+    /// Reported of each change that a thread may wait for.
     changed: Condvar,
 }
 

@@ -23,11 +23,11 @@ impl Drop for Snapshot {
 }
 
 impl Model for Snapshot {
-    ghost use Rattle.occ_expression_forms.specs.contracts.tree.Builtin as builtins;
-    ghost use Rattle.occ_expression_forms.specs.contracts.tree.Dimension as dimensions;
-    ghost use Rattle.occ_expression_forms.specs.contracts.tree.Element as elements;
-    ghost use Rattle.occ_expression_forms.specs.contracts.tree.Expr as expressions;
-    ghost use Rattle.occ_expression_forms.specs.contracts.tree.TypeForm as types;
+    ghost use Rattle.occ_forms_expressions.specs.contracts.tree.Builtin as builtins;
+    ghost use Rattle.occ_forms_expressions.specs.contracts.tree.Dimension as dimensions;
+    ghost use Rattle.occ_forms_expressions.specs.contracts.tree.Element as elements;
+    ghost use Rattle.occ_forms_expressions.specs.contracts.tree.Expr as expressions;
+    ghost use Rattle.occ_forms_expressions.specs.contracts.tree.TypeForm as types;
     ghost use Rattle.occ_server.specs.Snapshots.{IsSnapshot, Reported};
     ghost use Rattle.std.specs.Coded.{codes};
 
@@ -82,11 +82,11 @@ impl Drop for Ended {
 }
 
 impl Model for Ended {
-    ghost use Rattle.occ_expression_forms.specs.contracts.tree.Builtin as builtins;
-    ghost use Rattle.occ_expression_forms.specs.contracts.tree.Dimension as dimensions;
-    ghost use Rattle.occ_expression_forms.specs.contracts.tree.Element as elements;
-    ghost use Rattle.occ_expression_forms.specs.contracts.tree.Expr as expressions;
-    ghost use Rattle.occ_expression_forms.specs.contracts.tree.TypeForm as types;
+    ghost use Rattle.occ_forms_expressions.specs.contracts.tree.Builtin as builtins;
+    ghost use Rattle.occ_forms_expressions.specs.contracts.tree.Dimension as dimensions;
+    ghost use Rattle.occ_forms_expressions.specs.contracts.tree.Element as elements;
+    ghost use Rattle.occ_forms_expressions.specs.contracts.tree.Expr as expressions;
+    ghost use Rattle.occ_forms_expressions.specs.contracts.tree.TypeForm as types;
     ghost use Rattle.occ_server.specs.Snapshots.{IsWhole, Reported};
     ghost use Rattle.std.specs.Coded.{codes};
 

@@ -1,18 +1,18 @@
 -- Each specification in scope is one that a line brings into scope there.
 use Rattle.std.proofs.Common.{◌≡◌, ℕ, zero, suc, Option, Some, None, List, [], ◌∷◌, ◌++◌, slice_get, take, refl, subst, sym, arith, append_assoc, append-nil}
-use Rattle.occ_bounds.specs.Bounds.{Env}
-use Rattle.occ_bounds.specs.declared.bound.Bound.{Bound}
-use Rattle.occ_line_uses.specs.Entering.{entry_bounds}
-use Rattle.occ_names.specs.declared.meaning.ScopeEntry.{ScopeEntry}
+use Rattle.occ_usage_values.specs.Bounds.{Env}
+use Rattle.occ_usage_values.specs.declared.bound.Bound.{Bound}
+use Rattle.occ_usage_lines.specs.Entering.{entry_bounds}
+use Rattle.occ_scope.specs.declared.meaning.ScopeEntry.{ScopeEntry}
 use Rattle.occ_typing.specs.declared.tree.TypedLine.{TypedLine}
 use Rattle.occ_usage.specs.Anew.{AllBroughtIn, IsBroughtIn, added_by, entered_by, index_of}
 use Rattle.occ_usage.specs.Effect.{inner}
-use Rattle.occ_usage.specs.Lines.{added, behind_by, behind_line, items_of, with_index}
+use Rattle.occ_usage.specs.Lines.{added, after_by, after_line, items_of, with_index}
 use Rattle.occ_usage.specs.Standing.{Stands, below, first, in_round, later}
 use Rattle.occ_usage.specs.Trees.{Head, Trees, trees_of}
 use Rattle.occ_usage.specs.Walk.{At}
 
--- ---- one behind the other
+-- ---- one after the other
 
 abbrev From : Trees → Env → List Bound → Type 0
 From unit e [] = Unit {0}
@@ -41,10 +41,10 @@ read unit e (x ∷ xs) (suc n) y m is =
 
 -- ---- at any place
 
-behind : (unit : Trees) (adds : Option (List ScopeEntry)) (outer env : Env) (h : Head) (t : Trees) → Stands unit [] [] (record { line = h; under = t; env = env })
-    → From unit [] outer → From unit [] env → From unit [] (behind_by outer env h t adds)
-behind unit None outer env h t here round m = round
-behind unit (Some entries) outer env h t here round m =
+following : (unit : Trees) (adds : Option (List ScopeEntry)) (outer env : Env) (h : Head) (t : Trees) → Stands unit [] [] (record { line = h; under = t; env = env })
+    → From unit [] outer → From unit [] env → From unit [] (after_by outer env h t adds)
+following unit None outer env h t here round m = round
+following unit (Some entries) outer env h t here round m =
     more unit [] env (added env h t (items_of t)) m (each unit env (added env h t (items_of t)) (λ k x is. added_by unit env h t k x here is))
 
 all_brought : (unit t : Trees) (outer env : Env) (a : At) → ((c : At) → Stands t outer env c → Stands unit [] [] c) → From unit [] outer → From unit [] env
@@ -60,7 +60,7 @@ all_brought unit _ _ _ _ up round m (in_round h t rest outer env a r i known w s
     all_brought unit t (with_index env r.base i) (with_index env r.base i) a (λ c v. up c (in_round h t rest outer env c r i known w v)) scope scope s
 all_brought unit _ _ _ _ up round m (later h t rest outer env a s) =
     let here = up (record { line = h; under = t; env = env }) (first h t rest outer env) in
-    all_brought unit rest outer (behind_line outer env h t) a (λ c v. up c (later h t rest outer env c v)) round (behind unit h.adds outer env h t here round m) s
+    all_brought unit rest outer (after_line outer env h t) a (λ c v. up c (later h t rest outer env c v)) round (following unit h.adds outer env h t here round m) s
 
 pub scope_law : (ls : List TypedLine) (a : At) → Stands (trees_of ls) [] [] a → AllBroughtIn (trees_of ls) a.env
 scope_law ls a s = λ n x is. read (trees_of ls) [] a.env n x (all_brought (trees_of ls) (trees_of ls) [] [] a (λ c w. w) tt tt s) is

@@ -3,15 +3,15 @@ use Rattle.std.proofs.Common.{◌≡◌, ◌-◌, ◌<◌, ◌≤◌, ℕ, zero,
 use Rattle.std.specs.List.{Contains}
 use Rattle.std.specs.Prelude.{◌↔◌, if◌then◌else◌}
 use Rattle.std.proofs.lemmas.List.Elements.{Contains-append_cases, Contains-append_left, Contains-append_right, Contains-push}
-use Rattle.occ_parts.specs.Selecting.{followed_by}
-use Rattle.occ_parts.specs.declared.place.SelectedPart.{SelectedPart}
+use Rattle.occ_usage_parts.specs.Selecting.{followed_by}
+use Rattle.occ_usage_parts.specs.declared.place.SelectedPart.{SelectedPart}
 use Rattle.occ_project.specs.declared.expanded.Location.{Location}
-use Rattle.occ_bounds.specs.Bounds.{Env, body_of}
-use Rattle.occ_bounds.specs.Calls.{called, called_all, named_by, of_actual}
-use Rattle.occ_bounds.specs.Making.{CallUses, Makes}
-use Rattle.occ_bounds.specs.Uses.{at_line}
-use Rattle.occ_bounds.specs.Views.{ActualView, actuals_uses, call_uses, places_of}
-use Rattle.occ_bounds.specs.declared.uses.Use.{Use}
+use Rattle.occ_usage_values.specs.Bounds.{Env, body_of}
+use Rattle.occ_usage_values.specs.Calls.{called, called_all, named_by, of_actual}
+use Rattle.occ_usage_values.specs.Making.{CallUses, Makes}
+use Rattle.occ_usage_values.specs.Uses.{at_line}
+use Rattle.occ_usage_values.specs.Views.{ActualView, actuals_uses, call_uses, places_of}
+use Rattle.occ_usage_values.specs.declared.uses.Use.{Use}
 
 one_item : {X : Type 0} (y x : X) → Contains (y ∷ []) x → y ≡ x
 one_item y x (zero, h, e) = e
@@ -58,7 +58,7 @@ all_from : (line : Location) (callee : ℕ) (places : List (Option SelectedPart)
 all_from line callee places [] w h = absurd (no_item w h)
 all_from line callee places (u ∷ us) w h = elim (Contains-append_cases (called line callee places u) (called_all line callee places us) w h) [
   | inl here ↦ (u, Contains-append_left (u ∷ []) us u (Contains-push [] u), made_from line callee places u w (nat_lt u.part.root callee) refl here)
-  | inr behind ↦ let r = all_from line callee places us w behind in (r.0, Contains-append_right (u ∷ []) us r.0 r.1, r.2)
+  | inr following ↦ let r = all_from line callee places us w following in (r.0, Contains-append_right (u ∷ []) us r.0 r.1, r.2)
 ]
 
 all_to : (line : Location) (callee : ℕ) (places : List (Option SelectedPart)) (us : List Use) (u w : Use) → Contains us u → Makes line callee places u w
@@ -68,13 +68,13 @@ all_to line callee places (v ∷ us) u w h m = elim (Contains-append_cases (v �
   | inl here ↦
       Contains-append_left (called line callee places v) (called_all line callee places us) w
       (subst (λ (x : Use). Contains (called line callee places x) w) (sym (one_item v u here)) (made_to line callee places u w (nat_lt u.part.root callee) refl m))
-  | inr behind ↦ Contains-append_right (called line callee places v) (called_all line callee places us) w (all_to line callee places us u w behind m)
+  | inr following ↦ Contains-append_right (called line callee places v) (called_all line callee places us) w (all_to line callee places us u w following m)
 ]
 
 used_from : (callee : ℕ) (xs : List ActualView) (env : Env) (line : Location) (w : Use) → Contains (call_uses callee xs env line) w → CallUses callee xs env line w
 used_from callee xs env line w h = elim (Contains-append_cases (actuals_uses xs env line) (called_all line callee (places_of xs env) (body_of (slice_get env callee))) w h) [
   | inl here ↦ inl here
-  | inr behind ↦ inr (all_from line callee (places_of xs env) (body_of (slice_get env callee)) w behind)
+  | inr following ↦ inr (all_from line callee (places_of xs env) (body_of (slice_get env callee)) w following)
 ]
 
 used_to : (callee : ℕ) (xs : List ActualView) (env : Env) (line : Location) (w : Use) → CallUses callee xs env line w → Contains (call_uses callee xs env line) w

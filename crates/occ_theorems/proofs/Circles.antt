@@ -1,4 +1,4 @@
--- A circle is told of where it is: at the `#USE` lines of each unit in it.
+-- A circle is reported of where it is: at the `#USE` lines of each unit in it.
 use Rattle.std.proofs.Common.{◌≡◌, ◌↔◌, ◌∙◌, ◌⊎◌, ◌||◌, ◌++◌, ◌+◌, ℕ, zero, suc, nat_eq, Bool, true, false, cond, List, [], ◌∷◌, map, take, drop, Option, Some, None, Err, refl, sym, ap, subst, inl, inr}
 use Rattle.std.proofs.lemmas.Slice.Eq.{bytes_eq-Decides}
 use Rattle.std.specs.BTreeSet.{insert_key}
@@ -18,9 +18,9 @@ use Rattle.occ_base.specs.declared.code.Code.{Code}
 use Rattle.occ_base.specs.declared.code.Code.TheVariants as code
 use Rattle.occ_base.specs.declared.diag.Diag.{Diag}
 use Rattle.occ_check.specs.Diagnostics.{diags_of, judged, unit_faults}
-use Rattle.occ_check.specs.Faults.{body_faults, line_faults, own_faults, standing as stands, told_use, use_code, use_faults}
+use Rattle.occ_check.specs.Faults.{body_faults, line_faults, own_faults, standing as stands, reported_use, use_code, use_faults}
 use Rattle.occ_check.specs.Input.{Input, expansion_in}
-use Rattle.occ_check.specs.Language.{behind, lines_judged}
+use Rattle.occ_check.specs.Language.{following, lines_judged}
 use Rattle.occ_check.specs.declared.language.Judgement.{Judgement}
 use Rattle.occ_check.specs.declared.used.Used.{Used}
 use Rattle.occ_check.specs.declared.used.Used.TheVariants as how
@@ -40,23 +40,23 @@ use Rattle.occ_project.specs.declared.expanded.ExpandedBody.{ExpandedBody}
 use Rattle.occ_project.specs.declared.expanded.ExpandedBody.TheVariants as body
 use Rattle.occ_project.specs.declared.expanded.ExpandedLine.{ExpandedLine}
 use Rattle.occ_project.specs.declared.reads.Read.{Read}
-use Rattle.occ_report.specs.Checks.{checked, diags, input, used_as, used_unit}
-use Rattle.occ_report.specs.Report.{Tells}
-use Rattle.occ_report.specs.declared.checked.Checked.{Checked}
+use Rattle.occ_check.specs.Checks.{checked, diags, input, used_as, used_unit}
+use Rattle.occ_check.specs.Report.{AreReporting}
+use Rattle.occ_check.specs.declared.checked.Checked.{Checked}
 use Rattle.occ_types.specs.declared.interface.Interface.{Interface}
-use Rattle.occ_units.proofs.Narrowed.{file_lines}
-use Rattle.occ_units.proofs.Rising.{equal_names}
-use Rattle.occ_units.proofs.Spelled.{all_front, all_taken}
-use Rattle.occ_units.specs.Places.{is_circular, standing_of}
-use Rattle.occ_units.specs.Project.{file_of}
-use Rattle.occ_units.specs.Units.{IsCircular, Reaches, Uses, UsesBy, unit_reads, used_units}
-use Rattle.occ_units.specs.declared.standing.Standing.{Standing}
-use Rattle.occ_units.specs.declared.standing.Standing.TheVariants as standing
+use Rattle.occ_project_units.proofs.Narrowed.{file_lines}
+use Rattle.occ_project_units.proofs.Rising.{equal_names}
+use Rattle.occ_project_units.proofs.Spelled.{all_front, all_taken}
+use Rattle.occ_project_units.specs.Indices.{is_circular, standing_of}
+use Rattle.occ_project_units.specs.Project.{file_of}
+use Rattle.occ_project_units.specs.Units.{IsCircular, Reaches, Uses, UsesBy, unit_reads, used_units}
+use Rattle.occ_project_units.specs.declared.standing.Standing.{Standing}
+use Rattle.occ_project_units.specs.declared.standing.Standing.TheVariants as standing
 
 abbrev Is : Code → List ℕ → Diag → Type 0
 Is c name d = (d.code ≡ c) × (d.name ≡ Some name)
 
--- diagnostics that the order does not tell apart tell the same
+-- diagnostics that the order does not distinguishes report the same
 then_equal : (a b : Ordering) → ordering_then a b ≡ Equal → (a ≡ Equal) × (b ≡ Equal)
 then_equal Less b h = absurd cc
 then_equal Equal b h = (refl, h)
@@ -82,56 +82,56 @@ exact name d e h is =
 
 -- ---- lists of diagnostics
 
-tells_front : (c : Code) (name : List ℕ) (ds es : List Diag) → Tells ds c name → Tells (ds ++ es) c name
-tells_front c name [] es h = absurd h
-tells_front c name (d ∷ ds) es (inl h) = inl h
-tells_front c name (d ∷ ds) es (inr h) = inr (tells_front c name ds es h)
+reports_front : (c : Code) (name : List ℕ) (ds es : List Diag) → AreReporting ds c name → AreReporting (ds ++ es) c name
+reports_front c name [] es h = absurd h
+reports_front c name (d ∷ ds) es (inl h) = inl h
+reports_front c name (d ∷ ds) es (inr h) = inr (reports_front c name ds es h)
 
-tells_back : (c : Code) (name : List ℕ) (ds es : List Diag) → Tells es c name → Tells (ds ++ es) c name
-tells_back c name [] es h = h
-tells_back c name (d ∷ ds) es h = inr (tells_back c name ds es h)
+reports_back : (c : Code) (name : List ℕ) (ds es : List Diag) → AreReporting es c name → AreReporting (ds ++ es) c name
+reports_back c name [] es h = h
+reports_back c name (d ∷ ds) es h = inr (reports_back c name ds es h)
 
-tells_split : (c : Code) (name : List ℕ) (ds es : List Diag) → Tells (ds ++ es) c name → Tells ds c name ⊎ Tells es c name
-tells_split c name [] es h = inr h
-tells_split c name (d ∷ ds) es (inl h) = inl (inl h)
-tells_split c name (d ∷ ds) es (inr h) = elim (tells_split c name ds es h) [
+reports_split : (c : Code) (name : List ℕ) (ds es : List Diag) → AreReporting (ds ++ es) c name → AreReporting ds c name ⊎ AreReporting es c name
+reports_split c name [] es h = inr h
+reports_split c name (d ∷ ds) es (inl h) = inl (inl h)
+reports_split c name (d ∷ ds) es (inr h) = elim (reports_split c name ds es h) [
   | inl k ↦ inl (inr k)
   | inr k ↦ inr k
 ]
 
-none_tells : (c : Code) (name : List ℕ) (ds : List Diag) → AllByRecursion (λ d. Is c name d → ⊥) ds → Tells ds c name → ⊥
-none_tells c name [] h k = k
-none_tells c name (d ∷ ds) h (inl k) = h.0 k
-none_tells c name (d ∷ ds) h (inr k) = none_tells c name ds h.1 k
+none_reports : (c : Code) (name : List ℕ) (ds : List Diag) → AllByRecursion (λ d. Is c name d → ⊥) ds → AreReporting ds c name → ⊥
+none_reports c name [] h k = k
+none_reports c name (d ∷ ds) h (inl k) = h.0 k
+none_reports c name (d ∷ ds) h (inr k) = none_reports c name ds h.1 k
 
 -- in order
 module _ (c : Code) (name : List ℕ) (exact : (d e : Diag) → diag_order d e ≡ Equal → Is c name d → Is c name e) where
-  put_by : (k x : Diag) (xs : List Diag) (o : Ordering) → diag_order k x ≡ o → Is c name k → (Is c name k → Tells (insert_key diag_order xs k) c name) → Tells (match_ordering o (k ∷ x ∷ xs) (x ∷ xs) (x ∷ insert_key diag_order xs k)) c name
+  put_by : (k x : Diag) (xs : List Diag) (o : Ordering) → diag_order k x ≡ o → Is c name k → (Is c name k → AreReporting (insert_key diag_order xs k) c name) → AreReporting (match_ordering o (k ∷ x ∷ xs) (x ∷ xs) (x ∷ insert_key diag_order xs k)) c name
   put_by k x xs Less e h f = inl h
   put_by k x xs Equal e h f = inl (exact k x e h)
   put_by k x xs Greater e h f = inr (f h)
 
-  put_tells : (xs : List Diag) (k : Diag) → Is c name k → Tells (insert_key diag_order xs k) c name
-  put_tells [] k h = inl h
-  put_tells (x ∷ xs) k h = put_by k x xs (diag_order k x) refl h (put_tells xs k)
+  put_reports : (xs : List Diag) (k : Diag) → Is c name k → AreReporting (insert_key diag_order xs k) c name
+  put_reports [] k h = inl h
+  put_reports (x ∷ xs) k h = put_by k x xs (diag_order k x) refl h (put_reports xs k)
 
-  stay_by : (k x : Diag) (xs : List Diag) (o : Ordering) → Tells (x ∷ xs) c name → (Tells xs c name → Tells (insert_key diag_order xs k) c name) → Tells (match_ordering o (k ∷ x ∷ xs) (x ∷ xs) (x ∷ insert_key diag_order xs k)) c name
+  stay_by : (k x : Diag) (xs : List Diag) (o : Ordering) → AreReporting (x ∷ xs) c name → (AreReporting xs c name → AreReporting (insert_key diag_order xs k) c name) → AreReporting (match_ordering o (k ∷ x ∷ xs) (x ∷ xs) (x ∷ insert_key diag_order xs k)) c name
   stay_by k x xs Less h f = inr h
   stay_by k x xs Equal h f = h
   stay_by k x xs Greater (inl h) f = inl h
   stay_by k x xs Greater (inr h) f = inr (f h)
 
-  stay_tells : (xs : List Diag) (k : Diag) → Tells xs c name → Tells (insert_key diag_order xs k) c name
-  stay_tells [] k h = absurd h
-  stay_tells (x ∷ xs) k h = stay_by k x xs (diag_order k x) h (stay_tells xs k)
+  stay_reports : (xs : List Diag) (k : Diag) → AreReporting xs c name → AreReporting (insert_key diag_order xs k) c name
+  stay_reports [] k h = absurd h
+  stay_reports (x ∷ xs) k h = stay_by k x xs (diag_order k x) h (stay_reports xs k)
 
-  order_tells : (ds : List Diag) → Tells ds c name → Tells (placed diag_order ds []) c name
-  order_tells [] h = absurd h
-  order_tells (d ∷ ds) (inl h) = put_tells (placed diag_order ds []) d h
-  order_tells (d ∷ ds) (inr h) = stay_tells (placed diag_order ds []) d (order_tells ds h)
+  order_reports : (ds : List Diag) → AreReporting ds c name → AreReporting (placed diag_order ds []) c name
+  order_reports [] h = absurd h
+  order_reports (d ∷ ds) (inl h) = put_reports (placed diag_order ds []) d h
+  order_reports (d ∷ ds) (inr h) = stay_reports (placed diag_order ds []) d (order_reports ds h)
 
 module _ (c : Code) (name : List ℕ) where
-  back_by : (k x : Diag) (xs : List Diag) (o : Ordering) → Tells (match_ordering o (k ∷ x ∷ xs) (x ∷ xs) (x ∷ insert_key diag_order xs k)) c name → (Tells (insert_key diag_order xs k) c name → Tells (k ∷ xs) c name) → Tells (k ∷ x ∷ xs) c name
+  back_by : (k x : Diag) (xs : List Diag) (o : Ordering) → AreReporting (match_ordering o (k ∷ x ∷ xs) (x ∷ xs) (x ∷ insert_key diag_order xs k)) c name → (AreReporting (insert_key diag_order xs k) c name → AreReporting (k ∷ xs) c name) → AreReporting (k ∷ x ∷ xs) c name
   back_by k x xs Less h f = h
   back_by k x xs Equal h f = inr h
   back_by k x xs Greater (inl h) f = inr (inl h)
@@ -140,13 +140,13 @@ module _ (c : Code) (name : List ℕ) where
     | inr i ↦ inr (inr i)
   ]
 
-  back_tells : (xs : List Diag) (k : Diag) → Tells (insert_key diag_order xs k) c name → Tells (k ∷ xs) c name
-  back_tells [] k h = h
-  back_tells (x ∷ xs) k h = back_by k x xs (diag_order k x) h (back_tells xs k)
+  back_reports : (xs : List Diag) (k : Diag) → AreReporting (insert_key diag_order xs k) c name → AreReporting (k ∷ xs) c name
+  back_reports [] k h = h
+  back_reports (x ∷ xs) k h = back_by k x xs (diag_order k x) h (back_reports xs k)
 
-  unordered : (ds : List Diag) → Tells (placed diag_order ds []) c name → Tells ds c name
+  unordered : (ds : List Diag) → AreReporting (placed diag_order ds []) c name → AreReporting ds c name
   unordered [] h = h
-  unordered (d ∷ ds) h = elim (back_tells (placed diag_order ds []) d h) [
+  unordered (d ∷ ds) h = elim (back_reports (placed diag_order ds []) d h) [
     | inl i ↦ inl i
     | inr i ↦ inr (unordered ds i)
   ]
@@ -235,51 +235,51 @@ by_circle true true h k = refl
 by_circle true false h k = absurd cc
 by_circle false c h k = absurd cc
 
--- ---- what is told at lines
+-- ---- what is reported at lines
 
 module _ (used : List UsedUnit) (v : List ℕ) where
-  use_tells : (l : ExpandedLine) (n : List ℕ) (s : Used) → n ≡ v → s ≡ how.Circular → Tells (told_use l n (use_code s)) code.G2 v
-  use_tells l n how.Circular e h = inl (refl, ap Some e)
-  use_tells l n how.Absent e h = absurd cc
-  use_tells l n how.Faulty e h = absurd cc
-  use_tells l n (how.Clean i) e h = absurd cc
+  use_reports : (l : ExpandedLine) (n : List ℕ) (s : Used) → n ≡ v → s ≡ how.Circular → AreReporting (reported_use l n (use_code s)) code.G2 v
+  use_reports l n how.Circular e h = inl (refl, ap Some e)
+  use_reports l n how.Absent e h = absurd cc
+  use_reports l n how.Faulty e h = absurd cc
+  use_reports l n (how.Clean i) e h = absurd cc
 
-  use_told : (l : ExpandedLine) (n : List ℕ) (s : Used) → Tells (told_use l n (use_code s)) code.G2 v → (n ≡ v) × (s ≡ how.Circular)
-  use_told l n how.Circular (inl h) = let same : n ≡ v = (let k = h.1 in cc) in (same, refl)
-  use_told l n how.Circular (inr h) = absurd h
-  use_told l n how.Absent (inl h) = let k = h.0 in absurd cc
-  use_told l n how.Absent (inr h) = absurd h
-  use_told l n how.Faulty (inl h) = let k = h.0 in absurd cc
-  use_told l n how.Faulty (inr h) = absurd h
-  use_told l n (how.Clean i) h = absurd h
+  use_reported : (l : ExpandedLine) (n : List ℕ) (s : Used) → AreReporting (reported_use l n (use_code s)) code.G2 v → (n ≡ v) × (s ≡ how.Circular)
+  use_reported l n how.Circular (inl h) = let same : n ≡ v = (let k = h.1 in cc) in (same, refl)
+  use_reported l n how.Circular (inr h) = absurd h
+  use_reported l n how.Absent (inl h) = let k = h.0 in absurd cc
+  use_reported l n how.Absent (inr h) = absurd h
+  use_reported l n how.Faulty (inl h) = let k = h.0 in absurd cc
+  use_reported l n how.Faulty (inr h) = absurd h
+  use_reported l n (how.Clean i) h = absurd h
 
-  body_tells : (l : ExpandedLine) (x : ExpandedBody) → stands used v ≡ how.Circular → is_among (body_units x) v ≡ true → Tells (body_faults used l x) code.G2 v
-  body_tells l (body.Uses n) h a = either_true (bytes_eq n v) false a
-      (λ e. let same : n ≡ v = (bytes_eq-Decides n v).0 e in use_tells l n (stands used n) same (ap (stands used) same ∙ h))
+  body_reports : (l : ExpandedLine) (x : ExpandedBody) → stands used v ≡ how.Circular → is_among (body_units x) v ≡ true → AreReporting (body_faults used l x) code.G2 v
+  body_reports l (body.Uses n) h a = either_true (bytes_eq n v) false a
+      (λ e. let same : n ≡ v = (bytes_eq-Decides n v).0 e in use_reports l n (stands used n) same (ap (stands used) same ∙ h))
       (λ k. absurd cc)
-  body_tells l (body.Form form) h a = absurd cc
-  body_tells l (body.Fault fault) h a = absurd cc
+  body_reports l (body.Form form) h a = absurd cc
+  body_reports l (body.Fault fault) h a = absurd cc
 
-  body_told : (l : ExpandedLine) (x : ExpandedBody) → Tells (body_faults used l x) code.G2 v → stands used v ≡ how.Circular
-  body_told l (body.Uses n) h = let is = use_told l n (stands used n) h in ap (stands used) (sym is.0) ∙ is.1
-  body_told l (body.Form form) h = absurd h
-  body_told l (body.Fault fault) (inl h) = let k = h.1 in absurd cc
-  body_told l (body.Fault fault) (inr h) = absurd h
+  body_reported : (l : ExpandedLine) (x : ExpandedBody) → AreReporting (body_faults used l x) code.G2 v → stands used v ≡ how.Circular
+  body_reported l (body.Uses n) h = let is = use_reported l n (stands used n) h in ap (stands used) (sym is.0) ∙ is.1
+  body_reported l (body.Form form) h = absurd h
+  body_reported l (body.Fault fault) (inl h) = let k = h.1 in absurd cc
+  body_reported l (body.Fault fault) (inr h) = absurd h
 
-  lines_tell : (ls : List ExpandedLine) → stands used v ≡ how.Circular → is_among (flat_map units_of ls) v ≡ true → Tells (line_faults used ls) code.G2 v
-  lines_tell [] h a = absurd cc
-  lines_tell (l ∷ ls) h a = among_split (units_of l) (flat_map units_of ls) v a
-      (λ k. tells_front code.G2 v (own_faults used l) (line_faults used ls) (body_tells l l.body h k))
-      (λ k. tells_back code.G2 v (own_faults used l) (line_faults used ls) (lines_tell ls h k))
+  lines_report : (ls : List ExpandedLine) → stands used v ≡ how.Circular → is_among (flat_map units_of ls) v ≡ true → AreReporting (line_faults used ls) code.G2 v
+  lines_report [] h a = absurd cc
+  lines_report (l ∷ ls) h a = among_split (units_of l) (flat_map units_of ls) v a
+      (λ k. reports_front code.G2 v (own_faults used l) (line_faults used ls) (body_reports l l.body h k))
+      (λ k. reports_back code.G2 v (own_faults used l) (line_faults used ls) (lines_report ls h k))
 
-  lines_told : (ls : List ExpandedLine) → Tells (line_faults used ls) code.G2 v → stands used v ≡ how.Circular
-  lines_told [] h = absurd h
-  lines_told (l ∷ ls) h = elim (tells_split code.G2 v (own_faults used l) (line_faults used ls) h) [
-    | inl k ↦ body_told l l.body k
-    | inr k ↦ lines_told ls k
+  lines_reported : (ls : List ExpandedLine) → AreReporting (line_faults used ls) code.G2 v → stands used v ≡ how.Circular
+  lines_reported [] h = absurd h
+  lines_reported (l ∷ ls) h = elim (reports_split code.G2 v (own_faults used l) (line_faults used ls) h) [
+    | inl k ↦ body_reported l l.body k
+    | inr k ↦ lines_reported ls k
   ]
 
--- ---- what an expansion tells is no circle
+-- ---- what an expansion reports is no circle
 
 abbrev IsOther : Held → Type 0
 IsOther (Include name (Some fault)) = fault ≡ code.G2 → ⊥
@@ -325,29 +325,29 @@ module _ (files : List Read) where
   unit_other unit None = tt
   unit_other unit (Some lines) = entries_other 16 (unit ∷ []) unit 0 lines
 
-  held_silent : (file name : List ℕ) (line : ℕ) (x : Held) → IsOther x → Tells (held_faults file line x) code.G2 name → ⊥
+  held_silent : (file name : List ℕ) (line : ℕ) (x : Held) → IsOther x → AreReporting (held_faults file line x) code.G2 name → ⊥
   held_silent file name line (Include other (Some fault)) h (inl k) = h k.0
   held_silent file name line (Include other (Some fault)) h (inr k) = k
   held_silent file name line (Include other None) h k = k
   held_silent file name line (Line depth x) h k = k
 
-  silent : (name : List ℕ) (es : List ExpansionEntry) → AllByRecursion IsOtherEntry es → Tells (flat_map entry_faults es) code.G2 name → ⊥
+  silent : (name : List ℕ) (es : List ExpansionEntry) → AllByRecursion IsOtherEntry es → AreReporting (flat_map entry_faults es) code.G2 name → ⊥
   silent name [] h k = k
-  silent name (e ∷ es) h k = elim (tells_split code.G2 name (entry_faults e) (flat_map entry_faults es) k) [
+  silent name (e ∷ es) h k = elim (reports_split code.G2 name (entry_faults e) (flat_map entry_faults es) k) [
     | inl i ↦ held_silent e.file name e.line e.held h.0 i
     | inr i ↦ silent name es h.1 i
   ]
 
-  limit_silent : (name : List ℕ) (es : List ExpansionEntry) → Tells (limit_faults es) code.G2 name → ⊥
+  limit_silent : (name : List ℕ) (es : List ExpansionEntry) → AreReporting (limit_faults es) code.G2 name → ⊥
   limit_silent name [] k = k
   limit_silent name (e ∷ es) (inl k) = let n = k.1 in absurd cc
   limit_silent name (e ∷ es) (inr k) = k
 
-  expansion_silent : (unit name : List ℕ) → Tells (expansion files unit).faults code.G2 name → ⊥
+  expansion_silent : (unit name : List ℕ) → AreReporting (expansion files unit).faults code.G2 name → ⊥
   unfolding expansion
   expansion_silent unit name h =
       let all = unit_entries files unit (open_lines files unit) in
-      elim (tells_split code.G2 name (flat_map entry_faults (take 65535 all)) (limit_faults (drop 65535 all)) h) [
+      elim (reports_split code.G2 name (flat_map entry_faults (take 65535 all)) (limit_faults (drop 65535 all)) h) [
         | inl k ↦ silent name (take 65535 all) (all_taken IsOtherEntry 65535 all (unit_other unit (open_lines files unit))) k
         | inr k ↦ limit_silent name (drop 65535 all) k
       ]
@@ -380,45 +380,45 @@ module _ (files : List Read) where
 
 -- ---- of a unit
 
-tells_first : (c : Code) (name : List ℕ) (fs : List Diag) (later : Judgement) → Tells fs c name → Tells (behind fs later).faults c name
-tells_first c name [] later h = absurd h
-tells_first c name (d ∷ ds) later h = h
+reports_first : (c : Code) (name : List ℕ) (fs : List Diag) (later : Judgement) → AreReporting fs c name → AreReporting (following fs later).faults c name
+reports_first c name [] later h = absurd h
+reports_first c name (d ∷ ds) later h = h
 
-first_tells : (c : Code) (name : List ℕ) (fs : List Diag) (later : Judgement) → (fs ≡ [] → ⊥) → Tells (behind fs later).faults c name → Tells fs c name
-first_tells c name [] later some h = absurd (some refl)
-first_tells c name (d ∷ ds) later some h = h
+first_reports : (c : Code) (name : List ℕ) (fs : List Diag) (later : Judgement) → (fs ≡ [] → ⊥) → AreReporting (following fs later).faults c name → AreReporting fs c name
+first_reports c name [] later some h = absurd (some refl)
+first_reports c name (d ∷ ds) later some h = h
 
-told_of : (i : Input) (name : List ℕ) → Tells (unit_faults i) code.G2 name → Tells (diags_of i) code.G2 name
+reported_of : (i : Input) (name : List ℕ) → AreReporting (unit_faults i) code.G2 name → AreReporting (diags_of i) code.G2 name
 unfolding diags_of
-told_of i name h = order_tells code.G2 name (exact name) (judged i).faults (tells_first code.G2 name (unit_faults i) (lines_judged (expansion_in i).lines i.used) h)
+reported_of i name h = order_reports code.G2 name (exact name) (judged i).faults (reports_first code.G2 name (unit_faults i) (lines_judged (expansion_in i).lines i.used) h)
 
-of_told : (i : Input) (name : List ℕ) → (unit_faults i ≡ [] → ⊥) → Tells (diags_of i) code.G2 name → Tells (unit_faults i) code.G2 name
+of_reported : (i : Input) (name : List ℕ) → (unit_faults i ≡ [] → ⊥) → AreReporting (diags_of i) code.G2 name → AreReporting (unit_faults i) code.G2 name
 unfolding diags_of
-of_told i name some h = first_tells code.G2 name (unit_faults i) (lines_judged (expansion_in i).lines i.used) some (unordered code.G2 name (judged i).faults h)
+of_reported i name some h = first_reports code.G2 name (unit_faults i) (lines_judged (expansion_in i).lines i.used) some (unordered code.G2 name (judged i).faults h)
 
 module _ (files : List Read) (circles : (u v : List ℕ) → (is_circular files u v ≡ true) ↔ IsCircular files u v) (u v : List ℕ) where
-  pub faults_tell : (is_unit u ≡ true → expansion (unit_reads files u) u ≡ expansion files u) → IsCircular files u v → Tells (unit_faults (input files u)) code.G2 v
-  faults_tell own h =
+  pub faults_report : (is_unit u ≡ true → expansion (unit_reads files u) u ≡ expansion files u) → IsCircular files u v → AreReporting (unit_faults (input files u)) code.G2 v
+  faults_report own h =
       let among = used_among files u v h.0 in
       let same : expansion_in (input files u) ≡ expansion files u = own among.0 in
       let circular : standing_of files u v ≡ standing.Circular = by_circle (is_some (file_of files v).source) (is_circular files u v) (circle_open files u v h.0 h.1) ((circles u v).1 h) in
       let now : stands (input files u).used v ≡ how.Circular = standing_now files u (checked files) (used_units files u) v h.0 ∙ ap (λ (s : Standing). used_as s (checked files v).interface) circular in
-      tells_back code.G2 v (expansion_in (input files u)).faults (line_faults (input files u).used (expansion_in (input files u)).lines)
-      (lines_tell (input files u).used v (expansion_in (input files u)).lines now (ap (λ (e : Expansion). is_among (flat_map units_of e.lines) v) same ∙ among.1))
+      reports_back code.G2 v (expansion_in (input files u)).faults (line_faults (input files u).used (expansion_in (input files u)).lines)
+      (lines_report (input files u).used v (expansion_in (input files u)).lines now (ap (λ (e : Expansion). is_among (flat_map units_of e.lines) v) same ∙ among.1))
 
-  pub faults_told : Tells (unit_faults (input files u)) code.G2 v → IsCircular files u v
-  faults_told h = elim (tells_split code.G2 v (expansion_in (input files u)).faults (line_faults (input files u).used (expansion_in (input files u)).lines) h) [
+  pub faults_reported : AreReporting (unit_faults (input files u)) code.G2 v → IsCircular files u v
+  faults_reported h = elim (reports_split code.G2 v (expansion_in (input files u)).faults (line_faults (input files u).used (expansion_in (input files u)).lines) h) [
     | inl k ↦ absurd (expansion_silent (unit_reads files u) u v k)
     | inr k ↦
-        let now : stands (input files u).used v ≡ how.Circular = lines_told (input files u).used v (expansion_in (input files u)).lines k in
+        let now : stands (input files u).used v ≡ how.Circular = lines_reported (input files u).used v (expansion_in (input files u)).lines k in
         let used : is_among (used_units files u) v ≡ true = ap (λ (ns : List (List ℕ)). is_among ns v) (sym (units_are files u (checked files) (used_units files u))) ∙ stands_among (input files u).used v now in
         let circular : standing_of files u v ≡ standing.Circular = as_circle (standing_of files u v) (checked files v).interface (sym (standing_now files u (checked files) (used_units files u) v used) ∙ now) in
         (circles u v).0 (circle_by (is_some (file_of files v).source) (is_circular files u v) circular)
   ]
 
   module _ (is : diags files u ≡ diags_of (input files u)) where
-    pub diags_tell : (is_unit u ≡ true → expansion (unit_reads files u) u ≡ expansion files u) → IsCircular files u v → Tells (diags files u) code.G2 v
-    diags_tell own h = subst (λ (ds : List Diag). Tells ds code.G2 v) (sym is) (told_of (input files u) v (faults_tell own h))
+    pub diags_report : (is_unit u ≡ true → expansion (unit_reads files u) u ≡ expansion files u) → IsCircular files u v → AreReporting (diags files u) code.G2 v
+    diags_report own h = subst (λ (ds : List Diag). AreReporting ds code.G2 v) (sym is) (reported_of (input files u) v (faults_report own h))
 
-    pub diags_told : (unit_faults (input files u) ≡ [] → ⊥) → Tells (diags files u) code.G2 v → IsCircular files u v
-    diags_told some h = faults_told (of_told (input files u) v some (subst (λ (ds : List Diag). Tells ds code.G2 v) is h))
+    pub diags_reported : (unit_faults (input files u) ≡ [] → ⊥) → AreReporting (diags files u) code.G2 v → IsCircular files u v
+    diags_reported some h = faults_reported (of_reported (input files u) v some (subst (λ (ds : List Diag). AreReporting ds code.G2 v) is h))

@@ -4,18 +4,18 @@ use Rattle.std.specs.Prelude.{◌&&◌, ◌↔◌, ◌==◌, ◌⊎◌, if◌the
 use Rattle.std.specs.List.{Contains, list_any}
 use Rattle.std.proofs.lemmas.List.Elements.{Contains-append_cases, Contains-append_left, Contains-append_right}
 use Rattle.occ_base.specs.declared.diag.Diag.{Diag}
-use Rattle.occ_bounds.specs.declared.bound.Bound.{Bound}
-use Rattle.occ_bounds.specs.declared.uses.Use.{Use}
-use Rattle.occ_parts.specs.Parts.{overlap_of}
+use Rattle.occ_usage_values.specs.declared.bound.Bound.{Bound}
+use Rattle.occ_usage_values.specs.declared.uses.Use.{Use}
+use Rattle.occ_usage_parts.specs.Parts.{overlap_of}
 use Rattle.occ_theorems.proofs.Elements.{overlap_turned}
 use Rattle.occ_project.specs.declared.expanded.Location.{Location as Line}
 use Rattle.occ_types.specs.declared.interface.UseKind.{UseKind}
-use Rattle.occ_clashes.specs.ParallelRule.{StandsIn, IsTold, IsUsedIn, SomeClash, below, clash, clash_between, component_faults, conflict, counts, fault_of, root_fault, root_faults, some_clash, target_faults, uses_clash}
-use Rattle.occ_clashes.specs.declared.rule.Least.{Least}
-use Rattle.occ_clashes.specs.declared.rule.Least.TheVariants as least
-use Rattle.occ_clashes.specs.declared.rule.Rule.{Rule}
-use Rattle.occ_clashes.specs.declared.rule.Rule.TheVariants as rule
-use Rattle.occ_clashes.proofs.Clashing.{or_left, or_right, root_known, any_given, clash_found}
+use Rattle.occ_usage_conflicts.specs.ParallelRule.{StandsIn, IsReported, IsUsedIn, SomeClash, below, clash, clash_between, component_faults, conflict, counts, fault_of, root_fault, root_faults, some_clash, target_faults, uses_clash}
+use Rattle.occ_usage_conflicts.specs.declared.rule.Least.{Least}
+use Rattle.occ_usage_conflicts.specs.declared.rule.Least.TheVariants as least
+use Rattle.occ_usage_conflicts.specs.declared.rule.Rule.{Rule}
+use Rattle.occ_usage_conflicts.specs.declared.rule.Rule.TheVariants as rule
+use Rattle.occ_usage_conflicts.proofs.Clashing.{or_left, or_right, root_known, any_given, clash_found}
 
 -- ---- tests
 
@@ -85,36 +85,36 @@ clash_given_in r l root cs m = ordered (m.in_one) (m.in_other) where
       | inr w ↦ inr (omega (arith, w))
     ]
 
--- ---- what is told
+-- ---- what is reported
 
-none_told : (d : Diag) → Contains [] d → ⊥
-none_told d (k, w, e) = omega (arith, w)
+none_reported : (d : Diag) → Contains [] d → ⊥
+none_reported d (k, w, e) = omega (arith, w)
 
-one_told : (x d : Diag) → Contains (x ∷ []) d → d ≡ x
-one_told x d (zero, w, e) = sym e
-one_told x d (suc k, w, e) = absurd (omega (arith, w))
+one_reported : (x d : Diag) → Contains (x ∷ []) d → d ≡ x
+one_reported x d (zero, w, e) = sym e
+one_reported x d (suc k, w, e) = absurd (omega (arith, w))
 
-below_found : (n : ℕ) (told : ℕ → List Diag) (d : Diag) → Contains (below n told) d → (root : ℕ) × (root < n) × Contains (told root) d
-below_found zero told d h = absurd (none_told d h)
-below_found (suc n) told d h = elim (Contains-append_cases (below n told) (told n) d h) [
-  | inl before ↦ let m = below_found n told d before in (m.0, omega (arith, m.1), m.2)
+below_found : (n : ℕ) (reported : ℕ → List Diag) (d : Diag) → Contains (below n reported) d → (root : ℕ) × (root < n) × Contains (reported root) d
+below_found zero reported d h = absurd (none_reported d h)
+below_found (suc n) reported d h = elim (Contains-append_cases (below n reported) (reported n) d h) [
+  | inl before ↦ let m = below_found n reported d before in (m.0, omega (arith, m.1), m.2)
   | inr here ↦ (n, omega arith, here)
 ]
 
-below_given : (n : ℕ) (told : ℕ → List Diag) (d : Diag) (root : ℕ) → root < n → Contains (told root) d → Contains (below n told) d
-below_given zero told d root w h = absurd (omega (arith, w))
-below_given (suc n) told d root w h = at (root == n) refl (λ v. below_given n told d root v h) where
-  at : (t : Bool) → (root == n) ≡ t → (root < n → Contains (below n told) d) → Contains (below n told ++ told n) d
-  at true e before = Contains-append_right (below n told) (told n) d (subst (λ (k : ℕ). Contains (told k) d) (root_known root n e) h)
-  at false e before = Contains-append_left (below n told) (told n) d (before (let u : (root == n) ≡ false = e in grind (arith, w, u)))
+below_given : (n : ℕ) (reported : ℕ → List Diag) (d : Diag) (root : ℕ) → root < n → Contains (reported root) d → Contains (below n reported) d
+below_given zero reported d root w h = absurd (omega (arith, w))
+below_given (suc n) reported d root w h = at (root == n) refl (λ v. below_given n reported d root v h) where
+  at : (t : Bool) → (root == n) ≡ t → (root < n → Contains (below n reported) d) → Contains (below n reported ++ reported n) d
+  at true e before = Contains-append_right (below n reported) (reported n) d (subst (λ (k : ℕ). Contains (reported k) d) (root_known root n e) h)
+  at false e before = Contains-append_left (below n reported) (reported n) d (before (let u : (root == n) ≡ false = e in grind (arith, w, u)))
 
 fault_found : (r : Rule) (l : Least) (line : Line) (env : List Bound) (cs : List (List Use)) (root : ℕ) (d : Diag) → Contains (root_fault r l line env cs root) d
     → (d ≡ fault_of r line env root) × SomeClash r l root cs
 fault_found r l line env cs root d h = by_test (some_clash r l root cs) refl h where
   by_test : (t : Bool) → some_clash r l root cs ≡ t → Contains (if t then fault_of r line env root ∷ [] else []) d
       → (d ≡ fault_of r line env root) × SomeClash r l root cs
-  by_test true e k = (one_told (fault_of r line env root) d k, clash_found r l root cs e)
-  by_test false e k = absurd (none_told d k)
+  by_test true e k = (one_reported (fault_of r line env root) d k, clash_found r l root cs e)
+  by_test false e k = absurd (none_reported d k)
 
 fault_given : (r : Rule) (l : Least) (line : Line) (env : List Bound) (cs : List (List Use)) (root : ℕ) (d : Diag) → d ≡ fault_of r line env root
     → SomeClash r l root cs → Contains (root_fault r l line env cs root) d
@@ -122,23 +122,23 @@ fault_given r l line env cs root d is m =
     subst (λ (t : Bool). Contains (if t then fault_of r line env root ∷ [] else []) d) (sym (clash_given_in r l root cs m))
     (subst (λ (x : Diag). Contains (x ∷ []) d) is (0, omega arith, refl))
 
-pub targets_law : (line : Line) (env : List Bound) (cs : List (List Use)) (d : Diag) → Contains (target_faults line env cs) d ↔ IsTold rule.Written least.Must line env cs d
+pub targets_law : (line : Line) (env : List Bound) (cs : List (List Use)) (d : Diag) → Contains (target_faults line env cs) d ↔ IsReported rule.Written least.Must line env cs d
 targets_law line env cs d = (found, given) where
-  found : Contains (target_faults line env cs) d → IsTold rule.Written least.Must line env cs d
+  found : Contains (target_faults line env cs) d → IsReported rule.Written least.Must line env cs d
   found h =
       let m = below_found (length env) (root_fault rule.Written least.Must line env cs) d h in
       let f = fault_found rule.Written least.Must line env cs (m.0) d (m.2) in
       (m.0, m.1, f.0, f.1)
 
-  given : IsTold rule.Written least.Must line env cs d → Contains (target_faults line env cs) d
+  given : IsReported rule.Written least.Must line env cs d → Contains (target_faults line env cs) d
   given (root, w, is, m) = below_given (length env) (root_fault rule.Written least.Must line env cs) d root w (fault_given rule.Written least.Must line env cs root d is m)
 
-pub told_law : (line : Line) (env : List Bound) (cs : List (List Use)) (d : Diag) → Contains (component_faults line env cs) d ↔ ((r : Rule) × IsTold r least.May line env cs d)
-told_law line env cs d = (found, given) where
-  of_rule : (r : Rule) (root : ℕ) → root < length env → Contains (root_fault r least.May line env cs root) d → (q : Rule) × IsTold q least.May line env cs d
+pub reported_law : (line : Line) (env : List Bound) (cs : List (List Use)) (d : Diag) → Contains (component_faults line env cs) d ↔ ((r : Rule) × IsReported r least.May line env cs d)
+reported_law line env cs d = (found, given) where
+  of_rule : (r : Rule) (root : ℕ) → root < length env → Contains (root_fault r least.May line env cs root) d → (q : Rule) × IsReported q least.May line env cs d
   of_rule r root w h = let f = fault_found r least.May line env cs root d h in (r, (root, w, f.0, f.1))
 
-  of_root : (root : ℕ) → root < length env → Contains (root_faults line env cs root) d → (q : Rule) × IsTold q least.May line env cs d
+  of_root : (root : ℕ) → root < length env → Contains (root_faults line env cs root) d → (q : Rule) × IsReported q least.May line env cs d
   of_root root w h =
       elim (Contains-append_cases (root_fault rule.Written least.May line env cs root ++ root_fault rule.Input least.May line env cs root) (root_fault rule.Output least.May line env cs root) d h) [
         | inl first ↦ elim (Contains-append_cases (root_fault rule.Written least.May line env cs root) (root_fault rule.Input least.May line env cs root) d first) [
@@ -148,7 +148,7 @@ told_law line env cs d = (found, given) where
         | inr in_output ↦ of_rule rule.Output root w in_output
       ]
 
-  found : Contains (component_faults line env cs) d → (q : Rule) × IsTold q least.May line env cs d
+  found : Contains (component_faults line env cs) d → (q : Rule) × IsReported q least.May line env cs d
   found h = let m = below_found (length env) (root_faults line env cs) d h in of_root (m.0) (m.1) (m.2)
 
   at_root : (r : Rule) (root : ℕ) → Contains (root_fault r least.May line env cs root) d → Contains (root_faults line env cs root) d
@@ -161,5 +161,5 @@ told_law line env cs d = (found, given) where
   at_root rule.Output root h =
       Contains-append_right (root_fault rule.Written least.May line env cs root ++ root_fault rule.Input least.May line env cs root) (root_fault rule.Output least.May line env cs root) d h
 
-  given : (r : Rule) × IsTold r least.May line env cs d → Contains (component_faults line env cs) d
+  given : (r : Rule) × IsReported r least.May line env cs d → Contains (component_faults line env cs) d
   given (r, (root, w, is, m)) = below_given (length env) (root_faults line env cs) d root w (at_root r root (fault_given r least.May line env cs root d is m))

@@ -2,11 +2,11 @@
 use Rattle.std.proofs.Common.{◌++◌, ◌+◌, ℕ, Bool, true, false, not, List, [], ◌∷◌, length, Option, Some, None, if◌then◌else◌}
 use Rattle.std.specs.List.{filter}
 use Rattle.std.specs.Str.{bytes_eq}
-use Rattle.occ_bounds.specs.Bounds.{Env}
-use Rattle.occ_interfaces.specs.Exports.{entries_exports, entries_of as line_adds, interface_in, is_use, line_entries, line_exports, lines_exports, meaning_exports, with_export, with_exports}
-use Rattle.occ_names.specs.declared.meaning.ScopeEntry.{ScopeEntry}
-use Rattle.occ_names.specs.declared.meaning.Meaning.{Meaning}
-use Rattle.occ_names.specs.declared.meaning.Meaning.TheVariants as m
+use Rattle.occ_usage_values.specs.Bounds.{Env}
+use Rattle.occ_check.specs.Exports.{entries_exports, entries_of as line_adds, interface_in, is_use, line_entries, line_exports, lines_exports, meaning_exports, with_export, with_exports}
+use Rattle.occ_scope.specs.declared.meaning.ScopeEntry.{ScopeEntry}
+use Rattle.occ_scope.specs.declared.meaning.Meaning.{Meaning}
+use Rattle.occ_scope.specs.declared.meaning.Meaning.TheVariants as m
 use Rattle.occ_typing.specs.Forms.{entries_of}
 use Rattle.occ_typing.specs.Known.{AreKnownEntries, IsKnownMeaning}
 use Rattle.occ_typing.specs.Whole.{AreKnownAdds, AreWhole, IsKnownInterface, no_line, one_line}
@@ -45,16 +45,16 @@ line_known env n l h = unless_use (is_use (out-TypedLine l).form) (entries_expor
 
 lines_known : (env : Env) (n : ℕ) (ls : List TypedLine) → AreWhole ls → AreKnown (lines_exports env n ls)
 lines_known env n _ no_line = tt
-lines_known env n _ (one_line l ls here under behind) =
-    both_known (line_exports env n l) (lines_exports env (n + length (line_entries l)) ls) (line_known env n l here.2) (lines_known env (n + length (line_entries l)) ls behind)
+lines_known env n _ (one_line l ls here under following) =
+    both_known (line_exports env n l) (lines_exports env (n + length (line_entries l)) ls) (line_known env n l here.2) (lines_known env (n + length (line_entries l)) ls following)
 
-kept_if : (b : Bool) (x : Export) (xs : List Export) → AreKnown (x ∷ []) → AreKnown xs → AreKnown (if b then x ∷ xs else xs)
-kept_if true x xs h g = (h.0, g)
-kept_if false x xs h g = g
+cached_if : (b : Bool) (x : Export) (xs : List Export) → AreKnown (x ∷ []) → AreKnown xs → AreKnown (if b then x ∷ xs else xs)
+cached_if true x xs h g = (h.0, g)
+cached_if false x xs h g = g
 
 filter_known : (p : Export → Bool) (xs : List Export) → AreKnown xs → AreKnown (filter p xs)
 filter_known p [] h = tt
-filter_known p (x ∷ xs) h = kept_if (p x) x (filter p xs) (h.0, tt) (filter_known p xs h.1)
+filter_known p (x ∷ xs) h = cached_if (p x) x (filter p xs) (h.0, tt) (filter_known p xs h.1)
 
 all_known : (es xs : List Export) → AreKnown es → AreKnown xs → AreKnown (with_exports es xs)
 all_known es [] h g = h

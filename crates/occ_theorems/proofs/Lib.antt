@@ -19,7 +19,7 @@ pub mod Sets
 pub mod Segments
 pub mod Settled
 pub mod Standing
-pub mod Telling
+pub mod Reporting
 pub mod Turns
 pub mod Unaccepted
 pub mod Working

@@ -1,11 +1,11 @@
 -- No tree spells a token that stands in none.
 use Rattle.std.proofs.Common.{◌∙◌, refl, List, [], ◌∷◌}
-use Rattle.occ_expression_forms.specs.declared.tree.Builtin.{Builtin}
-use Rattle.occ_expression_forms.specs.declared.tree.DataForm.{DataForm}
-use Rattle.occ_expression_forms.specs.declared.tree.Dimension.{Dimension}
-use Rattle.occ_expression_forms.specs.Spelling.{Spelling, builtin_then, data_form_then, dimension_then, many}
-use Rattle.occ_expression_forms.proofs.Inner.{inner_builtin, inner_data_form, inner_dimension}
-use Rattle.occ_expression_forms.proofs.Marks.{PassesMarks}
+use Rattle.occ_forms_expressions.specs.declared.tree.Builtin.{Builtin}
+use Rattle.occ_forms_expressions.specs.declared.tree.DataForm.{DataForm}
+use Rattle.occ_forms_expressions.specs.declared.tree.Dimension.{Dimension}
+use Rattle.occ_forms_expressions.specs.Spelling.{Spelling, builtin_then, data_form_then, dimension_then, many}
+use Rattle.occ_forms_expressions.proofs.Inner.{inner_builtin, inner_data_form, inner_dimension}
+use Rattle.occ_forms_expressions.proofs.Marks.{PassesMarks}
 
 pub builtin_mark : (b : Builtin) → PassesMarks (builtin_then b)
 builtin_mark b k = (inner_builtin b).passes k

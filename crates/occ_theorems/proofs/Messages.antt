@@ -1,4 +1,4 @@
--- Nothing is told of items exactly where they are a message.
+-- Nothing is reported of items exactly where they are a message.
 use Rattle.std.proofs.Common.{◌≡◌, ◌≢◌, ◌∙◌, ◌++◌, ◌==◌, ◌||◌, ℕ, suc, Option, Some, None, List, [], ◌∷◌, length, Bool, true, false, if◌then◌else◌, refl, ap, sym, arith}
 use Rattle.std.proofs.lemmas.Bool.{eq-eqb, eqb-true}
 use Rattle.std.specs.List.{list_any}
@@ -9,9 +9,9 @@ use Rattle.occ_types.specs.declared.types.Tag.{Tag}
 use Rattle.occ_protocol.specs.Carrying.{Carrier, is_faulty_tag, tag_named}
 use Rattle.occ_protocol.specs.Carrying.Carrier.{Hidden, Nothing, Time, Data, Sequence, Variant}
 use Rattle.occ_protocol.specs.Lines.{exchanged}
-use Rattle.occ_protocol.specs.Matching.{against, behind, each_unmet, each_unmet_any, has_fault, meets, meets_any, named, of_another_number, told, unmet}
+use Rattle.occ_protocol.specs.Matching.{against, following, each_unmet, each_unmet_any, has_fault, meets, meets_any, named, of_another_number, reported, unmet}
 use Rattle.occ_protocol.specs.Matching.Asked.{Silent, These}
-use Rattle.occ_protocol.specs.Messages.{AreData, AreMet, IsMessage, IsTold}
+use Rattle.occ_protocol.specs.Messages.{AreData, AreMet, IsMessage, IsReported}
 use Rattle.occ_protocol.specs.Messages.AreMet.{none_met, one_met}
 use Rattle.occ_protocol.specs.Messages.AreData.{no_data, one_datum}
 use Rattle.occ_protocol.specs.Messages.IsMessage.{of_any, of_items, of_tag}
@@ -26,7 +26,7 @@ no_true e = absurd (cc e)
 not_none : {X : Type 0} (fault : Fault) (faults : List Fault) → fault ∷ faults ≡ [] → X
 not_none fault faults e = absurd (cc e)
 
--- ---- of a message nothing is told
+-- ---- of a message nothing is reported
 
 nothing_of : (root : List ℕ) (b : Bool) (x : Given) → b ≡ true → unmet root b x ≡ []
 nothing_of root true x e = refl
@@ -47,18 +47,18 @@ any_silent root _ (one_datum x xs e rest) = ap (λ (fs : List Fault). fs ++ each
 against_silent : (root : List ℕ) (items : List Item) (xs : List Given) → AreMet items xs → against root items xs ≡ []
 against_silent root items xs m = ap (λ (b : Bool). if b then each_unmet root items xs else of_another_number root xs) (eq-eqb _ _ (as_many items xs m)) ∙ each_silent root items xs m
 
-behind_silent : (root name : List ℕ) (tag : Tag) (xs : List Given) (b : Bool) → AreMet tag.items xs → told root (if b then Silent else These tag.items) xs ≡ []
-behind_silent root name tag xs true m = refl
-behind_silent root name tag xs false m = against_silent root tag.items xs m
+after_silent : (root name : List ℕ) (tag : Tag) (xs : List Given) (b : Bool) → AreMet tag.items xs → reported root (if b then Silent else These tag.items) xs ≡ []
+after_silent root name tag xs true m = refl
+after_silent root name tag xs false m = against_silent root tag.items xs m
 
 pub message_silent : (c : Carrier) (root : List ℕ) (tag : Option (List ℕ)) (xs : List Given) → IsMessage c tag xs → exchanged c root tag xs ≡ []
 message_silent _ root _ _ (of_any xs d) = any_silent root xs d
 message_silent _ root _ _ (of_items items xs m) = against_silent root items xs m
-message_silent _ root _ _ (of_tag tags name tag xs e m) = ap (λ (t : Option Tag). told root (behind name t) xs) e ∙ behind_silent root name tag xs (is_faulty_tag tag) m
+message_silent _ root _ _ (of_tag tags name tag xs e m) = ap (λ (t : Option Tag). reported root (following name t) xs) e ∙ after_silent root name tag xs (is_faulty_tag tag) m
 
--- ---- where nothing is told, it is a message
+-- ---- where nothing is reported, it is a message
 
--- an item without a fault, of which nothing is told, and what is told of those behind it
+-- an item without a fault, of which nothing is reported, and what is reported of those after it
 met_of : (root : List ℕ) (b : Bool) (x : Given) (rest : List Fault) → has_fault x ≡ false → unmet root b x ++ rest ≡ [] → (b ≡ true) × (rest ≡ [])
 met_of root true x rest f e = (refl, e)
 met_of root false x rest f e = not_none _ _ (sym (ap (λ (b : Bool). (if b then [] else named code.P1 root) ++ rest) f) ∙ e)
@@ -97,14 +97,14 @@ met_against root items xs f e = by (length items == length xs) refl e where
   by true n h = are_met root items xs f (eqb-true _ _ n) h
   by false n h = no_number root (list_any has_fault xs) f h
 
-message_behind : (tags : List Tag) (root name : List ℕ) (xs : List Given) (t : Option Tag) → tag_named tags name ≡ t → behind name t ≢ Silent → list_any has_fault xs ≡ false → told root (behind name t) xs ≡ [] → IsMessage (Variant tags) (Some name) xs
-message_behind tags root name xs None is known f e = not_none _ _ e
-message_behind tags root name xs (Some tag) is known f e = by (is_faulty_tag tag) known e where
-  by : (b : Bool) → (if b then Silent else These tag.items) ≢ Silent → told root (if b then Silent else These tag.items) xs ≡ [] → IsMessage (Variant tags) (Some name) xs
+message_after : (tags : List Tag) (root name : List ℕ) (xs : List Given) (t : Option Tag) → tag_named tags name ≡ t → following name t ≢ Silent → list_any has_fault xs ≡ false → reported root (following name t) xs ≡ [] → IsMessage (Variant tags) (Some name) xs
+message_after tags root name xs None is known f e = not_none _ _ e
+message_after tags root name xs (Some tag) is known f e = by (is_faulty_tag tag) known e where
+  by : (b : Bool) → (if b then Silent else These tag.items) ≢ Silent → reported root (if b then Silent else These tag.items) xs ≡ [] → IsMessage (Variant tags) (Some name) xs
   by true k h = absurd (k refl)
   by false k h = of_tag tags name tag xs is (met_against root tag.items xs f h)
 
-pub silent_message : (c : Carrier) (root : List ℕ) (tag : Option (List ℕ)) (xs : List Given) → IsTold c tag → list_any has_fault xs ≡ false → exchanged c root tag xs ≡ [] → IsMessage c tag xs
+pub silent_message : (c : Carrier) (root : List ℕ) (tag : Option (List ℕ)) (xs : List Given) → IsReported c tag → list_any has_fault xs ≡ false → exchanged c root tag xs ≡ [] → IsMessage c tag xs
 silent_message Hidden root tag xs known f e = absurd (known refl)
 silent_message Nothing root tag xs known f e = not_none _ _ e
 silent_message Time root tag xs known f e = not_none _ _ e
@@ -113,4 +113,4 @@ silent_message Data root (Some name) xs known f e = not_none _ _ e
 silent_message (Sequence items) root None xs known f e = of_items items xs (met_against root items xs f e)
 silent_message (Sequence items) root (Some name) xs known f e = not_none _ _ e
 silent_message (Variant tags) root None xs known f e = not_none _ _ e
-silent_message (Variant tags) root (Some name) xs known f e = message_behind tags root name xs (tag_named tags name) refl known f e
+silent_message (Variant tags) root (Some name) xs known f e = message_after tags root name xs (tag_named tags name) refl known f e

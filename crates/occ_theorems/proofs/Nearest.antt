@@ -53,15 +53,15 @@ from_nearest k (x ∷ xs) q (suc j) is =
 abbrev Found : ℕ → List (List ℕ) → List ℕ → ℕ → Type 0
 Found k xs q p = (j : ℕ) × (p ≡ k + j) × IsNearest xs q j
 
-behind : (k : ℕ) (x : List ℕ) (xs : List (List ℕ)) (q : List ℕ) → last_place_from (k + 1) xs q ≡ None → (l : ℕ) → 0 < l → slice_get (x ∷ xs) l ≢ Some q
-behind k x xs q later zero h e = absurd (omega arith)
-behind k x xs q later (suc l) h e = from_none (k + 1) xs q later l e
+following : (k : ℕ) (x : List ℕ) (xs : List (List ℕ)) (q : List ℕ) → last_place_from (k + 1) xs q ≡ None → (l : ℕ) → 0 < l → slice_get (x ∷ xs) l ≢ Some q
+following k x xs q later zero h e = absurd (omega arith)
+following k x xs q later (suc l) h e = from_none (k + 1) xs q later l e
 
 here_found : (b : Bool) (k : ℕ) (x : List ℕ) (xs : List (List ℕ)) (q : List ℕ) (p : ℕ) → is_same_name x q ≡ b → last_place_from (k + 1) xs q ≡ None → cond b (Some k) None ≡ Some p → Found k (x ∷ xs) q p
 here_found false k x xs q p same later e = absurd cc
 here_found true k x xs q p same later e =
     let at : p ≡ k = cc in
-    (0, at ∙ (omega arith), record { here = ap Some (one_name x q same); last = behind k x xs q later })
+    (0, at ∙ (omega arith), record { here = ap Some (one_name x q same); last = following k x xs q later })
 
 deeper : (x : List ℕ) (xs : List (List ℕ)) (q : List ℕ) (j : ℕ) → IsNearest xs q j → (l : ℕ) → suc j < l → slice_get (x ∷ xs) l ≢ Some q
 deeper x xs q j is zero h e = absurd (omega arith)

@@ -1,12 +1,12 @@
 -- Uses, each once, from the last to the first.
 use Rattle.std.proofs.Common.{◌≡◌, ℕ, zero, suc, Bool, true, false, ap, refl, ◌∙◌, sym, subst, List, [], ◌∷◌, ◌++◌, Some, length, slice_get, inl, inr}
 use Rattle.std.specs.Prelude.{◌↔◌, ◌⊎◌, if◌then◌else◌}
-use Rattle.occ_bounds.specs.declared.uses.Use.{Use}
-use Rattle.occ_clashes.specs.Distinct.{added, distinct, is_among, same_use}
-use Rattle.occ_clashes.specs.ParallelRule.{StandsIn}
-use Rattle.occ_clashes.proofs.Clashing.{any_found, any_given}
-use Rattle.occ_clashes.proofs.Equality.{same_exactly}
-use Rattle.occ_clashes.proofs.Once.{get_push}
+use Rattle.occ_usage_values.specs.declared.uses.Use.{Use}
+use Rattle.occ_usage_conflicts.specs.Distinct.{added, distinct, is_among, same_use}
+use Rattle.occ_usage_conflicts.specs.ParallelRule.{StandsIn}
+use Rattle.occ_usage_conflicts.proofs.Clashing.{any_found, any_given}
+use Rattle.occ_usage_conflicts.proofs.Equality.{same_exactly}
+use Rattle.occ_usage_conflicts.proofs.Once.{get_push}
 
 -- ---- places in a list
 

@@ -2,14 +2,14 @@
 use Rattle.std.proofs.Common.{◌↔◌, List, [], ◌∷◌, ◌++◌, inl, inr}
 use Rattle.std.specs.Prelude.{◌⊎◌}
 use Rattle.occ_base.specs.declared.diag.Diag.{Diag}
-use Rattle.occ_names.specs.declared.scope.Scope.{Scope}
+use Rattle.occ_scope.specs.declared.scope.Scope.{Scope}
 use Rattle.occ_project.specs.declared.expanded.ExpandedLine.{ExpandedLine}
 use Rattle.occ_tree.specs.Forest.{Forest, Empty, Tree}
-use Rattle.occ_typed_lines.specs.Placed.{placed}
-use Rattle.occ_typing.specs.Places.{At, IsAmong, IsTold, IsToldIn, Stands, first, inner, inside, judged_at, later, told_at}
-use Rattle.occ_typing.specs.Units.{behind_line, lines, type_faults}
-use Rattle.occ_typed_lines.specs.declared.parent.Parent.{Parent}
-use Rattle.occ_typed_lines.specs.declared.using.Import.{Import}
+use Rattle.occ_typing_lines.specs.Placed.{placed}
+use Rattle.occ_typing.specs.Places.{At, IsAmong, IsReported, IsReportedIn, Stands, first, inner, inside, judged_at, later, reported_at}
+use Rattle.occ_typing.specs.Units.{after_line, lines, type_faults}
+use Rattle.occ_typing_lines.specs.declared.parent.Parent.{Parent}
+use Rattle.occ_typing_lines.specs.declared.using.Import.{Import}
 
 among_front : (d : Diag) (xs ys : List Diag) → IsAmong d xs → IsAmong d (xs ++ ys)
 among_front d [] ys h = absurd h
@@ -29,14 +29,14 @@ among_both d [] ys h = inr h
 among_both d (x ∷ xs) ys (inl e) = inl (inl e)
 among_both d (x ∷ xs) ys (inr h) = more_among d x xs ys (among_both d xs ys h)
 
--- of what is told of a line, of those under it and of those behind it
-split_behind : (d : Diag) (beneath under own : List Diag) → IsAmong d under ⊎ IsAmong d own → IsAmong d (beneath ++ own) ⊎ IsAmong d under
-split_behind d beneath under own (inl h) = inr h
-split_behind d beneath under own (inr h) = inl (among_back d beneath own h)
+-- of what is reported of a line, of those under it and of those after it
+split_after : (d : Diag) (beneath under own : List Diag) → IsAmong d under ⊎ IsAmong d own → IsAmong d (beneath ++ own) ⊎ IsAmong d under
+split_after d beneath under own (inl h) = inr h
+split_after d beneath under own (inr h) = inl (among_back d beneath own h)
 
 split_front : (d : Diag) (beneath under own : List Diag) → IsAmong d beneath ⊎ IsAmong d (under ++ own) → IsAmong d (beneath ++ own) ⊎ IsAmong d under
 split_front d beneath under own (inl h) = inl (among_front d beneath own h)
-split_front d beneath under own (inr h) = split_behind d beneath under own (among_both d under own h)
+split_front d beneath under own (inr h) = split_after d beneath under own (among_both d under own h)
 
 split_rest : (d : Diag) (beneath under own rest : List Diag) → IsAmong d (beneath ++ (under ++ own)) ⊎ IsAmong d rest
     → (IsAmong d (beneath ++ own) ⊎ IsAmong d under) ⊎ IsAmong d rest
@@ -51,54 +51,54 @@ own_front : (d : Diag) (beneath under own : List Diag) → IsAmong d beneath ⊎
 own_front d beneath under own (inl h) = among_front d beneath (under ++ own) h
 own_front d beneath under own (inr h) = among_back d beneath (under ++ own) (among_back d under own h)
 
--- what is told under a line, and behind it
-abbrev IsToldUnder : List Import → Parent → Scope → ExpandedLine → Forest → Diag → Type 0
-IsToldUnder is p s l under d = IsToldIn is (judged_at is p s l under).line.parent (inner (judged_at is p s l under) s) (inner (judged_at is p s l under) s) under d
+-- what is reported under a line, and after it
+abbrev IsReportedUnder : List Import → Parent → Scope → ExpandedLine → Forest → Diag → Type 0
+IsReportedUnder is p s l under d = IsReportedIn is (judged_at is p s l under).line.parent (inner (judged_at is p s l under) s) (inner (judged_at is p s l under) s) under d
 
-abbrev IsToldBehind : List Import → Parent → Scope → Scope → ExpandedLine → Forest → Forest → Diag → Type 0
-IsToldBehind is p outer s l under behind d = IsToldIn is (judged_at is p s l under).line.next outer (behind_line outer s (judged_at is p s l under).line.adds) behind d
+abbrev IsReportedAfter : List Import → Parent → Scope → Scope → ExpandedLine → Forest → Forest → Diag → Type 0
+IsReportedAfter is p outer s l under following d = IsReportedIn is (judged_at is p s l under).line.next outer (after_line outer s (judged_at is p s l under).line.adds) following d
 
-at_line : (is : List Import) (p : Parent) (outer s : Scope) (l : ExpandedLine) (under behind : Forest) (d : Diag)
-    → IsAmong d (told_at is (record { line = l; under = under; parent = p; scope = s })) → IsToldIn is p outer s (Tree l under behind) d
-at_line is p outer s l under behind d h = (record { line = l; under = under; parent = p; scope = s }, first p outer s l under behind, h)
+at_line : (is : List Import) (p : Parent) (outer s : Scope) (l : ExpandedLine) (under following : Forest) (d : Diag)
+    → IsAmong d (reported_at is (record { line = l; under = under; parent = p; scope = s })) → IsReportedIn is p outer s (Tree l under following) d
+at_line is p outer s l under following d h = (record { line = l; under = under; parent = p; scope = s }, first p outer s l under following, h)
 
-under_line : (is : List Import) (p : Parent) (outer s : Scope) (l : ExpandedLine) (under behind : Forest) (d : Diag) → IsToldUnder is p s l under d → IsToldIn is p outer s (Tree l under behind) d
-under_line is p outer s l under behind d r = (r.0, inside p outer s l under behind r.0 r.1, r.2)
+under_line : (is : List Import) (p : Parent) (outer s : Scope) (l : ExpandedLine) (under following : Forest) (d : Diag) → IsReportedUnder is p s l under d → IsReportedIn is p outer s (Tree l under following) d
+under_line is p outer s l under following d r = (r.0, inside p outer s l under following r.0 r.1, r.2)
 
-behind_it : (is : List Import) (p : Parent) (outer s : Scope) (l : ExpandedLine) (under behind : Forest) (d : Diag) → IsToldBehind is p outer s l under behind d → IsToldIn is p outer s (Tree l under behind) d
-behind_it is p outer s l under behind d r = (r.0, later p outer s l under behind r.0 r.1, r.2)
+after_it : (is : List Import) (p : Parent) (outer s : Scope) (l : ExpandedLine) (under following : Forest) (d : Diag) → IsReportedAfter is p outer s l under following d → IsReportedIn is p outer s (Tree l under following) d
+after_it is p outer s l under following d r = (r.0, later p outer s l under following r.0 r.1, r.2)
 
-sound_cases : (is : List Import) (p : Parent) (outer s : Scope) (l : ExpandedLine) (under behind : Forest) (d : Diag) (below rest : List Diag)
-    → (IsAmong d below → IsToldUnder is p s l under d) → (IsAmong d rest → IsToldBehind is p outer s l under behind d)
-    → (IsAmong d (told_at is (record { line = l; under = under; parent = p; scope = s })) ⊎ IsAmong d below) ⊎ IsAmong d rest
-    → IsToldIn is p outer s (Tree l under behind) d
-sound_cases is p outer s l under behind d below rest f g (inl (inl h)) = at_line is p outer s l under behind d h
-sound_cases is p outer s l under behind d below rest f g (inl (inr h)) = under_line is p outer s l under behind d (f h)
-sound_cases is p outer s l under behind d below rest f g (inr h) = behind_it is p outer s l under behind d (g h)
+sound_cases : (is : List Import) (p : Parent) (outer s : Scope) (l : ExpandedLine) (under following : Forest) (d : Diag) (below rest : List Diag)
+    → (IsAmong d below → IsReportedUnder is p s l under d) → (IsAmong d rest → IsReportedAfter is p outer s l under following d)
+    → (IsAmong d (reported_at is (record { line = l; under = under; parent = p; scope = s })) ⊎ IsAmong d below) ⊎ IsAmong d rest
+    → IsReportedIn is p outer s (Tree l under following) d
+sound_cases is p outer s l under following d below rest f g (inl (inl h)) = at_line is p outer s l under following d h
+sound_cases is p outer s l under following d below rest f g (inl (inr h)) = under_line is p outer s l under following d (f h)
+sound_cases is p outer s l under following d below rest f g (inr h) = after_it is p outer s l under following d (g h)
 
-sound : (is : List Import) (p : Parent) (outer s : Scope) (f : Forest) (d : Diag) → IsAmong d (lines is p outer s f) → IsToldIn is p outer s f d
+sound : (is : List Import) (p : Parent) (outer s : Scope) (f : Forest) (d : Diag) → IsAmong d (lines is p outer s f) → IsReportedIn is p outer s f d
 sound is p outer s Empty d h = absurd h
-sound is p outer s (Tree l under behind) d h =
+sound is p outer s (Tree l under following) d h =
     let x = judged_at is p s l under in
     let below = lines is x.line.parent (inner x s) (inner x s) under in
-    let rest = lines is x.line.next outer (behind_line outer s x.line.adds) behind in
-    sound_cases is p outer s l under behind d below rest
+    let rest = lines is x.line.next outer (after_line outer s x.line.adds) following in
+    sound_cases is p outer s l under following d below rest
     (sound is x.line.parent (inner x s) (inner x s) under d)
-    (sound is x.line.next outer (behind_line outer s x.line.adds) behind d)
+    (sound is x.line.next outer (after_line outer s x.line.adds) following d)
     (split d x.beneath below (placed l x.faults) rest h)
 
-complete : (is : List Import) (p : Parent) (outer s : Scope) (f : Forest) (a : At) (d : Diag) → Stands is p outer s f a → IsAmong d (told_at is a) → IsAmong d (lines is p outer s f)
-complete is p outer s f a d (first _ _ _ l under behind) h =
-    among_front d ((judged_at is p s l under).beneath ++ (lines is (judged_at is p s l under).line.parent (inner (judged_at is p s l under) s) (inner (judged_at is p s l under) s) under ++ placed l (judged_at is p s l under).faults)) (lines is (judged_at is p s l under).line.next outer (behind_line outer s (judged_at is p s l under).line.adds) behind)
+complete : (is : List Import) (p : Parent) (outer s : Scope) (f : Forest) (a : At) (d : Diag) → Stands is p outer s f a → IsAmong d (reported_at is a) → IsAmong d (lines is p outer s f)
+complete is p outer s f a d (first _ _ _ l under following) h =
+    among_front d ((judged_at is p s l under).beneath ++ (lines is (judged_at is p s l under).line.parent (inner (judged_at is p s l under) s) (inner (judged_at is p s l under) s) under ++ placed l (judged_at is p s l under).faults)) (lines is (judged_at is p s l under).line.next outer (after_line outer s (judged_at is p s l under).line.adds) following)
     (own_front d (judged_at is p s l under).beneath (lines is (judged_at is p s l under).line.parent (inner (judged_at is p s l under) s) (inner (judged_at is p s l under) s) under) (placed l (judged_at is p s l under).faults) (among_both d (judged_at is p s l under).beneath (placed l (judged_at is p s l under).faults) h))
-complete is p outer s f a d (inside _ _ _ l under behind _ below) h =
-    among_front d ((judged_at is p s l under).beneath ++ (lines is (judged_at is p s l under).line.parent (inner (judged_at is p s l under) s) (inner (judged_at is p s l under) s) under ++ placed l (judged_at is p s l under).faults)) (lines is (judged_at is p s l under).line.next outer (behind_line outer s (judged_at is p s l under).line.adds) behind)
+complete is p outer s f a d (inside _ _ _ l under following _ below) h =
+    among_front d ((judged_at is p s l under).beneath ++ (lines is (judged_at is p s l under).line.parent (inner (judged_at is p s l under) s) (inner (judged_at is p s l under) s) under ++ placed l (judged_at is p s l under).faults)) (lines is (judged_at is p s l under).line.next outer (after_line outer s (judged_at is p s l under).line.adds) following)
     (among_back d (judged_at is p s l under).beneath (lines is (judged_at is p s l under).line.parent (inner (judged_at is p s l under) s) (inner (judged_at is p s l under) s) under ++ placed l (judged_at is p s l under).faults)
     (among_front d (lines is (judged_at is p s l under).line.parent (inner (judged_at is p s l under) s) (inner (judged_at is p s l under) s) under) (placed l (judged_at is p s l under).faults)
     (complete is (judged_at is p s l under).line.parent (inner (judged_at is p s l under) s) (inner (judged_at is p s l under) s) under a d below h)))
-complete is p outer s f a d (later _ _ _ l under behind _ below) h =
-    among_back d ((judged_at is p s l under).beneath ++ (lines is (judged_at is p s l under).line.parent (inner (judged_at is p s l under) s) (inner (judged_at is p s l under) s) under ++ placed l (judged_at is p s l under).faults)) (lines is (judged_at is p s l under).line.next outer (behind_line outer s (judged_at is p s l under).line.adds) behind)
-    (complete is (judged_at is p s l under).line.next outer (behind_line outer s (judged_at is p s l under).line.adds) behind a d below h)
+complete is p outer s f a d (later _ _ _ l under following _ below) h =
+    among_back d ((judged_at is p s l under).beneath ++ (lines is (judged_at is p s l under).line.parent (inner (judged_at is p s l under) s) (inner (judged_at is p s l under) s) under ++ placed l (judged_at is p s l under).faults)) (lines is (judged_at is p s l under).line.next outer (after_line outer s (judged_at is p s l under).line.adds) following)
+    (complete is (judged_at is p s l under).line.next outer (after_line outer s (judged_at is p s l under).line.adds) following a d below h)
 
-pub told_places : (is : List Import) (f : Forest) (d : Diag) → IsAmong d (type_faults is f) ↔ IsTold is f d
-told_places is f d = (sound is _ _ _ f d, λ h. complete is _ _ _ f h.0 d h.1 h.2)
+pub reported_places : (is : List Import) (f : Forest) (d : Diag) → IsAmong d (type_faults is f) ↔ IsReported is f d
+reported_places is f d = (sound is _ _ _ f d, λ h. complete is _ _ _ f h.0 d h.1 h.2)

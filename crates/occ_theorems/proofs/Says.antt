@@ -3,18 +3,18 @@ use Rattle.std.proofs.Common.{◌≡◌, ◌≢◌, ◌<◌, ◌≤◌, ◌+◌,
 use Rattle.std.proofs.lemmas.Bool.{le-leb, leb-false, leb-true}
 use Rattle.std.proofs.lemmas.List.{length-drop}
 use Rattle.std.proofs.Math.Seq.{drop-append_seam, take-append_seam}
-use Rattle.occ_commands.specs.Says.{Says}
-use Rattle.occ_commands.specs.Says.Says.{alone, at_end, cut_short, skipped, with_text, wrong}
-use Rattle.occ_commands.specs.Script.{Edit, Header, Script, command_at, ended, header, script_from, then, with_lines}
-use Rattle.occ_commands.specs.Script.Header.{Alone, Texts}
-use Rattle.occ_commands.proofs.Going.{begin_line}
+use Rattle.occheck_commands.specs.Says.{Says}
+use Rattle.occheck_commands.specs.Says.Says.{alone, at_end, cut_short, skipped, with_text, wrong}
+use Rattle.occheck_commands.specs.Script.{Edit, Header, Script, command_at, ended, header, script_from, then, with_lines}
+use Rattle.occheck_commands.specs.Script.Header.{Alone, Texts}
+use Rattle.occheck_commands.proofs.Going.{begin_line}
 
 -- ---- what is found is said
 
 begun : (b : ℕ) (bytes : List ℕ) → b ∷ bytes ≢ []
 begun b bytes e = cc
 
--- a line of a command that has so many lines of text behind it
+-- a line of a command that has so many lines of text after it
 with_taken : (over : Bool) (n : ℕ) (line : List ℕ) (lines : List (List ℕ)) (edit : Edit) (name : List ℕ) (k : ℕ) → header line ≡ Some (Texts edit name k) → k ≤ length lines
     → Says over (n + 1 + k) (drop k lines) (script_from over (n + 1 + k) (drop k lines))
     → Says over n (line ∷ lines) (then n (with_lines edit name (take k lines)) (script_from over (n + 1 + k) (drop k lines)))

@@ -3,9 +3,9 @@ use Rattle.std.proofs.Common.{◌≡◌, Bool, ap, ◌∙◌, subst, Option, Som
 use Rattle.std.specs.Prelude.{ℤ, ◌+ℤ◌, ◌&&◌, IfSome}
 use Rattle.occ_types.specs.declared.interface.Interval.{Interval}
 use Rattle.occ_types.specs.declared.interface.Places.{Places}
-use Rattle.occ_parts.specs.Places.{holds, moved}
-use Rattle.occ_parts.specs.Selecting.{cut_to, inside}
-use Rattle.occ_parts.proofs.Sets.{common_holds}
+use Rattle.occ_usage_parts.specs.Places.{holds, moved}
+use Rattle.occ_usage_parts.specs.Selecting.{cut_to, inside}
+use Rattle.occ_usage_parts.proofs.Sets.{common_holds}
 use Rattle.occ_theorems.proofs.Sets.{moved_holds}
 
 pub inside_holds : (outer inner : Interval) (b : ℤ) (q : Places) → moved b inner.places ≡ Some q → (x : ℤ)

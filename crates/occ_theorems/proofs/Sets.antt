@@ -4,7 +4,7 @@ use Rattle.std.specs.Prelude.{ℤ, pos, negsuc, ◌+ℤ◌, ◌-ℤ◌, int_le, 
 use Rattle.std.proofs.lemmas.Int.{ints}
 use Rattle.occ_types.specs.declared.interface.Places.{Places}
 use Rattle.occ_types.specs.declared.interface.Places.TheVariants as places
-use Rattle.occ_parts.specs.Places.{moved, from_place, run_from, holds}
+use Rattle.occ_usage_parts.specs.Places.{moved, from_place, run_from, holds}
 
 -- sets with the same places are one
 pub one_writing : (p q : Places) → ((x : ℤ) → holds p x ≡ holds q x) → p ≡ q

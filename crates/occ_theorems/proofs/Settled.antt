@@ -1,4 +1,4 @@
--- A board settles behind as many jobs as units are pending.
+-- A board settles after as many jobs as units are pending.
 use Rattle.std.proofs.Common.{◌≡◌, ◌↔◌, ◌∙◌, ◌++◌, ◌<◌, ◌≤◌, ℕ, zero, suc, Bool, true, false, cond, not, List, [], ◌∷◌, Option, Some, None, refl, ap, arith}
 use Rattle.std.specs.Option.{is_some}
 use Rattle.occ_board.specs.Done.{NoneIsHanded, is_input_among}
@@ -6,8 +6,8 @@ use Rattle.occ_board.specs.Machine.{State, after, files_of, handed_out, pending_
 use Rattle.occ_board.specs.Machine.Event.{Finish, Take}
 use Rattle.occ_board.specs.Same.{same_input}
 use Rattle.occ_board.specs.Rules.{Input, input}
-use Rattle.occ_script.specs.Settling.{Settles, settled_in, with_next}
-use Rattle.occ_units.specs.Spelled.{AreSpelled}
+use Rattle.occheck_script.specs.Settling.{Settles, settled_in, with_next}
+use Rattle.occ_project_units.specs.Spelled.{AreSpelled}
 
 module _ (fewer : (s : State) (i : Input) → take_answer s ≡ Some i → pending_answer (after (after s Take) (Finish i)) < pending_answer s)
     (none : (s : State) → pending_answer s ≡ 0 → take_answer s ≡ None) where
@@ -21,7 +21,7 @@ module _ (fewer : (s : State) (i : Input) → take_answer s ≡ Some i → pendi
         Settles.goes_on s (settled_in n (after (after s Take) (Finish i))) i e (rest (after (after s Take) (Finish i)) (omega (arith, le, less)))
 
   module _ (same : (i j : Input) → (same_input i j ≡ true) ↔ (i ≡ j))
-      (ready : (s : State) → AreSpelled (files_of s) → 0 < pending_answer s → NoneIsHanded (files_of s) s.kept s.handed → is_some (take_answer s) ≡ true) where
+      (ready : (s : State) → AreSpelled (files_of s) → 0 < pending_answer s → NoneIsHanded (files_of s) s.cached s.handed → is_some (take_answer s) ≡ true) where
     -- with nothing handed out there is a job while a unit is pending
     no_job : (s : State) → AreSpelled (files_of s) → s.handed ≡ [] → take_answer s ≡ None → (n : ℕ) → pending_answer s ≡ n → n ≡ 0
     no_job s spelled nothing none zero e = refl

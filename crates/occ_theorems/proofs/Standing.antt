@@ -1,85 +1,85 @@
--- The two ways to say what a rule tells are one.
+-- The two ways to say what a rule reports are one.
 use Rattle.std.specs.Prelude.{◌==◌, ◌↔◌}
 use Rattle.std.proofs.Common.{◌≡◌, ◌<◌, ℕ, ℤ, zero, suc, Bool, true, false, Option, Some, None, List, [], ◌++◌, inl, inr, refl, subst, sym, arith}
 use Rattle.std.specs.List.{Contains}
 use Rattle.std.proofs.lemmas.List.Elements.{Contains-append_cases, Contains-append_left, Contains-append_right}
 use Rattle.occ_base.specs.declared.diag.Diag.{Diag}
-use Rattle.occ_bounds.specs.Bounds.{Env}
-use Rattle.occ_replicators.specs.declared.tree.KnownReplicator.{KnownReplicator}
+use Rattle.occ_usage_values.specs.Bounds.{Env}
+use Rattle.occ_typing_statements.specs.declared.replicator_tree.KnownReplicator.{KnownReplicator}
 use Rattle.occ_usage.specs.Effect.{inner}
-use Rattle.occ_usage.specs.Lines.{behind_line, known_replicator, with_index}
-use Rattle.occ_usage.specs.Standing.{IsToldIn, Stands, below, first, in_round, later}
+use Rattle.occ_usage.specs.Lines.{after_line, known_replicator, with_index}
+use Rattle.occ_usage.specs.Standing.{IsReportedIn, Stands, below, first, in_round, later}
 use Rattle.occ_usage.specs.Trees.{Empty, Head, Tree, Trees, trees_of}
-use Rattle.occ_usage.specs.Walk.{At, Rule, Told, line_told, rounds_told, told, told_of, under_told, under_told_by, unit_told}
+use Rattle.occ_usage.specs.Walk.{At, Rule, Finding, line_reported, rounds_reported, reported, reported_of, under_reported, under_reported_by, unit_reported}
 use Rattle.occ_typing.specs.declared.tree.TypedLine.{TypedLine}
 
-none_told : (d : Diag) → Contains [] d → ⊥
-none_told d h = let k : h.0 < 0 = h.1 in omega (arith, k)
+none_reported : (d : Diag) → Contains [] d → ⊥
+none_reported d h = let k : h.0 < 0 = h.1 in omega (arith, k)
 
 -- ---- rounds
 
 same_number : (m n : ℕ) → (m == n) ≡ true → m ≡ n
 same_number m n e = grind (arith, e)
 
-rounds_found : (n : ℕ) (base : ℤ) (env : Env) (t : Told) (d : Diag) → Contains (rounds_told n base env t) d
+rounds_found : (n : ℕ) (base : ℤ) (env : Env) (t : Finding) (d : Diag) → Contains (rounds_reported n base env t) d
     → (i : ℕ) × (i < n) × Contains (t (with_index env base i)) d
-rounds_found zero base env t d h = absurd (none_told d h)
-rounds_found (suc n) base env t d h = elim (Contains-append_cases (rounds_told n base env t) (t (with_index env base n)) d h) [
+rounds_found zero base env t d h = absurd (none_reported d h)
+rounds_found (suc n) base env t d h = elim (Contains-append_cases (rounds_reported n base env t) (t (with_index env base n)) d h) [
   | inl before ↦ let r = rounds_found n base env t d before in let k : r.0 < n = r.1 in (r.0, omega (arith, k), r.2)
   | inr last ↦ (n, omega arith, last)
 ]
 
-rounds_given : (n : ℕ) (base : ℤ) (env : Env) (t : Told) (d : Diag) (i : ℕ) → i < n → Contains (t (with_index env base i)) d
-    → Contains (rounds_told n base env t) d
+rounds_given : (n : ℕ) (base : ℤ) (env : Env) (t : Finding) (d : Diag) (i : ℕ) → i < n → Contains (t (with_index env base i)) d
+    → Contains (rounds_reported n base env t) d
 rounds_given zero base env t d i w h = absurd (omega (arith, w))
 rounds_given (suc n) base env t d i w h = at (i == n) refl (λ v. rounds_given n base env t d i v h) where
-  at : (s : Bool) → (i == n) ≡ s → (i < n → Contains (rounds_told n base env t) d) → Contains (rounds_told n base env t ++ t (with_index env base n)) d
-  at true e before = Contains-append_right (rounds_told n base env t) (t (with_index env base n)) d (subst (λ (k : ℕ). Contains (t (with_index env base k)) d) (same_number i n e) h)
-  at false e before = Contains-append_left (rounds_told n base env t) (t (with_index env base n)) d (before (let u : (i == n) ≡ false = e in grind (arith, w, u)))
+  at : (s : Bool) → (i == n) ≡ s → (i < n → Contains (rounds_reported n base env t) d) → Contains (rounds_reported n base env t ++ t (with_index env base n)) d
+  at true e before = Contains-append_right (rounds_reported n base env t) (t (with_index env base n)) d (subst (λ (k : ℕ). Contains (t (with_index env base k)) d) (same_number i n e) h)
+  at false e before = Contains-append_left (rounds_reported n base env t) (t (with_index env base n)) d (before (let u : (i == n) ≡ false = e in grind (arith, w, u)))
 
 -- ---- from the list to the places
 
-under_found : (rule : Rule) (k : Option KnownReplicator) (h : Head) (t behind : Trees) (outer env : Env) (d : Diag) → known_replicator h.form ≡ k
-    → ((e : Env) → Contains (told_of rule t e) d → IsToldIn rule t e e d)
-    → Contains (under_told_by k env h (told_of rule t)) d → IsToldIn rule (Tree h t behind) outer env d
-under_found rule None h t behind outer env d known found c =
-    let r = found (inner env h) c in (r.0, below h t behind outer env r.0 known r.1, r.2)
-under_found rule (Some k) h t behind outer env d known found c =
-    let i = rounds_found k.count k.base env (told_of rule t) d c in
+under_found : (rule : Rule) (k : Option KnownReplicator) (h : Head) (t following : Trees) (outer env : Env) (d : Diag) → known_replicator h.form ≡ k
+    → ((e : Env) → Contains (reported_of rule t e) d → IsReportedIn rule t e e d)
+    → Contains (under_reported_by k env h (reported_of rule t)) d → IsReportedIn rule (Tree h t following) outer env d
+under_found rule None h t following outer env d known found c =
+    let r = found (inner env h) c in (r.0, below h t following outer env r.0 known r.1, r.2)
+under_found rule (Some k) h t following outer env d known found c =
+    let i = rounds_found k.count k.base env (reported_of rule t) d c in
     let r = found (with_index env k.base i.0) i.2 in
-    (r.0, in_round h t behind outer env r.0 k i.0 known i.1 r.1, r.2)
+    (r.0, in_round h t following outer env r.0 k i.0 known i.1 r.1, r.2)
 
-found_in : (rule : Rule) (t : Trees) (outer env : Env) (d : Diag) → Contains (told rule t outer env) d → IsToldIn rule t outer env d
-found_in rule Empty outer env d h = absurd (none_told d h)
-found_in rule (Tree h t behind) outer env d c =
-    elim (Contains-append_cases (line_told rule env h t (told_of rule t)) (told rule behind outer (behind_line outer env h t)) d c) [
-      | inl line ↦ elim (Contains-append_cases (under_told env h (told_of rule t)) (rule (record { line = h; under = t; env = env })) d line) [
-        | inl under ↦ under_found rule (known_replicator h.form) h t behind outer env d refl (λ (e : Env) x. found_in rule t e e d x) under
-        | inr own ↦ (record { line = h; under = t; env = env }, first h t behind outer env, own)
+found_in : (rule : Rule) (t : Trees) (outer env : Env) (d : Diag) → Contains (reported rule t outer env) d → IsReportedIn rule t outer env d
+found_in rule Empty outer env d h = absurd (none_reported d h)
+found_in rule (Tree h t following) outer env d c =
+    elim (Contains-append_cases (line_reported rule env h t (reported_of rule t)) (reported rule following outer (after_line outer env h t)) d c) [
+      | inl line ↦ elim (Contains-append_cases (under_reported env h (reported_of rule t)) (rule (record { line = h; under = t; env = env })) d line) [
+        | inl under ↦ under_found rule (known_replicator h.form) h t following outer env d refl (λ (e : Env) x. found_in rule t e e d x) under
+        | inr own ↦ (record { line = h; under = t; env = env }, first h t following outer env, own)
       ]
-      | inr rest ↦ let r = found_in rule behind outer (behind_line outer env h t) d rest in (r.0, later h t behind outer env r.0 r.1, r.2)
+      | inr rest ↦ let r = found_in rule following outer (after_line outer env h t) d rest in (r.0, later h t following outer env r.0 r.1, r.2)
     ]
 
 -- ---- from the places to the list
 
-under_given : (rule : Rule) (k : Option KnownReplicator) (h : Head) (t behind : Trees) (outer env : Env) (d : Diag) → known_replicator h.form ≡ k
-    → Contains (under_told_by k env h (told_of rule t)) d → Contains (told rule (Tree h t behind) outer env) d
-under_given rule k h t behind outer env d known c =
-    Contains-append_left (line_told rule env h t (told_of rule t)) (told rule behind outer (behind_line outer env h t)) d
-    (Contains-append_left (under_told env h (told_of rule t)) (rule (record { line = h; under = t; env = env })) d
-    (subst (λ (z : Option KnownReplicator). Contains (under_told_by z env h (told_of rule t)) d) (sym known) c))
+under_given : (rule : Rule) (k : Option KnownReplicator) (h : Head) (t following : Trees) (outer env : Env) (d : Diag) → known_replicator h.form ≡ k
+    → Contains (under_reported_by k env h (reported_of rule t)) d → Contains (reported rule (Tree h t following) outer env) d
+under_given rule k h t following outer env d known c =
+    Contains-append_left (line_reported rule env h t (reported_of rule t)) (reported rule following outer (after_line outer env h t)) d
+    (Contains-append_left (under_reported env h (reported_of rule t)) (rule (record { line = h; under = t; env = env })) d
+    (subst (λ (z : Option KnownReplicator). Contains (under_reported_by z env h (reported_of rule t)) d) (sym known) c))
 
-given_in : (rule : Rule) (t : Trees) (outer env : Env) (a : At) (d : Diag) → Stands t outer env a → Contains (rule a) d → Contains (told rule t outer env) d
-given_in rule _ _ _ _ d (first h t behind outer env) c =
-    Contains-append_left (line_told rule env h t (told_of rule t)) (told rule behind outer (behind_line outer env h t)) d
-    (Contains-append_right (under_told env h (told_of rule t)) (rule (record { line = h; under = t; env = env })) d c)
-given_in rule _ _ _ _ d (below h t behind outer env a known s) c =
-    under_given rule None h t behind outer env d known (given_in rule t (inner env h) (inner env h) a d s c)
-given_in rule _ _ _ _ d (in_round h t behind outer env a k i known w s) c =
-    under_given rule (Some k) h t behind outer env d known
-    (rounds_given k.count k.base env (told_of rule t) d i w (given_in rule t (with_index env k.base i) (with_index env k.base i) a d s c))
-given_in rule _ _ _ _ d (later h t behind outer env a s) c =
-    Contains-append_right (line_told rule env h t (told_of rule t)) (told rule behind outer (behind_line outer env h t)) d (given_in rule behind outer (behind_line outer env h t) a d s c)
+given_in : (rule : Rule) (t : Trees) (outer env : Env) (a : At) (d : Diag) → Stands t outer env a → Contains (rule a) d → Contains (reported rule t outer env) d
+given_in rule _ _ _ _ d (first h t following outer env) c =
+    Contains-append_left (line_reported rule env h t (reported_of rule t)) (reported rule following outer (after_line outer env h t)) d
+    (Contains-append_right (under_reported env h (reported_of rule t)) (rule (record { line = h; under = t; env = env })) d c)
+given_in rule _ _ _ _ d (below h t following outer env a known s) c =
+    under_given rule None h t following outer env d known (given_in rule t (inner env h) (inner env h) a d s c)
+given_in rule _ _ _ _ d (in_round h t following outer env a k i known w s) c =
+    under_given rule (Some k) h t following outer env d known
+    (rounds_given k.count k.base env (reported_of rule t) d i w (given_in rule t (with_index env k.base i) (with_index env k.base i) a d s c))
+given_in rule _ _ _ _ d (later h t following outer env a s) c =
+    Contains-append_right (line_reported rule env h t (reported_of rule t)) (reported rule following outer (after_line outer env h t)) d (given_in rule following outer (after_line outer env h t) a d s c)
 
-pub place_law : (rule : Rule) (ls : List TypedLine) (d : Diag) → Contains (unit_told rule ls) d ↔ IsToldIn rule (trees_of ls) [] [] d
+pub place_law : (rule : Rule) (ls : List TypedLine) (d : Diag) → Contains (unit_reported rule ls) d ↔ IsReportedIn rule (trees_of ls) [] [] d
 place_law rule ls d = (λ h. found_in rule (trees_of ls) [] [] d h, λ h. given_in rule (trees_of ls) [] [] h.0 d h.1 h.2)

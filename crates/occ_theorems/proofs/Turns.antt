@@ -3,11 +3,11 @@ use Rattle.std.proofs.Common.{◌≡◌, ◌<◌, ℕ, zero, suc, List, [], ◌�
 use Rattle.std.specs.Prelude.{Bool, true, false, ◌&&◌, ◌==◌}
 use Rattle.std.specs.List.{list_all, list_any}
 use Rattle.std.proofs.lemmas.Bool.{eq-eqb}
-use Rattle.occ_graph.specs.Graph.{Graph, rests}
-use Rattle.occ_graph.specs.Along.{IsLocal, done, done_step}
-use Rattle.occ_graph.proofs.Heights.{falls, height}
-use Rattle.occ_graph.proofs.Ways.{both, both_of, first_holds, same_truth, second_holds}
-use Rattle.occ_graph.proofs.Turns.{along_is}
+use Rattle.occ_project_graph.specs.Graph.{Graph, rests}
+use Rattle.occ_project_graph.specs.Along.{IsLocal, done, done_step}
+use Rattle.occ_project_graph.proofs.Heights.{falls, height}
+use Rattle.occ_project_graph.proofs.Ways.{both, both_of, first_holds, same_truth, second_holds}
+use Rattle.occ_project_graph.proofs.Turns.{along_is}
 
 -- the test of all of a list asks only for what is in it
 all_alike : (f h : ℕ → Bool) (xs : List ℕ) → ((v : ℕ) → list_any (λ w. w == v) xs ≡ true → f v ≡ h v) → list_all f xs ≡ list_all h xs

@@ -6,26 +6,27 @@ use Rattle.std.specs.List.{AllByRecursion, find}
 use Rattle.std.specs.Option.{option_map}
 use Rattle.occ_board.proofs.Accepted.{fewer_pending}
 use Rattle.occ_board.proofs.Judged.{acceptable, never_accepted, now_of}
-use Rattle.occ_board.proofs.Places.{file_named}
+use Rattle.occ_board.proofs.Indices.{file_named}
 use Rattle.occ_board.proofs.Truths.{left_true, right_true}
-use Rattle.occ_board.specs.Done.{done, done_step, is_kept, pending_units}
+use Rattle.occ_board.specs.Done.{done, done_step, is_cached, pending_units}
 use Rattle.occ_board.specs.Journal.{replay}
-use Rattle.occ_board.specs.Machine.{Answer, Event, IsChecked, IsWork, State, accepted_number, after, after_all, answer, files_of, finish_answer, is_acceptance, kept_after, pending_answer}
+use Rattle.occ_board.specs.Machine.{Answer, Event, IsChecked, IsWork, State, accepted_number, after, after_all, answer, files_of, finish_answer, is_acceptance, cached_after, pending_answer}
 use Rattle.occ_board.specs.Verdicts.{is_as_read, is_off, off_read, or_else, reads_verdict, same_text, uses_verdict, verdict_of}
 use Rattle.occ_board.specs.declared.entry.Entry.{Entry}
 use Rattle.occ_board.specs.declared.verdict.Verdict.{Verdict}
 use Rattle.occ_board.specs.declared.verdict.Verdict.TheVariants as verdict
 use Rattle.occ_board.specs.inside.Ready.{IsAcceptable}
-use Rattle.occ_report.specs.Inputs.{Input, UsedUnit}
+use Rattle.occ_check.specs.Input.{Input}
+use Rattle.occ_check.specs.declared.used.UsedUnit.{UsedUnit}
 use Rattle.occ_forms.specs.Prepared.{IsPrepared, Prepared}
 use Rattle.occ_forms.specs.declared.source.SourceLine.{SourceLine}
 use Rattle.occ_project.specs.Entries.{is_among}
 use Rattle.occ_project.specs.Expansion.{expansion}
 use Rattle.occ_project.specs.Reads.{open_lines}
 use Rattle.occ_project.specs.declared.reads.Read.{Read}
-use Rattle.occ_units.specs.Places.{rest_units}
-use Rattle.occ_units.specs.Project.{IsProject, file_of}
-use Rattle.occ_units.specs.Spelled.{AreSpelled, IsSpelled}
+use Rattle.occ_project_units.specs.Indices.{rest_units}
+use Rattle.occ_project_units.specs.Project.{IsProject, file_of}
+use Rattle.occ_project_units.specs.Spelled.{AreSpelled, IsSpelled}
 
 module _ (source : (text : List ℕ) (lines others : List SourceLine) → IsPrepared text lines → IsPrepared text others → lines ≡ others) where
   -- with one text two files have the same lines
@@ -68,23 +69,23 @@ module _ (source : (text : List ℕ) (lines others : List SourceLine) → IsPrep
 
   module _ (alone : (fs others : List Read) (unit : List ℕ) → ((name : List ℕ) → is_among (expansion fs unit).reads name ≡ true → open_lines others name ≡ open_lines fs name) → expansion others unit ≡ expansion fs unit)
       (itself : (fs : List Read) (unit : List ℕ) → is_among (expansion fs unit).reads unit ≡ true) where
-    fits : (files : List Read) (accepted : ℕ) (kept : List Input) (i : Input) → AreSpelled files → IsChecked i → verdict_of files accepted kept i ≡ verdict.Accepted → IsAcceptable files kept i
-    fits files accepted kept i spelled is e =
-        let parts = nothing_by (reads_verdict files accepted i.reads) (uses_verdict files kept i) (is_kept kept i) (never_accepted files accepted i.reads) (never_stale (find (is_off files kept i.unit) i.used)) e in
-        acceptable files kept i i.used i.unit false is.0 refl refl (all_read files accepted i.reads spelled is.1 parts.0) (sym parts.1.0) (sym parts.1.1) alone itself
+    fits : (files : List Read) (accepted : ℕ) (cached : List Input) (i : Input) → AreSpelled files → IsChecked i → verdict_of files accepted cached i ≡ verdict.Accepted → IsAcceptable files cached i
+    fits files accepted cached i spelled is e =
+        let parts = nothing_by (reads_verdict files accepted i.reads) (uses_verdict files cached i) (is_cached cached i) (never_accepted files accepted i.reads) (never_stale (find (is_off files cached i.unit) i.used)) e in
+        acceptable files cached i i.used i.unit false is.0 refl refl (all_read files accepted i.reads spelled is.1 parts.0) (sym parts.1.0) (sym parts.1.1) alone itself
 
-    module _ (project : (es : List Entry) → IsProject (replay es)) (law : (files : List Read) (kept : List Input) (u : List ℕ) → IsProject files → done files kept u ≡ done_step files kept u (done files kept))
+    module _ (project : (es : List Entry) → IsProject (replay es)) (law : (files : List Read) (cached : List Input) (u : List ℕ) → IsProject files → done files cached u ≡ done_step files cached u (done files cached))
         (heights : (files : List Read) → IsProject files → (height : List ℕ → ℕ) × ((u v : List ℕ) → is_among (rest_units files u) v ≡ true → height v < height u)) where
       finished : (s : State) (i : Input) → AreSpelled (files_of s) → IsChecked i → pending_answer (after s (Event.Finish i)) + (if is_acceptance (answer s (Event.Finish i)) then 1 else 0) ≤ pending_answer s
       finished s i spelled is = by (finish_answer s i) refl where
         files : List Read
         files = files_of s
 
-        by : (v : Verdict) → finish_answer s i ≡ v → length (pending_units files (kept_after v s.kept i)) + (if is_acceptance (Answer.Judged v) then 1 else 0) ≤ length (pending_units files s.kept)
+        by : (v : Verdict) → finish_answer s i ≡ v → length (pending_units files (cached_after v s.cached i)) + (if is_acceptance (Answer.Judged v) then 1 else 0) ≤ length (pending_units files s.cached)
         by verdict.Accepted e =
-            let fit = fits files (length s.journal) s.kept i spelled is e in
+            let fit = fits files (length s.journal) s.cached i spelled is e in
             let high = heights files (project s.journal) in
-            let less = fewer_pending files (λ ks v. law files ks v (project s.journal)) high.0 high.1 s.kept i fit.now fit.job.unit fit.job.opened fit.job.rested fit.other in
+            let less = fewer_pending files (λ ks v. law files ks v (project s.journal)) high.0 high.1 s.cached i fit.now fit.job.unit fit.job.opened fit.job.rested fit.other in
             omega (arith, less)
         by verdict.Repeated e = omega arith
         by (verdict.Stale name) e = omega arith

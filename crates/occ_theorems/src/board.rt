@@ -4,7 +4,7 @@ ghost use Rattle.occ_board.specs.Machine.{Answer, Event, State, after, answer, f
 ghost use Rattle.occ_board.specs.declared.entry.Edit.TheVariants as an_edit;
 ghost use Rattle.occ_board.specs.declared.entry.EditFault.TheVariants as fault;
 ghost use Rattle.occ_board.specs.declared.verdict.Verdict.TheVariants as verdicts;
-ghost use Rattle.occ_report.specs.Checks.{input};
+ghost use Rattle.occ_check.specs.Checks.{input};
 ghost use Rattle.occ_theorems.specs.Edits.{LeavesApart};
 ghost use Rattle.occ_theorems.specs.Reports.{IsRight};
 ghost use Rattle.std.specs.Option.{is_some};
@@ -63,7 +63,7 @@ pub fn change_theorem(
 pub fn take_theorem(alloc: Global, board: &mut Board) -> Result<Option<Job>, AllocError>
     ensures answered { IfOk result (λ job. Answer.Job job ≡ answer board.old Event.Take) }
     ensures after { OnOk result (board.new ≡ after board.old Event.Take) }
-    ensures given { IfOk result (λ job. 0 < pending_answer board.old → NoneIsHanded (files_of board.old) board.old.kept board.old.handed → is_some job ≡ true) }
+    ensures given { IfOk result (λ job. 0 < pending_answer board.old → NoneIsHanded (files_of board.old) board.old.cached board.old.handed → is_some job ≡ true) }
     ensures err { OnErr result (board.new ≡ board.old) }
 {
     board.take(alloc)

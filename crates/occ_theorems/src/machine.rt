@@ -6,19 +6,20 @@ ghost use Rattle.occ_board.specs.Machine.{Event, IsWork, State, accepted_number,
 ghost use Rattle.occ_board.specs.Same.{same_input, same_used};
 ghost use Rattle.occ_board.specs.declared.entry.Edit.{Edit as AnEdit};
 ghost use Rattle.occ_board.specs.declared.verdict.Verdict.TheVariants as verdict;
-ghost use Rattle.occ_commands.specs.Says.{ScriptSays};
-ghost use Rattle.occ_commands.specs.Script.{Script, script_of};
-ghost use Rattle.occ_report.specs.Checks.{input};
-ghost use Rattle.occ_report.specs.Inputs.{Input, UsedUnit};
-ghost use Rattle.occ_script.specs.Settling.{Settles, settled};
-ghost use Rattle.occ_units.specs.Spelled.{AreSpelled};
+ghost use Rattle.occheck_commands.specs.Says.{ScriptSays};
+ghost use Rattle.occheck_commands.specs.Script.{Script, script_of};
+ghost use Rattle.occ_check.specs.Checks.{input};
+ghost use Rattle.occ_check.specs.Input.{Input};
+ghost use Rattle.occ_check.specs.declared.used.UsedUnit.{UsedUnit};
+ghost use Rattle.occheck_script.specs.Settling.{Settles, settled};
+ghost use Rattle.occ_project_units.specs.Spelled.{AreSpelled};
 ghost use Rattle.std.specs.List.{AllByRecursion};
 ghost use Rattle.std.specs.Prelude.{List, [], true, ℕ, ◌+◌, ◌<◌, ◌↔◌, ◌≡◌, ◌≤◌};
 
 use occ_board::laws::{done_law, height_law, ready_law, taking_law};
-use occ_report::Checked;
+use occ_check::Checked;
+use occ_project_units::laws::{along_law, circle_law, put_law, reads_law};
 use occ_server::laws::source_law;
-use occ_units::laws::{along_law, circle_law, put_law, reads_law};
 
 /// The bytes of a script say the commands and the fault that are found in them, and nothing else.
 /// So no script can be read in two ways.
@@ -71,7 +72,7 @@ pub fn settling_law()
 /// A file concerns a unit that reads it or reaches a unit that does. So other units are not checked again.
 pub fn edit_apart_law()
     ensures input { (s : State) (session : ℕ) (e : AnEdit) (u : List ℕ) → IsApart (files_of s) (edited 0 e).name u → input (files_of (after s (Event.Edited session e))) u ≡ input (files_of s) u }
-    ensures done { (s : State) (session : ℕ) (e : AnEdit) (u : List ℕ) → IsApart (files_of s) (edited 0 e).name u → done (files_of (after s (Event.Edited session e))) s.kept u ≡ done (files_of s) s.kept u }
+    ensures done { (s : State) (session : ℕ) (e : AnEdit) (u : List ℕ) → IsApart (files_of s) (edited 0 e).name u → done (files_of (after s (Event.Edited session e))) s.cached u ≡ done (files_of s) s.cached u }
 {
     put_law();
     reads_law();

@@ -1,10 +1,10 @@
 //! Laws of parts of variables and channels: which of them share an element.
-ghost use Rattle.occ_parts.specs.Keeping.{IsUnion, behind as joined_behind};
-ghost use Rattle.occ_parts.specs.Parts.{Meet as MeetElements, all_sure, are_apart, has_empty, overlap_of};
-ghost use Rattle.occ_parts.specs.Places.{Meet, common, holds, meet, moved, united};
-ghost use Rattle.occ_parts.specs.Selecting.{inside, unsure};
-ghost use Rattle.occ_parts.specs.declared.part.Overlap.TheVariants as o;
-ghost use Rattle.occ_parts.specs.declared.part.Part.{Part as APart};
+ghost use Rattle.occ_usage_parts.specs.Keeping.{IsUnion, following as spec_after};
+ghost use Rattle.occ_usage_parts.specs.Parts.{Meet as MeetElements, all_sure, are_apart, has_empty, overlap_of};
+ghost use Rattle.occ_usage_parts.specs.Places.{Meet, common, holds, meet, moved, united};
+ghost use Rattle.occ_usage_parts.specs.Selecting.{inside, unsure};
+ghost use Rattle.occ_usage_parts.specs.declared.part.Overlap.TheVariants as o;
+ghost use Rattle.occ_usage_parts.specs.declared.part.Part.{Part as APart};
 ghost use Rattle.occ_types.specs.declared.interface.Interval.{Interval as AnInterval};
 ghost use Rattle.occ_types.specs.declared.interface.PartSelector.{PartSelector as ASelector};
 ghost use Rattle.occ_types.specs.declared.interface.Places.{Places as ThePlaces};
@@ -23,7 +23,7 @@ pub fn overlap_law()
 
 /// Each set of indices is written in one way, and common, joined and moved sets hold exactly the indices that they should.
 /// So two sets meet exactly if some index is in both.
-#[tactic(auto, using(occ_parts::proofs::Sets::common_holds, crate::proofs::Sets::one_writing, occ_parts::proofs::Sets::united_holds, occ_parts::proofs::Sets::meet_exactly, crate::proofs::Sets::moved_holds))]
+#[tactic(auto, using(occ_usage_parts::proofs::Sets::common_holds, crate::proofs::Sets::one_writing, occ_usage_parts::proofs::Sets::united_holds, occ_usage_parts::proofs::Sets::meet_exactly, crate::proofs::Sets::moved_holds))]
 pub fn interval_law()
     ensures one_writing { (p q : ThePlaces) → ((x : ℤ) → holds p x ≡ holds q x) → p ≡ q }
     ensures common { (p q : ThePlaces) (x : ℤ) → holds (common p q) x ≡ (holds p x && holds q x) }
@@ -42,7 +42,7 @@ pub fn segment_law()
 
 /// A part that joins two meets a part exactly if one of the two does.
 /// So parts of earlier components may be joined, and the answer stays.
-#[tactic(auto, using(occ_parts::proofs::Joining::union_apart))]
+#[tactic(auto, using(occ_usage_parts::proofs::Joining::union_apart))]
 pub fn joined_law()
-    ensures { (front : List ASelector) (i j k : AnInterval) → IsUnion i.places j.places k.places → (q : List ASelector) → are_apart (joined_behind front k) q ≡ (are_apart (joined_behind front i) q && are_apart (joined_behind front j) q) }
+    ensures { (front : List ASelector) (i j k : AnInterval) → IsUnion i.places j.places k.places → (q : List ASelector) → are_apart (spec_after front k) q ≡ (are_apart (spec_after front i) q && are_apart (spec_after front j) q) }
 {}

@@ -5,19 +5,19 @@ ghost use Rattle.occ_base.specs.declared.diag.Diag.{Diag};
 ghost use Rattle.occ_check.specs.Diagnostics.{diags_of, interface_of, unit_faults};
 ghost use Rattle.occ_check.specs.Order.{in_order};
 ghost use Rattle.occ_project.specs.Uses.{names_in_order};
-ghost use Rattle.occ_graph.specs.Along.{done, done_step};
-ghost use Rattle.occ_graph.specs.Graph.{Graph};
+ghost use Rattle.occ_project_graph.specs.Along.{done, done_step};
+ghost use Rattle.occ_project_graph.specs.Graph.{Graph};
 ghost use Rattle.occ_project.specs.Reads.{name_cmp};
 ghost use Rattle.occ_project.specs.declared.reads.Read.{Read};
-ghost use Rattle.occ_report.specs.Checks.{diags, input, interface};
-ghost use Rattle.occ_report.specs.Report.{Tells};
-ghost use Rattle.occ_units.specs.Project.{IsProject};
-ghost use Rattle.occ_units.specs.Units.{IsCircular};
+ghost use Rattle.occ_check.specs.Checks.{diags, input, interface};
+ghost use Rattle.occ_check.specs.Report.{AreReporting};
+ghost use Rattle.occ_project_units.specs.Project.{IsProject};
+ghost use Rattle.occ_project_units.specs.Units.{IsCircular};
 ghost use Rattle.std.specs.List.Sorted.{IsStrictlySortedBy};
 ghost use Rattle.std.specs.Prelude.{Bool, List, [], true, ℕ, ◌≡◌};
 
-use occ_report::laws;
-use occ_units::laws::{circle_law, reads_law};
+use occ_check::laws;
+use occ_project_units::laws::{circle_law, reads_law};
 
 /// Of a project, whose files stand in order and once each, the rules give for a unit what they give for the input of its check.
 /// So units are checked apart from each other, in any order and by any worker.
@@ -31,8 +31,8 @@ pub fn input_law()
 /// A unit that uses another in a circle has a G2 with its name; beside faults of files, lines or uses each G2 names such a unit.
 /// So a circle of `#USE` is never passed over, and beside such faults none is made up.
 pub fn circular_use_law()
-    ensures named { (files : List Read) (u v : List ℕ) → IsProject files → IsCircular files u v → Tells (diags files u) G2 v }
-    ensures only { (files : List Read) (u v : List ℕ) → IsProject files → (unit_faults (input files u) ≡ [] → ⊥) → Tells (diags files u) G2 v → IsCircular files u v }
+    ensures named { (files : List Read) (u v : List ℕ) → IsProject files → IsCircular files u v → AreReporting (diags files u) G2 v }
+    ensures only { (files : List Read) (u v : List ℕ) → IsProject files → (unit_faults (input files u) ≡ [] → ⊥) → AreReporting (diags files u) G2 v → IsCircular files u v }
 {
     circle_law();
     reads_law();

@@ -1,19 +1,19 @@
 //! Laws of names and types: what is in scope, what is reported of a line, what a typed tree has.
 ghost use Rattle.occ_base.specs.declared.diag.Diag.{Diag as ADiag};
-ghost use Rattle.occ_bounds.specs.Bounds.{Env as AnEnv};
-ghost use Rattle.occ_interfaces.specs.Exports.{interface_in};
-ghost use Rattle.occ_names.specs.Visible.{nothing};
+ghost use Rattle.occ_usage_values.specs.Bounds.{Env as AnEnv};
+ghost use Rattle.occ_check.specs.Exports.{interface_in};
+ghost use Rattle.occ_scope.specs.Visible.{nothing};
 ghost use Rattle.occ_protocol.specs.Carrying.{Carrier};
 ghost use Rattle.occ_protocol.specs.Lines.{exchanged};
 ghost use Rattle.occ_protocol.specs.Matching.{has_fault};
-ghost use Rattle.occ_protocol.specs.Messages.{IsMessage, IsTold as IsSoundCarrier};
+ghost use Rattle.occ_protocol.specs.Messages.{IsMessage, IsReported as IsSoundCarrier};
 ghost use Rattle.occ_protocol.specs.declared.given.Given.{Given as AGiven};
 ghost use Rattle.occ_scope.specs.Nearest.{IsNearest, nearest};
 ghost use Rattle.occ_tree.specs.Forest.{Forest};
 ghost use Rattle.occ_tree.specs.Obeys.{Obeys};
-ghost use Rattle.occ_typed_lines.specs.Lines.{body_of};
-ghost use Rattle.occ_typed_lines.specs.declared.parent.Role.TheVariants as role;
-ghost use Rattle.occ_typed_lines.specs.declared.using.Import.{Import as AnImport};
+ghost use Rattle.occ_typing_lines.specs.Lines.{body_of};
+ghost use Rattle.occ_typing_lines.specs.declared.parent.Role.TheVariants as role;
+ghost use Rattle.occ_typing_lines.specs.declared.using.Import.{Import as AnImport};
 ghost use Rattle.occ_types.specs.Constant.{IsCongruent, is_in_range, settled_wrapped, value_of, wrapped};
 ghost use Rattle.occ_types.specs.Interface.{IsEquivalence, IsSameInterface};
 ghost use Rattle.occ_types.specs.Measure.{above, all_of, beside, field_measures, held, item_measure, item_measures, measure_of, one, protocol_measure, tag_measures};
@@ -29,7 +29,7 @@ ghost use Rattle.occ_types.specs.declared.types.Protocol.{Protocol as AProtocol}
 ghost use Rattle.occ_types.specs.declared.types.Tag.{Tag as ATag};
 ghost use Rattle.occ_types.specs.declared.value.Primitive.{Primitive as APrimitive};
 ghost use Rattle.occ_typing.specs.Known.{IsKnownScope};
-ghost use Rattle.occ_typing.specs.Places.{At, IsAmong, IsTold, Stands};
+ghost use Rattle.occ_typing.specs.Places.{At, IsAmong, IsReported, Stands};
 ghost use Rattle.occ_typing.specs.Rounds.{IsRound};
 ghost use Rattle.occ_typing.specs.Typed.{IsTypedTree};
 ghost use Rattle.occ_typing.specs.Units.{type_faults};
@@ -55,7 +55,7 @@ pub fn type_scope_law()
 /// A diagnostic of types is one of the unit exactly if it is reported of one of its lines, by what is in scope there.
 /// So no line is left out, and none answers for another.
 pub fn type_report_law()
-    ensures { (is : List AnImport) → (f : Forest) → (d : ADiag) → IsAmong d (type_faults is f) ↔ IsTold is f d }
+    ensures { (is : List AnImport) → (f : Forest) → (d : ADiag) → IsAmong d (type_faults is f) ↔ IsReported is f d }
 {}
 
 /// Where trees obey the table, imports are known and no diagnostic of types is reported, all of the typed tree is known.

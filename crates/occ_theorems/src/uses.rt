@@ -1,31 +1,31 @@
 //! Laws of uses: the parallel rule, the abbreviation rule, and the uses that they judge.
 ghost use Rattle.occ_alias.specs.AbbreviationRule.{evaluated_faults};
-ghost use Rattle.occ_alias.specs.Telling.{IsToldOf};
+ghost use Rattle.occ_alias.specs.Reporting.{IsReportedOf};
 ghost use Rattle.occ_base.specs.declared.diag.Diag.{Diag as ADiag};
-ghost use Rattle.occ_bounds.specs.Bounds.{Env};
-ghost use Rattle.occ_bounds.specs.Making.{CallUses};
-ghost use Rattle.occ_bounds.specs.Views.{ActualView, call_uses, element_view, expr_view};
-ghost use Rattle.occ_bounds.specs.declared.bound.Bound.{Bound as ABound};
-ghost use Rattle.occ_bounds.specs.declared.call.Call.{Call as ACall};
-ghost use Rattle.occ_bounds.specs.declared.uses.Use.{Use as AUse};
-ghost use Rattle.occ_clashes.specs.Distinct.{distinct, same_use};
-ghost use Rattle.occ_clashes.specs.ParallelRule.{IsTold, StandsIn, component_faults, target_faults};
-ghost use Rattle.occ_clashes.specs.declared.rule.Least.TheVariants as least;
-ghost use Rattle.occ_clashes.specs.declared.rule.Rule.TheVariants as rules;
-ghost use Rattle.occ_clashes.specs.declared.rule.Rule.{Rule as ARule};
-ghost use Rattle.occ_operands.specs.declared.kind.Known.{Known as AKnown};
-ghost use Rattle.occ_parts.specs.Selecting.{part_of};
-ghost use Rattle.occ_parts.specs.declared.place.SelectedPart.{SelectedPart as APlace};
+ghost use Rattle.occ_usage_values.specs.Bounds.{Env};
+ghost use Rattle.occ_usage_values.specs.Making.{CallUses};
+ghost use Rattle.occ_usage_values.specs.Views.{ActualView, call_uses, element_view, expr_view};
+ghost use Rattle.occ_usage_values.specs.declared.bound.Bound.{Bound as ABound};
+ghost use Rattle.occ_usage_values.specs.declared.call.Call.{Call as ACall};
+ghost use Rattle.occ_usage_values.specs.declared.uses.Use.{Use as AUse};
+ghost use Rattle.occ_usage_conflicts.specs.Distinct.{distinct, same_use};
+ghost use Rattle.occ_usage_conflicts.specs.ParallelRule.{IsReported, StandsIn, component_faults, target_faults};
+ghost use Rattle.occ_usage_conflicts.specs.declared.rule.Least.TheVariants as least;
+ghost use Rattle.occ_usage_conflicts.specs.declared.rule.Rule.TheVariants as rules;
+ghost use Rattle.occ_usage_conflicts.specs.declared.rule.Rule.{Rule as ARule};
+ghost use Rattle.occ_typing_operands.specs.declared.kind.Known.{Known as AKnown};
+ghost use Rattle.occ_usage_parts.specs.Selecting.{part_of};
+ghost use Rattle.occ_usage_parts.specs.declared.place.SelectedPart.{SelectedPart as APlace};
 ghost use Rattle.occ_project.specs.declared.expanded.Location.{Location as ALine};
-ghost use Rattle.occ_typed.specs.declared.expr.TypedElement.{TypedElement as AnElement};
-ghost use Rattle.occ_typed.specs.declared.expr.TypedExpr.TheVariants as e;
-ghost use Rattle.occ_typed.specs.declared.expr.TypedExpr.{TypedExpr as AnExpr};
+ghost use Rattle.occ_typing_rules.specs.declared.expr.TypedElement.{TypedElement as AnElement};
+ghost use Rattle.occ_typing_rules.specs.declared.expr.TypedExpr.TheVariants as e;
+ghost use Rattle.occ_typing_rules.specs.declared.expr.TypedExpr.{TypedExpr as AnExpr};
 ghost use Rattle.occ_types.specs.declared.interface.UseKind.TheVariants as kind;
 ghost use Rattle.occ_typing.specs.declared.tree.TypedLine.{TypedLine as ATypedLine};
 ghost use Rattle.occ_usage.specs.Anew.{AllBroughtIn};
-ghost use Rattle.occ_usage.specs.Standing.{IsToldIn, Stands};
+ghost use Rattle.occ_usage.specs.Standing.{IsReportedIn, Stands};
 ghost use Rattle.occ_usage.specs.Trees.{trees_of};
-ghost use Rattle.occ_usage.specs.Walk.{At, Rule, unit_told};
+ghost use Rattle.occ_usage.specs.Walk.{At, Rule, unit_reported};
 ghost use Rattle.std.specs.List.{Contains};
 ghost use Rattle.std.specs.Prelude.{List, None, Some, [], false, slice_get, true, ℕ, ◌++◌, ◌↔◌, ◌∷◌, ◌≡◌};
 
@@ -38,20 +38,20 @@ pub fn use_scope_law()
 /// A rule of uses reports a diagnostic of a unit exactly if it reports it of some line, by what is in scope there.
 /// Each choice of the known indices round the line counts. So no line is left out, and none answers for another.
 pub fn use_report_law()
-    ensures { (rule : Rule) (lines : List ATypedLine) (d : ADiag) → Contains (unit_told rule lines) d ↔ IsToldIn rule (trees_of lines) [] [] d }
+    ensures { (rule : Rule) (lines : List ATypedLine) (d : ADiag) → Contains (unit_reported rule lines) d ↔ IsReportedIn rule (trees_of lines) [] [] d }
 {}
 
 /// A fault is reported of a PAR exactly if two components use parts that are not apart, in kinds that a rule forbids.
 /// So the parallel rule is what a programmer knows. Of an assignment the rule of writes alone reports, where parts surely meet.
 pub fn parallel_law()
-    ensures reported { (line : ALine) (env : List ABound) (components : List (List AUse)) (d : ADiag) → Contains (component_faults line env components) d ↔ ((r : ARule) × IsTold r least.May line env components d) }
-    ensures targets { (line : ALine) (env : List ABound) (components : List (List AUse)) (d : ADiag) → Contains (target_faults line env components) d ↔ IsTold rules.Written least.Must line env components d }
+    ensures reported { (line : ALine) (env : List ABound) (components : List (List AUse)) (d : ADiag) → Contains (component_faults line env components) d ↔ ((r : ARule) × IsReported r least.May line env components d) }
+    ensures targets { (line : ALine) (env : List ABound) (components : List (List AUse)) (d : ADiag) → Contains (target_faults line env components) d ↔ IsReported rules.Written least.Must line env components d }
 {}
 
 /// A diagnostic is reported of a line exactly if it is one of a use and an abbreviation in scope, or one of a call.
 /// So the abbreviation rule is read use by use and call by call.
 pub fn abbreviation_law()
-    ensures { (line : ALine) (env : Env) (us : List AUse) (cs : List ACall) (d : ADiag) → Contains (evaluated_faults line env us cs) d ↔ IsToldOf line env us cs d }
+    ensures { (line : ALine) (env : Env) (us : List AUse) (cs : List ACall) (d : ADiag) → Contains (evaluated_faults line env us cs) d ↔ IsReportedOf line env us cs d }
 {}
 
 /// A call uses exactly what is evaluated for its actuals, and what it makes by one of the uses of its body.
@@ -62,7 +62,7 @@ pub fn call_law()
 
 /// An element that is evaluated is read, after its subscripts and bounds.
 /// Where it stands for nothing that is used, these alone are read. Nothing under SIZE is used or called.
-#[tactic(auto, using(occ_bounds::proofs::Views::expr_uses_rules, occ_bounds::proofs::Views::expr_calls_rules, occ_bounds::proofs::Views::expr_effect_rules))]
+#[tactic(auto, using(occ_usage_values::proofs::Views::expr_uses_rules, occ_usage_values::proofs::Views::expr_calls_rules, occ_usage_values::proofs::Views::expr_effect_rules))]
 pub fn element_read_law()
     ensures used { (el : AnElement) (env : Env) (line : ALine) (p : APlace) → (element_view el).place env ≡ Some p → (expr_view (e.Element el)).uses env line ≡ (element_view el).uses env line ++ (record { part = part_of p; kind = kind.Read; line = line; chain = p.chain }) ∷ [] }
     ensures not_used { (el : AnElement) (env : Env) (line : ALine) → (element_view el).place env ≡ None → (expr_view (e.Element el)).uses env line ≡ (element_view el).uses env line }
@@ -73,7 +73,7 @@ pub fn element_read_law()
 
 /// Among uses that are listed once are those that were listed, and none is there twice.
 /// So a list of uses can be made shorter, and none is lost.
-#[tactic(auto, using(occ_clashes::proofs::Equality::same_exactly, crate::proofs::Once::once_law))]
+#[tactic(auto, using(occ_usage_conflicts::proofs::Equality::same_exactly, crate::proofs::Once::once_law))]
 pub fn distinct_law()
     ensures same { (u v : AUse) → (same_use u v ≡ true) ↔ (u ≡ v) }
     ensures among { (us : List AUse) (u : AUse) → StandsIn u (distinct us) ↔ StandsIn u us }

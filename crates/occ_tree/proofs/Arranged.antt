@@ -10,7 +10,7 @@ use Rattle.occ_tree.specs.Siblings.{begins_specification, ends_specified, first_
 use Rattle.occ_tree.specs.Table.{is_close, is_head, is_main, is_process, is_result, is_single, is_value, lets_line, may_stand, needs_main, takes_specifications}
 use Rattle.occ_tree.proofs.Exclusive.{close_is, close_main, head_line, head_main, head_process, head_result, line_head, line_main, line_process, line_result, list_file, main_head, main_line, process_result, result_is, result_process, single_file, value_file, value_main}
 
--- none of them is misplaced, behind those
+-- none of them is misplaced, after those
 abbrev pub AllPlaced : Row → List Sort → List Sort → Type 0
 AllPlaced r es [] = Unit {0}
 AllPlaced r es (s ∷ ss) = (is_misplaced r es s (first_is is_close ss) ≡ false) × AllPlaced r (s ∷ es) ss
@@ -92,7 +92,7 @@ parse r es (s ∷ c ∷ ss) b h = elim (cases_Bool (is_main r s)) [
   ]
 ]
 
--- what stands before, the nearest first, behind the specifications
+-- what stands before, the nearest first, after the specifications
 abbrev pub after : List Opening → List Sort → List Sort
 after [] es = es
 after (OneLine s ∷ os) es = after os (s ∷ es)
@@ -181,7 +181,7 @@ begins_head r s ss h k = rw (head_line r s k) (rw h (rw k refl))
 pub begins_main : (r : Row) (s : Sort) (ss : List Sort) → is_main r s ≡ true → begins_specification r s ss ≡ false
 begins_main r s ss h = rw (main_line r s h) (rw (main_head r s h) (and_false (takes_specifications r)))
 
--- behind specifications that a main line stands behind
+-- after specifications that a main line stands after
 ends_openings : (r : Row) (os : List Opening) (k : List Sort) → AreOpenings r os → list_any (is_main r) k ≡ true
     → ends_specified r (openings_sorts os k) ≡ ends_specified r k
 ends_openings r [] k h m = refl
@@ -191,7 +191,7 @@ ends_openings r (Headed s ∷ os) k h m =
     let main : list_any (is_main r) (openings_sorts os k) ≡ true = any_openings r (is_main r) os k (quiet_main r) h.1 ∙ m in
     before_main r s (sort.Close ∷ openings_sorts os k) (rw (close_main r) main) ∙ before_main r sort.Close (openings_sorts os k) main ∙ ends_openings r os k h.1 m
 
--- behind items
+-- after items
 pub ends_items : (r : Row) (is : List Item) (k : List Sort) → AreItems r is → ends_specified r (items_sorts is k) ≡ ends_specified r k
 ends_items r [] k h = refl
 ends_items r (i ∷ is) k h =
@@ -210,7 +210,7 @@ ends_none : (r : Row) (os : List Opening) → AreOpenings r os → ends_specifie
 ends_none r [] h e = refl
 ends_none r (o ∷ os) h e = absurd (true≢false (sym (ends_last r o os h) ∙ e))
 
--- behind those no main line of the items is one too many, and none is out of order
+-- after those no main line of the items is one too many, and none is out of order
 abbrev pub AreOrdered : Row → List Sort → List Item → Type 0
 AreOrdered r es [] = Unit {0}
 AreOrdered r es (i ∷ is) =

@@ -19,16 +19,16 @@ abbrev pub NoneWrong : List Outline → List ExpandedLine → Type 0
 NoneWrong before [] = Unit {0}
 NoneWrong before (l ∷ ls) = (is_wrong before (outline l) (outlines ls) ≡ false) × NoneWrong (outline l ∷ before) ls
 
-one_told : (v w : Bool) (l : ExpandedLine) (ds : List Diag) → (error_if v l.file l.line code.S2 ++ error_if w l.file l.line code.S4) ++ ds ≡ []
+one_reported : (v w : Bool) (l : ExpandedLine) (ds : List Diag) → (error_if v l.file l.line code.S2 ++ error_if w l.file l.line code.S4) ++ ds ≡ []
     → (v ≡ false) × (w ≡ false) × (ds ≡ [])
-one_told true w l ds e = absurd cc
-one_told false true l ds e = absurd cc
-one_told false false l ds e = (refl, refl, e)
+one_reported true w l ds e = absurd cc
+one_reported false true l ds e = absurd cc
+one_reported false false l ds e = (refl, refl, e)
 
 none_wrong_from : (before : List Outline) (ls : List ExpandedLine) → faults_at ls (wrong_from before (outlines ls)) ≡ [] → NoneWrong before ls × AreShallow ls
 none_wrong_from before [] e = (tt, tt)
 none_wrong_from before (l ∷ ls) e =
-    let here = one_told (is_wrong before (outline l) (outlines ls)) (ltb 64 l.depth) l (faults_at ls (wrong_from (outline l ∷ before) (outlines ls))) e in
+    let here = one_reported (is_wrong before (outline l) (outlines ls)) (ltb 64 l.depth) l (faults_at ls (wrong_from (outline l ∷ before) (outlines ls))) e in
     let rest = none_wrong_from (outline l ∷ before) ls here.2 in
     ((here.0, rest.0), (ltb-false 64 l.depth here.1, rest.1))
 

@@ -1,4 +1,4 @@
--- What the lines before and behind a line of trees say of it is what the trees say.
+-- What the lines before and after a line of trees say of it is what the trees say.
 use Rattle.std.proofs.Common.{◌≡◌, ◌∙◌, ◌≤◌, ◌<◌, ◌+◌, ◌||◌, ◌++◌, not, ℕ, Bool, true, false, ltb, List, [], ◌∷◌, Option, None, Some, refl, sym, ap, subst, arith, append_assoc}
 use Rattle.std.proofs.lemmas.Bool.{eqb-true, eq-eqb, le-ltb, lt-ltb, true≢false}
 use Rattle.occ_project.specs.declared.expanded.ExpandedLine.{ExpandedLine}
@@ -6,7 +6,7 @@ use Rattle.occ_tree.specs.declared.outline.Outline.{Outline}
 use Rattle.occ_tree.specs.declared.row.Row.{Row}
 use Rattle.occ_tree.specs.declared.sort.Sort.{Sort}
 use Rattle.occ_tree.specs.Forest.{Forest, Empty, Tree, listing}
-use Rattle.occ_tree.specs.Nesting.{behind_deeper, elders, can_hold, is_right_under, parent_depth, roots, row_at, sorts, first_deeper}
+use Rattle.occ_tree.specs.Nesting.{after_deeper, elders, can_hold, is_right_under, parent_depth, roots, row_at, sorts, first_deeper}
 use Rattle.occ_tree.specs.Obeys.{HasDepths, root_sorts, sort_of}
 use Rattle.occ_tree.specs.Siblings.{first_is, is_misplaced, lacks}
 use Rattle.occ_tree.specs.Sorts.{outline, outlines}
@@ -21,9 +21,9 @@ abbrev pub onto : Forest → List Outline → List Outline
 onto Empty before = before
 onto (Tree l u b) before = onto b (onto u (outline l ∷ before))
 
--- a line of depth d has the same parent and elders behind either
+-- a line of depth d has the same parent and elders after either
 abbrev Same : ℕ → List Outline → List Outline → Type 0
-Same d before behind = (parent_depth behind d ≡ parent_depth before d) × (row_at behind d ≡ row_at before d) × (elders behind d ≡ elders before d)
+Same d before following = (parent_depth following d ≡ parent_depth before d) × (row_at following d ≡ row_at before d) × (elders following d ≡ elders before d)
 
 same_more : (d : ℕ) (a b c : List Outline) → Same d a b → Same d b c → Same d a c
 same_more d a b c h k = (k.0 ∙ h.0, k.1 ∙ h.1, k.2 ∙ h.2)
@@ -55,12 +55,12 @@ right_can_hold : (p : Option ℕ) (d : ℕ) → is_right_under p d ≡ true → 
 right_can_hold None d h = refl
 right_can_hold (Some q) d h = lt-ltb q d (omega (arith, eqb-true d (q + 1) h))
 
--- behind a line and those under it: the line is the nearest elder
-pub behind_tree : (l : ExpandedLine) (u : Forest) (before : List Outline) → HasDepths (l.depth + 1) u → is_right_under (parent_depth before l.depth) l.depth ≡ true
+-- after a line and those under it: the line is the nearest elder
+pub after_tree : (l : ExpandedLine) (u : Forest) (before : List Outline) → HasDepths (l.depth + 1) u → is_right_under (parent_depth before l.depth) l.depth ≡ true
     → (parent_depth (onto u (outline l ∷ before)) l.depth ≡ parent_depth before l.depth)
     × (row_at (onto u (outline l ∷ before)) l.depth ≡ row_at before l.depth)
     × (elders (onto u (outline l ∷ before)) l.depth ≡ sort_of l ∷ elders before l.depth)
-behind_tree l u before h k =
+after_tree l u before h k =
     let kid = outline l ∷ before in
     let no : ltb l.depth l.depth ≡ false = le-ltb l.depth l.depth (omega arith) in
     let kid_can_hold : can_hold (parent_depth kid (l.depth + 1)) l.depth ≡ false
@@ -72,18 +72,18 @@ abbrev root_outlines : Forest → List Outline
 root_outlines Empty = []
 root_outlines (Tree l u b) = outline l ∷ root_outlines b
 
-behind_deeper_trees : (d : ℕ) (f : Forest) (zs : List Outline) → HasDepths (d + 1) f → behind_deeper d (root_outlines f ++ zs) ≡ behind_deeper d zs
-behind_deeper_trees d Empty zs h = refl
-behind_deeper_trees d (Tree l u b) zs h = rw (lt-ltb d l.depth (omega (arith, h.0))) (behind_deeper_trees d b zs h.2)
+after_deeper_trees : (d : ℕ) (f : Forest) (zs : List Outline) → HasDepths (d + 1) f → after_deeper d (root_outlines f ++ zs) ≡ after_deeper d zs
+after_deeper_trees d Empty zs h = refl
+after_deeper_trees d (Tree l u b) zs h = rw (lt-ltb d l.depth (omega (arith, h.0))) (after_deeper_trees d b zs h.2)
 
 first_deeper_trees : (d : ℕ) (f : Forest) (zs : List Outline) → HasDepths (d + 1) f → first_deeper d (root_outlines f ++ zs) ≡ root_outlines f ++ first_deeper d zs
 first_deeper_trees d Empty zs h = refl
 first_deeper_trees d (Tree l u b) zs h =
     rw (lt-ltb d l.depth (omega (arith, h.0))) (ap (λ (x : List Outline). outline l ∷ x) (first_deeper_trees d b zs h.2))
 
-behind_deeper_above : (d : ℕ) (ls : List ExpandedLine) → IsAbove (d + 1) ls → behind_deeper d (roots (outlines ls)) ≡ roots (outlines ls)
-behind_deeper_above d [] a = refl
-behind_deeper_above d (l ∷ ls) a = rw (le-ltb d l.depth (omega (arith, a))) refl
+after_deeper_above : (d : ℕ) (ls : List ExpandedLine) → IsAbove (d + 1) ls → after_deeper d (roots (outlines ls)) ≡ roots (outlines ls)
+after_deeper_above d [] a = refl
+after_deeper_above d (l ∷ ls) a = rw (le-ltb d l.depth (omega (arith, a))) refl
 
 first_deeper_above : (d : ℕ) (ls : List ExpandedLine) → IsAbove (d + 1) ls → first_deeper d (roots (outlines ls)) ≡ []
 first_deeper_above d [] a = refl
@@ -96,9 +96,9 @@ mutual_roots (Tree l u b) d ys h a =
     let above : IsAbove (d + 1) rest = above_more d b ys h.2 a in
     let split : roots (outlines ((listing u ++ listing b) ++ ys)) ≡ root_outlines u ++ roots (outlines rest)
     = ap (λ (x : List ExpandedLine). roots (outlines x)) (append_assoc (listing u) (listing b) ys) ∙ mutual_roots u (d + 1) rest h.1 above in
-    let past : behind_deeper d (roots (outlines ((listing u ++ listing b) ++ ys))) ≡ root_outlines b ++ roots (outlines ys)
-    = ap (behind_deeper d) split ∙ behind_deeper_trees d u (roots (outlines rest)) h.1 ∙ behind_deeper_above d rest above ∙ mutual_roots b d ys h.2 a in
-    ap (λ (x : List Outline). outline l ∷ x) (ap (λ (n : ℕ). behind_deeper n (roots (outlines ((listing u ++ listing b) ++ ys)))) h.0 ∙ past)
+    let past : after_deeper d (roots (outlines ((listing u ++ listing b) ++ ys))) ≡ root_outlines b ++ roots (outlines ys)
+    = ap (after_deeper d) split ∙ after_deeper_trees d u (roots (outlines rest)) h.1 ∙ after_deeper_above d rest above ∙ mutual_roots b d ys h.2 a in
+    ap (λ (x : List Outline). outline l ∷ x) (ap (λ (n : ℕ). after_deeper n (roots (outlines ((listing u ++ listing b) ++ ys)))) h.0 ∙ past)
 
 sorts_roots : (f : Forest) → sorts (root_outlines f) ≡ root_sorts f
 sorts_roots Empty = refl
@@ -118,21 +118,21 @@ close_trees : (p : Option ℕ) (d : ℕ) (b : Forest) (ys : List ExpandedLine) �
 close_trees p d Empty ys k h a = close_above p d ys k a
 close_trees p d (Tree l u b) ys k h a = rw (ap (can_hold p) h.0 ∙ right_can_hold p d k) refl
 
--- whether the line is wrong, told by the trees
-pub told_by_trees : (before : List Outline) (l : ExpandedLine) (u b : Forest) (ys : List ExpandedLine) → is_right_under (parent_depth before l.depth) l.depth ≡ true
+-- whether the line is wrong, reported by the trees
+pub reported_by_trees : (before : List Outline) (l : ExpandedLine) (u b : Forest) (ys : List ExpandedLine) → is_right_under (parent_depth before l.depth) l.depth ≡ true
     → HasDepths (l.depth + 1) u → HasDepths l.depth b → IsAbove l.depth ys
     → is_wrong before (outline l) (outlines ((listing u ++ listing b) ++ ys))
     ≡ (is_misplaced (row_at before l.depth) (elders before l.depth) (sort_of l) (first_is is_close (root_sorts b))
     || lacks (row_under (row_at before l.depth) (sort_of l)) (root_sorts u))
-told_by_trees before l u b ys k h g a =
+reported_by_trees before l u b ys k h g a =
     let rest = listing b ++ ys in
     let r = row_at before l.depth in
     let above : IsAbove (l.depth + 1) rest = above_more l.depth b ys g a in
     let split : roots (outlines ((listing u ++ listing b) ++ ys)) ≡ root_outlines u ++ roots (outlines rest)
     = ap (λ (x : List ExpandedLine). roots (outlines x)) (append_assoc (listing u) (listing b) ys) ∙ mutual_roots u (l.depth + 1) rest h above in
-    let next : close_is_next (parent_depth before l.depth) (behind_deeper l.depth (roots (outlines ((listing u ++ listing b) ++ ys)))) ≡ first_is is_close (root_sorts b)
-    = ap (λ (x : List Outline). close_is_next (parent_depth before l.depth) (behind_deeper l.depth x)) split
-    ∙ ap (close_is_next (parent_depth before l.depth)) (behind_deeper_trees l.depth u (roots (outlines rest)) h ∙ behind_deeper_above l.depth rest above)
+    let next : close_is_next (parent_depth before l.depth) (after_deeper l.depth (roots (outlines ((listing u ++ listing b) ++ ys)))) ≡ first_is is_close (root_sorts b)
+    = ap (λ (x : List Outline). close_is_next (parent_depth before l.depth) (after_deeper l.depth x)) split
+    ∙ ap (close_is_next (parent_depth before l.depth)) (after_deeper_trees l.depth u (roots (outlines rest)) h ∙ after_deeper_above l.depth rest above)
     ∙ close_trees (parent_depth before l.depth) l.depth b ys k g a in
     let kids : sorts (first_deeper l.depth (roots (outlines ((listing u ++ listing b) ++ ys)))) ≡ root_sorts u
     = ap (λ (x : List Outline). sorts (first_deeper l.depth x)) split ∙ ap sorts (first_deeper_trees l.depth u (roots (outlines rest)) h)
@@ -169,10 +169,10 @@ judged_from (Tree l u b) d before xs h k a n =
     let inside : HasDepths (l.depth + 1) u = subst (λ (x : ℕ). HasDepths (x + 1) u) (sym h.0) h.1 in
     let beside : HasDepths l.depth b = subst (λ (x : ℕ). HasDepths x b) (sym h.0) h.2 in
     let above : IsAbove l.depth xs = subst (λ (x : ℕ). IsAbove x xs) (sym h.0) a in
-    let here = or_parts _ _ (sym (told_by_trees before l u b xs right inside beside above) ∙ n.0) in
+    let here = or_parts _ _ (sym (reported_by_trees before l u b xs right inside beside above) ∙ n.0) in
     let inner = judged_from u (l.depth + 1) kid (listing b ++ xs) inside (right_kid (outline l) before) (above_more l.depth b xs beside above)
     (subst (NoneWrong kid) (append_assoc (listing u) (listing b) xs) n.1) in
-    let same = behind_tree l u before inside right in
+    let same = after_tree l u before inside right in
     let outer = judged_from b l.depth (onto u kid) xs beside (ap (λ (p : Option ℕ). is_right_under p l.depth) same.0 ∙ right) above inner.1 in (
       subst (λ (x : ℕ). AreJudged (row_at before x) (elders before x) (Tree l u b)) h.0
           (here.0, here.1, judged_same u _ _ _ _ (row_kid (outline l) before) (elders_kid (outline l) before) inner.0, judged_same b _ _ _ _ same.1 same.2 outer.0),

@@ -1,4 +1,4 @@
--- What the loop over lines under one parent knows of the specification behind which it has met no main line.
+-- What the loop over lines under one parent knows of the specification after which it has met no main line.
 use Rattle.std.proofs.Common.{◌≡◌, ◌∙◌, ◌||◌, ◌&&◌, not, Bool, true, false, List, ◌∷◌, refl, ap, sym}
 use Rattle.std.specs.List.{list_any}
 use Rattle.occ_tree.specs.declared.row.Row.{Row}
@@ -7,7 +7,7 @@ use Rattle.occ_tree.specs.Siblings.{begins_specification, ends_specified}
 use Rattle.occ_tree.specs.Table.{is_main}
 use Rattle.occ_tree.proofs.Arranged.{begins_main}
 
--- the last specification so far has no main line behind it, or one of these has none
+-- the last specification so far has no main line after it, or one of these has none
 abbrev pub ends_so : Row → Bool → List Sort → Bool
 ends_so r specified ss = (specified && not (list_any (is_main r) ss)) || ends_specified r ss
 

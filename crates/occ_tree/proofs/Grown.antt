@@ -41,7 +41,7 @@ pub nested_more : (left left' after lines : List ExpandedLine) (l : ExpandedLine
     → (x : List ExpandedLine) × (left' ++ x ≡ lines) × (forest_of more ≡ nested x)
 nested_more left left' after lines l roots roots' more children whole split here taken kept put =
     let under : forest_of children ≡ first_trees l.depth (nested after) = ap forest_of taken ∙ forest_first l.depth roots ∙ ap (first_trees l.depth) here in
-    let behind : forest_of roots' ≡ other_trees l.depth (nested after) = ap forest_of kept ∙ forest_other l.depth roots ∙ ap (other_trees l.depth) here in
+    let following : forest_of roots' ≡ other_trees l.depth (nested after) = ap forest_of kept ∙ forest_other l.depth roots ∙ ap (other_trees l.depth) here in
     let grown : forest_of more ≡ Tree l (first_trees l.depth (nested after)) (other_trees l.depth (nested after))
-    = ap forest_of put ∙ rolled_tree l children (forest_of roots') ∙ ap (λ (f : Forest). Tree l f (forest_of roots')) under ∙ ap (λ (f : Forest). Tree l (first_trees l.depth (nested after)) f) behind in
+    = ap forest_of put ∙ rolled_tree l children (forest_of roots') ∙ ap (λ (f : Forest). Tree l f (forest_of roots')) under ∙ ap (λ (f : Forest). Tree l (first_trees l.depth (nested after)) f) following in
     (l ∷ after, sym (append_assoc left' (l ∷ []) after) ∙ ap (λ (ls : List ExpandedLine). ls ++ after) (sym split) ∙ whole, grown)

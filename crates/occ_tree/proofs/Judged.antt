@@ -10,7 +10,7 @@ use Rattle.occ_tree.specs.Siblings.{first_is, is_misplaced, lacks}
 use Rattle.occ_tree.specs.Table.{is_close, row_under}
 use Rattle.occ_tree.proofs.Arranged.{AllPlaced, fits_of}
 
--- none of the lines is misplaced behind those, and none lacks something
+-- none of the lines is misplaced after those, and none lacks something
 abbrev pub AreJudged : Row → List Sort → Forest → Type 0
 AreJudged r es Empty = Unit {0}
 AreJudged r es (Tree l u b) =

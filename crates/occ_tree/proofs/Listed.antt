@@ -4,15 +4,15 @@ use Rattle.occ_project.specs.declared.expanded.ExpandedLine.{ExpandedLine}
 use Rattle.occ_tree.specs.Forest.{Forest, Empty, Tree, first_trees, listing, nested, other_trees}
 use Rattle.occ_tree.specs.Obeys.{HasDepths}
 
-split_listing : (b : Bool) (l : ExpandedLine) (under behind first other : Forest) → listing first ++ listing other ≡ listing behind
-    → listing (cond b (Tree l under first) Empty) ++ listing (cond b other (Tree l under behind)) ≡ l ∷ (listing under ++ listing behind)
-split_listing true l under behind first other e =
+split_listing : (b : Bool) (l : ExpandedLine) (under following first other : Forest) → listing first ++ listing other ≡ listing following
+    → listing (cond b (Tree l under first) Empty) ++ listing (cond b other (Tree l under following)) ≡ l ∷ (listing under ++ listing following)
+split_listing true l under following first other e =
     ap (λ (ls : List ExpandedLine). l ∷ ls) (append_assoc (listing under) (listing first) (listing other) ∙ ap (λ (ls : List ExpandedLine). listing under ++ ls) e)
-split_listing false l under behind first other e = refl
+split_listing false l under following first other e = refl
 
 pub listing_split : (d : ℕ) (f : Forest) → listing (first_trees d f) ++ listing (other_trees d f) ≡ listing f
 listing_split d Empty = refl
-listing_split d (Tree l under behind) = split_listing (ltb d l.depth) l under behind (first_trees d behind) (other_trees d behind) (listing_split d behind)
+listing_split d (Tree l under following) = split_listing (ltb d l.depth) l under following (first_trees d following) (other_trees d following) (listing_split d following)
 
 pub listing_nested : (ls : List ExpandedLine) → listing (nested ls) ≡ ls
 listing_nested [] = refl
@@ -26,4 +26,4 @@ IsAbove d (l ∷ ls) = l.depth < d
 pub above_more : (d : ℕ) (f : Forest) (ls : List ExpandedLine) → HasDepths d f → IsAbove d ls → IsAbove (d + 1) (listing f ++ ls)
 above_more d Empty [] h a = tt
 above_more d Empty (l ∷ ls) h a = omega (arith, a)
-above_more d (Tree l under behind) ls h a = omega (arith, h.0)
+above_more d (Tree l under following) ls h a = omega (arith, h.0)

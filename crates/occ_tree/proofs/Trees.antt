@@ -1,23 +1,23 @@
 -- What the sorts of expressions are at each variant of a tree.
 use Rattle.std.proofs.Common.{◌≡◌, ◌∙◌, sym, ap, ℕ, Bool, List}
-use Rattle.occ_expression_forms.specs.declared.tree.Bounds.{Bounds}
-use Rattle.occ_expression_forms.specs.declared.tree.Builtin.{Builtin}
-use Rattle.occ_expression_forms.specs.declared.tree.Dimension.{Dimension}
-use Rattle.occ_expression_forms.specs.declared.tree.Extreme.{Extreme}
-use Rattle.occ_expression_forms.specs.declared.tree.Literal.{Literal}
-use Rattle.occ_expression_forms.specs.declared.tree.MonadicOperator.{MonadicOperator}
-use Rattle.occ_expression_forms.specs.declared.tree.NamedOperand.{NamedOperand}
-use Rattle.occ_expression_forms.specs.declared.tree.PairOperator.{PairOperator}
-use Rattle.occ_expression_forms.specs.declared.tree.RunOperator.{RunOperator}
-use Rattle.occ_expression_forms.specs.declared.tree.TypeForm.{TypeForm}
-use Rattle.occ_expression_forms.specs.declared.tree.Element.{Element as AnyElement}
-use Rattle.occ_expression_forms.specs.declared.tree.Expr.{Expr as AnyExpr}
-use Rattle.occ_expression_forms.specs.declared.tree.Operand.{Operand as AnyOperand}
-use Rattle.occ_expression_forms.specs.declared.tree.Element.TheVariants as ev
-use Rattle.occ_expression_forms.specs.declared.tree.Expr.TheVariants as xv
-use Rattle.occ_expression_forms.specs.declared.tree.Operand.TheVariants as ov
-use Rattle.occ_expression_forms.specs.declared.tree.Bounds.TheOpen.{Element-F, Expr-F, Operand-F}
-use Rattle.occ_expression_forms.specs.declared.tree.Bounds.TheViews.{out-roll-Element, out-roll-Expr, out-roll-Operand}
+use Rattle.occ_forms_expressions.specs.declared.tree.Bounds.{Bounds}
+use Rattle.occ_forms_expressions.specs.declared.tree.Builtin.{Builtin}
+use Rattle.occ_forms_expressions.specs.declared.tree.Dimension.{Dimension}
+use Rattle.occ_forms_expressions.specs.declared.tree.Extreme.{Extreme}
+use Rattle.occ_forms_expressions.specs.declared.tree.Literal.{Literal}
+use Rattle.occ_forms_expressions.specs.declared.tree.MonadicOperator.{MonadicOperator}
+use Rattle.occ_forms_expressions.specs.declared.tree.NamedOperand.{NamedOperand}
+use Rattle.occ_forms_expressions.specs.declared.tree.PairOperator.{PairOperator}
+use Rattle.occ_forms_expressions.specs.declared.tree.RunOperator.{RunOperator}
+use Rattle.occ_forms_expressions.specs.declared.tree.TypeForm.{TypeForm}
+use Rattle.occ_forms_expressions.specs.declared.tree.Element.{Element as AnyElement}
+use Rattle.occ_forms_expressions.specs.declared.tree.Expr.{Expr as AnyExpr}
+use Rattle.occ_forms_expressions.specs.declared.tree.Operand.{Operand as AnyOperand}
+use Rattle.occ_forms_expressions.specs.declared.tree.Element.TheVariants as ev
+use Rattle.occ_forms_expressions.specs.declared.tree.Expr.TheVariants as xv
+use Rattle.occ_forms_expressions.specs.declared.tree.Operand.TheVariants as ov
+use Rattle.occ_forms_expressions.specs.declared.tree.Bounds.TheOpen.{Element-F, Expr-F, Operand-F}
+use Rattle.occ_forms_expressions.specs.declared.tree.Bounds.TheViews.{out-roll-Element, out-roll-Expr, out-roll-Operand}
 use Rattle.occ_tree.specs.Sorts.{expression_sort, expression_sort_step, is_name, is_name_step, operand_sort, operand_sort_step}
 
 pub operand_sort_element : (el : AnyElement) → operand_sort (ov.Element el) ≡ operand_sort_step (Operand-F.Operand::Element el)

@@ -8,7 +8,7 @@ use Rattle.occ_tree.specs.declared.row.Row.{Row}
 use Rattle.occ_tree.specs.declared.sort.Sort.{Sort}
 use Rattle.occ_tree.specs.declared.place.Place.{Place}
 use Rattle.occ_tree.specs.inside.Frames.{frame_at, frame_of, open_parents, outer, place_at, places, still_open, turned}
-use Rattle.occ_tree.specs.Nesting.{behind_deeper, can_hold, elders, parent_depth, roots, row_at}
+use Rattle.occ_tree.specs.Nesting.{after_deeper, can_hold, elders, parent_depth, roots, row_at}
 use Rattle.occ_tree.specs.Wrong.{is_wrong, wrong, wrong_from}
 use Rattle.occ_tree.specs.Table.{row_under}
 
@@ -76,16 +76,16 @@ still_open_twice (f ∷ fs) d e le = elim (cases_Bool (can_hold f.depth e)) [
 frame_same : (p q : Option ℕ) (r s : Row) (es fs : List Sort) → p ≡ q → r ≡ s → es ≡ fs → frame_of p r es ≡ frame_of q s fs
 frame_same p q r s es fs a b c = rw a (rw b (rw c refl))
 
--- the innermost parents behind one more line
-abbrev behind : List Outline → Outline → List Frame → List Frame
-behind before b fs =
+-- the innermost parents after one more line
+abbrev following : List Outline → Outline → List Frame → List Frame
+following before b fs =
     frame_of (Some b.depth) (row_under (row_at before b.depth) b.sort) []
     ∷ (frame_of (parent_depth before b.depth) (row_at before b.depth) (b.sort ∷ elders before b.depth) ∷ fs)
 
-open_behind : (before : List Outline) (b : Outline) (d : ℕ) (fs : List Frame) → fs ≡ frame_at before b.depth ∷ outer fs
+open_after : (before : List Outline) (b : Outline) (d : ℕ) (fs : List Frame) → fs ≡ frame_at before b.depth ∷ outer fs
     → (d ≤ b.depth → still_open d fs ≡ frame_at before d ∷ outer (still_open d fs))
-    → still_open d (behind before b (outer fs)) ≡ frame_at (b ∷ before) d ∷ outer (still_open d (behind before b (outer fs)))
-open_behind before b d fs first up = elim (cases_Bool (ltb b.depth d)) [
+    → still_open d (following before b (outer fs)) ≡ frame_at (b ∷ before) d ∷ outer (still_open d (following before b (outer fs)))
+open_after before b d fs first up = elim (cases_Bool (ltb b.depth d)) [
   | inl shallower ↦ rw shallower refl
   | inr deep ↦ elim (cases_Bool (can_hold (parent_depth before b.depth) d)) [
     | inl has ↦
@@ -101,7 +101,7 @@ open_behind before b d fs first up = elim (cases_Bool (ltb b.depth d)) [
 pub open_at : (before : List Outline) (d : ℕ) → still_open d (open_parents before) ≡ frame_at before d ∷ outer (still_open d (open_parents before))
 open_at [] d = refl
 open_at (b ∷ before) d =
-    open_behind before b d (still_open b.depth (open_parents before)) (open_at before b.depth)
+    open_after before b d (still_open b.depth (open_parents before)) (open_at before b.depth)
     (λ le. rw (still_open_twice (open_parents before) d b.depth le) (open_at before d))
 
 pub turned_back : (xs ys zs : List Outline) → turned (turned xs ys) zs ≡ turned ys (xs ++ zs)
@@ -148,7 +148,7 @@ place_more before rest after lines l i j k o p q found more is closing entering 
     = put ∙ ap (λ (f : Frame). (record { line = l; frame = f }) ∷ found) there.0 ∙ ap (λ (ps : List Place). place_at before l ∷ ps) here in
     (l ∷ before, rw kid (rw round refl), placed, ap (λ (ls : List Outline). turned ls before) (sym split) ∙ whole)
 
--- the places left tell the lines left
+-- the places left report the lines left
 pub places_first : (before : List Outline) (p : Place) (ps : List Place) → places before ≡ p ∷ ps
     → (b : Outline) × (bs : List Outline) × (before ≡ b ∷ bs) × (p ≡ place_at bs b) × (ps ≡ places bs)
 places_first [] p ps e = absurd cc
@@ -158,14 +158,14 @@ pub places_none : (before : List Outline) → places before ≡ [] → before �
 places_none [] e = refl
 places_none (b ∷ bs) e = absurd cc
 
--- what is told of the line at a place, before lines of which these stand under none of each other
+-- what is reported of the line at a place, before lines of which these stand under none of each other
 abbrev pub Judges : Place → List Outline → Bool → Type 0
 Judges p rs w = (before after : List Outline) → p ≡ place_at before p.line → rs ≡ roots after → w ≡ is_wrong before p.line after
 
 -- one line more, from the last on
 pub wrong_more : (before after lines : List Outline) (left left' : List Place) (p : Place) (rs rs' rs'' : List Outline) (found found' : List Bool) (w : Bool)
     → left ≡ places before → left ≡ p ∷ left' → rs ≡ roots after → found ≡ wrong_from before after → turned before after ≡ lines
-    → Judges p rs w → rs' ≡ behind_deeper p.line.depth rs → rs'' ≡ p.line ∷ rs' → found' ≡ w ∷ found
+    → Judges p rs w → rs' ≡ after_deeper p.line.depth rs → rs'' ≡ p.line ∷ rs' → found' ≡ w ∷ found
     → (x : List Outline) × (y : List Outline) × (left' ≡ places x) × (rs'' ≡ roots y) × (found' ≡ wrong_from x y) × (turned x y ≡ lines)
 wrong_more before after lines left left' p rs rs' rs'' found found' w here top there marked whole judged kept pushed put =
     let first = places_first before p left' (sym here ∙ top) in
@@ -176,7 +176,7 @@ wrong_more before after lines left left' p rs rs' rs'' found found' w here top t
     let verdict : w ≡ is_wrong bs b after
     = judged bs after (placed ∙ ap (place_at bs) (sym same)) there ∙ ap (λ (x : Outline). is_wrong bs x after) same in
     let standing : rs'' ≡ roots (b ∷ after)
-    = pushed ∙ ap (λ (x : List Outline). p.line ∷ x) (kept ∙ ap (λ (x : List Outline). behind_deeper p.line.depth x) there) ∙ ap (λ (x : Place). x.line ∷ behind_deeper x.line.depth (roots after)) placed in
+    = pushed ∙ ap (λ (x : List Outline). p.line ∷ x) (kept ∙ ap (λ (x : List Outline). after_deeper p.line.depth x) there) ∙ ap (λ (x : Place). x.line ∷ after_deeper x.line.depth (roots after)) placed in
     let marks : found' ≡ is_wrong bs b after ∷ wrong_from (b ∷ bs) after
     = put ∙ ap (λ (x : Bool). x ∷ found) verdict ∙ ap (λ (x : List Bool). is_wrong bs b after ∷ x) (marked ∙ ap (λ (x : List Outline). wrong_from x after) first.2) in
     (bs, b ∷ after, first.4, standing, marks, ap (λ (x : List Outline). turned x after) (sym first.2) ∙ whole)

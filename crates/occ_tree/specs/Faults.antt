@@ -11,7 +11,7 @@ use Rattle.occ_tree.specs.Wrong.{wrong}
 abbrev pub line_faults : ExpandedLine → Bool → List Diag
 line_faults l is_wrong = error_if is_wrong l.file l.line code.S2 ++ error_if (nat_lt 64 l.depth) l.file l.line code.S4
 
--- those of each line, where one is told for each whether it is wrong
+-- those of each line, where one is reported for each whether it is wrong
 abbrev pub faults_at : List ExpandedLine → List Bool → List Diag
 faults_at [] ws = []
 faults_at (l ∷ ls) [] = []

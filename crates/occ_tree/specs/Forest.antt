@@ -5,7 +5,7 @@ use Rattle.occ_tree.specs.declared.tree.Node.{Node, out-Node}
 use Rattle.occ_tree.specs.declared.tree.Node.TheOpen.{Node-F}
 use Rattle.occ_tree.specs.declared.tree.Node.TheFolds.{fold-Node}
 
--- none, or a line, the trees right under it, and the trees behind that one
+-- none, or a line, the trees right under it, and the trees after that one
 pub data Forest : Type 0 where
   Empty : Forest
   Tree : ExpandedLine → Forest → Forest → Forest
@@ -13,37 +13,37 @@ pub data Forest : Type 0 where
 -- the lines, each parent before its children
 abbrev pub listing : Forest → List ExpandedLine
 listing Empty = []
-listing (Tree l under behind) = l ∷ (listing under ++ listing behind)
+listing (Tree l under following) = l ∷ (listing under ++ listing following)
 
 -- the trees that come first whose lines are deeper than d
 abbrev pub first_trees : ℕ → Forest → Forest
 first_trees d Empty = Empty
-first_trees d (Tree l under behind) = if nat_lt d l.depth then Tree l under (first_trees d behind) else Empty
+first_trees d (Tree l under following) = if nat_lt d l.depth then Tree l under (first_trees d following) else Empty
 
 -- and the others
 abbrev pub other_trees : ℕ → Forest → Forest
 other_trees d Empty = Empty
-other_trees d (Tree l under behind) = if nat_lt d l.depth then other_trees d behind else Tree l under behind
+other_trees d (Tree l under following) = if nat_lt d l.depth then other_trees d following else Tree l under following
 
 -- the trees where each line stands under the last earlier line of smaller depth
 abbrev pub nested : List ExpandedLine → Forest
 nested [] = Empty
 nested (l ∷ ls) = Tree l (first_trees l.depth (nested ls)) (other_trees l.depth (nested ls))
 
--- the trees that are these, where each is told what it is before others
-abbrev pub one_behind_other : List (Forest → Forest) → Forest
-one_behind_other [] = Empty
-one_behind_other (t ∷ ts) = t (one_behind_other ts)
+-- the trees that are these, where each is said what it is before others
+abbrev pub one_after_other : List (Forest → Forest) → Forest
+one_after_other [] = Empty
+one_after_other (t ∷ ts) = t (one_after_other ts)
 
 abbrev pub tree_step : Node-F (Forest → Forest) → Forest → Forest
-tree_step n behind = Tree n.line (one_behind_other n.children) behind
+tree_step n following = Tree n.line (one_after_other n.children) following
 
 -- the tree of a node, before others
 abbrev pub tree_of : Node → Forest → Forest
 tree_of = fold-Node (Forest → Forest) tree_step
 
 abbrev pub forest_of : List Node → Forest
-forest_of ns = one_behind_other (map tree_of ns)
+forest_of ns = one_after_other (map tree_of ns)
 
 abbrev pub depth_of : Node → ℕ
 depth_of n = (out-Node n).line.depth

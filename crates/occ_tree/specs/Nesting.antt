@@ -37,20 +37,20 @@ abbrev pub first_deeper : ℕ → List Outline → List Outline
 first_deeper d [] = []
 first_deeper d (l ∷ ls) = if nat_lt d l.depth then l ∷ first_deeper d ls else []
 
--- and the lines behind them
-abbrev pub behind_deeper : ℕ → List Outline → List Outline
-behind_deeper d [] = []
-behind_deeper d (l ∷ ls) = if nat_lt d l.depth then behind_deeper d ls else l ∷ ls
+-- and the lines after them
+abbrev pub after_deeper : ℕ → List Outline → List Outline
+after_deeper d [] = []
+after_deeper d (l ∷ ls) = if nat_lt d l.depth then after_deeper d ls else l ∷ ls
 
 -- those of the lines whose parent is none of the others
 abbrev pub roots : List Outline → List Outline
 roots [] = []
-roots (l ∷ ls) = l ∷ behind_deeper l.depth (roots ls)
+roots (l ∷ ls) = l ∷ after_deeper l.depth (roots ls)
 
 abbrev pub sorts : List Outline → List Sort
 sorts [] = []
 sorts (l ∷ ls) = l.sort ∷ sorts ls
 
--- those of which a line of depth d is the parent, which these lines stand behind
+-- those of which a line of depth d is the parent, which these lines stand after
 abbrev pub children : ℕ → List Outline → List Sort
 children d after = sorts (first_deeper d (roots after))

@@ -45,7 +45,7 @@ abbrev pub AreItems : Row → List Item → Type 0
 AreItems r [] = Unit {0}
 AreItems r (i ∷ is) = AreOpenings r i.openings × (is_main r i.main ≡ true) × AreItems r is
 
--- a process with its specifications, and RESULT directly behind it
+-- a process with its specifications, and RESULT directly after it
 abbrev pub IsValue : List Item → Type 0
 IsValue [] = ⊥
 IsValue (i ∷ []) = ⊥
@@ -75,18 +75,18 @@ sort_of l = body_sort l.body
 -- of the lines that stand under no other
 abbrev pub root_sorts : Forest → List Sort
 root_sorts Empty = []
-root_sorts (Tree l under behind) = sort_of l ∷ root_sorts behind
+root_sorts (Tree l under following) = sort_of l ∷ root_sorts following
 
 -- each line is as deep as it stands in the trees, these being under d others
 abbrev pub HasDepths : ℕ → Forest → Type 0
 HasDepths d Empty = Unit {0}
-HasDepths d (Tree l under behind) = (l.depth ≡ d) × HasDepths (d + 1) under × HasDepths d behind
+HasDepths d (Tree l under following) = (l.depth ≡ d) × HasDepths (d + 1) under × HasDepths d following
 
 -- under each of the lines, which stand in the row, stands what may
 abbrev pub ObeysUnder : Row → Forest → Type 0
 ObeysUnder r Empty = Unit {0}
-ObeysUnder r (Tree l under behind) =
-    Fits (row_under r (sort_of l)) (root_sorts under) × ObeysUnder (row_under r (sort_of l)) under × ObeysUnder r behind
+ObeysUnder r (Tree l under following) =
+    Fits (row_under r (sort_of l)) (root_sorts under) × ObeysUnder (row_under r (sort_of l)) under × ObeysUnder r following
 
 -- the trees of a file that obey the table
 abbrev pub Obeys : Forest → Type 0

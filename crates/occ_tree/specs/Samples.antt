@@ -8,7 +8,7 @@ use Rattle.occ_tree.specs.Wrong.{wrong}
 abbrev pub at : ℕ → Sort → Outline
 at d s = record { depth = d; sort = s }
 
--- what is told of the lines of the body of a procedure, of its head before them and of its close behind them
+-- what is reported of the lines of the body of a procedure, of its head before them and of its close after them
 abbrev pub in_procedure : List Outline → List Bool
 in_procedure ls = wrong (at 0 sort.ProcedureHead ∷ (ls ++ at 0 sort.Close ∷ []))
 

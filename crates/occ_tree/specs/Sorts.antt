@@ -1,15 +1,15 @@
 -- What the form of a line says of where it may stand.
 use Rattle.std.specs.Prelude.{Bool, true, false, not, ◌||◌, List, [], ◌∷◌, map, Some, None, if◌then◌else◌}
 use Rattle.std.specs.List.{list_any}
-use Rattle.occ_expression_forms.specs.declared.tree.Bounds.{Bounds}
-use Rattle.occ_expression_forms.specs.declared.tree.Bounds.TheOpen.{Element-F, Expr-F, Operand-F}
-use Rattle.occ_expression_forms.specs.declared.tree.Builtin.{Builtin}
-use Rattle.occ_expression_forms.specs.declared.tree.Dimension.{Dimension}
-use Rattle.occ_expression_forms.specs.declared.tree.Element.{Element, out-Element}
-use Rattle.occ_expression_forms.specs.declared.tree.Expr.{Expr, out-Expr}
-use Rattle.occ_expression_forms.specs.declared.tree.NamedOperand.{NamedOperand}
-use Rattle.occ_expression_forms.specs.declared.tree.Operand.{Operand, out-Operand}
-use Rattle.occ_expression_forms.specs.declared.tree.TypeForm.{TypeForm}
+use Rattle.occ_forms_expressions.specs.declared.tree.Bounds.{Bounds}
+use Rattle.occ_forms_expressions.specs.declared.tree.Bounds.TheOpen.{Element-F, Expr-F, Operand-F}
+use Rattle.occ_forms_expressions.specs.declared.tree.Builtin.{Builtin}
+use Rattle.occ_forms_expressions.specs.declared.tree.Dimension.{Dimension}
+use Rattle.occ_forms_expressions.specs.declared.tree.Element.{Element, out-Element}
+use Rattle.occ_forms_expressions.specs.declared.tree.Expr.{Expr, out-Expr}
+use Rattle.occ_forms_expressions.specs.declared.tree.NamedOperand.{NamedOperand}
+use Rattle.occ_forms_expressions.specs.declared.tree.Operand.{Operand, out-Operand}
+use Rattle.occ_forms_expressions.specs.declared.tree.TypeForm.{TypeForm}
 use Rattle.occ_forms.specs.declared.tree.Action.{Action}
 use Rattle.occ_forms.specs.declared.tree.Action.TheVariants as action
 use Rattle.occ_forms.specs.declared.tree.Construct.{Construct}
@@ -27,12 +27,12 @@ use Rattle.occ_forms.specs.declared.tree.PartForm.TheVariants as part
 use Rattle.occ_project.specs.declared.expanded.ExpandedBody.{ExpandedBody}
 use Rattle.occ_project.specs.declared.expanded.ExpandedBody.TheVariants as body
 use Rattle.occ_project.specs.declared.expanded.ExpandedLine.{ExpandedLine}
-use Rattle.occ_specification_forms.specs.declared.tree.Head.{Head}
-use Rattle.occ_specification_forms.specs.declared.tree.Head.TheVariants as head
-use Rattle.occ_specification_forms.specs.declared.tree.Specification.{Specification}
-use Rattle.occ_specification_forms.specs.declared.tree.Specification.TheVariants as specification
-use Rattle.occ_specification_forms.specs.declared.tree.Specified.{Specified}
-use Rattle.occ_specification_forms.specs.declared.tree.Specified.TheVariants as specified
+use Rattle.occ_forms.specs.declared.specification_tree.Head.{Head}
+use Rattle.occ_forms.specs.declared.specification_tree.Head.TheVariants as head
+use Rattle.occ_forms.specs.declared.specification_tree.Specification.{Specification}
+use Rattle.occ_forms.specs.declared.specification_tree.Specification.TheVariants as specification
+use Rattle.occ_forms.specs.declared.specification_tree.Specified.{Specified}
+use Rattle.occ_forms.specs.declared.specification_tree.Specified.TheVariants as specified
 use Rattle.occ_tree.specs.declared.outline.Outline.{Outline}
 use Rattle.occ_tree.specs.declared.sort.Sort.{Sort}
 use Rattle.occ_tree.specs.declared.sort.Sort.TheVariants as sort

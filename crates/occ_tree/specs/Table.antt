@@ -156,7 +156,7 @@ is_list _ = false
 abbrev pub needs_main : Row → Bool
 needs_main r = is_single r || is_list r
 
--- a process, and a RESULT directly behind it
+-- a process, and a RESULT directly after it
 abbrev pub is_value : Row → Bool
 is_value row.Value = true
 is_value _ = false

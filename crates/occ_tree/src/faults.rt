@@ -1,6 +1,6 @@
 //! The diagnostics of shape: S2 and S4, in the order of lines. `docs/LANGUAGE.md, Shape`.
 ghost use Rattle.std.specs.Prelude.{◌≡◌, ◌++◌, IfOk, OnOk};
-ghost use Rattle.occ_tree.specs.Faults.{line_faults as faults_of_line, shape_faults as faults_of_shape};
+ghost use Rattle.occ_tree.specs.Faults.{line_faults as spec_line_faults, shape_faults as spec_shape_faults};
 
 use super::marks::wrong_lines;
 use super::outline::find_outlines;
@@ -14,7 +14,7 @@ fn add_line_faults(
     wrong: bool,
     found: &mut Items<Diag>,
 ) -> Result<(), AllocError>
-    ensures { OnOk result (found.new ≡ found.old ++ faults_of_line line.now wrong) }
+    ensures { OnOk result (found.new ≡ found.old ++ spec_line_faults line.now wrong) }
 {
     add_error_if(wrong, line.file, line.line, Code::S2, found)?;
     add_error_if(line.depth > 64, line.file, line.line, Code::S4, found)
@@ -24,7 +24,7 @@ fn add_line_faults(
 /// where it may not, or under which something is missing, and `S4` at each line of a depth over 64. A line that
 /// has a fault instead of a form may stand nowhere.
 pub fn shape_faults(alloc: Global, lines: &[ExpandedLine]) -> Result<Items<Diag>, AllocError>
-    ensures { IfOk result (λ found. found ≡ faults_of_shape lines.now) }
+    ensures { IfOk result (λ found. found ≡ spec_shape_faults lines.now) }
 {
     let outlines = find_outlines(alloc, lines)?;
     let mut marks = wrong_lines(alloc, outlines.as_slice())?;

@@ -2,8 +2,8 @@
 ghost use Rattle.std.specs.Prelude.{◌≡◌, List, IfOk, OnOk};
 ghost use Rattle.occ_tree.specs.declared.outline.Outline.{Outline};
 ghost use Rattle.occ_tree.specs.inside.Frames.{place_at};
-ghost use Rattle.occ_tree.specs.Nesting.{behind_deeper, first_deeper, roots as roots_of, sorts};
-ghost use Rattle.occ_tree.specs.Wrong.{close_is_next as next_is_close, is_wrong as line_is_wrong, wrong};
+ghost use Rattle.occ_tree.specs.Nesting.{after_deeper, first_deeper, roots as spec_roots, sorts};
+ghost use Rattle.occ_tree.specs.Wrong.{close_is_next as spec_close_is_next, is_wrong as spec_is_wrong, wrong};
 
 use super::outline::Outline;
 use super::place::{Place, can_hold, find_places, is_right_under};
@@ -21,7 +21,7 @@ fn take_children(
     roots: &mut Stack<Outline>,
 ) -> Result<Items<Sort>, AllocError>
     ensures children { IfOk result (λ children. children ≡ sorts (first_deeper depth roots.old)) }
-    ensures rest { OnOk result (roots.new ≡ behind_deeper depth roots.old) }
+    ensures rest { OnOk result (roots.new ≡ after_deeper depth roots.old) }
 {
     let mut children = Items::new(alloc);
     while let Some(top) = roots.top() {
@@ -36,7 +36,7 @@ fn take_children(
 
 /// Whether the top is a close under the same parent.
 fn close_is_next(parent: Option<u64>, roots: &Stack<Outline>) -> bool
-    ensures { result ≡ next_is_close parent roots.now }
+    ensures { result ≡ spec_close_is_next parent roots.now }
 {
     match roots.top() {
         Some(next) => can_hold(parent, next.depth) && is_close(next.sort),
@@ -47,8 +47,8 @@ fn close_is_next(parent: Option<u64>, roots: &Stack<Outline>) -> bool
 /// Whether the line at this place stands wrong or lacks something. On top of the stack are its children, which it
 /// takes, and then the next line under its parent, if there is one.
 fn is_wrong(alloc: Global, place: Place, roots: &mut Stack<Outline>) -> Result<bool, AllocError>
-    ensures wrong { IfOk result (λ wrong. (before : List Outline) (after : List Outline) → place ≡ place_at before place.line → roots.old ≡ roots_of after → wrong ≡ line_is_wrong before place.line after) }
-    ensures rest { OnOk result (roots.new ≡ behind_deeper place.line.depth roots.old) }
+    ensures wrong { IfOk result (λ wrong. (before : List Outline) (after : List Outline) → place ≡ place_at before place.line → roots.old ≡ spec_roots after → wrong ≡ spec_is_wrong before place.line after) }
+    ensures rest { OnOk result (roots.new ≡ after_deeper place.line.depth roots.old) }
 {
     let Place { line, frame } = place;
     let children = take_children(alloc, line.depth, roots)?;

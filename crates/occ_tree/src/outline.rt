@@ -1,14 +1,16 @@
 //! What the shape of a unit knows of a line: its depth and what its form lets be under it.
 ghost use Rattle.std.specs.List.{list_any};
 ghost use Rattle.std.specs.Prelude.{◌≡◌, IfOk};
-ghost use Rattle.occ_tree.specs.Sorts.{action_sort, body_sort, construct_sort, expression_sort, expressions_sort, form_sort, guarded_sort, head_sort, is_element_part as element_part, is_name as name_alone, is_type_part as type_part, operand_sort, outline, outlines, part_sort, parts_sort, plain_sort, replicated_sort, specification_sort, specified_sort, tagged_sort};
+ghost use Rattle.occ_tree.specs.Sorts.{action_sort, body_sort, construct_sort, expression_sort, expressions_sort, form_sort, guarded_sort, head_sort, is_element_part as spec_is_element_part, is_name as spec_is_name, is_type_part as spec_is_type_part, operand_sort, outline, outlines, part_sort, parts_sort, plain_sort, replicated_sort, specification_sort, specified_sort, tagged_sort};
 
 use super::sort::Sort;
 use occ_base::Items;
-use occ_expression_forms::{Element, Expr, Operand};
-use occ_forms::{Action, Construct, ConstructKind, Detail, Form, Guarded, PartForm};
+use occ_forms::{
+    Action, Construct, ConstructKind, Detail, Form, Guarded, Head, PartForm, Specification,
+    Specified,
+};
+use occ_forms_expressions::{Element, Expr, Operand};
 use occ_project::{ExpandedBody, ExpandedLine};
-use occ_specification_forms::{Head, Specification, Specified};
 use std::alloc::{AllocError, Global};
 
 /// What the shape of a unit knows of a line.
@@ -21,7 +23,7 @@ pub struct Outline {
 /// Whether the element is a name alone.
 #[tactic(auto, using(crate::proofs::Trees::tree_rules))]
 fn is_name(element: &Element) -> bool
-    ensures { result ≡ name_alone element.now }
+    ensures { result ≡ spec_is_name element.now }
 {
     match element {
         Element::Named(_, subscripts) => subscripts.as_slice().is_empty(),
@@ -78,7 +80,7 @@ fn sort_of_expressions(first: &Expr, more: &[Expr]) -> Sort
 
 /// Whether the part can only be a type.
 fn is_type_part(detail: &Detail) -> bool
-    ensures { result ≡ type_part detail.now }
+    ensures { result ≡ spec_is_type_part detail.now }
 {
     match detail {
         Detail::Array(_, _, _) | Detail::Builtin(_, _) | Detail::CountedType(_, _) => true,
@@ -88,7 +90,7 @@ fn is_type_part(detail: &Detail) -> bool
 
 /// Whether the part can only be an element.
 fn is_element_part(detail: &Detail) -> bool
-    ensures { result ≡ element_part detail.now }
+    ensures { result ≡ spec_is_element_part detail.now }
 {
     match detail {
         Detail::Element(element) => !is_name(element),
@@ -98,13 +100,13 @@ fn is_element_part(detail: &Detail) -> bool
 }
 
 fn has_type_part(details: &[Detail]) -> bool
-    ensures { result ≡ list_any type_part details.now }
+    ensures { result ≡ list_any spec_is_type_part details.now }
 {
     details.iter().any(|detail| is_type_part(detail))
 }
 
 fn has_element_part(details: &[Detail]) -> bool
-    ensures { result ≡ list_any element_part details.now }
+    ensures { result ≡ list_any spec_is_element_part details.now }
 {
     details.iter().any(|detail| is_element_part(detail))
 }

@@ -2,11 +2,11 @@
 ghost use Rattle.std.specs.Prelude.{◌≡◌, [], ◌∷◌, List, None, Some, IfOk, OnOk};
 ghost use Rattle.occ_tree.specs.declared.outline.Outline.{Outline};
 ghost use Rattle.occ_tree.specs.inside.Frames.{frame_of, open_parents, places, still_open, turned};
-ghost use Rattle.occ_tree.specs.Nesting.{can_hold as holding, is_right_under as right_under};
+ghost use Rattle.occ_tree.specs.Nesting.{can_hold as spec_can_hold, is_right_under as spec_is_right_under};
 ghost use Rattle.occ_tree.specs.declared.place.Frame.{Frame};
 ghost use Rattle.occ_tree.specs.declared.sort.Sort.{Sort};
 ghost use Rattle.occ_tree.specs.declared.row.Row.TheVariants as row;
-ghost use Rattle.occ_tree.specs.Table.{row_under as under};
+ghost use Rattle.occ_tree.specs.Table.{row_under as spec_row_under};
 
 use super::outline::Outline;
 use super::row::{Row, row_under};
@@ -35,7 +35,7 @@ pub struct Place {
 
 /// Whether a parent of this depth can have a line of that one under it, as the file can.
 pub fn can_hold(parent: Option<u64>, depth: u64) -> bool
-    ensures { result ≡ holding parent depth }
+    ensures { result ≡ spec_can_hold parent depth }
 {
     match parent {
         Some(parent) => parent < depth,
@@ -45,7 +45,7 @@ pub fn can_hold(parent: Option<u64>, depth: u64) -> bool
 
 /// Whether the line is as deep as one right under that parent.
 pub fn is_right_under(parent: Option<u64>, depth: u64) -> bool
-    ensures { result ≡ right_under parent depth }
+    ensures { result ≡ spec_is_right_under parent depth }
 {
     match parent {
         Some(parent) => parent < depth && depth - parent == 1,
@@ -66,7 +66,7 @@ impl Frame {
     }
 }
 
-/// The parents that are open behind a line.
+/// The parents that are open after a line.
 #[derive(Drop)]
 pub struct Open {
     pub innermost: Frame,
@@ -88,7 +88,7 @@ impl Open {
 
     /// Adds the line under the innermost parent, and makes it the innermost one.
     fn enter(&mut self, line: Outline) -> Result<(), AllocError>
-        ensures { (es : List Sort) → self.old.innermost ≡ frame_of self.old.innermost.depth self.old.innermost.row es → OnOk result ((self.new.innermost ≡ frame_of (Some line.depth) (under self.old.innermost.row line.sort) []) × (self.new.outer ≡ frame_of self.old.innermost.depth self.old.innermost.row (line.sort ∷ es) ∷ self.old.outer)) }
+        ensures { (es : List Sort) → self.old.innermost ≡ frame_of self.old.innermost.depth self.old.innermost.row es → OnOk result ((self.new.innermost ≡ frame_of (Some line.depth) (spec_row_under self.old.innermost.row line.sort) []) × (self.new.outer ≡ frame_of self.old.innermost.depth self.old.innermost.row (line.sort ∷ es) ∷ self.old.outer)) }
     {
         let row = self.innermost.row;
         let parent = Frame {

@@ -1,6 +1,6 @@
 //! The rows of the table of shape: which lines may be directly under which. `docs/LANGUAGE.md, Shape`.
 ghost use Rattle.std.specs.Prelude.{◌≡◌};
-ghost use Rattle.occ_tree.specs.Table.{is_main as main, is_process as process, is_head as head, is_close as close, is_result as result_line, is_single as single, lets_line as line_stands, may_stand as stands, needs_main as main_needed, own_row as own, row_under as under, takes_specifications as specifiable, under_main as below, is_value as value};
+ghost use Rattle.occ_tree.specs.Table.{is_main as spec_is_main, is_process as spec_is_process, is_head as spec_is_head, is_close as spec_is_close, is_result as spec_is_result, is_single as spec_is_single, lets_line as spec_lets_line, may_stand as spec_may_stand, needs_main as spec_needs_main, own_row as own, row_under as spec_row_under, takes_specifications as spec_takes_specifications, under_main as spec_under_main, is_value as spec_is_value};
 
 use super::sort::Sort;
 
@@ -42,7 +42,7 @@ pub enum Row {
 
 /// Whether the line is a process wherever one may stand.
 pub fn is_process(sort: Sort) -> bool
-    ensures { result ≡ process sort }
+    ensures { result ≡ spec_is_process sort }
 {
     matches!(
         sort,
@@ -63,7 +63,7 @@ pub fn is_process(sort: Sort) -> bool
 
 /// Whether the line begins a specification of more than one line.
 pub fn is_head(sort: Sort) -> bool
-    ensures { result ≡ head sort }
+    ensures { result ≡ spec_is_head sort }
 {
     matches!(
         sort,
@@ -72,20 +72,20 @@ pub fn is_head(sort: Sort) -> bool
 }
 
 pub fn is_close(sort: Sort) -> bool
-    ensures { result ≡ close sort }
+    ensures { result ≡ spec_is_close sort }
 {
     matches!(sort, Sort::Close)
 }
 
 pub fn is_result(sort: Sort) -> bool
-    ensures { result ≡ result_line sort }
+    ensures { result ≡ spec_is_result sort }
 {
     matches!(sort, Sort::Result)
 }
 
 /// Whether the line is one of the main lines of the row.
 pub fn is_main(row: Row, sort: Sort) -> bool
-    ensures { result ≡ main row sort }
+    ensures { result ≡ spec_is_main row sort }
 {
     match row {
         Row::File | Row::Nothing => false,
@@ -123,7 +123,7 @@ pub fn is_main(row: Row, sort: Sort) -> bool
 
 /// Whether specifications may stand before the main lines of the row, or alone in a file.
 pub fn takes_specifications(row: Row) -> bool
-    ensures { result ≡ specifiable row }
+    ensures { result ≡ spec_takes_specifications row }
 {
     !matches!(
         row,
@@ -133,7 +133,7 @@ pub fn takes_specifications(row: Row) -> bool
 
 /// Whether the row lets this specification of one line stand.
 pub fn lets_line(row: Row, sort: Sort) -> bool
-    ensures { result ≡ line_stands row sort }
+    ensures { result ≡ spec_lets_line row sort }
 {
     match sort {
         Sort::GlobalSpecification => takes_specifications(row),
@@ -146,7 +146,7 @@ pub fn lets_line(row: Row, sort: Sort) -> bool
 
 /// Whether the row lets lines of this sort stand.
 pub fn may_stand(row: Row, sort: Sort) -> bool
-    ensures { result ≡ stands row sort }
+    ensures { result ≡ spec_may_stand row sort }
 {
     is_main(row, sort)
         || lets_line(row, sort)
@@ -155,7 +155,7 @@ pub fn may_stand(row: Row, sort: Sort) -> bool
 
 /// Whether the row has one main line and no more.
 pub fn is_single(row: Row) -> bool
-    ensures { result ≡ single row }
+    ensures { result ≡ spec_is_single row }
 {
     matches!(
         row,
@@ -165,14 +165,14 @@ pub fn is_single(row: Row) -> bool
 
 /// Whether the row asks for a main line.
 pub fn needs_main(row: Row) -> bool
-    ensures { result ≡ main_needed row }
+    ensures { result ≡ spec_needs_main row }
 {
     is_single(row) || matches!(row, Row::Tags | Row::Fields)
 }
 
 /// Whether it is the row under `VALOF`.
 pub fn is_value(row: Row) -> bool
-    ensures { result ≡ value row }
+    ensures { result ≡ spec_is_value row }
 {
     matches!(row, Row::Value)
 }
@@ -202,7 +202,7 @@ fn own_row(sort: Sort) -> Option<Row>
 
 /// The row under a main line of this one, whose words say none.
 fn under_main(row: Row) -> Row
-    ensures { result ≡ below row }
+    ensures { result ≡ spec_under_main row }
 {
     match row {
         Row::Conditions
@@ -218,7 +218,7 @@ fn under_main(row: Row) -> Row
 
 /// What may stand under a line that itself stands under the row.
 pub fn row_under(row: Row, sort: Sort) -> Row
-    ensures { result ≡ under row sort }
+    ensures { result ≡ spec_row_under row sort }
 {
     match own_row(sort) {
         Some(own) => own,

@@ -1,9 +1,9 @@
 //! Worked rows of the definitions. For each line of a unit `true` says that it stands wrong or lacks something.
-ghost use Rattle.occ_expression_forms.specs.declared.tree.Dimension.TheVariants as d;
-ghost use Rattle.occ_expression_forms.specs.declared.tree.Element.TheVariants as el;
-ghost use Rattle.occ_expression_forms.specs.declared.tree.Expr.TheVariants as e;
-ghost use Rattle.occ_expression_forms.specs.declared.tree.Literal.TheVariants as l;
-ghost use Rattle.occ_expression_forms.specs.declared.tree.Operand.TheVariants as o;
+ghost use Rattle.occ_forms_expressions.specs.declared.tree.Dimension.TheVariants as d;
+ghost use Rattle.occ_forms_expressions.specs.declared.tree.Element.TheVariants as el;
+ghost use Rattle.occ_forms_expressions.specs.declared.tree.Expr.TheVariants as e;
+ghost use Rattle.occ_forms_expressions.specs.declared.tree.Literal.TheVariants as l;
+ghost use Rattle.occ_forms_expressions.specs.declared.tree.Operand.TheVariants as o;
 ghost use Rattle.occ_forms.specs.declared.tree.Construct.TheVariants as k;
 ghost use Rattle.occ_forms.specs.declared.tree.Detail.TheVariants as de;
 ghost use Rattle.occ_forms.specs.declared.tree.Form.TheVariants as f;
@@ -18,7 +18,7 @@ ghost use Rattle.occ_tree.specs.Sorts.{form_sort};
 ghost use Rattle.occ_tree.specs.Wrong.{wrong};
 
 /// The parent of a line is the last earlier line of smaller depth, and those with the same parent stand beside each
-/// other, whatever their depths. Lines before are told from the nearest on.
+/// other, whatever their depths. Lines before are reported from the nearest on.
 pub fn nesting_rows()
     ensures nearest { parent_depth (at 2 so.Action ∷ at 1 so.Block ∷ at 0 so.ProcedureHead ∷ []) 2 ≡ Some 1 }
     ensures deeper { parent_depth (at 2 so.Block ∷ at 1 so.Block ∷ []) 5 ≡ Some 2 }
@@ -37,7 +37,7 @@ pub fn file_rows()
     ensures empty { wrong [] ≡ [] }
 {}
 
-/// Under `SEQ` and `PAR` stand any number of processes, under a replicated one one, each behind its specifications.
+/// Under `SEQ` and `PAR` stand any number of processes, under a replicated one one, each after its specifications.
 pub fn block_rows()
     ensures any { in_procedure (at 1 so.Block ∷ at 2 so.Declaration ∷ at 2 so.Action ∷ at 2 so.Call ∷ at 2 so.LocalSpecification ∷ at 2 so.Input ∷ []) ≡ false ∷ false ∷ false ∷ false ∷ false ∷ false ∷ false ∷ false ∷ [] }
     ensures empty { in_procedure (at 1 so.Block ∷ []) ≡ false ∷ false ∷ false ∷ [] }
@@ -91,7 +91,7 @@ pub fn selection_rows()
     ensures typed { in_procedure (at 1 so.CaseInput ∷ at 2 so.Tag ∷ at 3 so.Action ∷ []) ≡ false ∷ false ∷ true ∷ true ∷ false ∷ [] }
 {}
 
-/// Under the head of a function stands one `VALOF`, and under it one process and a `RESULT` directly behind it.
+/// Under the head of a function stands one `VALOF`, and under it one process and a `RESULT` directly after it.
 pub fn function_rows()
     ensures right { in_function (at 1 so.Declaration ∷ at 1 so.ValueOf ∷ at 2 so.Declaration ∷ at 2 so.Action ∷ at 2 so.Result ∷ []) ≡ false ∷ false ∷ false ∷ false ∷ false ∷ false ∷ false ∷ [] }
     ensures lacking { in_function ([]) ≡ true ∷ false ∷ [] }
@@ -138,7 +138,7 @@ pub fn depth_rows()
     ensures falling { in_procedure (at 1 so.Block ∷ at 4 so.Action ∷ at 3 so.Action ∷ at 2 so.Action ∷ []) ≡ false ∷ false ∷ true ∷ true ∷ false ∷ false ∷ [] }
 {}
 
-/// A head and its close stand right behind each other, also where the head is the deeper one. A head without its close and a close
+/// A head and its close stand right after each other, also where the head is the deeper one. A head without its close and a close
 /// without its head are wrong, and are no specification.
 pub fn close_rows()
     ensures no_close { in_procedure (at 1 so.Action ∷ at 1 so.ProcedureHead ∷ at 2 so.Action ∷ []) ≡ false ∷ false ∷ true ∷ false ∷ false ∷ [] }

@@ -4,8 +4,8 @@ ghost use Rattle.std.specs.List.{list_any};
 ghost use Rattle.occ_tree.specs.declared.row.Row.{Row};
 ghost use Rattle.occ_tree.specs.declared.sort.Sort.{Sort};
 ghost use Rattle.occ_tree.specs.inside.Elders.{elders_of};
-ghost use Rattle.occ_tree.specs.Siblings.{begins_specification as beginning, ends_specified as ending_specified, first_is, is_disordered as disordered, is_loose as loose, is_misplaced as misplaced, is_one_too_many as one_too_many, lacks as lacking};
-ghost use Rattle.occ_tree.specs.Table.{is_close as close, is_main as main, is_process as process, is_result as result_line};
+ghost use Rattle.occ_tree.specs.Siblings.{begins_specification as spec_begins_specification, ends_specified as spec_ends_specified, first_is, is_disordered as spec_is_disordered, is_loose as spec_is_loose, is_misplaced as spec_is_misplaced, is_one_too_many as spec_is_one_too_many, lacks as spec_lacks};
+ghost use Rattle.occ_tree.specs.Table.{is_close as spec_is_close, is_main as main, is_process as process, is_result as spec_is_result};
 
 use super::row::{
     Row, is_close, is_head, is_main, is_process, is_result, is_single, is_value, lets_line,
@@ -57,33 +57,33 @@ impl Elders {
     }
 }
 
-/// Whether it is a close that is not right behind a head, or a head that is not right before a close.
+/// Whether it is a close that is not right after a head, or a head that is not right before a close.
 fn is_loose(elders: Elders, sort: Sort, before_close: bool) -> bool
-    ensures { (row : Row) (before : List Sort) → elders ≡ elders_of row before → result ≡ loose before sort before_close }
+    ensures { (row : Row) (before : List Sort) → elders ≡ elders_of row before → result ≡ spec_is_loose before sort before_close }
 {
     is_close(sort) && !elders.head || is_head(sort) && !before_close
 }
 
 /// Whether it is a main line where there may be one and there is one already.
 fn is_one_too_many(row: Row, elders: Elders, sort: Sort) -> bool
-    ensures { (before : List Sort) → elders ≡ elders_of row before → result ≡ one_too_many row before sort }
+    ensures { (before : List Sort) → elders ≡ elders_of row before → result ≡ spec_is_one_too_many row before sort }
 {
     is_single(row) && is_main(row, sort) && elders.main
 }
 
-/// Whether it is a second process or `RESULT` under `VALOF`, or a `RESULT` that is not directly behind the first
+/// Whether it is a second process or `RESULT` under `VALOF`, or a `RESULT` that is not directly after the first
 /// process.
 fn is_disordered(row: Row, elders: Elders, sort: Sort) -> bool
-    ensures { (before : List Sort) → elders ≡ elders_of row before → result ≡ disordered row before sort }
+    ensures { (before : List Sort) → elders ≡ elders_of row before → result ≡ spec_is_disordered row before sort }
 {
     is_value(row)
         && (is_process(sort) && elders.process
             || is_result(sort) && (elders.result || !elders.first_process))
 }
 
-/// Whether a line of this sort cannot stand in the row behind those, and right before a close or not.
+/// Whether a line of this sort cannot stand in the row after those, and right before a close or not.
 pub fn is_misplaced(row: Row, elders: Elders, sort: Sort, before_close: bool) -> bool
-    ensures { (before : List Sort) → elders ≡ elders_of row before → result ≡ misplaced row before sort before_close }
+    ensures { (before : List Sort) → elders ≡ elders_of row before → result ≡ spec_is_misplaced row before sort before_close }
 {
     !may_stand(row, sort)
         || is_loose(elders, sort, before_close)
@@ -93,7 +93,7 @@ pub fn is_misplaced(row: Row, elders: Elders, sort: Sort, before_close: bool) ->
 
 /// Whether a close comes first.
 fn starts_with_close(sorts: &[Sort]) -> bool
-    ensures { result ≡ first_is close sorts.now }
+    ensures { result ≡ first_is spec_is_close sorts.now }
 {
     match sorts.first() {
         Some(sort) => is_close(*sort),
@@ -101,16 +101,16 @@ fn starts_with_close(sorts: &[Sort]) -> bool
     }
 }
 
-/// Whether the line is a specification, or a head with its close right behind it.
+/// Whether the line is a specification, or a head with its close right after it.
 fn begins_specification(row: Row, sort: Sort, after: &[Sort]) -> bool
-    ensures { result ≡ beginning row sort after.now }
+    ensures { result ≡ spec_begins_specification row sort after.now }
 {
     lets_line(row, sort) || takes_specifications(row) && is_head(sort) && starts_with_close(after)
 }
 
-/// Whether one of the specifications has no main line of the row behind it.
+/// Whether one of the specifications has no main line of the row after it.
 fn ends_specified(row: Row, sorts: &[Sort]) -> bool
-    ensures { result ≡ ending_specified row sorts.now }
+    ensures { result ≡ spec_ends_specified row sorts.now }
 {
     let mut specified = false;
     let mut rest = sorts;
@@ -139,14 +139,14 @@ fn has_process(sorts: &[Sort]) -> bool
 }
 
 fn has_result(sorts: &[Sort]) -> bool
-    ensures { result ≡ list_any result_line sorts.now }
+    ensures { result ≡ list_any spec_is_result sorts.now }
 {
     sorts.iter().any(|sort| is_result(*sort))
 }
 
 /// Whether a parent of this row lacks something, these being the lines under it.
 pub fn lacks(row: Row, sorts: &[Sort]) -> bool
-    ensures { result ≡ lacking row sorts.now }
+    ensures { result ≡ spec_lacks row sorts.now }
 {
     needs_main(row) && !has_main(row, sorts)
         || is_value(row) && !(has_process(sorts) && has_result(sorts))

@@ -1,6 +1,6 @@
 //! The trees of a unit, or its faults of shape. Trees are made without faults only, so they are 64 levels deep at most.
 ghost use Rattle.std.specs.Prelude.{◌≡◌, [], IfErr, IfOk};
-ghost use Rattle.occ_tree.specs.Faults.{shape_faults as shape_faults_of};
+ghost use Rattle.occ_tree.specs.Faults.{shape_faults as spec_shape_faults};
 ghost use Rattle.occ_tree.specs.Forest.{forest_of, nested};
 ghost use Rattle.occ_tree.specs.Shapes.{IsShapeOf, Refuses};
 ghost use Rattle.occ_tree.specs.declared.unit.ShapeFault.TheVariants.{Memory};
@@ -50,7 +50,7 @@ impl From<AllocError> for ShapeFault {
 pub fn shape(alloc: Global, lines: Items<ExpandedLine>) -> Result<Unit, ShapeFault>
     ensures unit { IfOk result (λ unit. IsShapeOf lines unit.roots) }
     ensures nested { IfOk result (λ unit. forest_of unit.roots ≡ nested lines) }
-    ensures clean { IfOk result (λ unit. shape_faults_of lines ≡ []) }
+    ensures clean { IfOk result (λ unit. spec_shape_faults lines ≡ []) }
     ensures faults { IfErr result (λ fault. Refuses lines fault) }
 {
     let faults = shape_faults(alloc, lines.as_slice())?;

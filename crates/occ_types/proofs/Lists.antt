@@ -49,15 +49,15 @@ pub within_end : {X : Type 0} (xs ys : List X) (i : ℕ) → length xs ≤ i →
 within_end {X} xs ys i h all = (λ _. subst (λ (zs : List X). IsWithin zs ys) (take_all i xs h) all, λ _. refl)
 
 pub within_not : {X : Type 0} (b : Bool) (xs ys : List X) (i : ℕ) (x : X) → i < length xs → x ≡ get_or xs i x → b ≡ false → (IsTrue b ↔ Contains ys x) → IsTrue false ↔ IsWithin xs ys
-within_not b xs ys i x h at is_false (told, tells) = (λ e. absurd cc, λ all. sym is_false ∙ tells (all x (i, h, sym at)))
+within_not b xs ys i x h at is_false (reported, reports) = (λ e. absurd cc, λ all. sym is_false ∙ reports (all x (i, h, sym at)))
 
--- a test of items, one by one, tells whether the lists are equal
-pub tells_equal : {X : Type 0} (b : Bool) (xs ys : List X) → (IsTrue b ↔ AllZip (λ (x y : X). x ≡ y) xs ys) → IsTrue b ↔ (xs ≡ ys)
-tells_equal b xs ys (there, back) = (λ h. zip_equal xs ys (there h), λ h. back (equal_zip xs ys h))
+-- a test of items, one by one, says whether the lists are equal
+pub reports_equal : {X : Type 0} (b : Bool) (xs ys : List X) → (IsTrue b ↔ AllZip (λ (x y : X). x ≡ y) xs ys) → IsTrue b ↔ (xs ≡ ys)
+reports_equal b xs ys (there, back) = (λ h. zip_equal xs ys (there h), λ h. back (equal_zip xs ys h))
 
--- where the one list is within the other, the way back tells whether they are the same set
-pub tells_same_set : {X : Type 0} (b : Bool) (xs ys : List X) → IsWithin xs ys → (IsTrue b ↔ IsWithin ys xs) → IsTrue b ↔ IsSameSet xs ys
-tells_same_set b xs ys there (told, tells) = (λ h. record { there = there; back = told h }, λ same. tells same.back)
+-- where the one list is within the other, the way back says whether they are the same set
+pub reports_same_set : {X : Type 0} (b : Bool) (xs ys : List X) → IsWithin xs ys → (IsTrue b ↔ IsWithin ys xs) → IsTrue b ↔ IsSameSet xs ys
+reports_same_set b xs ys there (reported, reports) = (λ h. record { there = there; back = reported h }, λ same. reports same.back)
 
-pub tells_no_set : {X : Type 0} (b : Bool) (xs ys : List X) → b ≡ false → (IsTrue b ↔ IsWithin xs ys) → IsTrue b ↔ IsSameSet xs ys
-tells_no_set b xs ys is_false (told, tells) = (λ h. absurd cc, λ same. tells same.there)
+pub reports_no_set : {X : Type 0} (b : Bool) (xs ys : List X) → b ≡ false → (IsTrue b ↔ IsWithin xs ys) → IsTrue b ↔ IsSameSet xs ys
+reports_no_set b xs ys is_false (reported, reports) = (λ h. absurd cc, λ same. reports same.there)

@@ -44,15 +44,15 @@ abbrev pub through_name : {X : Type 0} → X → (OccType → X) → Option (Lis
 through_name here inner None = here
 through_name here inner (Some named) = inner named.1
 
--- what is told of the first type without a name under the names of this one
+-- what is reported of the first type without a name under the names of this one
 abbrev pub beneath_step : {X : Type 0} → (OccType → X) → OccType-F (Unit {0}) (OccType → X) (Unit {0}) (Unit {0}) (Unit {0}) → OccType → X
-beneath_step tell (OccType-F.Primitive primitive) self = tell self
-beneath_step tell (OccType-F.Array n inner) self = tell self
-beneath_step tell (OccType-F.Record packing fields) self = tell self
-beneath_step tell (OccType-F.Named name inner) self = through_name (tell self) inner (as_named self)
-beneath_step tell (OccType-F.Channel carried) self = tell self
-beneath_step tell OccType-F.Timer self = tell self
-beneath_step tell OccType-F.Unknown self = tell self
+beneath_step report (OccType-F.Primitive primitive) self = report self
+beneath_step report (OccType-F.Array n inner) self = report self
+beneath_step report (OccType-F.Record packing fields) self = report self
+beneath_step report (OccType-F.Named name inner) self = through_name (report self) inner (as_named self)
+beneath_step report (OccType-F.Channel carried) self = report self
+beneath_step report OccType-F.Timer self = report self
+beneath_step report OccType-F.Unknown self = report self
 
 -- the type without its outer names
 unfoldable pub unnamed : OccType → OccType

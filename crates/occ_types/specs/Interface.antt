@@ -24,7 +24,7 @@ pub record IsSameExport (a b : Export) : Type 0 where
 abbrev pub IsSameInterface : Interface → Interface → Type 0
 IsSameInterface a b = AllZip IsSameExport a.exports b.exports
 
--- a relation that tells which things count as one
+-- a relation that says which things count as one
 pub record IsEquivalence {X : Type 0} (R : X → X → Type 0) : Type 0 where
   pub reflexive : (a : X) → R a a
   pub symmetric : (a b : X) → R a b → R b a

@@ -3,7 +3,9 @@ ghost use Rattle.std.specs.Prelude.{IsTrue, ◌≡◌, ◌↔◌};
 ghost use Rattle.std.specs.List.{AllZip, Contains};
 ghost use Rattle.occ_types.specs.Interface.{IsSameExport, IsSameInterface, IsSameSet, IsWithin};
 
-use super::{Export, Formal, FormalUse, Interface, OccType, PartSelector, same_type};
+use super::interface::{Export, Formal, FormalUse, Interface, PartSelector};
+use super::same::same_type;
+use super::types::OccType;
 use occ_base::{Items, Shared};
 
 /// Whether two interfaces are the same: the same exports in the same order, where the uses of formals are compared as

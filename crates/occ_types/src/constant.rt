@@ -1,10 +1,10 @@
 //! Arithmetic of constants: operators, monadic operators and conversions, with their faults. `docs/LANGUAGE.md,
 //! Constants`.
 ghost use Rattle.std.specs.Prelude.{bit_and as and_bits, bit_or as or_bits, bit_xor as xor_bits, int_div, int_rem, neg_ℤ, pos, ◌+ℤ◌, ◌-ℤ◌, ◌%◌, ◌*ℤ◌, ◌*◌, ◌-◌, ◌/◌, ◌≡◌, ◌≢◌, ◌^◌};
-ghost use Rattle.occ_types.specs.Constant.{bits_of, converted, count_of, divided, folded, folded_one, outcome as outcome_of, pattern_of, settled, settled_pattern, shifted};
+ghost use Rattle.occ_types.specs.Constant.{bits_of, converted, count_of, divided, folded, folded_one, outcome as spec_outcome, pattern_of, settled, settled_pattern, shifted};
 
 use super::range::{bits, pattern, power, settle, settle_pattern, wrap};
-use super::{Primitive, Value};
+use super::value::{Primitive, Value};
 use thiserror::Error;
 
 /// Why a constant expression has no value.
@@ -87,7 +87,7 @@ pub fn fold_one(op: Monadic, a: Value) -> Result<Value, ConstFault>
 
 /// What an operator gives on two numbers, the first of a type.
 fn outcome(op: Operator, of: Primitive, x: i64, y: i64) -> Result<Value, ConstFault>
-    ensures { result ≡ outcome_of op of x y }
+    ensures { result ≡ spec_outcome op of x y }
 {
     match op {
         Operator::Add => settle(of, sum(x, y)),

@@ -3,15 +3,16 @@
 #![tactic(auto, using(crate::proofs::Agreeing::fit_rules))]
 
 ghost use Rattle.std.specs.Prelude.{◌≡◌, MatchOption, None, Some};
-ghost use Rattle.occ_types.specs.View.{as_array as array_in, as_primitive as primitive_without_name, fields_in, is_unknown as unknown};
-ghost use Rattle.occ_types.specs.Fits.{alike as same_but_names, counts_fit, field_alike as field_same_but_names, fields_alike as fields_same_but_names, is_data as holds_data, field_fits as field_agrees, fields_fit as fields_agree, fits as agree, item_fits as item_agrees, items_fit as items_agree, protocol_fits as protocol_agrees, tag_fits as tag_agrees, tags_fit as tags_agree, unnamed as without_name};
+ghost use Rattle.occ_types.specs.View.{as_array as spec_as_array, as_primitive as spec_as_primitive, fields_in, is_unknown as spec_is_unknown};
+ghost use Rattle.occ_types.specs.Fits.{alike as spec_alike, counts_fit, field_alike as spec_field_alike, fields_alike as spec_fields_alike, is_data as spec_is_data, field_fits as spec_field_fits, fields_fit as spec_fields_fit, fits as spec_fits, item_fits as spec_item_fits, items_fit as spec_items_fit, protocol_fits as spec_protocol_fits, tag_fits as spec_tag_fits, tags_fit as spec_tags_fit, unnamed as spec_unnamed};
 
-use super::{Field, Item, OccType, Primitive, Protocol, Tag};
+use super::types::{Field, Item, OccType, Protocol, Tag};
+use super::value::Primitive;
 use occ_base::Shared;
 
 /// The type under the names of a type: itself, if it has none.
 pub fn unnamed(of: &OccType) -> &OccType
-    ensures { result.now ≡ without_name of.now }
+    ensures { result.now ≡ spec_unnamed of.now }
 {
     match of {
         OccType::Named(_, inner) => unnamed(inner.get()),
@@ -22,7 +23,7 @@ pub fn unnamed(of: &OccType) -> &OccType
 /// Whether two types are one, but for numbers of components that are not known.
 #[cycle(fits)]
 pub fn fits(a: &OccType, b: &OccType) -> bool
-    ensures { result ≡ agree a.now b.now }
+    ensures { result ≡ spec_fits a.now b.now }
 {
     match a {
         OccType::Primitive(x) => match b {
@@ -53,7 +54,7 @@ pub fn fits(a: &OccType, b: &OccType) -> bool
 
 #[cycle(fits)]
 fn protocol_fits(a: &Protocol, b: &Protocol) -> bool
-    ensures { result ≡ protocol_agrees a.now b.now }
+    ensures { result ≡ spec_protocol_fits a.now b.now }
 {
     match a {
         Protocol::Any => matches!(b, Protocol::Any),
@@ -75,7 +76,7 @@ fn protocol_fits(a: &Protocol, b: &Protocol) -> bool
 
 #[cycle(fits)]
 fn item_fits(a: &Item, b: &Item) -> bool
-    ensures { result ≡ item_agrees a.now b.now }
+    ensures { result ≡ spec_item_fits a.now b.now }
 {
     match a {
         Item::Value(of) => match b {
@@ -91,21 +92,21 @@ fn item_fits(a: &Item, b: &Item) -> bool
 
 #[cycle(fits)]
 fn field_fits(a: &Field, b: &Field) -> bool
-    ensures { result ≡ field_agrees a.now b.now }
+    ensures { result ≡ spec_field_fits a.now b.now }
 {
     a.name == b.name && fits(a.of.get(), b.of.get())
 }
 
 #[cycle(fits)]
 fn tag_fits(a: &Tag, b: &Tag) -> bool
-    ensures { result ≡ tag_agrees a.now b.now }
+    ensures { result ≡ spec_tag_fits a.now b.now }
 {
     a.name == b.name && items_fit(a.items.as_slice(), b.items.as_slice())
 }
 
 #[cycle(fits)]
 fn fields_fit(a: &[Field], b: &[Field]) -> bool
-    ensures { result ≡ fields_agree a.now b.now }
+    ensures { result ≡ spec_fields_fit a.now b.now }
 {
     let mut others = b;
     for field in a {
@@ -122,7 +123,7 @@ fn fields_fit(a: &[Field], b: &[Field]) -> bool
 
 #[cycle(fits)]
 fn items_fit(a: &[Item], b: &[Item]) -> bool
-    ensures { result ≡ items_agree a.now b.now }
+    ensures { result ≡ spec_items_fit a.now b.now }
 {
     let mut others = b;
     for item in a {
@@ -139,7 +140,7 @@ fn items_fit(a: &[Item], b: &[Item]) -> bool
 
 #[cycle(fits)]
 fn tags_fit(a: &[Tag], b: &[Tag]) -> bool
-    ensures { result ≡ tags_agree a.now b.now }
+    ensures { result ≡ spec_tags_fit a.now b.now }
 {
     let mut others = b;
     for tag in a {
@@ -158,7 +159,7 @@ fn tags_fit(a: &[Tag], b: &[Tag]) -> bool
 /// field whose line has a fault is alike with any of its name.
 #[cycle(alike)]
 pub fn alike(a: &OccType, b: &OccType) -> bool
-    ensures { result ≡ same_but_names a.now b.now }
+    ensures { result ≡ spec_alike a.now b.now }
 {
     match a {
         OccType::Named(_, inner) => alike(inner.get(), b),
@@ -183,14 +184,14 @@ pub fn alike(a: &OccType, b: &OccType) -> bool
 
 #[cycle(alike)]
 fn field_alike(a: &Field, b: &Field) -> bool
-    ensures { result ≡ field_same_but_names a.now b.now }
+    ensures { result ≡ spec_field_alike a.now b.now }
 {
     a.name == b.name && (is_unknown(b.of.get()) || alike(a.of.get(), b.of.get()))
 }
 
 #[cycle(alike)]
 fn fields_alike(a: &[Field], b: &[Field]) -> bool
-    ensures { result ≡ fields_same_but_names a.now b.now }
+    ensures { result ≡ spec_fields_alike a.now b.now }
 {
     let mut others = b;
     for field in a {
@@ -207,7 +208,7 @@ fn fields_alike(a: &[Field], b: &[Field]) -> bool
 
 /// Whether a type is no channel, no timer and no array of them.
 pub fn is_data(of: &OccType) -> bool
-    ensures { result ≡ holds_data of.now }
+    ensures { result ≡ spec_is_data of.now }
 {
     match of {
         OccType::Array(_, inner) => is_data(inner.get()),
@@ -229,7 +230,7 @@ fn count_fits(a: Option<u32>, b: Option<u32>) -> bool
 
 /// The primitive type that a type is, if it is one without a name.
 pub fn as_primitive(of: &OccType) -> Option<Primitive>
-    ensures { result ≡ primitive_without_name of.now }
+    ensures { result ≡ spec_as_primitive of.now }
 {
     match of {
         OccType::Primitive(primitive) => Some(*primitive),
@@ -239,14 +240,14 @@ pub fn as_primitive(of: &OccType) -> Option<Primitive>
 
 /// The primitive type that a type is under its names, if it is one.
 pub fn base_of(of: &OccType) -> Option<Primitive>
-    ensures { result ≡ primitive_without_name (without_name of.now) }
+    ensures { result ≡ spec_as_primitive (spec_unnamed of.now) }
 {
     as_primitive(unnamed(of))
 }
 
 /// The number of components of an array without a name, if it is known, and their type.
 pub fn array_of(of: &OccType) -> Option<(Option<u32>, &Shared<OccType>)>
-    ensures { MatchOption result (array_in of.now ≡ None) (λ parts. array_in of.now ≡ Some (parts.0, parts.1.now)) }
+    ensures { MatchOption result (spec_as_array of.now ≡ None) (λ parts. spec_as_array of.now ≡ Some (parts.0, parts.1.now)) }
 {
     match of {
         OccType::Array(count, inner) => Some((*count, inner)),
@@ -266,7 +267,7 @@ pub fn fields_of(of: &OccType) -> Option<&[Field]>
 
 /// Whether the type is that of a field whose line has a fault.
 pub fn is_unknown(of: &OccType) -> bool
-    ensures { result ≡ unknown of.now }
+    ensures { result ≡ spec_is_unknown of.now }
 {
     matches!(of, OccType::Unknown)
 }

@@ -1,5 +1,5 @@
 //! Interfaces: exports with their formals, results, uses of formals and effect. They have no line numbers.
-use super::OccType;
+use super::types::OccType;
 use occ_base::{Items, Name, Shared};
 
 /// What a unit shows to those that use it: its exports in order of declaration. It has no line numbers, no

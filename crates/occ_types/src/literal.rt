@@ -3,7 +3,7 @@ ghost use Rattle.std.specs.Prelude.{◌≡◌};
 ghost use Rattle.occ_types.specs.Constant.{number_value, pattern_value};
 
 use super::range::{bits, power, settle, settle_pattern};
-use super::{Primitive, Value};
+use super::value::{Primitive, Value};
 
 /// The value of a type whose number is n, if the type has it.
 pub fn value_of_number(of: Primitive, n: i128) -> Option<Value>

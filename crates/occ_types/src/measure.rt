@@ -5,7 +5,7 @@
 ghost use Rattle.std.specs.Prelude.{◌≡◌};
 ghost use Rattle.occ_types.specs.Measure.{above, all_of, beside, field_measures, held, item_measure, item_measures, measure_of, none, one, protocol_measure, tag_measures};
 
-use super::{Field, Item, OccType, Protocol, Tag};
+use super::types::{Field, Item, OccType, Protocol, Tag};
 
 /// How deep a type is when each name in it is written out, and how many types it then has. 4,294,967,295 stands
 /// for all that is more.

@@ -2,7 +2,8 @@
 ghost use Rattle.std.specs.Prelude.{int_le, true, ◌<◌, ◌≡◌, ◌≤◌, ◌^◌};
 ghost use Rattle.occ_types.specs.Constant.{bits_of, greatest_of, least_of, number_of_pattern, pattern_of, settled, settled_pattern, value_of, wrapped};
 
-use super::{ConstFault, Primitive, Value};
+use super::constant::ConstFault;
+use super::value::{Primitive, Value};
 
 /// The number of bits of a type.
 pub(crate) fn bits(of: Primitive) -> u32

@@ -1,7 +1,7 @@
 //! Whether two types or two protocols are one tree.
 ghost use Rattle.std.specs.Prelude.{IsTrue, ◌≡◌, ◌↔◌};
 
-use super::{Field, Item, OccType, Protocol, Tag};
+use super::types::{Field, Item, OccType, Protocol, Tag};
 
 /// Whether two types are one. Two named types are if their names and their definitions are equal. It takes no memory,
 /// and goes once through both until they differ.

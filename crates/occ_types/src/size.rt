@@ -4,7 +4,8 @@
 ghost use Rattle.std.specs.Prelude.{IfSome, ◌+◌, ◌≡◌, ◌≤◌};
 ghost use Rattle.occ_types.specs.Size.{bytes_in, capped, cut, field_sizes, is_over, primitive_size, product_of, size_of, total_of};
 
-use super::{Field, OccType, Primitive};
+use super::types::{Field, OccType};
+use super::value::Primitive;
 
 /// The bytes of a type: none for a channel or a timer, for an open dimension, and for more than 2,147,483,647.
 pub fn bytes_of(of: &OccType) -> Option<u32>

@@ -1,5 +1,5 @@
 //! Types and protocols, with every name resolved to its definition. Parts are shared.
-use super::Primitive;
+use super::value::Primitive;
 use occ_base::{Items, Name, Shared};
 
 /// A type, with each name in it resolved to its definition. Types that hold a type share it.

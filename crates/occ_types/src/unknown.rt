@@ -2,14 +2,14 @@
 #![tactic(auto, using(crate::proofs::Unknowns::unknown_rules))]
 
 ghost use Rattle.std.specs.Prelude.{◌≡◌};
-ghost use Rattle.occ_types.specs.Unknown.{any_of, fields_unknown, holds_unknown as unknown_inside, item_unknown, items_unknown, protocol_unknown, tags_unknown};
+ghost use Rattle.occ_types.specs.Unknown.{any_of, fields_unknown, holds_unknown as spec_holds_unknown, item_unknown, items_unknown, protocol_unknown, tags_unknown};
 
-use super::{Field, Item, OccType, Protocol, Tag};
+use super::types::{Field, Item, OccType, Protocol, Tag};
 
 /// Whether the type holds what is not known: a field whose line has a fault.
 #[cycle(unknown)]
 pub fn holds_unknown(of: &OccType) -> bool
-    ensures { result ≡ unknown_inside of.now }
+    ensures { result ≡ spec_holds_unknown of.now }
 {
     match of {
         OccType::Primitive(_) | OccType::Timer => false,

@@ -1,2 +1,2 @@
 -- The kinds of blocks one by one, passed on.
-pub use Rattle.occ_typed_lines.specs.declared.tree.BlockKind.TheVariants.{Sequence, Parallel, Conditional, Alternation}
+pub use Rattle.occ_typing_lines.specs.declared.tree.BlockKind.TheVariants.{Sequence, Parallel, Conditional, Alternation}

@@ -1,9 +1,9 @@
 -- What stands in scope where no line has a fault: names of which it is known what they stand for.
 use Rattle.std.specs.Prelude.{◌≡◌, false, Some, None, List, [], ◌∷◌}
-use Rattle.occ_names.specs.declared.meaning.ScopeEntry.{ScopeEntry}
-use Rattle.occ_names.specs.declared.meaning.Meaning.{Meaning}
-use Rattle.occ_names.specs.declared.meaning.Meaning.TheVariants as m
-use Rattle.occ_names.specs.declared.scope.Scope.{Scope}
+use Rattle.occ_scope.specs.declared.meaning.ScopeEntry.{ScopeEntry}
+use Rattle.occ_scope.specs.declared.meaning.Meaning.{Meaning}
+use Rattle.occ_scope.specs.declared.meaning.Meaning.TheVariants as m
+use Rattle.occ_scope.specs.declared.scope.Scope.{Scope}
 use Rattle.occ_types.specs.Unknown.{holds_unknown, protocol_unknown}
 use Rattle.occ_types.specs.declared.interface.Formal.{Formal}
 use Rattle.occ_types.specs.declared.types.OccType.{OccType}

@@ -6,7 +6,7 @@ use Rattle.occ_typing.specs.Units.{type_faults}
 use Rattle.occ_typing.specs.declared.unit.TypeFault.{TypeFault}
 use Rattle.occ_typing.specs.declared.unit.TypeFault.TheVariants as fault
 use Rattle.occ_typing.specs.declared.unit.Typed.{Typed}
-use Rattle.occ_typed_lines.specs.declared.using.Import.{Import}
+use Rattle.occ_typing_lines.specs.declared.using.Import.{Import}
 
 -- the unit has no diagnostics of names and types, and these are its lines
 pub record IsTypedTree (is : List Import) (f : Forest) (t : Typed) : Type 0 where

@@ -2,21 +2,21 @@
 use Rattle.std.specs.Prelude.{Bool, true, false, List, [], ◌∷◌}
 use Rattle.occ_forms.specs.declared.tree.Form.{Form}
 use Rattle.occ_forms.specs.declared.tree.Form.TheVariants as form
-use Rattle.occ_names.specs.Visible.{nothing, with_all}
-use Rattle.occ_names.specs.declared.scope.Scope.{Scope}
+use Rattle.occ_scope.specs.Visible.{nothing, with_all}
+use Rattle.occ_scope.specs.declared.scope.Scope.{Scope}
 use Rattle.occ_project.specs.declared.expanded.ExpandedBody.{ExpandedBody}
 use Rattle.occ_project.specs.declared.expanded.ExpandedBody.TheVariants as body
 use Rattle.occ_project.specs.declared.expanded.ExpandedLine.{ExpandedLine}
 use Rattle.occ_project.specs.Locations.{location_of}
 use Rattle.occ_tree.specs.Forest.{Forest, Empty, Tree}
-use Rattle.occ_typed_lines.specs.Lines.{Judged, body_of}
-use Rattle.occ_typed_lines.specs.Judging.{judged}
-use Rattle.occ_typing.specs.Units.{behind_line}
-use Rattle.occ_typed_lines.specs.declared.parent.Parent.{Parent}
-use Rattle.occ_typed_lines.specs.declared.parent.Role.{Role}
-use Rattle.occ_typed_lines.specs.declared.parent.Role.TheVariants as role
+use Rattle.occ_typing_lines.specs.Lines.{Judged, body_of}
+use Rattle.occ_typing_lines.specs.Judging.{judged}
+use Rattle.occ_typing.specs.Units.{after_line}
+use Rattle.occ_typing_lines.specs.declared.parent.Parent.{Parent}
+use Rattle.occ_typing_lines.specs.declared.parent.Role.{Role}
+use Rattle.occ_typing_lines.specs.declared.parent.Role.TheVariants as role
 use Rattle.occ_typing.specs.declared.tree.TypedLine.{TypedLine, roll-TypedLine}
-use Rattle.occ_typed_lines.specs.declared.using.Import.{Import}
+use Rattle.occ_typing_lines.specs.declared.using.Import.{Import}
 
 -- ---- processes: actions, constructs and instances that stand where processes may. A choice under IF is none, though it may
 -- be an IF itself; no alternative of an ALT is one, though it may be an input or an ALT itself; and no option or variant is
@@ -65,10 +65,10 @@ typed_line p l x under =
 -- of lines of which their parent says this; s stands in scope at the first of them, and outer at the next item
 abbrev pub typed_lines : List Import → Parent → Scope → Scope → Forest → List TypedLine
 typed_lines is p outer s Empty = []
-typed_lines is p outer s (Tree l under behind) =
+typed_lines is p outer s (Tree l under following) =
     let x = judged is s l.body under p in
     let inner = with_all s x.line.enters in
-    typed_line p l x (typed_lines is x.line.parent inner inner under) ∷ typed_lines is x.line.next outer (behind_line outer s x.line.adds) behind
+    typed_line p l x (typed_lines is x.line.parent inner inner under) ∷ typed_lines is x.line.next outer (after_line outer s x.line.adds) following
 
 -- the first of them
 abbrev pub line_with : List Import → Parent → Scope → ExpandedLine → Forest → TypedLine

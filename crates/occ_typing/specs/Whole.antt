@@ -1,11 +1,11 @@
 -- When the typed tree of a unit is whole: of each line it is known what it is, with all expressions and elements that it
 -- carries, and of each name that comes into scope by it what it stands for.
 use Rattle.std.specs.Prelude.{Option, Some, None, List, [], ◌∷◌}
-use Rattle.occ_names.specs.declared.meaning.ScopeEntry.{ScopeEntry}
-use Rattle.occ_typed_lines.specs.Using.{entries_of}
-use Rattle.occ_typed_lines.specs.declared.tree.TypedForm.{TypedForm}
-use Rattle.occ_typed_lines.specs.declared.tree.TypedForm.TheVariants as t
-use Rattle.occ_typed_lines.specs.declared.using.Import.{Import}
+use Rattle.occ_scope.specs.declared.meaning.ScopeEntry.{ScopeEntry}
+use Rattle.occ_typing_lines.specs.Using.{entries_of}
+use Rattle.occ_typing_lines.specs.declared.tree.TypedForm.{TypedForm}
+use Rattle.occ_typing_lines.specs.declared.tree.TypedForm.TheVariants as t
+use Rattle.occ_typing_lines.specs.declared.using.Import.{Import}
 use Rattle.occ_typing.specs.declared.tree.TypedLine.{TypedLine, out-TypedLine}
 use Rattle.occ_types.specs.declared.interface.Interface.{Interface}
 use Rattle.occ_typing.specs.Known.{AreKnownEntries, IsKnownProcedure}
@@ -44,14 +44,14 @@ abbrev pub AreKnownAdds : Option (List ScopeEntry) → Type 0
 AreKnownAdds None = Unit {0}
 AreKnownAdds (Some xs) = AreKnownEntries xs
 
--- a line: what it is, is whole, and it is known what comes into scope under it and behind it
+-- a line: what it is, is whole, and it is known what comes into scope under it and after it
 abbrev pub IsWholeLine : TypedLine → Type 0
 IsWholeLine l = IsWholeForm (out-TypedLine l).form × AreKnownEntries (out-TypedLine l).enters × AreKnownAdds (out-TypedLine l).adds
 
 -- lines, and all that stand under them
 pub data AreWhole : List TypedLine → Type 0 where
   no_line : AreWhole []
-  one_line : (l : TypedLine) (behind : List TypedLine) → IsWholeLine l → AreWhole (out-TypedLine l).under → AreWhole behind → AreWhole (l ∷ behind)
+  one_line : (l : TypedLine) (following : List TypedLine) → IsWholeLine l → AreWhole (out-TypedLine l).under → AreWhole following → AreWhole (l ∷ following)
 
 abbrev pub AreKnownImports : List Import → Type 0
 AreKnownImports [] = Unit {0}

@@ -2,25 +2,25 @@
 -- replicator. No form of a tree is that of what is unknown. Each part has a type in which nothing is unknown, also what was
 -- free until its place gave it one, and each name a specification of its sort: an element one of an element, a call one of a
 -- function. How parts fit together is not asked. What a tree may be without is the value of what is no constant, the number of
--- components that a segment is taken of, where the array does not tell it, and the base and the count of a replicator that is
+-- components that a segment is taken of, where the array does not report it, and the base and the count of a replicator that is
 -- not known: nothing is said of them.
 use Rattle.std.specs.Prelude.{ℕ, Option, List, [], ◌∷◌}
-use Rattle.occ_names.specs.declared.meaning.Referent.{Referent}
-use Rattle.occ_operands.specs.declared.kind.Known.{Known}
-use Rattle.occ_replicators.specs.declared.tree.TypedReplicator.{TypedReplicator}
-use Rattle.occ_typed.specs.declared.expr.Selector.{Selector, out-Selector}
-use Rattle.occ_typed.specs.declared.expr.Selector.TheOpen.{Selector-F, TypedActual-F, TypedExpr-F}
-use Rattle.occ_typed.specs.declared.expr.TypedActual.{TypedActual, out-TypedActual}
-use Rattle.occ_typed.specs.declared.expr.TypedElement.{TypedElement, out-TypedElement}
-use Rattle.occ_typed.specs.declared.expr.TypedExpr.{TypedExpr, out-TypedExpr}
-use Rattle.occ_typed_exchanges.specs.declared.tree.TypedInput.{TypedInput}
-use Rattle.occ_typed_exchanges.specs.declared.tree.TypedInput.TheVariants as input
-use Rattle.occ_typed_exchanges.specs.declared.tree.TypedOutput.{TypedOutput}
-use Rattle.occ_typed_exchanges.specs.declared.tree.TypedOutput.TheVariants as output
-use Rattle.occ_typed_exchanges.specs.declared.tree.TypedTarget.{TypedTarget}
-use Rattle.occ_typed_exchanges.specs.declared.tree.TypedTarget.TheVariants as target
-use Rattle.occ_typed_lines.specs.declared.tree.TypedGuard.{TypedGuard}
-use Rattle.occ_typed_lines.specs.declared.tree.TypedGuard.TheVariants as guard
+use Rattle.occ_scope.specs.declared.meaning.Referent.{Referent}
+use Rattle.occ_typing_operands.specs.declared.kind.Known.{Known}
+use Rattle.occ_typing_statements.specs.declared.replicator_tree.TypedReplicator.{TypedReplicator}
+use Rattle.occ_typing_rules.specs.declared.expr.Selector.{Selector, out-Selector}
+use Rattle.occ_typing_rules.specs.declared.expr.Selector.TheOpen.{Selector-F, TypedActual-F, TypedExpr-F}
+use Rattle.occ_typing_rules.specs.declared.expr.TypedActual.{TypedActual, out-TypedActual}
+use Rattle.occ_typing_rules.specs.declared.expr.TypedElement.{TypedElement, out-TypedElement}
+use Rattle.occ_typing_rules.specs.declared.expr.TypedExpr.{TypedExpr, out-TypedExpr}
+use Rattle.occ_typing_statements.specs.declared.exchange_tree.TypedInput.{TypedInput}
+use Rattle.occ_typing_statements.specs.declared.exchange_tree.TypedInput.TheVariants as input
+use Rattle.occ_typing_statements.specs.declared.exchange_tree.TypedOutput.{TypedOutput}
+use Rattle.occ_typing_statements.specs.declared.exchange_tree.TypedOutput.TheVariants as output
+use Rattle.occ_typing_statements.specs.declared.exchange_tree.TypedTarget.{TypedTarget}
+use Rattle.occ_typing_statements.specs.declared.exchange_tree.TypedTarget.TheVariants as target
+use Rattle.occ_typing_lines.specs.declared.tree.TypedGuard.{TypedGuard}
+use Rattle.occ_typing_lines.specs.declared.tree.TypedGuard.TheVariants as guard
 use Rattle.occ_types.specs.declared.constant.Monadic.{Monadic}
 use Rattle.occ_types.specs.declared.constant.Operator.{Operator}
 use Rattle.occ_typing.specs.Known.{IsKnownElement, IsKnownFunction, IsKnownType}

@@ -1,4 +1,4 @@
-//! The typed tree of a unit, or what names and types tell of it: its lines, each by what stands in scope there.
+//! The typed tree of a unit, or what names and types report of it: its lines, each by what stands in scope there.
 #![tactic(auto)]
 
 pub mod rows;
@@ -6,6 +6,6 @@ mod tree;
 mod unit;
 mod walk;
 
-pub use occ_typed_lines::{BlockKind, Import, TypedForm, shared_formals, shared_types};
+pub use occ_typing_lines::{BlockKind, Import, TypedForm, shared_formals, shared_types};
 pub use tree::TypedLine;
 pub use unit::{TypeFault, Typed, type_unit};

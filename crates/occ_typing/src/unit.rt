@@ -7,9 +7,9 @@ ghost use Rattle.std.specs.Prelude.{◌≡◌, IfErr, IfOk};
 use super::tree::TypedLine;
 use super::walk::lines;
 use occ_base::{Diag, Items};
-use occ_names::Scope;
+use occ_scope::Scope;
 use occ_tree::Unit;
-use occ_typed_lines::{Import, Role, body_of};
+use occ_typing_lines::{Import, Role, body_of};
 use std::alloc::{AllocError, Global};
 use thiserror::Error;
 

@@ -1,34 +1,34 @@
 //! The walk down the lines of a unit. It enters what each line brings into scope, and leaves it at the end of the item.
 //! `docs/LANGUAGE.md, The lines of a unit`.
-#![tactic(auto, using(occ_typed_lines::proofs::Trees::tree_rules, occ_typed_lines::proofs::Scopes::scope_rules))]
+#![tactic(auto, using(occ_typing_lines::proofs::Trees::tree_rules, occ_typing_lines::proofs::Scopes::scope_rules))]
 
-ghost use Rattle.occ_names.specs.Visible.{back_to, with_all};
+ghost use Rattle.occ_scope.specs.Visible.{back_to, with_all};
 ghost use Rattle.occ_tree.specs.Forest.{forest_of};
 ghost use Rattle.occ_tree.specs.declared.tree.Node.{out-Node};
-ghost use Rattle.occ_typed_lines.specs.Placed.{placed};
-ghost use Rattle.occ_typing.specs.TypedLines.{is_process as counts, is_process_body as counts_body, is_process_form as counts_form, line_with, typed_lines};
-ghost use Rattle.occ_typed_lines.specs.Judging.{judged as told_judged};
-ghost use Rattle.occ_typing.specs.Units.{behind_line as told_behind, line_faults, lines as told_lines};
+ghost use Rattle.occ_typing_lines.specs.Placed.{placed};
+ghost use Rattle.occ_typing.specs.TypedLines.{is_process as spec_is_process, is_process_body as spec_is_process_body, is_process_form as spec_is_process_form, line_with, typed_lines};
+ghost use Rattle.occ_typing_lines.specs.Judging.{judged as spec_judged};
+ghost use Rattle.occ_typing.specs.Units.{after_line as spec_after_line, line_faults, lines as spec_lines};
 ghost use Rattle.occ_typing.specs.inside.Opening.{opened_at, with_children};
 ghost use Rattle.std.specs.Prelude.{◌≡◌, ◌∷◌, ◌++◌, [], IfOk, OnErr, OnOk};
 
 use super::tree::TypedLine;
 use occ_base::{Boxed, Diag, Items};
 use occ_forms::Form;
-use occ_names::{ScopeEntry, Scope};
 use occ_project::{ExpandedBody, Location};
+use occ_scope::{Scope, ScopeEntry};
 use occ_tree::Node;
-use occ_typed_lines::{Import, Line, Parent, Role, TypedForm, judged, place};
+use occ_typing_lines::{Import, Line, Parent, Role, TypedForm, judged, place};
 use std::alloc::{AllocError, Global};
 
-/// What stands in scope behind a line, where so many specifications stood in scope round its item.
-fn go_behind(
+/// What stands in scope after a line, where so many specifications stood in scope round its item.
+fn go_after(
     alloc: Global,
     adds: &Option<Items<ScopeEntry>>,
     outer: usize,
     scope: &mut Scope,
 ) -> Result<(), AllocError>
-    ensures ok { OnOk result (scope.new ≡ told_behind (back_to outer scope.old) scope.old adds.now) }
+    ensures ok { OnOk result (scope.new ≡ spec_after_line (back_to outer scope.old) scope.old adds.now) }
     ensures err { OnErr result (scope.new ≡ scope.old) }
 {
     match adds {
@@ -42,7 +42,7 @@ fn go_behind(
 
 /// Whether a line of this form is a process, where processes may stand.
 fn is_process_form(form: &Form) -> bool
-    ensures { result ≡ counts_form form.now }
+    ensures { result ≡ spec_is_process_form form.now }
 {
     matches!(
         form,
@@ -52,7 +52,7 @@ fn is_process_form(form: &Form) -> bool
 
 /// Whether a line is a process, where processes may stand.
 fn is_process_body(body: &ExpandedBody) -> bool
-    ensures { result ≡ counts_body body.now }
+    ensures { result ≡ spec_is_process_body body.now }
 {
     match body {
         ExpandedBody::Form(form) => is_process_form(form.get()),
@@ -63,7 +63,7 @@ fn is_process_body(body: &ExpandedBody) -> bool
 /// Whether a line whose parent says this of it is a process.
 #[tactic(auto, unfolding(crate::specs::TypedLines::is_process))]
 fn is_process(parent: &Parent, body: &ExpandedBody) -> bool
-    ensures { result ≡ counts parent.now body.now }
+    ensures { result ≡ spec_is_process parent.now body.now }
 {
     match parent.role {
         Role::Process => is_process_body(body),
@@ -95,7 +95,7 @@ struct Begun {
     own: Items<Diag>,
 }
 
-/// A line before those under it; what it says of them, and what it tells itself.
+/// A line before those under it; what it says of them, and what it reports itself.
 fn open(
     alloc: Global,
     imports: &[Import],
@@ -104,11 +104,11 @@ fn open(
     scope: &mut Scope,
     found: &mut Items<Diag>,
 ) -> Result<Begun, AllocError>
-    ensures parent { IfOk result (λ r. r.parent ≡ (told_judged imports.now scope.old (out-Node node.now).line.body (forest_of (out-Node node.now).children) parent).line.parent) }
-    ensures line { IfOk result (λ r. r.opened ≡ opened_at parent (out-Node node.now).line (told_judged imports.now scope.old (out-Node node.now).line.body (forest_of (out-Node node.now).children) parent)) }
-    ensures own { IfOk result (λ r. r.own ≡ placed (out-Node node.now).line (told_judged imports.now scope.old (out-Node node.now).line.body (forest_of (out-Node node.now).children) parent).faults) }
+    ensures parent { IfOk result (λ r. r.parent ≡ (spec_judged imports.now scope.old (out-Node node.now).line.body (forest_of (out-Node node.now).children) parent).line.parent) }
+    ensures line { IfOk result (λ r. r.opened ≡ opened_at parent (out-Node node.now).line (spec_judged imports.now scope.old (out-Node node.now).line.body (forest_of (out-Node node.now).children) parent)) }
+    ensures own { IfOk result (λ r. r.own ≡ placed (out-Node node.now).line (spec_judged imports.now scope.old (out-Node node.now).line.body (forest_of (out-Node node.now).children) parent).faults) }
     ensures scope { OnOk result (scope.new ≡ scope.old) }
-    ensures found { OnOk result (found.new ≡ found.old ++ (told_judged imports.now scope.old (out-Node node.now).line.body (forest_of (out-Node node.now).children) parent).beneath) }
+    ensures found { OnOk result (found.new ≡ found.old ++ (spec_judged imports.now scope.old (out-Node node.now).line.body (forest_of (out-Node node.now).children) parent).beneath) }
 {
     let is_process = is_process(&parent, &node.line.body);
     let mut faults = Items::new(alloc);
@@ -146,7 +146,7 @@ fn open(
     })
 }
 
-/// The line with those under it, behind others, and what its parent says of the lines behind it; so many specifications
+/// The line with those under it, after others, and what its parent says of the lines after it; so many specifications
 /// stood in scope round its item.
 fn close(
     alloc: Global,
@@ -157,10 +157,10 @@ fn close(
     typed: &mut Items<TypedLine>,
 ) -> Result<Parent, AllocError>
     ensures next { IfOk result (λ next. next ≡ opened.next) }
-    ensures scope { OnOk result (scope.new ≡ told_behind (back_to outer scope.old) scope.old opened.adds) }
+    ensures scope { OnOk result (scope.new ≡ spec_after_line (back_to outer scope.old) scope.old opened.adds) }
     ensures typed { OnOk result (typed.new ≡ typed.old ++ with_children opened under ∷ []) }
 {
-    go_behind(alloc, &opened.adds, outer, scope)?;
+    go_after(alloc, &opened.adds, outer, scope)?;
     let Opened {
         place,
         is_process,
@@ -180,7 +180,7 @@ fn close(
     Ok(next)
 }
 
-/// The lines under another, by which these names come into scope: their typed lines and what they tell.
+/// The lines under another, by which these names come into scope: their typed lines and what they report.
 #[cycle(lines)]
 fn inner(
     alloc: Global,
@@ -193,7 +193,7 @@ fn inner(
 ) -> Result<Items<TypedLine>, AllocError>
     ensures typed { IfOk result (λ typed. typed ≡ typed_lines imports.now parent (with_all scope.old enters.now) (with_all scope.old enters.now) (forest_of nodes.now)) }
     ensures scope { OnOk result (scope.new ≡ scope.old) }
-    ensures found { OnOk result (found.new ≡ found.old ++ told_lines imports.now parent (with_all scope.old enters.now) (with_all scope.old enters.now) (forest_of nodes.now)) }
+    ensures found { OnOk result (found.new ≡ found.old ++ spec_lines imports.now parent (with_all scope.old enters.now) (with_all scope.old enters.now) (forest_of nodes.now)) }
 {
     let count = scope.len();
     scope.enter_all(alloc, enters)?;
@@ -202,7 +202,7 @@ fn inner(
     Ok(typed)
 }
 
-/// A line with those under it, behind others, and what its parent says of the lines behind it; so many specifications stood
+/// A line with those under it, after others, and what its parent says of the lines after it; so many specifications stood
 /// in scope round its item.
 #[cycle(lines)]
 fn line(
@@ -215,8 +215,8 @@ fn line(
     typed: &mut Items<TypedLine>,
     found: &mut Items<Diag>,
 ) -> Result<Parent, AllocError>
-    ensures next { IfOk result (λ next. next ≡ (told_judged imports.now scope.old (out-Node node.now).line.body (forest_of (out-Node node.now).children) parent).line.next) }
-    ensures scope { OnOk result (scope.new ≡ told_behind (back_to outer scope.old) scope.old (told_judged imports.now scope.old (out-Node node.now).line.body (forest_of (out-Node node.now).children) parent).line.adds) }
+    ensures next { IfOk result (λ next. next ≡ (spec_judged imports.now scope.old (out-Node node.now).line.body (forest_of (out-Node node.now).children) parent).line.next) }
+    ensures scope { OnOk result (scope.new ≡ spec_after_line (back_to outer scope.old) scope.old (spec_judged imports.now scope.old (out-Node node.now).line.body (forest_of (out-Node node.now).children) parent).line.adds) }
     ensures typed { OnOk result (typed.new ≡ typed.old ++ line_with imports.now parent scope.old (out-Node node.now).line (forest_of (out-Node node.now).children) ∷ []) }
     ensures found { OnOk result (found.new ≡ found.old ++ line_faults imports.now parent scope.old (out-Node node.now).line (forest_of (out-Node node.now).children)) }
 {
@@ -233,7 +233,7 @@ fn line(
     )
 }
 
-/// A line that is begun, with these nodes under it, behind others, and what its parent says of the lines behind it.
+/// A line that is begun, with these nodes under it, after others, and what its parent says of the lines after it.
 #[cycle(lines)]
 fn go_under(
     alloc: Global,
@@ -246,9 +246,9 @@ fn go_under(
     found: &mut Items<Diag>,
 ) -> Result<Parent, AllocError>
     ensures next { IfOk result (λ next. next ≡ begun.opened.next) }
-    ensures scope { OnOk result (scope.new ≡ told_behind (back_to outer scope.old) scope.old begun.opened.adds) }
+    ensures scope { OnOk result (scope.new ≡ spec_after_line (back_to outer scope.old) scope.old begun.opened.adds) }
     ensures typed { OnOk result (typed.new ≡ typed.old ++ with_children begun.opened (typed_lines imports.now begun.parent (with_all scope.old begun.opened.enters) (with_all scope.old begun.opened.enters) (forest_of nodes.now)) ∷ []) }
-    ensures found { OnOk result (found.new ≡ found.old ++ (told_lines imports.now begun.parent (with_all scope.old begun.opened.enters) (with_all scope.old begun.opened.enters) (forest_of nodes.now) ++ begun.own)) }
+    ensures found { OnOk result (found.new ≡ found.old ++ (spec_lines imports.now begun.parent (with_all scope.old begun.opened.enters) (with_all scope.old begun.opened.enters) (forest_of nodes.now) ++ begun.own)) }
 {
     let Begun {
         parent,
@@ -268,7 +268,7 @@ fn go_under(
     close(alloc, opened, under, outer, scope, typed)
 }
 
-/// The typed lines of nodes, of which their parent says this, with what they tell, behind those of others.
+/// The typed lines of nodes, of which their parent says this, with what they report, after those of others.
 #[cycle(lines)]
 pub fn lines(
     alloc: Global,
@@ -280,7 +280,7 @@ pub fn lines(
 ) -> Result<Items<TypedLine>, AllocError>
     ensures typed { IfOk result (λ typed. typed ≡ typed_lines imports.now parent scope.old scope.old (forest_of nodes.now)) }
     ensures scope { OnOk result (scope.new ≡ scope.old) }
-    ensures found { OnOk result (found.new ≡ found.old ++ told_lines imports.now parent scope.old scope.old (forest_of nodes.now)) }
+    ensures found { OnOk result (found.new ≡ found.old ++ spec_lines imports.now parent scope.old scope.old (forest_of nodes.now)) }
 {
     let outer = scope.len();
     let mut parent = parent;

@@ -1,14 +1,14 @@
--- Where no FUNCTION is specified, the function rule tells nothing.
+-- Where no FUNCTION is specified, the function rule reports nothing.
 use Rattle.std.proofs.Common.{arith, ◌≡◌, ◌∙◌, ℕ, Bool, true, false, ◌||◌, Option, Some, None, List, [], ◌++◌, length, refl, ap, sym}
 use Rattle.occ_base.specs.declared.diag.Diag.{Diag}
-use Rattle.occ_bounds.specs.Bounds.{Env}
+use Rattle.occ_usage_values.specs.Bounds.{Env}
 use Rattle.occ_project.specs.declared.expanded.Location.{Location}
 use Rattle.occ_typing.specs.Forms.{TypedForm}
 use Rattle.occ_typing.specs.FormVariants as form
-use Rattle.occ_replicators.specs.declared.tree.KnownReplicator.{KnownReplicator}
+use Rattle.occ_typing_statements.specs.declared.replicator_tree.KnownReplicator.{KnownReplicator}
 use Rattle.occ_usage.specs.Effect.{inner}
 use Rattle.occ_usage.specs.FunctionRule.{counted_by, faults, has_function, is_function, one_line_faults, within_under}
-use Rattle.occ_usage.specs.Lines.{behind_line, known_of}
+use Rattle.occ_usage.specs.Lines.{after_line, known_of}
 use Rattle.occ_usage.specs.Trees.{Empty, Head, Tree, Trees}
 use Rattle.occ_usage.specs.declared.function.Within.{Within}
 use Rattle.occ_usage.specs.declared.function.Within.TheVariants as within
@@ -35,16 +35,16 @@ stays_nothing form.ProcedureHead n e = refl
 stays_nothing (form.Block kind r) n e = counted_nothing (known_of r)
 stays_nothing other n e = refl
 
-pub none_told : (t : Trees) (outer env : Env) → has_function t ≡ false → faults within.Nothing t outer env ≡ []
-none_told Empty outer env e = refl
-none_told (Tree h t behind) outer env e =
-    let here = left_false (is_function h.form || has_function t) (has_function behind) e in
+pub none_reported : (t : Trees) (outer env : Env) → has_function t ≡ false → faults within.Nothing t outer env ≡ []
+none_reported Empty outer env e = refl
+none_reported (Tree h t following) outer env e =
+    let here = left_false (is_function h.form || has_function t) (has_function following) e in
     let own = left_false (is_function h.form) (has_function t) here in
     let below = right_false (is_function h.form) (has_function t) here in
-    ap (λ (ds : List Diag). (ds ++ faults (within_under h.form (length env) within.Nothing) t (inner env h) (inner env h)) ++ faults within.Nothing behind outer (behind_line outer env h t)) (of_one_line h.form env h.place own)
-    ∙ ap (λ (w : Within). faults w t (inner env h) (inner env h) ++ faults within.Nothing behind outer (behind_line outer env h t)) (stays_nothing h.form (length env) own)
-    ∙ ap (λ (ds : List Diag). ds ++ faults within.Nothing behind outer (behind_line outer env h t)) (none_told t (inner env h) (inner env h) below)
-    ∙ none_told behind outer (behind_line outer env h t) (right_false (is_function h.form || has_function t) (has_function behind) e)
+    ap (λ (ds : List Diag). (ds ++ faults (within_under h.form (length env) within.Nothing) t (inner env h) (inner env h)) ++ faults within.Nothing following outer (after_line outer env h t)) (of_one_line h.form env h.place own)
+    ∙ ap (λ (w : Within). faults w t (inner env h) (inner env h) ++ faults within.Nothing following outer (after_line outer env h t)) (stays_nothing h.form (length env) own)
+    ∙ ap (λ (ds : List Diag). ds ++ faults within.Nothing following outer (after_line outer env h t)) (none_reported t (inner env h) (inner env h) below)
+    ∙ none_reported following outer (after_line outer env h t) (right_false (is_function h.form || has_function t) (has_function following) e)
 
 -- ---- looked for line by line
 

@@ -1,4 +1,4 @@
--- A line and those behind it as trees.
+-- A line and those after it as trees.
 use Rattle.std.proofs.Common.{◌≡◌, ◌∙◌, ◌<◌, ◌+◌, ℕ, List, ◌∷◌, drop, length, slice_index_or, ap, sym}
 use Rattle.std.proofs.lemmas.List.{drop_more}
 use Rattle.occ_typing.specs.declared.tree.TypedLine.{TypedLine}

@@ -1,10 +1,10 @@
 -- Whether lines have an effect: one of them is an input, an output, a PAR or an ALT, or calls a body with one. The lines of a
 -- body that is specified count where it is called.
 use Rattle.std.specs.Prelude.{Bool, true, false, ◌||◌, ◌&&◌, not, Option, Some, None, List, [], ◌∷◌, ◌++◌, if◌then◌else◌}
-use Rattle.occ_bounds.specs.Bounds.{Env}
-use Rattle.occ_line_uses.specs.Effects.{form_effect}
-use Rattle.occ_line_uses.specs.Entering.{body_bound, entry_bounds, specified}
-use Rattle.occ_names.specs.declared.meaning.ScopeEntry.{ScopeEntry}
+use Rattle.occ_usage_values.specs.Bounds.{Env}
+use Rattle.occ_alias.specs.Effects.{form_effect}
+use Rattle.occ_alias.specs.Entering.{body_bound, entry_bounds, specified}
+use Rattle.occ_scope.specs.declared.meaning.ScopeEntry.{ScopeEntry}
 use Rattle.occ_typing.specs.Forms.{TypedForm}
 use Rattle.occ_typing.specs.FormVariants as form
 use Rattle.occ_usage.specs.Trees.{Empty, Head, Tree, Trees}
@@ -19,10 +19,10 @@ is_body other = false
 abbrev pub inner : Env → Head → Env
 inner env h = env ++ entry_bounds h.enters
 
--- in scope behind a line, where a body has this effect and its uses are not asked for; outer stands round its item
-abbrev pub effect_behind : Env → Env → Head → Bool → Option (List ScopeEntry) → Env
-effect_behind outer env h does None = outer
-effect_behind outer env h does (Some entries) = env ++ (if is_body h.form then body_bound [] does ∷ [] else specified env h.place entries h.form)
+-- in scope after a line, where a body has this effect and its uses are not asked for; outer stands round its item
+abbrev pub effect_after : Env → Env → Head → Bool → Option (List ScopeEntry) → Env
+effect_after outer env h does None = outer
+effect_after outer env h does (Some entries) = env ++ (if is_body h.form then body_bound [] does ∷ [] else specified env h.place entries h.form)
 
 -- of a line, where those under it have this effect
 abbrev pub line_effect : Env → Head → Bool → Bool
@@ -31,9 +31,9 @@ line_effect env h below = form_effect h.form env || (below && not (is_body h.for
 -- env stands in scope at the first of the lines, and outer at the next item
 abbrev pub lines_effect : Trees → Env → Env → Bool
 lines_effect Empty outer env = false
-lines_effect (Tree h under behind) outer env =
+lines_effect (Tree h under following) outer env =
     let below = lines_effect under (inner env h) (inner env h) in
-    line_effect env h below || lines_effect behind outer (effect_behind outer env h below h.adds)
+    line_effect env h below || lines_effect following outer (effect_after outer env h below h.adds)
 
 -- of the lines under a line
 abbrev pub effect_under : Trees → Env → Head → Bool

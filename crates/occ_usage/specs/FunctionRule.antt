@@ -1,4 +1,4 @@
--- What the function rule tells of lines: in the body of a FUNCTION, calls included, a write of what stands outside it, at the
+-- What the function rule reports of lines: in the body of a FUNCTION, calls included, a write of what stands outside it, at the
 -- line of the write, with its name; and each line with an effect. The body of a PROC in it counts by its calls, and that of
 -- another FUNCTION is judged for itself. Indices of replicators round a line are not known here; under one of count 0 nothing is
 -- written.
@@ -6,22 +6,22 @@ use Rattle.std.specs.Prelude.{ℕ, zero, nat_lt, Bool, true, false, ◌&&◌, �
 use Rattle.occ_base.specs.Errors.{error_at, error_if}
 use Rattle.occ_base.specs.declared.code.Code.TheVariants.{F1}
 use Rattle.occ_base.specs.declared.diag.Diag.{Diag}
-use Rattle.occ_bounds.specs.Bounds.{Env}
-use Rattle.occ_bounds.specs.declared.uses.Use.{Use}
-use Rattle.occ_clashes.specs.Kinds.{is_write}
-use Rattle.occ_clashes.specs.ParallelRule.{root_name}
-use Rattle.occ_line_uses.specs.Effects.{each_effect, form_effect}
-use Rattle.occ_line_uses.specs.Entering.{entry_bounds}
-use Rattle.occ_line_uses.specs.Forms.{each_uses, form_uses}
-use Rattle.occ_names.specs.declared.meaning.ScopeEntry.{ScopeEntry}
+use Rattle.occ_usage_values.specs.Bounds.{Env}
+use Rattle.occ_usage_values.specs.declared.uses.Use.{Use}
+use Rattle.occ_usage_conflicts.specs.Kinds.{is_write}
+use Rattle.occ_usage_conflicts.specs.ParallelRule.{root_name}
+use Rattle.occ_alias.specs.Effects.{each_effect, form_effect}
+use Rattle.occ_alias.specs.Entering.{entry_bounds}
+use Rattle.occ_alias.specs.Forms.{each_uses, form_uses}
+use Rattle.occ_scope.specs.declared.meaning.ScopeEntry.{ScopeEntry}
 use Rattle.occ_project.specs.declared.expanded.Location.{Location}
-use Rattle.occ_replicators.specs.declared.tree.KnownReplicator.{KnownReplicator}
-use Rattle.occ_typed.specs.declared.expr.TypedExpr.{TypedExpr}
+use Rattle.occ_typing_statements.specs.declared.replicator_tree.KnownReplicator.{KnownReplicator}
+use Rattle.occ_typing_rules.specs.declared.expr.TypedExpr.{TypedExpr}
 use Rattle.occ_typing.specs.Forms.{TypedForm}
 use Rattle.occ_typing.specs.FormVariants as form
 use Rattle.occ_typing.specs.declared.tree.TypedLine.{TypedLine}
 use Rattle.occ_usage.specs.Effect.{inner}
-use Rattle.occ_usage.specs.Lines.{behind_line, known_of}
+use Rattle.occ_usage.specs.Lines.{after_line, known_of}
 use Rattle.occ_usage.specs.Trees.{Empty, Head, Tree, Trees, trees_of}
 use Rattle.occ_usage.specs.declared.function.Within.{Within}
 use Rattle.occ_usage.specs.declared.function.Within.TheVariants as within
@@ -70,9 +70,9 @@ within_under other n w = w
 -- env stands in scope at the first of the lines, and outer at the next item
 abbrev pub faults : Within → Trees → Env → Env → List Diag
 faults w Empty outer env = []
-faults w (Tree h t behind) outer env =
+faults w (Tree h t following) outer env =
     (line_faults w h env ++ (one_line_faults h.form env h.place ++ faults (within_under h.form (length env) w) t (inner env h) (inner env h)))
-    ++ faults w behind outer (behind_line outer env h t)
+    ++ faults w following outer (after_line outer env h t)
 
 -- of a line with those under it
 abbrev pub whole_faults : Within → Head → Trees → Env → List Diag
@@ -93,4 +93,4 @@ is_function other = false
 -- at one of the lines, or under it
 abbrev pub has_function : Trees → Bool
 has_function Empty = false
-has_function (Tree h t behind) = (is_function h.form || has_function t) || has_function behind
+has_function (Tree h t following) = (is_function h.form || has_function t) || has_function following

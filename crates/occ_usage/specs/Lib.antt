@@ -11,3 +11,7 @@ pub mod Anew
 pub mod Comparing
 -- what is passed on
 pub mod Typing
+pub use Rattle.occ_alias.specs.Entering
+pub use Rattle.occ_typing.specs.declared.tree.TypedLine
+pub use Rattle.occ_typing.specs.Forms
+pub use Rattle.occ_typing.specs.FormVariants

@@ -1,18 +1,18 @@
 -- What lines use, by what stands in scope there: of the lines under a line the uses of each item apart, since those of a PAR are
 -- its components.
 use Rattle.std.specs.Prelude.{ℕ, zero, suc, ◌+◌, ℤ, Bool, true, false, Option, Some, None, List, [], ◌∷◌, ◌++◌, length, if◌then◌else◌}
-use Rattle.occ_bounds.specs.Bounds.{Env}
-use Rattle.occ_bounds.specs.declared.bound.Bound.{Bound}
-use Rattle.occ_bounds.specs.declared.bound.Bound.TheVariants as b
-use Rattle.occ_bounds.specs.declared.uses.Use.{Use}
-use Rattle.occ_clashes.specs.Bodies.{body_uses}
-use Rattle.occ_clashes.specs.Components.{joined}
-use Rattle.occ_clashes.specs.Distinct.{distinct}
-use Rattle.occ_line_uses.specs.Entering.{body_bound, index_value, specified}
-use Rattle.occ_line_uses.specs.Forms.{form_uses}
-use Rattle.occ_names.specs.declared.meaning.ScopeEntry.{ScopeEntry}
-use Rattle.occ_replicators.specs.declared.tree.KnownReplicator.{KnownReplicator}
-use Rattle.occ_replicators.specs.declared.tree.TypedReplicator.{TypedReplicator}
+use Rattle.occ_usage_values.specs.Bounds.{Env}
+use Rattle.occ_usage_values.specs.declared.bound.Bound.{Bound}
+use Rattle.occ_usage_values.specs.declared.bound.Bound.TheVariants as b
+use Rattle.occ_usage_values.specs.declared.uses.Use.{Use}
+use Rattle.occ_usage_conflicts.specs.Bodies.{body_uses}
+use Rattle.occ_usage_conflicts.specs.Components.{joined}
+use Rattle.occ_usage_conflicts.specs.Distinct.{distinct}
+use Rattle.occ_alias.specs.Entering.{body_bound, index_value, specified}
+use Rattle.occ_alias.specs.Forms.{form_uses}
+use Rattle.occ_scope.specs.declared.meaning.ScopeEntry.{ScopeEntry}
+use Rattle.occ_typing_statements.specs.declared.replicator_tree.KnownReplicator.{KnownReplicator}
+use Rattle.occ_typing_statements.specs.declared.replicator_tree.TypedReplicator.{TypedReplicator}
 use Rattle.occ_typing.specs.Forms.{TypedForm}
 use Rattle.occ_typing.specs.FormVariants as form
 use Rattle.occ_usage.specs.Effect.{effect_under, inner, is_body}
@@ -80,7 +80,7 @@ abbrev pub added_by : Env → Head → List Use → Bool → Option (List ScopeE
 added_by env h us does None = []
 added_by env h us does (Some entries) = entered env h us does entries
 
--- what comes into scope behind a line over these lines
+-- what comes into scope after a line over these lines
 abbrev pub added : Env → Head → Trees → Under → List Bound
 added env h t under = added_by env h (joined (components env h under)) (effect_under t env h) h.adds
 
@@ -93,28 +93,28 @@ ends_item (Some entries) = false
 -- env stands in scope at the first of the lines, outer at the next item, and these uses of the item were found before
 abbrev pub items : Trees → Env → Env → List Use → List (List Use)
 items Empty outer env own = own ∷ []
-items (Tree h t behind) outer env own =
+items (Tree h t following) outer env own =
     if ends_item h.adds
-    then (own ++ line_uses env h (λ (e : Env). items t e e [])) ∷ items behind outer outer []
-    else items behind outer (env ++ added env h t (λ (e : Env). items t e e [])) (own ++ line_uses env h (λ (e : Env). items t e e []))
+    then (own ++ line_uses env h (λ (e : Env). items t e e [])) ∷ items following outer outer []
+    else items following outer (env ++ added env h t (λ (e : Env). items t e e [])) (own ++ line_uses env h (λ (e : Env). items t e e []))
 
--- of lines under a line; behind the last item stand no uses
+-- of lines under a line; after the last item stand no uses
 abbrev pub items_of : Trees → Under
 items_of t env = items t env env []
 
--- in scope behind a line: a specification adds to the item, a main line ends it
-abbrev pub behind_by : Env → Env → Head → Trees → Option (List ScopeEntry) → Env
-behind_by outer env h t None = outer
-behind_by outer env h t (Some entries) = env ++ added env h t (items_of t)
+-- in scope after a line: a specification adds to the item, a main line ends it
+abbrev pub after_by : Env → Env → Head → Trees → Option (List ScopeEntry) → Env
+after_by outer env h t None = outer
+after_by outer env h t (Some entries) = env ++ added env h t (items_of t)
 
-abbrev pub behind_line : Env → Env → Head → Trees → Env
-behind_line outer env h t = behind_by outer env h t h.adds
+abbrev pub after_line : Env → Env → Head → Trees → Env
+after_line outer env h t = after_by outer env h t h.adds
 
--- in scope behind the last of the lines of a unit
-abbrev pub behind_lines : Trees → Env → Env → Env
-behind_lines Empty outer env = env
-behind_lines (Tree h t behind) outer env = behind_lines behind outer (behind_line outer env h t)
+-- in scope after the last of the lines of a unit
+abbrev pub after_lines : Trees → Env → Env → Env
+after_lines Empty outer env = env
+after_lines (Tree h t following) outer env = after_lines following outer (after_line outer env h t)
 
 -- of a unit: nothing stands in scope at the first
-abbrev pub behind_unit : List TypedLine → Env
-behind_unit ls = behind_lines (trees_of ls) [] []
+abbrev pub after_unit : List TypedLine → Env
+after_unit ls = after_lines (trees_of ls) [] []

@@ -1,20 +1,20 @@
--- What the parallel rule tells of lines: at each PAR what its components have in common, and at each assignment of several
+-- What the parallel rule reports of lines: at each PAR what its components have in common, and at each assignment of several
 -- targets what these have.
 use Rattle.std.specs.Prelude.{List, [], ◌∷◌}
 use Rattle.occ_base.specs.declared.diag.Diag.{Diag}
-use Rattle.occ_bounds.specs.Bounds.{Env}
-use Rattle.occ_bounds.specs.declared.uses.Use.{Use}
-use Rattle.occ_clashes.specs.ParallelRule.{component_faults, target_faults}
-use Rattle.occ_line_uses.specs.Forms.{used}
+use Rattle.occ_usage_values.specs.Bounds.{Env}
+use Rattle.occ_usage_values.specs.declared.uses.Use.{Use}
+use Rattle.occ_usage_conflicts.specs.ParallelRule.{component_faults, target_faults}
+use Rattle.occ_alias.specs.Forms.{used}
 use Rattle.occ_project.specs.declared.expanded.Location.{Location}
-use Rattle.occ_typed.specs.declared.expr.TypedElement.{TypedElement}
+use Rattle.occ_typing_rules.specs.declared.expr.TypedElement.{TypedElement}
 use Rattle.occ_typing.specs.Forms.{BlockKind, TypedForm}
 use Rattle.occ_typing.specs.BlockVariants as block
 use Rattle.occ_typing.specs.FormVariants as form
 use Rattle.occ_types.specs.declared.interface.UseKind.TheVariants as kind
 use Rattle.occ_typing.specs.declared.tree.TypedLine.{TypedLine}
 use Rattle.occ_usage.specs.Lines.{components, items_of}
-use Rattle.occ_usage.specs.Walk.{Rule, unit_told}
+use Rattle.occ_usage.specs.Walk.{Rule, unit_reported}
 
 -- each target of an assignment as a component: what it writes, and what its subscripts and bounds use
 abbrev pub targets : List TypedElement → Env → Location → List (List Use)
@@ -45,4 +45,4 @@ parallel_at a = own_faults a.line.form a.line.place a.env (components a.env a.li
 
 -- of the lines of a unit
 abbrev pub parallel_faults : List TypedLine → List Diag
-parallel_faults = unit_told parallel_at
+parallel_faults = unit_reported parallel_at

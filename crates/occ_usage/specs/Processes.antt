@@ -1,12 +1,12 @@
--- What a process of a unit uses of what stands round it, where no index round it is known. Its number tells how many
+-- What a process of a unit uses of what stands round it, where no index round it is known. Its number says how many
 -- processes stand before it in the listing.
 use Rattle.std.specs.Prelude.{ℕ, zero, suc, nat_lt, Bool, true, false, Option, Some, None, List, [], ◌++◌, length, if◌then◌else◌}
 use Rattle.std.specs.List.{filter}
-use Rattle.occ_bounds.specs.Bounds.{Env}
-use Rattle.occ_bounds.specs.declared.uses.Use.{Use}
+use Rattle.occ_usage_values.specs.Bounds.{Env}
+use Rattle.occ_usage_values.specs.declared.uses.Use.{Use}
 use Rattle.occ_typing.specs.declared.tree.TypedLine.{TypedLine}
 use Rattle.occ_usage.specs.Effect.{inner}
-use Rattle.occ_usage.specs.Lines.{behind_line, items_of, line_uses}
+use Rattle.occ_usage.specs.Lines.{after_line, items_of, line_uses}
 use Rattle.occ_usage.specs.Trees.{Empty, Head, Tree, Trees, trees_of}
 
 -- of what stands round it
@@ -30,7 +30,7 @@ passed true (Some (suc n)) = Some n
 -- after all of these lines
 abbrev pub all_passed : Trees → Option ℕ → Option ℕ
 all_passed Empty left = left
-all_passed (Tree h t behind) left = all_passed behind (all_passed t (passed h.is_process left))
+all_passed (Tree h t following) left = all_passed following (all_passed t (passed h.is_process left))
 
 -- a line, if it is the process that is asked for
 abbrev pub own_uses : Option ℕ → Head → Trees → Env → List Use
@@ -39,9 +39,9 @@ own_uses left h t env = if is_asked h.is_process left then from_round (length en
 -- env stands in scope at the first of the lines, and outer at the next item
 abbrev pub process_uses : Option ℕ → Trees → Env → Env → List Use
 process_uses left Empty outer env = []
-process_uses left (Tree h t behind) outer env =
+process_uses left (Tree h t following) outer env =
     (own_uses left h t env ++ process_uses (passed h.is_process left) t (inner env h) (inner env h))
-    ++ process_uses (all_passed t (passed h.is_process left)) behind outer (behind_line outer env h t)
+    ++ process_uses (all_passed t (passed h.is_process left)) following outer (after_line outer env h t)
 
 -- a line, or one of those under it
 abbrev pub whole_uses : Option ℕ → Head → Trees → Env → List Use

@@ -2,17 +2,17 @@
 #![tactic(auto, using(crate::proofs::Trees::first_tree))]
 
 ghost use Rattle.std.specs.Prelude.{◌≡◌, ◌||◌, IfOk, OnOk, take};
-ghost use Rattle.occ_usage.specs.Effect.{effect_behind as told_behind, effect_under as told_under, is_body as tells_body, line_effect as told_line, lines_effect as told_lines};
-ghost use Rattle.occ_usage.specs.Trees.{head_of, trees_of, under as lines_under};
+ghost use Rattle.occ_usage.specs.Effect.{effect_after as spec_effect_after, effect_under as spec_effect_under, is_body as spec_is_body, line_effect as spec_line_effect, lines_effect as spec_lines_effect};
+ghost use Rattle.occ_usage.specs.Trees.{head_of, trees_of, under as spec_under};
 
+use occ_alias::{UsageScope, body_bound, enter_all, enter_line, form_effect};
 use occ_base::Items;
-use occ_line_uses::{UsageScope, body_bound, enter_all, enter_line, form_effect};
 use occ_typing::{TypedForm, TypedLine};
 use std::alloc::{AllocError, Global};
 
 /// Whether a line is the head of a PROC or of a FUNCTION: the lines under it are a body, and no part of what the line does.
 pub(crate) fn is_body(form: &TypedForm) -> bool
-    ensures { result ≡ tells_body form.now }
+    ensures { result ≡ spec_is_body form.now }
 {
     matches!(form, TypedForm::ProcedureHead | TypedForm::FunctionHead)
 }
@@ -24,15 +24,15 @@ fn either(one: bool, other: bool) -> bool
     one || other
 }
 
-/// Goes behind a line, where a body has this effect: its uses are not asked for. So many specifications stand round its item.
-fn go_behind(
+/// Goes after a line, where a body has this effect: its uses are not asked for. So many specifications stand round its item.
+fn go_after(
     alloc: Global,
     line: &TypedLine,
     has_effect: bool,
     depth: usize,
     env: &mut UsageScope,
 ) -> Result<(), AllocError>
-    ensures { OnOk result (env.new ≡ told_behind (take depth env.old) env.old (head_of line.now) has_effect (head_of line.now).adds) }
+    ensures { OnOk result (env.new ≡ spec_effect_after (take depth env.old) env.old (head_of line.now) has_effect (head_of line.now).adds) }
 {
     let Some(entries) = &line.adds else {
         env.cut(depth);
@@ -51,7 +51,7 @@ pub(crate) fn effect_under(
     line: &TypedLine,
     env: &mut UsageScope,
 ) -> Result<bool, AllocError>
-    ensures found { IfOk result (λ found. found ≡ told_under (lines_under line.now) env.old (head_of line.now)) }
+    ensures found { IfOk result (λ found. found ≡ spec_effect_under (spec_under line.now) env.old (head_of line.now)) }
     ensures env { OnOk result (env.new ≡ env.old) }
 {
     if line.under.is_empty() {
@@ -64,7 +64,7 @@ pub(crate) fn effect_under(
     Ok(found)
 }
 
-/// Whether a line has an effect, with those under it unless they are a body; and what stands in scope behind it.
+/// Whether a line has an effect, with those under it unless they are a body; and what stands in scope after it.
 #[cycle(effect)]
 fn line_effect(
     alloc: Global,
@@ -72,12 +72,12 @@ fn line_effect(
     depth: usize,
     env: &mut UsageScope,
 ) -> Result<bool, AllocError>
-    ensures found { IfOk result (λ found. found ≡ told_line env.old (head_of line.now) (told_under (lines_under line.now) env.old (head_of line.now))) }
-    ensures env { OnOk result (env.new ≡ told_behind (take depth env.old) env.old (head_of line.now) (told_under (lines_under line.now) env.old (head_of line.now)) (head_of line.now).adds) }
+    ensures found { IfOk result (λ found. found ≡ spec_line_effect env.old (head_of line.now) (spec_effect_under (spec_under line.now) env.old (head_of line.now))) }
+    ensures env { OnOk result (env.new ≡ spec_effect_after (take depth env.old) env.old (head_of line.now) (spec_effect_under (spec_under line.now) env.old (head_of line.now)) (head_of line.now).adds) }
 {
     let own = form_effect(line.form.get(), env.as_slice());
     let below = effect_under(alloc, line, env)?;
-    go_behind(alloc, line, below, depth, env)?;
+    go_after(alloc, line, below, depth, env)?;
     Ok(own || (below && !is_body(line.form.get())))
 }
 
@@ -88,7 +88,7 @@ fn lines_effect(
     lines: &[TypedLine],
     env: &mut UsageScope,
 ) -> Result<bool, AllocError>
-    ensures found { IfOk result (λ found. found ≡ told_lines (trees_of lines.now) env.old env.old) }
+    ensures found { IfOk result (λ found. found ≡ spec_lines_effect (trees_of lines.now) env.old env.old) }
     ensures env { OnOk result (env.new ≡ env.old) }
 {
     let depth = env.len();

@@ -5,22 +5,20 @@
 ghost use Rattle.std.specs.Prelude.{◌≡◌, ◌≤◌, ◌++◌, IfOk, OnOk, length, take};
 ghost use Rattle.occ_base.specs.Errors.{error_if};
 ghost use Rattle.occ_base.specs.declared.code.Code.TheVariants.{F1};
-ghost use Rattle.occ_usage.specs.Effect.{inner as told_inner};
-ghost use Rattle.occ_usage.specs.FunctionRule.{counted as told_counted, faults as told_faults, function_faults as told_function, has_function as tells_some, is_function as tells_function, line_faults as told_line, one_line_faults as told_one_line, side_effect_faults as told_results, whole_faults as told_whole, within_under as told_within, write_fault as told_write, write_faults as told_writes};
-ghost use Rattle.occ_usage.specs.Lines.{behind_line};
-ghost use Rattle.occ_usage.specs.Trees.{head_of, trees_of, under as lines_under};
+ghost use Rattle.occ_usage.specs.Effect.{inner as spec_inner};
+ghost use Rattle.occ_usage.specs.FunctionRule.{counted as spec_counted, faults as spec_faults, function_faults as spec_function_faults, has_function as spec_has_function, is_function as spec_is_function, line_faults as spec_line_faults, one_line_faults as spec_one_line_faults, side_effect_faults as spec_side_effect_faults, whole_faults as spec_whole_faults, within_under as spec_within_under, write_fault as spec_write_fault, write_faults as spec_write_faults};
+ghost use Rattle.occ_usage.specs.Lines.{after_line};
+ghost use Rattle.occ_usage.specs.Trees.{head_of, trees_of, under as spec_under};
 
-use super::walk::{Told, go_over, known_replicator};
+use super::walk::{Finding, go_over, known_replicator};
+use occ_alias::{UsageScope, each_effect, each_uses, enter_all, form_effect, form_uses, is_write};
 use occ_base::{Code, Diag, Items, Shared};
-use occ_bounds::{Bound, Use};
-use occ_clashes::root_name;
-use occ_line_uses::{
-    UsageScope, each_effect, each_uses, enter_all, form_effect, form_uses, is_write,
-};
-use occ_names::ScopeEntry;
 use occ_project::Location;
-use occ_typed::TypedExpr;
+use occ_scope::ScopeEntry;
 use occ_typing::{Typed, TypedForm, TypedLine};
+use occ_typing_rules::TypedExpr;
+use occ_usage_conflicts::root_name;
+use occ_usage_values::{Bound, Use};
 use std::alloc::{AllocError, Global};
 
 /// Where a line stands.
@@ -32,7 +30,7 @@ pub(crate) enum Within {
     Function(usize, bool),
 }
 
-/// What is told of a use in a FUNCTION round which so many specifications stand.
+/// What is reported of a use in a FUNCTION round which so many specifications stand.
 fn write_fault(
     alloc: Global,
     number: usize,
@@ -40,7 +38,7 @@ fn write_fault(
     env: &[Bound],
     faults: &mut Items<Diag>,
 ) -> Result<(), AllocError>
-    ensures { OnOk result (faults.new ≡ faults.old ++ told_write number env.now found.now) }
+    ensures { OnOk result (faults.new ≡ faults.old ++ spec_write_fault number env.now found.now) }
 {
     if !(is_write(found.kind) && found.part.root < number) {
         return Ok(());
@@ -56,7 +54,7 @@ fn write_faults(
     env: &[Bound],
     faults: &mut Items<Diag>,
 ) -> Result<(), AllocError>
-    ensures { OnOk result (faults.new ≡ faults.old ++ told_writes number env.now uses.now) }
+    ensures { OnOk result (faults.new ≡ faults.old ++ spec_write_faults number env.now uses.now) }
 {
     for found in uses {
         write_fault(alloc, number, found, env, faults)?;
@@ -64,7 +62,7 @@ fn write_faults(
     Ok(())
 }
 
-/// What is told of a line that perhaps has an effect.
+/// What is reported of a line that perhaps has an effect.
 fn effect_fault(
     has_effect: bool,
     line: &Location,
@@ -79,7 +77,7 @@ fn effect_fault(
     }
 }
 
-/// What is told of a line of a FUNCTION.
+/// What is reported of a line of a FUNCTION.
 fn line_faults(
     alloc: Global,
     line: &TypedLine,
@@ -87,7 +85,7 @@ fn line_faults(
     env: &[Bound],
     faults: &mut Items<Diag>,
 ) -> Result<(), AllocError>
-    ensures { OnOk result (faults.new ≡ faults.old ++ told_line within (head_of line.now) env.now) }
+    ensures { OnOk result (faults.new ≡ faults.old ++ spec_line_faults within (head_of line.now) env.now) }
 {
     let Within::Function(number, is_live) = within else {
         return Ok(());
@@ -101,7 +99,7 @@ fn line_faults(
     write_faults(alloc, number, uses.as_slice(), env, faults)
 }
 
-/// What is told of the results of a FUNCTION of one line.
+/// What is reported of the results of a FUNCTION of one line.
 fn side_effect_faults(
     alloc: Global,
     formals: &[ScopeEntry],
@@ -110,7 +108,7 @@ fn side_effect_faults(
     env: &mut UsageScope,
     faults: &mut Items<Diag>,
 ) -> Result<(), AllocError>
-    ensures faults { OnOk result (faults.new ≡ faults.old ++ told_results formals.now results.now env.old line.now) }
+    ensures faults { OnOk result (faults.new ≡ faults.old ++ spec_side_effect_faults formals.now results.now env.old line.now) }
     ensures env { OnOk result (env.new ≡ env.old) }
 {
     let depth = env.len();
@@ -123,14 +121,14 @@ fn side_effect_faults(
     Ok(())
 }
 
-/// What is told of a line, if it is a FUNCTION of one line.
+/// What is reported of a line, if it is a FUNCTION of one line.
 fn one_line_faults(
     alloc: Global,
     line: &TypedLine,
     env: &mut UsageScope,
     faults: &mut Items<Diag>,
 ) -> Result<(), AllocError>
-    ensures faults { OnOk result (faults.new ≡ faults.old ++ told_one_line (head_of line.now).form env.old (head_of line.now).place) }
+    ensures faults { OnOk result (faults.new ≡ faults.old ++ spec_one_line_faults (head_of line.now).form env.old (head_of line.now).place) }
     ensures env { OnOk result (env.new ≡ env.old) }
 {
     match line.form.get() {
@@ -148,7 +146,7 @@ fn one_line_faults(
 
 /// Under a replicator of so many rounds.
 fn counted(count: u32, within: Within) -> Within
-    ensures { result ≡ told_counted count within }
+    ensures { result ≡ spec_counted count within }
 {
     match within {
         Within::Function(number, is_live) => Within::Function(number, is_live && count != 0),
@@ -158,7 +156,7 @@ fn counted(count: u32, within: Within) -> Within
 
 /// Where the lines under a line stand that has so many specifications round it.
 fn within_under(form: &TypedForm, depth: usize, within: Within) -> Within
-    ensures { result ≡ told_within form.now depth within }
+    ensures { result ≡ spec_within_under form.now depth within }
 {
     match form {
         TypedForm::FunctionHead => Within::Function(depth, true),
@@ -171,24 +169,24 @@ fn within_under(form: &TypedForm, depth: usize, within: Within) -> Within
     }
 }
 
-/// Goes behind a line: so many specifications stand round its item.
-pub(crate) fn go_behind(
+/// Goes after a line: so many specifications stand round its item.
+pub(crate) fn go_after(
     alloc: Global,
     line: &TypedLine,
     depth: usize,
     env: &mut UsageScope,
 ) -> Result<(), AllocError>
-    ensures { OnOk result (depth ≤ length env.old → env.new ≡ behind_line (take depth env.old) env.old (head_of line.now) (lines_under line.now)) }
+    ensures { OnOk result (depth ≤ length env.old → env.new ≡ after_line (take depth env.old) env.old (head_of line.now) (spec_under line.now)) }
 {
     if line.adds.is_none() {
         env.cut(depth);
         return Ok(());
     }
-    let mut told = Told::nothing(alloc);
-    go_over(alloc, line, depth, env, &mut told)
+    let mut reported = Finding::nothing(alloc);
+    go_over(alloc, line, depth, env, &mut reported)
 }
 
-/// What is told of the lines under a line.
+/// What is reported of the lines under a line.
 #[cycle(function)]
 fn under_faults(
     alloc: Global,
@@ -197,7 +195,7 @@ fn under_faults(
     env: &mut UsageScope,
     faults: &mut Items<Diag>,
 ) -> Result<(), AllocError>
-    ensures faults { OnOk result (faults.new ≡ faults.old ++ told_faults within (lines_under line.now) (told_inner env.old (head_of line.now)) (told_inner env.old (head_of line.now))) }
+    ensures faults { OnOk result (faults.new ≡ faults.old ++ spec_faults within (spec_under line.now) (spec_inner env.old (head_of line.now)) (spec_inner env.old (head_of line.now))) }
     ensures env { OnOk result (env.new ≡ env.old) }
 {
     let depth = env.len();
@@ -207,7 +205,7 @@ fn under_faults(
     Ok(())
 }
 
-/// What is told of a line with those under it, and what stands in scope behind it.
+/// What is reported of a line with those under it, and what stands in scope after it.
 #[cycle(function)]
 fn line(
     alloc: Global,
@@ -217,14 +215,14 @@ fn line(
     env: &mut UsageScope,
     faults: &mut Items<Diag>,
 ) -> Result<(), AllocError>
-    ensures faults { OnOk result (faults.new ≡ faults.old ++ told_whole within (head_of line.now) (lines_under line.now) env.old) }
-    ensures env { OnOk result (depth ≤ length env.old → env.new ≡ behind_line (take depth env.old) env.old (head_of line.now) (lines_under line.now)) }
+    ensures faults { OnOk result (faults.new ≡ faults.old ++ spec_whole_faults within (head_of line.now) (spec_under line.now) env.old) }
+    ensures env { OnOk result (depth ≤ length env.old → env.new ≡ after_line (take depth env.old) env.old (head_of line.now) (spec_under line.now)) }
 {
     line_faults(alloc, line, within, env.as_slice(), faults)?;
     one_line_faults(alloc, line, env, faults)?;
     let inner = within_under(line.form.get(), env.len(), within);
     under_faults(alloc, line, inner, env, faults)?;
-    go_behind(alloc, line, depth, env)
+    go_after(alloc, line, depth, env)
 }
 
 #[cycle(function)]
@@ -235,7 +233,7 @@ fn lines(
     env: &mut UsageScope,
     faults: &mut Items<Diag>,
 ) -> Result<(), AllocError>
-    ensures faults { OnOk result (faults.new ≡ faults.old ++ told_faults within (trees_of lines.now) env.old env.old) }
+    ensures faults { OnOk result (faults.new ≡ faults.old ++ spec_faults within (trees_of lines.now) env.old env.old) }
     ensures env { OnOk result (env.new ≡ env.old) }
 {
     let depth = env.len();
@@ -247,7 +245,7 @@ fn lines(
 }
 
 fn is_function(form: &TypedForm) -> bool
-    ensures { result ≡ tells_function form.now }
+    ensures { result ≡ spec_is_function form.now }
 {
     matches!(
         form,
@@ -258,7 +256,7 @@ fn is_function(form: &TypedForm) -> bool
 /// Whether a FUNCTION is specified at one of the lines, or under it.
 #[cycle(search)]
 fn has_function(lines: &[TypedLine]) -> bool
-    ensures { result ≡ tells_some (trees_of lines.now) }
+    ensures { result ≡ spec_has_function (trees_of lines.now) }
 {
     for line in lines {
         if is_function(line.form.get()) || has_function(line.under.as_slice()) {
@@ -268,9 +266,9 @@ fn has_function(lines: &[TypedLine]) -> bool
     false
 }
 
-/// What the function rule tells of a unit, in no order, some perhaps more than once.
+/// What the function rule reports of a unit, in no order, some perhaps more than once.
 pub fn function_faults(alloc: Global, typed: &Typed) -> Result<Items<Diag>, AllocError>
-    ensures { IfOk result (λ faults. faults ≡ told_function typed.now.lines) }
+    ensures { IfOk result (λ faults. faults ≡ spec_function_faults typed.now.lines) }
 {
     let mut env = UsageScope::new(alloc);
     let mut faults = Items::new(alloc);

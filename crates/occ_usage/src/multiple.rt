@@ -1,16 +1,16 @@
 //! Assignments of several targets, each target as a component with what its subscripts read.
 ghost use Rattle.std.specs.Prelude.{◌≡◌, ◌++◌, IfOk, OnOk};
-ghost use Rattle.occ_line_uses.specs.Forms.{used as told_used};
+ghost use Rattle.occ_alias.specs.Forms.{used as spec_used};
 ghost use Rattle.occ_types.specs.declared.interface.UseKind.TheVariants as kinds;
-ghost use Rattle.occ_usage.specs.ParallelRule.{assignment_faults as told_assignment, targets as told_targets};
+ghost use Rattle.occ_usage.specs.ParallelRule.{assignment_faults as spec_assignment_faults, targets as spec_targets};
 
+use occ_alias::used;
 use occ_base::{Diag, Items};
-use occ_bounds::{Bound, Use};
-use occ_clashes::target_faults;
-use occ_line_uses::used;
 use occ_project::Location;
-use occ_typed::TypedElement;
 use occ_types::UseKind;
+use occ_typing_rules::TypedElement;
+use occ_usage_conflicts::target_faults;
+use occ_usage_values::{Bound, Use};
 use std::alloc::{AllocError, Global};
 
 /// What a target of an assignment uses.
@@ -20,7 +20,7 @@ fn target(
     env: &[Bound],
     line: &Location,
 ) -> Result<Items<Use>, AllocError>
-    ensures { IfOk result (λ own. own ≡ told_used kinds.Write element.now env.now line.now) }
+    ensures { IfOk result (λ own. own ≡ spec_used kinds.Write element.now env.now line.now) }
 {
     let mut own = Items::new(alloc);
     used(alloc, UseKind::Write, element, env, line, &mut own)?;
@@ -34,7 +34,7 @@ fn targets(
     env: &[Bound],
     line: &Location,
 ) -> Result<Vec<Items<Use>>, AllocError>
-    ensures { IfOk result (λ found. found.items ≡ told_targets elements.now env.now line.now) }
+    ensures { IfOk result (λ found. found.items ≡ spec_targets elements.now env.now line.now) }
 {
     let mut found = Vec::new(alloc);
     for element in elements {
@@ -43,7 +43,7 @@ fn targets(
     Ok(found)
 }
 
-/// What is told of an assignment to these targets.
+/// What is reported of an assignment to these targets.
 pub(crate) fn assignment_faults(
     alloc: Global,
     elements: &[TypedElement],
@@ -51,7 +51,7 @@ pub(crate) fn assignment_faults(
     line: &Location,
     faults: &mut Items<Diag>,
 ) -> Result<(), AllocError>
-    ensures { OnOk result (faults.new ≡ faults.old ++ told_assignment elements.now env.now line.now) }
+    ensures { OnOk result (faults.new ≡ faults.old ++ spec_assignment_faults elements.now env.now line.now) }
 {
     if elements.len() < 2 {
         return Ok(());

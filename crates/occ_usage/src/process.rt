@@ -2,17 +2,17 @@
 #![tactic(auto, using(crate::proofs::Trees::first_tree))]
 
 ghost use Rattle.std.specs.Prelude.{◌≡◌, ◌≤◌, ◌++◌, ◌∷◌, [], IfOk, OnOk, length, take};
-ghost use Rattle.occ_usage.specs.Effect.{inner as told_inner};
-ghost use Rattle.occ_usage.specs.Lines.{behind_line, items_of, line_uses as told_line_uses};
-ghost use Rattle.occ_usage.specs.Processes.{all_passed, from_round, is_asked, own_uses as told_own, passed, process_uses as told_uses, uses_in, whole_uses as told_whole};
-ghost use Rattle.occ_usage.specs.Trees.{head_of, trees_of, under as lines_under};
+ghost use Rattle.occ_usage.specs.Effect.{inner as spec_inner};
+ghost use Rattle.occ_usage.specs.Lines.{after_line, items_of, line_uses as spec_line_uses};
+ghost use Rattle.occ_usage.specs.Processes.{all_passed, from_round, is_asked, own_uses as spec_own_uses, passed, process_uses as spec_process_uses, uses_in, whole_uses as spec_whole_uses};
+ghost use Rattle.occ_usage.specs.Trees.{head_of, trees_of, under as spec_under};
 
-use super::function::go_behind;
-use super::walk::{Told, line as judged_line};
+use super::function::go_after;
+use super::walk::{Finding, line as judged_line};
+use occ_alias::{UsageScope, enter_all};
 use occ_base::Items;
-use occ_bounds::Use;
-use occ_line_uses::{UsageScope, enter_all};
 use occ_typing::{Typed, TypedLine};
+use occ_usage_values::Use;
 use std::alloc::{AllocError, Global};
 
 /// The number of a process of a unit: how many stand before it in the listing.
@@ -31,13 +31,13 @@ fn line_uses(
     line: &TypedLine,
     env: &mut UsageScope,
 ) -> Result<Items<Use>, AllocError>
-    ensures uses { IfOk result (λ uses. uses ≡ told_line_uses env.old (head_of line.now) (items_of (lines_under line.now))) }
+    ensures uses { IfOk result (λ uses. uses ≡ spec_line_uses env.old (head_of line.now) (items_of (spec_under line.now))) }
     ensures env { OnOk result (env.new ≡ env.old) }
 {
     let mut uses = Items::new(alloc);
-    let mut told = Told::nothing(alloc);
+    let mut reported = Finding::nothing(alloc);
     let depth = env.len();
-    judged_line(alloc, line, env, &mut uses, &mut told)?;
+    judged_line(alloc, line, env, &mut uses, &mut reported)?;
     env.cut(depth);
     Ok(uses)
 }
@@ -102,7 +102,7 @@ fn add_own_uses(
     env: &mut UsageScope,
     found: &mut Items<Use>,
 ) -> Result<(), AllocError>
-    ensures found { OnOk result (found.new ≡ found.old ++ told_own left.old (head_of line.now) (lines_under line.now) env.old) }
+    ensures found { OnOk result (found.new ≡ found.old ++ spec_own_uses left.old (head_of line.now) (spec_under line.now) env.old) }
     ensures left { OnOk result (left.new ≡ passed (head_of line.now).is_process left.old) }
     ensures env { OnOk result (env.new ≡ env.old) }
 {
@@ -122,8 +122,8 @@ fn add_under(
     env: &mut UsageScope,
     found: &mut Items<Use>,
 ) -> Result<(), AllocError>
-    ensures found { OnOk result (found.new ≡ found.old ++ told_uses left.old (lines_under line.now) (told_inner env.old (head_of line.now)) (told_inner env.old (head_of line.now))) }
-    ensures left { OnOk result (left.new ≡ all_passed (lines_under line.now) left.old) }
+    ensures found { OnOk result (found.new ≡ found.old ++ spec_process_uses left.old (spec_under line.now) (spec_inner env.old (head_of line.now)) (spec_inner env.old (head_of line.now))) }
+    ensures left { OnOk result (left.new ≡ all_passed (spec_under line.now) left.old) }
     ensures env { OnOk result (env.new ≡ env.old) }
 {
     let depth = env.len();
@@ -133,7 +133,7 @@ fn add_under(
     Ok(())
 }
 
-/// Adds the uses of the process that is asked for, if it is a line or stands under it, and goes behind the line.
+/// Adds the uses of the process that is asked for, if it is a line or stands under it, and goes after the line.
 #[cycle(process)]
 fn line(
     alloc: Global,
@@ -143,13 +143,13 @@ fn line(
     env: &mut UsageScope,
     found: &mut Items<Use>,
 ) -> Result<(), AllocError>
-    ensures found { OnOk result (found.new ≡ found.old ++ told_whole left.old (head_of line.now) (lines_under line.now) env.old) }
-    ensures left { OnOk result (left.new ≡ all_passed (lines_under line.now) (passed (head_of line.now).is_process left.old)) }
-    ensures env { OnOk result (depth ≤ length env.old → env.new ≡ behind_line (take depth env.old) env.old (head_of line.now) (lines_under line.now)) }
+    ensures found { OnOk result (found.new ≡ found.old ++ spec_whole_uses left.old (head_of line.now) (spec_under line.now) env.old) }
+    ensures left { OnOk result (left.new ≡ all_passed (spec_under line.now) (passed (head_of line.now).is_process left.old)) }
+    ensures env { OnOk result (depth ≤ length env.old → env.new ≡ after_line (take depth env.old) env.old (head_of line.now) (spec_under line.now)) }
 {
     add_own_uses(alloc, line, left, env, found)?;
     add_under(alloc, line, left, env, found)?;
-    go_behind(alloc, line, depth, env)
+    go_after(alloc, line, depth, env)
 }
 
 /// Adds the uses of the process that is asked for, if it stands in lines.
@@ -161,7 +161,7 @@ fn lines(
     env: &mut UsageScope,
     found: &mut Items<Use>,
 ) -> Result<(), AllocError>
-    ensures found { OnOk result (found.new ≡ found.old ++ told_uses left.old (trees_of lines.now) env.old env.old) }
+    ensures found { OnOk result (found.new ≡ found.old ++ spec_process_uses left.old (trees_of lines.now) env.old env.old) }
     ensures left { OnOk result (left.new ≡ all_passed (trees_of lines.now) left.old) }
     ensures env { OnOk result (env.new ≡ env.old) }
 {

@@ -3,46 +3,47 @@
 #![tactic(auto, using(crate::proofs::Trees::first_tree))]
 
 ghost use Rattle.std.specs.Prelude.{◌≡◌, ◌≤◌, ◌++◌, ◌∷◌, [], if◌then◌else◌, true, IfOk, None, OnOk, Some, length, take};
-ghost use Rattle.occ_alias.specs.AbbreviationRule.{line_faults as told_line_faults};
-ghost use Rattle.occ_clashes.specs.Components.{joined as told_joined, parted};
-ghost use Rattle.occ_line_uses.specs.Forms.{form_uses as told_form_uses};
-ghost use Rattle.occ_usage.specs.Comparing.{are_compared as tells_compared};
-ghost use Rattle.occ_usage.specs.Effect.{effect_under as told_effect, inner as told_inner, is_body as told_is_body};
-ghost use Rattle.occ_usage.specs.Lines.{added as told_behind, behind_line, behind_lines, behind_unit, added_by as told_added, body_over as told_body, components as told_components, ends_item, entered as told_entered, is_replicated as tells_replicated, items_of, known_replicator as told_known, line_uses as told_line_uses, rounds_to, under_uses as told_under, with_index};
+ghost use Rattle.occ_alias.specs.AbbreviationRule.{line_faults as spec_line_faults};
+ghost use Rattle.occ_usage_conflicts.specs.Components.{joined as spec_joined, parted};
+ghost use Rattle.occ_alias.specs.Forms.{form_uses as spec_form_uses};
+ghost use Rattle.occ_usage.specs.Comparing.{are_compared as spec_are_compared};
+ghost use Rattle.occ_usage.specs.Effect.{effect_under as spec_effect_under, inner as spec_inner, is_body as spec_is_body};
+ghost use Rattle.occ_usage.specs.Lines.{added as spec_added, after_line, after_lines, after_unit, added_by as spec_added_by, body_over as spec_body_over, components as spec_components, ends_item, entered as spec_entered, is_replicated as spec_is_replicated, items_of, known_replicator as spec_known_replicator, line_uses as spec_line_uses, rounds_to, under_uses as spec_under_uses, with_index};
 ghost use Rattle.occ_usage.specs.AbbreviationRule.{abbreviation_at, abbreviation_faults};
-ghost use Rattle.occ_usage.specs.ParallelRule.{block_faults as told_block, own_faults as told_own, parallel_at, parallel_faults};
-ghost use Rattle.occ_usage.specs.Walk.{line_told, rounds_told, told_of, under_told};
-ghost use Rattle.occ_usage.specs.Trees.{head_of, trees_of, under as lines_under};
+ghost use Rattle.occ_usage.specs.ParallelRule.{block_faults as spec_block_faults, own_faults as spec_own_faults, parallel_at, parallel_faults};
+ghost use Rattle.occ_usage.specs.Walk.{line_reported, rounds_reported, reported_of, under_reported};
+ghost use Rattle.occ_usage.specs.Trees.{head_of, trees_of, under as spec_under};
 
 use super::effect::{effect_under, is_body};
 use super::multiple::assignment_faults;
-use occ_alias::{graver, line_faults};
-use occ_base::{Diag, Items};
-use occ_bounds::{Bound, Use};
-use occ_clashes::{append, append_joined, component_faults, distinct, outside_uses, parted_faults};
-use occ_line_uses::{
-    UsageScope, body_bound, enter_all, enter_index, enter_line, form_uses, index_value,
-    number_behind,
+use occ_alias::{
+    UsageScope, body_bound, enter_all, enter_index, enter_line, form_uses, graver, index_value,
+    line_faults, number_after,
 };
-use occ_names::ScopeEntry;
-use occ_replicators::KnownReplicator;
+use occ_base::{Diag, Items};
+use occ_scope::ScopeEntry;
 use occ_typing::{BlockKind, Typed, TypedForm, TypedLine};
+use occ_typing_statements::KnownReplicator;
+use occ_usage_conflicts::{
+    append, append_joined, component_faults, distinct, outside_uses, parted_faults,
+};
+use occ_usage_values::{Bound, Use};
 use std::alloc::{AllocError, Global};
 
-/// What the rules of uses tell of lines, in no order, some perhaps more than once.
+/// What the rules of uses report of lines, in no order, some perhaps more than once.
 #[derive(Drop)]
-pub(crate) struct Told {
-    /// What the parallel rule tells.
+pub(crate) struct Finding {
+    /// What the parallel rule reports.
     parallel: Items<Diag>,
-    /// What the abbreviation rule tells, with both grades.
+    /// What the abbreviation rule reports, with both grades.
     abbreviations: Items<Diag>,
 }
 
-impl Told {
-    pub(crate) fn nothing(alloc: Global) -> Told
+impl Finding {
+    pub(crate) fn nothing(alloc: Global) -> Finding
         ensures { result ≡ record { parallel = []; abbreviations = [] } }
     {
-        Told {
+        Finding {
             parallel: Items::new(alloc),
             abbreviations: Items::new(alloc),
         }
@@ -51,7 +52,7 @@ impl Told {
 
 /// The replicator of a line, if it is known.
 pub(crate) fn known_replicator(form: &TypedForm) -> Option<KnownReplicator>
-    ensures { result ≡ told_known form.now }
+    ensures { result ≡ spec_known_replicator form.now }
 {
     match form {
         TypedForm::Block(_, Some(replicator)) => replicator.known,
@@ -61,19 +62,19 @@ pub(crate) fn known_replicator(form: &TypedForm) -> Option<KnownReplicator>
 
 /// Whether a line has a replicator.
 fn is_replicated(form: &TypedForm) -> bool
-    ensures { result ≡ tells_replicated form.now }
+    ensures { result ≡ spec_is_replicated form.now }
 {
     matches!(form, TypedForm::Block(_, Some(_)))
 }
 
 /// Whether the components of a line are compared.
 fn is_parallel(form: &TypedForm) -> bool
-    ensures { result ≡ tells_compared form.now }
+    ensures { result ≡ spec_are_compared form.now }
 {
     matches!(form, TypedForm::Block(BlockKind::Parallel, _))
 }
 
-/// Adds the uses of the lines under a line in one round of its replicator, and what is told of them.
+/// Adds the uses of the lines under a line in one round of its replicator, and what is reported of them.
 #[cycle(walk)]
 fn add_round(
     alloc: Global,
@@ -82,53 +83,53 @@ fn add_round(
     lines: &[TypedLine],
     env: &mut UsageScope,
     uses: &mut Items<Use>,
-    told: &mut Told,
+    reported: &mut Finding,
 ) -> Result<(), AllocError>
-    ensures uses { OnOk result (uses.new ≡ uses.old ++ told_joined (items_of (trees_of lines.now) (with_index env.old base index))) }
+    ensures uses { OnOk result (uses.new ≡ uses.old ++ spec_joined (items_of (trees_of lines.now) (with_index env.old base index))) }
     ensures env { OnOk result (env.new ≡ env.old) }
-    ensures parallel { OnOk result (told.new.parallel ≡ told.old.parallel ++ told_of parallel_at (trees_of lines.now) (with_index env.old base index)) }
-    ensures abbreviations { OnOk result (told.new.abbreviations ≡ told.old.abbreviations ++ told_of abbreviation_at (trees_of lines.now) (with_index env.old base index)) }
+    ensures parallel { OnOk result (reported.new.parallel ≡ reported.old.parallel ++ reported_of parallel_at (trees_of lines.now) (with_index env.old base index)) }
+    ensures abbreviations { OnOk result (reported.new.abbreviations ≡ reported.old.abbreviations ++ reported_of abbreviation_at (trees_of lines.now) (with_index env.old base index)) }
 {
     let depth = env.len();
     enter_index(alloc, index_value(base, index), env)?;
-    add_items(alloc, lines, env, uses, told)?;
+    add_items(alloc, lines, env, uses, reported)?;
     env.cut(depth);
     Ok(())
 }
 
-/// The uses of the rounds of a replicator, one behind the other, and how many each has.
+/// The uses of the rounds of a replicator, one after the other, and how many each has.
 #[derive(Drop)]
 struct EachRound {
     uses: Items<Use>,
     sizes: Vec<usize>,
 }
 
-/// The uses of the lines under a line in each round of its replicator, and what is told of them.
+/// The uses of the lines under a line in each round of its replicator, and what is reported of them.
 #[cycle(walk)]
 fn rounds(
     alloc: Global,
     known: KnownReplicator,
     lines: &[TypedLine],
     env: &mut UsageScope,
-    told: &mut Told,
+    reported: &mut Finding,
 ) -> Result<EachRound, AllocError>
     ensures found { IfOk result (λ found. parted found.sizes.items found.uses ≡ rounds_to known.count known.base env.old (items_of (trees_of lines.now))) }
-    ensures uses { IfOk result (λ found. found.uses ≡ told_joined (rounds_to known.count known.base env.old (items_of (trees_of lines.now)))) }
+    ensures uses { IfOk result (λ found. found.uses ≡ spec_joined (rounds_to known.count known.base env.old (items_of (trees_of lines.now)))) }
     ensures env { OnOk result (env.new ≡ env.old) }
-    ensures parallel { OnOk result (told.new.parallel ≡ told.old.parallel ++ rounds_told known.count known.base env.old (told_of parallel_at (trees_of lines.now))) }
-    ensures abbreviations { OnOk result (told.new.abbreviations ≡ told.old.abbreviations ++ rounds_told known.count known.base env.old (told_of abbreviation_at (trees_of lines.now))) }
+    ensures parallel { OnOk result (reported.new.parallel ≡ reported.old.parallel ++ rounds_reported known.count known.base env.old (reported_of parallel_at (trees_of lines.now))) }
+    ensures abbreviations { OnOk result (reported.new.abbreviations ≡ reported.old.abbreviations ++ rounds_reported known.count known.base env.old (reported_of abbreviation_at (trees_of lines.now))) }
 {
     let mut uses = Items::new(alloc);
     let mut sizes = Vec::new(alloc);
     for i in 0..known.count {
         let before = uses.len();
-        add_round(alloc, known.base, i, lines, env, &mut uses, told)?;
+        add_round(alloc, known.base, i, lines, env, &mut uses, reported)?;
         sizes.push(uses.len().saturating_sub(before))?;
     }
     Ok(EachRound { uses, sizes })
 }
 
-/// Adds the uses of the lines under a line in each round of its replicator, and what is told of them.
+/// Adds the uses of the lines under a line in each round of its replicator, and what is reported of them.
 #[cycle(walk)]
 fn add_rounds(
     alloc: Global,
@@ -136,81 +137,81 @@ fn add_rounds(
     lines: &[TypedLine],
     env: &mut UsageScope,
     uses: &mut Items<Use>,
-    told: &mut Told,
+    reported: &mut Finding,
 ) -> Result<(), AllocError>
-    ensures uses { OnOk result (uses.new ≡ uses.old ++ told_joined (rounds_to known.count known.base env.old (items_of (trees_of lines.now)))) }
+    ensures uses { OnOk result (uses.new ≡ uses.old ++ spec_joined (rounds_to known.count known.base env.old (items_of (trees_of lines.now)))) }
     ensures env { OnOk result (env.new ≡ env.old) }
-    ensures parallel { OnOk result (told.new.parallel ≡ told.old.parallel ++ rounds_told known.count known.base env.old (told_of parallel_at (trees_of lines.now))) }
-    ensures abbreviations { OnOk result (told.new.abbreviations ≡ told.old.abbreviations ++ rounds_told known.count known.base env.old (told_of abbreviation_at (trees_of lines.now))) }
+    ensures parallel { OnOk result (reported.new.parallel ≡ reported.old.parallel ++ rounds_reported known.count known.base env.old (reported_of parallel_at (trees_of lines.now))) }
+    ensures abbreviations { OnOk result (reported.new.abbreviations ≡ reported.old.abbreviations ++ rounds_reported known.count known.base env.old (reported_of abbreviation_at (trees_of lines.now))) }
 {
     for index in 0..known.count {
-        add_round(alloc, known.base, index, lines, env, uses, told)?;
+        add_round(alloc, known.base, index, lines, env, uses, reported)?;
     }
     Ok(())
 }
 
-/// The uses of each item under a line, with what the line enters in scope, and what is told of them.
+/// The uses of each item under a line, with what the line enters in scope, and what is reported of them.
 #[cycle(walk)]
 fn inner(
     alloc: Global,
     line: &TypedLine,
     env: &mut UsageScope,
-    told: &mut Told,
+    reported: &mut Finding,
 ) -> Result<Vec<Items<Use>>, AllocError>
-    ensures found { IfOk result (λ found. found.items ≡ items_of (lines_under line.now) (told_inner env.old (head_of line.now))) }
+    ensures found { IfOk result (λ found. found.items ≡ items_of (spec_under line.now) (spec_inner env.old (head_of line.now))) }
     ensures env { OnOk result (env.new ≡ env.old) }
-    ensures parallel { OnOk result (told.new.parallel ≡ told.old.parallel ++ told_of parallel_at (lines_under line.now) (told_inner env.old (head_of line.now))) }
-    ensures abbreviations { OnOk result (told.new.abbreviations ≡ told.old.abbreviations ++ told_of abbreviation_at (lines_under line.now) (told_inner env.old (head_of line.now))) }
+    ensures parallel { OnOk result (reported.new.parallel ≡ reported.old.parallel ++ reported_of parallel_at (spec_under line.now) (spec_inner env.old (head_of line.now))) }
+    ensures abbreviations { OnOk result (reported.new.abbreviations ≡ reported.old.abbreviations ++ reported_of abbreviation_at (spec_under line.now) (spec_inner env.old (head_of line.now))) }
 {
     let depth = env.len();
     enter_all(alloc, line.enters.as_slice(), env)?;
-    let found = items(alloc, line.under.as_slice(), env, told)?;
+    let found = items(alloc, line.under.as_slice(), env, reported)?;
     env.cut(depth);
     Ok(found)
 }
 
-/// Adds the uses of the items under a line, with what the line enters in scope, and what is told of them.
+/// Adds the uses of the items under a line, with what the line enters in scope, and what is reported of them.
 #[cycle(walk)]
 fn add_inner(
     alloc: Global,
     line: &TypedLine,
     env: &mut UsageScope,
     uses: &mut Items<Use>,
-    told: &mut Told,
+    reported: &mut Finding,
 ) -> Result<(), AllocError>
-    ensures uses { OnOk result (uses.new ≡ uses.old ++ told_joined (items_of (lines_under line.now) (told_inner env.old (head_of line.now)))) }
+    ensures uses { OnOk result (uses.new ≡ uses.old ++ spec_joined (items_of (spec_under line.now) (spec_inner env.old (head_of line.now)))) }
     ensures env { OnOk result (env.new ≡ env.old) }
-    ensures parallel { OnOk result (told.new.parallel ≡ told.old.parallel ++ told_of parallel_at (lines_under line.now) (told_inner env.old (head_of line.now))) }
-    ensures abbreviations { OnOk result (told.new.abbreviations ≡ told.old.abbreviations ++ told_of abbreviation_at (lines_under line.now) (told_inner env.old (head_of line.now))) }
+    ensures parallel { OnOk result (reported.new.parallel ≡ reported.old.parallel ++ reported_of parallel_at (spec_under line.now) (spec_inner env.old (head_of line.now))) }
+    ensures abbreviations { OnOk result (reported.new.abbreviations ≡ reported.old.abbreviations ++ reported_of abbreviation_at (spec_under line.now) (spec_inner env.old (head_of line.now))) }
 {
     let depth = env.len();
     enter_all(alloc, line.enters.as_slice(), env)?;
-    add_items(alloc, line.under.as_slice(), env, uses, told)?;
+    add_items(alloc, line.under.as_slice(), env, uses, reported)?;
     env.cut(depth);
     Ok(())
 }
 
-/// Adds the uses of the components of a line, and what is told of the lines under it.
+/// Adds the uses of the components of a line, and what is reported of the lines under it.
 #[cycle(walk)]
 fn add_components(
     alloc: Global,
     line: &TypedLine,
     env: &mut UsageScope,
     uses: &mut Items<Use>,
-    told: &mut Told,
+    reported: &mut Finding,
 ) -> Result<(), AllocError>
-    ensures uses { OnOk result (uses.new ≡ uses.old ++ told_joined (told_components env.old (head_of line.now) (items_of (lines_under line.now)))) }
+    ensures uses { OnOk result (uses.new ≡ uses.old ++ spec_joined (spec_components env.old (head_of line.now) (items_of (spec_under line.now)))) }
     ensures env { OnOk result (env.new ≡ env.old) }
-    ensures parallel { OnOk result (told.new.parallel ≡ told.old.parallel ++ under_told env.old (head_of line.now) (told_of parallel_at (lines_under line.now))) }
-    ensures abbreviations { OnOk result (told.new.abbreviations ≡ told.old.abbreviations ++ under_told env.old (head_of line.now) (told_of abbreviation_at (lines_under line.now))) }
+    ensures parallel { OnOk result (reported.new.parallel ≡ reported.old.parallel ++ under_reported env.old (head_of line.now) (reported_of parallel_at (spec_under line.now))) }
+    ensures abbreviations { OnOk result (reported.new.abbreviations ≡ reported.old.abbreviations ++ under_reported env.old (head_of line.now) (reported_of abbreviation_at (spec_under line.now))) }
 {
     match known_replicator(line.form.get()) {
-        Some(known) => add_rounds(alloc, known, line.under.as_slice(), env, uses, told),
-        None => add_inner(alloc, line, env, uses, told),
+        Some(known) => add_rounds(alloc, known, line.under.as_slice(), env, uses, reported),
+        None => add_inner(alloc, line, env, uses, reported),
     }
 }
 
-/// What is told of a block with these components.
+/// What is reported of a block with these components.
 fn block_faults(
     alloc: Global,
     block: BlockKind,
@@ -219,7 +220,7 @@ fn block_faults(
     env: &[Bound],
     faults: &mut Items<Diag>,
 ) -> Result<(), AllocError>
-    ensures { OnOk result (faults.new ≡ faults.old ++ told_block block (head_of line.now).place env.now components.now) }
+    ensures { OnOk result (faults.new ≡ faults.old ++ spec_block_faults block (head_of line.now).place env.now components.now) }
 {
     match block {
         BlockKind::Parallel => component_faults(alloc, &line.place, env, components, faults),
@@ -229,7 +230,7 @@ fn block_faults(
     }
 }
 
-/// What is told of a line with these components.
+/// What is reported of a line with these components.
 fn own_faults(
     alloc: Global,
     line: &TypedLine,
@@ -237,7 +238,7 @@ fn own_faults(
     env: &[Bound],
     faults: &mut Items<Diag>,
 ) -> Result<(), AllocError>
-    ensures { OnOk result (faults.new ≡ faults.old ++ told_own (head_of line.now).form (head_of line.now).place env.now components.now) }
+    ensures { OnOk result (faults.new ≡ faults.old ++ spec_own_faults (head_of line.now).form (head_of line.now).place env.now components.now) }
 {
     match line.form.get() {
         TypedForm::Block(block, _) => { block_faults(alloc, *block, line, components, env, faults) }
@@ -248,7 +249,7 @@ fn own_faults(
     }
 }
 
-/// Adds the uses of the rounds of a PAR, what is told of the lines under it, and what the rounds have in common.
+/// Adds the uses of the rounds of a PAR, what is reported of the lines under it, and what the rounds have in common.
 #[cycle(walk)]
 fn add_compared_rounds(
     alloc: Global,
@@ -256,93 +257,99 @@ fn add_compared_rounds(
     line: &TypedLine,
     env: &mut UsageScope,
     uses: &mut Items<Use>,
-    told: &mut Told,
+    reported: &mut Finding,
 ) -> Result<(), AllocError>
-    requires parallel { tells_compared (head_of line.now).form ≡ true }
-    requires rounds { told_known (head_of line.now).form ≡ Some known }
-    ensures uses { OnOk result (uses.new ≡ uses.old ++ told_joined (told_components env.old (head_of line.now) (items_of (lines_under line.now)))) }
+    requires parallel { spec_are_compared (head_of line.now).form ≡ true }
+    requires rounds { spec_known_replicator (head_of line.now).form ≡ Some known }
+    ensures uses { OnOk result (uses.new ≡ uses.old ++ spec_joined (spec_components env.old (head_of line.now) (items_of (spec_under line.now)))) }
     ensures env { OnOk result (env.new ≡ env.old) }
-    ensures parallel { OnOk result (told.new.parallel ≡ told.old.parallel ++ line_told parallel_at env.old (head_of line.now) (lines_under line.now) (told_of parallel_at (lines_under line.now))) }
-    ensures abbreviations { OnOk result (told.new.abbreviations ≡ told.old.abbreviations ++ under_told env.old (head_of line.now) (told_of abbreviation_at (lines_under line.now))) }
+    ensures parallel { OnOk result (reported.new.parallel ≡ reported.old.parallel ++ line_reported parallel_at env.old (head_of line.now) (spec_under line.now) (reported_of parallel_at (spec_under line.now))) }
+    ensures abbreviations { OnOk result (reported.new.abbreviations ≡ reported.old.abbreviations ++ under_reported env.old (head_of line.now) (reported_of abbreviation_at (spec_under line.now))) }
 {
-    let EachRound { uses: found, sizes } = rounds(alloc, known, line.under.as_slice(), env, told)?;
+    let EachRound { uses: found, sizes } = rounds(
+        alloc,
+        known,
+        line.under.as_slice(),
+        env,
+        reported,
+    )?;
     parted_faults(
         alloc,
         &line.place,
         env.as_slice(),
         found.as_slice(),
         sizes.as_slice(),
-        &mut told.parallel,
+        &mut reported.parallel,
     )?;
     append(uses, found)
 }
 
-/// Adds the uses of the items of a line, what is told of the lines under it, and what the items have in common.
+/// Adds the uses of the items of a line, what is reported of the lines under it, and what the items have in common.
 #[cycle(walk)]
 fn add_compared_items(
     alloc: Global,
     line: &TypedLine,
     env: &mut UsageScope,
     uses: &mut Items<Use>,
-    told: &mut Told,
+    reported: &mut Finding,
 ) -> Result<(), AllocError>
-    requires { told_known (head_of line.now).form ≡ None }
-    ensures uses { OnOk result (uses.new ≡ uses.old ++ told_joined (told_components env.old (head_of line.now) (items_of (lines_under line.now)))) }
+    requires { spec_known_replicator (head_of line.now).form ≡ None }
+    ensures uses { OnOk result (uses.new ≡ uses.old ++ spec_joined (spec_components env.old (head_of line.now) (items_of (spec_under line.now)))) }
     ensures env { OnOk result (env.new ≡ env.old) }
-    ensures parallel { OnOk result (told.new.parallel ≡ told.old.parallel ++ line_told parallel_at env.old (head_of line.now) (lines_under line.now) (told_of parallel_at (lines_under line.now))) }
-    ensures abbreviations { OnOk result (told.new.abbreviations ≡ told.old.abbreviations ++ under_told env.old (head_of line.now) (told_of abbreviation_at (lines_under line.now))) }
+    ensures parallel { OnOk result (reported.new.parallel ≡ reported.old.parallel ++ line_reported parallel_at env.old (head_of line.now) (spec_under line.now) (reported_of parallel_at (spec_under line.now))) }
+    ensures abbreviations { OnOk result (reported.new.abbreviations ≡ reported.old.abbreviations ++ under_reported env.old (head_of line.now) (reported_of abbreviation_at (spec_under line.now))) }
 {
-    let components = inner(alloc, line, env, told)?;
+    let components = inner(alloc, line, env, reported)?;
     own_faults(
         alloc,
         line,
         components.as_slice(),
         env.as_slice(),
-        &mut told.parallel,
+        &mut reported.parallel,
     )?;
     append_joined(components, uses)
 }
 
-/// Adds the uses of the components of a PAR, what is told of the lines under it, and what the components have in common.
+/// Adds the uses of the components of a PAR, what is reported of the lines under it, and what the components have in common.
 #[cycle(walk)]
 fn add_compared(
     alloc: Global,
     line: &TypedLine,
     env: &mut UsageScope,
     uses: &mut Items<Use>,
-    told: &mut Told,
+    reported: &mut Finding,
 ) -> Result<(), AllocError>
-    requires { tells_compared (head_of line.now).form ≡ true }
-    ensures uses { OnOk result (uses.new ≡ uses.old ++ told_joined (told_components env.old (head_of line.now) (items_of (lines_under line.now)))) }
+    requires { spec_are_compared (head_of line.now).form ≡ true }
+    ensures uses { OnOk result (uses.new ≡ uses.old ++ spec_joined (spec_components env.old (head_of line.now) (items_of (spec_under line.now)))) }
     ensures env { OnOk result (env.new ≡ env.old) }
-    ensures parallel { OnOk result (told.new.parallel ≡ told.old.parallel ++ line_told parallel_at env.old (head_of line.now) (lines_under line.now) (told_of parallel_at (lines_under line.now))) }
-    ensures abbreviations { OnOk result (told.new.abbreviations ≡ told.old.abbreviations ++ under_told env.old (head_of line.now) (told_of abbreviation_at (lines_under line.now))) }
+    ensures parallel { OnOk result (reported.new.parallel ≡ reported.old.parallel ++ line_reported parallel_at env.old (head_of line.now) (spec_under line.now) (reported_of parallel_at (spec_under line.now))) }
+    ensures abbreviations { OnOk result (reported.new.abbreviations ≡ reported.old.abbreviations ++ under_reported env.old (head_of line.now) (reported_of abbreviation_at (spec_under line.now))) }
 {
     match known_replicator(line.form.get()) {
-        Some(known) => add_compared_rounds(alloc, known, line, env, uses, told),
-        None => add_compared_items(alloc, line, env, uses, told),
+        Some(known) => add_compared_rounds(alloc, known, line, env, uses, reported),
+        None => add_compared_items(alloc, line, env, uses, reported),
     }
 }
 
-/// Adds the uses of the components of a line, what is told of the lines under it, and what the parallel rule tells of the line.
+/// Adds the uses of the components of a line, what is reported of the lines under it, and what the parallel rule reports of the line.
 #[cycle(walk)]
 fn add_judged(
     alloc: Global,
     line: &TypedLine,
     env: &mut UsageScope,
     uses: &mut Items<Use>,
-    told: &mut Told,
+    reported: &mut Finding,
 ) -> Result<(), AllocError>
-    ensures uses { OnOk result (uses.new ≡ uses.old ++ told_joined (told_components env.old (head_of line.now) (items_of (lines_under line.now)))) }
+    ensures uses { OnOk result (uses.new ≡ uses.old ++ spec_joined (spec_components env.old (head_of line.now) (items_of (spec_under line.now)))) }
     ensures env { OnOk result (env.new ≡ env.old) }
-    ensures parallel { OnOk result (told.new.parallel ≡ told.old.parallel ++ line_told parallel_at env.old (head_of line.now) (lines_under line.now) (told_of parallel_at (lines_under line.now))) }
-    ensures abbreviations { OnOk result (told.new.abbreviations ≡ told.old.abbreviations ++ under_told env.old (head_of line.now) (told_of abbreviation_at (lines_under line.now))) }
+    ensures parallel { OnOk result (reported.new.parallel ≡ reported.old.parallel ++ line_reported parallel_at env.old (head_of line.now) (spec_under line.now) (reported_of parallel_at (spec_under line.now))) }
+    ensures abbreviations { OnOk result (reported.new.abbreviations ≡ reported.old.abbreviations ++ under_reported env.old (head_of line.now) (reported_of abbreviation_at (spec_under line.now))) }
 {
     if is_parallel(line.form.get()) {
-        return add_compared(alloc, line, env, uses, told);
+        return add_compared(alloc, line, env, uses, reported);
     }
-    add_components(alloc, line, env, uses, told)?;
-    own_faults(alloc, line, &[], env.as_slice(), &mut told.parallel)
+    add_components(alloc, line, env, uses, reported)?;
+    own_faults(alloc, line, &[], env.as_slice(), &mut reported.parallel)
 }
 
 /// A PROC or a FUNCTION over lines that use these.
@@ -352,25 +359,25 @@ fn body_over(
     uses: Items<Use>,
     env: &mut UsageScope,
 ) -> Result<Bound, AllocError>
-    ensures bound { IfOk result (λ bound. bound ≡ told_body env.old (head_of line.now) uses (told_effect (lines_under line.now) env.old (head_of line.now))) }
+    ensures bound { IfOk result (λ bound. bound ≡ spec_body_over env.old (head_of line.now) uses (spec_effect_under (spec_under line.now) env.old (head_of line.now))) }
     ensures env { OnOk result (env.new ≡ env.old) }
 {
     let has_effect = effect_under(alloc, line, env)?;
     let number = env.len();
-    let locals = number_behind(number, line.enters.len())?;
+    let locals = number_after(number, line.enters.len())?;
     let uses = outside_uses(alloc, uses, number, locals, &line.place)?;
     Ok(body_bound(uses, has_effect))
 }
 
 /// Enters what a line of specification over lines that use these specifies.
-fn enter_behind(
+fn enter_after(
     alloc: Global,
     line: &TypedLine,
     entries: &[ScopeEntry],
     uses: Items<Use>,
     env: &mut UsageScope,
 ) -> Result<(), AllocError>
-    ensures { OnOk result (env.new ≡ env.old ++ told_entered env.old (head_of line.now) uses (told_effect (lines_under line.now) env.old (head_of line.now)) entries.now) }
+    ensures { OnOk result (env.new ≡ env.old ++ spec_entered env.old (head_of line.now) uses (spec_effect_under (spec_under line.now) env.old (head_of line.now)) entries.now) }
 {
     if is_body(line.form.get()) {
         let body = body_over(alloc, line, uses, env)?;
@@ -379,22 +386,22 @@ fn enter_behind(
     enter_line(alloc, line.form.get(), &line.place, entries, env)
 }
 
-/// Goes behind a line over lines that use these.
-fn go_behind(
+/// Goes after a line over lines that use these.
+fn go_after(
     alloc: Global,
     line: &TypedLine,
     uses: Items<Use>,
     env: &mut UsageScope,
 ) -> Result<(), AllocError>
-    ensures { OnOk result (env.new ≡ env.old ++ told_added env.old (head_of line.now) uses (told_effect (lines_under line.now) env.old (head_of line.now)) (head_of line.now).adds) }
+    ensures { OnOk result (env.new ≡ env.old ++ spec_added_by env.old (head_of line.now) uses (spec_effect_under (spec_under line.now) env.old (head_of line.now)) (head_of line.now).adds) }
 {
     match &line.adds {
-        Some(entries) => enter_behind(alloc, line, entries.as_slice(), uses, env),
+        Some(entries) => enter_after(alloc, line, entries.as_slice(), uses, env),
         None => Ok(()),
     }
 }
 
-/// Adds the uses of the lines under a line, as they are uses of the line, and what is told of them and of the line by the
+/// Adds the uses of the lines under a line, as they are uses of the line, and what is reported of them and of the line by the
 /// parallel rule. Those of a body are no uses of the line: they are given.
 #[cycle(walk)]
 fn under_uses(
@@ -402,30 +409,30 @@ fn under_uses(
     line: &TypedLine,
     env: &mut UsageScope,
     uses: &mut Items<Use>,
-    told: &mut Told,
+    reported: &mut Finding,
 ) -> Result<Items<Use>, AllocError>
-    ensures uses { OnOk result (uses.new ≡ uses.old ++ told_under (head_of line.now).form (told_joined (told_components env.old (head_of line.now) (items_of (lines_under line.now))))) }
-    ensures body { IfOk result (λ body. told_is_body (head_of line.now).form ≡ true → body ≡ told_joined (told_components env.old (head_of line.now) (items_of (lines_under line.now)))) }
+    ensures uses { OnOk result (uses.new ≡ uses.old ++ spec_under_uses (head_of line.now).form (spec_joined (spec_components env.old (head_of line.now) (items_of (spec_under line.now))))) }
+    ensures body { IfOk result (λ body. spec_is_body (head_of line.now).form ≡ true → body ≡ spec_joined (spec_components env.old (head_of line.now) (items_of (spec_under line.now)))) }
     ensures env { OnOk result (env.new ≡ env.old) }
-    ensures parallel { OnOk result (told.new.parallel ≡ told.old.parallel ++ line_told parallel_at env.old (head_of line.now) (lines_under line.now) (told_of parallel_at (lines_under line.now))) }
-    ensures abbreviations { OnOk result (told.new.abbreviations ≡ told.old.abbreviations ++ under_told env.old (head_of line.now) (told_of abbreviation_at (lines_under line.now))) }
+    ensures parallel { OnOk result (reported.new.parallel ≡ reported.old.parallel ++ line_reported parallel_at env.old (head_of line.now) (spec_under line.now) (reported_of parallel_at (spec_under line.now))) }
+    ensures abbreviations { OnOk result (reported.new.abbreviations ≡ reported.old.abbreviations ++ under_reported env.old (head_of line.now) (reported_of abbreviation_at (spec_under line.now))) }
 {
     let form = line.form.get();
     let mut apart = Items::new(alloc);
     if is_body(form) {
-        add_judged(alloc, line, env, &mut apart, told)?;
+        add_judged(alloc, line, env, &mut apart, reported)?;
         return Ok(apart);
     }
     if is_replicated(form) {
-        add_judged(alloc, line, env, &mut apart, told)?;
+        add_judged(alloc, line, env, &mut apart, reported)?;
         append(uses, distinct(alloc, apart)?)?;
         return Ok(Items::new(alloc));
     }
-    add_judged(alloc, line, env, uses, told)?;
+    add_judged(alloc, line, env, uses, reported)?;
     Ok(apart)
 }
 
-/// Adds what a line uses itself, and what the abbreviation rule tells of that.
+/// Adds what a line uses itself, and what the abbreviation rule reports of that.
 fn own_uses(
     alloc: Global,
     line: &TypedLine,
@@ -434,8 +441,8 @@ fn own_uses(
     faults: &mut Items<Diag>,
 ) -> Result<(), AllocError>
     ensures env { OnOk result (env.new ≡ env.old) }
-    ensures uses { OnOk result (uses.new ≡ uses.old ++ told_form_uses (head_of line.now).form env.old (head_of line.now).place) }
-    ensures faults { OnOk result (faults.new ≡ faults.old ++ told_line_faults (head_of line.now).form env.old (head_of line.now).place) }
+    ensures uses { OnOk result (uses.new ≡ uses.old ++ spec_form_uses (head_of line.now).form env.old (head_of line.now).place) }
+    ensures faults { OnOk result (faults.new ≡ faults.old ++ spec_line_faults (head_of line.now).form env.old (head_of line.now).place) }
 {
     let form = line.form.get();
     let before = uses.len();
@@ -444,7 +451,7 @@ fn own_uses(
     line_faults(alloc, form, &line.place, own, env, faults)
 }
 
-/// A line with those under it: its uses, what comes into scope behind it, and what is told of them. A main line leaves what
+/// A line with those under it: its uses, what comes into scope after it, and what is reported of them. A main line leaves what
 /// stands in scope.
 #[cycle(walk)]
 pub(crate) fn line(
@@ -452,21 +459,21 @@ pub(crate) fn line(
     line: &TypedLine,
     env: &mut UsageScope,
     uses: &mut Items<Use>,
-    told: &mut Told,
+    reported: &mut Finding,
 ) -> Result<(), AllocError>
-    ensures env { OnOk result (env.new ≡ env.old ++ told_behind env.old (head_of line.now) (lines_under line.now) (items_of (lines_under line.now))) }
-    ensures uses { OnOk result (uses.new ≡ uses.old ++ told_line_uses env.old (head_of line.now) (items_of (lines_under line.now))) }
-    ensures parallel { OnOk result (told.new.parallel ≡ told.old.parallel ++ line_told parallel_at env.old (head_of line.now) (lines_under line.now) (told_of parallel_at (lines_under line.now))) }
-    ensures abbreviations { OnOk result (told.new.abbreviations ≡ told.old.abbreviations ++ line_told abbreviation_at env.old (head_of line.now) (lines_under line.now) (told_of abbreviation_at (lines_under line.now))) }
+    ensures env { OnOk result (env.new ≡ env.old ++ spec_added env.old (head_of line.now) (spec_under line.now) (items_of (spec_under line.now))) }
+    ensures uses { OnOk result (uses.new ≡ uses.old ++ spec_line_uses env.old (head_of line.now) (items_of (spec_under line.now))) }
+    ensures parallel { OnOk result (reported.new.parallel ≡ reported.old.parallel ++ line_reported parallel_at env.old (head_of line.now) (spec_under line.now) (reported_of parallel_at (spec_under line.now))) }
+    ensures abbreviations { OnOk result (reported.new.abbreviations ≡ reported.old.abbreviations ++ line_reported abbreviation_at env.old (head_of line.now) (spec_under line.now) (reported_of abbreviation_at (spec_under line.now))) }
 {
     let mut faults = Items::new(alloc);
     own_uses(alloc, line, env, uses, &mut faults)?;
-    let body = under_uses(alloc, line, env, uses, told)?;
-    told.abbreviations.append(faults)?;
-    go_behind(alloc, line, body, env)
+    let body = under_uses(alloc, line, env, uses, reported)?;
+    reported.abbreviations.append(faults)?;
+    go_after(alloc, line, body, env)
 }
 
-/// Ends an item behind its main line in what stands in scope: so many specifications stand round it.
+/// Ends an item after its main line in what stands in scope: so many specifications stand round it.
 fn end_scope(line: &TypedLine, depth: usize, env: &mut UsageScope)
     ensures { env.new ≡ (if ends_item (head_of line.now).adds then take depth env.old else env.old) }
 {
@@ -475,7 +482,7 @@ fn end_scope(line: &TypedLine, depth: usize, env: &mut UsageScope)
     }
 }
 
-/// Ends an item behind its main line: so many specifications stand round it.
+/// Ends an item after its main line: so many specifications stand round it.
 fn end_item(
     alloc: Global,
     line: &TypedLine,
@@ -496,24 +503,24 @@ fn end_item(
     Ok(())
 }
 
-/// The uses of each item of lines, and what is told of them.
+/// The uses of each item of lines, and what is reported of them.
 #[cycle(walk)]
 fn items(
     alloc: Global,
     lines: &[TypedLine],
     env: &mut UsageScope,
-    told: &mut Told,
+    reported: &mut Finding,
 ) -> Result<Vec<Items<Use>>, AllocError>
     ensures found { IfOk result (λ found. found.items ≡ items_of (trees_of lines.now) env.old) }
     ensures env { OnOk result (env.new ≡ env.old) }
-    ensures parallel { OnOk result (told.new.parallel ≡ told.old.parallel ++ told_of parallel_at (trees_of lines.now) env.old) }
-    ensures abbreviations { OnOk result (told.new.abbreviations ≡ told.old.abbreviations ++ told_of abbreviation_at (trees_of lines.now) env.old) }
+    ensures parallel { OnOk result (reported.new.parallel ≡ reported.old.parallel ++ reported_of parallel_at (trees_of lines.now) env.old) }
+    ensures abbreviations { OnOk result (reported.new.abbreviations ≡ reported.old.abbreviations ++ reported_of abbreviation_at (trees_of lines.now) env.old) }
 {
     let depth = env.len();
     let mut found = Vec::new(alloc);
     let mut own = Items::new(alloc);
     for one in lines {
-        line(alloc, one, env, &mut own, told)?;
+        line(alloc, one, env, &mut own, reported)?;
         end_item(alloc, one, depth, env, &mut own, &mut found)?;
     }
     env.cut(depth);
@@ -521,91 +528,91 @@ fn items(
     Ok(found)
 }
 
-/// Adds the uses of the items of lines, and what is told of them.
+/// Adds the uses of the items of lines, and what is reported of them.
 #[cycle(walk)]
 fn add_items(
     alloc: Global,
     lines: &[TypedLine],
     env: &mut UsageScope,
     uses: &mut Items<Use>,
-    told: &mut Told,
+    reported: &mut Finding,
 ) -> Result<(), AllocError>
-    ensures uses { OnOk result (uses.new ≡ uses.old ++ told_joined (items_of (trees_of lines.now) env.old)) }
+    ensures uses { OnOk result (uses.new ≡ uses.old ++ spec_joined (items_of (trees_of lines.now) env.old)) }
     ensures env { OnOk result (env.new ≡ env.old) }
-    ensures parallel { OnOk result (told.new.parallel ≡ told.old.parallel ++ told_of parallel_at (trees_of lines.now) env.old) }
-    ensures abbreviations { OnOk result (told.new.abbreviations ≡ told.old.abbreviations ++ told_of abbreviation_at (trees_of lines.now) env.old) }
+    ensures parallel { OnOk result (reported.new.parallel ≡ reported.old.parallel ++ reported_of parallel_at (trees_of lines.now) env.old) }
+    ensures abbreviations { OnOk result (reported.new.abbreviations ≡ reported.old.abbreviations ++ reported_of abbreviation_at (trees_of lines.now) env.old) }
 {
     let depth = env.len();
     for one in lines {
-        line(alloc, one, env, uses, told)?;
+        line(alloc, one, env, uses, reported)?;
         end_scope(one, depth, env);
     }
     env.cut(depth);
     Ok(())
 }
 
-/// What is told of lines, behind the last of which stands in scope what is in scope then.
+/// What is reported of lines, after the last of which stands in scope what is in scope then.
 fn go_through(
     alloc: Global,
     lines: &[TypedLine],
     env: &mut UsageScope,
-    told: &mut Told,
+    reported: &mut Finding,
 ) -> Result<(), AllocError>
-    ensures env { OnOk result (env.new ≡ behind_lines (trees_of lines.now) env.old env.old) }
-    ensures parallel { OnOk result (told.new.parallel ≡ told.old.parallel ++ told_of parallel_at (trees_of lines.now) env.old) }
-    ensures abbreviations { OnOk result (told.new.abbreviations ≡ told.old.abbreviations ++ told_of abbreviation_at (trees_of lines.now) env.old) }
+    ensures env { OnOk result (env.new ≡ after_lines (trees_of lines.now) env.old env.old) }
+    ensures parallel { OnOk result (reported.new.parallel ≡ reported.old.parallel ++ reported_of parallel_at (trees_of lines.now) env.old) }
+    ensures abbreviations { OnOk result (reported.new.abbreviations ≡ reported.old.abbreviations ++ reported_of abbreviation_at (trees_of lines.now) env.old) }
 {
     let depth = env.len();
     for one in lines {
-        go_over(alloc, one, depth, env, told)?;
+        go_over(alloc, one, depth, env, reported)?;
     }
     Ok(())
 }
 
-/// What is told of a line with those under it, behind which stands in scope what is in scope then: so many specifications stand
+/// What is reported of a line with those under it, after which stands in scope what is in scope then: so many specifications stand
 /// round its item.
 pub(crate) fn go_over(
     alloc: Global,
     one: &TypedLine,
     depth: usize,
     env: &mut UsageScope,
-    told: &mut Told,
+    reported: &mut Finding,
 ) -> Result<(), AllocError>
-    ensures env { OnOk result (depth ≤ length env.old → env.new ≡ behind_line (take depth env.old) env.old (head_of one.now) (lines_under one.now)) }
-    ensures parallel { OnOk result (told.new.parallel ≡ told.old.parallel ++ line_told parallel_at env.old (head_of one.now) (lines_under one.now) (told_of parallel_at (lines_under one.now))) }
-    ensures abbreviations { OnOk result (told.new.abbreviations ≡ told.old.abbreviations ++ line_told abbreviation_at env.old (head_of one.now) (lines_under one.now) (told_of abbreviation_at (lines_under one.now))) }
+    ensures env { OnOk result (depth ≤ length env.old → env.new ≡ after_line (take depth env.old) env.old (head_of one.now) (spec_under one.now)) }
+    ensures parallel { OnOk result (reported.new.parallel ≡ reported.old.parallel ++ line_reported parallel_at env.old (head_of one.now) (spec_under one.now) (reported_of parallel_at (spec_under one.now))) }
+    ensures abbreviations { OnOk result (reported.new.abbreviations ≡ reported.old.abbreviations ++ line_reported abbreviation_at env.old (head_of one.now) (spec_under one.now) (reported_of abbreviation_at (spec_under one.now))) }
 {
     let mut uses = Items::new(alloc);
-    line(alloc, one, env, &mut uses, told)?;
+    line(alloc, one, env, &mut uses, reported)?;
     if one.adds.is_none() {
         env.cut(depth);
     }
     Ok(())
 }
 
-/// What the rules of uses that are said line by line tell of a unit, and what stands in scope behind its last line.
+/// What the rules of uses that are said line by line report of a unit, and what stands in scope after its last line.
 #[derive(Drop)]
 pub struct UnitUses {
-    /// What the parallel rule tells, in no order, some perhaps more than once.
+    /// What the parallel rule reports, in no order, some perhaps more than once.
     pub parallel: Items<Diag>,
-    /// What the abbreviation rule tells: an error or a check, never both.
+    /// What the abbreviation rule reports: an error or a check, never both.
     pub abbreviations: Items<Diag>,
     pub bounds: Items<Bound>,
 }
 
-/// What the parallel rule and the abbreviation rule tell of a unit, and what stands in scope behind its last line.
+/// What the parallel rule and the abbreviation rule report of a unit, and what stands in scope after its last line.
 pub fn unit_uses(alloc: Global, typed: &Typed) -> Result<UnitUses, AllocError>
     ensures parallel { IfOk result (λ found. found.parallel ≡ parallel_faults typed.now.lines) }
     ensures abbreviations { IfOk result (λ found. found.abbreviations ≡ abbreviation_faults typed.now.lines) }
-    ensures bounds { IfOk result (λ found. found.bounds ≡ behind_unit typed.now.lines) }
+    ensures bounds { IfOk result (λ found. found.bounds ≡ after_unit typed.now.lines) }
 {
     let mut env = UsageScope::new(alloc);
-    let mut told = Told::nothing(alloc);
-    go_through(alloc, typed.lines.as_slice(), &mut env, &mut told)?;
-    let Told {
+    let mut reported = Finding::nothing(alloc);
+    go_through(alloc, typed.lines.as_slice(), &mut env, &mut reported)?;
+    let Finding {
         parallel,
         abbreviations,
-    } = told;
+    } = reported;
     let abbreviations = graver(alloc, abbreviations)?;
     Ok(UnitUses {
         parallel,
@@ -614,14 +621,14 @@ pub fn unit_uses(alloc: Global, typed: &Typed) -> Result<UnitUses, AllocError>
     })
 }
 
-/// What the parallel rule tells of a unit, in no order, some perhaps more than once.
+/// What the parallel rule reports of a unit, in no order, some perhaps more than once.
 pub fn par_faults(alloc: Global, typed: &Typed) -> Result<Items<Diag>, AllocError>
     ensures { IfOk result (λ faults. faults ≡ parallel_faults typed.now.lines) }
 {
     Ok(unit_uses(alloc, typed)?.parallel)
 }
 
-/// What the abbreviation rule tells of a unit, in no order: an error or a check, never both.
+/// What the abbreviation rule reports of a unit, in no order: an error or a check, never both.
 pub fn alias_faults(alloc: Global, typed: &Typed) -> Result<Items<Diag>, AllocError>
     ensures { IfOk result (λ faults. faults ≡ abbreviation_faults typed.now.lines) }
 {

@@ -3,14 +3,14 @@
 
 mod input;
 
-ghost use Rattle.occ_words.specs.Modes.{IsAllowed, IsFew};
+ghost use Rattle.occheck_words.specs.Modes.{IsAllowed, IsFew};
 ghost use Rattle.std.specs.List.{list_any};
 ghost use Rattle.std.specs.Prelude.{◌≡◌, IfOk, false, length};
 
 use input::Input;
 use occ_base::FileName;
-use occ_sessions::{Gate, Status, StdIn, StdOut, run_script, run_sessions};
-use occ_words::{Mode, WordsFault, read_words};
+use occheck_sessions::{Gate, Status, StdIn, StdOut, run_script, run_sessions};
+use occheck_words::{Mode, WordsFault, read_words};
 use std::alloc::AllocError;
 use std::env::{self, Env};
 use std::fs;
@@ -76,7 +76,7 @@ fn open(rt: &HostRuntime, script: &str) -> io::Result<Input> {
     }
 }
 
-/// Tells why the words are not taken.
+/// Reports why the words are not taken.
 fn refuse(rt: &HostRuntime, text: &str) -> ExitCode {
     let _ = eprint!(rt; "{text}");
     ExitCode::from(REFUSED)

@@ -1,10 +1,10 @@
--- What is told of uses in the scope of some specifications.
+-- What is reported of uses in the scope of some specifications.
 use Rattle.std.specs.Prelude.{ℕ, Option, Some, None, List, [], ◌∷◌, ◌++◌, slice_get}
 use Rattle.occ_alias.specs.AbbreviationRule.{bound_faults}
 use Rattle.occ_base.specs.declared.diag.Diag.{Diag}
-use Rattle.occ_bounds.specs.Bounds.{Env}
-use Rattle.occ_bounds.specs.declared.bound.Bound.{Bound}
-use Rattle.occ_bounds.specs.declared.uses.Use.{Use}
+use Rattle.occ_usage_values.specs.Bounds.{Env}
+use Rattle.occ_usage_values.specs.declared.bound.Bound.{Bound}
+use Rattle.occ_usage_values.specs.declared.uses.Use.{Use}
 
 -- by the specification n, if there is one
 abbrev pub numbered_faults : ℕ → Env → Option Bound → List Use → List Diag

@@ -1,13 +1,13 @@
--- Flags of the files of a project, at their places: set where a unit is known to be done.
+-- Flags of the files of a project, at their indices: set where a unit is known to be done.
 use Rattle.std.specs.Prelude.{◌≡◌, ◌<◌, ◌+◌, ◌||◌, ℕ, Bool, true, false, cond, not, List, [], ◌∷◌, get_or, Option, Some, None, slice_get}
 use Rattle.std.specs.Option.{is_some}
 use Rattle.occ_board.specs.Done.{done, done_step}
-use Rattle.occ_report.specs.Inputs.{Input}
+use Rattle.occ_check.specs.Input.{Input}
 use Rattle.occ_project.specs.declared.reads.Read.{Read}
-use Rattle.occ_units.specs.Along.{by_place, name_at}
+use Rattle.occ_project_units.specs.Along.{by_index, name_at}
 
 abbrev pub flag_of : List Read → List Bool → List ℕ → Bool
-flag_of files flags u = by_place files (λ p. get_or flags p false) false u
+flag_of files flags u = by_index files (λ p. get_or flags p false) false u
 
 -- the file is absent, or has its flag
 abbrev pub absent_or : Option Read → Bool → Bool
@@ -19,19 +19,19 @@ rest_flag files flags p = absent_or (slice_get files p) (get_or flags p false)
 
 -- none is set of a unit that is not done
 abbrev pub IsSound : List Read → List Input → List Bool → Type 0
-IsSound files kept flags = (u : List ℕ) → flag_of files flags u ≡ true → done files kept u ≡ true
+IsSound files cached flags = (u : List ℕ) → flag_of files flags u ≡ true → done files cached u ≡ true
 
--- the one at this place is not missing
+-- the one at this index is not missing
 abbrev pub IsFullAt : List Read → List Input → List Bool → ℕ → Type 0
-IsFullAt files kept flags p = done_step files kept (name_at files p) (flag_of files flags) ≡ true → get_or flags p false ≡ true
+IsFullAt files cached flags p = done_step files cached (name_at files p) (flag_of files flags) ≡ true → get_or flags p false ≡ true
 
--- none is missing at the places before this one
+-- none is missing at the indices before this one
 abbrev pub IsFull : List Read → List Input → List Bool → ℕ → Type 0
-IsFull files kept flags n = (p : ℕ) → p < n → IsFullAt files kept flags p
+IsFull files cached flags n = (p : ℕ) → p < n → IsFullAt files cached flags p
 
 -- set exactly where a unit is done
 abbrev pub AreFlags : List Read → List Input → List Bool → Type 0
-AreFlags files kept flags = (u : List ℕ) → flag_of files flags u ≡ done files kept u
+AreFlags files cached flags = (u : List ℕ) → flag_of files flags u ≡ done files cached u
 
 -- how many are not set: those of includes and of absent files too
 abbrev pub unflagged : List Bool → ℕ

@@ -8,7 +8,7 @@ use Rattle.occ_lines.specs.declared.token.Word.{Word}
 use Rattle.occ_lines.specs.declared.token.Word.TheVariants as w
 use Rattle.occ_forms.specs.declared.class.Class.{Class}
 use Rattle.occ_forms.specs.declared.class.Class.TheVariants as cl
-use Rattle.occ_expression_forms.specs.Marks.{first_mark}
+use Rattle.occ_forms_expressions.specs.Marks.{first_mark}
 
 abbrev pub symbol_class : Symbol → Class
 symbol_class s.Assign = cl.Assignment

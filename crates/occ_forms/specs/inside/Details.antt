@@ -1,14 +1,14 @@
 -- Data types as parts of a tag or variant.
 use Rattle.std.specs.Prelude.{ℕ, List, [], ◌∷◌, Option, Some, None}
-use Rattle.occ_expression_forms.specs.declared.tree.Builtin.TheVariants as uv
-use Rattle.occ_expression_forms.specs.declared.tree.DataBase.{DataBase}
-use Rattle.occ_expression_forms.specs.declared.tree.DataBase.TheVariants as da
-use Rattle.occ_expression_forms.specs.declared.tree.DataForm.{DataForm}
-use Rattle.occ_expression_forms.specs.declared.tree.Dimension.{Dimension}
+use Rattle.occ_forms_expressions.specs.declared.tree.Builtin.TheVariants as uv
+use Rattle.occ_forms_expressions.specs.declared.tree.DataBase.{DataBase}
+use Rattle.occ_forms_expressions.specs.declared.tree.DataBase.TheVariants as da
+use Rattle.occ_forms_expressions.specs.declared.tree.DataForm.{DataForm}
+use Rattle.occ_forms_expressions.specs.declared.tree.Dimension.{Dimension}
 use Rattle.occ_forms.specs.declared.tree.Detail.{Detail}
 use Rattle.occ_forms.specs.declared.tree.Detail.TheVariants as de
 
--- a name behind a first dimension
+-- a name after a first dimension
 abbrev pub named_detail : List Dimension → List ℕ → Option Detail
 named_detail [] n = None
 named_detail (d ∷ ds) n = Some (de.Array d ds n)

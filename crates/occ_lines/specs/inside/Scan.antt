@@ -17,11 +17,11 @@ pub record IsLongest (passes : List ℕ → Bool) (text : List ℕ) (n : ℕ) : 
 abbrev pub may_end_pair : ℕ → Bool
 may_end_pair b = b == 61 || (b == 58 || (b == 60 || (b == 62 || (b == 47 || b == 92))))
 
--- the bytes that the text spells are put behind those that are read already
+-- the bytes that the text spells are put after those that are read already
 abbrev pub Gathers : List ℕ → List ℕ → List ℕ → List ℕ → Type 0
 Gathers so_far text bytes rest = (values : List ℕ) × (bytes ≡ so_far ++ values) × IsQuoted text values rest
 
--- the tokens that the text is are put behind those that are read already, and it ends so
+-- the tokens that the text is are put after those that are read already, and it ends so
 abbrev pub IsRead : List Token → List ℕ → List Token → Ending → Type 0
 IsRead so_far text tokens ending = (more : List Token) × (tokens ≡ so_far ++ more) × Lexes text more ending
 
@@ -29,6 +29,6 @@ IsRead so_far text tokens ending = (more : List Token) × (tokens ≡ so_far ++ 
 abbrev pub IsStringRead : List Token → List ℕ → List ℕ → List Token → Ending → Type 0
 IsStringRead so_far bytes text tokens ending = (more : List Token) × (tokens ≡ so_far ++ more) × LexesString bytes text more ending
 
--- logical lines of which this holds are put behind those that are found already
+-- logical lines of which this holds are put after those that are found already
 abbrev pub Adds : List Logical → List Logical → (List Logical → Type 0) → Type 0
 Adds found all holds = (ended : List Logical) × (all ≡ found ++ ended) × holds ended

@@ -43,7 +43,7 @@ Settles (reached.Done x) ended next = (ended ≡ x ∷ []) × (next ≡ None)
 abbrev pub Continues : ℕ → ℕ → List Token → List ℕ → List Logical → Option Statement → Type 0
 Continues first column tokens line ended next = (more : List Token) × (x : Ending) × Lexes line more x × Settles (settled first column (tokens ++ more) x) ended next
 
--- the line as it goes on with the statement's string, behind a '*'
+-- the line as it goes on with the statement's string, after a '*'
 abbrev pub Resumes : ℕ → ℕ → List Token → List ℕ → List ℕ → List Logical → Option Statement → Type 0
 Resumes first column tokens bytes line ended next = (more : List Token) × (x : Ending) × LexesString bytes (drop 1 (after_blanks line)) more x × Settles (settled first column (tokens ++ more) x) ended next
 
@@ -52,7 +52,7 @@ abbrev pub Speaks : Option Directive → ℕ → List ℕ → List Logical → O
 Speaks None number line ended next = Continues number (column line) [] line ended next
 Speaks (Some directive) number line ended next = (ended ≡ directive_lines number (column line) (directive_body directive (after_blanks line))) × (next ≡ None)
 
--- the line of that number where no statement is open: these logical lines end on it, and this statement is open behind it
+-- the line of that number where no statement is open: these logical lines end on it, and this statement is open after it
 abbrev pub IsFresh : ℕ → List ℕ → List Logical → Option Statement → Type 0
 IsFresh number line ended next = MatchBool (is_skipped line) ((ended ≡ []) × (next ≡ None)) (Speaks (directive_of (after_blanks line)) number line ended next)
 

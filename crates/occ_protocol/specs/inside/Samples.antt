@@ -5,8 +5,8 @@ use Rattle.occ_types.specs.declared.types.OccType.{OccType}
 use Rattle.occ_types.specs.declared.types.OccType.TheVariants as t
 use Rattle.occ_types.specs.declared.types.Tag.{Tag}
 use Rattle.occ_types.specs.declared.value.Primitive.TheVariants as p
-use Rattle.occ_operands.specs.Settling.{int, known}
-use Rattle.occ_operands.specs.declared.kind.Kind.TheVariants as k
+use Rattle.occ_typing_operands.specs.Settling.{int, known}
+use Rattle.occ_typing_operands.specs.declared.kind.Kind.TheVariants as k
 use Rattle.occ_protocol.specs.Carrying.{Carrier}
 use Rattle.occ_protocol.specs.Carrying.Carrier.{Sequence, Variant}
 use Rattle.occ_protocol.specs.declared.given.Given.{Given}

@@ -19,9 +19,9 @@ abbrev part_under : Forest → Forest
 part_under Empty = Empty
 part_under (Tree l u b) = u
 
-abbrev part_behind : Forest → Forest
-part_behind Empty = Empty
-part_behind (Tree l u b) = b
+abbrev part_after : Forest → Forest
+part_after Empty = Empty
+part_after (Tree l u b) = b
 
 abbrev is_tree : Forest → Bool
 is_tree Empty = false
@@ -35,10 +35,10 @@ nodes_of (Tree l u b) (n ∷ ns) e =
     let opened = sym (opened_tree n (forest_of ns)) ∙ e in
     let line : (out-Node n).line ≡ l = ap (λ (f : Forest). part_line f l) opened in
     let under : nodes_back u ≡ (out-Node n).children = nodes_of u (out-Node n).children (ap part_under opened) in
-    let behind : nodes_back b ≡ ns = nodes_of b ns (ap part_behind opened) in
+    let following : nodes_back b ≡ ns = nodes_of b ns (ap part_after opened) in
     ap (λ (k : ExpandedLine). roll-Node (record { line = k; children = nodes_back u }) ∷ nodes_back b) (sym line)
     ∙ ap (λ (ms : List Node). roll-Node (record { line = (out-Node n).line; children = ms }) ∷ nodes_back b) under
-    ∙ ap (λ (ms : List Node). roll-Node (record { line = (out-Node n).line; children = (out-Node n).children }) ∷ ms) behind
+    ∙ ap (λ (ms : List Node). roll-Node (record { line = (out-Node n).line; children = (out-Node n).children }) ∷ ms) following
     ∙ ap (λ (m : Node). m ∷ ns) (roll-out-Node n)
 
 -- nodes that are seen as the same trees are the same

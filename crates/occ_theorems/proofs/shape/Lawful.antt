@@ -23,14 +23,14 @@ obeys_clean ls f t o =
     let judged = obeys_judged row.File [] f (placed_of row.File (root_sorts f) o.0) o.1 in
     subst (NoneWrong []) (append-nil (listing f) ∙ t.1) (judged_back f 0 [] [] t.0 refl tt judged tt)
 
-none_told : (before : List Outline) (ls : List ExpandedLine) → NoneWrong before ls → AreShallow ls → faults_at ls (wrong_from before (outlines ls)) ≡ []
-none_told before [] n s = refl
-none_told before (l ∷ ls) n s = rw n.0 (rw (le-ltb 64 l.depth s.0) (none_told (outline l ∷ before) ls n.1 s.1))
+none_reported : (before : List Outline) (ls : List ExpandedLine) → NoneWrong before ls → AreShallow ls → faults_at ls (wrong_from before (outlines ls)) ≡ []
+none_reported before [] n s = refl
+none_reported before (l ∷ ls) n s = rw n.0 (rw (le-ltb 64 l.depth s.0) (none_reported (outline l ∷ before) ls n.1 s.1))
 
 pub shape_law : (ls : List ExpandedLine) → (shape_faults ls ≡ []) ↔ HasShape ls
 shape_law ls = (
   λ e. let shape = has_shape ls e (nested ls) (clean_trees ls e) in (nested ls, shape.0, shape.1, shape.2),
-  λ h. none_told [] ls (obeys_clean ls h.0 h.1 h.2) h.3,
+  λ h. none_reported [] ls (obeys_clean ls h.0 h.1 h.2) h.3,
 )
 
 pub one_law : (ls : List ExpandedLine) (f g : Forest) → IsTreesOf ls f → IsTreesOf ls g → f ≡ g

@@ -15,8 +15,8 @@ first_line d l ls (x ∷ xs) e a same =
 one_more : (d : ℕ) (f g : Forest) (xs ys : List ExpandedLine) → HasDepths d f → HasDepths d g → IsAbove d xs → IsAbove d ys
     → listing f ++ xs ≡ listing g ++ ys → (f ≡ g) × (xs ≡ ys)
 one_more d Empty Empty xs ys h k a b e = (refl, e)
-one_more d Empty (Tree l under behind) xs ys h k a b e = first_line d l _ xs k.0 a e
-one_more d (Tree l under behind) Empty xs ys h k a b e = first_line d l _ ys h.0 b (sym e)
+one_more d Empty (Tree l under following) xs ys h k a b e = first_line d l _ xs k.0 a e
+one_more d (Tree l under following) Empty xs ys h k a b e = first_line d l _ ys h.0 b (sym e)
 one_more d (Tree l u b) (Tree m v c) xs ys h k a z e =
     let head : l ≡ m = cc in
     let tail : (listing u ++ listing b) ++ xs ≡ (listing v ++ listing c) ++ ys = cc in

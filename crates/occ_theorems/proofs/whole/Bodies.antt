@@ -1,27 +1,27 @@
--- The lines of records and of protocols, which are told with their heads, without faults.
+-- The lines of records and of protocols, which are reported with their heads, without faults.
 use Rattle.std.proofs.Common.{◌≡◌, ◌++◌, ◌||◌, ℕ, Bool, true, false, List, [], ◌∷◌, Option, Some, None, refl, ap, subst}
 use Rattle.std.specs.List.{list_any}
 use Rattle.occ_base.specs.declared.fault.Fault.{Fault}
-use Rattle.occ_expr.specs.Views.{expr_view}
+use Rattle.occ_expr_operations.specs.Views.{expr_view}
 use Rattle.occ_forms.specs.declared.tree.Detail.{Detail}
 use Rattle.occ_forms.specs.declared.tree.Form.{Form}
 use Rattle.occ_forms.specs.declared.tree.Form.TheVariants as form
-use Rattle.occ_names.specs.declared.scope.Scope.{Scope}
+use Rattle.occ_scope.specs.declared.scope.Scope.{Scope}
 use Rattle.occ_project.specs.declared.expanded.ExpandedBody.{ExpandedBody}
 use Rattle.occ_project.specs.declared.expanded.ExpandedBody.TheVariants as body
 use Rattle.occ_project.specs.declared.expanded.ExpandedLine.{ExpandedLine}
-use Rattle.occ_specification_forms.specs.declared.tree.Specification.{Specification}
-use Rattle.occ_specification_forms.specs.declared.tree.Specification.TheVariants as specification
-use Rattle.occ_specification_forms.specs.declared.tree.Specified.TheVariants as specified
+use Rattle.occ_forms.specs.declared.specification_tree.Specification.{Specification}
+use Rattle.occ_forms.specs.declared.specification_tree.Specification.TheVariants as specification
+use Rattle.occ_forms.specs.declared.specification_tree.Specified.TheVariants as specified
 use Rattle.occ_tree.specs.Forest.{Empty, Forest, Tree}
 use Rattle.occ_tree.specs.Obeys.{Fits, ObeysUnder, root_sorts, sort_of}
 use Rattle.occ_tree.specs.Sorts.{body_sort, is_element_part, is_type_part}
 use Rattle.occ_tree.specs.Table.{may_stand}
 use Rattle.occ_tree.specs.declared.row.Row.{Row}
 use Rattle.occ_tree.specs.declared.row.Row.TheVariants as row
-use Rattle.occ_typed_lines.specs.Placed.{placed}
-use Rattle.occ_typed_lines.specs.Protocols.{body_tag, form_tag, protocol_of, tag_found, tag_lines, tag_named}
-use Rattle.occ_typed_lines.specs.Records.{body_fields, field_lines, form_fields, record_of, specification_fields}
+use Rattle.occ_typing_lines.specs.Placed.{placed}
+use Rattle.occ_typing_lines.specs.Protocols.{body_tag, form_tag, protocol_of, tag_found, tag_lines, tag_named}
+use Rattle.occ_typing_lines.specs.Records.{body_fields, field_lines, form_fields, record_of, specification_fields}
 use Rattle.occ_types.specs.Unknown.{any_of, fields_unknown, holds_unknown, items_unknown, tags_unknown}
 use Rattle.occ_types.specs.declared.types.Field.{Field}
 use Rattle.occ_types.specs.declared.types.Tag.{Tag}
@@ -59,16 +59,16 @@ body_fields_known s before (body.Fault code) known e = refl
 
 field_lines_known : (s : Scope) (before : List (List ℕ)) (f : Forest) → IsKnownScope s → (field_lines s before f).diags ≡ [] → any_of (fields_unknown (field_lines s before f).fields) ≡ false
 field_lines_known s before Empty known e = refl
-field_lines_known s before (Tree l under behind) known e =
+field_lines_known s before (Tree l under following) known e =
     let x = body_fields s before l.body in
-    let y = field_lines s (before ++ x.names) behind in
+    let y = field_lines s (before ++ x.names) following in
     both_fields x.fields y.fields
     (body_fields_known s before l.body known (placed_clean l x.faults (front_clean (placed l x.faults) y.diags e)))
-    (field_lines_known s (before ++ x.names) behind known (back_clean (placed l x.faults) y.diags e))
+    (field_lines_known s (before ++ x.names) following known (back_clean (placed l x.faults) y.diags e))
 
 pub record_fields_known : (s : Scope) (f : Forest) → IsKnownScope s → (record_of s f).fields.diags ≡ [] → any_of (fields_unknown (record_of s f).fields.fields) ≡ false
 record_fields_known s Empty known e = refl
-record_fields_known s (Tree l under behind) known e = field_lines_known s [] under known e
+record_fields_known s (Tree l under following) known e = field_lines_known s [] under known e
 
 -- ---- protocols
 
@@ -103,14 +103,14 @@ body_tag_known s before (body.Fault code) is known e = refl
 
 tag_lines_known : (s : Scope) (before : List (List ℕ)) (f : Forest) → AllStand row.Tags (root_sorts f) → IsKnownScope s → (tag_lines s before f).diags ≡ [] → any_of (tags_unknown (tag_lines s before f).tags) ≡ false
 tag_lines_known s before Empty h known e = refl
-tag_lines_known s before (Tree l under behind) h known e =
+tag_lines_known s before (Tree l under following) h known e =
     let x = body_tag s before l.body in
-    let y = tag_lines s (before ++ x.names) behind in
+    let y = tag_lines s (before ++ x.names) following in
     both_tags x.tags y.tags
     (body_tag_known s before l.body h.0 known (placed_clean l x.faults (front_clean (placed l x.faults) y.diags e)))
-    (tag_lines_known s (before ++ x.names) behind h.1 known (back_clean (placed l x.faults) y.diags e))
+    (tag_lines_known s (before ++ x.names) following h.1 known (back_clean (placed l x.faults) y.diags e))
 
 pub protocol_tags_known : (s : Scope) (f : Forest) → StandIn row.Case (root_sorts f) → ObeysUnder row.Case f → IsKnownScope s → (protocol_of s f).diags ≡ [] → any_of (tags_unknown (protocol_of s f).tags) ≡ false
 protocol_tags_known s Empty h g known e = refl
-protocol_tags_known s (Tree l under behind) h g known e =
+protocol_tags_known s (Tree l under following) h g known e =
     tag_lines_known s [] under (fits_stand row.Tags (root_sorts under) (subst (λ (r : Row). Fits r (root_sorts under)) (case_row (sort_of l) h.all.0) g.0)).all known e

@@ -5,9 +5,9 @@ use Rattle.std.specs.Str.{bytes_eq}
 use Rattle.std.specs.List.{list_any}
 use Rattle.occ_expr.specs.Trees.{element_tree, int_tree}
 use Rattle.occ_base.specs.declared.code.Code.TheVariants as code
-use Rattle.occ_expr.specs.Views.{expr_view}
-use Rattle.occ_expression_forms.specs.declared.tree.Element.{Element}
-use Rattle.occ_expression_forms.specs.declared.tree.Expr.{Expr}
+use Rattle.occ_expr_operations.specs.Views.{expr_view}
+use Rattle.occ_forms_expressions.specs.declared.tree.Element.{Element}
+use Rattle.occ_forms_expressions.specs.declared.tree.Expr.{Expr}
 use Rattle.occ_forms.specs.declared.tree.Detail.{Detail}
 use Rattle.occ_forms.specs.declared.tree.Detail.TheVariants as detail
 use Rattle.occ_forms.specs.declared.tree.Input.{Input}
@@ -16,15 +16,15 @@ use Rattle.occ_forms.specs.declared.tree.InputItem.{InputItem}
 use Rattle.occ_forms.specs.declared.tree.InputItem.TheVariants as into
 use Rattle.occ_forms.specs.declared.tree.OutputItem.{OutputItem}
 use Rattle.occ_forms.specs.declared.tree.OutputItem.TheVariants as out
-use Rattle.occ_lists.specs.Lists.{joined, one_part}
-use Rattle.occ_names.specs.declared.scope.Scope.{Scope}
-use Rattle.occ_operands.specs.Operators.{is_faulty}
-use Rattle.occ_operands.specs.Settling.{Told, int, settled}
-use Rattle.occ_operands.specs.declared.kind.Kind.{Kind}
-use Rattle.occ_operands.specs.declared.kind.Kind.TheVariants as k
+use Rattle.occ_base.specs.Lists.{joined, one_part}
+use Rattle.occ_scope.specs.declared.scope.Scope.{Scope}
+use Rattle.occ_typing_operands.specs.Operators.{is_faulty}
+use Rattle.occ_typing_operands.specs.Settling.{Finding, int, settled}
+use Rattle.occ_typing_operands.specs.declared.kind.Kind.{Kind}
+use Rattle.occ_typing_operands.specs.declared.kind.Kind.TheVariants as k
 use Rattle.occ_protocol.specs.Carrying.{Carrier, Data, Hidden, Nothing, Sequence, Time, Variant, carried, carrier, is_faulty_tag, is_unknown_item, no_channel, of_channel, place_from, place_named, tag_named, unknown_value}
 use Rattle.occ_protocol.specs.Lines.{alternative, awaited, cased, exchanged, is_timer, received, tag_place}
-use Rattle.occ_protocol.specs.Matching.{AnyData, Asked, Instead, NoTag, Silent, These, against, asked, behind, each_unmet, has_fault, meets, of_another_number, told, unmet}
+use Rattle.occ_protocol.specs.Matching.{AnyData, Asked, Instead, NoTag, Silent, These, against, asked, following, each_unmet, has_fault, meets, of_another_number, reported, unmet}
 use Rattle.occ_protocol.specs.Matching as matching
 use Rattle.occ_protocol.specs.Wanting.{each_wanted, nothing, wanted_for, wanted_layer, wants}
 use Rattle.occ_protocol.specs.declared.given.Given.{Given}
@@ -37,32 +37,32 @@ use Rattle.occ_protocol.specs.declared.given.Wanted.{Wanted}
 use Rattle.occ_protocol.specs.declared.given.Wanted.TheVariants as wanted
 use Rattle.occ_protocol.proofs.Carried.{carried_at_any, carried_at_defined, carried_at_sequence, carried_at_variant}
 use Rattle.occ_protocol.proofs.Meeting.{meets_value}
-use Rattle.occ_tables.specs.Terms.{Judged, judged}
-use Rattle.occ_tables.specs.declared.term.Term.{Term, out-Term, roll-Term}
-use Rattle.occ_tables.specs.declared.term.Term.TheOpen.{Term-F}
-use Rattle.occ_tables.specs.declared.term.Term.TheViews.{roll-out-Term}
-use Rattle.occ_tables.specs.declared.term.Term.TheVariants as v
-use Rattle.occ_tables.proofs.Judging.{judged_single}
+use Rattle.occ_typing_tables.specs.Terms.{Judged, judged}
+use Rattle.occ_typing_tables.specs.declared.term.Term.{Term, out-Term, roll-Term}
+use Rattle.occ_typing_tables.specs.declared.term.Term.TheOpen.{Term-F}
+use Rattle.occ_typing_tables.specs.declared.term.Term.TheViews.{roll-out-Term}
+use Rattle.occ_typing_tables.specs.declared.term.Term.TheVariants as v
+use Rattle.occ_typing_tables.proofs.Judging.{judged_single}
 use Rattle.occ_tree.specs.Sorts.{is_type_part}
-use Rattle.occ_typed.specs.declared.draft.Draft.{Draft}
-use Rattle.occ_typed.specs.declared.expr.TypedElement.{TypedElement}
-use Rattle.occ_typed.specs.declared.expr.TypedExpr.{TypedExpr}
-use Rattle.occ_typed_exchanges.specs.Inputs.{after_faults, after_input, after_tree, case_faults, input_faults, input_tree, plain_faults, plain_input, plain_tree, tagged_at, tagged_faults, tagged_input, tagged_tree, time_faults, time_of}
-use Rattle.occ_typed_exchanges.specs.Receiving.{Received, counted, counted_target, detail_received, details_received, item_received, items_received, received_faults, received_trees, single, single_target}
-use Rattle.occ_typed_exchanges.specs.Receiving as receiving
-use Rattle.occ_typed_exchanges.specs.Sending.{behind_tag, count_want, counted_output, item_faults, item_read, item_sent, items_behind, items_faults, items_read, items_sent, operand_as, operand_under, output_faults, output_tree, outputs_behind, own, reading, sending_of, sent_faults, sent_through, sent_trees, shapes_of, table_as, tag_at, tag_of, tag_tree, value_output, value_want}
-use Rattle.occ_typed_exchanges.specs.Sending as sending
-use Rattle.occ_typed_exchanges.specs.Through.{carrier_of, root_of, through}
-use Rattle.occ_typed_exchanges.specs.Variants.{begun, repeated, variant_at, variant_faults, variant_tree}
-use Rattle.occ_typed_exchanges.specs.declared.tree.TypedInput.{TypedInput}
-use Rattle.occ_typed_exchanges.specs.declared.tree.TypedOutput.{TypedOutput}
-use Rattle.occ_typed_exchanges.specs.declared.tree.TypedTarget.{TypedTarget}
-use Rattle.occ_typed_exchanges.specs.declared.variants.CaseInput.{CaseInput}
-use Rattle.occ_typed_exchanges.proofs.Operands.{operand_single, operand_table}
-use Rattle.occ_typed.specs.Placing.{tree_of}
+use Rattle.occ_typing_rules.specs.declared.open_expr.OpenExpr.{OpenExpr}
+use Rattle.occ_typing_rules.specs.declared.expr.TypedElement.{TypedElement}
+use Rattle.occ_typing_rules.specs.declared.expr.TypedExpr.{TypedExpr}
+use Rattle.occ_typing_statements.specs.Inputs.{after_faults, after_input, after_tree, case_faults, input_faults, input_tree, plain_faults, plain_input, plain_tree, tagged_at, tagged_faults, tagged_input, tagged_tree, time_faults, time_of}
+use Rattle.occ_typing_statements.specs.Receiving.{Received, counted, counted_target, detail_received, details_received, item_received, items_received, received_faults, received_trees, single, single_target}
+use Rattle.occ_typing_statements.specs.Receiving as receiving
+use Rattle.occ_typing_statements.specs.Sending.{after_tag, count_want, counted_output, item_faults, item_read, item_sent, items_after, items_faults, items_read, items_sent, operand_as, operand_under, output_faults, output_tree, outputs_after, own, reading, sending_of, sent_faults, sent_through, sent_trees, shapes_of, table_as, tag_at, tag_of, tag_tree, value_output, value_want}
+use Rattle.occ_typing_statements.specs.Sending as sending
+use Rattle.occ_typing_statements.specs.Through.{carrier_of, root_of, through}
+use Rattle.occ_typing_statements.specs.Variants.{begun, repeated, variant_at, variant_faults, variant_tree}
+use Rattle.occ_typing_statements.specs.declared.exchange_tree.TypedInput.{TypedInput}
+use Rattle.occ_typing_statements.specs.declared.exchange_tree.TypedOutput.{TypedOutput}
+use Rattle.occ_typing_statements.specs.declared.exchange_tree.TypedTarget.{TypedTarget}
+use Rattle.occ_typing_statements.specs.declared.variants.CaseInput.{CaseInput}
+use Rattle.occ_typing_statements.proofs.Operands.{operand_single, operand_table}
+use Rattle.occ_typing_rules.specs.Placing.{tree_of}
 use Rattle.occ_expr.specs.Targets.{target_of}
 use Rattle.occ_types.specs.Unknown.{any_of, holds_unknown, item_unknown, items_unknown, protocol_unknown, tags_unknown}
-use Rattle.occ_types.specs.View.{ItemLayer, Layer, as_array, as_channel, as_value, channel_layer, is_timer as of_timer, value_layer}
+use Rattle.occ_types.specs.View.{ItemLayer, Layer, as_array, as_channel, as_value, channel_layer, is_timer as spec_is_timer, value_layer}
 use Rattle.occ_types.specs.declared.types.Field.{Field}
 use Rattle.occ_types.specs.declared.types.Item.{Item, out-Item, roll-Item}
 use Rattle.occ_types.specs.declared.types.Item.TheFolds.{ind-Protocol, map-Protocol}
@@ -76,8 +76,8 @@ use Rattle.occ_types.specs.declared.types.Protocol.TheVariants as p
 use Rattle.occ_types.specs.declared.types.Tag.{Tag}
 use Rattle.occ_types.proofs.Unknowns.{unknown_channel, unknown_defined, unknown_sequence, unknown_value as unknown_item, unknown_variant}
 use Rattle.occ_typing.specs.Known.{IsKnownScope, IsKnownType}
-use Rattle.occ_typed_exchanges.specs.declared.sending.TypedSending.{TypedSending}
-use Rattle.occ_typed_exchanges.specs.declared.variants.TypedVariant.{TypedVariant}
+use Rattle.occ_typing_statements.specs.declared.sending.TypedSending.{TypedSending}
+use Rattle.occ_typing_statements.specs.declared.variants.TypedVariant.{TypedVariant}
 use Rattle.occ_typing.specs.WholeTrees.{AllAre, IsWholeElement, IsWholeExpr, IsWholeInput, IsWholeOutput, IsWholeTarget}
 use Rattle.occ_theorems.proofs.whole.Clean.{Has, IsThere, back_clean, front_clean, same_number}
 use Rattle.occ_theorems.proofs.whole.Elements.{element_known}
@@ -157,8 +157,8 @@ of_channel_known of (Some c) b is h = carried_known c (channel_known of c is h)
 
 carrier_known : (kind : Kind) → IsKnown kind → KnownCarrier (carrier kind)
 carrier_known k.Faulty h = h
-carrier_known (k.Free f) h = h
-carrier_known (k.Known x) h = of_channel_known x.of (as_channel x.of) (of_timer x.of) refl h
+carrier_known (k.Untyped f) h = h
+carrier_known (k.Known x) h = of_channel_known x.of (as_channel x.of) (spec_is_timer x.of) refl h
 
 -- ---- tags
 
@@ -211,9 +211,9 @@ faulty_if : (b : Bool) (items : List Item) → b ≡ false → IsClear (if b the
 faulty_if true items e = absurd cc
 faulty_if false items e = tt
 
-behind_clear : (root name : List ℕ) (found : Option Tag) (place : Option ℕ) (xs : List Given) → TagFound found place → told root (behind name found) xs ≡ [] → IsClear (behind name found) × IsThere place
-behind_clear root name None place xs h e = absurd cc
-behind_clear root name (Some tag) place xs h e = (faulty_if (is_faulty_tag tag) tag.items h.0, h.1)
+after_clear : (root name : List ℕ) (found : Option Tag) (place : Option ℕ) (xs : List Given) → TagFound found place → reported root (following name found) xs ≡ [] → IsClear (following name found) × IsThere place
+after_clear root name None place xs h e = absurd cc
+after_clear root name (Some tag) place xs h e = (faulty_if (is_faulty_tag tag) tag.items h.0, h.1)
 
 pub clear : (c : Carrier) (root : List ℕ) (tag : Option (List ℕ)) (xs : List Given) → KnownCarrier c → exchanged c root tag xs ≡ [] → Clear c tag
 clear Hidden root tag xs h e = absurd h
@@ -224,7 +224,7 @@ clear Data root (Some name) xs h e = absurd cc
 clear (Sequence items) root None xs h e = (tt, tt)
 clear (Sequence items) root (Some name) xs h e = absurd cc
 clear (Variant tags) root None xs h e = absurd cc
-clear (Variant tags) root (Some name) xs h e = behind_clear root name (tag_named tags name) (place_named tags name) xs (tag_found 0 tags name h) e
+clear (Variant tags) root (Some name) xs h e = after_clear root name (tag_named tags name) (place_named tags name) xs (tag_found 0 tags name h) e
 
 -- ---- what is wanted
 
@@ -274,31 +274,31 @@ wants_all (These items) xs h = against_if (length items == length xs) items xs
 
 -- ---- items that are sent
 
-array_reads : (j : Judged) (d : Draft) (parts : Option (Option ℕ × OccType)) → Sound j d → (table_as j parts).faults ≡ [] → Reads (table_as j parts).kind d
+array_reads : (j : Judged) (d : OpenExpr) (parts : Option (Option ℕ × OccType)) → Sound j d → (table_as j parts).faults ≡ [] → Reads (table_as j parts).kind d
 array_reads j d None h e = h.by_itself e
 array_reads j d (Some parts) h e = as_read (t.Array None parts.1) (j.under (t.Array None parts.1)).kind d (h.wanted (t.Array None parts.1) e)
 
-settled_single : (of : OccType) (kind : Kind) (d : Draft) → Sound (judged (v.Single kind)) d → (settled of kind).faults ≡ [] → Reads (settled of kind).kind d
+settled_single : (of : OccType) (kind : Kind) (d : OpenExpr) → Sound (judged (v.Single kind)) d → (settled of kind).faults ≡ [] → Reads (settled of kind).kind d
 settled_single of kind d h e =
     let is = judged_single kind in
     subst (λ (j : Judged). Reads (j.settled of).kind d) is (h.settles of (ap (λ (j : Judged). (j.settled of).faults) is ∙ e)).1
 
-term_reads : (of : OccType) (y : Term-F Term) (d : Draft) → Sound (judged (roll-Term y)) d → (operand_as of (roll-Term y)).faults ≡ [] → Reads (operand_as of (roll-Term y)).kind d
+term_reads : (of : OccType) (y : Term-F Term) (d : OpenExpr) → Sound (judged (roll-Term y)) d → (operand_as of (roll-Term y)).faults ≡ [] → Reads (operand_as of (roll-Term y)).kind d
 term_reads of (Term-F.Single kind) d h e =
     let is = v.rolls-Single kind in
     let same : operand_as of (roll-Term (Term-F.Single kind)) ≡ settled of kind = ap (operand_as of) is ∙ operand_single of kind in
-    subst (λ (x : Told). Reads x.kind d) (sym same) (settled_single of kind d (subst (λ (z : Term). Sound (judged z) d) is h) (sym (ap (λ (x : Told). x.faults) same) ∙ e))
+    subst (λ (x : Finding). Reads x.kind d) (sym same) (settled_single of kind d (subst (λ (z : Term). Sound (judged z) d) is h) (sym (ap (λ (x : Finding). x.faults) same) ∙ e))
 term_reads of (Term-F.Table xs) d h e =
     let is = v.rolls-Table xs in
     let same : operand_as of (roll-Term (Term-F.Table xs)) ≡ table_as (judged (v.Table xs)) (as_array of) = ap (operand_as of) is ∙ operand_table of xs in
-    subst (λ (x : Told). Reads x.kind d) (sym same) (array_reads (judged (v.Table xs)) d (as_array of) (subst (λ (z : Term). Sound (judged z) d) is h) (sym (ap (λ (x : Told). x.faults) same) ∙ e))
+    subst (λ (x : Finding). Reads x.kind d) (sym same) (array_reads (judged (v.Table xs)) d (as_array of) (subst (λ (z : Term). Sound (judged z) d) is h) (sym (ap (λ (x : Finding). x.faults) same) ∙ e))
 
-operand_reads : (of : OccType) (x : Term) (d : Draft) → Sound (judged x) d → (operand_as of x).faults ≡ [] → Reads (operand_as of x).kind d
+operand_reads : (of : OccType) (x : Term) (d : OpenExpr) → Sound (judged x) d → (operand_as of x).faults ≡ [] → Reads (operand_as of x).kind d
 operand_reads of x d h e =
     let is = roll-out-Term x in
     subst (λ (z : Term). Reads (operand_as of z).kind d) is (term_reads of (out-Term x) d (subst (λ (z : Term). Sound (judged z) d) (sym is) h) (ap (λ (z : Term). (operand_as of z).faults) is ∙ e))
 
-under_reads : (want : Want) (x : Term) (d : Draft) → IsWanted want → Sound (judged x) d → (operand_under want x).faults ≡ [] → Reads (operand_under want x).kind d
+under_reads : (want : Want) (x : Term) (d : OpenExpr) → IsWanted want → Sound (judged x) d → (operand_under want x).faults ≡ [] → Reads (operand_under want x).kind d
 under_reads w.Hidden x d g h e = absurd g
 under_reads w.Nothing x d g h e = h.by_itself e
 under_reads (w.Of of) x d g h e = operand_reads of x d h e
@@ -324,15 +324,15 @@ item_there : (s : Scope) (want : Wanted) (x : OutputItem) → IsKnownScope s →
 item_there s want (out.Plain e) known g c f =
     let r = reading s e in
     let y = operand_under (value_want want) r.term in
-    value_there (tree_of y.kind r.draft) (read_tree y.kind r.draft (under_reads (value_want want) r.term r.draft (plain_wanted want g) (said_sound s e known c) f))
+    value_there (tree_of y.kind r.open_expr) (read_tree y.kind r.open_expr (under_reads (value_want want) r.term r.open_expr (plain_wanted want g) (said_sound s e known c) f))
 item_there s want (out.Counted n e) known g c f =
     let q = reading s n in
     let r = reading s e in
     let z = operand_under (count_want want) q.term in
     let y = operand_under (value_want want) r.term in
-    counted_there (tree_of z.kind q.draft) (tree_of y.kind r.draft)
-    (read_tree z.kind q.draft (under_reads (count_want want) q.term q.draft (count_wanted want g) (said_sound s n known (front_clean (own s n) (own s e) c)) (front_clean z.faults y.faults f)))
-    (read_tree y.kind r.draft (under_reads (value_want want) r.term r.draft (plain_wanted want g) (said_sound s e known (back_clean (own s n) (own s e) c)) (back_clean z.faults y.faults f)))
+    counted_there (tree_of z.kind q.open_expr) (tree_of y.kind r.open_expr)
+    (read_tree z.kind q.open_expr (under_reads (count_want want) q.term q.open_expr (count_wanted want g) (said_sound s n known (front_clean (own s n) (own s e) c)) (front_clean z.faults y.faults f)))
+    (read_tree y.kind r.open_expr (under_reads (value_want want) r.term r.open_expr (plain_wanted want g) (said_sound s e known (back_clean (own s n) (own s e) c)) (back_clean z.faults y.faults f)))
 
 pub joined_there : {X : Type 0} (P : X → Type 0) (x : Option X) (xs : Option (List X)) → Has P x → Has (AllAre P) xs → Has (AllAre P) (joined (one_part x) xs)
 joined_there P None xs h g = h
@@ -374,8 +374,8 @@ sending_there None xs h g = h
 sending_there (Some el) None h g = g
 sending_there (Some el) (Some xs) h g = (h, g)
 
-behind_there : (s : Scope) (c : Carrier) (root : List ℕ) (tag : Option (List ℕ)) (items : List OutputItem) → IsKnownScope s → KnownCarrier c → behind_tag s c root tag items ≡ [] → Has (AllAre IsWholeOutput) (outputs_behind s c tag items)
-behind_there s c root tag items known h e =
+following_there : (s : Scope) (c : Carrier) (root : List ℕ) (tag : Option (List ℕ)) (items : List OutputItem) → IsKnownScope s → KnownCarrier c → after_tag s c root tag items ≡ [] → Has (AllAre IsWholeOutput) (outputs_after s c tag items)
+following_there s c root tag items known h e =
     let xs = sent_through c tag (items_read s items) in
     let last = exchanged c root tag (sending.givens xs) in
     let own = front_clean (items_faults s items) (sent_faults xs ++ last) e in
@@ -391,7 +391,7 @@ record Carries (s : Scope) (el : Element) : Type 0 where
 
 through_known : (s : Scope) (el : Element) → IsKnownScope s → (through s el).faults ≡ [] → Carries s el
 through_known s el known e =
-    let x = element_known (through s el).kind (element_tree s el) ((element_sound el s known).told e) in
+    let x = element_known (through s el).kind (element_tree s el) ((element_sound el s known).reported e) in
     record { carrier = carrier_known (through s el).kind x.0; tree = x.1 }
 
 pub output_there : (s : Scope) (el : Element) (first : OutputItem) (more : List OutputItem) → IsKnownScope s → output_faults s el first more ≡ [] → Has IsWholeSending (output_tree s el first more)
@@ -399,10 +399,10 @@ unfolding output_faults output_tree
 output_there s el first more known e =
     let c = carrier_of s el in
     let tag = tag_of c first in
-    let rest = behind_tag s c (root_of s el) tag (items_behind tag first more) in
+    let rest = after_tag s c (root_of s el) tag (items_after tag first more) in
     let r = through_known s el known (front_clean (through s el).faults rest e) in
-    sending_there (element_tree s el) (outputs_behind s c tag (items_behind tag first more)) r.tree
-    (behind_there s c (root_of s el) tag (items_behind tag first more) known r.carrier (back_clean (through s el).faults rest e))
+    sending_there (element_tree s el) (outputs_after s c tag (items_after tag first more)) r.tree
+    (following_there s c (root_of s el) tag (items_after tag first more) known r.carrier (back_clean (through s el).faults rest e))
 
 -- ---- items that are received
 
@@ -421,7 +421,7 @@ ReceivedSound x = x.faults ≡ [] → Has IsWholeTarget x.tree × (has_fault x.g
 
 known_faultless : (kind : Kind) → IsKnown kind → is_faulty kind ≡ false
 known_faultless k.Faulty h = absurd h
-known_faultless (k.Free f) h = absurd h
+known_faultless (k.Untyped f) h = absurd h
 known_faultless (k.Known x) h = refl
 
 single_received : (s : Scope) (el : Element) → IsKnownScope s → ReceivedSound (single s el)
@@ -473,10 +473,10 @@ abbrev time_of_trees : TypedElement → Option (List TypedTarget) → Option Typ
 time_of_trees el None = None
 time_of_trees el (Some xs) = time_of el xs
 
-named_told : (b f : Bool) (root : List ℕ) → f ≡ false → (if b || f then [] else matching.named code.P1 root) ≡ [] → b ≡ true
-named_told true f root is e = refl
-named_told false true root is e = absurd cc
-named_told false false root is e = absurd cc
+named_reported : (b f : Bool) (root : List ℕ) → f ≡ false → (if b || f then [] else matching.named code.P1 root) ≡ [] → b ≡ true
+named_reported true f root is e = refl
+named_reported false true root is e = absurd cc
+named_reported false false root is e = absurd cc
 
 one_time : (s : Scope) (el : TypedElement) (x : InputItem) (root : List ℕ) → IsWholeElement el → Has IsWholeTarget (item_received s x).tree → has_fault (item_received s x).given ≡ false → unmet root (meets (i.Value int) (item_received s x).given) (item_received s x).given ≡ []
     → Has IsWholeInput (time_of_trees el (joined (one_part (item_received s x).tree) (Some [])))
@@ -486,13 +486,13 @@ one_time s el (into.Plain y) root w h f e = plain_time (element_tree s y) h wher
   plain_time (Some z) g = (w, g)
 one_time s el (into.Counted n y) root w h f e =
     let x = g.Counted (target_of s n).kind (target_of s y).kind in
-    let met = named_told (meets (i.Value int) x) (has_fault x) root f e in
+    let met = named_reported (meets (i.Value int) x) (has_fault x) root f e in
     let never : false ≡ true = sym (meets_value int x) ∙ met in
     absurd cc
 
-another_told : (b : Bool) (root : List ℕ) → b ≡ false → (if b then [] else matching.named code.P1 root) ≡ [] → ⊥
-another_told true root is e = absurd cc
-another_told false root is e = absurd cc
+another_reported : (b : Bool) (root : List ℕ) → b ≡ false → (if b then [] else matching.named code.P1 root) ≡ [] → ⊥
+another_reported true root is e = absurd cc
+another_reported false root is e = absurd cc
 
 against_if_one : (b : Bool) (s : Scope) (el : TypedElement) (x : InputItem) (xs : List InputItem) (root : List ℕ) → IsWholeElement el → (b ≡ true → length xs ≡ 0) → AllReceived (items_received s (x ∷ xs)) → (received_faults (items_received s (x ∷ xs)) ≡ []) → IsKnownScope s
     → (if b then each_unmet root (i.Value int ∷ []) (receiving.givens (items_received s (x ∷ xs))) else of_another_number root (receiving.givens (items_received s (x ∷ xs)))) ≡ []
@@ -501,7 +501,7 @@ against_if_one true s el x [] root w one all own known e =
     let r = item_received_sound s x known (front_clean (item_received s x).faults [] own) in
     one_time s el x root w r.0 r.1 (front_clean (unmet root (meets (i.Value int) (item_received s x).given) (item_received s x).given) [] e)
 against_if_one true s el x (y ∷ xs) root w one all own known e = let z = one refl in absurd (omega (arith, z))
-against_if_one false s el x xs root w one all own known e = absurd (another_told (list_any has_fault (receiving.givens (items_received s (x ∷ xs)))) root all.1 e)
+against_if_one false s el x xs root w one all own known e = absurd (another_reported (list_any has_fault (receiving.givens (items_received s (x ∷ xs)))) root all.1 e)
 
 givens_length : (s : Scope) (xs : List InputItem) → length (receiving.givens (items_received s xs)) ≡ length xs
 givens_length s [] = refl
@@ -556,7 +556,7 @@ unfolding time_faults int_tree
 time_placed s e known c =
     let x = (expr_view e).said s in
     let y = (judged x.term).under int in
-    placed_as int y.kind ((expr_view e).draft s) int_known ((said_sound s e known (front_clean x.faults y.faults c)).wanted int (back_clean x.faults y.faults c))
+    placed_as int y.kind ((expr_view e).open_expr s) int_known ((said_sound s e known (front_clean x.faults y.faults c)).wanted int (back_clean x.faults y.faults c))
 
 after_there : (s : Scope) (el : Element) (e : Expr) → IsKnownScope s → after_faults s el e ≡ [] → Has IsWholeInput (after_tree s el e)
 unfolding after_faults after_tree
@@ -642,8 +642,8 @@ unfolding variant_faults variant_tree
 variant_there s x tag ds is known h e =
     let xs = details_received s ds in
     let c = carrier x.channel in
-    let told = alternative c x.root tag (receiving.givens xs) in
+    let reported = alternative c x.root tag (receiving.givens xs) in
     let last = repeated c x.tags tag in
-    let rest = back_clean (received_faults xs) (told ++ last) e in
-    variant_is (tag_place c tag) tag (received_trees xs) (variant_placed c x.root tag (receiving.givens xs) h (front_clean told last rest))
-    (details_received_sound s ds is known (front_clean (received_faults xs) (told ++ last) e)).0
+    let rest = back_clean (received_faults xs) (reported ++ last) e in
+    variant_is (tag_place c tag) tag (received_trees xs) (variant_placed c x.root tag (receiving.givens xs) h (front_clean reported last rest))
+    (details_received_sound s ds is known (front_clean (received_faults xs) (reported ++ last) e)).0

@@ -1,44 +1,44 @@
 -- Heads, one-line functions and replicators without faults.
 use Rattle.std.proofs.Common.{◌≡◌, ◌∙◌, ◌++◌, ◌||◌, ◌&&◌, ℕ, Bool, true, false, List, [], ◌∷◌, Option, Some, None, refl, ap, sym, subst}
 use Rattle.occ_base.specs.declared.fault.Fault.{Fault}
-use Rattle.occ_expr.specs.Sides.{side}
+use Rattle.occ_expr_operations.specs.Sides.{side}
 use Rattle.occ_expr.specs.Trees.{int_tree}
-use Rattle.occ_expr.specs.Views.{dimension_views, each, expr_view}
-use Rattle.occ_expr.specs.declared.written.Opening.TheVariants as opening
-use Rattle.occ_expression_forms.proofs.Induction.{Every}
-use Rattle.occ_expression_forms.specs.declared.tree.Dimension.{Dimension}
-use Rattle.occ_expression_forms.specs.declared.tree.Expr.{Expr}
-use Rattle.occ_expression_forms.specs.declared.tree.TypeForm.{TypeForm}
+use Rattle.occ_expr_operations.specs.Views.{dimension_views, each, expr_view}
+use Rattle.occ_expr_operations.specs.declared.written.Opening.TheVariants as opening
+use Rattle.occ_forms_expressions.proofs.Induction.{Every}
+use Rattle.occ_forms_expressions.specs.declared.tree.Dimension.{Dimension}
+use Rattle.occ_forms_expressions.specs.declared.tree.Expr.{Expr}
+use Rattle.occ_forms_expressions.specs.declared.tree.TypeForm.{TypeForm}
 use Rattle.occ_forms.specs.declared.tree.Replicator.{Replicator}
-use Rattle.occ_names.specs.Visible.{with_all}
-use Rattle.occ_names.specs.declared.meaning.Meaning.{Meaning}
-use Rattle.occ_names.specs.declared.scope.Scope.{Scope}
-use Rattle.occ_operands.specs.Operators.{is_faulty}
-use Rattle.occ_operands.specs.Settling.{int}
-use Rattle.occ_replicators.specs.Bounds.{bound}
-use Rattle.occ_replicators.specs.Replicating.{asked, counting, enters, faults, faults_of, index_of, read, tree, tree_of, unless_faulty}
-use Rattle.occ_replicators.specs.declared.judge.Replicating.{Replicating}
-use Rattle.occ_replicators.specs.declared.tree.KnownReplicator.{KnownReplicator}
-use Rattle.occ_specification_forms.specs.declared.tree.FormalGroup.{FormalGroup}
-use Rattle.occ_specification_forms.specs.declared.tree.FormalGroup.TheVariants as g
-use Rattle.occ_specification_forms.specs.declared.tree.FunctionHead.{FunctionHead}
-use Rattle.occ_tables.specs.Terms.{judged, judged_all}
-use Rattle.occ_type_rules.specs.Listing.{repetitions}
-use Rattle.occ_type_rules.specs.Resulting as resulting
-use Rattle.occ_typed.specs.declared.expr.TypedExpr.{TypedExpr}
-use Rattle.occ_typed_heads.specs.Formals.{all_known, as_element, called_formal, called_formals, each_of, entries}
-use Rattle.occ_typed_heads.specs.Groups.{group, groups, names_of, passing_of, plain_type, type_of, value_type, values}
-use Rattle.occ_typed_heads.specs.Heads.{Headed, function, function_heading, procedure, procedure_heading, types_known}
-use Rattle.occ_typed_heads.specs.Knowing.{all_found, is_known, known_type, known_types, unless_told}
-use Rattle.occ_typed_heads.specs.Results.{results}
-use Rattle.occ_typed_heads.specs.declared.formal.HeadFormal.{HeadFormal}
-use Rattle.occ_typed_heads.specs.declared.heading.Expected.{Expected}
-use Rattle.occ_typed_heads.specs.declared.heading.Expected.TheVariants as expected
-use Rattle.occ_typed_heads.specs.declared.heading.Heading.{Heading}
-use Rattle.occ_typed_lines.specs.Parts.{results_in, results_of}
-use Rattle.occ_typed_lines.specs.Specifying.{function_faults, function_meaning, known_unless}
-use Rattle.occ_typed_specifications.specs.Defining.{data_form_type}
-use Rattle.occ_typed_statements.specs.Statements.{is_any_faulty}
+use Rattle.occ_scope.specs.Visible.{with_all}
+use Rattle.occ_scope.specs.declared.meaning.Meaning.{Meaning}
+use Rattle.occ_scope.specs.declared.scope.Scope.{Scope}
+use Rattle.occ_typing_operands.specs.Operators.{is_faulty}
+use Rattle.occ_typing_operands.specs.Settling.{int}
+use Rattle.occ_typing_statements.specs.Bounds.{bound}
+use Rattle.occ_typing_statements.specs.Replicating.{asked, counting, enters, faults, faults_of, index_of, read, tree, tree_of, unless_faulty}
+use Rattle.occ_typing_statements.specs.declared.replicating.Replicating.{Replicating}
+use Rattle.occ_typing_statements.specs.declared.replicator_tree.KnownReplicator.{KnownReplicator}
+use Rattle.occ_forms.specs.declared.specification_tree.FormalGroup.{FormalGroup}
+use Rattle.occ_forms.specs.declared.specification_tree.FormalGroup.TheVariants as g
+use Rattle.occ_forms.specs.declared.specification_tree.FunctionHead.{FunctionHead}
+use Rattle.occ_typing_tables.specs.Terms.{judged, judged_all}
+use Rattle.occ_typing_rules.specs.Listing.{repetitions}
+use Rattle.occ_typing_rules.specs.Resulting as resulting
+use Rattle.occ_typing_rules.specs.declared.expr.TypedExpr.{TypedExpr}
+use Rattle.occ_typing_specifications.specs.Formals.{all_known, as_element, called_formal, called_formals, each_of, entries}
+use Rattle.occ_typing_specifications.specs.Groups.{group, groups, names_of, passing_of, plain_type, type_of, value_type, values}
+use Rattle.occ_typing_specifications.specs.Heads.{Headed, function, function_heading, procedure, procedure_heading, types_known}
+use Rattle.occ_typing_specifications.specs.Knowing.{all_found, is_known, known_type, known_types, unless_reported}
+use Rattle.occ_typing_specifications.specs.Results.{results}
+use Rattle.occ_typing_specifications.specs.declared.formal.HeadFormal.{HeadFormal}
+use Rattle.occ_typing_specifications.specs.declared.heading.Expected.{Expected}
+use Rattle.occ_typing_specifications.specs.declared.heading.Expected.TheVariants as expected
+use Rattle.occ_typing_specifications.specs.declared.heading.Heading.{Heading}
+use Rattle.occ_typing_lines.specs.Parts.{results_in, results_of}
+use Rattle.occ_typing_lines.specs.Specifying.{function_faults, function_meaning, known_unless}
+use Rattle.occ_typing_specifications.specs.Defining.{data_form_type}
+use Rattle.occ_typing_statements.specs.Statements.{is_any_faulty}
 use Rattle.occ_types.specs.declared.interface.Formal.{Formal}
 use Rattle.occ_types.specs.declared.interface.Passing.{Passing}
 use Rattle.occ_types.specs.declared.types.OccType.{OccType}
@@ -152,16 +152,16 @@ pub record HeadKnown (h : Heading) : Type 0 where
   pub meaning : IsKnownMeaning h.meaning
   pub results : IsTypes h.results
 
-all_told : (fs : List Fault) (b : Bool) → fs ≡ [] → b ≡ true → unless_told fs b ≡ true
-all_told [] b e h = h
-all_told (f ∷ fs) b e h = absurd cc
+all_reported : (fs : List Fault) (b : Bool) → fs ≡ [] → b ≡ true → unless_reported fs b ≡ true
+all_reported [] b e h = h
+all_reported (f ∷ fs) b e h = absurd cc
 
 pub procedure_known : (s : Scope) (xs : List FormalGroup) → IsKnownScope s → (procedure s xs).faults ≡ [] → HeadKnown (procedure s xs).heading
 unfolding procedure
 procedure_known s xs known e =
     let x = groups s [] xs in
     let h = groups_typed s [] xs known e in
-    subst (λ (b : Bool). HeadKnown (procedure_heading b x.formals)) (sym (all_told x.faults (all_known x.formals) e (all_are_known x.formals h)))
+    subst (λ (b : Bool). HeadKnown (procedure_heading b x.formals)) (sym (all_reported x.faults (all_known x.formals) e (all_are_known x.formals h)))
     (record { formals = entries_known x.formals h; meaning = formals_known x.formals h; results = tt })
 
 pub function_known : (s : Scope) (head : FunctionHead) → IsKnownScope s → (function s head).faults ≡ [] → HeadKnown (function s head).heading
@@ -172,7 +172,7 @@ function_known s head known e =
     let h = results_found s (head.first ∷ head.more) known (front_clean x.faults y.faults e) in
     let i = groups_typed s [] (values head.formals) known (back_clean x.faults y.faults e) in
     subst (λ (b : Bool). HeadKnown (function_heading b y.formals x.types))
-    (sym (all_told (x.faults ++ y.faults) (types_known y.formals x.types) e (ap (λ (b : Bool). b && all_found x.types) (all_are_known y.formals i) ∙ all_are_found x.types h)))
+    (sym (all_reported (x.faults ++ y.faults) (types_known y.formals x.types) e (ap (λ (b : Bool). b && all_found x.types) (all_are_known y.formals i) ∙ all_are_found x.types h)))
     (record { formals = entries_known y.formals i; meaning = (formals_known y.formals i, found_known x.types h); results = found_known x.types h })
 
 -- ---- results of a body, and functions of one line
@@ -186,7 +186,7 @@ results_side_clean s (expected.Count n) es h e = absurd h
 results_side_clean s (expected.Types types) es h e = front_clean (side s es).faults (resulting.results types (judged_all (side s es).terms)) e
 
 none_any_faulty : (s : Scope) (es : List Expr) → IsKnownScope s → (side s es).faults ≡ [] → is_any_faulty s es ≡ false
-none_any_faulty s es known e = none_faulty (judged_all (side s es).terms) (side s es).drafts (side_sound s es known e)
+none_any_faulty s es known e = none_faulty (judged_all (side s es).terms) (side s es).open_exprs (side_sound s es known e)
 
 unless_known : (fs : List Fault) (b : Bool) (meaning : Meaning) → fs ≡ [] → b ≡ false → IsKnownMeaning meaning → IsKnownMeaning (known_unless fs b meaning)
 unless_known [] false meaning e h i = i
@@ -221,7 +221,7 @@ bound_reads s e known c =
     let x = (expr_view e).said s in
     let y = (judged x.term).under int in
     let r = (said_sound s e known (front_clean x.faults y.faults c)).wanted int (back_clean x.faults y.faults c) in
-    (reads_no_fault int y.kind ((expr_view e).draft s) r, placed_as int y.kind ((expr_view e).draft s) int_known r)
+    (reads_no_fault int y.kind ((expr_view e).open_expr s) r, placed_as int y.kind ((expr_view e).open_expr s) int_known r)
 
 index_known : (fs : List Fault) (b : Bool) (name : List ℕ) → fs ≡ [] → b ≡ false → IsKnownMeaning (index_of fs b name)
 index_known [] false name e h = unknown_primitive p.Int

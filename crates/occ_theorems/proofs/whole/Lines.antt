@@ -3,23 +3,23 @@ use Rattle.std.proofs.Common.{◌≡◌, ◌++◌, ◌||◌, ℕ, Bool, true, fa
 use Rattle.std.specs.List.{list_any}
 use Rattle.std.specs.Str.{bytes_eq}
 use Rattle.occ_base.specs.declared.fault.Fault.{Fault}
-use Rattle.occ_expr.specs.Sides.{one_call}
+use Rattle.occ_expr_operations.specs.Sides.{one_call}
 use Rattle.occ_expr.specs.Trees.{element_tree, int_tree}
-use Rattle.occ_expr.specs.Sides as sides
-use Rattle.occ_expr.specs.Views.{expr_view, operand_view}
-use Rattle.occ_expr.proofs.Views as views
-use Rattle.occ_expression_forms.specs.declared.tree.Bounds.{Bounds}
-use Rattle.occ_expression_forms.specs.declared.tree.Bounds.TheOpen.{Expr-F, Operand-F}
-use Rattle.occ_expression_forms.specs.declared.tree.Bounds.TheViews.{roll-out-Expr, roll-out-Operand}
-use Rattle.occ_expression_forms.specs.declared.tree.Builtin.{Builtin}
-use Rattle.occ_expression_forms.specs.declared.tree.Dimension.{Dimension}
-use Rattle.occ_expression_forms.specs.declared.tree.Element.{Element}
-use Rattle.occ_expression_forms.specs.declared.tree.Expr.{Expr, out-Expr, roll-Expr}
-use Rattle.occ_expression_forms.specs.declared.tree.Expr.TheVariants as xv
-use Rattle.occ_expression_forms.specs.declared.tree.NamedOperand.{NamedOperand}
-use Rattle.occ_expression_forms.specs.declared.tree.Operand.{Operand, out-Operand, roll-Operand}
-use Rattle.occ_expression_forms.specs.declared.tree.Operand.TheVariants as ov
-use Rattle.occ_expression_forms.specs.declared.tree.TypeForm.{TypeForm}
+use Rattle.occ_expr_operations.specs.Sides as sides
+use Rattle.occ_expr_operations.specs.Views.{expr_view, operand_view}
+use Rattle.occ_expr_operations.proofs.Views as views
+use Rattle.occ_forms_expressions.specs.declared.tree.Bounds.{Bounds}
+use Rattle.occ_forms_expressions.specs.declared.tree.Bounds.TheOpen.{Expr-F, Operand-F}
+use Rattle.occ_forms_expressions.specs.declared.tree.Bounds.TheViews.{roll-out-Expr, roll-out-Operand}
+use Rattle.occ_forms_expressions.specs.declared.tree.Builtin.{Builtin}
+use Rattle.occ_forms_expressions.specs.declared.tree.Dimension.{Dimension}
+use Rattle.occ_forms_expressions.specs.declared.tree.Element.{Element}
+use Rattle.occ_forms_expressions.specs.declared.tree.Expr.{Expr, out-Expr, roll-Expr}
+use Rattle.occ_forms_expressions.specs.declared.tree.Expr.TheVariants as xv
+use Rattle.occ_forms_expressions.specs.declared.tree.NamedOperand.{NamedOperand}
+use Rattle.occ_forms_expressions.specs.declared.tree.Operand.{Operand, out-Operand, roll-Operand}
+use Rattle.occ_forms_expressions.specs.declared.tree.Operand.TheVariants as ov
+use Rattle.occ_forms_expressions.specs.declared.tree.TypeForm.{TypeForm}
 use Rattle.occ_forms.specs.declared.tree.Action.{Action}
 use Rattle.occ_forms.specs.declared.tree.Action.TheVariants as action
 use Rattle.occ_forms.specs.declared.tree.Construct.{Construct}
@@ -33,17 +33,17 @@ use Rattle.occ_forms.specs.declared.tree.Guarded.{Guarded}
 use Rattle.occ_forms.specs.declared.tree.Guarded.TheVariants as guarded
 use Rattle.occ_forms.specs.declared.tree.PartForm.{PartForm}
 use Rattle.occ_forms.specs.declared.tree.PartForm.TheVariants as part
-use Rattle.occ_names.specs.declared.meaning.ScopeEntry.{ScopeEntry}
-use Rattle.occ_names.specs.declared.scope.Scope.{Scope}
+use Rattle.occ_scope.specs.declared.meaning.ScopeEntry.{ScopeEntry}
+use Rattle.occ_scope.specs.declared.scope.Scope.{Scope}
 use Rattle.occ_project.specs.declared.expanded.ExpandedBody.{ExpandedBody}
 use Rattle.occ_project.specs.declared.expanded.ExpandedBody.TheVariants as body
-use Rattle.occ_replicators.specs.Replicating as replicating
-use Rattle.occ_specification_forms.specs.declared.tree.FunctionHead.{FunctionHead}
-use Rattle.occ_specification_forms.specs.declared.tree.Head.{Head}
-use Rattle.occ_specification_forms.specs.declared.tree.Head.TheVariants as head
-use Rattle.occ_specification_forms.specs.declared.tree.Specification.{Specification}
-use Rattle.occ_specification_forms.specs.declared.tree.Specification.TheVariants as specification
-use Rattle.occ_specification_forms.specs.declared.tree.Specified.TheVariants as specified
+use Rattle.occ_typing_statements.specs.Replicating as replicating
+use Rattle.occ_forms.specs.declared.specification_tree.FunctionHead.{FunctionHead}
+use Rattle.occ_forms.specs.declared.specification_tree.Head.{Head}
+use Rattle.occ_forms.specs.declared.specification_tree.Head.TheVariants as head
+use Rattle.occ_forms.specs.declared.specification_tree.Specification.{Specification}
+use Rattle.occ_forms.specs.declared.specification_tree.Specification.TheVariants as specification
+use Rattle.occ_forms.specs.declared.specification_tree.Specified.TheVariants as specified
 use Rattle.occ_tree.specs.Forest.{Forest}
 use Rattle.occ_tree.specs.Obeys.{ObeysUnder, root_sorts}
 use Rattle.occ_tree.specs.Sorts.{body_sort, construct_sort, expression_sort, expression_sort_step, expressions_sort, form_sort, guarded_sort, head_sort, is_element_part, is_name, is_type_part, operand_sort, operand_sort_step, part_sort, parts_sort, plain_sort, replicated_sort, specification_sort}
@@ -51,38 +51,38 @@ use Rattle.occ_tree.specs.Table.{is_process, is_valof, is_variant, may_stand, ow
 use Rattle.occ_tree.specs.declared.row.Row.{Row}
 use Rattle.occ_tree.specs.declared.sort.Sort.{Sort}
 use Rattle.occ_tree.specs.declared.sort.Sort.TheVariants as sort
-use Rattle.occ_typed.specs.declared.expr.TypedExpr.{TypedExpr}
-use Rattle.occ_typed_calls.specs.declared.instances.TypedInstance.{TypedInstance}
-use Rattle.occ_typed_exchanges.specs.Inputs.{input_tree}
-use Rattle.occ_typed_exchanges.specs.Sending.{output_tree}
-use Rattle.occ_typed_exchanges.specs.Variants.{variant_tree}
-use Rattle.occ_typed_exchanges.specs.declared.variants.CaseInput.{CaseInput}
-use Rattle.occ_typed_calls.specs.Instances.{instance_faults, instance_tree}
-use Rattle.occ_typed_heads.specs.Heads.{function}
-use Rattle.occ_typed_lines.specs.Actions.{action_faults, action_form, assigning, sending}
-use Rattle.occ_typed_lines.specs.Constructs.{block_of, constructing, replicated, replicating_of, role_of}
-use Rattle.occ_typed_lines.specs.Judging.{form_line, judged, line, member}
-use Rattle.occ_typed_lines.specs.Lines.{made, main}
-use Rattle.occ_typed_lines.specs.Parts.{expressing_in, guard_faults, guard_of, guard_role, guard_tree, guarded_form, instance_form, instance_line, of_role, otherwise_in, parting, resulting_in, results_in, results_of, tagged_in, valued_in, variant, variant_named, varied}
-use Rattle.occ_typed_lines.specs.Protocols.{protocol_of}
-use Rattle.occ_typed_lines.specs.Records.{record_of}
-use Rattle.occ_typed_lines.specs.Specifying.{declared_line, function_faults, function_form, function_line, heading, one_line, one_line_function}
-use Rattle.occ_typed_lines.specs.Using.{entries_of, imported, interface_of}
-use Rattle.occ_typed_lines.specs.declared.parent.Line.{Line}
-use Rattle.occ_typed_lines.specs.declared.parent.Parent.{Parent}
-use Rattle.occ_typed_lines.specs.declared.parent.Role.{Role}
-use Rattle.occ_typed_lines.specs.declared.parent.Role.TheVariants as role
-use Rattle.occ_typed_lines.specs.declared.tree.TypedForm.{TypedForm}
-use Rattle.occ_typed_lines.specs.declared.tree.TypedForm.TheVariants as t
-use Rattle.occ_typed_lines.specs.declared.tree.TypedGuard.{TypedGuard}
-use Rattle.occ_typed_lines.specs.declared.tree.TypedGuard.TheVariants as guard
-use Rattle.occ_typed_lines.specs.declared.using.Import.{Import}
-use Rattle.occ_typed_protocols.specs.Protocols.{protocol}
-use Rattle.occ_typed_specifications.specs.Declaring.{declaration}
-use Rattle.occ_typed_specifications.specs.Defining.{data_type}
-use Rattle.occ_typed_specifications.specs.Entering.{Declared}
-use Rattle.occ_typed_statements.specs.Statements.{condition}
-use Rattle.occ_typed_statements.specs.StatementTrees.{assignment_tree, condition_tree}
+use Rattle.occ_typing_rules.specs.declared.expr.TypedExpr.{TypedExpr}
+use Rattle.occ_typing_statements.specs.declared.instances.TypedInstance.{TypedInstance}
+use Rattle.occ_typing_statements.specs.Inputs.{input_tree}
+use Rattle.occ_typing_statements.specs.Sending.{output_tree}
+use Rattle.occ_typing_statements.specs.Variants.{variant_tree}
+use Rattle.occ_typing_statements.specs.declared.variants.CaseInput.{CaseInput}
+use Rattle.occ_typing_statements.specs.Instances.{instance_faults, instance_tree}
+use Rattle.occ_typing_specifications.specs.Heads.{function}
+use Rattle.occ_typing_lines.specs.Actions.{action_faults, action_form, assigning, sending}
+use Rattle.occ_typing_lines.specs.Constructs.{block_of, constructing, replicated, replicating_of, role_of}
+use Rattle.occ_typing_lines.specs.Judging.{form_line, judged, line, member}
+use Rattle.occ_typing_lines.specs.Lines.{made, main}
+use Rattle.occ_typing_lines.specs.Parts.{expressing_in, guard_faults, guard_of, guard_role, guard_tree, guarded_form, instance_form, instance_line, of_role, otherwise_in, parting, resulting_in, results_in, results_of, tagged_in, valued_in, variant, variant_named, varied}
+use Rattle.occ_typing_lines.specs.Protocols.{protocol_of}
+use Rattle.occ_typing_lines.specs.Records.{record_of}
+use Rattle.occ_typing_lines.specs.Specifying.{declared_line, function_faults, function_form, function_line, heading, one_line, one_line_function}
+use Rattle.occ_typing_lines.specs.Using.{entries_of, imported, interface_of}
+use Rattle.occ_typing_lines.specs.declared.parent.Line.{Line}
+use Rattle.occ_typing_lines.specs.declared.parent.Parent.{Parent}
+use Rattle.occ_typing_lines.specs.declared.parent.Role.{Role}
+use Rattle.occ_typing_lines.specs.declared.parent.Role.TheVariants as role
+use Rattle.occ_typing_lines.specs.declared.tree.TypedForm.{TypedForm}
+use Rattle.occ_typing_lines.specs.declared.tree.TypedForm.TheVariants as t
+use Rattle.occ_typing_lines.specs.declared.tree.TypedGuard.{TypedGuard}
+use Rattle.occ_typing_lines.specs.declared.tree.TypedGuard.TheVariants as guard
+use Rattle.occ_typing_lines.specs.declared.using.Import.{Import}
+use Rattle.occ_typing_specifications.specs.Protocols.{protocol}
+use Rattle.occ_typing_specifications.specs.Declaring.{declaration}
+use Rattle.occ_typing_specifications.specs.Defining.{data_type}
+use Rattle.occ_typing_specifications.specs.Entering.{Declared}
+use Rattle.occ_typing_statements.specs.Statements.{condition}
+use Rattle.occ_typing_statements.specs.StatementTrees.{assignment_tree, condition_tree}
 use Rattle.occ_types.specs.declared.interface.Interface.{Interface}
 use Rattle.occ_typing.specs.Known.{AreKnownEntries, IsKnownScope}
 use Rattle.occ_typing.specs.Whole.{AreKnownAdds, AreKnownImports, IsKnownInterface, IsWholeForm}
@@ -479,7 +479,7 @@ body_known is r p s (body.Uses unit) under i h g st so ob known e b =
     record { form = shown; enters = tt; adds = imported_known (interface_of unit is) shown; under = plain_under r p.role sort.GlobalSpecification h g refl; next = λ _. g }
 body_known is r p s (body.Fault code) under i h g st so ob known e b = absurd (nowhere r st)
 
--- a line that is told with the head over it
+-- a line that is reported with the head over it
 member_known : (r : Row) (k : Sort) (n : ℕ) → LineKnown r k (member (of_role n role.Members)).line
 member_known r k n = record { form = tt; enters = tt; adds = tt; under = tt; next = λ _. tt }
 

@@ -1,16 +1,16 @@
 -- Names that are looked up where it is known of each name in scope what it stands for.
 use Rattle.std.proofs.Common.{◌≡◌, ◌++◌, ℕ, zero, suc, false, List, [], ◌∷◌, Option, Some, None, refl, ap, sym, subst}
 use Rattle.std.specs.Prelude.{slice_get}
-use Rattle.occ_names.specs.Lookup.{Found, carries, data_type, element}
-use Rattle.occ_names.specs.Visible.{entered, meaning_at, numbered, referent, referent_at, visible, with_all}
-use Rattle.occ_names.specs.declared.lookup.Carried.{Carried}
-use Rattle.occ_names.specs.declared.lookup.Carried.TheVariants as carried
-use Rattle.occ_names.specs.declared.meaning.ScopeEntry.{ScopeEntry}
-use Rattle.occ_names.specs.declared.meaning.Meaning.{Meaning}
-use Rattle.occ_names.specs.declared.meaning.Meaning.TheVariants as m
-use Rattle.occ_names.specs.declared.meaning.Referent.{Referent}
-use Rattle.occ_names.specs.declared.meaning.Whole.{Whole}
-use Rattle.occ_names.specs.declared.scope.Scope.{Scope}
+use Rattle.occ_scope.specs.Lookup.{Found, carries, data_type, element}
+use Rattle.occ_scope.specs.Visible.{entered, meaning_at, numbered, referent, referent_at, visible, with_all}
+use Rattle.occ_scope.specs.declared.lookup.Carried.{Carried}
+use Rattle.occ_scope.specs.declared.lookup.Carried.TheVariants as carried
+use Rattle.occ_scope.specs.declared.meaning.ScopeEntry.{ScopeEntry}
+use Rattle.occ_scope.specs.declared.meaning.Meaning.{Meaning}
+use Rattle.occ_scope.specs.declared.meaning.Meaning.TheVariants as m
+use Rattle.occ_scope.specs.declared.meaning.Referent.{Referent}
+use Rattle.occ_scope.specs.declared.meaning.Whole.{Whole}
+use Rattle.occ_scope.specs.declared.scope.Scope.{Scope}
 use Rattle.occ_scope.specs.Nearest.{nearest}
 use Rattle.occ_types.specs.Unknown.{protocol_unknown}
 use Rattle.occ_types.specs.declared.types.OccType.{OccType}

@@ -1,36 +1,36 @@
 -- Protocols without faults: it is known what they carry.
 use Rattle.std.proofs.Common.{◌≡◌, ◌∙◌, ◌++◌, ◌||◌, ℕ, Bool, true, false, not, List, [], ◌∷◌, Option, Some, None, if◌then◌else◌, refl, ap, sym, subst}
 use Rattle.std.specs.List.{list_any}
-use Rattle.occ_base.specs.Telling.{nameless}
+use Rattle.occ_base.specs.Reporting.{nameless}
 use Rattle.occ_base.specs.declared.code.Code.TheVariants as code
 use Rattle.occ_base.specs.declared.fault.Fault.{Fault}
-use Rattle.occ_expr.specs.Views.{builtin_view, dimension_view, dimension_views, each, element_view, expr_views, name_alone}
-use Rattle.occ_expr.specs.Written.{Written, array_over, array_over_more, count_type}
-use Rattle.occ_expr.specs.declared.written.Opening.TheVariants as opening
-use Rattle.occ_expr.proofs.Views as views
-use Rattle.occ_expr.proofs.Layers as layers
-use Rattle.occ_expression_forms.specs.declared.tree.Bounds.{Bounds}
-use Rattle.occ_expression_forms.specs.declared.tree.Bounds.TheOpen.{Element-F}
-use Rattle.occ_expression_forms.specs.declared.tree.DataForm.{DataForm}
-use Rattle.occ_expression_forms.specs.declared.tree.Element.{Element}
-use Rattle.occ_expression_forms.specs.declared.tree.Element.TheVariants as ev
-use Rattle.occ_expression_forms.specs.declared.tree.Expr.{Expr}
+use Rattle.occ_expr_operations.specs.Views.{builtin_view, dimension_view, dimension_views, each, element_view, expr_views, name_alone}
+use Rattle.occ_expr_operations.specs.Written.{Written, array_over, array_over_more, count_type}
+use Rattle.occ_expr_operations.specs.declared.written.Opening.TheVariants as opening
+use Rattle.occ_expr_operations.proofs.Views as views
+use Rattle.occ_expr_operations.proofs.Layers as layers
+use Rattle.occ_forms_expressions.specs.declared.tree.Bounds.{Bounds}
+use Rattle.occ_forms_expressions.specs.declared.tree.Bounds.TheOpen.{Element-F}
+use Rattle.occ_forms_expressions.specs.declared.tree.DataForm.{DataForm}
+use Rattle.occ_forms_expressions.specs.declared.tree.Element.{Element}
+use Rattle.occ_forms_expressions.specs.declared.tree.Element.TheVariants as ev
+use Rattle.occ_forms_expressions.specs.declared.tree.Expr.{Expr}
 use Rattle.occ_forms.specs.declared.tree.Detail.{Detail}
 use Rattle.occ_forms.specs.declared.tree.Detail.TheVariants as detail
-use Rattle.occ_lists.specs.Lists.{joined, one_part}
-use Rattle.occ_names.specs.Lookup.{Found, data_type, good}
-use Rattle.occ_names.specs.Visible.{visible}
-use Rattle.occ_names.specs.declared.scope.Scope.{Scope}
+use Rattle.occ_base.specs.Lists.{joined, one_part}
+use Rattle.occ_scope.specs.Lookup.{Found, data_type, good}
+use Rattle.occ_scope.specs.Visible.{visible}
+use Rattle.occ_scope.specs.declared.scope.Scope.{Scope}
 use Rattle.occ_scope.specs.Nearest.{nearest}
-use Rattle.occ_specification_forms.specs.declared.tree.ItemForm.{ItemForm}
-use Rattle.occ_specification_forms.specs.declared.tree.ItemForm.TheVariants as item
-use Rattle.occ_tables.specs.Extents as extents
+use Rattle.occ_forms.specs.declared.specification_tree.ItemForm.{ItemForm}
+use Rattle.occ_forms.specs.declared.specification_tree.ItemForm.TheVariants as item
+use Rattle.occ_typing_tables.specs.Extents as extents
 use Rattle.occ_tree.specs.Sorts.{is_element_part, is_name, is_name_step}
-use Rattle.occ_type_rules.specs.Listing.{repetition}
-use Rattle.occ_typed_protocols.specs.Items.{Items, counted_if, counted_item, in_front, item_of, items_of, row_of, value_if, value_item, written}
-use Rattle.occ_typed_protocols.specs.Protocols.{defined, is_too_large, protocol, protocol_name, protocol_told, tagged_protocol, whole}
-use Rattle.occ_typed_protocols.specs.Tags.{data_only, detail_item, detail_items, named, tag_items, tag_line}
-use Rattle.occ_typed_specifications.specs.Defining.{data_of}
+use Rattle.occ_typing_rules.specs.Listing.{repetition}
+use Rattle.occ_typing_specifications.specs.Items.{Items, counted_if, counted_item, in_front, item_of, items_of, row_of, value_if, value_item, written}
+use Rattle.occ_typing_specifications.specs.Protocols.{defined, is_too_large, protocol, protocol_name, protocol_reported, tagged_protocol, whole}
+use Rattle.occ_typing_specifications.specs.Tags.{data_only, detail_item, detail_items, named, tag_items, tag_line}
+use Rattle.occ_typing_specifications.specs.Defining.{data_of}
 use Rattle.occ_types.specs.Unknown.{any_of, item_unknown, items_unknown, protocol_unknown, tags_unknown}
 use Rattle.occ_types.specs.declared.types.Item.{Item}
 use Rattle.occ_types.specs.declared.types.OccType.{OccType}
@@ -45,7 +45,7 @@ use Rattle.occ_theorems.proofs.whole.Clean.{IsThere, back_clean, front_clean}
 use Rattle.occ_theorems.proofs.whole.Expressions.{each_element, all_spans, builtin_sound, dimension_sound}
 use Rattle.occ_theorems.proofs.whole.Heads.{every_dimension_sound}
 use Rattle.occ_theorems.proofs.whole.Names.{IsTyped, type_found, visible_known}
-use Rattle.occ_theorems.proofs.whole.Specifications.{data_sound, untold}
+use Rattle.occ_theorems.proofs.whole.Specifications.{data_sound, unreported}
 use Rattle.occ_theorems.proofs.whole.Types.{no_either}
 use Rattle.occ_theorems.proofs.whole.Written.{TypeSound, array_more_sound, array_sound, count_there, data_form_sound}
 
@@ -97,10 +97,10 @@ counted_sound s count of known e =
     let n = count_type x.found in
     let y = written s of in
     let z = row_of y.found in
-    let behind = back_clean x.faults (n.faults ++ (y.faults ++ z.faults)) e in
-    let last = back_clean n.faults (y.faults ++ z.faults) behind in
+    let following = back_clean x.faults (n.faults ++ (y.faults ++ z.faults)) e in
+    let last = back_clean n.faults (y.faults ++ z.faults) following in
     counted_known n.found z.found
-    (count_there x.found (written_sound s count known (front_clean x.faults (n.faults ++ (y.faults ++ z.faults)) e)) (front_clean n.faults (y.faults ++ z.faults) behind))
+    (count_there x.found (written_sound s count known (front_clean x.faults (n.faults ++ (y.faults ++ z.faults)) e)) (front_clean n.faults (y.faults ++ z.faults) following))
     (row_known y.found (written_sound s of known (front_clean y.faults z.faults last)) (back_clean y.faults z.faults last))
 
 item_sound : (s : Scope) (x : ItemForm) → IsKnownScope s → ItemSound (item_of s x)
@@ -146,11 +146,11 @@ name_known None h = h
 name_known (Some c) h = h
 
 pub protocol_known : (s : Scope) (name : List ℕ) (xs : List ItemForm) → IsKnownScope s → (protocol s name xs).faults ≡ [] → AreKnownEntries (protocol s name xs).adds
-unfolding protocol protocol_told
+unfolding protocol protocol_reported
 protocol_known s name xs known e =
     let x = items_of s xs in
     let y = whole name x.items in (
-      subst (λ (o : Option Protocol). IsKnownMeaning (protocol_name o)) (sym (untold (x.faults ++ y.faults) y.found e))
+      subst (λ (o : Option Protocol). IsKnownMeaning (protocol_name o)) (sym (unreported (x.faults ++ y.faults) y.found e))
           (name_known y.found (whole_known name x.items (items_known s xs known (front_clean x.faults y.faults e)) (back_clean x.faults y.faults e))),
       tt,
     )

@@ -1,20 +1,20 @@
 -- What is read of an operand without faults: its type, in which nothing is unknown, and its tree wherever it is placed.
 use Rattle.std.proofs.Common.{◌≡◌, ◌∙◌, ◌≤◌, ◌⊎◌, inl, inr, ℕ, Bool, true, false, List, [], Option, Some, None, if◌then◌else◌, refl, sym, subst, arith}
 use Rattle.occ_base.specs.declared.code.Code.TheVariants as code
-use Rattle.occ_operands.specs.declared.kind.Free.{Free}
-use Rattle.occ_operands.specs.declared.kind.Kind.{Kind}
-use Rattle.occ_operands.specs.declared.kind.Kind.TheVariants as k
-use Rattle.occ_operands.specs.declared.kind.Known.{Known}
-use Rattle.occ_operands.specs.declared.kind.TypedValue.{TypedValue}
-use Rattle.occ_operands.specs.declared.kind.TypedValue.TheVariants as o
-use Rattle.occ_operands.specs.declared.kind.Wrong.{Wrong}
-use Rattle.occ_operands.specs.declared.kind.Wrong.TheVariants as w
-use Rattle.occ_operands.specs.Outcomes.{in_type}
-use Rattle.occ_operands.specs.Settling.{Told, base_of, fault_of, faulty_if, int, known, landed, landed_or_int, number, settled, settled_free, silent, wrong_faults}
-use Rattle.occ_operands.specs.Parts.{component_at, field_told, field_named, is_constant_outside, mismatched, subscripted, subscripted_array}
-use Rattle.occ_operands.specs.Wanting.{fitted, wanted}
-use Rattle.occ_typed.specs.Placing.{placed}
-use Rattle.occ_typed.specs.declared.draft.Draft.{Draft}
+use Rattle.occ_typing_operands.specs.declared.kind.Untyped.{Untyped}
+use Rattle.occ_typing_operands.specs.declared.kind.Kind.{Kind}
+use Rattle.occ_typing_operands.specs.declared.kind.Kind.TheVariants as k
+use Rattle.occ_typing_operands.specs.declared.kind.Known.{Known}
+use Rattle.occ_typing_operands.specs.declared.kind.TypedValue.{TypedValue}
+use Rattle.occ_typing_operands.specs.declared.kind.TypedValue.TheVariants as o
+use Rattle.occ_typing_operands.specs.declared.kind.Wrong.{Wrong}
+use Rattle.occ_typing_operands.specs.declared.kind.Wrong.TheVariants as w
+use Rattle.occ_typing_operands.specs.Outcomes.{in_type}
+use Rattle.occ_typing_operands.specs.Settling.{Finding, base_of, fault_of, faulty_if, int, known, landed, landed_or_int, number, settled, settled_untyped, silent, wrong_faults}
+use Rattle.occ_typing_operands.specs.Parts.{component_at, field_reported, field_named, is_constant_outside, mismatched, subscripted, subscripted_array}
+use Rattle.occ_typing_operands.specs.Wanting.{fitted, wanted}
+use Rattle.occ_typing_rules.specs.Placing.{placed}
+use Rattle.occ_typing_rules.specs.declared.open_expr.OpenExpr.{OpenExpr}
 use Rattle.occ_types.specs.Fits.{fits, unnamed}
 use Rattle.occ_types.specs.Unknown.{any_of, fields_unknown, holds_unknown}
 use Rattle.occ_types.specs.View.{as_array, is_unknown}
@@ -31,7 +31,7 @@ use Rattle.occ_theorems.proofs.whole.Types.{base_known, depth, field_known, fits
 -- ---- definitions
 
 -- there is a whole tree of it wherever a type that is known and has so many dimensions or more is wanted
-abbrev pub HasTree : ℕ → Draft → Type 0
+abbrev pub HasTree : ℕ → OpenExpr → Type 0
 HasTree n d = (of : OccType) → n ≤ depth of → IsKnownType of → Has IsWholeExpr (placed d of)
 
 abbrev pub IsBad : TypedValue → Type 0
@@ -40,42 +40,42 @@ IsBad (o.Faulty x) = Unit {0}
 IsBad o.Varying = ⊥
 IsBad (o.Constant v) = ⊥
 
--- a free operand that has a fault in each type
-abbrev pub IsBadFree : Free → Type 0
-IsBadFree f = (p : Primitive) → IsBad (in_type f p)
+-- an untyped operand that has a fault in each type
+abbrev pub IsBadUntyped : Untyped → Type 0
+IsBadUntyped f = (p : Primitive) → IsBad (in_type f p)
 
 abbrev pub IsKnown : Kind → Type 0
 IsKnown k.Faulty = ⊥
-IsKnown (k.Free f) = ⊥
+IsKnown (k.Untyped f) = ⊥
 IsKnown (k.Known x) = holds_unknown x.of ≡ false
 
-abbrev pub Reads : Kind → Draft → Type 0
+abbrev pub Reads : Kind → OpenExpr → Type 0
 Reads k.Faulty d = ⊥
-Reads (k.Free f) d = ⊥
+Reads (k.Untyped f) d = ⊥
 Reads (k.Known x) d = (holds_unknown x.of ≡ false) × HasTree (depth x.of) d
 
 -- where no type is wanted of it yet
-abbrev pub MayRead : Kind → Draft → Type 0
+abbrev pub MayRead : Kind → OpenExpr → Type 0
 MayRead k.Faulty d = ⊥
-MayRead (k.Free f) d = (f.is_faulty ≡ false) × (IsBadFree f ⊎ HasTree 0 d)
+MayRead (k.Untyped f) d = (f.is_faulty ≡ false) × (IsBadUntyped f ⊎ HasTree 0 d)
 MayRead (k.Known x) d = (holds_unknown x.of ≡ false) × HasTree (depth x.of) d
 
 -- where this type is wanted of it
-abbrev pub ReadsAs : OccType → Kind → Draft → Type 0
+abbrev pub ReadsAs : OccType → Kind → OpenExpr → Type 0
 ReadsAs of k.Faulty d = ⊥
-ReadsAs of (k.Free f) d = ⊥
+ReadsAs of (k.Untyped f) d = ⊥
 ReadsAs of (k.Known x) d = (holds_unknown x.of ≡ false) × (fits of x.of ≡ true) × HasTree (depth x.of) d
 
 -- one of two
-abbrev pub chosen : Bool → Told → Told → Told
+abbrev pub chosen : Bool → Finding → Finding → Finding
 chosen b x y = if b then x else y
 
 -- ---- what is settled
 
-pub wrong_told : (x : Wrong) → wrong_faults x ≡ [] → ⊥
-wrong_told w.Count e = absurd cc
-wrong_told w.Value e = absurd cc
-wrong_told w.Both e = absurd cc
+pub wrong_reported : (x : Wrong) → wrong_faults x ≡ [] → ⊥
+wrong_reported w.Count e = absurd cc
+wrong_reported w.Value e = absurd cc
+wrong_reported w.Both e = absurd cc
 
 -- an operand of this type that comes to something
 pub record Lands (of : OccType) (x : TypedValue) (kind : Kind) : Type 0 where
@@ -86,65 +86,65 @@ pub record Lands (of : OccType) (x : TypedValue) (kind : Kind) : Type 0 where
 
 pub lands : (of : OccType) (x : TypedValue) → (landed of x).faults ≡ [] → Lands of x (landed of x).kind
 lands of o.Unfit e = absurd cc
-lands of (o.Faulty x) e = absurd (wrong_told x e)
+lands of (o.Faulty x) e = absurd (wrong_reported x e)
 lands of o.Varying e = record { what = record { of = of; value = None }; is = refl; typed = refl; sound = λ h. h }
 lands of (o.Constant v) e = record { what = record { of = of; value = Some v }; is = refl; typed = refl; sound = λ h. h }
 
-pub record LandsFree (f : Free) (kind : Kind) : Type 0 where
+pub record LandsUntyped (f : Untyped) (kind : Kind) : Type 0 where
   pub what : Known
   pub is : kind ≡ k.Known what
   pub known : holds_unknown what.of ≡ false
-  pub sound : IsBadFree f → ⊥
+  pub sound : IsBadUntyped f → ⊥
 
-lands_free : (f : Free) (p : Primitive) (of : OccType) (kind : Kind) → holds_unknown of ≡ false → Lands of (in_type f p) kind → LandsFree f kind
-lands_free f p of kind h x = record { what = x.what; is = x.is; known = subst (λ (u : OccType). holds_unknown u ≡ false) (sym x.typed) h; sound = λ bad. x.sound (bad p) }
+lands_untyped : (f : Untyped) (p : Primitive) (of : OccType) (kind : Kind) → holds_unknown of ≡ false → Lands of (in_type f p) kind → LandsUntyped f kind
+lands_untyped f p of kind h x = record { what = x.what; is = x.is; known = subst (λ (u : OccType). holds_unknown u ≡ false) (sym x.typed) h; sound = λ bad. x.sound (bad p) }
 
-or_int : (of : OccType) (f : Free) (q : Primitive) (x : TypedValue) → holds_unknown of ≡ false → x ≡ in_type f q → (landed_or_int of f x).faults ≡ [] → LandsFree f (landed_or_int of f x).kind
-or_int of f q o.Unfit h is e = lands_free f p.Int int (landed int f.int).kind (unknown_primitive p.Int) (lands int f.int e)
-or_int of f q (o.Faulty x) h is e = absurd (wrong_told x e)
+or_int : (of : OccType) (f : Untyped) (q : Primitive) (x : TypedValue) → holds_unknown of ≡ false → x ≡ in_type f q → (landed_or_int of f x).faults ≡ [] → LandsUntyped f (landed_or_int of f x).kind
+or_int of f q o.Unfit h is e = lands_untyped f p.Int int (landed int f.int).kind (unknown_primitive p.Int) (lands int f.int e)
+or_int of f q (o.Faulty x) h is e = absurd (wrong_reported x e)
 or_int of f q o.Varying h is e = record { what = record { of = of; value = None }; is = refl; known = h; sound = λ bad. subst IsBad (sym is) (bad q) }
 or_int of f q (o.Constant v) h is e = record { what = record { of = of; value = Some v }; is = refl; known = h; sound = λ bad. subst IsBad (sym is) (bad q) }
 
-free_lands : (of : OccType) (f : Free) (base : Option Primitive) → number (base_of of) ≡ base → (settled_free of f base).faults ≡ [] → LandsFree f (settled_free of f base).kind
-free_lands of f None is e = lands_free f p.Int int (landed int f.int).kind (unknown_primitive p.Int) (lands int f.int e)
-free_lands of f (Some q) is e = or_int of f q (in_type f q) (base_known of q (number_is (base_of of) q is)) refl e
+untyped_lands : (of : OccType) (f : Untyped) (base : Option Primitive) → number (base_of of) ≡ base → (settled_untyped of f base).faults ≡ [] → LandsUntyped f (settled_untyped of f base).kind
+untyped_lands of f None is e = lands_untyped f p.Int int (landed int f.int).kind (unknown_primitive p.Int) (lands int f.int e)
+untyped_lands of f (Some q) is e = or_int of f q (in_type f q) (base_known of q (number_is (base_of of) q is)) refl e
 
-sound_if : (b : Bool) (x : Told) (f : Free) → b ≡ false → (x.faults ≡ [] → LandsFree f x.kind) → (faulty_if b x).faults ≡ [] → LandsFree f (faulty_if b x).kind
+sound_if : (b : Bool) (x : Finding) (f : Untyped) → b ≡ false → (x.faults ≡ [] → LandsUntyped f x.kind) → (faulty_if b x).faults ≡ [] → LandsUntyped f (faulty_if b x).kind
 sound_if true x f is next e = absurd cc
 sound_if false x f is next e = next e
 
-pub free_settles : (of : OccType) (f : Free) → f.is_faulty ≡ false → (settled of (k.Free f)).faults ≡ [] → LandsFree f (settled of (k.Free f)).kind
-free_settles of f is e = sound_if f.is_faulty (settled_free of f (number (base_of of))) f is (free_lands of f (number (base_of of)) refl) e
+pub untyped_settles : (of : OccType) (f : Untyped) → f.is_faulty ≡ false → (settled of (k.Untyped f)).faults ≡ [] → LandsUntyped f (settled of (k.Untyped f)).kind
+untyped_settles of f is e = sound_if f.is_faulty (settled_untyped of f (number (base_of of))) f is (untyped_lands of f (number (base_of of)) refl) e
 
 -- more dimensions are wanted
-pub tree_of_any : (d : Draft) (n : ℕ) → HasTree 0 d → HasTree n d
+pub tree_of_any : (d : OpenExpr) (n : ℕ) → HasTree 0 d → HasTree n d
 tree_of_any d n h of e known = h of (omega arith) known
 
-pub settled_tree : (f : Free) (d : Draft) → (IsBadFree f → ⊥) → IsBadFree f ⊎ HasTree 0 d → HasTree 0 d
+pub settled_tree : (f : Untyped) (d : OpenExpr) → (IsBadUntyped f → ⊥) → IsBadUntyped f ⊎ HasTree 0 d → HasTree 0 d
 settled_tree f d sound (inl bad) = absurd (sound bad)
 settled_tree f d sound (inr h) = h
 
-pub settled_reads : (of : OccType) (kind : Kind) (d : Draft) → MayRead kind d → (settled of kind).faults ≡ [] → Reads (settled of kind).kind d
+pub settled_reads : (of : OccType) (kind : Kind) (d : OpenExpr) → MayRead kind d → (settled of kind).faults ≡ [] → Reads (settled of kind).kind d
 settled_reads of k.Faulty d h e = h
 settled_reads of (k.Known x) d h e = h
-settled_reads of (k.Free f) d h e =
-    let x = free_settles of f h.0 e in
+settled_reads of (k.Untyped f) d h e =
+    let x = untyped_settles of f h.0 e in
     subst (λ (y : Kind). Reads y d) (sym x.is) (x.known, tree_of_any d (depth x.what.of) (settled_tree f d x.sound h.1))
 
 -- ---- what a type is wanted of
 
-fits_or : (b : Bool) (of : OccType) (x : Known) (d : Draft) → fits of x.of ≡ b → Reads (k.Known x) d
+fits_or : (b : Bool) (of : OccType) (x : Known) (d : OpenExpr) → fits of x.of ≡ b → Reads (k.Known x) d
     → (chosen b (record { faults = []; kind = k.Known x }) (fault_of code.T2)).faults ≡ []
     → ReadsAs of (chosen b (record { faults = []; kind = k.Known x }) (fault_of code.T2)).kind d
 fits_or true of x d is h e = (h.0, is, h.1)
 fits_or false of x d is h e = absurd cc
 
-pub fitted_reads : (of : OccType) (kind : Kind) (d : Draft) → Reads kind d → (fitted of kind).faults ≡ [] → ReadsAs of (fitted of kind).kind d
+pub fitted_reads : (of : OccType) (kind : Kind) (d : OpenExpr) → Reads kind d → (fitted of kind).faults ≡ [] → ReadsAs of (fitted of kind).kind d
 fitted_reads of k.Faulty d h e = h
-fitted_reads of (k.Free f) d h e = h
+fitted_reads of (k.Untyped f) d h e = h
 fitted_reads of (k.Known x) d h e = fits_or (fits of x.of) of x d refl h e
 
-pub wanted_reads : (of : OccType) (kind : Kind) (d : Draft) → MayRead kind d → (wanted of kind).faults ≡ [] → ReadsAs of (wanted of kind).kind d
+pub wanted_reads : (of : OccType) (kind : Kind) (d : OpenExpr) → MayRead kind d → (wanted of kind).faults ≡ [] → ReadsAs of (wanted of kind).kind d
 wanted_reads of kind d h e =
     fitted_reads of (settled of kind).kind d
     (settled_reads of kind d h (front_clean (settled of kind).faults (fitted of (settled of kind).kind).faults e))
@@ -153,29 +153,29 @@ wanted_reads of kind d h e =
 pub int_known : IsKnownType int
 int_known = unknown_primitive p.Int
 
-pub placed_as : (of : OccType) (kind : Kind) (d : Draft) → IsKnownType of → ReadsAs of kind d → Has IsWholeExpr (placed d of)
+pub placed_as : (of : OccType) (kind : Kind) (d : OpenExpr) → IsKnownType of → ReadsAs of kind d → Has IsWholeExpr (placed d of)
 placed_as of k.Faulty d known h = absurd h
-placed_as of (k.Free f) d known h = absurd h
+placed_as of (k.Untyped f) d known h = absurd h
 placed_as of (k.Known x) d known h = let e : depth of ≡ depth x.of = fits_depth of x.of h.1 in h.2 of (omega (arith, e)) known
 
-pub as_known : (of : OccType) (kind : Kind) (d : Draft) → ReadsAs of kind d → IsKnown kind
+pub as_known : (of : OccType) (kind : Kind) (d : OpenExpr) → ReadsAs of kind d → IsKnown kind
 as_known of k.Faulty d h = h
-as_known of (k.Free f) d h = h
+as_known of (k.Untyped f) d h = h
 as_known of (k.Known x) d h = h.0
 
-pub as_read : (of : OccType) (kind : Kind) (d : Draft) → ReadsAs of kind d → Reads kind d
+pub as_read : (of : OccType) (kind : Kind) (d : OpenExpr) → ReadsAs of kind d → Reads kind d
 as_read of k.Faulty d h = h
-as_read of (k.Free f) d h = h
+as_read of (k.Untyped f) d h = h
 as_read of (k.Known x) d h = (h.0, h.2)
 
-pub read_known : (kind : Kind) (d : Draft) → Reads kind d → IsKnown kind
+pub read_known : (kind : Kind) (d : OpenExpr) → Reads kind d → IsKnown kind
 read_known k.Faulty d h = h
-read_known (k.Free f) d h = h
+read_known (k.Untyped f) d h = h
 read_known (k.Known x) d h = h.0
 
-pub reads_may : (kind : Kind) (d : Draft) → Reads kind d → MayRead kind d
+pub reads_may : (kind : Kind) (d : OpenExpr) → Reads kind d → MayRead kind d
 reads_may k.Faulty d h = h
-reads_may (k.Free f) d h = absurd h
+reads_may (k.Untyped f) d h = absurd h
 reads_may (k.Known x) d h = h
 
 -- ---- subscripts
@@ -188,15 +188,15 @@ outside_or false of h e = h
 
 component_known : (n : Option ℕ) (of : OccType) (kind : Kind) → holds_unknown of ≡ false → IsKnown kind → (component_at n of kind).faults ≡ [] → IsKnown (component_at n of kind).kind
 component_known n of k.Faulty h g e = g
-component_known n of (k.Free f) h g e = g
+component_known n of (k.Untyped f) h g e = g
 component_known n of (k.Known x) h g e = outside_or (is_constant_outside n x.value) of h e
 
 nothing_there : (kind : Kind) → IsKnown kind → (mismatched kind).faults ≡ [] → ⊥
 nothing_there k.Faulty h e = h
-nothing_there (k.Free f) h e = h
+nothing_there (k.Untyped f) h e = h
 nothing_there (k.Known x) h e = absurd cc
 
-subscript_of : (of : OccType) (parts : Option (Option ℕ × OccType)) (kind : Kind) (d : Draft) → holds_unknown of ≡ false → as_array of ≡ parts → MayRead kind d → (subscripted_array parts kind).faults ≡ []
+subscript_of : (of : OccType) (parts : Option (Option ℕ × OccType)) (kind : Kind) (d : OpenExpr) → holds_unknown of ≡ false → as_array of ≡ parts → MayRead kind d → (subscripted_array parts kind).faults ≡ []
     → IsKnown (subscripted_array parts kind).kind × Has IsWholeExpr (placed d int)
 subscript_of of None kind d h is r e =
     absurd (nothing_there (settled int kind).kind
@@ -210,7 +210,7 @@ subscript_of of (Some parts) kind d h is r e =
     )
 
 -- a subscript: what it selects is known, and its place has a whole tree
-pub subscripted_reads : (of : OccType) (kind : Kind) (d : Draft) → holds_unknown of ≡ false → MayRead kind d → (subscripted of kind).faults ≡ []
+pub subscripted_reads : (of : OccType) (kind : Kind) (d : OpenExpr) → holds_unknown of ≡ false → MayRead kind d → (subscripted of kind).faults ≡ []
     → IsKnown (subscripted of kind).kind × Has IsWholeExpr (placed d int)
 subscripted_reads of kind d h r e = subscript_of (unnamed of) (as_array (unnamed of)) kind d (unnamed_holds of ∙ h) refl r e
 
@@ -219,6 +219,6 @@ unknown_or : (b : Bool) (of : OccType) → b ≡ false → holds_unknown of ≡ 
 unknown_or true of is h = absurd cc
 unknown_or false of is h = h
 
-pub field_reads : (name : List ℕ) (fields : List Field) (found : Option OccType) → any_of (fields_unknown fields) ≡ false → field_named name fields ≡ found → (field_told name found).faults ≡ [] → IsKnown (field_told name found).kind
+pub field_reads : (name : List ℕ) (fields : List Field) (found : Option OccType) → any_of (fields_unknown fields) ≡ false → field_named name fields ≡ found → (field_reported name found).faults ≡ [] → IsKnown (field_reported name found).kind
 field_reads name fields None h is e = absurd cc
 field_reads name fields (Some of) h is e = let g = field_known name fields of h is in unknown_or (is_unknown of) of (known_is of g) g

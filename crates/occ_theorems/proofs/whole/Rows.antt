@@ -8,8 +8,8 @@ use Rattle.occ_tree.specs.declared.row.Row.{Row}
 use Rattle.occ_tree.specs.declared.row.Row.TheVariants as row
 use Rattle.occ_tree.specs.declared.sort.Sort.{Sort}
 use Rattle.occ_tree.specs.declared.sort.Sort.TheVariants as sort
-use Rattle.occ_typed_lines.specs.declared.parent.Role.{Role}
-use Rattle.occ_typed_lines.specs.declared.parent.Role.TheVariants as role
+use Rattle.occ_typing_lines.specs.declared.parent.Role.{Role}
+use Rattle.occ_typing_lines.specs.declared.parent.Role.TheVariants as role
 use Rattle.occ_theorems.proofs.whole.Exchanges.{IsVariants}
 use Rattle.occ_theorems.proofs.whole.Heads.{IsTypes}
 use Rattle.occ_theorems.proofs.whole.Reading.{IsKnown}
@@ -20,7 +20,7 @@ abbrev pub AllStand : Row → List Sort → Type 0
 AllStand r [] = Unit {0}
 AllStand r (s ∷ ss) = (may_stand r s ≡ true) × AllStand r ss
 
--- behind a VALOF there is none
+-- after a VALOF there is none
 abbrev pub LastValOf : List Sort → Type 0
 LastValOf [] = Unit {0}
 LastValOf (s ∷ ss) = (is_valof s ≡ true → ss ≡ []) × LastValOf ss

@@ -1,12 +1,12 @@
--- Where the trees of drafts are there, and are whole.
+-- Where the trees of open expressions are there, and are whole.
 use Rattle.std.proofs.Common.{◌≡◌, ◌∙◌, ◌≤◌, ℕ, suc, List, [], ◌∷◌, length, Option, Some, None, refl, sym, subst, arith}
-use Rattle.occ_operands.specs.declared.kind.Free.{Free}
-use Rattle.occ_operands.specs.declared.kind.Known.{Known}
-use Rattle.occ_typed.specs.Placing.{all_placed, applied_of, array_known, count_of, each_placed, known_in, operation_of, placed, shifted_of, table_of, table_under, with_first}
-use Rattle.occ_typed.specs.declared.draft.Draft.{Draft}
-use Rattle.occ_typed.specs.declared.draft.Draft.TheVariants as d
-use Rattle.occ_typed.specs.declared.expr.TypedExpr.{TypedExpr}
-use Rattle.occ_typed.proofs.Drafting.{placed_applied, placed_as_table, placed_literal, placed_operation, placed_shifted, placed_typed}
+use Rattle.occ_typing_operands.specs.declared.kind.Untyped.{Untyped}
+use Rattle.occ_typing_operands.specs.declared.kind.Known.{Known}
+use Rattle.occ_typing_rules.specs.Placing.{all_placed, applied_of, array_known, count_of, each_placed, known_in, operation_of, placed, shifted_of, table_of, table_under, with_first}
+use Rattle.occ_typing_rules.specs.declared.open_expr.OpenExpr.{OpenExpr}
+use Rattle.occ_typing_rules.specs.declared.open_expr.OpenExpr.TheVariants as d
+use Rattle.occ_typing_rules.specs.declared.expr.TypedExpr.{TypedExpr}
+use Rattle.occ_typing_rules.proofs.OpenPlacing.{placed_applied, placed_as_table, placed_literal, placed_operation, placed_shifted, placed_typed}
 use Rattle.occ_types.specs.declared.constant.Monadic.{Monadic}
 use Rattle.occ_types.specs.declared.constant.Operator.{Operator}
 use Rattle.occ_types.specs.declared.types.OccType.{OccType}
@@ -19,12 +19,12 @@ use Rattle.occ_theorems.proofs.whole.Clean.{Has}
 use Rattle.occ_theorems.proofs.whole.Reading.{HasTree}
 use Rattle.occ_theorems.proofs.whole.Types.{depth, depth_parts, flat_none, parts_hold}
 
-abbrev pub Trees : ℕ → List Draft → Type 0
+abbrev pub Trees : ℕ → List OpenExpr → Type 0
 Trees n [] = Unit {0}
 Trees n (x ∷ xs) = HasTree n x × Trees n xs
 
 -- there is a whole tree of each where the type at its place is wanted
-abbrev pub EachTree : List Draft → List OccType → Type 0
+abbrev pub EachTree : List OpenExpr → List OccType → Type 0
 EachTree [] [] = Unit {0}
 EachTree [] (of ∷ types) = ⊥
 EachTree (x ∷ xs) [] = ⊥
@@ -38,11 +38,11 @@ first_there None xs h g = h
 first_there (Some x) None h g = g
 first_there (Some x) (Some xs) h g = one_expr x xs h g
 
-pub all_there : (n : ℕ) (xs : List Draft) (of : OccType) → Trees n xs → n ≤ depth of → IsKnownType of → Has AreWholeExprs (all_placed xs of)
+pub all_there : (n : ℕ) (xs : List OpenExpr) (of : OccType) → Trees n xs → n ≤ depth of → IsKnownType of → Has AreWholeExprs (all_placed xs of)
 all_there n [] of h e known = no_expr
 all_there n (x ∷ xs) of h e known = first_there (placed x of) (all_placed xs of) (h.0 of e known) (all_there n xs of h.1 e known)
 
-pub each_there : (xs : List Draft) (types : List OccType) → EachTree xs types → Has AreWholeExprs (each_placed xs types)
+pub each_there : (xs : List OpenExpr) (types : List OccType) → EachTree xs types → Has AreWholeExprs (each_placed xs types)
 each_there [] [] h = no_expr
 each_there [] (of ∷ types) h = absurd h
 each_there (x ∷ xs) [] h = absurd h
@@ -69,24 +69,24 @@ table_of_there x (Some ts) known h = made.table x ts known h
 pub tree_typed : (x : TypedExpr) → IsWholeExpr x → HasTree 0 (d.Typed x)
 tree_typed x h of e known = there _ _ (placed_typed x of) h
 
-pub tree_literal : (f : Free) → HasTree 0 (d.Literal f)
+pub tree_literal : (f : Untyped) → HasTree 0 (d.Literal f)
 tree_literal f of e known = there _ _ (placed_literal f of) (made.literal (known_in f of) known)
 
-pub tree_operation : (f : Free) (op : Operator) (xs : List Draft) → Trees 0 xs → HasTree 0 (d.Operation f op xs)
+pub tree_operation : (f : Untyped) (op : Operator) (xs : List OpenExpr) → Trees 0 xs → HasTree 0 (d.Operation f op xs)
 tree_operation f op xs h of e known = there _ _ (placed_operation f op xs of) (operation_of_there (known_in f of) op (all_placed xs of) known (all_there 0 xs of h e known))
 
-pub tree_applied : (f : Free) (op : Monadic) (x : Draft) → HasTree 0 x → HasTree 0 (d.Applied f op x)
+pub tree_applied : (f : Untyped) (op : Monadic) (x : OpenExpr) → HasTree 0 x → HasTree 0 (d.Applied f op x)
 tree_applied f op x h of e known = there _ _ (placed_applied f op x of) (applied_of_there (known_in f of) op (placed x of) known (h of e known))
 
-pub tree_shifted : (f : Free) (op : Operator) (x : Draft) (count : TypedExpr) → HasTree 0 x → IsWholeExpr count → HasTree 0 (d.Shifted f op x count)
+pub tree_shifted : (f : Untyped) (op : Operator) (x : OpenExpr) (count : TypedExpr) → HasTree 0 x → IsWholeExpr count → HasTree 0 (d.Shifted f op x count)
 tree_shifted f op x count h g of e known = there _ _ (placed_shifted f op x count of) (shifted_of_there (known_in f of) op (placed x of) count known (h of e known) g)
 
-under_there : (n : ℕ) (xs : List Draft) (of : OccType) (parts : Option (Option ℕ × OccType)) → Trees n xs → as_array of ≡ parts → suc n ≤ depth of → IsKnownType of → Has IsWholeExpr (table_under xs parts)
+under_there : (n : ℕ) (xs : List OpenExpr) (of : OccType) (parts : Option (Option ℕ × OccType)) → Trees n xs → as_array of ≡ parts → suc n ≤ depth of → IsKnownType of → Has IsWholeExpr (table_under xs parts)
 under_there n xs of None h is e known = let z : depth of ≡ 0 = flat_none of is in absurd (omega (arith, z, e))
 under_there n xs of (Some parts) h is e known =
     let z : depth of ≡ suc (depth parts.1) = depth_parts of parts is in
     let component : IsKnownType parts.1 = parts_hold of parts is ∙ known in
     table_of_there (array_known (length xs) parts.1) (all_placed xs parts.1) (unknown_array (count_of (length xs)) parts.1 ∙ component) (all_there n xs parts.1 h (omega (arith, z, e)) component)
 
-pub tree_table : (n : ℕ) (xs : List Draft) → Trees n xs → HasTree (suc n) (d.Table xs)
+pub tree_table : (n : ℕ) (xs : List OpenExpr) → Trees n xs → HasTree (suc n) (d.Table xs)
 tree_table n xs h of e known = there _ _ (placed_as_table xs of) (under_there n xs of (as_array of) h refl e known)

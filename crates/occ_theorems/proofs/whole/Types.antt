@@ -1,10 +1,10 @@
 -- Types that hold nothing unknown, and how many dimensions stand in front of a type.
 use Rattle.std.proofs.Common.{◌≡◌, ◌∙◌, ◌&&◌, ◌||◌, ℕ, suc, Bool, true, false, List, [], ◌∷◌, map, length, Option, Some, None, if◌then◌else◌, refl, ap, sym, subst}
 use Rattle.std.specs.Str.{bytes_eq}
-use Rattle.occ_operands.specs.Settling.{base_of, number}
-use Rattle.occ_operands.specs.Parts.{field_named}
-use Rattle.occ_recasts.specs.Dimensions.{dimensions}
-use Rattle.occ_recasts.proofs.Folds.{dimensions_of_array, dimensions_of_channel, dimensions_of_named, dimensions_of_primitive, dimensions_of_record, dimensions_of_timer, dimensions_of_unknown}
+use Rattle.occ_typing_operands.specs.Settling.{base_of, number}
+use Rattle.occ_typing_operands.specs.Parts.{field_named}
+use Rattle.occ_typing_rules.specs.Dimensions.{dimensions}
+use Rattle.occ_typing_rules.proofs.Folds.{dimensions_of_array, dimensions_of_channel, dimensions_of_named, dimensions_of_primitive, dimensions_of_record, dimensions_of_timer, dimensions_of_unknown}
 use Rattle.occ_types.specs.declared.types.Field.{Field}
 use Rattle.occ_types.specs.declared.types.Item.{Item}
 use Rattle.occ_types.specs.declared.types.Item.TheFolds.{ind-OccType, map-OccType}

@@ -1,30 +1,30 @@
 -- Types as a line writes them, without faults: what was found is a type in which nothing is unknown.
 use Rattle.std.proofs.Common.{◌≡◌, ◌∙◌, ◌++◌, ◌||◌, ℕ, Bool, true, false, List, [], ◌∷◌, Option, Some, None, if◌then◌else◌, ap}
 use Rattle.std.specs.Prelude.{ℤ, pos, negsuc, nat_le}
-use Rattle.occ_base.specs.Telling.{nameless}
+use Rattle.occ_base.specs.Reporting.{nameless}
 use Rattle.occ_base.specs.declared.code.Code.TheVariants as code
-use Rattle.occ_expr.specs.Parts.{Said}
-use Rattle.occ_expr.specs.Views.{sized_dimension}
-use Rattle.occ_expr.specs.Written.{Spanning, Written, all_spanning_faults, array_behind, array_over, array_over_more, base_type, channel, channel_if, channel_of_values, count_fault, count_type, counted_channel, counted_type, data_form, extent_of, extents, limited, open_dimension, primitive_of, spanned, spanned_by}
-use Rattle.occ_expr.specs.declared.written.Extent.{Extent}
-use Rattle.occ_expr.specs.declared.written.Extent.TheVariants as extent
-use Rattle.occ_expr.specs.declared.written.Opening.{Opening}
-use Rattle.occ_expr.specs.declared.written.Opening.TheVariants as opening
-use Rattle.occ_expression_forms.specs.declared.tree.DataBase.{DataBase}
-use Rattle.occ_expression_forms.specs.declared.tree.DataBase.TheVariants as base
-use Rattle.occ_names.specs.Lookup.{carries, good}
-use Rattle.occ_names.specs.Visible.{visible}
-use Rattle.occ_names.specs.declared.lookup.Carried.{Carried}
-use Rattle.occ_names.specs.declared.lookup.Carried.TheVariants as carried
-use Rattle.occ_names.specs.declared.scope.Scope.{Scope}
-use Rattle.occ_operands.specs.Settling.{int, number}
-use Rattle.occ_operands.specs.declared.kind.Kind.{Kind}
-use Rattle.occ_operands.specs.declared.kind.Kind.TheVariants as k
-use Rattle.occ_tables.specs.Dimensions.{Size, size, size_of_kind, size_of_number}
-use Rattle.occ_tables.specs.Extents.{is_too_large}
-use Rattle.occ_tables.specs.Segments.{number_in}
-use Rattle.occ_tables.specs.Terms.{Judged, judged}
-use Rattle.occ_typed.specs.declared.draft.Draft.{Draft}
+use Rattle.occ_expr_operations.specs.Parts.{Said}
+use Rattle.occ_expr_operations.specs.Views.{sized_dimension}
+use Rattle.occ_expr_operations.specs.Written.{Spanning, Written, all_spanning_faults, array_after, array_over, array_over_more, base_type, channel, channel_if, channel_of_values, count_fault, count_type, counted_channel, counted_type, data_form, extent_of, extents, limited, open_dimension, primitive_of, spanned, spanned_by}
+use Rattle.occ_expr_operations.specs.declared.written.Extent.{Extent}
+use Rattle.occ_expr_operations.specs.declared.written.Extent.TheVariants as extent
+use Rattle.occ_expr_operations.specs.declared.written.Opening.{Opening}
+use Rattle.occ_expr_operations.specs.declared.written.Opening.TheVariants as opening
+use Rattle.occ_forms_expressions.specs.declared.tree.DataBase.{DataBase}
+use Rattle.occ_forms_expressions.specs.declared.tree.DataBase.TheVariants as base
+use Rattle.occ_scope.specs.Lookup.{carries, good}
+use Rattle.occ_scope.specs.Visible.{visible}
+use Rattle.occ_scope.specs.declared.lookup.Carried.{Carried}
+use Rattle.occ_scope.specs.declared.lookup.Carried.TheVariants as carried
+use Rattle.occ_scope.specs.declared.scope.Scope.{Scope}
+use Rattle.occ_typing_operands.specs.Settling.{int, number}
+use Rattle.occ_typing_operands.specs.declared.kind.Kind.{Kind}
+use Rattle.occ_typing_operands.specs.declared.kind.Kind.TheVariants as k
+use Rattle.occ_typing_tables.specs.Dimensions.{Size, size, size_of_kind, size_of_number}
+use Rattle.occ_typing_tables.specs.Extents.{is_too_large}
+use Rattle.occ_typing_tables.specs.Segments.{number_in}
+use Rattle.occ_typing_tables.specs.Terms.{Judged, judged}
+use Rattle.occ_typing_rules.specs.declared.open_expr.OpenExpr.{OpenExpr}
 use Rattle.occ_types.specs.Unknown.{holds_unknown}
 use Rattle.occ_types.specs.View.{as_primitive}
 use Rattle.occ_types.specs.declared.types.Item.TheVariants as item
@@ -82,15 +82,15 @@ number_there (Some (pos n)) e = if_size (nat_le n 4294967295) n e
 
 kind_there : (kind : Kind) → IsKnown kind → (size_of_kind kind).faults ≡ [] → IsThere (size_of_kind kind).count
 kind_there k.Faulty h e = absurd h
-kind_there (k.Free f) h e = absurd h
+kind_there (k.Untyped f) h e = absurd h
 kind_there (k.Known x) h e = number_there (number_in x.value) e
 
-size_there : (j : Judged) (d : Draft) → Sound j d → (size j).faults ≡ [] → IsThere (size j).count
+size_there : (j : Judged) (d : OpenExpr) → Sound j d → (size j).faults ≡ [] → IsThere (size j).count
 size_there j d h e =
     let x = j.under int in
     kind_there x.kind (as_known int x.kind d (h.wanted int (front_clean x.faults (size_of_kind x.kind).faults e))) (back_clean x.faults (size_of_kind x.kind).faults e)
 
-pub sized_sound : (x : Said) (d : Draft) → (x.faults ≡ [] → Sound (judged x.term) d) → SpanSound (sized_dimension x)
+pub sized_sound : (x : Said) (d : OpenExpr) → (x.faults ≡ [] → Sound (judged x.term) d) → SpanSound (sized_dimension x)
 sized_sound x d h e =
     let y = size (judged x.term) in
     extent_there y.count (size_there (judged x.term) d (h (front_clean x.faults y.faults e)) (back_clean x.faults y.faults e))
@@ -126,9 +126,9 @@ span_extents : (xs : List Spanning) → AllSpan xs → all_spanning_faults xs �
 span_extents [] h e = tt
 span_extents (x ∷ xs) h e = (h.0 (front_clean x.faults (all_spanning_faults xs) e), span_extents xs h.1 (back_clean x.faults (all_spanning_faults xs) e))
 
-behind_typed : (front : List Extent) (xs : List Spanning) (of : Option OccType) → AreExtents front → AllSpan xs → IsTyped of → (array_behind front xs of).faults ≡ [] → IsTyped (array_behind front xs of).found
-unfolding array_behind
-behind_typed front xs of f h g e =
+after_typed : (front : List Extent) (xs : List Spanning) (of : Option OccType) → AreExtents front → AllSpan xs → IsTyped of → (array_after front xs of).faults ≡ [] → IsTyped (array_after front xs of).found
+unfolding array_after
+after_typed front xs of f h g e =
     let o = spanned_by (front ++ extents xs) of in
     limited_typed o
     (all_spanned (front ++ extents xs) of (both_extents front (extents xs) f (span_extents xs h (front_clean (all_spanning_faults xs) (limited o).faults e))) g)
@@ -136,14 +136,14 @@ behind_typed front xs of f h g e =
 
 pub array_sound : (xs : List Spanning) (of : Written) → AllSpan xs → TypeSound of → TypeSound (array_over xs of)
 array_sound xs of h g e =
-    let x = array_behind [] xs of.found in
-    behind_typed [] xs of.found tt h (g (front_clean of.faults x.faults e)) (back_clean of.faults x.faults e)
+    let x = array_after [] xs of.found in
+    after_typed [] xs of.found tt h (g (front_clean of.faults x.faults e)) (back_clean of.faults x.faults e)
 
 pub array_more_sound : (first : Spanning) (xs : List Spanning) (of : Written) → SpanSound first → AllSpan xs → TypeSound of → TypeSound (array_over_more first xs of)
 array_more_sound first xs of f h g e =
-    let x = array_behind (first.extent ∷ []) xs of.found in
+    let x = array_after (first.extent ∷ []) xs of.found in
     let rest = back_clean of.faults (first.faults ++ x.faults) e in
-    behind_typed (first.extent ∷ []) xs of.found (f (front_clean first.faults x.faults rest), tt) h (g (front_clean of.faults (first.faults ++ x.faults) e)) (back_clean first.faults x.faults rest)
+    after_typed (first.extent ∷ []) xs of.found (f (front_clean first.faults x.faults rest), tt) h (g (front_clean of.faults (first.faults ++ x.faults) e)) (back_clean first.faults x.faults rest)
 
 base_sound : (s : Scope) (b : DataBase) → IsKnownScope s → TypeSound (base_type s b)
 base_sound s (base.Named n) h e = type_found n (visible s n) (visible_known s n h) e

@@ -14,7 +14,7 @@ use Rattle.occ_tree.specs.Table.{row_under}
 abbrev pub frame_of : Option ℕ → Row → List Sort → Frame
 frame_of d r es = record { depth = d; row = r; elders = elders_of r es }
 
--- the parent of a line of depth d behind these
+-- the parent of a line of depth d after these
 abbrev pub frame_at : List Outline → ℕ → Frame
 frame_at before d = frame_of (parent_depth before d) (row_at before d) (elders before d)
 
@@ -40,7 +40,7 @@ abbrev pub outer : List Frame → List Frame
 outer [] = []
 outer (f ∷ fs) = fs
 
--- the open parents behind these lines, the innermost first
+-- the open parents after these lines, the innermost first
 abbrev pub open_parents : List Outline → List Frame
 open_parents [] = frame_of None row.File [] ∷ []
 open_parents (b ∷ before) =

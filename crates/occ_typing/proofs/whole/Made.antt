@@ -1,16 +1,16 @@
 -- Each form of a tree is whole if its parts are.
 use Rattle.std.proofs.Common.{◌≡◌, ◌∙◌, ℕ, List, Option, ap, sym, subst}
-use Rattle.occ_names.specs.declared.meaning.Referent.{Referent}
-use Rattle.occ_operands.specs.declared.kind.Known.{Known}
-use Rattle.occ_typed.specs.declared.expr.Selector.{Selector, out-Selector, roll-Selector}
-use Rattle.occ_typed.specs.declared.expr.Selector.TheOpen.{Selector-F, TypedActual-F, TypedExpr-F}
-use Rattle.occ_typed.specs.declared.expr.Selector.TheVariants as by
-use Rattle.occ_typed.specs.declared.expr.Selector.TheViews.{out-roll-Selector, out-roll-TypedActual, out-roll-TypedExpr}
-use Rattle.occ_typed.specs.declared.expr.TypedActual.{TypedActual, out-TypedActual, roll-TypedActual}
-use Rattle.occ_typed.specs.declared.expr.TypedActual.TheVariants as actual
-use Rattle.occ_typed.specs.declared.expr.TypedElement.{TypedElement}
-use Rattle.occ_typed.specs.declared.expr.TypedExpr.{TypedExpr, out-TypedExpr, roll-TypedExpr}
-use Rattle.occ_typed.specs.declared.expr.TypedExpr.TheVariants as typed
+use Rattle.occ_scope.specs.declared.meaning.Referent.{Referent}
+use Rattle.occ_typing_operands.specs.declared.kind.Known.{Known}
+use Rattle.occ_typing_rules.specs.declared.expr.Selector.{Selector, out-Selector, roll-Selector}
+use Rattle.occ_typing_rules.specs.declared.expr.Selector.TheOpen.{Selector-F, TypedActual-F, TypedExpr-F}
+use Rattle.occ_typing_rules.specs.declared.expr.Selector.TheVariants as by
+use Rattle.occ_typing_rules.specs.declared.expr.Selector.TheViews.{out-roll-Selector, out-roll-TypedActual, out-roll-TypedExpr}
+use Rattle.occ_typing_rules.specs.declared.expr.TypedActual.{TypedActual, out-TypedActual, roll-TypedActual}
+use Rattle.occ_typing_rules.specs.declared.expr.TypedActual.TheVariants as actual
+use Rattle.occ_typing_rules.specs.declared.expr.TypedElement.{TypedElement}
+use Rattle.occ_typing_rules.specs.declared.expr.TypedExpr.{TypedExpr, out-TypedExpr, roll-TypedExpr}
+use Rattle.occ_typing_rules.specs.declared.expr.TypedExpr.TheVariants as typed
 use Rattle.occ_types.specs.declared.constant.Monadic.{Monadic}
 use Rattle.occ_types.specs.declared.constant.Operator.{Operator}
 use Rattle.occ_typing.specs.Known.{IsKnownFunction, IsKnownType}

@@ -1,6 +1,6 @@
--- What is known of a whole tree at its root, and of the types that drafts have of their own.
-use Rattle.occ_typed.specs.Placing.{known_layer, known_of}
-use Rattle.occ_typed.specs.declared.expr.TypedExpr.{TypedExpr, out-TypedExpr}
+-- What is known of a whole tree at its root, and of the types that open expressions have of their own.
+use Rattle.occ_typing_rules.specs.Placing.{known_layer, known_of}
+use Rattle.occ_typing_rules.specs.declared.expr.TypedExpr.{TypedExpr, out-TypedExpr}
 use Rattle.occ_typing.specs.Known.{IsKnownType}
 use Rattle.occ_typing.specs.WholeTrees.{ExprForm, IsWholeExpr, IsWholeExprForm, whole_element, whole_expr}
 use Rattle.occ_typing.specs.WholeTrees as wholes

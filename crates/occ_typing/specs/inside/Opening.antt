@@ -2,9 +2,9 @@
 use Rattle.std.specs.Prelude.{List}
 use Rattle.occ_project.specs.Locations.{location_of}
 use Rattle.occ_project.specs.declared.expanded.ExpandedLine.{ExpandedLine}
-use Rattle.occ_typed_lines.specs.Lines.{Judged}
+use Rattle.occ_typing_lines.specs.Lines.{Judged}
 use Rattle.occ_typing.specs.TypedLines.{is_process}
-use Rattle.occ_typed_lines.specs.declared.parent.Parent.{Parent}
+use Rattle.occ_typing_lines.specs.declared.parent.Parent.{Parent}
 use Rattle.occ_typing.specs.declared.tree.TypedLine.{TypedLine, roll-TypedLine}
 use Rattle.occ_typing.specs.declared.walk.Opened.{Opened}
 

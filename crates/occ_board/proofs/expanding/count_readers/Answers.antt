@@ -3,10 +3,10 @@ use Rattle.occ_board.proofs.Readers.{readers_more}
 use Rattle.occ_board.proofs.Shows.{at_most}
 use Rattle.occ_board.proofs.expanding.count_readers.Goals as goal
 
-pub loop-place-preserved : goal.loop-place-preserved
-loop-place-preserved c = (
+pub loop-index-preserved : goal.loop-index-preserved
+loop-index-preserved c = (
   c.counted-count.ensures
-      ∙ readers_more c.args.graph.now c.files-file-items.result.now c.args.name c.loop-place.place c.file-item.result c.loop-place.count c.is_reader-is_one.result (c.files-file-items.ensures.files ∙ c.project.ensures) c.loop-place-test.true c.file-item.is c.is_reader-is_one.ensures
-      c.loop-place.invariant.0,
-  at_most c.is_reader-is_one.result c.loop-place.count c.loop-place.place c.counted-count.result c.counted-count.ensures c.loop-place.invariant.1,
+      ∙ readers_more c.args.graph.now c.files-file-items.result.now c.args.name c.loop-index.index c.file-item.result c.loop-index.count c.is_reader-is_one.result (c.files-file-items.ensures.files ∙ c.project.ensures) c.loop-index-test.true c.file-item.is c.is_reader-is_one.ensures
+      c.loop-index.invariant.0,
+  at_most c.is_reader-is_one.result c.loop-index.count c.loop-index.index c.counted-count.result c.counted-count.ensures c.loop-index.invariant.1,
 )

@@ -1,10 +1,10 @@
 use Rattle.occ_board.proofs.Spread.{IsSpread}
 use Rattle.occ_board.proofs.flags.+spread.Given as goal
-use Rattle.occ_board.specs.inside.Fresh.{AreFresh}
+use Rattle.occ_board.specs.inside.Verified.{AreVerified}
 use Rattle.occ_board.specs.inside.Flagged.{unflagged}
 
 abbrev pub decreases-spread : goal.decreases-spread
 decreases-spread l = unflagged l.flags.now
 
 abbrev pub invariant-loop-user : goal.invariant-loop-user
-invariant-loop-user l = IsSpread l.graph l.kept l.users l.fn.flags l.flags l.fn.place l.user-index × AreFresh l.graph l.kept l.fresh
+invariant-loop-user l = IsSpread l.graph l.cached l.users l.fn.flags l.flags l.fn.index l.user-index × AreVerified l.graph l.cached l.verified

@@ -4,11 +4,11 @@ use Rattle.occ_board.proofs.Rests.{rests_flagged}
 use Rattle.occ_board.proofs.flags.are_rests_flagged.Goals as goal
 use Rattle.occ_board.specs.inside.Flagged.{rest_flag}
 use Rattle.occ_project.specs.declared.reads.Read.{Read}
-use Rattle.occ_units.specs.Project.{IsProject}
+use Rattle.occ_project_units.specs.Project.{IsProject}
 
 pub returns : goal.returns
 returns c =
     c.are_flagged.ensures
     ∙ ap (λ (fs : List Read). list_all (rest_flag fs c.args.flags.now) c.rests.result.now) (c.files.ensures.files ∙ c.project.ensures)
     ∙ ap (λ (ps : List ℕ). list_all (rest_flag c.args.graph.now c.args.flags.now) ps) c.rests.ensures
-    ∙ rests_flagged c.args.graph.now c.args.flags.now c.args.place (subst IsProject c.project.ensures c.files.ensures.in_order) c.requires
+    ∙ rests_flagged c.args.graph.now c.args.flags.now c.args.index (subst IsProject c.project.ensures c.files.ensures.in_order) c.requires

@@ -1,6 +1,6 @@
 use Rattle.occ_board.proofs.Settled.{IsPass}
 use Rattle.occ_board.proofs.flags.pass.Given as goal
-use Rattle.occ_board.specs.inside.Fresh.{AreFresh}
+use Rattle.occ_board.specs.inside.Verified.{AreVerified}
 
-abbrev pub invariant-loop-place : goal.invariant-loop-place
-invariant-loop-place l = IsPass l.graph l.kept l.fn.flags l.flags l.advanced l.place × AreFresh l.graph l.kept l.fresh
+abbrev pub invariant-loop-index : goal.invariant-loop-index
+invariant-loop-index l = IsPass l.graph l.cached l.fn.flags l.flags l.advanced l.index × AreVerified l.graph l.cached l.verified

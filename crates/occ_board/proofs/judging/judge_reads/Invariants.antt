@@ -1,7 +1,7 @@
 use Rattle.std.proofs.Common.{◌≡◌, drop, map, take}
 use Rattle.occ_board.specs.Verdicts.{reads_verdict}
 use Rattle.occ_board.proofs.judging.judge_reads.Given as goal
-use Rattle.occ_units.specs.Project.{file_of}
+use Rattle.occ_project_units.specs.Project.{file_of}
 
 abbrev pub invariant-loop-read : goal.invariant-loop-read
 invariant-loop-read l =

@@ -8,4 +8,4 @@ returns-clause-project c = λ es. replayed c.put_law.ensures.in_order 1 [] es no
 
 pub returns-clause-done : goal.returns-clause-done
 unfolding done
-returns-clause-done c = λ files kept u h. c.along_law.ensures files (done_step files kept) false h (is_local files kept) u
+returns-clause-done c = λ files cached u h. c.along_law.ensures files (done_step files cached) false h (is_local files cached) u

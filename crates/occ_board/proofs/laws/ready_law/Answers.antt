@@ -6,4 +6,4 @@ pub returns : goal.returns
 returns c = λ s spelled some none.
     let project = c.done_law.ensures.project s.journal in
     let high = c.height_law.ensures (files_of s) project in
-    one_ready (files_of s) project (λ u v uses. c.names_law.ensures (files_of s) u v spelled uses) high.0 high.1 s.kept s.handed some none
+    one_ready (files_of s) project (λ u v uses. c.names_law.ensures (files_of s) u v spelled uses) high.0 high.1 s.cached s.handed some none

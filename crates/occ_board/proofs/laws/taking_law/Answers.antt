@@ -7,13 +7,13 @@ pub returns-clause-accepted : goal.returns-clause-accepted
 returns-clause-accepted c = λ s i e.
     let project = c.done_law.ensures.project s.journal in
     let high = c.height_law.ensures (files_of s) project in
-    next_accepted (files_of s) project (λ kept u. c.done_law.ensures.done (files_of s) kept u project) high.0 high.1 s.kept (length s.journal) s.handed i e
+    next_accepted (files_of s) project (λ cached u. c.done_law.ensures.done (files_of s) cached u project) high.0 high.1 s.cached (length s.journal) s.handed i e
 
 pub returns-clause-fewer : goal.returns-clause-fewer
 returns-clause-fewer c = λ s i e.
     let project = c.done_law.ensures.project s.journal in
     let high = c.height_law.ensures (files_of s) project in
-    next_fewer (files_of s) project (λ kept u. c.done_law.ensures.done (files_of s) kept u project) high.0 high.1 s.kept (length s.journal) s.handed i e
+    next_fewer (files_of s) project (λ cached u. c.done_law.ensures.done (files_of s) cached u project) high.0 high.1 s.cached (length s.journal) s.handed i e
 
 pub returns-clause-none : goal.returns-clause-none
-returns-clause-none c = λ s e. none_next (files_of s) s.kept s.handed e
+returns-clause-none c = λ s e. none_next (files_of s) s.cached s.handed e

@@ -6,7 +6,7 @@ use Rattle.occ_board.proofs.present.is_present.Goals as goal
 use Rattle.occ_board.proofs.present.is_present.Goals.{then-eq, else-eq}
 
 pub are_units_now-requires : goal.are_units_now-requires
-are_units_now-requires c = rested c.args.graph.now c.args.kept.now c.args.unit c.uses_near.result.now c.uses_near.ensures c.requires.rested
+are_units_now-requires c = rested c.args.graph.now c.args.cached.now c.args.unit c.uses_near.result.now c.uses_near.ensures c.requires.rested
 
 pub returns-then-are_reads_now : goal.returns-then-are_reads_now
 returns-then-are_reads_now c = elim c.if-eq.branch [

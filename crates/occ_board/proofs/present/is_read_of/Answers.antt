@@ -1,5 +1,5 @@
 use Rattle.std.proofs.Common.{sym, ap, ◌∙◌, ◌≡◌, false}
-use Rattle.occ_board.proofs.Places.{file_named}
+use Rattle.occ_board.proofs.Indices.{file_named}
 use Rattle.occ_board.proofs.Truths.{differ, not_both}
 use Rattle.occ_board.proofs.present.is_read_of.Goals as goal
 use Rattle.occ_project.specs.declared.reads.Read.{Read}

@@ -4,34 +4,34 @@ use Rattle.occ_board.proofs.Nexts.{first_found, first_none, first_passed, job_th
 use Rattle.occ_board.proofs.taking.next_unit.Goals as goal
 use Rattle.occ_board.specs.inside.Ready.{is_next}
 use Rattle.occ_project.specs.declared.reads.Read.{Read}
-use Rattle.occ_report.specs.Checks.{input}
-use Rattle.occ_units.specs.Project.{IsProject}
+use Rattle.occ_check.specs.Checks.{input}
+use Rattle.occ_project_units.specs.Project.{IsProject}
 
-pub loop-place-init : goal.loop-place-init
-loop-place-init c = next_from c.args.graph.now c.args.kept.now c.args.handed.now c.args.flags.now c.args.from (subst IsProject c.project.ensures c.files-files.ensures.in_order) c.requires.flags c.requires.from
+pub loop-index-init : goal.loop-index-init
+loop-index-init c = next_from c.args.graph.now c.args.cached.now c.args.handed.now c.args.flags.now c.args.from (subst IsProject c.project.ensures c.files-files.ensures.in_order) c.requires.flags c.requires.from
 
 pub returns-then-is_next-clause-next : goal.returns-then-is_next-clause-next
 returns-then-is_next-clause-next c =
     sym (
-    next_is c.args.graph.now c.args.kept.now c.args.handed.now
+    next_is c.args.graph.now c.args.cached.now c.args.handed.now
     ∙ ap (λ (o : Option Read). option_map (λ (file : Read). input c.args.graph.now file.name) o)
-    (first_found (is_next c.args.graph.now c.args.kept.now c.args.handed.now) c.args.graph.now c.files-files.result.now (c.files-files.ensures.files ∙ c.project.ensures) c.loop-place.place c.loop-place.invariant c.index-files-place.result c.loop-place-test.true c.index-files-place.is
+    (first_found (is_next c.args.graph.now c.args.cached.now c.args.handed.now) c.args.graph.now c.files-files.result.now (c.files-files.ensures.files ∙ c.project.ensures) c.loop-index.index c.loop-index.invariant c.index-files-index.result c.loop-index-test.true c.index-files-index.is
     (sym c.if-is_next.ensures)))
 
 pub returns-then-is_next-clause-job : goal.returns-then-is_next-clause-job
 returns-then-is_next-clause-job c =
-    job_there c.args.graph.now c.files-files.result.now c.args.kept.now c.args.handed.now c.loop-place.place c.index-files-place.result (subst IsProject c.project.ensures c.files-files.ensures.in_order) (c.files-files.ensures.files ∙ c.project.ensures) c.loop-place-test.true
-    c.index-files-place.is (sym c.if-is_next.ensures)
+    job_there c.args.graph.now c.files-files.result.now c.args.cached.now c.args.handed.now c.loop-index.index c.index-files-index.result (subst IsProject c.project.ensures c.files-files.ensures.in_order) (c.files-files.ensures.files ∙ c.project.ensures) c.loop-index-test.true
+    c.index-files-index.is (sym c.if-is_next.ensures)
 
-pub loop-place-preserved : goal.loop-place-preserved
-loop-place-preserved c =
-    first_passed (is_next c.args.graph.now c.args.kept.now c.args.handed.now) c.args.graph.now c.files-files.result.now (c.files-files.ensures.files ∙ c.project.ensures) c.loop-place.place c.loop-place.invariant c.index-files-place.result c.loop-place-test.true c.index-files-place.is
+pub loop-index-preserved : goal.loop-index-preserved
+loop-index-preserved c =
+    first_passed (is_next c.args.graph.now c.args.cached.now c.args.handed.now) c.args.graph.now c.files-files.result.now (c.files-files.ensures.files ∙ c.project.ensures) c.loop-index.index c.loop-index.invariant c.index-files-index.result c.loop-index-test.true c.index-files-index.is
     (sym c.if-is_next.ensures)
 
 pub returns-clause-next : goal.returns-clause-next
 returns-clause-next c =
-    let over : length c.files-files.result.now ≤ c.loop-place.place = omega (arith, c.loop-place-test.false) in
+    let over : length c.files-files.result.now ≤ c.loop-index.index = omega (arith, c.loop-index-test.false) in
     sym (
-    next_is c.args.graph.now c.args.kept.now c.args.handed.now
+    next_is c.args.graph.now c.args.cached.now c.args.handed.now
     ∙ ap (λ (o : Option Read). option_map (λ (file : Read). input c.args.graph.now file.name) o)
-    (first_none (is_next c.args.graph.now c.args.kept.now c.args.handed.now) c.args.graph.now c.files-files.result.now (c.files-files.ensures.files ∙ c.project.ensures) c.loop-place.place c.loop-place.invariant over))
+    (first_none (is_next c.args.graph.now c.args.cached.now c.args.handed.now) c.args.graph.now c.files-files.result.now (c.files-files.ensures.files ∙ c.project.ensures) c.loop-index.index c.loop-index.invariant over))

@@ -3,5 +3,5 @@ use Rattle.std.specs.List.{find}
 use Rattle.occ_board.specs.inside.Ready.{is_next}
 use Rattle.occ_board.proofs.taking.next_unit.Given as goal
 
-abbrev pub invariant-loop-place : goal.invariant-loop-place
-invariant-loop-place l = find (is_next l.graph l.kept l.handed) (drop l.place l.graph) ≡ find (is_next l.graph l.kept l.handed) l.graph
+abbrev pub invariant-loop-index : goal.invariant-loop-index
+invariant-loop-index l = find (is_next l.graph l.cached l.handed) (drop l.index l.graph) ≡ find (is_next l.graph l.cached l.handed) l.graph

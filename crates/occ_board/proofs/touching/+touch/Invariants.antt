@@ -6,4 +6,4 @@ abbrev pub decreases-touch : goal.decreases-touch
 decreases-touch l = unflagged l.touched.now
 
 abbrev pub invariant-loop-user : goal.invariant-loop-user
-invariant-loop-user l = IsTouch l.graph l.users l.fn.touched l.touched l.fn.place l.user-index
+invariant-loop-user l = IsTouch l.graph l.users l.fn.touched l.touched l.fn.index l.user-index

@@ -1,43 +1,43 @@
 use Rattle.std.proofs.Common.{arith, subst}
-use Rattle.occ_board.proofs.Looked.{fresh_new}
+use Rattle.occ_board.proofs.Looked.{verified_new}
 use Rattle.occ_board.proofs.Newly.{new_full, new_long, new_sound}
-use Rattle.occ_board.proofs.Told.{told_then}
+use Rattle.occ_board.proofs.Revisions.{reported_then}
 use Rattle.occ_board.proofs.touching.renew_new.Goals as goal
 use Rattle.occ_project.specs.declared.reads.Read.{Read}
-use Rattle.occ_units.specs.Project.{IsProject}
+use Rattle.occ_project_units.specs.Project.{IsProject}
 
-pub with_place-requires : goal.with_place-requires
-with_place-requires c =
+pub with_index-requires : goal.with_index-requires
+with_index-requires c =
     let within = c.requires.new.gap.within in
     omega (arith, within, c.requires.len)
 
 pub settle_from-requires-clause-len : goal.settle_from-requires-clause-len
 settle_from-requires-clause-len c =
     new_long
-    c.args.graph.now c.add.new.self (record { name = c.args.name; revision = c.args.revision; source = c.args.source }) c.args.place (subst IsProject c.project.ensures c.files-files.ensures.in_order) c.requires.new c.in_ok-add.ensures.ok
-    c.args.kept.now c.args.flags.now c.in_ok-next.next c.requires.len c.requires.flags c.in_ok-next.ensures
+    c.args.graph.now c.add.new.self (record { name = c.args.name; revision = c.args.revision; source = c.args.source }) c.args.index (subst IsProject c.project.ensures c.files-files.ensures.in_order) c.requires.new c.in_ok-add.ensures.ok
+    c.args.cached.now c.args.flags.now c.in_ok-next.next c.requires.len c.requires.flags c.in_ok-next.ensures
     c.requires.spelled c.names_law.ensures c.apart_law.ensures.done c.put_law.ensures.files c.put_law.ensures.in_order c.done_law.ensures.done
 
 pub settle_from-requires-clause-sound : goal.settle_from-requires-clause-sound
 settle_from-requires-clause-sound c =
     new_sound
-    c.args.graph.now c.add.new.self (record { name = c.args.name; revision = c.args.revision; source = c.args.source }) c.args.place (subst IsProject c.project.ensures c.files-files.ensures.in_order) c.requires.new c.in_ok-add.ensures.ok
-    c.args.kept.now c.args.flags.now c.in_ok-next.next c.requires.len c.requires.flags c.in_ok-next.ensures
+    c.args.graph.now c.add.new.self (record { name = c.args.name; revision = c.args.revision; source = c.args.source }) c.args.index (subst IsProject c.project.ensures c.files-files.ensures.in_order) c.requires.new c.in_ok-add.ensures.ok
+    c.args.cached.now c.args.flags.now c.in_ok-next.next c.requires.len c.requires.flags c.in_ok-next.ensures
     c.requires.spelled c.names_law.ensures c.apart_law.ensures.done c.put_law.ensures.files c.put_law.ensures.in_order c.done_law.ensures.done
 
 pub settle_from-requires-clause-full : goal.settle_from-requires-clause-full
 settle_from-requires-clause-full c =
     new_full
-    c.args.graph.now c.add.new.self (record { name = c.args.name; revision = c.args.revision; source = c.args.source }) c.args.place (subst IsProject c.project.ensures c.files-files.ensures.in_order) c.requires.new c.in_ok-add.ensures.ok
-    c.args.kept.now c.args.flags.now c.in_ok-next.next c.requires.len c.requires.flags c.in_ok-next.ensures
+    c.args.graph.now c.add.new.self (record { name = c.args.name; revision = c.args.revision; source = c.args.source }) c.args.index (subst IsProject c.project.ensures c.files-files.ensures.in_order) c.requires.new c.in_ok-add.ensures.ok
+    c.args.cached.now c.args.flags.now c.in_ok-next.next c.requires.len c.requires.flags c.in_ok-next.ensures
     c.requires.spelled c.names_law.ensures c.apart_law.ensures.done c.put_law.ensures.files c.put_law.ensures.in_order c.done_law.ensures.done
 
-pub settle_from-requires-clause-told : goal.settle_from-requires-clause-told
-settle_from-requires-clause-told c =
+pub settle_from-requires-clause-reported : goal.settle_from-requires-clause-reported
+settle_from-requires-clause-reported c =
     let file : Read = record { name = c.args.name; revision = c.args.revision; source = c.args.source } in
-    told_then c.args.graph.now c.add.new.self file c.args.kept.now (c.put_law.ensures.files c.args.graph.now file) c.in_ok-add.ensures.ok c.requires.told c.requires.before
+    reported_then c.args.graph.now c.add.new.self file c.args.cached.now (c.put_law.ensures.files c.args.graph.now file) c.in_ok-add.ensures.ok c.requires.reported c.requires.before
 
-pub settle_from-requires-clause-fresh : goal.settle_from-requires-clause-fresh
-settle_from-requires-clause-fresh c =
-    fresh_new c.args.graph.now c.add.new.self (record { name = c.args.name; revision = c.args.revision; source = c.args.source }) c.args.place c.args.kept.now c.args.fresh.now c.in_ok-known.known (subst IsProject c.project.ensures c.files-files.ensures.in_order) c.requires.new c.in_ok-add.ensures.ok
-    c.requires.spelled c.names_law.ensures c.apart_law.ensures.looked c.requires.fresh c.in_ok-known.ensures
+pub settle_from-requires-clause-verified : goal.settle_from-requires-clause-verified
+settle_from-requires-clause-verified c =
+    verified_new c.args.graph.now c.add.new.self (record { name = c.args.name; revision = c.args.revision; source = c.args.source }) c.args.index c.args.cached.now c.args.verified.now c.in_ok-known.known (subst IsProject c.project.ensures c.files-files.ensures.in_order) c.requires.new c.in_ok-add.ensures.ok
+    c.requires.spelled c.names_law.ensures c.apart_law.ensures.looked c.requires.verified c.in_ok-known.ensures

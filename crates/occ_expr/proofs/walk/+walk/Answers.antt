@@ -1,20 +1,20 @@
 use Rattle.std.proofs.Common.{arith, ◌∙◌, ◌++◌, ◌∷◌, [], Some, ap, refl, sym}
 use Rattle.std.proofs.lemmas.Grind.{common_steps}
-use Rattle.occ_expression_forms.specs.declared.tree.Builtin.TheVariants as uv
-use Rattle.occ_expression_forms.specs.declared.tree.Element.TheVariants as ev
-use Rattle.occ_expression_forms.specs.declared.tree.Expr.TheVariants as xv
-use Rattle.occ_expression_forms.specs.declared.tree.NamedOperand.TheVariants as nv
-use Rattle.occ_expression_forms.specs.declared.tree.Operand.TheVariants as ov
-use Rattle.occ_expression_forms.specs.declared.tree.TypeForm.TheVariants as tv
-use Rattle.occ_tables.specs.Terms.{judged_all}
-use Rattle.occ_expr.specs.Operations.{operation}
-use Rattle.occ_expr.specs.Elements.{selector}
-use Rattle.occ_expr.specs.Parts.{behind_a_fault, call, component, function_call, in_scope, named_element, no_call, part, subscript, terms, whole_element}
-use Rattle.occ_expr.specs.Views.{call_draft, expr_views, named_tree, operand_view, operand_views, operands, whole_element_draft}
-use Rattle.occ_expr.specs.Written.{array_behind, channel, data_form}
-use Rattle.occ_expr.proofs.Fields.{front_rules}
+use Rattle.occ_forms_expressions.specs.declared.tree.Builtin.TheVariants as uv
+use Rattle.occ_forms_expressions.specs.declared.tree.Element.TheVariants as ev
+use Rattle.occ_forms_expressions.specs.declared.tree.Expr.TheVariants as xv
+use Rattle.occ_forms_expressions.specs.declared.tree.NamedOperand.TheVariants as nv
+use Rattle.occ_forms_expressions.specs.declared.tree.Operand.TheVariants as ov
+use Rattle.occ_forms_expressions.specs.declared.tree.TypeForm.TheVariants as tv
+use Rattle.occ_typing_tables.specs.Terms.{judged_all}
+use Rattle.occ_expr_operations.specs.Operations.{operation}
+use Rattle.occ_expr_operations.specs.Elements.{selector}
+use Rattle.occ_expr_operations.specs.Parts.{after_a_fault, call, component, function_call, in_scope, named_element, no_call, part, subscript, terms, whole_element}
+use Rattle.occ_expr_operations.specs.Views.{call_open, expr_views, named_tree, operand_view, operand_views, operands, whole_element_open}
+use Rattle.occ_expr_operations.specs.Written.{array_after, channel, data_form}
+use Rattle.occ_expr_operations.proofs.Fields.{front_rules}
 use Rattle.occ_expr.proofs.Walking as step
-use Rattle.occ_expr.proofs.Views.{bounds_for_said, bounds_for_tree, bounds_from_for_said, bounds_from_for_tree, bounds_from_said, bounds_from_tree, builtin_any_channel_view, builtin_channel_view, builtin_primitive_view, builtin_timer_view, dimension_open_view, dimension_sized_view, element_named_told, element_named_tree, element_named_whole, element_named_whole_draft, element_segment_told, element_segment_tree, element_segment_whole, element_segment_whole_draft, expr_alone_draft, expr_alone_said, expr_applied_draft, expr_applied_said, expr_array_converted_draft, expr_array_converted_said, expr_converted_draft, expr_converted_said, expr_most_draft, expr_most_said, expr_named_draft, expr_named_said, expr_pair_draft, expr_pair_said, expr_run_draft, expr_run_said, named_operand_call_draft, named_operand_call_said, named_operand_decorated_draft, named_operand_decorated_said, named_operand_decorated_table_draft, named_operand_decorated_table_said, named_operand_element_draft, named_operand_element_said, named_operand_literal_said, named_operand_table_draft, named_operand_table_said, named_operand_truth_said, operand_call_draft, operand_call_said, operand_call_whole, operand_call_whole_draft, operand_decorated_draft, operand_decorated_said, operand_decorated_table_draft, operand_decorated_table_said, operand_decorated_table_whole, operand_decorated_table_whole_draft, operand_decorated_whole, operand_decorated_whole_draft, operand_element_draft, operand_element_said, operand_element_whole, operand_element_whole_draft, operand_literal_draft, operand_literal_said, operand_literal_whole, operand_literal_whole_draft, operand_parens_draft, operand_parens_said, operand_parens_whole, operand_parens_whole_draft, operand_table_draft, operand_table_said, operand_table_whole, operand_table_whole_draft, operand_truth_draft, operand_truth_said, operand_truth_whole, operand_truth_whole_draft, type_form_builtin_view}
+use Rattle.occ_expr_operations.proofs.Views.{bounds_for_said, bounds_for_tree, bounds_from_for_said, bounds_from_for_tree, bounds_from_said, bounds_from_tree, builtin_any_channel_view, builtin_channel_view, builtin_primitive_view, builtin_timer_view, dimension_open_view, dimension_sized_view, element_named_reported, element_named_tree, element_named_whole, element_named_whole_open, element_segment_reported, element_segment_tree, element_segment_whole, element_segment_whole_open, expr_alone_open, expr_alone_said, expr_applied_open, expr_applied_said, expr_array_converted_open, expr_array_converted_said, expr_converted_open, expr_converted_said, expr_most_open, expr_most_said, expr_named_open, expr_named_said, expr_pair_open, expr_pair_said, expr_run_open, expr_run_said, named_operand_call_open, named_operand_call_said, named_operand_decorated_open, named_operand_decorated_said, named_operand_decorated_table_open, named_operand_decorated_table_said, named_operand_element_open, named_operand_element_said, named_operand_literal_said, named_operand_table_open, named_operand_table_said, named_operand_truth_said, operand_call_open, operand_call_said, operand_call_whole, operand_call_whole_open, operand_decorated_open, operand_decorated_said, operand_decorated_table_open, operand_decorated_table_said, operand_decorated_table_whole, operand_decorated_table_whole_open, operand_decorated_whole, operand_decorated_whole_open, operand_element_open, operand_element_said, operand_element_whole, operand_element_whole_open, operand_literal_open, operand_literal_said, operand_literal_whole, operand_literal_whole_open, operand_parens_open, operand_parens_said, operand_parens_whole, operand_parens_whole_open, operand_table_open, operand_table_said, operand_table_whole, operand_table_whole_open, operand_truth_open, operand_truth_said, operand_truth_whole, operand_truth_whole_open, type_form_builtin_view}
 use Rattle.occ_expr.proofs.walk.+walk.Goals as goal
 
 pub type_form-returns-in_ok-of-in-Named-clause-faults : goal.type_form-returns-in_ok-of-in-Named-clause-faults
@@ -63,8 +63,8 @@ expression-returns-in-Alone-clause-term t c = grind (arith, common_steps, expr_a
 pub expression-returns-in-Alone-clause-faults : goal.expression-returns-in-Alone-clause-faults
 expression-returns-in-Alone-clause-faults t c = grind (arith, common_steps, expr_alone_said)
 
-pub expression-returns-in-Alone-clause-draft : goal.expression-returns-in-Alone-clause-draft
-expression-returns-in-Alone-clause-draft t c = grind (arith, common_steps, expr_alone_draft)
+pub expression-returns-in-Alone-clause-open_expr : goal.expression-returns-in-Alone-clause-open_expr
+expression-returns-in-Alone-clause-open_expr t c = grind (arith, common_steps, expr_alone_open)
 
 pub composed-returns-in-Alone-clause-term : goal.composed-returns-in-Alone-clause-term
 composed-returns-in-Alone-clause-term t c = grind (arith, common_steps, expr_alone_said)
@@ -72,14 +72,14 @@ composed-returns-in-Alone-clause-term t c = grind (arith, common_steps, expr_alo
 pub composed-returns-in-Alone-clause-faults : goal.composed-returns-in-Alone-clause-faults
 composed-returns-in-Alone-clause-faults t c = grind (arith, common_steps, expr_alone_said)
 
-pub composed-returns-in-Alone-clause-draft : goal.composed-returns-in-Alone-clause-draft
-composed-returns-in-Alone-clause-draft t c = grind (arith, common_steps, expr_alone_draft)
+pub composed-returns-in-Alone-clause-open_expr : goal.composed-returns-in-Alone-clause-open_expr
+composed-returns-in-Alone-clause-open_expr t c = grind (arith, common_steps, expr_alone_open)
 
 pub composed-returns-in-Applied-clause-term : goal.composed-returns-in-Applied-clause-term
 composed-returns-in-Applied-clause-term t c = grind (arith, common_steps)
 
-pub composed-returns-in-Applied-clause-draft : goal.composed-returns-in-Applied-clause-draft
-composed-returns-in-Applied-clause-draft t c = grind (arith, common_steps)
+pub composed-returns-in-Applied-clause-open_expr : goal.composed-returns-in-Applied-clause-open_expr
+composed-returns-in-Applied-clause-open_expr t c = grind (arith, common_steps)
 
 pub composed-returns-in-Applied-clause-faults : goal.composed-returns-in-Applied-clause-faults
 composed-returns-in-Applied-clause-faults t c = grind (arith, common_steps)
@@ -87,8 +87,8 @@ composed-returns-in-Applied-clause-faults t c = grind (arith, common_steps)
 pub composed-returns-in-Named-clause-term : goal.composed-returns-in-Named-clause-term
 composed-returns-in-Named-clause-term t c = grind (arith, common_steps)
 
-pub composed-returns-in-Named-clause-draft : goal.composed-returns-in-Named-clause-draft
-composed-returns-in-Named-clause-draft t c = grind (arith, common_steps)
+pub composed-returns-in-Named-clause-open_expr : goal.composed-returns-in-Named-clause-open_expr
+composed-returns-in-Named-clause-open_expr t c = grind (arith, common_steps)
 
 pub composed-returns-in-Named-clause-faults : goal.composed-returns-in-Named-clause-faults
 composed-returns-in-Named-clause-faults t c = grind (arith, common_steps)
@@ -96,8 +96,8 @@ composed-returns-in-Named-clause-faults t c = grind (arith, common_steps)
 pub composed-returns-in-Most-clause-term : goal.composed-returns-in-Most-clause-term
 composed-returns-in-Most-clause-term t c = grind (arith, common_steps)
 
-pub composed-returns-in-Most-clause-draft : goal.composed-returns-in-Most-clause-draft
-composed-returns-in-Most-clause-draft t c = grind (arith, common_steps)
+pub composed-returns-in-Most-clause-open_expr : goal.composed-returns-in-Most-clause-open_expr
+composed-returns-in-Most-clause-open_expr t c = grind (arith, common_steps)
 
 pub composed-returns-in-Most-clause-faults : goal.composed-returns-in-Most-clause-faults
 composed-returns-in-Most-clause-faults t c = grind (arith, common_steps)
@@ -108,8 +108,8 @@ applied_reading-returns-clause-term t c = grind (arith, common_steps, expr_appli
 pub applied_reading-returns-clause-faults : goal.applied_reading-returns-clause-faults
 applied_reading-returns-clause-faults t c = grind (arith, common_steps, expr_applied_said)
 
-pub applied_reading-returns-clause-draft : goal.applied_reading-returns-clause-draft
-applied_reading-returns-clause-draft t c = grind (arith, common_steps, expr_applied_draft)
+pub applied_reading-returns-clause-open_expr : goal.applied_reading-returns-clause-open_expr
+applied_reading-returns-clause-open_expr t c = grind (arith, common_steps, expr_applied_open)
 
 pub named_reading-returns-clause-term : goal.named_reading-returns-clause-term
 named_reading-returns-clause-term t c = grind (arith, common_steps, expr_named_said)
@@ -117,8 +117,8 @@ named_reading-returns-clause-term t c = grind (arith, common_steps, expr_named_s
 pub named_reading-returns-clause-faults : goal.named_reading-returns-clause-faults
 named_reading-returns-clause-faults t c = grind (arith, common_steps, expr_named_said)
 
-pub named_reading-returns-clause-draft : goal.named_reading-returns-clause-draft
-named_reading-returns-clause-draft t c = grind (arith, common_steps, expr_named_draft)
+pub named_reading-returns-clause-open_expr : goal.named_reading-returns-clause-open_expr
+named_reading-returns-clause-open_expr t c = grind (arith, common_steps, expr_named_open)
 
 pub most_reading-returns-clause-term : goal.most_reading-returns-clause-term
 most_reading-returns-clause-term t c = grind (arith, common_steps, expr_most_said)
@@ -126,8 +126,8 @@ most_reading-returns-clause-term t c = grind (arith, common_steps, expr_most_sai
 pub most_reading-returns-clause-faults : goal.most_reading-returns-clause-faults
 most_reading-returns-clause-faults t c = grind (arith, common_steps, expr_most_said)
 
-pub most_reading-returns-clause-draft : goal.most_reading-returns-clause-draft
-most_reading-returns-clause-draft t c = grind (arith, common_steps, expr_most_draft)
+pub most_reading-returns-clause-open_expr : goal.most_reading-returns-clause-open_expr
+most_reading-returns-clause-open_expr t c = grind (arith, common_steps, expr_most_open)
 
 pub operand-returns-in-Element-clause-term : goal.operand-returns-in-Element-clause-term
 operand-returns-in-Element-clause-term t c = grind (arith, common_steps, operand_element_said)
@@ -135,8 +135,8 @@ operand-returns-in-Element-clause-term t c = grind (arith, common_steps, operand
 pub operand-returns-in-Element-clause-faults : goal.operand-returns-in-Element-clause-faults
 operand-returns-in-Element-clause-faults t c = grind (arith, common_steps, operand_element_said)
 
-pub operand-returns-in-Element-clause-draft : goal.operand-returns-in-Element-clause-draft
-operand-returns-in-Element-clause-draft t c = grind (arith, common_steps, operand_element_draft)
+pub operand-returns-in-Element-clause-open_expr : goal.operand-returns-in-Element-clause-open_expr
+operand-returns-in-Element-clause-open_expr t c = grind (arith, common_steps, operand_element_open)
 
 pub operand-returns-in-Literal-clause-faults : goal.operand-returns-in-Literal-clause-faults
 operand-returns-in-Literal-clause-faults t c = grind (arith, common_steps, operand_literal_said)
@@ -147,8 +147,8 @@ operand-returns-in-Decorated-clause-term t c = grind (arith, common_steps, opera
 pub operand-returns-in-Decorated-clause-faults : goal.operand-returns-in-Decorated-clause-faults
 operand-returns-in-Decorated-clause-faults t c = grind (arith, common_steps, operand_decorated_said)
 
-pub operand-returns-in-Decorated-clause-draft : goal.operand-returns-in-Decorated-clause-draft
-operand-returns-in-Decorated-clause-draft t c = grind (arith, common_steps, operand_decorated_draft)
+pub operand-returns-in-Decorated-clause-open_expr : goal.operand-returns-in-Decorated-clause-open_expr
+operand-returns-in-Decorated-clause-open_expr t c = grind (arith, common_steps, operand_decorated_open)
 
 pub operand-returns-in-Truth-clause-faults : goal.operand-returns-in-Truth-clause-faults
 operand-returns-in-Truth-clause-faults t c = grind (arith, common_steps, operand_truth_said)
@@ -159,8 +159,8 @@ operand-returns-in-Parens-clause-term t c = grind (arith, common_steps, operand_
 pub operand-returns-in-Parens-clause-faults : goal.operand-returns-in-Parens-clause-faults
 operand-returns-in-Parens-clause-faults t c = grind (arith, common_steps, operand_parens_said)
 
-pub operand-returns-in-Parens-clause-draft : goal.operand-returns-in-Parens-clause-draft
-operand-returns-in-Parens-clause-draft t c = grind (arith, common_steps, operand_parens_draft)
+pub operand-returns-in-Parens-clause-open_expr : goal.operand-returns-in-Parens-clause-open_expr
+operand-returns-in-Parens-clause-open_expr t c = grind (arith, common_steps, operand_parens_open)
 
 pub operand-returns-in-Call-clause-term : goal.operand-returns-in-Call-clause-term
 operand-returns-in-Call-clause-term t c = grind (arith, common_steps, operand_call_said)
@@ -168,20 +168,20 @@ operand-returns-in-Call-clause-term t c = grind (arith, common_steps, operand_ca
 pub operand-returns-in-Call-clause-faults : goal.operand-returns-in-Call-clause-faults
 operand-returns-in-Call-clause-faults t c = grind (arith, common_steps, operand_call_said)
 
-pub operand-returns-in-Call-clause-draft : goal.operand-returns-in-Call-clause-draft
-operand-returns-in-Call-clause-draft t c = grind (arith, common_steps, operand_call_draft)
+pub operand-returns-in-Call-clause-open_expr : goal.operand-returns-in-Call-clause-open_expr
+operand-returns-in-Call-clause-open_expr t c = grind (arith, common_steps, operand_call_open)
 
 pub operand-returns-in_ok-more_items-in-Table-clause-term : goal.operand-returns-in_ok-more_items-in-Table-clause-term
 operand-returns-in_ok-more_items-in-Table-clause-term t c = grind (arith, common_steps, operand_table_said)
 
-pub operand-returns-in_ok-more_items-in-Table-clause-draft : goal.operand-returns-in_ok-more_items-in-Table-clause-draft
-operand-returns-in_ok-more_items-in-Table-clause-draft t c = grind (arith, common_steps, operand_table_draft)
+pub operand-returns-in_ok-more_items-in-Table-clause-open_expr : goal.operand-returns-in_ok-more_items-in-Table-clause-open_expr
+operand-returns-in_ok-more_items-in-Table-clause-open_expr t c = grind (arith, common_steps, operand_table_open)
 
 pub operand-returns-in_ok-to-in-DecoratedTable-clause-term : goal.operand-returns-in_ok-to-in-DecoratedTable-clause-term
 operand-returns-in_ok-to-in-DecoratedTable-clause-term t c = grind (arith, common_steps, operand_decorated_table_said)
 
-pub operand-returns-in_ok-to-in-DecoratedTable-clause-draft : goal.operand-returns-in_ok-to-in-DecoratedTable-clause-draft
-operand-returns-in_ok-to-in-DecoratedTable-clause-draft t c = grind (arith, common_steps, operand_decorated_table_draft)
+pub operand-returns-in_ok-to-in-DecoratedTable-clause-open_expr : goal.operand-returns-in_ok-to-in-DecoratedTable-clause-open_expr
+operand-returns-in_ok-to-in-DecoratedTable-clause-open_expr t c = grind (arith, common_steps, operand_decorated_table_open)
 
 pub named_operand-returns-in-Element-clause-term : goal.named_operand-returns-in-Element-clause-term
 named_operand-returns-in-Element-clause-term t c = grind (arith, common_steps, named_operand_element_said)
@@ -189,8 +189,8 @@ named_operand-returns-in-Element-clause-term t c = grind (arith, common_steps, n
 pub named_operand-returns-in-Element-clause-faults : goal.named_operand-returns-in-Element-clause-faults
 named_operand-returns-in-Element-clause-faults t c = grind (arith, common_steps, named_operand_element_said)
 
-pub named_operand-returns-in-Element-clause-draft : goal.named_operand-returns-in-Element-clause-draft
-named_operand-returns-in-Element-clause-draft t c = grind (arith, common_steps, named_operand_element_draft)
+pub named_operand-returns-in-Element-clause-open_expr : goal.named_operand-returns-in-Element-clause-open_expr
+named_operand-returns-in-Element-clause-open_expr t c = grind (arith, common_steps, named_operand_element_open)
 
 pub named_operand-returns-in-Literal-clause-faults : goal.named_operand-returns-in-Literal-clause-faults
 named_operand-returns-in-Literal-clause-faults t c = grind (arith, common_steps, named_operand_literal_said)
@@ -201,8 +201,8 @@ named_operand-returns-in-Decorated-clause-term t c = grind (arith, common_steps,
 pub named_operand-returns-in-Decorated-clause-faults : goal.named_operand-returns-in-Decorated-clause-faults
 named_operand-returns-in-Decorated-clause-faults t c = grind (arith, common_steps, named_operand_decorated_said)
 
-pub named_operand-returns-in-Decorated-clause-draft : goal.named_operand-returns-in-Decorated-clause-draft
-named_operand-returns-in-Decorated-clause-draft t c = grind (arith, common_steps, named_operand_decorated_draft)
+pub named_operand-returns-in-Decorated-clause-open_expr : goal.named_operand-returns-in-Decorated-clause-open_expr
+named_operand-returns-in-Decorated-clause-open_expr t c = grind (arith, common_steps, named_operand_decorated_open)
 
 pub named_operand-returns-in-Truth-clause-faults : goal.named_operand-returns-in-Truth-clause-faults
 named_operand-returns-in-Truth-clause-faults t c = grind (arith, common_steps, named_operand_truth_said)
@@ -213,20 +213,20 @@ named_operand-returns-in-Call-clause-term t c = grind (arith, common_steps, name
 pub named_operand-returns-in-Call-clause-faults : goal.named_operand-returns-in-Call-clause-faults
 named_operand-returns-in-Call-clause-faults t c = grind (arith, common_steps, named_operand_call_said)
 
-pub named_operand-returns-in-Call-clause-draft : goal.named_operand-returns-in-Call-clause-draft
-named_operand-returns-in-Call-clause-draft t c = grind (arith, common_steps, named_operand_call_draft)
+pub named_operand-returns-in-Call-clause-open_expr : goal.named_operand-returns-in-Call-clause-open_expr
+named_operand-returns-in-Call-clause-open_expr t c = grind (arith, common_steps, named_operand_call_open)
 
 pub named_operand-returns-in_ok-more_items-in-Table-clause-term : goal.named_operand-returns-in_ok-more_items-in-Table-clause-term
 named_operand-returns-in_ok-more_items-in-Table-clause-term t c = grind (arith, common_steps, named_operand_table_said)
 
-pub named_operand-returns-in_ok-more_items-in-Table-clause-draft : goal.named_operand-returns-in_ok-more_items-in-Table-clause-draft
-named_operand-returns-in_ok-more_items-in-Table-clause-draft t c = grind (arith, common_steps, named_operand_table_draft)
+pub named_operand-returns-in_ok-more_items-in-Table-clause-open_expr : goal.named_operand-returns-in_ok-more_items-in-Table-clause-open_expr
+named_operand-returns-in_ok-more_items-in-Table-clause-open_expr t c = grind (arith, common_steps, named_operand_table_open)
 
 pub named_operand-returns-in_ok-to-in-DecoratedTable-clause-term : goal.named_operand-returns-in_ok-to-in-DecoratedTable-clause-term
 named_operand-returns-in_ok-to-in-DecoratedTable-clause-term t c = grind (arith, common_steps, named_operand_decorated_table_said)
 
-pub named_operand-returns-in_ok-to-in-DecoratedTable-clause-draft : goal.named_operand-returns-in_ok-to-in-DecoratedTable-clause-draft
-named_operand-returns-in_ok-to-in-DecoratedTable-clause-draft t c = grind (arith, common_steps, named_operand_decorated_table_draft)
+pub named_operand-returns-in_ok-to-in-DecoratedTable-clause-open_expr : goal.named_operand-returns-in_ok-to-in-DecoratedTable-clause-open_expr
+named_operand-returns-in_ok-to-in-DecoratedTable-clause-open_expr t c = grind (arith, common_steps, named_operand_decorated_table_open)
 
 pub whole_operand-returns-in-Element-clause-term : goal.whole_operand-returns-in-Element-clause-term
 whole_operand-returns-in-Element-clause-term t c = grind (arith, common_steps, operand_element_whole)
@@ -234,8 +234,8 @@ whole_operand-returns-in-Element-clause-term t c = grind (arith, common_steps, o
 pub whole_operand-returns-in-Element-clause-faults : goal.whole_operand-returns-in-Element-clause-faults
 whole_operand-returns-in-Element-clause-faults t c = grind (arith, common_steps, operand_element_whole)
 
-pub whole_operand-returns-in-Element-clause-draft : goal.whole_operand-returns-in-Element-clause-draft
-whole_operand-returns-in-Element-clause-draft t c = grind (arith, common_steps, operand_element_whole_draft)
+pub whole_operand-returns-in-Element-clause-open_expr : goal.whole_operand-returns-in-Element-clause-open_expr
+whole_operand-returns-in-Element-clause-open_expr t c = grind (arith, common_steps, operand_element_whole_open)
 
 pub whole_operand-returns-in-Literal-clause-term : goal.whole_operand-returns-in-Literal-clause-term
 whole_operand-returns-in-Literal-clause-term t c = grind (arith, common_steps, operand_literal_whole, operand_literal_said)
@@ -243,8 +243,8 @@ whole_operand-returns-in-Literal-clause-term t c = grind (arith, common_steps, o
 pub whole_operand-returns-in-Literal-clause-faults : goal.whole_operand-returns-in-Literal-clause-faults
 whole_operand-returns-in-Literal-clause-faults t c = grind (arith, common_steps, operand_literal_whole, operand_literal_said)
 
-pub whole_operand-returns-in-Literal-clause-draft : goal.whole_operand-returns-in-Literal-clause-draft
-whole_operand-returns-in-Literal-clause-draft t c = grind (arith, common_steps, operand_literal_whole_draft, operand_literal_draft)
+pub whole_operand-returns-in-Literal-clause-open_expr : goal.whole_operand-returns-in-Literal-clause-open_expr
+whole_operand-returns-in-Literal-clause-open_expr t c = grind (arith, common_steps, operand_literal_whole_open, operand_literal_open)
 
 pub whole_operand-returns-in-Decorated-clause-term : goal.whole_operand-returns-in-Decorated-clause-term
 whole_operand-returns-in-Decorated-clause-term t c = grind (arith, common_steps, operand_decorated_whole, operand_decorated_said)
@@ -252,8 +252,8 @@ whole_operand-returns-in-Decorated-clause-term t c = grind (arith, common_steps,
 pub whole_operand-returns-in-Decorated-clause-faults : goal.whole_operand-returns-in-Decorated-clause-faults
 whole_operand-returns-in-Decorated-clause-faults t c = grind (arith, common_steps, operand_decorated_whole, operand_decorated_said)
 
-pub whole_operand-returns-in-Decorated-clause-draft : goal.whole_operand-returns-in-Decorated-clause-draft
-whole_operand-returns-in-Decorated-clause-draft t c = grind (arith, common_steps, operand_decorated_whole_draft, operand_decorated_draft)
+pub whole_operand-returns-in-Decorated-clause-open_expr : goal.whole_operand-returns-in-Decorated-clause-open_expr
+whole_operand-returns-in-Decorated-clause-open_expr t c = grind (arith, common_steps, operand_decorated_whole_open, operand_decorated_open)
 
 pub whole_operand-returns-in-Truth-clause-term : goal.whole_operand-returns-in-Truth-clause-term
 whole_operand-returns-in-Truth-clause-term t c = grind (arith, common_steps, operand_truth_whole, operand_truth_said)
@@ -261,8 +261,8 @@ whole_operand-returns-in-Truth-clause-term t c = grind (arith, common_steps, ope
 pub whole_operand-returns-in-Truth-clause-faults : goal.whole_operand-returns-in-Truth-clause-faults
 whole_operand-returns-in-Truth-clause-faults t c = grind (arith, common_steps, operand_truth_whole, operand_truth_said)
 
-pub whole_operand-returns-in-Truth-clause-draft : goal.whole_operand-returns-in-Truth-clause-draft
-whole_operand-returns-in-Truth-clause-draft t c = grind (arith, common_steps, operand_truth_whole_draft, operand_truth_draft)
+pub whole_operand-returns-in-Truth-clause-open_expr : goal.whole_operand-returns-in-Truth-clause-open_expr
+whole_operand-returns-in-Truth-clause-open_expr t c = grind (arith, common_steps, operand_truth_whole_open, operand_truth_open)
 
 pub whole_operand-returns-in-Parens-clause-term : goal.whole_operand-returns-in-Parens-clause-term
 whole_operand-returns-in-Parens-clause-term t c = grind (arith, common_steps, operand_parens_whole, operand_parens_said)
@@ -270,8 +270,8 @@ whole_operand-returns-in-Parens-clause-term t c = grind (arith, common_steps, op
 pub whole_operand-returns-in-Parens-clause-faults : goal.whole_operand-returns-in-Parens-clause-faults
 whole_operand-returns-in-Parens-clause-faults t c = grind (arith, common_steps, operand_parens_whole, operand_parens_said)
 
-pub whole_operand-returns-in-Parens-clause-draft : goal.whole_operand-returns-in-Parens-clause-draft
-whole_operand-returns-in-Parens-clause-draft t c = grind (arith, common_steps, operand_parens_whole_draft, operand_parens_draft)
+pub whole_operand-returns-in-Parens-clause-open_expr : goal.whole_operand-returns-in-Parens-clause-open_expr
+whole_operand-returns-in-Parens-clause-open_expr t c = grind (arith, common_steps, operand_parens_whole_open, operand_parens_open)
 
 pub whole_operand-returns-in-Table-clause-term : goal.whole_operand-returns-in-Table-clause-term
 whole_operand-returns-in-Table-clause-term t c = grind (arith, common_steps, operand_table_whole, operand_table_said)
@@ -279,8 +279,8 @@ whole_operand-returns-in-Table-clause-term t c = grind (arith, common_steps, ope
 pub whole_operand-returns-in-Table-clause-faults : goal.whole_operand-returns-in-Table-clause-faults
 whole_operand-returns-in-Table-clause-faults t c = grind (arith, common_steps, operand_table_whole, operand_table_said)
 
-pub whole_operand-returns-in-Table-clause-draft : goal.whole_operand-returns-in-Table-clause-draft
-whole_operand-returns-in-Table-clause-draft t c = grind (arith, common_steps, operand_table_whole_draft, operand_table_draft)
+pub whole_operand-returns-in-Table-clause-open_expr : goal.whole_operand-returns-in-Table-clause-open_expr
+whole_operand-returns-in-Table-clause-open_expr t c = grind (arith, common_steps, operand_table_whole_open, operand_table_open)
 
 pub whole_operand-returns-in-DecoratedTable-clause-term : goal.whole_operand-returns-in-DecoratedTable-clause-term
 whole_operand-returns-in-DecoratedTable-clause-term t c = grind (arith, common_steps, operand_decorated_table_whole, operand_decorated_table_said)
@@ -288,8 +288,8 @@ whole_operand-returns-in-DecoratedTable-clause-term t c = grind (arith, common_s
 pub whole_operand-returns-in-DecoratedTable-clause-faults : goal.whole_operand-returns-in-DecoratedTable-clause-faults
 whole_operand-returns-in-DecoratedTable-clause-faults t c = grind (arith, common_steps, operand_decorated_table_whole, operand_decorated_table_said)
 
-pub whole_operand-returns-in-DecoratedTable-clause-draft : goal.whole_operand-returns-in-DecoratedTable-clause-draft
-whole_operand-returns-in-DecoratedTable-clause-draft t c = grind (arith, common_steps, operand_decorated_table_whole_draft, operand_decorated_table_draft)
+pub whole_operand-returns-in-DecoratedTable-clause-open_expr : goal.whole_operand-returns-in-DecoratedTable-clause-open_expr
+whole_operand-returns-in-DecoratedTable-clause-open_expr t c = grind (arith, common_steps, operand_decorated_table_whole_open, operand_decorated_table_open)
 
 pub whole_operand-returns-in-Call-clause-term : goal.whole_operand-returns-in-Call-clause-term
 whole_operand-returns-in-Call-clause-term t c = grind (arith, common_steps, operand_call_whole, operand_call_said)
@@ -297,8 +297,8 @@ whole_operand-returns-in-Call-clause-term t c = grind (arith, common_steps, oper
 pub whole_operand-returns-in-Call-clause-faults : goal.whole_operand-returns-in-Call-clause-faults
 whole_operand-returns-in-Call-clause-faults t c = grind (arith, common_steps, operand_call_whole, operand_call_said)
 
-pub whole_operand-returns-in-Call-clause-draft : goal.whole_operand-returns-in-Call-clause-draft
-whole_operand-returns-in-Call-clause-draft t c = grind (arith, common_steps, operand_call_whole_draft, operand_call_draft)
+pub whole_operand-returns-in-Call-clause-open_expr : goal.whole_operand-returns-in-Call-clause-open_expr
+whole_operand-returns-in-Call-clause-open_expr t c = grind (arith, common_steps, operand_call_whole_open, operand_call_open)
 
 pub operand_more-returns-in-Literal-clause-terms : goal.operand_more-returns-in-Literal-clause-terms
 operand_more-returns-in-Literal-clause-terms t c = grind (arith, common_steps, operand_literal_said)
@@ -306,23 +306,23 @@ operand_more-returns-in-Literal-clause-terms t c = grind (arith, common_steps, o
 pub operand_more-returns-in-Literal-clause-faults : goal.operand_more-returns-in-Literal-clause-faults
 operand_more-returns-in-Literal-clause-faults t c = grind (arith, common_steps, operand_literal_said)
 
-pub operand_more-returns-in-Literal-clause-drafts : goal.operand_more-returns-in-Literal-clause-drafts
-operand_more-returns-in-Literal-clause-drafts t c = grind (arith, common_steps, operand_literal_draft)
+pub operand_more-returns-in-Literal-clause-open_exprs : goal.operand_more-returns-in-Literal-clause-open_exprs
+operand_more-returns-in-Literal-clause-open_exprs t c = grind (arith, common_steps, operand_literal_open)
 
 pub operand_more-returns-in_ok-reading-in_default-clause-terms : goal.operand_more-returns-in_ok-reading-in_default-clause-terms
 operand_more-returns-in_ok-reading-in_default-clause-terms t c = grind (arith, common_steps)
 
-pub operand_more-returns-in_ok-reading-in_default-clause-drafts : goal.operand_more-returns-in_ok-reading-in_default-clause-drafts
-operand_more-returns-in_ok-reading-in_default-clause-drafts t c = grind (arith, common_steps)
+pub operand_more-returns-in_ok-reading-in_default-clause-open_exprs : goal.operand_more-returns-in_ok-reading-in_default-clause-open_exprs
+operand_more-returns-in_ok-reading-in_default-clause-open_exprs t c = grind (arith, common_steps)
 
 pub operand_more-returns-in_ok-reading-in_default-clause-faults : goal.operand_more-returns-in_ok-reading-in_default-clause-faults
 operand_more-returns-in_ok-reading-in_default-clause-faults t c = grind (arith, common_steps)
 
 pub element-returns-in-Named-clause-kind : goal.element-returns-in-Named-clause-kind
-element-returns-in-Named-clause-kind t c = grind (arith, common_steps, element_named_told)
+element-returns-in-Named-clause-kind t c = grind (arith, common_steps, element_named_reported)
 
 pub element-returns-in-Named-clause-faults : goal.element-returns-in-Named-clause-faults
-element-returns-in-Named-clause-faults t c = grind (arith, common_steps, element_named_told)
+element-returns-in-Named-clause-faults t c = grind (arith, common_steps, element_named_reported)
 
 pub element-returns-in-Named-clause-tree : goal.element-returns-in-Named-clause-tree
 element-returns-in-Named-clause-tree t c = grind (arith, common_steps, element_named_tree)
@@ -342,23 +342,23 @@ whole_element-returns-in-Named-clause-term t c = grind (arith, common_steps, ele
 pub whole_element-returns-in-Named-clause-faults : goal.whole_element-returns-in-Named-clause-faults
 whole_element-returns-in-Named-clause-faults t c = grind (arith, common_steps, element_named_whole)
 
-pub whole_element-returns-in-Named-clause-draft : goal.whole_element-returns-in-Named-clause-draft
-whole_element-returns-in-Named-clause-draft t c = grind (arith, common_steps, element_named_whole_draft)
+pub whole_element-returns-in-Named-clause-open_expr : goal.whole_element-returns-in-Named-clause-open_expr
+whole_element-returns-in-Named-clause-open_expr t c = grind (arith, common_steps, element_named_whole_open)
 
 pub whole_element-returns-in-Segment-clause-term : goal.whole_element-returns-in-Segment-clause-term
-whole_element-returns-in-Segment-clause-term t c = grind (arith, common_steps, element_segment_whole, element_segment_told)
+whole_element-returns-in-Segment-clause-term t c = grind (arith, common_steps, element_segment_whole, element_segment_reported)
 
 pub whole_element-returns-in-Segment-clause-faults : goal.whole_element-returns-in-Segment-clause-faults
-whole_element-returns-in-Segment-clause-faults t c = grind (arith, common_steps, element_segment_whole, element_segment_told)
+whole_element-returns-in-Segment-clause-faults t c = grind (arith, common_steps, element_segment_whole, element_segment_reported)
 
-pub whole_element-returns-in-Segment-clause-draft : goal.whole_element-returns-in-Segment-clause-draft
-whole_element-returns-in-Segment-clause-draft t c = grind (arith, common_steps, element_segment_whole_draft, element_segment_tree)
+pub whole_element-returns-in-Segment-clause-open_expr : goal.whole_element-returns-in-Segment-clause-open_expr
+whole_element-returns-in-Segment-clause-open_expr t c = grind (arith, common_steps, element_segment_whole_open, element_segment_tree)
 
 pub element_operand-returns-clause-term : goal.element_operand-returns-clause-term
 element_operand-returns-clause-term t c = grind (arith, common_steps)
 
-pub element_operand-returns-clause-draft : goal.element_operand-returns-clause-draft
-element_operand-returns-clause-draft t c = grind (arith, common_steps)
+pub element_operand-returns-clause-open_expr : goal.element_operand-returns-clause-open_expr
+element_operand-returns-clause-open_expr t c = grind (arith, common_steps)
 
 pub element_operand-returns-clause-faults : goal.element_operand-returns-clause-faults
 element_operand-returns-clause-faults t c = grind (arith, common_steps)
@@ -366,8 +366,8 @@ element_operand-returns-clause-faults t c = grind (arith, common_steps)
 pub decorated_operand-returns-clause-term : goal.decorated_operand-returns-clause-term
 decorated_operand-returns-clause-term t c = grind (arith, common_steps)
 
-pub decorated_operand-returns-clause-draft : goal.decorated_operand-returns-clause-draft
-decorated_operand-returns-clause-draft t c = grind (arith, common_steps)
+pub decorated_operand-returns-clause-open_expr : goal.decorated_operand-returns-clause-open_expr
+decorated_operand-returns-clause-open_expr t c = grind (arith, common_steps)
 
 pub decorated_operand-returns-clause-faults : goal.decorated_operand-returns-clause-faults
 decorated_operand-returns-clause-faults t c = grind (arith, common_steps)
@@ -375,8 +375,8 @@ decorated_operand-returns-clause-faults t c = grind (arith, common_steps)
 pub first_item-returns-clause-terms : goal.first_item-returns-clause-terms
 first_item-returns-clause-terms t c = grind (arith, common_steps)
 
-pub first_item-returns-clause-drafts : goal.first_item-returns-clause-drafts
-first_item-returns-clause-drafts t c = grind (arith, common_steps)
+pub first_item-returns-clause-open_exprs : goal.first_item-returns-clause-open_exprs
+first_item-returns-clause-open_exprs t c = grind (arith, common_steps)
 
 pub first_item-returns-clause-faults : goal.first_item-returns-clause-faults
 first_item-returns-clause-faults t c = grind (arith, common_steps)
@@ -384,8 +384,8 @@ first_item-returns-clause-faults t c = grind (arith, common_steps)
 pub actuals-returns-clause-is_faulty : goal.actuals-returns-clause-is_faulty
 actuals-returns-clause-is_faulty t c = grind (arith, common_steps)
 
-pub actuals-returns-clause-drafts : goal.actuals-returns-clause-drafts
-actuals-returns-clause-drafts t c = grind (arith, common_steps)
+pub actuals-returns-clause-open_exprs : goal.actuals-returns-clause-open_exprs
+actuals-returns-clause-open_exprs t c = grind (arith, common_steps)
 
 pub actuals-returns-clause-faults : goal.actuals-returns-clause-faults
 actuals-returns-clause-faults t c = grind (arith, common_steps)
@@ -490,64 +490,64 @@ pub segment_within-returns-clause-faults : goal.segment_within-returns-clause-fa
 segment_within-returns-clause-faults t c = grind (arith, common_steps)
 
 pub array_over-returns-clause-found : goal.array_over-returns-clause-found
-unfolding array_behind
+unfolding array_after
 array_over-returns-clause-found t c = grind (arith, common_steps)
 
 pub array_over-returns-clause-faults : goal.array_over-returns-clause-faults
-unfolding array_behind
+unfolding array_after
 array_over-returns-clause-faults t c = grind (arith, common_steps)
 
-pub behind_a_fault-returns : goal.behind_a_fault-returns
-unfolding behind_a_fault
-behind_a_fault-returns t c = grind (arith, common_steps)
+pub after_a_fault-returns : goal.after_a_fault-returns
+unfolding after_a_fault
+after_a_fault-returns t c = grind (arith, common_steps)
 
-pub behind_a_fault-returns-then-is_some : goal.behind_a_fault-returns-then-is_some
-unfolding behind_a_fault
-behind_a_fault-returns-then-is_some t c = grind (arith, common_steps)
+pub after_a_fault-returns-then-is_some : goal.after_a_fault-returns-then-is_some
+unfolding after_a_fault
+after_a_fault-returns-then-is_some t c = grind (arith, common_steps)
 
 pub call-returns-in-Some-Function-clause-term : goal.call-returns-in-Some-Function-clause-term
-unfolding call no_call call_draft
+unfolding call no_call call_open
 call-returns-in-Some-Function-clause-term t c = grind (arith, common_steps)
 
-pub call-returns-in-Some-Function-clause-draft : goal.call-returns-in-Some-Function-clause-draft
-unfolding call no_call call_draft
-call-returns-in-Some-Function-clause-draft t c = grind (arith, common_steps)
+pub call-returns-in-Some-Function-clause-open_expr : goal.call-returns-in-Some-Function-clause-open_expr
+unfolding call no_call call_open
+call-returns-in-Some-Function-clause-open_expr t c = grind (arith, common_steps)
 
 pub call-returns-in-Some-Function-clause-faults : goal.call-returns-in-Some-Function-clause-faults
-unfolding call no_call call_draft
+unfolding call no_call call_open
 call-returns-in-Some-Function-clause-faults t c = grind (arith, common_steps)
 
 pub call-returns-in-Some-Type-clause-term : goal.call-returns-in-Some-Type-clause-term
-unfolding call no_call call_draft
+unfolding call no_call call_open
 call-returns-in-Some-Type-clause-term t c = grind (arith, common_steps)
 
-pub call-returns-in-Some-Type-clause-draft : goal.call-returns-in-Some-Type-clause-draft
-unfolding call no_call call_draft
-call-returns-in-Some-Type-clause-draft t c = grind (arith, common_steps)
+pub call-returns-in-Some-Type-clause-open_expr : goal.call-returns-in-Some-Type-clause-open_expr
+unfolding call no_call call_open
+call-returns-in-Some-Type-clause-open_expr t c = grind (arith, common_steps)
 
 pub call-returns-in-Some-Type-clause-faults : goal.call-returns-in-Some-Type-clause-faults
-unfolding call no_call call_draft
+unfolding call no_call call_open
 call-returns-in-Some-Type-clause-faults t c = grind (arith, common_steps)
 
 pub call-returns-in_ok-no_call-in_default-clause-term : goal.call-returns-in_ok-no_call-in_default-clause-term
-unfolding call no_call call_draft
+unfolding call no_call call_open
 call-returns-in_ok-no_call-in_default-clause-term t c = grind (arith, common_steps)
 
-pub call-returns-in_ok-no_call-in_default-clause-draft : goal.call-returns-in_ok-no_call-in_default-clause-draft
-unfolding call no_call call_draft
-call-returns-in_ok-no_call-in_default-clause-draft t c = grind (arith, common_steps)
+pub call-returns-in_ok-no_call-in_default-clause-open_expr : goal.call-returns-in_ok-no_call-in_default-clause-open_expr
+unfolding call no_call call_open
+call-returns-in_ok-no_call-in_default-clause-open_expr t c = grind (arith, common_steps)
 
 pub call-returns-in_ok-no_call-in_default-clause-faults : goal.call-returns-in_ok-no_call-in_default-clause-faults
-unfolding call no_call call_draft
+unfolding call no_call call_open
 call-returns-in_ok-no_call-in_default-clause-faults t c = grind (arith, common_steps)
 
 pub call_of_type-returns-clause-term : goal.call_of_type-returns-clause-term
 unfolding no_call
 call_of_type-returns-clause-term t c = grind (arith, common_steps)
 
-pub call_of_type-returns-clause-draft : goal.call_of_type-returns-clause-draft
+pub call_of_type-returns-clause-open_expr : goal.call_of_type-returns-clause-open_expr
 unfolding no_call
-call_of_type-returns-clause-draft t c = grind (arith, common_steps)
+call_of_type-returns-clause-open_expr t c = grind (arith, common_steps)
 
 pub call_of_type-returns-clause-faults : goal.call_of_type-returns-clause-faults
 unfolding no_call
@@ -557,9 +557,9 @@ pub call_of_type-returns-in_default-clause-term : goal.call_of_type-returns-in_d
 unfolding no_call
 call_of_type-returns-in_default-clause-term t c = grind (arith, common_steps)
 
-pub call_of_type-returns-in_default-clause-draft : goal.call_of_type-returns-in_default-clause-draft
+pub call_of_type-returns-in_default-clause-open_expr : goal.call_of_type-returns-in_default-clause-open_expr
 unfolding no_call
-call_of_type-returns-in_default-clause-draft t c = grind (arith, common_steps)
+call_of_type-returns-in_default-clause-open_expr t c = grind (arith, common_steps)
 
 pub call_of_type-returns-in_default-clause-faults : goal.call_of_type-returns-in_default-clause-faults
 unfolding no_call
@@ -622,9 +622,9 @@ pub function_call-returns-clause-term : goal.function_call-returns-clause-term
 unfolding function_call
 function_call-returns-clause-term t c = grind (arith, common_steps)
 
-pub function_call-returns-clause-draft : goal.function_call-returns-clause-draft
+pub function_call-returns-clause-open_expr : goal.function_call-returns-clause-open_expr
 unfolding function_call
-function_call-returns-clause-draft t c = grind (arith, common_steps)
+function_call-returns-clause-open_expr t c = grind (arith, common_steps)
 
 pub function_call-returns-clause-faults : goal.function_call-returns-clause-faults
 unfolding function_call
@@ -634,9 +634,9 @@ pub function_call-returns-then-is_faulty-clause-term : goal.function_call-return
 unfolding function_call
 function_call-returns-then-is_faulty-clause-term t c = grind (arith, common_steps)
 
-pub function_call-returns-then-is_faulty-clause-draft : goal.function_call-returns-then-is_faulty-clause-draft
+pub function_call-returns-then-is_faulty-clause-open_expr : goal.function_call-returns-then-is_faulty-clause-open_expr
 unfolding function_call
-function_call-returns-then-is_faulty-clause-draft t c = grind (arith, common_steps)
+function_call-returns-then-is_faulty-clause-open_expr t c = grind (arith, common_steps)
 
 pub function_call-returns-then-is_faulty-clause-faults : goal.function_call-returns-then-is_faulty-clause-faults
 unfolding function_call
@@ -645,8 +645,8 @@ function_call-returns-then-is_faulty-clause-faults t c = grind (arith, common_st
 pub more_items-returns-clause-terms : goal.more_items-returns-clause-terms
 more_items-returns-clause-terms t c = grind (arith, common_steps)
 
-pub more_items-returns-clause-drafts : goal.more_items-returns-clause-drafts
-more_items-returns-clause-drafts t c = grind (arith, common_steps)
+pub more_items-returns-clause-open_exprs : goal.more_items-returns-clause-open_exprs
+more_items-returns-clause-open_exprs t c = grind (arith, common_steps)
 
 pub more_items-returns-clause-faults : goal.more_items-returns-clause-faults
 more_items-returns-clause-faults t c = grind (arith, common_steps)
@@ -673,8 +673,8 @@ no_call-returns t c = grind (arith, common_steps)
 pub operands-returns-clause-terms : goal.operands-returns-clause-terms
 operands-returns-clause-terms t c = grind (arith, common_steps)
 
-pub operands-returns-clause-drafts : goal.operands-returns-clause-drafts
-operands-returns-clause-drafts t c = grind (arith, common_steps)
+pub operands-returns-clause-open_exprs : goal.operands-returns-clause-open_exprs
+operands-returns-clause-open_exprs t c = grind (arith, common_steps)
 
 pub operands-returns-clause-faults : goal.operands-returns-clause-faults
 operands-returns-clause-faults t c = grind (arith, common_steps)
@@ -718,29 +718,29 @@ pub subscript-returns-in-Known-clause-faults : goal.subscript-returns-in-Known-c
 unfolding subscript selector
 subscript-returns-in-Known-clause-faults t c = grind (arith, common_steps)
 
-pub subscript-returns-in_ok-behind_a_fault-in-Faulty-clause-kind : goal.subscript-returns-in_ok-behind_a_fault-in-Faulty-clause-kind
+pub subscript-returns-in_ok-after_a_fault-in-Faulty-clause-kind : goal.subscript-returns-in_ok-after_a_fault-in-Faulty-clause-kind
 unfolding subscript selector
-subscript-returns-in_ok-behind_a_fault-in-Faulty-clause-kind t c = grind (arith, common_steps)
+subscript-returns-in_ok-after_a_fault-in-Faulty-clause-kind t c = grind (arith, common_steps)
 
-pub subscript-returns-in_ok-behind_a_fault-in-Faulty-clause-selector : goal.subscript-returns-in_ok-behind_a_fault-in-Faulty-clause-selector
+pub subscript-returns-in_ok-after_a_fault-in-Faulty-clause-selector : goal.subscript-returns-in_ok-after_a_fault-in-Faulty-clause-selector
 unfolding subscript selector
-subscript-returns-in_ok-behind_a_fault-in-Faulty-clause-selector t c = grind (arith, common_steps)
+subscript-returns-in_ok-after_a_fault-in-Faulty-clause-selector t c = grind (arith, common_steps)
 
-pub subscript-returns-in_ok-behind_a_fault-in-Faulty-clause-faults : goal.subscript-returns-in_ok-behind_a_fault-in-Faulty-clause-faults
+pub subscript-returns-in_ok-after_a_fault-in-Faulty-clause-faults : goal.subscript-returns-in_ok-after_a_fault-in-Faulty-clause-faults
 unfolding subscript selector
-subscript-returns-in_ok-behind_a_fault-in-Faulty-clause-faults t c = grind (arith, common_steps)
+subscript-returns-in_ok-after_a_fault-in-Faulty-clause-faults t c = grind (arith, common_steps)
 
-pub subscript-returns-in_ok-behind_a_fault-in-Free-clause-kind : goal.subscript-returns-in_ok-behind_a_fault-in-Free-clause-kind
+pub subscript-returns-in_ok-after_a_fault-in-Untyped-clause-kind : goal.subscript-returns-in_ok-after_a_fault-in-Untyped-clause-kind
 unfolding subscript selector
-subscript-returns-in_ok-behind_a_fault-in-Free-clause-kind t c = grind (arith, common_steps)
+subscript-returns-in_ok-after_a_fault-in-Untyped-clause-kind t c = grind (arith, common_steps)
 
-pub subscript-returns-in_ok-behind_a_fault-in-Free-clause-selector : goal.subscript-returns-in_ok-behind_a_fault-in-Free-clause-selector
+pub subscript-returns-in_ok-after_a_fault-in-Untyped-clause-selector : goal.subscript-returns-in_ok-after_a_fault-in-Untyped-clause-selector
 unfolding subscript selector
-subscript-returns-in_ok-behind_a_fault-in-Free-clause-selector t c = grind (arith, common_steps)
+subscript-returns-in_ok-after_a_fault-in-Untyped-clause-selector t c = grind (arith, common_steps)
 
-pub subscript-returns-in_ok-behind_a_fault-in-Free-clause-faults : goal.subscript-returns-in_ok-behind_a_fault-in-Free-clause-faults
+pub subscript-returns-in_ok-after_a_fault-in-Untyped-clause-faults : goal.subscript-returns-in_ok-after_a_fault-in-Untyped-clause-faults
 unfolding subscript selector
-subscript-returns-in_ok-behind_a_fault-in-Free-clause-faults t c = grind (arith, common_steps)
+subscript-returns-in_ok-after_a_fault-in-Untyped-clause-faults t c = grind (arith, common_steps)
 
 pub subscripts-returns-clause-kind : goal.subscripts-returns-clause-kind
 subscripts-returns-clause-kind t c = grind (arith, common_steps, front_rules)
@@ -755,27 +755,27 @@ pub subscripts-loop-expr-preserved : goal.subscripts-loop-expr-preserved
 subscripts-loop-expr-preserved t c = grind (arith, common_steps, front_rules)
 
 pub whole_named_element-returns-clause-term : goal.whole_named_element-returns-clause-term
-unfolding whole_element whole_element_draft
+unfolding whole_element whole_element_open
 whole_named_element-returns-clause-term t c = grind (arith, common_steps)
 
-pub whole_named_element-returns-clause-draft : goal.whole_named_element-returns-clause-draft
-unfolding whole_element whole_element_draft
-whole_named_element-returns-clause-draft t c = grind (arith, common_steps)
+pub whole_named_element-returns-clause-open_expr : goal.whole_named_element-returns-clause-open_expr
+unfolding whole_element whole_element_open
+whole_named_element-returns-clause-open_expr t c = grind (arith, common_steps)
 
 pub whole_named_element-returns-clause-faults : goal.whole_named_element-returns-clause-faults
-unfolding whole_element whole_element_draft
+unfolding whole_element whole_element_open
 whole_named_element-returns-clause-faults t c = grind (arith, common_steps)
 
 pub whole_named_element-returns-in_default-clause-term : goal.whole_named_element-returns-in_default-clause-term
-unfolding whole_element whole_element_draft
+unfolding whole_element whole_element_open
 whole_named_element-returns-in_default-clause-term t c = grind (arith, common_steps)
 
-pub whole_named_element-returns-in_default-clause-draft : goal.whole_named_element-returns-in_default-clause-draft
-unfolding whole_element whole_element_draft
-whole_named_element-returns-in_default-clause-draft t c = grind (arith, common_steps)
+pub whole_named_element-returns-in_default-clause-open_expr : goal.whole_named_element-returns-in_default-clause-open_expr
+unfolding whole_element whole_element_open
+whole_named_element-returns-in_default-clause-open_expr t c = grind (arith, common_steps)
 
 pub whole_named_element-returns-in_default-clause-faults : goal.whole_named_element-returns-in_default-clause-faults
-unfolding whole_element whole_element_draft
+unfolding whole_element whole_element_open
 whole_named_element-returns-in_default-clause-faults t c = grind (arith, common_steps)
 
 pub composed-returns-in_ok-second-in-Pair-clause-faults : goal.composed-returns-in_ok-second-in-Pair-clause-faults
@@ -784,11 +784,11 @@ composed-returns-in_ok-second-in-Pair-clause-faults t c =
 
 pub composed-returns-in_ok-reading-in-Converted-clause-faults : goal.composed-returns-in_ok-reading-in-Converted-clause-faults
 composed-returns-in_ok-reading-in-Converted-clause-faults t c =
-    step.conversion_faults c.converted.result _ _ _ _ _ _ _ _ _ _ _ _ _ _ (c.in-Converted.is ∙ ap (λ z. xv.Converted z c.in-Converted.word c.in-Converted.behind) (sym c.as_slice-in-Converted.ensures) ∙ ap (λ z. xv.Converted c.as_slice-in-Converted.result.now z c.in-Converted.behind) (sym c.get-in-Converted.ensures) ∙ ap (λ z. xv.Converted c.as_slice-in-Converted.result.now c.get-in-Converted.result.now z) (sym c.get-in-Converted-2.ensures)) c.in_ok-of-in-Converted.ensures.faults c.in_ok-of-in-Converted.ensures.found c.new.ensures c.in_ok-to-in-Converted.ensures.faults c.in_ok-to-in-Converted.ensures.found c.in_ok-reading-in-Converted.ensures.faults c.in_ok-reading-in-Converted.ensures.term c.converted.ensures.faults
+    step.conversion_faults c.converted.result _ _ _ _ _ _ _ _ _ _ _ _ _ _ (c.in-Converted.is ∙ ap (λ z. xv.Converted z c.in-Converted.word c.in-Converted.following) (sym c.as_slice-in-Converted.ensures) ∙ ap (λ z. xv.Converted c.as_slice-in-Converted.result.now z c.in-Converted.following) (sym c.get-in-Converted.ensures) ∙ ap (λ z. xv.Converted c.as_slice-in-Converted.result.now c.get-in-Converted.result.now z) (sym c.get-in-Converted-2.ensures)) c.in_ok-of-in-Converted.ensures.faults c.in_ok-of-in-Converted.ensures.found c.new.ensures c.in_ok-to-in-Converted.ensures.faults c.in_ok-to-in-Converted.ensures.found c.in_ok-reading-in-Converted.ensures.faults c.in_ok-reading-in-Converted.ensures.term c.converted.ensures.faults
 
 pub composed-returns-in_ok-reading-in-ArrayConverted-clause-faults : goal.composed-returns-in_ok-reading-in-ArrayConverted-clause-faults
 composed-returns-in_ok-reading-in-ArrayConverted-clause-faults t c =
-    step.array_conversion_faults c.converted-in-ArrayConverted.result _ _ _ _ _ _ _ _ _ _ _ _ _ _ _ _ _ (c.in-ArrayConverted.is ∙ ap (λ z. xv.ArrayConverted z c.in-ArrayConverted.more c.in-ArrayConverted.name c.in-ArrayConverted.behind) (sym c.get-in-ArrayConverted.ensures) ∙ ap (λ z. xv.ArrayConverted c.get-in-ArrayConverted.result.now z c.in-ArrayConverted.name c.in-ArrayConverted.behind) (sym c.as_slice-in-ArrayConverted.ensures) ∙ ap (λ z. xv.ArrayConverted c.get-in-ArrayConverted.result.now c.as_slice-in-ArrayConverted.result.now c.in-ArrayConverted.name z) (sym c.get-in-ArrayConverted-2.ensures)) c.in_ok-of-in-ArrayConverted.ensures.faults c.in_ok-of-in-ArrayConverted.ensures.found c.in_ok-first-in-ArrayConverted.ensures.faults c.in_ok-first-in-ArrayConverted.ensures.extent c.in_ok-extents-in-ArrayConverted.ensures c.in_ok-to-in-ArrayConverted.ensures.faults c.in_ok-to-in-ArrayConverted.ensures.found c.in_ok-reading-in-ArrayConverted.ensures.faults c.in_ok-reading-in-ArrayConverted.ensures.term c.converted-in-ArrayConverted.ensures.faults
+    step.array_conversion_faults c.converted-in-ArrayConverted.result _ _ _ _ _ _ _ _ _ _ _ _ _ _ _ _ _ (c.in-ArrayConverted.is ∙ ap (λ z. xv.ArrayConverted z c.in-ArrayConverted.more c.in-ArrayConverted.name c.in-ArrayConverted.following) (sym c.get-in-ArrayConverted.ensures) ∙ ap (λ z. xv.ArrayConverted c.get-in-ArrayConverted.result.now z c.in-ArrayConverted.name c.in-ArrayConverted.following) (sym c.as_slice-in-ArrayConverted.ensures) ∙ ap (λ z. xv.ArrayConverted c.get-in-ArrayConverted.result.now c.as_slice-in-ArrayConverted.result.now c.in-ArrayConverted.name z) (sym c.get-in-ArrayConverted-2.ensures)) c.in_ok-of-in-ArrayConverted.ensures.faults c.in_ok-of-in-ArrayConverted.ensures.found c.in_ok-first-in-ArrayConverted.ensures.faults c.in_ok-first-in-ArrayConverted.ensures.extent c.in_ok-extents-in-ArrayConverted.ensures c.in_ok-to-in-ArrayConverted.ensures.faults c.in_ok-to-in-ArrayConverted.ensures.found c.in_ok-reading-in-ArrayConverted.ensures.faults c.in_ok-reading-in-ArrayConverted.ensures.term c.converted-in-ArrayConverted.ensures.faults
 
 pub composed-returns-in_ok-operands-in-Run-clause-faults : goal.composed-returns-in_ok-operands-in-Run-clause-faults
 composed-returns-in_ok-operands-in-Run-clause-faults t c =
@@ -807,10 +807,10 @@ segment_reading-returns-in_ok-tree-in-Segment-clause-tree t c =
     step.segment_tree_made _ _ _ _ _ _ _ _ _ _ _ _ _ (c.in-Segment.is ∙ ap (λ z. ev.Segment z c.in-Segment.part c.in-Segment.exprs) (sym c.get.ensures) ∙ ap (λ z. ev.Segment c.get.result.now z c.in-Segment.exprs) (sym c.get-in-Segment.ensures) ∙ ap (λ z. ev.Segment c.get.result.now c.get-in-Segment.result.now z) (sym c.as_slice-in-Segment.ensures)) c.in_ok-inner-in-Segment.ensures.kind c.in_ok-inner-in-Segment.ensures.tree c.in_ok-segment-in-Segment.ensures.selector c.in_ok-segment-in-Segment.ensures.kind (ap (λ z. Some z) c.new.ensures) c.in_ok-kind-in-Segment.ensures.kind c.in_ok-kind-in-Segment.ensures.selectors c.in_ok-tree-in-Segment.ensures
 
 pub segment_reading-returns-in-Named-clause-kind : goal.segment_reading-returns-in-Named-clause-kind
-segment_reading-returns-in-Named-clause-kind t c = grind (arith, common_steps, element_named_told)
+segment_reading-returns-in-Named-clause-kind t c = grind (arith, common_steps, element_named_reported)
 
 pub segment_reading-returns-in-Named-clause-faults : goal.segment_reading-returns-in-Named-clause-faults
-segment_reading-returns-in-Named-clause-faults t c = grind (arith, common_steps, element_named_told)
+segment_reading-returns-in-Named-clause-faults t c = grind (arith, common_steps, element_named_reported)
 
 pub segment_reading-returns-in-Named-clause-tree : goal.segment_reading-returns-in-Named-clause-tree
 segment_reading-returns-in-Named-clause-tree t c = grind (arith, common_steps, element_named_tree)
@@ -818,23 +818,23 @@ segment_reading-returns-in-Named-clause-tree t c = grind (arith, common_steps, e
 pub composed-returns-in_ok-operands-in-Run-clause-term : goal.composed-returns-in_ok-operands-in-Run-clause-term
 composed-returns-in_ok-operands-in-Run-clause-term t c = grind (arith, common_steps, expr_run_said)
 
-pub composed-returns-in_ok-operands-in-Run-clause-draft : goal.composed-returns-in_ok-operands-in-Run-clause-draft
-composed-returns-in_ok-operands-in-Run-clause-draft t c = grind (arith, common_steps, expr_run_draft)
+pub composed-returns-in_ok-operands-in-Run-clause-open_expr : goal.composed-returns-in_ok-operands-in-Run-clause-open_expr
+composed-returns-in_ok-operands-in-Run-clause-open_expr t c = grind (arith, common_steps, expr_run_open)
 
 pub composed-returns-in_ok-second-in-Pair-clause-term : goal.composed-returns-in_ok-second-in-Pair-clause-term
 composed-returns-in_ok-second-in-Pair-clause-term t c = grind (arith, common_steps, expr_pair_said)
 
-pub composed-returns-in_ok-second-in-Pair-clause-draft : goal.composed-returns-in_ok-second-in-Pair-clause-draft
-composed-returns-in_ok-second-in-Pair-clause-draft t c = grind (arith, common_steps, expr_pair_draft)
+pub composed-returns-in_ok-second-in-Pair-clause-open_expr : goal.composed-returns-in_ok-second-in-Pair-clause-open_expr
+composed-returns-in_ok-second-in-Pair-clause-open_expr t c = grind (arith, common_steps, expr_pair_open)
 
 pub composed-returns-in_ok-reading-in-Converted-clause-term : goal.composed-returns-in_ok-reading-in-Converted-clause-term
 composed-returns-in_ok-reading-in-Converted-clause-term t c = grind (arith, common_steps, expr_converted_said)
 
-pub composed-returns-in_ok-reading-in-Converted-clause-draft : goal.composed-returns-in_ok-reading-in-Converted-clause-draft
-composed-returns-in_ok-reading-in-Converted-clause-draft t c = grind (arith, common_steps, expr_converted_draft)
+pub composed-returns-in_ok-reading-in-Converted-clause-open_expr : goal.composed-returns-in_ok-reading-in-Converted-clause-open_expr
+composed-returns-in_ok-reading-in-Converted-clause-open_expr t c = grind (arith, common_steps, expr_converted_open)
 
 pub composed-returns-in_ok-reading-in-ArrayConverted-clause-term : goal.composed-returns-in_ok-reading-in-ArrayConverted-clause-term
 composed-returns-in_ok-reading-in-ArrayConverted-clause-term t c = grind (arith, common_steps, expr_array_converted_said)
 
-pub composed-returns-in_ok-reading-in-ArrayConverted-clause-draft : goal.composed-returns-in_ok-reading-in-ArrayConverted-clause-draft
-composed-returns-in_ok-reading-in-ArrayConverted-clause-draft t c = grind (arith, common_steps, expr_array_converted_draft)
+pub composed-returns-in_ok-reading-in-ArrayConverted-clause-open_expr : goal.composed-returns-in_ok-reading-in-ArrayConverted-clause-open_expr
+composed-returns-in_ok-reading-in-ArrayConverted-clause-open_expr t c = grind (arith, common_steps, expr_array_converted_open)

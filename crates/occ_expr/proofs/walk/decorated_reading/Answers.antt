@@ -2,8 +2,8 @@ use Rattle.std.proofs.Common.{arith}
 use Rattle.std.proofs.lemmas.Grind.{common_steps}
 use Rattle.occ_expr.proofs.walk.decorated_reading.Goals as goal
 
-pub returns-clause-draft : goal.returns-clause-draft
-returns-clause-draft c = grind (arith, common_steps)
+pub returns-clause-open_expr : goal.returns-clause-open_expr
+returns-clause-open_expr c = grind (arith, common_steps)
 
 pub returns-clause-faults : goal.returns-clause-faults
 returns-clause-faults c = grind (arith, common_steps)

@@ -1,11 +1,11 @@
 use Rattle.std.proofs.Common.{arith}
 use Rattle.std.proofs.lemmas.Grind.{common_steps}
-use Rattle.occ_expr.specs.Literals.{literal}
+use Rattle.occ_expr_operations.specs.Literals.{literal}
 use Rattle.occ_expr.proofs.walk.literal_more.Goals as goal
 
-pub returns-in-Decimal-clause-drafts : goal.returns-in-Decimal-clause-drafts
+pub returns-in-Decimal-clause-open_exprs : goal.returns-in-Decimal-clause-open_exprs
 unfolding literal
-returns-in-Decimal-clause-drafts c = grind (arith, common_steps)
+returns-in-Decimal-clause-open_exprs c = grind (arith, common_steps)
 
 pub returns-in-Decimal-clause-faults : goal.returns-in-Decimal-clause-faults
 unfolding literal

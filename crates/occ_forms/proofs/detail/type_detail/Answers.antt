@@ -1,5 +1,5 @@
 use Rattle.std.proofs.Common.{sym, ◌∷◌}
-use Rattle.occ_expression_forms.specs.declared.tree.DataBase.TheVariants as da
+use Rattle.occ_forms_expressions.specs.declared.tree.DataBase.TheVariants as da
 use Rattle.occ_forms.specs.declared.tree.Detail.TheVariants as de
 use Rattle.occ_forms.proofs.Details.{array_right, counted_right, typed_right}
 use Rattle.occ_forms.proofs.detail.type_detail.Goals as goal

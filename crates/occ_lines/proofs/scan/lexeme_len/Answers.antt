@@ -11,10 +11,10 @@ pub returns-then-starts_number : goal.returns-then-starts_number
 returns-then-starts_number c = rw c.number_len.ensures (number_longest _ (sym c.starts_number.ensures ∙ c.if-starts_number.true))
 
 pub overflow_add-result : goal.overflow_add-result
-overflow_add-result c = omega (arith, c.hexadecimal_len.ensures, prefix_len-le-length is_ascii_hexdigit c.behind_first.result.now, ap length c.behind_first.ensures, length-drop 1 c.args.text.now)
+overflow_add-result c = omega (arith, c.hexadecimal_len.ensures, prefix_len-le-length is_ascii_hexdigit c.after_first.result.now, ap length c.after_first.ensures, length-drop 1 c.args.text.now)
 
 pub returns-then-starts_hexadecimal : goal.returns-then-starts_hexadecimal
-returns-then-starts_hexadecimal c = rw (c.hexadecimal_len.ensures, c.behind_first.ensures) (hexadecimal_longest _ (sym c.starts_hexadecimal.ensures ∙ c.if-starts_hexadecimal.true))
+returns-then-starts_hexadecimal c = rw (c.hexadecimal_len.ensures, c.after_first.ensures) (hexadecimal_longest _ (sym c.starts_hexadecimal.ensures ∙ c.if-starts_hexadecimal.true))
 
 pub returns-else-starts_hexadecimal : goal.returns-else-starts_hexadecimal
 returns-else-starts_hexadecimal c =

@@ -3,7 +3,7 @@ use Rattle.std.specs.Option.{option_copied}
 use Rattle.occ_forms.specs.declared.source.SourceLine.{SourceLine}
 use Rattle.occ_project.specs.declared.making.Made.{Made}
 use Rattle.occ_project.specs.Entries.{entries}
-use Rattle.occ_project.specs.Expansion.{first_places, unit_entries}
+use Rattle.occ_project.specs.Expansion.{first_indices, unit_entries}
 use Rattle.occ_project.specs.inside.Making.{after}
 use Rattle.occ_project.proofs.Expansions.{expansion_is, shown, started}
 use Rattle.occ_project.proofs.expansion.expanded.Goals as goal
@@ -14,7 +14,7 @@ returns c =
     let reads = c.args.files.now.reads.now in
     let unit = c.args.unit in
     let made = c.match-open_lines.made in
-    let names = c.in_ok-reads.ensures ∙ ap first_places c.as_slice.ensures in
+    let names = c.in_ok-reads.ensures ∙ ap first_indices c.as_slice.ensures in
     let shows : c.of.result ≡ shown made = c.of.ensures ∙ ap (λ (rs : List (List ℕ)). record { lines = made.lines; reads = rs; faults = made.faults }) names in
     let begun : Made = record { lines = c.new-made.result.lines; faults = c.new-made.result.faults; names = c.push.new.self; room = c.new-made.result.room; is_over = c.new-made.result.is_over } in
     let n = c.new-made.ensures in

@@ -1,8 +1,8 @@
-use Rattle.occ_server.proofs.Offs.{only_these, receipts_rise, told_is}
+use Rattle.occ_server.proofs.Offs.{only_these, receipts_rise, reported_is}
 use Rattle.occ_server.proofs.laws.receipts_law.Goals as goal
 
 pub returns-clause-same : goal.returns-clause-same
-returns-clause-same c = told_is
+returns-clause-same c = reported_is
 
 pub returns-clause-only : goal.returns-clause-only
 returns-clause-only c = only_these

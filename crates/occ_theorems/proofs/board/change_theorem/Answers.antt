@@ -2,7 +2,7 @@ use Rattle.std.proofs.Common.{◌≡◌, ℕ, List, OnOk, Result, Ok, Err, ap, �
 use Rattle.occ_board.specs.Done.{done}
 use Rattle.occ_board.specs.Machine.{Event, State, after, files_of}
 use Rattle.occ_board.specs.declared.entry.Edit.TheVariants as an_edit
-use Rattle.occ_report.specs.Checks.{input}
+use Rattle.occ_check.specs.Checks.{input}
 use Rattle.occ_theorems.specs.Edits.{LeavesApart}
 use Rattle.occ_theorems.proofs.board.change_theorem.Goals as goal
 
@@ -14,7 +14,7 @@ on_ok (Err e) f h = tt
 left_apart : (old new later : State) (name : List ℕ) → new ≡ later → LeavesApart old later name → LeavesApart old new name
 left_apart old new later name e h u apart = (
   ap (λ (s : State). input (files_of s) u) e ∙ (h u apart).0,
-  ap (λ (s : State). done (files_of s) old.kept u) e ∙ (h u apart).1,
+  ap (λ (s : State). done (files_of s) old.cached u) e ∙ (h u apart).1,
 )
 
 pub returns-clause-apart : goal.returns-clause-apart

@@ -1,8 +1,8 @@
 use Rattle.std.proofs.Common.{None, []}
 use Rattle.occ_board.proofs.Edited.{same_done_later, same_input_later}
 use Rattle.occ_theorems.proofs.machine.edit_apart_law.Goals as goal
-use Rattle.occ_report.proofs.Local.{is_local}
-use Rattle.occ_report.specs.Checks.{check_step, checked}
+use Rattle.occ_check.proofs.Local.{is_local}
+use Rattle.occ_check.specs.Checks.{check_step, checked}
 
 pub returns-clause-input : goal.returns-clause-input
 unfolding checked

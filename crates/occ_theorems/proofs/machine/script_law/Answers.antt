@@ -1,5 +1,5 @@
-use Rattle.occ_commands.specs.Lines.{whole_lines}
-use Rattle.occ_commands.specs.Script.{is_over}
+use Rattle.occheck_commands.specs.Lines.{whole_lines}
+use Rattle.occheck_commands.specs.Script.{is_over}
 use Rattle.occ_theorems.proofs.Says.{found, only}
 use Rattle.occ_theorems.proofs.machine.script_law.Goals as goal
 

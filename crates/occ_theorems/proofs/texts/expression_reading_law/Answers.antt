@@ -1,6 +1,6 @@
-use Rattle.occ_expression_forms.proofs.TypeEnds.{one_counting}
+use Rattle.occ_forms_expressions.proofs.TypeEnds.{one_counting}
 use Rattle.occ_theorems.proofs.Readings.{one_builtin}
-use Rattle.occ_expression_forms.proofs.UniqueExprs.{one_data_form, one_dimension_of, one_element, one_expr, one_operand, one_type}
+use Rattle.occ_forms_expressions.proofs.UniqueExprs.{one_data_form, one_dimension_of, one_element, one_expr, one_operand, one_type}
 use Rattle.occ_theorems.proofs.texts.expression_reading_law.Goals as goal
 
 pub returns-clause-expressions : goal.returns-clause-expressions

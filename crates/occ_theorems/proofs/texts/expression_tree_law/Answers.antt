@@ -1,5 +1,5 @@
 use Rattle.std.proofs.Common.{refl, []}
-use Rattle.occ_expression_forms.proofs.UniqueExprs.{one_data_form, one_element, one_expr, one_type}
+use Rattle.occ_forms_expressions.proofs.UniqueExprs.{one_data_form, one_element, one_expr, one_type}
 use Rattle.occ_theorems.proofs.texts.expression_tree_law.Goals as goal
 
 pub returns-clause-expressions : goal.returns-clause-expressions

@@ -1,5 +1,5 @@
-use Rattle.occ_expression_forms.proofs.Classes.{plain_ends}
-use Rattle.occ_expression_forms.proofs.TypeEnds.{array_ends}
+use Rattle.occ_forms_expressions.proofs.Classes.{plain_ends}
+use Rattle.occ_forms_expressions.proofs.TypeEnds.{array_ends}
 use Rattle.occ_theorems.proofs.texts.extreme_end_law.Goals as goal
 
 pub returns-clause-plain : goal.returns-clause-plain

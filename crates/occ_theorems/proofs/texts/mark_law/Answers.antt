@@ -1,6 +1,6 @@
-use Rattle.occ_expression_forms.specs.Spelling.{dimension_then, element_then, expr_then}
+use Rattle.occ_forms_expressions.specs.Spelling.{dimension_then, element_then, expr_then}
 use Rattle.occ_theorems.proofs.Marks.{builtin_mark, data_form_mark, dimension_mark, many_mark}
-use Rattle.occ_expression_forms.proofs.Marks.{element_mark, expr_mark, type_form_mark}
+use Rattle.occ_forms_expressions.proofs.Marks.{element_mark, expr_mark, type_form_mark}
 use Rattle.occ_theorems.proofs.texts.mark_law.Goals as goal
 
 pub returns-clause-expressions : goal.returns-clause-expressions

@@ -1,4 +1,4 @@
-use Rattle.occ_specification_forms.proofs.OneTree.{one_tree}
+use Rattle.occ_forms.proofs.OneTree.{one_tree}
 use Rattle.occ_theorems.proofs.texts.specification_tree_law.Goals as goal
 
 pub returns : goal.returns

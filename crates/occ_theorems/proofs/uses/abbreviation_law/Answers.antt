@@ -1,5 +1,5 @@
-use Rattle.occ_theorems.proofs.Telling.{line_law as told}
+use Rattle.occ_theorems.proofs.Reporting.{line_law as reported}
 use Rattle.occ_theorems.proofs.uses.abbreviation_law.Goals as goal
 
 pub returns : goal.returns
-returns c = told
+returns c = reported

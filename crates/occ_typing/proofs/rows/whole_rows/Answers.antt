@@ -1,12 +1,12 @@
 use Rattle.std.proofs.Common.{◌≡◌, ◌∙◌, false, true, None, ap, sym, subst}
-use Rattle.occ_expr.specs.Literals.{byte}
-use Rattle.occ_operands.specs.Settling.{int}
-use Rattle.occ_operands.specs.declared.kind.Known.{Known}
-use Rattle.occ_typed.specs.declared.expr.Selector.TheOpen.{TypedExpr-F}
-use Rattle.occ_typed.specs.declared.expr.Selector.TheViews.{out-roll-TypedExpr}
-use Rattle.occ_typed.specs.declared.expr.TypedExpr.{TypedExpr, out-TypedExpr}
-use Rattle.occ_typed.specs.declared.expr.TypedExpr.TheVariants as typed
-use Rattle.occ_typed.proofs.Knowing.{known_literal}
+use Rattle.occ_expr_operations.specs.Literals.{byte}
+use Rattle.occ_typing_operands.specs.Settling.{int}
+use Rattle.occ_typing_operands.specs.declared.kind.Known.{Known}
+use Rattle.occ_typing_rules.specs.declared.expr.Selector.TheOpen.{TypedExpr-F}
+use Rattle.occ_typing_rules.specs.declared.expr.Selector.TheViews.{out-roll-TypedExpr}
+use Rattle.occ_typing_rules.specs.declared.expr.TypedExpr.{TypedExpr, out-TypedExpr}
+use Rattle.occ_typing_rules.specs.declared.expr.TypedExpr.TheVariants as typed
+use Rattle.occ_typing_rules.proofs.Knowing.{known_literal}
 use Rattle.occ_types.specs.declared.types.OccType.TheVariants as t
 use Rattle.occ_types.specs.declared.value.Primitive.TheVariants as p
 use Rattle.occ_types.proofs.Unknowns.{unknown_primitive, unknown_unknown}

@@ -1,5 +1,5 @@
 use Rattle.std.proofs.Common.{◌≡◌, ◌++◌, ◌≤◌, drop, length}
-use Rattle.occ_names.specs.Visible.{back_to}
+use Rattle.occ_scope.specs.Visible.{back_to}
 use Rattle.occ_tree.specs.Forest.{forest_of}
 use Rattle.occ_typing.specs.TypedLines.{typed_lines}
 use Rattle.occ_typing.specs.Units.{lines}

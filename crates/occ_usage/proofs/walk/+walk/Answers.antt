@@ -1,11 +1,11 @@
 use Rattle.std.proofs.Common.{rules, ◌≡◌, ◌∙◌, ◌-◌, ◌++◌, ◌∷◌, [], refl, length}
-use Rattle.occ_usage.proofs.Sizes.{sizes_step, told_step, uses_step}
+use Rattle.occ_usage.proofs.Sizes.{sizes_step, reported_step, uses_step}
 use Rattle.occ_usage.proofs.Trees.{from_line}
-use Rattle.occ_usage.proofs.Walking.{end_behind, end_stands, step_items, step_joined, step_told}
+use Rattle.occ_usage.proofs.Walking.{end_after, end_stands, step_items, step_joined, step_reported}
 use Rattle.occ_usage.specs.AbbreviationRule.{abbreviation_at}
-use Rattle.occ_clashes.specs.Components.{joined}
+use Rattle.occ_usage_conflicts.specs.Components.{joined}
 use Rattle.occ_usage.specs.Lines.{ends_item, items_of, with_index}
-use Rattle.occ_usage.specs.Walk.{told_of}
+use Rattle.occ_usage.specs.Walk.{reported_of}
 use Rattle.occ_usage.specs.ParallelRule.{parallel_at}
 use Rattle.occ_usage.specs.Trees.{head_of, trees_of, under}
 use Rattle.occ_usage.proofs.walk.+walk.Goals as goal
@@ -19,13 +19,13 @@ items-loop-one-preserved t c =
     let round = c.loop-one.invariant.1 in
     let grown = c.in_ok-line.ensures.env in
     let cut = c.in_ok-end_item.ensures.env in
-    let behind = end_behind _ _ _ _ _ h u within round grown cut in
+    let following = end_after _ _ _ _ _ h u within round grown cut in
     let stands = end_stands (ends_item h.adds) _ _ _ _ _ _ within round grown cut in (
       stands.0,
       stands.1,
       step_items h u _ _ _ _ _ _ _ _ _ _ _ _ _ within round split c.loop-one.invariant.2 grown c.in_ok-line.ensures.uses cut c.in_ok-end_item.ensures.own c.in_ok-end_item.ensures.found,
-      step_told parallel_at h u _ _ _ _ _ _ _ _ split c.loop-one.invariant.3 c.in_ok-line.ensures.parallel behind,
-      step_told abbreviation_at h u _ _ _ _ _ _ _ _ split c.loop-one.invariant.4 c.in_ok-line.ensures.abbreviations behind,
+      step_reported parallel_at h u _ _ _ _ _ _ _ _ split c.loop-one.invariant.3 c.in_ok-line.ensures.parallel following,
+      step_reported abbreviation_at h u _ _ _ _ _ _ _ _ split c.loop-one.invariant.4 c.in_ok-line.ensures.abbreviations following,
     )
 
 pub add_items-loop-one-preserved : goal.add_items-loop-one-preserved
@@ -37,13 +37,13 @@ add_items-loop-one-preserved t c =
     let round = c.loop-one.invariant.1 in
     let grown = c.in_ok-line.ensures.env in
     let cut = c.end_scope.ensures in
-    let behind = end_behind _ _ _ _ _ h u within round grown cut in
+    let following = end_after _ _ _ _ _ h u within round grown cut in
     let stands = end_stands (ends_item h.adds) _ _ _ _ _ _ within round grown cut in (
       stands.0,
       stands.1,
       step_joined h u _ _ _ _ _ _ _ _ _ _ within round split c.loop-one.invariant.2 grown c.in_ok-line.ensures.uses cut,
-      step_told parallel_at h u _ _ _ _ _ _ _ _ split c.loop-one.invariant.3 c.in_ok-line.ensures.parallel behind,
-      step_told abbreviation_at h u _ _ _ _ _ _ _ _ split c.loop-one.invariant.4 c.in_ok-line.ensures.abbreviations behind,
+      step_reported parallel_at h u _ _ _ _ _ _ _ _ split c.loop-one.invariant.3 c.in_ok-line.ensures.parallel following,
+      step_reported abbreviation_at h u _ _ _ _ _ _ _ _ split c.loop-one.invariant.4 c.in_ok-line.ensures.abbreviations following,
     )
 
 pub add_rounds-loop-index-preserved : goal.add_rounds-loop-index-preserved
@@ -53,12 +53,12 @@ add_rounds-loop-index-preserved t c =
     let base = c.args.known.base in
     let lines = trees_of c.args.lines.now in
     let used : c.add_round.new.uses ≡ c.loop-index.uses ++ joined (items_of (trees_of c.args.lines.now) (with_index c.loop-index.env c.args.known.base c.loop-index.index)) = search rules in
-    let parallel : c.add_round.new.told.parallel ≡ c.loop-index.told.parallel ++ told_of parallel_at (trees_of c.args.lines.now) (with_index c.loop-index.env c.args.known.base c.loop-index.index) = search rules in
-    let abbreviations : c.add_round.new.told.abbreviations ≡ c.loop-index.told.abbreviations ++ told_of abbreviation_at (trees_of c.args.lines.now) (with_index c.loop-index.env c.args.known.base c.loop-index.index) = search rules in (
+    let parallel : c.add_round.new.reported.parallel ≡ c.loop-index.reported.parallel ++ reported_of parallel_at (trees_of c.args.lines.now) (with_index c.loop-index.env c.args.known.base c.loop-index.index) = search rules in
+    let abbreviations : c.add_round.new.reported.abbreviations ≡ c.loop-index.reported.abbreviations ++ reported_of abbreviation_at (trees_of c.args.lines.now) (with_index c.loop-index.env c.args.known.base c.loop-index.index) = search rules in (
       c.in_ok-add_round.ensures.env ∙ same,
       uses_step i base _ _ lines _ _ _ same c.loop-index.invariant.1 used,
-      told_step parallel_at i base _ _ lines _ _ _ same c.loop-index.invariant.2 parallel,
-      told_step abbreviation_at i base _ _ lines _ _ _ same c.loop-index.invariant.3 abbreviations,
+      reported_step parallel_at i base _ _ lines _ _ _ same c.loop-index.invariant.2 parallel,
+      reported_step abbreviation_at i base _ _ lines _ _ _ same c.loop-index.invariant.3 abbreviations,
     )
 
 pub rounds-loop-i-preserved : goal.rounds-loop-i-preserved
@@ -68,12 +68,12 @@ rounds-loop-i-preserved t c =
     let base = c.args.known.base in
     let lines = trees_of c.args.lines.now in
     let used : c.add_round.new.uses ≡ c.loop-i.uses ++ joined (items_of (trees_of c.args.lines.now) (with_index c.loop-i.env c.args.known.base c.loop-i.i)) = search rules in
-    let parallel : c.add_round.new.told.parallel ≡ c.loop-i.told.parallel ++ told_of parallel_at (trees_of c.args.lines.now) (with_index c.loop-i.env c.args.known.base c.loop-i.i) = search rules in
-    let abbreviations : c.add_round.new.told.abbreviations ≡ c.loop-i.told.abbreviations ++ told_of abbreviation_at (trees_of c.args.lines.now) (with_index c.loop-i.env c.args.known.base c.loop-i.i) = search rules in
+    let parallel : c.add_round.new.reported.parallel ≡ c.loop-i.reported.parallel ++ reported_of parallel_at (trees_of c.args.lines.now) (with_index c.loop-i.env c.args.known.base c.loop-i.i) = search rules in
+    let abbreviations : c.add_round.new.reported.abbreviations ≡ c.loop-i.reported.abbreviations ++ reported_of abbreviation_at (trees_of c.args.lines.now) (with_index c.loop-i.env c.args.known.base c.loop-i.i) = search rules in
     let last : c.push.new.self.items ≡ c.loop-i.sizes.items ++ (length c.add_round.new.uses - length c.loop-i.uses) ∷ [] = search rules in (
       c.in_ok-add_round.ensures.env ∙ same,
       sizes_step i base _ _ lines _ _ _ _ _ same c.loop-i.invariant.1 used refl last,
       uses_step i base _ _ lines [] _ _ same c.loop-i.invariant.2 used,
-      told_step parallel_at i base _ _ lines _ _ _ same c.loop-i.invariant.3 parallel,
-      told_step abbreviation_at i base _ _ lines _ _ _ same c.loop-i.invariant.4 abbreviations,
+      reported_step parallel_at i base _ _ lines _ _ _ same c.loop-i.invariant.3 parallel,
+      reported_step abbreviation_at i base _ _ lines _ _ _ same c.loop-i.invariant.4 abbreviations,
     )

@@ -1,9 +1,9 @@
 use Rattle.std.proofs.Common.{◌≡◌, ◌≤◌, ◌++◌, [], drop, length, take}
-use Rattle.occ_clashes.specs.Components.{joined, parted}
+use Rattle.occ_usage_conflicts.specs.Components.{joined, parted}
 use Rattle.occ_usage.specs.Lines.{items, items_of, rounds_to}
 use Rattle.occ_usage.specs.AbbreviationRule.{abbreviation_at}
 use Rattle.occ_usage.specs.ParallelRule.{parallel_at}
-use Rattle.occ_usage.specs.Walk.{rounds_told, told, told_of}
+use Rattle.occ_usage.specs.Walk.{rounds_reported, reported, reported_of}
 use Rattle.occ_usage.specs.Trees.{trees_of}
 use Rattle.occ_usage.proofs.Sizes.{total}
 use Rattle.occ_usage.proofs.walk.+walk.Given as goal
@@ -13,28 +13,28 @@ invariant-rounds-loop-i l =
     (l.env ≡ l.initial.env)
     × ((parted l.sizes.items l.uses ≡ rounds_to l.i l.known.base l.initial.env (items_of (trees_of l.lines))) × (total l.sizes.items ≡ length l.uses))
     × (l.uses ≡ joined (rounds_to l.i l.known.base l.initial.env (items_of (trees_of l.lines))))
-    × (l.told.parallel ≡ l.initial.told.parallel ++ rounds_told l.i l.known.base l.initial.env (told_of parallel_at (trees_of l.lines)))
-    × (l.told.abbreviations ≡ l.initial.told.abbreviations ++ rounds_told l.i l.known.base l.initial.env (told_of abbreviation_at (trees_of l.lines)))
+    × (l.reported.parallel ≡ l.initial.reported.parallel ++ rounds_reported l.i l.known.base l.initial.env (reported_of parallel_at (trees_of l.lines)))
+    × (l.reported.abbreviations ≡ l.initial.reported.abbreviations ++ rounds_reported l.i l.known.base l.initial.env (reported_of abbreviation_at (trees_of l.lines)))
 
 abbrev pub invariant-items-loop-one : goal.invariant-items-loop-one
 invariant-items-loop-one l =
     (l.depth ≤ length l.env)
     × (take l.depth l.env ≡ l.initial.env)
     × (l.found.items ++ items (trees_of (drop l.one-index l.lines)) l.initial.env l.env l.own ≡ items_of (trees_of l.lines) l.initial.env)
-    × (l.told.parallel ++ told parallel_at (trees_of (drop l.one-index l.lines)) l.initial.env l.env ≡ l.initial.told.parallel ++ told_of parallel_at (trees_of l.lines) l.initial.env)
-    × (l.told.abbreviations ++ told abbreviation_at (trees_of (drop l.one-index l.lines)) l.initial.env l.env ≡ l.initial.told.abbreviations ++ told_of abbreviation_at (trees_of l.lines) l.initial.env)
+    × (l.reported.parallel ++ reported parallel_at (trees_of (drop l.one-index l.lines)) l.initial.env l.env ≡ l.initial.reported.parallel ++ reported_of parallel_at (trees_of l.lines) l.initial.env)
+    × (l.reported.abbreviations ++ reported abbreviation_at (trees_of (drop l.one-index l.lines)) l.initial.env l.env ≡ l.initial.reported.abbreviations ++ reported_of abbreviation_at (trees_of l.lines) l.initial.env)
 
 abbrev pub invariant-add_rounds-loop-index : goal.invariant-add_rounds-loop-index
 invariant-add_rounds-loop-index l =
     (l.env ≡ l.initial.env)
     × (l.uses ≡ l.initial.uses ++ joined (rounds_to l.index l.known.base l.initial.env (items_of (trees_of l.lines))))
-    × (l.told.parallel ≡ l.initial.told.parallel ++ rounds_told l.index l.known.base l.initial.env (told_of parallel_at (trees_of l.lines)))
-    × (l.told.abbreviations ≡ l.initial.told.abbreviations ++ rounds_told l.index l.known.base l.initial.env (told_of abbreviation_at (trees_of l.lines)))
+    × (l.reported.parallel ≡ l.initial.reported.parallel ++ rounds_reported l.index l.known.base l.initial.env (reported_of parallel_at (trees_of l.lines)))
+    × (l.reported.abbreviations ≡ l.initial.reported.abbreviations ++ rounds_reported l.index l.known.base l.initial.env (reported_of abbreviation_at (trees_of l.lines)))
 
 abbrev pub invariant-add_items-loop-one : goal.invariant-add_items-loop-one
 invariant-add_items-loop-one l =
     (l.depth ≤ length l.env)
     × (take l.depth l.env ≡ l.initial.env)
     × (l.uses ++ joined (items (trees_of (drop l.one-index l.lines)) l.initial.env l.env []) ≡ l.initial.uses ++ joined (items_of (trees_of l.lines) l.initial.env))
-    × (l.told.parallel ++ told parallel_at (trees_of (drop l.one-index l.lines)) l.initial.env l.env ≡ l.initial.told.parallel ++ told_of parallel_at (trees_of l.lines) l.initial.env)
-    × (l.told.abbreviations ++ told abbreviation_at (trees_of (drop l.one-index l.lines)) l.initial.env l.env ≡ l.initial.told.abbreviations ++ told_of abbreviation_at (trees_of l.lines) l.initial.env)
+    × (l.reported.parallel ++ reported parallel_at (trees_of (drop l.one-index l.lines)) l.initial.env l.env ≡ l.initial.reported.parallel ++ reported_of parallel_at (trees_of l.lines) l.initial.env)
+    × (l.reported.abbreviations ++ reported abbreviation_at (trees_of (drop l.one-index l.lines)) l.initial.env l.env ≡ l.initial.reported.abbreviations ++ reported_of abbreviation_at (trees_of l.lines) l.initial.env)

@@ -1,2 +1,0 @@
-pub mod Abbreviating
-pub mod Recasting

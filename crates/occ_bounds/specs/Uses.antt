@@ -1,7 +1,0 @@
--- Uses of parts.
-use Rattle.occ_project.specs.declared.expanded.Location.{Location}
-use Rattle.occ_bounds.specs.declared.uses.Use.{Use}
-
--- the same use, at another line
-abbrev pub at_line : Use → Location → Use
-at_line u line = record u { line = line }

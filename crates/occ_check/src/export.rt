@@ -1,0 +1,165 @@
+//! The exports of a unit: procedures and functions that its outermost lines specify, of two of one name the later.
+ghost use Rattle.std.specs.Prelude.{◌≡◌, ◌+◌, IfOk, OnOk, length};
+ghost use Rattle.occ_check.specs.Exports.{entries_exports, export as spec_export, interface_in, is_use as spec_is_use, line_entries, line_exports, meaning_exports, with_export, with_exports};
+ghost use Rattle.occ_usage.specs.Entering.{effect_if as spec_effect_if};
+ghost use Rattle.occ_usage.specs.TypedLine.{out-TypedLine};
+
+use super::formal_uses::body_formal_uses;
+use occ_base::{Items, Name, Shared};
+use occ_scope::{Meaning, ScopeEntry};
+use occ_types::{Effect, Export, ExportKind, Formal, Interface, OccType};
+use occ_usage::{TypedForm, TypedLine, number_after, shared_formals, shared_types};
+use occ_usage_values::{Bound, body_at, effect_at};
+use std::alloc::{AllocError, Global};
+
+/// An effect, if there is one.
+fn effect_if(has_effect: bool) -> Effect
+    ensures { result ≡ spec_effect_if has_effect }
+{
+    if has_effect {
+        Effect::Some
+    } else {
+        Effect::None
+    }
+}
+
+/// The export that the specification with this number is.
+fn export(
+    alloc: Global,
+    env: &[Bound],
+    number: usize,
+    name: &Name,
+    kind: ExportKind,
+    formals: &[Formal],
+    results: &[Shared<OccType>],
+) -> Result<Export, AllocError>
+    ensures { IfOk result (λ export. export ≡ spec_export env.now number name.now kind formals.now results.now) }
+{
+    Ok(Export {
+        name: name.copied(alloc)?,
+        kind,
+        formals: shared_formals(alloc, formals)?,
+        results: shared_types(alloc, results)?,
+        uses: body_formal_uses(alloc, number, body_at(env, number))?,
+        effect: effect_if(effect_at(env, number)),
+    })
+}
+
+/// Adds an export, and takes away an earlier one of its name.
+fn add_export(found: &mut Vec<Export>, export: Export) -> Result<(), AllocError>
+    ensures { OnOk result (found.new.items ≡ with_export found.old.items export) }
+{
+    found.retain(|earlier| earlier.name != export.name);
+    found.push(export)?;
+    Ok(())
+}
+
+/// Adds the export that a name is, if it stands for a procedure or a function; it is the specification with this number.
+fn add_entry(
+    alloc: Global,
+    env: &[Bound],
+    number: usize,
+    entry: &ScopeEntry,
+    found: &mut Vec<Export>,
+) -> Result<(), AllocError>
+    ensures { OnOk result (found.new.items ≡ with_exports found.old.items (meaning_exports env.now number entry.now.name entry.now.meaning)) }
+{
+    let export = match entry.meaning.get() {
+        Meaning::Procedure(formals) => export(
+            alloc,
+            env,
+            number,
+            &entry.name,
+            ExportKind::Process,
+            formals.as_slice(),
+            &[],
+        )?,
+        Meaning::Function(formals, results) => export(
+            alloc,
+            env,
+            number,
+            &entry.name,
+            ExportKind::Function,
+            formals.as_slice(),
+            results.as_slice(),
+        )?,
+        Meaning::Faulty | Meaning::Type(_) | Meaning::Protocol(_) | Meaning::Element(_) => {
+            return Ok(());
+        }
+    };
+    add_export(found, export)
+}
+
+/// Adds what names export, the first of which is the specification with this number; gives the number of the one after
+/// them.
+#[tactic(auto, using(crate::proofs::Exported::with_more))]
+fn add_entries(
+    alloc: Global,
+    env: &[Bound],
+    number: usize,
+    entries: &[ScopeEntry],
+    found: &mut Vec<Export>,
+) -> Result<usize, AllocError>
+    ensures found { OnOk result (found.new.items ≡ with_exports found.old.items (entries_exports env.now number entries.now)) }
+    ensures next { IfOk result (λ next. next ≡ number + length entries.now) }
+{
+    let mut next = number;
+    for entry in entries {
+        add_entry(alloc, env, next, entry, found)?;
+        next = number_after(next, 1)?;
+    }
+    Ok(next)
+}
+
+/// Whether the line is a `#USE`.
+fn is_use(line: &TypedLine) -> bool
+    ensures { result ≡ spec_is_use (out-TypedLine line.now).form }
+{
+    matches!(line.form.get(), TypedForm::Uses(_))
+}
+
+/// What comes into scope after a line.
+fn line_entries_of(line: &TypedLine) -> &[ScopeEntry]
+    ensures { result.now ≡ line_entries line.now }
+{
+    match &line.adds {
+        Some(entries) => entries.as_slice(),
+        None => &[],
+    }
+}
+
+/// Adds what a line after so many specifications exports; gives how many stand after it.
+fn add_line(
+    alloc: Global,
+    env: &[Bound],
+    number: usize,
+    line: &TypedLine,
+    found: &mut Vec<Export>,
+) -> Result<usize, AllocError>
+    ensures found { OnOk result (found.new.items ≡ with_exports found.old.items (line_exports env.now number line.now)) }
+    ensures next { IfOk result (λ next. next ≡ number + length (line_entries line.now)) }
+{
+    let entries = line_entries_of(line);
+    if is_use(line) {
+        return number_after(number, entries.len());
+    }
+    add_entries(alloc, env, number, entries, found)
+}
+
+/// The interface of a unit with these outermost lines, after the last of which this stands in scope.
+#[tactic(auto, using(crate::proofs::Exported::with_more))]
+pub fn interface_of(
+    alloc: Global,
+    env: &[Bound],
+    lines: &[TypedLine],
+) -> Result<Interface, AllocError>
+    ensures { IfOk result (λ interface. interface ≡ interface_in env.now lines.now) }
+{
+    let mut found = Vec::new(alloc);
+    let mut number = 0;
+    for line in lines {
+        number = add_line(alloc, env, number, line, &mut found)?;
+    }
+    let exports = Items::from_vec(found);
+    Ok(Interface { exports })
+}

@@ -1,6 +1,0 @@
-use Rattle.std.proofs.Common.{◌≡◌, drop}
-use Rattle.occ_clashes.specs.inside.Accumulating.{judged_by}
-use Rattle.occ_clashes.proofs.accumulate.judge.Given as goal
-
-abbrev pub invariant-loop-one : goal.invariant-loop-one
-invariant-loop-one l = judged_by l.table.items (drop l.one-index l.component) ≡ judged_by l.initial.table.items l.component

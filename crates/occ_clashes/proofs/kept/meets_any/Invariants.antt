@@ -1,6 +1,0 @@
-use Rattle.std.proofs.Common.{◌≡◌, drop}
-use Rattle.occ_clashes.specs.inside.Spreading.{meets_in}
-use Rattle.occ_clashes.proofs.kept.meets_any.Given as goal
-
-abbrev pub invariant-loop-parts : goal.invariant-loop-parts
-invariant-loop-parts l = meets_in (drop l.parts-index l.lists) l.part ≡ meets_in l.lists l.part

@@ -1,9 +1,0 @@
-use Rattle.std.proofs.Common.{rules, ◌≡◌, ◌∙◌, Some, length, sym}
-use Rattle.occ_clashes.proofs.Spreading.{own_list}
-use Rattle.occ_clashes.specs.inside.Spreading.{list_of}
-use Rattle.occ_clashes.proofs.kept.meets_spread.Goals as goal
-
-pub returns-in-Some : goal.returns-in-Some
-returns-in-Some c spread =
-    let its : list_of c.args.part.now (length c.args.lists.now) ≡ Some c.in-Some.at = search rules in
-    c.meets_at.ensures ∙ sym (own_list c.args.lists.now c.args.part.now c.in-Some.at spread its)

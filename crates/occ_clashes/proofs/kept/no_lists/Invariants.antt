@@ -1,7 +1,0 @@
-use Rattle.std.proofs.Common.{◌≡◌, false, List}
-use Rattle.occ_types.specs.declared.interface.PartSelector.{PartSelector}
-use Rattle.occ_clashes.specs.inside.Spreading.{meets_in}
-use Rattle.occ_clashes.proofs.kept.no_lists.Given as goal
-
-abbrev pub invariant-loop-made : goal.invariant-loop-made
-invariant-loop-made l = (q : List PartSelector) → meets_in l.lists.items q ≡ false

@@ -1,6 +1,0 @@
-use Rattle.std.proofs.Common.{◌≡◌, drop}
-use Rattle.occ_clashes.specs.Distinct.{same_selectors}
-use Rattle.occ_clashes.proofs.same.same_selectors.Given as goal
-
-abbrev pub invariant-loop-depth : goal.invariant-loop-depth
-invariant-loop-depth l = same_selectors (drop l.depth l.a) (drop l.depth l.b) ≡ same_selectors l.a l.b

@@ -1,7 +1,0 @@
-use Rattle.std.proofs.Common.{◌≡◌, ◌++◌}
-use Rattle.occ_clashes.specs.ParallelRule.{below}
-use Rattle.occ_clashes.specs.inside.Accumulating.{faults_in}
-use Rattle.occ_clashes.proofs.telling.tell.Given as goal
-
-abbrev pub invariant-loop-root : goal.invariant-loop-root
-invariant-loop-root l = l.faults ≡ l.initial.faults ++ below l.root (faults_in l.line l.env l.table)

@@ -1,6 +1,0 @@
-use Rattle.std.proofs.Common.{◌≡◌, ◌++◌, drop}
-use Rattle.occ_expr.specs.Drafts.{formal_types as types_of_formals}
-use Rattle.occ_expr.proofs.calling.formal_types.Given as goal
-
-abbrev pub invariant-loop-formal : goal.invariant-loop-formal
-invariant-loop-formal l = l.types ++ types_of_formals (drop l.formal-index l.formals) ≡ types_of_formals l.formals

@@ -1,9 +1,0 @@
-use Rattle.std.proofs.Common.{◌≡◌, ◌≤◌, ◌+◌, drop}
-use Rattle.occ_expr.specs.Operations.{number_of_faulty as the_number_of_faulty}
-use Rattle.occ_tables.specs.Terms.{judged_all}
-use Rattle.occ_expr.proofs.operation.number_of_faulty.Given as goal
-
-abbrev pub invariant-loop-operand : goal.invariant-loop-operand
-invariant-loop-operand l =
-    (l.count ≤ l.operand-index)
-    × (l.count + the_number_of_faulty (judged_all (drop l.operand-index l.operands)) ≡ the_number_of_faulty (judged_all l.operands))

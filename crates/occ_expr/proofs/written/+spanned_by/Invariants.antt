@@ -1,5 +1,0 @@
-use Rattle.std.proofs.Common.{length}
-use Rattle.occ_expr.proofs.written.+spanned_by.Given as goal
-
-abbrev pub decreases-spanned_by : goal.decreases-spanned_by
-decreases-spanned_by l = length l.extents.now

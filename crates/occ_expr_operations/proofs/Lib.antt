@@ -1,0 +1,5 @@
+pub mod Views
+pub mod Fields
+pub mod OpenTypes
+pub mod Layers
+pub mod Referring

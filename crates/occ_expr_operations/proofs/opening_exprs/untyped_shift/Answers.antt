@@ -1,0 +1,10 @@
+use Rattle.std.proofs.Common.{arith}
+use Rattle.std.proofs.lemmas.Grind.{common_steps}
+use Rattle.occ_expr_operations.proofs.OpenTypes.{type_rules}
+use Rattle.occ_expr_operations.proofs.opening_exprs.untyped_shift.Goals as goal
+
+pub returns : goal.returns
+returns c = grind (arith, common_steps, type_rules)
+
+pub returns-in_default : goal.returns-in_default
+returns-in_default c = grind (arith, common_steps, type_rules)

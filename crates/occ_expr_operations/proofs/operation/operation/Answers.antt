@@ -1,0 +1,12 @@
+use Rattle.std.proofs.Common.{arith}
+use Rattle.std.proofs.lemmas.Grind.{common_steps}
+use Rattle.occ_expr_operations.specs.Operations.{operation}
+use Rattle.occ_expr_operations.proofs.operation.operation.Goals as goal
+
+pub returns-clause-faults : goal.returns-clause-faults
+unfolding operation
+returns-clause-faults c = grind (arith, common_steps)
+
+pub returns-clause-kind : goal.returns-clause-kind
+unfolding operation
+returns-clause-kind c = grind (arith, common_steps)

@@ -1,5 +1,0 @@
-use Rattle.occ_expression_forms.proofs.Dimensions.{open_only}
-use Rattle.occ_expression_forms.proofs.types.dimension.Goals as goal
-
-pub returns-in-Some-clause-only : goal.returns-in-Some-clause-only
-returns-in-Some-clause-only g c = open_only _ _ c.in-Some.ensures

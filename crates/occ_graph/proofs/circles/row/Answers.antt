@@ -1,8 +1,0 @@
-use Rattle.occ_graph.proofs.Circled.{closed_base, row_is}
-use Rattle.occ_graph.proofs.circles.row.Goals as goal
-
-pub search-requires : goal.search-requires
-search-requires c = closed_base c.args.graph.now c.args.ranks.now c.args.base.now c.requires.ranked c.requires.len c.requires.base
-
-pub returns : goal.returns
-returns c z = row_is c.args.graph.now c.args.ranks.now c.args.base.now c.in_ok-marks.marks c.args.node c.requires.len c.requires.base c.in_ok-marks.ensures

@@ -1,2 +1,0 @@
-pub mod Visible
-pub mod Lookup

@@ -1,7 +1,0 @@
-use Rattle.std.proofs.Common.{◌≡◌, ℕ, List, take}
-use Rattle.std.specs.BTreeMap.{get}
-use Rattle.occ_project.specs.Reads.{name_cmp, place}
-use Rattle.occ_project.proofs.files.places.Given as goal
-
-abbrev pub invariant-loop-i : goal.invariant-loop-i
-invariant-loop-i l = (name : List ℕ) → get name_cmp l.places name ≡ place name (take l.i l.reads)

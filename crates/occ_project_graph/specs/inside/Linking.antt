@@ -1,0 +1,54 @@
+-- What is kept of a graph, and what of it is made anew where one node more comes to an index.
+use Rattle.std.specs.Global.{Global}
+use Rattle.std.specs.Prelude.{◌≡◌, ◌<◌, ◌≤◌, ◌+◌, ◌-◌, ◌++◌, ◌==◌, ℕ, Bool, true, List, [], ◌∷◌, None, Option, Some, Vec, cond, get_or, length, map, nat_lt, not, slice_set}
+use Rattle.std.specs.List.{filter}
+use Rattle.occ_project_graph.specs.Graph.{Graph, IsWhole, all_rests, has_edge}
+use Rattle.occ_project_graph.specs.Sources.{once_each, sources}
+
+-- what the nodes of a graph rest on: what is kept, or, if nothing is, all to which edges lead
+abbrev pub rests_kept : Graph → Option (Vec (List ℕ) Global) → Graph
+rests_kept g None = g
+rests_kept g (Some rows) = rows.items
+
+-- what stands in these rows stands before an index
+abbrev pub AreBefore : Graph → ℕ → Type 0
+AreBefore g top = (u v : ℕ) → has_edge g u v ≡ true → v < top
+
+-- of each node those that it rests on, and those from which edges lead to it, where each edge is between nodes before an index
+pub record IsLinked (g : Graph) (rests turned : Graph) (top : ℕ) : Type 0 where
+  pub whole : IsWhole g
+  pub within : top ≤ length g
+  pub targets_before : AreBefore g top
+  pub sources_before : AreBefore turned top
+  pub rests_are : rests ≡ all_rests g
+  pub len : length turned ≡ length g
+  pub sources_are : (v : ℕ) → v < length g → get_or turned v [] ≡ sources g v
+
+-- such an index where one more node comes to an index, by whether it is alone, so that no edge leads from it, and how many there are then
+abbrev pub top_then : ℕ → ℕ → Bool → ℕ → ℕ
+top_then top at alone count = cond alone (cond (nat_lt at top) (top + 1) top) count
+
+-- those of these that are not this one
+abbrev pub others : ℕ → List ℕ → List ℕ
+others at ws = filter (λ w. not (w == at)) ws
+
+-- those of these that stand before an index, and the indices of the others where one comes to it
+abbrev pub before : ℕ → List ℕ → List ℕ
+before at us = filter (λ u. nat_lt u at) us
+
+abbrev pub following : ℕ → List ℕ → List ℕ
+following at us = map (λ u. u + 1) (filter (λ u. not (nat_lt u at)) us)
+
+-- those from which edges led to the node that then has this index
+abbrev pub sources_till : Graph → ℕ → ℕ → List ℕ
+sources_till turned at v = cond (v == at) [] (get_or turned (cond (nat_lt v at) v (v - 1)) [])
+
+-- those from which edges lead to it then, where edges lead from the new node to these
+abbrev pub sources_then : Graph → ℕ → List ℕ → ℕ → List ℕ
+sources_then turned at ws v = before at (sources_till turned at v) ++ (once_each at ws v ++ following at (sources_till turned at v))
+
+-- rows at these indices are replaced
+abbrev pub with_rows : Graph → List ℕ → List (List ℕ) → Graph
+with_rows g [] rows = g
+with_rows g (w ∷ ws) [] = g
+with_rows g (w ∷ ws) (row ∷ rows) = slice_set (with_rows g ws rows) w row

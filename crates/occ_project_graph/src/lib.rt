@@ -1,0 +1,16 @@
+//! Graphs by indices, whatever their nodes are: circles, what a node rests on outside of circles, and recursion along that.
+#![tactic(auto)]
+
+mod adding;
+mod circles;
+pub mod laws;
+mod linked;
+mod order;
+mod ranks;
+mod resting;
+pub mod rows;
+mod search;
+mod sources;
+
+pub use linked::Linked;
+pub use sources::find_sources;

@@ -1,0 +1,6 @@
+use Rattle.std.proofs.Common.{◌≡◌, map, take}
+use Rattle.occ_project_units.specs.Indices.{indices_of}
+use Rattle.occ_project_units.proofs.facts.edges.Given as goal
+
+abbrev pub invariant-loop-index : goal.invariant-loop-index
+invariant-loop-index l = l.edges.items ≡ map (λ facts. indices_of l.project facts.uses) (take l.index l.all)

@@ -1,0 +1,9 @@
+pub mod Project
+pub mod Spelled
+pub mod Units
+pub mod Indices
+pub mod Alike
+pub mod Along
+pub mod New
+pub mod Samples
+pub mod inside

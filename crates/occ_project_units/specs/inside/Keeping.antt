@@ -1,0 +1,65 @@
+-- What a graph keeps.
+use Rattle.std.specs.Prelude.{◌≡◌, ◌<◌, ℕ, Bool, false, true, List, [], cond, get_or, length, map, slice_get, Option, Some, None}
+use Rattle.std.specs.Str.{bytes_eq}
+use Rattle.occ_base.specs.FileName.{is_unit}
+use Rattle.occ_project_graph.specs.Graph.{Graph}
+use Rattle.occ_project.specs.declared.reads.Read.{Read}
+use Rattle.occ_project.specs.Entries.{is_among}
+use Rattle.occ_project.specs.Expansion.{Expansion, expansion}
+use Rattle.occ_project.specs.Reads.{index}
+use Rattle.occ_project_units.specs.Along.{name_at}
+use Rattle.occ_project_units.specs.declared.facts.Facts.{Facts}
+use Rattle.occ_project_units.specs.Indices.{graph_of, read_graph, readers_at}
+use Rattle.occ_project_units.specs.Project.{file_of}
+use Rattle.occ_project_units.specs.Units.{read_names, used_units}
+
+-- what is known of a file
+abbrev pub facts_of : List Read → List ℕ → Facts
+facts_of files name = record { expanded = cond (is_unit name) (Some (expansion files name)) None; uses = used_units files name }
+
+abbrev pub all_facts : List Read → List Facts
+all_facts files = map (λ file. facts_of files file.name) files
+
+-- what an expansion looks up, if there is one
+abbrev pub reads_in : Option Expansion → List (List ℕ)
+reads_in None = []
+reads_in (Some expansion) = expansion.reads
+
+-- all files but the one of that name are as they were
+abbrev pub AreOthers : List ℕ → List Read → List Read → Type 0
+AreOthers name files later = (other : List ℕ) → bytes_eq name other ≡ false → file_of later other ≡ file_of files other
+
+-- of each file the indices of those that read it, if they were asked for
+abbrev pub AreReaders : List Read → Option Graph → Type 0
+AreReaders files None = Unit {0}
+AreReaders files (Some rows) = (p : ℕ) → p < length files → get_or rows p [] ≡ readers_at files p
+
+-- a file reads and uses none that is not there
+abbrev pub IsLookingForNone : List Read → List ℕ → Type 0
+IsLookingForNone files unit = (name : List ℕ) → index name files ≡ None → (is_among (read_names files unit) name ≡ false) × (is_among (used_units files unit) name ≡ false)
+
+-- this holds of each of these
+abbrev pub IsSettled : List Read → Type 0
+IsSettled files = (p : ℕ) → p < length files → IsLookingForNone files (name_at files p)
+
+pub record IsGraph (files : List Read) (facts : List Facts) (links : Graph) (readers : Option Graph) (settled : Bool) : Type 0 where
+  pub facts_are : facts ≡ all_facts files
+  pub links_are : links ≡ graph_of files
+  pub readers_are : AreReaders files readers
+  pub settled_is : settled ≡ true → IsSettled files
+
+-- what is known of a file reads and uses what it did before
+abbrev pub IsAsBefore : Option Facts → Option Facts → Type 0
+IsAsBefore None now = ⊥
+IsAsBefore (Some before) None = ⊥
+IsAsBefore (Some before) (Some now) = (reads_in before.expanded ≡ reads_in now.expanded) × (before.uses ≡ now.uses)
+
+-- so do the files at these indices, by what was found of them
+abbrev pub AreAsBefore : List Facts → List ℕ → List Facts → Type 0
+AreAsBefore facts indices found = (i : ℕ) → i < length indices → IsAsBefore (slice_get facts (get_or indices i 0)) (slice_get found i)
+
+-- all read and use what they did before
+pub record IsRenewed (files later : List Read) : Type 0 where
+  pub len : length later ≡ length files
+  pub graph : graph_of later ≡ graph_of files
+  pub reads : read_graph later ≡ read_graph files

@@ -1,0 +1,102 @@
+//! Puts in a file that is new and that no other looks for: others are left alone but for their indices.
+ghost use Rattle.occ_project_graph.specs.Adding.{with_node};
+ghost use Rattle.occ_project.specs.Entries.{is_among};
+ghost use Rattle.occ_project_units.specs.Along.{name_at};
+ghost use Rattle.occ_project_units.specs.New.{IsNew};
+ghost use Rattle.occ_project_units.specs.Indices.{graph_of, indices_of as spec_indices_of};
+ghost use Rattle.occ_project_units.specs.Project.{IsProject, put};
+ghost use Rattle.occ_project_units.specs.Units.{used_units};
+ghost use Rattle.occ_project_units.specs.inside.Keeping.{IsLookingForNone, IsSettled, all_facts as spec_all_facts, facts_of as spec_facts_of, reads_in};
+ghost use Rattle.std.specs.List.{insert};
+ghost use Rattle.std.specs.Prelude.{◌≡◌, ◌<◌, ◌≤◌, ◌+◌, ◌⊎◌, IfOk, IsFalse, IsTrue, OnErr, OnOk, false, length, true};
+
+use super::facts::{Facts, facts_of, indices_of, is_name_among, reads};
+use super::project::Project;
+use occ_base::{FileName, Shared};
+use occ_project::Read;
+use occ_project_graph::Linked;
+use std::alloc::{AllocError, Global};
+
+/// Whether a file may read another of that name: only one that reads more than itself does.
+pub fn may_read(facts: &Facts, name: FileName) -> bool
+    ensures { IsFalse result → length (reads_in facts.now.expanded) ≤ 1 ⊎ is_among (reads_in facts.now.expanded) name ≡ false }
+{
+    let names = reads(facts);
+    names.len() > 1 && is_name_among(names, name)
+}
+
+/// Whether a file from which edges lead to these may use one of that name that is not there: only one that uses more does.
+pub fn may_use(facts: &Facts, edges: &[usize], name: FileName) -> bool
+    ensures { IsFalse result → length edges.now ≡ length facts.now.uses ⊎ is_among facts.now.uses name ≡ false }
+{
+    edges.len() != facts.uses.len() && is_name_among(facts.uses.as_slice(), name)
+}
+
+/// Whether it was known before that no file looks for one that is not there, and a file from which edges lead to these does not
+/// either: it reads itself alone, and all that it uses are there.
+fn is_still_settled(settled: bool, facts: &Facts, edges: &[usize]) -> bool
+    ensures { IsTrue result → (settled ≡ true) × ((length (reads_in facts.now.expanded) ≤ 1) × (length edges.now ≡ length facts.now.uses)) }
+{
+    settled && reads(facts).len() <= 1 && edges.len() == facts.uses.len()
+}
+
+/// Adds what is known of the file at an index, which is new, and says whether it was known that no file looks for one that is not
+/// there and this one does not either. All memory is taken before the first change.
+fn add_known(
+    alloc: Global,
+    project: &Project,
+    facts: &mut Vec<Shared<Facts>>,
+    links: &mut Linked,
+    at: usize,
+    settled: bool,
+) -> Result<bool, AllocError>
+    requires within { at < length project.now }
+    requires facts { length project.now ≡ length facts.old.items + 1 }
+    requires links { length project.now ≡ length links.old + 1 }
+    ensures settled { IfOk result (λ still. still ≡ true → (settled ≡ true) × IsLookingForNone project.now (name_at project.now at)) }
+    ensures facts { OnOk result (facts.new.items ≡ insert facts.old.items at (spec_facts_of project.now (name_at project.now at))) }
+    ensures links { OnOk result (links.new ≡ with_node links.old at (spec_indices_of project.now (used_units project.now (name_at project.now at)))) }
+    ensures err { OnErr result (facts.new.items ≡ facts.old.items × links.new ≡ links.old) }
+{
+    let _files = project.files();
+    let known = facts_of(alloc, project, at, project.name_at(at))?;
+    let targets = indices_of(alloc, project, &[], known.uses.as_slice())?;
+    let still = is_still_settled(settled, &known, targets.as_slice());
+    let shared = Shared::new(alloc, known)?;
+    facts.reserve(1)?;
+    links.add(alloc, at, targets)?;
+    let _ = facts.insert(at, shared);
+    Ok(still)
+}
+
+/// Puts a file into a project that is new to it and that no file looks for, with what is then known. What is known of the others
+/// stays, but for their indices. It is said whether it is known that no file looks for one that is not there, and reports the same.
+pub fn add_file(
+    alloc: Global,
+    project: &mut Project,
+    facts: &mut Vec<Shared<Facts>>,
+    links: &mut Linked,
+    at: usize,
+    file: Read,
+    settled: bool,
+) -> Result<bool, AllocError>
+    requires project { IsProject project.old }
+    requires new { IsNew project.old file.name at }
+    requires facts { facts.old.items ≡ spec_all_facts project.old }
+    requires links { links.old ≡ graph_of project.old }
+    requires settled { settled ≡ true → IsSettled project.old }
+    ensures settled { IfOk result (λ still. still ≡ true → IsSettled project.new) }
+    ensures project { OnOk result (project.new ≡ put project.old file) }
+    ensures facts { OnOk result (facts.new.items ≡ spec_all_facts project.new) }
+    ensures links { OnOk result (links.new ≡ graph_of project.new) }
+    ensures err { OnErr result (project.new ≡ project.old × (facts.new.items ≡ facts.old.items × links.new ≡ links.old)) }
+{
+    project.insert(at, file)?;
+    match add_known(alloc, project, facts, links, at, settled) {
+        Ok(still) => Ok(still),
+        Err(refused) => {
+            project.remove(at);
+            Err(refused)
+        }
+    }
+}

@@ -1,0 +1,170 @@
+//! What is cached of each file: its reads, its used units, and their indices. Hints at indices cost time if they are
+//! wrong, and no answer.
+ghost use Rattle.occ_project_units.specs.Indices.{indices_of as spec_indices_of};
+ghost use Rattle.occ_project.specs.Entries.{is_among};
+ghost use Rattle.occ_project_units.specs.inside.Keeping.{facts_of as spec_facts_of, reads_in};
+ghost use Rattle.std.specs.Prelude.{[], map, IfOk, OnOk, ◌++◌, ◌∷◌, ◌≡◌};
+
+use super::expansion::expansion;
+use super::project::Project;
+use occ_base::{FileName, Items, Shared};
+use occ_project::{Expanded, used_units};
+use std::alloc::{AllocError, Global};
+
+/// Whether the name is one of these.
+pub fn is_name_among(names: &[FileName], name: FileName) -> bool
+    ensures { result ≡ is_among names.now name }
+{
+    names.iter().any(|other| *other == name)
+}
+
+/// What is known of a file of a project.
+pub struct Facts {
+    /// Its expansion, if it is a unit.
+    pub expanded: Option<Shared<Expanded>>,
+    /// The units that it uses, in order of name.
+    pub uses: Items<FileName>,
+}
+
+/// Written out: crates above call it, where each would prove a derived one anew.
+impl Drop for Facts {
+    fn drop(self) {
+        let Facts {
+            expanded: _,
+            uses: _,
+        } = self;
+    }
+}
+
+/// The names that the expansion of a file looks up, if it has one.
+pub fn reads(facts: &Facts) -> &[FileName]
+    ensures { result.now ≡ reads_in facts.now.expanded }
+{
+    match &facts.expanded {
+        Some(expanded) => expanded.get().reads(),
+        None => &[],
+    }
+}
+
+/// Whether a file reads that one.
+pub fn does_read(facts: &Facts, name: FileName) -> bool
+    ensures { result ≡ is_among (reads_in facts.now.expanded) name }
+{
+    is_name_among(reads(facts), name)
+}
+
+/// What is known of the file of that name, which is looked for at an index first.
+pub fn facts_of(
+    alloc: Global,
+    project: &Project,
+    hint: usize,
+    name: FileName,
+) -> Result<Facts, AllocError>
+    ensures { IfOk result (λ facts. facts ≡ spec_facts_of project.now name) }
+{
+    if !name.is_unit() {
+        return Ok(Facts {
+            expanded: None,
+            uses: Items::new(alloc),
+        });
+    }
+    let expanded = expansion(alloc, project, hint, name)?;
+    let uses = used_units(alloc, expanded.lines())?;
+    Ok(Facts {
+        expanded: Some(Shared::new(alloc, expanded)?),
+        uses,
+    })
+}
+
+/// What is known of each file.
+pub fn all_facts(alloc: Global, project: &Project) -> Result<Vec<Shared<Facts>>, AllocError>
+    ensures { IfOk result (λ all. all.items ≡ map (λ file. spec_facts_of project.now file.name) project.now) }
+{
+    let mut all = Vec::new(alloc);
+    for (index, file) in project.files().iter().enumerate() {
+        all.push(Shared::new(alloc, facts_of(alloc, project, index, file.name)?)?)?;
+    }
+    Ok(all)
+}
+
+/// Adds the place of the file of that name, if it is in the project. It is looked for at the hint first.
+fn add_index(
+    project: &Project,
+    hint: usize,
+    name: FileName,
+    indices: &mut Items<usize>,
+) -> Result<(), AllocError>
+    ensures { OnOk result (indices.new ≡ indices.old ++ spec_indices_of project.now (name ∷ [])) }
+{
+    match project.index_near(hint, name) {
+        Some(index) => indices.push(index),
+        None => Ok(()),
+    }
+}
+
+/// What stands at a place of these, 0 if nothing does.
+fn hint_at(hints: &[usize], index: usize) -> usize {
+    match hints.get(index) {
+        Some(hint) => *hint,
+        None => 0,
+    }
+}
+
+/// The indices of the files of these names. Each is looked for at its hint first.
+pub fn indices_of(
+    alloc: Global,
+    project: &Project,
+    hints: &[usize],
+    names: &[FileName],
+) -> Result<Items<usize>, AllocError>
+    ensures { IfOk result (λ indices. indices ≡ spec_indices_of project.now names.now) }
+{
+    let mut indices = Items::new(alloc);
+    for (i, name) in names.iter().enumerate() {
+        add_index(project, hint_at(hints, i), *name, &mut indices)?;
+    }
+    Ok(indices)
+}
+
+/// The edges that before led from the file at an index, where none was new but that at this one.
+fn hints_at(before: &[Items<usize>], new: usize, index: usize) -> &[usize] {
+    let row = if index > new { index - 1 } else { index };
+    match before.get(row) {
+        Some(hints) => hints.as_slice(),
+        None => &[],
+    }
+}
+
+/// An edge from each unit to each that it uses and that is in the project. What an edge leads to is looked for first near the
+/// index to which one led before, when the file at the new index was not there; a hint that is wrong costs time.
+pub fn edges(
+    alloc: Global,
+    project: &Project,
+    all: &[Shared<Facts>],
+    before: &[Items<usize>],
+    new: usize,
+) -> Result<Vec<Items<usize>>, AllocError>
+    ensures { IfOk result (λ edges. edges.items ≡ map (λ facts. spec_indices_of project.now facts.uses) all.now) }
+{
+    let mut edges = Vec::new(alloc);
+    for (index, facts) in all.iter().enumerate() {
+        let hints = hints_at(before, new, index);
+        edges.push(indices_of(alloc, project, hints, facts.get().uses.as_slice())?)?;
+    }
+    Ok(edges)
+}
+
+/// An edge from each unit to each file that its expansion looks up and that is in the project.
+pub fn read_edges(
+    alloc: Global,
+    project: &Project,
+    all: &[Shared<Facts>],
+) -> Result<Items<Items<usize>>, AllocError>
+    ensures { IfOk result (λ edges. edges ≡ map (λ facts. spec_indices_of project.now (reads_in facts.expanded)) all.now) }
+{
+    let mut edges = Items::new(alloc);
+    for (index, facts) in all.iter().enumerate() {
+        edges.push(indices_of(alloc, project, &[index], reads(facts.get()))?)?;
+    }
+    Ok(edges)
+}

@@ -1,0 +1,512 @@
+//! The graph of a project: what units read and use, circles, and how a used unit is found. Edits change it in place where
+//! they can.
+ghost use Rattle.occ_base.specs.FileName.{is_unit};
+ghost use Rattle.occ_project_graph.specs.Graph.{is_among as spec_is_among, rests as spec_rests, targets};
+ghost use Rattle.occ_project.specs.Entries.{is_among};
+ghost use Rattle.occ_project.specs.Reads.{index, index as spec_index};
+ghost use Rattle.occ_project_units.specs.Alike.{AreAlike};
+ghost use Rattle.occ_project_units.specs.Along.{name_at};
+ghost use Rattle.occ_project_units.specs.New.{IsNew};
+ghost use Rattle.occ_project_units.specs.Indices.{graph_of, is_circular as spec_is_circular, readers_at, standing_of, users_at};
+ghost use Rattle.occ_project_units.specs.Project.{put};
+ghost use Rattle.occ_project_units.specs.Units.{read_names, used_units};
+ghost use Rattle.occ_project_units.specs.inside.Keeping.{all_facts as spec_all_facts, facts_of as spec_facts_of};
+ghost use Rattle.std.specs.Option.{is_some, option_and_then, option_copied, option_map};
+ghost use Rattle.std.specs.Prelude.{[], ◌∷◌, cond, false, get_or, IfOk, IfSome, IsFalse, MatchOption, None, OnErr, OnOk, Some, length, List, slice_get, true, ℕ, ◌≡◌, ◌<◌};
+
+use super::adding::{add_file, may_read, may_use};
+use super::facts::{Facts, all_facts, does_read};
+use super::following::{all_facts_after, use_same};
+use super::links::links_of;
+use super::project::{Project, share};
+use super::renewing::{find_readers, renew};
+use super::standing::Standing;
+use occ_base::{FileName, Items, Shared};
+use occ_forms::Source;
+use occ_project::{Expanded, Read};
+use occ_project_graph::Linked;
+use std::alloc::{AllocError, Global};
+use std::marker::Model;
+use std::slice;
+
+/// The indices in a row, if there is one.
+fn row(rows: &[Items<usize>], index: usize) -> &[usize]
+    ensures { result.now ≡ get_or rows.now index [] }
+{
+    match rows.get(index) {
+        Some(row) => row.as_slice(),
+        None => &[],
+    }
+}
+
+/// What is known of the file at an index, if there is one.
+fn facts_at(all: &[Shared<Facts>], index: usize) -> Option<&Facts>
+    ensures { option_copied result ≡ slice_get all.now index }
+{
+    all.get(index).map(|facts| facts.get())
+}
+
+/// The name of a unit, and of an include nothing: what the expansion looks up of a file that is not there.
+fn own_name(unit: &FileName) -> &[FileName]
+    ensures { result.now ≡ cond (is_unit unit.now) (unit.now ∷ []) [] }
+{
+    if unit.is_unit() {
+        slice::from_ref(unit)
+    } else {
+        &[]
+    }
+}
+
+/// Whether the index is one of these.
+fn is_index_among(indices: &[usize], index: usize) -> bool
+    ensures { result ≡ spec_is_among indices.now index }
+{
+    indices.iter().any(|other| *other == index)
+}
+
+/// What the units of a project read and use, and which of them in circles. In contracts it is the project: all that it
+/// answers is what the definitions give of that.
+pub struct Graph {
+    project: Project,
+    /// What is known of each file, in order of name.
+    facts: Vec<Shared<Facts>>,
+    /// What rests on what and what uses what.
+    links: Linked,
+    /// Of each file the indices of those that read it, once they were asked for; after edits that leave all reads as they
+    /// were they are the same.
+    readers: Option<Items<Items<usize>>>,
+    /// Whether it is known that no file reads or uses one that is not there.
+    settled: bool,
+}
+
+/// Written out: crates above call it, where each would prove a derived one anew.
+impl Drop for Graph {
+    fn drop(self) {
+        let Graph {
+            project: _,
+            facts: _,
+            links: _,
+            readers: _,
+            settled: _,
+        } = self;
+    }
+}
+
+impl Model for Graph {
+    ghost use Rattle.occ_forms_expressions.specs.contracts.tree.Builtin as builtins;
+    ghost use Rattle.occ_forms_expressions.specs.contracts.tree.Dimension as dimensions;
+    ghost use Rattle.occ_forms_expressions.specs.contracts.tree.Element as elements;
+    ghost use Rattle.occ_forms_expressions.specs.contracts.tree.Expr as expressions;
+    ghost use Rattle.occ_forms_expressions.specs.contracts.tree.TypeForm as types;
+    ghost use Rattle.occ_project.specs.declared.reads.Read.{Read};
+    ghost use Rattle.occ_project_units.specs.inside.Keeping.{IsGraph};
+    ghost use Rattle.std.specs.Coded.{codes};
+    ghost use Rattle.std.specs.Prelude.{List};
+
+    ghost Value = { List Read };
+
+    ghost coded = { Prim.hlevel (codes, builtins.the_row.coded, dimensions.the_row.coded, elements.the_row.coded, expressions.the_row.coded, types.the_row.coded) };
+
+    ghost view = { λ graph. graph.project };
+
+    ghost invariant = { λ graph. IsGraph graph.project graph.facts.items graph.links graph.readers graph.settled };
+}
+
+/// The graph of a project, which it keeps.
+fn keep(alloc: Global, project: Project) -> Result<Graph, AllocError>
+    ensures { IfOk result (λ graph. graph ≡ project) }
+{
+    let facts = all_facts(alloc, &project)?;
+    let links = links_of(alloc, &project, facts.as_slice(), &[], 0)?;
+    Ok(Graph {
+        project,
+        facts,
+        links,
+        readers: None,
+        settled: false,
+    })
+}
+
+impl Graph {
+    /// The graph of a project without files.
+    pub fn new(alloc: Global) -> Graph
+        ensures { result ≡ [] }
+    {
+        Graph {
+            project: Project::new(alloc),
+            facts: Vec::new(alloc),
+            links: Linked::new(alloc),
+            readers: None,
+            settled: true,
+        }
+    }
+
+    /// The graph of a project.
+    pub fn of(alloc: Global, project: &Project) -> Result<Graph, AllocError>
+        ensures { IfOk result (λ graph. graph ≡ project.now) }
+    {
+        keep(alloc, project.share(alloc)?)
+    }
+
+    /// Gives the file of that name this text, or takes it away, by the edit of that number. What is kept of units that do not
+    /// read it stays, and what rests on what if no file is new and each uses the same units.
+    pub fn put(
+        &mut self,
+        alloc: Global,
+        name: FileName,
+        revision: u32,
+        source: Option<Shared<Source>>,
+    ) -> Result<(), AllocError>
+        ensures ok { OnOk result (self.new ≡ put self.old (record { name = name; revision = revision; source = source })) }
+        ensures err { OnErr result (self.new ≡ self.old) }
+    {
+        let mut project = self.project.share(alloc)?;
+        project.set(name, revision, source)?;
+        let facts = all_facts_after(
+            alloc,
+            self.project.files(),
+            self.facts.as_slice(),
+            &project,
+            name,
+        )?;
+        let Some(links) = self.links_after(alloc, &project, facts.as_slice(), name)? else {
+            self.project = project;
+            self.facts = facts;
+            self.readers = None;
+            self.settled = false;
+            return Ok(());
+        };
+        *self = Graph {
+            project,
+            facts,
+            links,
+            readers: None,
+            settled: false,
+        };
+        Ok(())
+    }
+
+    /// Whether the file at an index may read or use one of that name, which is not there.
+    fn may_look_for(&self, index: usize, name: FileName) -> bool
+        requires within { index < length self.now }
+        requires absent { spec_index name self.now ≡ None }
+        ensures unread { IsFalse result → is_among (read_names self.now (name_at self.now index)) name ≡ false }
+        ensures unused { IsFalse result → is_among (used_units self.now (name_at self.now index)) name ≡ false }
+    {
+        let _files = self.project.files();
+        let Some(facts) = facts_at(self.facts.as_slice(), index) else {
+            return true;
+        };
+        if may_read(facts, name) {
+            return true;
+        }
+        may_use(facts, row(self.links.edges(), index), name)
+    }
+
+    /// Whether any file may do so.
+    fn may_any_look_for(&self, name: FileName) -> bool
+        requires { spec_index name self.now ≡ None }
+        ensures unread { IsFalse result → (p : ℕ) → p < length self.now → is_among (read_names self.now (name_at self.now p)) name ≡ false }
+        ensures unused { IsFalse result → (p : ℕ) → p < length self.now → is_among (used_units self.now (name_at self.now p)) name ≡ false }
+    {
+        if self.settled {
+            return false;
+        }
+        for index in 0..self.project.files().len() {
+            if self.may_look_for(index, name) {
+                return true;
+            }
+        }
+        false
+    }
+
+    /// Where a file of that name would stand, if there is none, and no file is found to read or use one.
+    pub fn index_for(&self, name: FileName) -> Option<usize>
+        ensures { IfSome result (λ at. IsNew self.now name at) }
+    {
+        let at = self.project.gap(name)?;
+        if self.may_any_look_for(name) {
+            return None;
+        }
+        Some(at)
+    }
+
+    /// Puts a file that is new, and that no file reads or uses, where it stands from then on. What is kept of the others stays,
+    /// but for their indices.
+    pub fn add(
+        &mut self,
+        alloc: Global,
+        at: usize,
+        name: FileName,
+        revision: u32,
+        source: Option<Shared<Source>>,
+    ) -> Result<(), AllocError>
+        requires { IsNew self.old name at }
+        ensures ok { OnOk result (self.new ≡ put self.old (record { name = name; revision = revision; source = source })) }
+        ensures err { OnErr result (self.new ≡ self.old) }
+    {
+        let _files = self.project.files();
+        let file = Read {
+            name,
+            revision,
+            source,
+        };
+        self.settled = add_file(
+            alloc,
+            &mut self.project,
+            &mut self.facts,
+            &mut self.links,
+            at,
+            file,
+            self.settled,
+        )?;
+        self.readers = None;
+        Ok(())
+    }
+
+    /// The indices of the units that read the file at an index, in order. The first time all are found.
+    pub fn readers(&mut self, alloc: Global, index: usize) -> Result<Items<usize>, AllocError>
+        requires { index < length self.old }
+        ensures same { self.new ≡ self.old }
+        ensures readers { IfOk result (λ readers. readers ≡ readers_at self.old index) }
+    {
+        if let Some(rows) = &self.readers {
+            return Items::from_slice(alloc, row(rows.as_slice(), index));
+        }
+        let rows = find_readers(alloc, &self.project, self.facts.as_slice())?;
+        let readers = Items::from_slice(alloc, row(rows.as_slice(), index))?;
+        self.readers = Some(rows);
+        Ok(readers)
+    }
+
+    /// Gives the file at an index, which is read by the units at these indices, this text, or takes it away, by the edit of that
+    /// number. If all these read and use the same as before, all that is kept but what is known of them stays where it is. It
+    /// says whether that is so, and the file is open as before.
+    pub fn set(
+        &mut self,
+        alloc: Global,
+        index: usize,
+        readers: &[usize],
+        name: FileName,
+        revision: u32,
+        source: Option<Shared<Source>>,
+    ) -> Result<bool, AllocError>
+        requires index { spec_index name self.old ≡ Some index }
+        requires readers { readers.now ≡ readers_at self.old index }
+        ensures ok { OnOk result (self.new ≡ put self.old (record { name = name; revision = revision; source = source })) }
+        ensures alike { IfOk result (λ alike. alike ≡ true → AreAlike self.old self.new) }
+        ensures err { OnErr result (self.new ≡ self.old) }
+    {
+        let _files = self.project.files();
+        let file = Read {
+            name,
+            revision,
+            source,
+        };
+        let open = file.source.is_some() && self.project.is_open_at(index);
+        let again = share(&file)?;
+        self.settled = false;
+        if renew(
+            alloc,
+            &mut self.project,
+            &mut self.facts,
+            index,
+            readers,
+            file,
+        )? {
+            return Ok(open);
+        }
+        self.put(alloc, name, revision, again.source)?;
+        Ok(false)
+    }
+
+    /// What rests on what and uses what after the edit of a file; nothing, if that is the same as before, since no file is new
+    /// and each uses the same units.
+    fn links_after(
+        &self,
+        alloc: Global,
+        project: &Project,
+        facts: &[Shared<Facts>],
+        edited: FileName,
+    ) -> Result<Option<Linked>, AllocError>
+        requires facts { facts.now ≡ spec_all_facts project.now }
+        requires indices { is_some (index edited self.now) ≡ true → (name : List ℕ) → index name project.now ≡ index name self.now }
+        ensures { IfOk result (λ found. MatchOption found (graph_of self.now ≡ graph_of project.now) (λ links. links ≡ graph_of project.now)) }
+    {
+        if self.project.index(edited).is_none() {
+            let new = project.index_or_first(edited);
+            return self.found_links(alloc, project, facts, new);
+        }
+        if !use_same(self.facts.as_slice(), facts) {
+            return self.found_links(alloc, project, facts, facts.len());
+        }
+        Ok(None)
+    }
+
+    /// What rests on what and uses what in a project of whose files this is known. It is found sooner when the file at the new
+    /// index was not there.
+    fn found_links(
+        &self,
+        alloc: Global,
+        project: &Project,
+        facts: &[Shared<Facts>],
+        new: usize,
+    ) -> Result<Option<Linked>, AllocError>
+        requires { facts.now ≡ spec_all_facts project.now }
+        ensures { IfOk result (λ found. MatchOption found (graph_of self.now ≡ graph_of project.now) (λ links. links ≡ graph_of project.now)) }
+    {
+        let links = links_of(alloc, project, facts, self.links.edges(), new)?;
+        Ok(Some(links))
+    }
+
+    /// Where the file that the one at an index uses under this number, from 0, is looked for first. It promises nothing: an index
+    /// that is wrong costs time.
+    pub fn used_hint(&self, index: usize, number: usize) -> usize {
+        match row(self.links.edges(), index).get(number) {
+            Some(to) => *to,
+            None => 0,
+        }
+    }
+
+    /// The project that it is of.
+    pub fn project(&self) -> &Project
+        ensures { result.now ≡ self.now }
+    {
+        &self.project
+    }
+
+    /// What is known of the file of that name, if it is in the project.
+    fn facts_of(&self, hint: usize, name: FileName) -> Option<&Facts>
+        ensures { option_copied result ≡ option_map (λ at. spec_facts_of self.now name) (index name self.now) }
+    {
+        match self.project.index_near(hint, name) {
+            Some(index) => facts_at(self.facts.as_slice(), index),
+            None => None,
+        }
+    }
+
+    /// The expansion of a unit that is in the project.
+    fn expanded(&self, hint: usize, unit: FileName) -> Option<&Expanded>
+        ensures { option_copied result ≡ option_and_then (λ at. (spec_facts_of self.now unit).expanded) (index unit self.now) }
+    {
+        let expanded = self.facts_of(hint, unit)?.expanded.as_ref();
+        expanded.map(|expanded| expanded.get())
+    }
+
+    /// The units that a unit uses, in order of name.
+    pub fn uses(&self, unit: FileName) -> &[FileName]
+        ensures { result.now ≡ used_units self.now unit }
+    {
+        self.uses_near(0, unit)
+    }
+
+    /// The same of a unit that is looked for at an index first.
+    pub fn uses_near(&self, hint: usize, unit: FileName) -> &[FileName]
+        ensures { result.now ≡ used_units self.now unit }
+    {
+        match self.facts_of(hint, unit) {
+            Some(facts) => facts.uses.as_slice(),
+            None => &[],
+        }
+    }
+
+    /// The names that the expansion of a unit looks up, the unit first, each once, in the order of their first look-ups.
+    pub fn reads<'a>(&'a self, unit: &'a FileName) -> &'a [FileName]
+        ensures { result.now ≡ read_names self.now unit.now }
+    {
+        self.reads_near(0, unit)
+    }
+
+    /// The same of a unit that is looked for at an index first.
+    pub fn reads_near<'a>(&'a self, hint: usize, unit: &'a FileName) -> &'a [FileName]
+        ensures { result.now ≡ read_names self.now unit.now }
+    {
+        match self.expanded(hint, *unit) {
+            Some(expanded) => expanded.reads(),
+            None => own_name(unit),
+        }
+    }
+
+    /// Whether the expansion of the file at an index looks up that name, if it is a unit.
+    pub fn does_read(&self, index: usize, name: FileName) -> bool
+        requires { index < length self.now }
+        ensures { result ≡ is_among (read_names self.now (name_at self.now index)) name }
+    {
+        match facts_at(self.facts.as_slice(), index) {
+            Some(facts) => does_read(facts, name),
+            None => false,
+        }
+    }
+
+    /// The indices of the units that the unit at an index rests on.
+    pub fn rests(&self, index: usize) -> &[usize]
+        ensures { result.now ≡ spec_rests (graph_of self.now) index }
+    {
+        self.links.rests(index)
+    }
+
+    /// The indices of the units that use the one at an index, in order.
+    pub fn users(&self, index: usize) -> &[usize]
+        requires { index < length self.now }
+        ensures { result.now ≡ users_at self.now index }
+    {
+        self.links.sources(index)
+    }
+
+    /// Whether the one unit uses the other, which is the same or reaches it by units that each use the next.
+    pub fn is_circular(&self, unit: FileName, used: FileName) -> bool
+        ensures { result ≡ spec_is_circular self.now unit used }
+    {
+        match self.project.index(used) {
+            Some(to) => self.is_circular_to(0, unit, used, to),
+            None => false,
+        }
+    }
+
+    /// The same where the one that is used stands at this index, and the one that uses it is looked for at an index first.
+    fn is_circular_to(&self, hint: usize, unit: FileName, used: FileName, to: usize) -> bool
+        requires { spec_index used self.now ≡ Some to }
+        ensures { result ≡ spec_is_circular self.now unit used }
+    {
+        match self.project.index_near(hint, unit) {
+            Some(from) => self.does_use(from, to) && !is_index_among(self.rests(from), to),
+            None => false,
+        }
+    }
+
+    /// Whether an edge leads from the one index to the other.
+    fn does_use(&self, from: usize, to: usize) -> bool
+        ensures { result ≡ spec_is_among (targets (graph_of self.now) from) to }
+    {
+        is_index_among(row(self.links.edges(), from), to)
+    }
+
+    /// How a unit stands to one that uses it.
+    pub fn standing(&self, unit: FileName, used: FileName) -> Standing
+        ensures { result ≡ standing_of self.now unit used }
+    {
+        self.standing_near(0, 0, unit, used)
+    }
+
+    /// The same where the one that uses it, and the one that is used, are looked for at these indices first.
+    pub fn standing_near(
+        &self,
+        hint: usize,
+        used_hint: usize,
+        unit: FileName,
+        used: FileName,
+    ) -> Standing
+        ensures { result ≡ standing_of self.now unit used }
+    {
+        let Some(to) = self.project.index_near(used_hint, used) else {
+            return Standing::Absent;
+        };
+        if !self.project.is_open_at(to) {
+            Standing::Absent
+        } else if self.is_circular_to(hint, unit, used, to) {
+            Standing::Circular
+        } else {
+            Standing::Below
+        }
+    }
+}

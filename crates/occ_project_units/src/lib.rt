@@ -1,0 +1,18 @@
+//! Many units: a project, what each of its units reads and uses, and which of them use each other in circles.
+#![tactic(auto)]
+
+mod adding;
+mod expansion;
+mod facts;
+mod following;
+mod graph;
+pub mod laws;
+mod links;
+mod project;
+mod renewing;
+pub mod rows;
+mod standing;
+
+pub use graph::Graph;
+pub use project::{Project, share};
+pub use standing::Standing;

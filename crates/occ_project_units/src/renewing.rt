@@ -1,0 +1,160 @@
+//! Puts a file where one of its name is, if all its readers read and use the same as before. Else nothing is changed.
+ghost use Rattle.occ_project_graph.specs.Graph.{is_among as spec_is_among};
+ghost use Rattle.occ_project.specs.Reads.{index as spec_index};
+ghost use Rattle.occ_project_units.specs.Along.{name_at};
+ghost use Rattle.occ_project_units.specs.Indices.{readers_at as spec_readers_at};
+ghost use Rattle.occ_project_units.specs.Project.{IsProject, put};
+ghost use Rattle.occ_project_units.specs.inside.Keeping.{AreAsBefore, AreReaders, IsAsBefore, IsRenewed, all_facts as spec_all_facts, facts_of as spec_facts_of, reads_in};
+ghost use Rattle.std.specs.Option.{option_copied};
+ghost use Rattle.std.specs.Prelude.{get_or, false, IfOk, IsTrue, length, map, OnErr, slice_get, slice_set, Some, true, ℕ, ◌≡◌, ◌<◌, ◌⊎◌};
+
+use super::facts::{Facts, facts_of, read_edges, reads};
+use super::following::are_same_names;
+use super::project::Project;
+use occ_base::{Items, Shared};
+use occ_project::Read;
+use occ_project_graph::find_sources;
+use occ_project_graph::laws::sources_law;
+use std::alloc::{AllocError, Global};
+
+/// Of each file the indices of those that read it.
+pub fn find_readers(
+    alloc: Global,
+    project: &Project,
+    facts: &[Shared<Facts>],
+) -> Result<Items<Items<usize>>, AllocError>
+    requires { facts.now ≡ spec_all_facts project.now }
+    ensures { IfOk result (λ rows. AreReaders project.now (Some rows)) }
+{
+    let edges = read_edges(alloc, project, facts)?;
+    let rows = find_sources(alloc, edges.as_slice())?;
+    Ok(Items::from_vec(rows))
+}
+
+/// What is known of the files at these indices.
+pub fn facts_of_all(
+    alloc: Global,
+    project: &Project,
+    indices: &[usize],
+) -> Result<Items<Shared<Facts>>, AllocError>
+    requires { (p : ℕ) → spec_is_among indices.now p ≡ true → p < length project.now }
+    ensures { IfOk result (λ found. found ≡ map (λ index. spec_facts_of project.now (name_at project.now index)) indices.now) }
+{
+    let mut found = Items::new(alloc);
+    for index in indices {
+        let name = project.name_at(*index);
+        found.push(Shared::new(alloc, facts_of(alloc, project, *index, name)?)?)?;
+    }
+    Ok(found)
+}
+
+/// Whether a file reads and uses the same as before, by what is known of it.
+fn is_as_before(before: Option<&Shared<Facts>>, now: Option<&Shared<Facts>>) -> bool
+    ensures { IsTrue result → IsAsBefore (option_copied before.entry) (option_copied now.entry) }
+{
+    match (before, now) {
+        (Some(before), Some(now)) => {
+            are_same_names(reads(before.get()), reads(now.get()))
+                && are_same_names(before.get().uses.as_slice(), now.get().uses.as_slice())
+        }
+        _ => false,
+    }
+}
+
+/// Whether each of the files at these indices reads and uses the same as before, by what was found.
+pub fn are_as_before(facts: &[Shared<Facts>], indices: &[usize], found: &[Shared<Facts>]) -> bool
+    ensures { IsTrue result → AreAsBefore facts.now indices.now found.now }
+{
+    for i in 0..indices.len() {
+        if !is_as_before(facts.get(indices[i]), found.get(i)) {
+            return false;
+        }
+    }
+    true
+}
+
+/// Puts what is known of a file at the index that stands among these.
+fn put_at(facts: &mut Vec<Shared<Facts>>, indices: &[usize], i: usize, known: Shared<Facts>)
+    requires { i < length indices.now }
+    ensures { facts.new.items ≡ slice_set facts.old.items (get_or indices.now i 0) known }
+{
+    let index = indices[i];
+    if index < facts.len() {
+        facts[index] = known;
+    }
+}
+
+/// Puts what was found of the files at these indices there. Of the others it was known.
+pub fn put_all(
+    facts: &mut Vec<Shared<Facts>>,
+    project: &Project,
+    indices: &[usize],
+    mut found: Items<Shared<Facts>>,
+)
+    requires len { length facts.old.items ≡ length project.now }
+    requires found { found ≡ map (λ index. spec_facts_of project.now (name_at project.now index)) indices.now }
+    requires others { (p : ℕ) → p < length project.now → spec_is_among indices.now p ≡ true ⊎ slice_get facts.old.items p ≡ Some (spec_facts_of project.now (name_at project.now p)) }
+    ensures { facts.new.items ≡ spec_all_facts project.now }
+{
+    while let Some(known) = found.pop() {
+        put_at(facts, indices, found.len(), known);
+    }
+}
+
+/// Finds what is known of the files at these indices after an edit. If all these read and use the same as before it is put
+/// there, and else nothing is changed.
+fn renew_facts(
+    alloc: Global,
+    project: &Project,
+    facts: &mut Vec<Shared<Facts>>,
+    indices: &[usize],
+) -> Result<bool, AllocError>
+    requires within { (p : ℕ) → spec_is_among indices.now p ≡ true → p < length project.now }
+    requires len { length facts.old.items ≡ length project.now }
+    requires others { (p : ℕ) → p < length project.now → spec_is_among indices.now p ≡ true ⊎ slice_get facts.old.items p ≡ Some (spec_facts_of project.now (name_at project.now p)) }
+    ensures facts { IfOk result (λ done. done ≡ true → facts.new.items ≡ spec_all_facts project.now) }
+    ensures same { IfOk result (λ done. done ≡ true → AreAsBefore facts.old.items indices.now (map (λ index. spec_facts_of project.now (name_at project.now index)) indices.now)) }
+    ensures other { IfOk result (λ done. done ≡ false → facts.new.items ≡ facts.old.items) }
+    ensures err { OnErr result (facts.new.items ≡ facts.old.items) }
+{
+    let found = facts_of_all(alloc, project, indices)?;
+    if !are_as_before(facts.as_slice(), indices, found.as_slice()) {
+        return Ok(false);
+    }
+    put_all(facts, project, indices, found);
+    Ok(true)
+}
+
+/// Puts a file in the place of the one of its name, which the files at these indices read, with what is then known of them, if
+/// all these read and use the same as before. Else nothing is changed.
+pub fn renew(
+    alloc: Global,
+    project: &mut Project,
+    facts: &mut Vec<Shared<Facts>>,
+    index: usize,
+    readers: &[usize],
+    file: Read,
+) -> Result<bool, AllocError>
+    requires project { IsProject project.old }
+    requires index { spec_index file.name project.old ≡ Some index }
+    requires readers { readers.now ≡ spec_readers_at project.old index }
+    requires facts { facts.old.items ≡ spec_all_facts project.old }
+    ensures done { IfOk result (λ done. done ≡ true → IsRenewed project.old (put project.old file) × (project.new ≡ put project.old file × facts.new.items ≡ spec_all_facts project.new)) }
+    ensures other { IfOk result (λ done. done ≡ false → project.new ≡ project.old × facts.new.items ≡ facts.old.items) }
+    ensures err { OnErr result (project.new ≡ project.old × facts.new.items ≡ facts.old.items) }
+{
+    sources_law();
+    let before = project.read_near(index, file.name)?;
+    project.replace(index, file);
+    match renew_facts(alloc, project, facts, readers) {
+        Ok(true) => Ok(true),
+        Ok(false) => {
+            project.replace(index, before);
+            Ok(false)
+        }
+        Err(refused) => {
+            project.replace(index, before);
+            Err(refused)
+        }
+    }
+}

@@ -1,3 +1,0 @@
-pub mod Dimensions
-pub mod Sharing
-pub mod Recasting

@@ -1,9 +1,0 @@
-use Rattle.std.proofs.Common.{◌≡◌, ◌∙◌, List, map, subst}
-use Rattle.occ_commands.specs.Script.{Script, script_of}
-use Rattle.occ_sessions.specs.Output.{AreReading, IsTold}
-use Rattle.occ_sessions.proofs.run.run_sessions.Goals as goal
-
-pub returns-in-Ok-clause-told : goal.returns-in-Ok-clause-told
-returns-in-Ok-clause-told g c = λ bytes known read r.
-    let same : c.as_slice.result.now ≡ map script_of bytes = c.as_slice.ensures.value ∙ c.in-Ok.ensures.says bytes known in
-    subst (λ (scripts : List Script). AreReading read scripts → IsTold read scripts (g.W.ByteOut.written c.args.writer.now) (g.W.ByteOut.written c.run.new.writer) c.run.result) same (c.run.ensures.told read) r

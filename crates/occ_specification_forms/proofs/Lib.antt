@@ -1,9 +1,0 @@
-pub mod Groups
-pub mod Lists
-pub mod Named
-pub mod NoForm
-pub mod Once
-pub mod OneTree
-pub mod Results
-pub mod Starts
-pub mod Types

@@ -1,9 +1,0 @@
-use Rattle.occ_expression_forms.proofs.Lists.{behind_same}
-use Rattle.occ_specification_forms.proofs.Types.{named_is_untyped}
-use Rattle.occ_specification_forms.proofs.value.value.Goals as goal
-
-pub returns-in_default-3-clause-typed : goal.returns-in_default-3-clause-typed
-returns-in_default-3-clause-typed c b form n e is = absurd (named_is_untyped _ _ _ (rw c.in-Some-2.is at c.in_ok-name.ensures) form n _ (behind_same _ _ _ _ c.in-Some.ensures is))
-
-pub returns-in-Some-2-clause-typed : goal.returns-in-Some-2-clause-typed
-returns-in-Some-2-clause-typed c b form n e is = absurd (named_is_untyped _ _ _ (rw c.in-Some-2.is at c.in_ok-name.ensures) form n _ (behind_same _ _ _ _ c.in-Some.ensures is))

@@ -1,4 +1,0 @@
-pub mod Depth
-pub mod Reading
-pub mod Spelling
-pub mod inside

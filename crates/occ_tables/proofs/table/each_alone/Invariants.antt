@@ -1,9 +1,0 @@
-use Rattle.std.proofs.Common.{◌≡◌, ◌++◌, drop, map}
-use Rattle.occ_operands.specs.Operators.{all_faults, kinds}
-use Rattle.occ_tables.specs.Terms.{alone, judged_all}
-use Rattle.occ_tables.proofs.table.each_alone.Given as goal
-
-abbrev pub invariant-loop-term : goal.invariant-loop-term
-invariant-loop-term l =
-    (l.kinds ++ kinds (map alone (judged_all (drop l.term-index l.terms))) ≡ kinds (map alone (judged_all l.terms)))
-    × (l.faults ++ all_faults (map alone (judged_all (drop l.term-index l.terms))) ≡ l.initial.faults ++ all_faults (map alone (judged_all l.terms)))

@@ -1,3 +1,0 @@
-pub mod Operands
-pub mod Times
-pub mod Both

@@ -1,7 +1,0 @@
-use Rattle.std.proofs.Common.{arith}
-use Rattle.std.proofs.lemmas.Grind.{common_steps}
-use Rattle.occ_lists.proofs.Fronts.{front_rules}
-use Rattle.occ_typed_exchanges.proofs.receiving.counted_target.Goals as goal
-
-pub returns : goal.returns
-returns c = grind (arith, common_steps, front_rules)

@@ -1,6 +1,0 @@
-use Rattle.std.proofs.Common.{◌≡◌, drop}
-use Rattle.occ_typed_heads.specs.Formals.{all_known}
-use Rattle.occ_typed_heads.proofs.formal.all_known.Given as goal
-
-abbrev pub invariant-loop-one : goal.invariant-loop-one
-invariant-loop-one l = all_known (drop l.one-index l.formals) ≡ all_known l.formals

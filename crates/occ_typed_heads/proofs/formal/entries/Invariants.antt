@@ -1,6 +1,0 @@
-use Rattle.std.proofs.Common.{◌≡◌, ◌++◌, drop}
-use Rattle.occ_typed_heads.specs.Formals.{entries}
-use Rattle.occ_typed_heads.proofs.formal.entries.Given as goal
-
-abbrev pub invariant-loop-one : goal.invariant-loop-one
-invariant-loop-one l = l.entries ++ entries l.known (drop l.one-index l.formals) ≡ entries l.known l.formals

@@ -1,5 +1,0 @@
-pub mod Knowing
-pub mod Formals
-pub mod Groups
-pub mod Results
-pub mod Heads

@@ -1,9 +1,0 @@
-use Rattle.std.proofs.Common.{arith}
-use Rattle.std.proofs.lemmas.Grind.{common_steps}
-use Rattle.occ_typed_lines.proofs.specifying.recast_value_line.Goals as goal
-
-pub returns-clause-faults : goal.returns-clause-faults
-returns-clause-faults c = grind (arith, common_steps)
-
-pub returns-clause-line : goal.returns-clause-line
-returns-clause-line c = grind (arith, common_steps)

@@ -1,3 +1,0 @@
-pub mod Targets
-pub mod StatementTrees
-pub mod Statements

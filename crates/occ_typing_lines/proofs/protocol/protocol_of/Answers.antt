@@ -1,0 +1,16 @@
+use Rattle.std.proofs.Common.{arith}
+use Rattle.std.proofs.lemmas.Grind.{common_steps}
+use Rattle.occ_typing_lines.proofs.Trees.{tree_rules}
+use Rattle.occ_typing_lines.proofs.protocol.protocol_of.Goals as goal
+
+pub returns-clause-found : goal.returns-clause-found
+returns-clause-found c = grind (arith, common_steps, tree_rules)
+
+pub returns-clause-tags : goal.returns-clause-tags
+returns-clause-tags c = grind (arith, common_steps, tree_rules)
+
+pub returns-in_default-clause-found : goal.returns-in_default-clause-found
+returns-in_default-clause-found c = grind (arith, common_steps, tree_rules)
+
+pub returns-in_default-clause-tags : goal.returns-in_default-clause-tags
+returns-in_default-clause-tags c = grind (arith, common_steps, tree_rules)

@@ -1,0 +1,15 @@
+use Rattle.std.proofs.Common.{arith}
+use Rattle.std.proofs.lemmas.Grind.{common_steps}
+use Rattle.occ_typing_lines.proofs.variant.variant_named.Goals as goal
+
+pub returns-in-Some-clause-faults : goal.returns-in-Some-clause-faults
+returns-in-Some-clause-faults c = grind (arith, common_steps)
+
+pub returns-in-Some-clause-line : goal.returns-in-Some-clause-line
+returns-in-Some-clause-line c = grind (arith, common_steps)
+
+pub returns-in_ok-new-in-None-clause-faults : goal.returns-in_ok-new-in-None-clause-faults
+returns-in_ok-new-in-None-clause-faults c = grind (arith, common_steps)
+
+pub returns-in_ok-new-in-None-clause-line : goal.returns-in_ok-new-in-None-clause-line
+returns-in_ok-new-in-None-clause-line c = grind (arith, common_steps)

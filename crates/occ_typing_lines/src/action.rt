@@ -1,0 +1,89 @@
+//! Processes of one line: what each reports, and its typed form.
+ghost use Rattle.occ_typing_lines.specs.Actions.{action_faults, action_form as spec_action_form};
+ghost use Rattle.occ_forms.specs.declared.tree.Action.TheVariants as a;
+ghost use Rattle.std.specs.Prelude.{◌≡◌, ◌++◌, IfOk, OnOk};
+
+use super::form::{assignment_form, input_form, output_form};
+use super::tree::TypedForm;
+use occ_base::{Fault, Items};
+use occ_forms::{Action, Input, OutputItem};
+use occ_forms_expressions::{Element, Expr};
+use occ_scope::Scope;
+use occ_typing_statements::{assignment, input, output};
+use std::alloc::{AllocError, Global};
+
+/// What a process of one line reports, and what it is.
+pub fn action(
+    alloc: Global,
+    action: &Action,
+    scope: &Scope,
+    faults: &mut Items<Fault>,
+) -> Result<TypedForm, AllocError>
+    ensures form { IfOk result (λ form. form ≡ spec_action_form scope.now action.now) }
+    ensures faults { OnOk result (faults.new ≡ faults.old ++ action_faults scope.now action.now) }
+{
+    match action {
+        Action::Skip => Ok(TypedForm::Skip),
+        Action::Stop => Ok(TypedForm::Stop),
+        Action::Assignment(target, targets, value, values) => assigning(
+            alloc,
+            target,
+            targets.as_slice(),
+            value,
+            values.as_slice(),
+            scope,
+            faults,
+        ),
+        Action::Output(channel, first, more) => {
+            sending(alloc, channel, first, more.as_slice(), scope, faults)
+        }
+        Action::Input(following) => receiving(alloc, following, scope, faults),
+    }
+}
+
+/// What an assignment reports, and what it is.
+fn assigning(
+    alloc: Global,
+    target: &Element,
+    targets: &[Element],
+    value: &Expr,
+    values: &[Expr],
+    scope: &Scope,
+    faults: &mut Items<Fault>,
+) -> Result<TypedForm, AllocError>
+    ensures form { IfOk result (λ form. form ≡ spec_action_form scope.now (a.Assignment target.now targets.now value.now values.now)) }
+    ensures faults { OnOk result (faults.new ≡ faults.old ++ action_faults scope.now (a.Assignment target.now targets.now value.now values.now)) }
+{
+    let tree = assignment(alloc, target, targets, value, values, scope, faults)?;
+    Ok(assignment_form(tree))
+}
+
+/// What an output reports, and what it is.
+fn sending(
+    alloc: Global,
+    channel: &Element,
+    first: &OutputItem,
+    more: &[OutputItem],
+    scope: &Scope,
+    faults: &mut Items<Fault>,
+) -> Result<TypedForm, AllocError>
+    ensures form { IfOk result (λ form. form ≡ spec_action_form scope.now (a.Output channel.now first.now more.now)) }
+    ensures faults { OnOk result (faults.new ≡ faults.old ++ action_faults scope.now (a.Output channel.now first.now more.now)) }
+{
+    let tree = output(alloc, channel, first, more, scope, faults)?;
+    Ok(output_form(tree))
+}
+
+/// What an input reports, and what it is.
+fn receiving(
+    alloc: Global,
+    following: &Input,
+    scope: &Scope,
+    faults: &mut Items<Fault>,
+) -> Result<TypedForm, AllocError>
+    ensures form { IfOk result (λ form. form ≡ spec_action_form scope.now (a.Input following.now)) }
+    ensures faults { OnOk result (faults.new ≡ faults.old ++ action_faults scope.now (a.Input following.now)) }
+{
+    let tree = input(alloc, following, scope, faults)?;
+    Ok(input_form(tree))
+}

@@ -1,0 +1,112 @@
+//! Imports: what comes into scope after a `#USE`, from the interfaces of used units.
+ghost use Rattle.occ_typing_lines.specs.Using.{entry_of, entries_of, imported as spec_imported, interface_of as spec_interface_of, meaning_of as spec_meaning_of};
+ghost use Rattle.std.specs.Prelude.{◌≡◌, ◌++◌, ◌∷◌, [], IfOk, OnOk};
+
+use occ_base::{FileName, Items, Shared, one_item};
+use occ_scope::{Meaning, ScopeEntry};
+use occ_types::{Export, ExportKind, Formal, Interface, OccType};
+use std::alloc::{AllocError, Global};
+
+/// A unit that another uses: its file, and what it exports.
+#[derive(Drop)]
+pub struct Import {
+    pub unit: FileName,
+    pub interface: Shared<Interface>,
+}
+
+/// Formals once more, which share their types.
+pub fn shared_formals(alloc: Global, formals: &[Formal]) -> Result<Items<Formal>, AllocError>
+    ensures { IfOk result (λ shared. shared ≡ formals.now) }
+{
+    let mut shared = Items::new(alloc);
+    for formal in formals {
+        let of = formal.of.share()?;
+        shared.push(Formal {
+            of,
+            passing: formal.passing,
+        })?;
+    }
+    Ok(shared)
+}
+
+/// Types once more, shared.
+pub fn shared_types(
+    alloc: Global,
+    types: &[Shared<OccType>],
+) -> Result<Items<Shared<OccType>>, AllocError>
+    ensures { IfOk result (λ shared. shared ≡ types.now) }
+{
+    let mut shared = Items::new(alloc);
+    for of in types {
+        shared.push(of.share()?)?;
+    }
+    Ok(shared)
+}
+
+/// What the name of an export stands for.
+fn meaning_of(alloc: Global, export: &Export) -> Result<Meaning, AllocError>
+    ensures { IfOk result (λ meaning. meaning ≡ spec_meaning_of export.now.kind export.now.formals export.now.results) }
+{
+    let formals = shared_formals(alloc, export.formals.as_slice())?;
+    match export.kind {
+        ExportKind::Process => Ok(Meaning::Procedure(formals)),
+        ExportKind::Function => {
+            let results = shared_types(alloc, export.results.as_slice())?;
+            Ok(Meaning::Function(formals, results))
+        }
+    }
+}
+
+/// An export as it comes into scope.
+fn entry(alloc: Global, export: &Export) -> Result<ScopeEntry, AllocError>
+    ensures { IfOk result (λ entry. entry ≡ entry_of export.now) }
+{
+    let name = export.name.copied(alloc)?;
+    let meaning = Shared::new(alloc, meaning_of(alloc, export)?)?;
+    Ok(ScopeEntry { name, meaning })
+}
+
+/// Exports as they come into scope, after others.
+fn push_exports(
+    alloc: Global,
+    exports: &[Export],
+    entries: &mut Items<ScopeEntry>,
+) -> Result<(), AllocError>
+    ensures { OnOk result (entries.new ≡ entries.old ++ entries_of exports.now) }
+{
+    for export in exports {
+        let entry = entry(alloc, export)?;
+        entries.push(entry)?;
+    }
+    Ok(())
+}
+
+/// What the first import of this unit shows; a unit of which there is none shows nothing.
+pub fn interface_of(
+    alloc: Global,
+    imports: &[Import],
+    unit: &FileName,
+) -> Result<Items<Shared<Interface>>, AllocError>
+    ensures { IfOk result (λ found. found ≡ spec_interface_of unit.now imports.now) }
+{
+    for import in imports {
+        if import.unit == *unit {
+            return one_item(alloc, import.interface.share()?);
+        }
+    }
+    Ok(Items::new(alloc))
+}
+
+/// What comes into scope after a line that uses a unit which shows this.
+pub fn imported(
+    alloc: Global,
+    interfaces: &[Shared<Interface>],
+) -> Result<Items<ScopeEntry>, AllocError>
+    ensures { IfOk result (λ entries. entries ≡ spec_imported interfaces.now) }
+{
+    let mut entries = Items::new(alloc);
+    for interface in interfaces {
+        push_exports(alloc, interface.get().exports.as_slice(), &mut entries)?;
+    }
+    Ok(entries)
+}

@@ -1,0 +1,136 @@
+//! Subscripts and fields: what they select of a value, and N1, T2 or T6.
+ghost use Rattle.std.specs.Prelude.{◌≡◌, ◌++◌, IfOk, MatchOption, None, OnOk, Some};
+ghost use Rattle.occ_typing_operands.specs.Parts.{component as spec_component, component_at as spec_component_at, field as spec_field, field_named as spec_field_named, field_reported, is_constant_outside, mismatched as spec_mismatched, not_subscripted as spec_not_subscripted, subscripted as spec_subscripted};
+
+use super::kind::Kind;
+use super::settle::{int, known, settled};
+use super::want::wanted;
+use occ_base::{Code, Fault, Items, Name, Shared, report};
+use occ_types::{Field, OccType, Value, array_of, is_unknown, unnamed};
+use std::alloc::{AllocError, Global};
+
+/// Whether a constant is no place of an array of so many components.
+fn is_outside(count: Option<u32>, place: Option<Value>) -> bool
+    ensures { result ≡ is_constant_outside count place }
+{
+    let Some(value) = place else {
+        return false;
+    };
+    let place = value.number();
+    match count {
+        Some(count) => place < 0 || i64::from(count) <= place,
+        None => place < 0,
+    }
+}
+
+/// The component at a settled place.
+fn component_at(
+    count: Option<u32>,
+    of: &Shared<OccType>,
+    place: &Kind,
+    faults: &mut Items<Fault>,
+) -> Result<Kind, AllocError>
+    ensures kind { IfOk result (λ kind. kind ≡ (spec_component_at count of.now place.now).kind) }
+    ensures faults { OnOk result (faults.new ≡ faults.old ++ (spec_component_at count of.now place.now).faults) }
+{
+    match place {
+        Kind::Known(found) => {
+            if is_outside(count, found.value) {
+                report(faults, Code::T6)?;
+                return Ok(Kind::Faulty);
+            }
+            known(of, None)
+        }
+        _ => Ok(Kind::Faulty),
+    }
+}
+
+/// The component of an array at a place, which must be an INT, and lie in the array if it is constant.
+fn component(
+    alloc: Global,
+    count: Option<u32>,
+    of: &Shared<OccType>,
+    index: &Kind,
+    faults: &mut Items<Fault>,
+) -> Result<Kind, AllocError>
+    ensures kind { IfOk result (λ kind. kind ≡ (spec_component count of.now index.now).kind) }
+    ensures faults { OnOk result (faults.new ≡ faults.old ++ (spec_component count of.now index.now).faults) }
+{
+    let place = wanted(alloc, &int(alloc)?, index, faults)?;
+    component_at(count, of, &place, faults)
+}
+
+/// T2 is reported of a settled operand that stands where none of its type may.
+pub fn mismatched(operand: &Kind, faults: &mut Items<Fault>) -> Result<Kind, AllocError>
+    ensures kind { IfOk result (λ kind. kind ≡ (spec_mismatched operand.now).kind) }
+    ensures faults { OnOk result (faults.new ≡ faults.old ++ (spec_mismatched operand.now).faults) }
+{
+    if let Kind::Known(_) = operand {
+        report(faults, Code::T2)?;
+    }
+    Ok(Kind::Faulty)
+}
+
+/// A subscript of what is no array.
+fn not_subscripted(
+    alloc: Global,
+    index: &Kind,
+    faults: &mut Items<Fault>,
+) -> Result<Kind, AllocError>
+    ensures kind { IfOk result (λ kind. kind ≡ (spec_not_subscripted index.now).kind) }
+    ensures faults { OnOk result (faults.new ≡ faults.old ++ (spec_not_subscripted index.now).faults) }
+{
+    let place = settled(alloc, &int(alloc)?, index, faults)?;
+    mismatched(&place, faults)
+}
+
+/// What a subscript that is no name of a field selects of a value of this type.
+pub fn subscripted(
+    alloc: Global,
+    of: &OccType,
+    index: &Kind,
+    faults: &mut Items<Fault>,
+) -> Result<Kind, AllocError>
+    ensures kind { IfOk result (λ kind. kind ≡ (spec_subscripted of.now index.now).kind) }
+    ensures faults { OnOk result (faults.new ≡ faults.old ++ (spec_subscripted of.now index.now).faults) }
+{
+    match array_of(unnamed(of)) {
+        Some((count, inner)) => component(alloc, count, inner, index, faults),
+        None => not_subscripted(alloc, index, faults),
+    }
+}
+
+/// The type of the first field of a name.
+fn field_named<'a>(fields: &'a [Field], name: &Name) -> Option<&'a Shared<OccType>>
+    ensures { MatchOption result (spec_field_named name.now fields.now ≡ None) (λ of. spec_field_named name.now fields.now ≡ Some of.now) }
+{
+    for field in fields {
+        if field.name == *name {
+            return Some(&field.of);
+        }
+    }
+    None
+}
+
+/// What a name selects of a record with these fields.
+pub fn field(
+    alloc: Global,
+    fields: &[Field],
+    name: &Name,
+    faults: &mut Items<Fault>,
+) -> Result<Kind, AllocError>
+    ensures kind { IfOk result (λ kind. kind ≡ (spec_field fields.now name.now).kind) }
+    ensures faults { OnOk result (faults.new ≡ faults.old ++ (spec_field fields.now name.now).faults) }
+{
+    match field_named(fields, name) {
+        Some(of) if is_unknown(of.get()) => Ok(Kind::Faulty),
+        Some(of) => known(of, None),
+        None => {
+            faults.push(Fault {
+                code: Code::N1,
+                name: Some(name.copied(alloc)?),
+            })?;
+            Ok(Kind::Faulty)
+        }
+    }
+}

@@ -1,0 +1,6 @@
+pub mod Folds
+pub mod Knowing
+pub mod OpenPlacing
+pub mod Fronts
+pub mod Counting
+pub mod Agreeing

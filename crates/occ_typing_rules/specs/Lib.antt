@@ -1,0 +1,11 @@
+pub mod Dimensions
+pub mod Sharing
+pub mod Recasting
+pub mod Placing
+pub mod Numbering
+pub mod Assigning
+pub mod Choosing
+pub mod Resulting
+pub mod Calling
+pub mod Abbreviating
+pub mod Listing

@@ -1,0 +1,16 @@
+pub mod Entering
+pub mod Declaring
+pub mod Valuing
+pub mod Defining
+pub mod Fields
+pub mod Recording
+pub mod Abbreviating
+pub mod Recasting
+pub mod Knowing
+pub mod Formals
+pub mod Groups
+pub mod Results
+pub mod Heads
+pub mod Items
+pub mod Tags
+pub mod Protocols

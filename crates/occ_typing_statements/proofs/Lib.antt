@@ -1,0 +1,5 @@
+pub mod Elements
+pub mod Fronts
+pub mod Operands
+pub mod Times
+pub mod Both

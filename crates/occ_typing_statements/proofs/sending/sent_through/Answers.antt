@@ -1,0 +1,13 @@
+use Rattle.std.proofs.Common.{arith}
+use Rattle.std.proofs.lemmas.Grind.{common_steps}
+use Rattle.occ_base.proofs.Fronts.{front_rules}
+use Rattle.occ_typing_statements.proofs.sending.sent_through.Goals as goal
+
+pub returns-clause-faults : goal.returns-clause-faults
+returns-clause-faults c = grind (arith, common_steps, front_rules)
+
+pub returns-clause-givens : goal.returns-clause-givens
+returns-clause-givens c = grind (arith, common_steps, front_rules)
+
+pub returns-clause-trees : goal.returns-clause-trees
+returns-clause-trees c = grind (arith, common_steps, front_rules)

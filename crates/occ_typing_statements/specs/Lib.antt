@@ -1,0 +1,13 @@
+pub mod Targets
+pub mod StatementTrees
+pub mod Statements
+pub mod Actuals
+pub mod Instances
+pub mod Bounds
+pub mod Counting
+pub mod Replicating
+pub mod Through
+pub mod Sending
+pub mod Receiving
+pub mod Inputs
+pub mod Variants

@@ -1,0 +1,255 @@
+//! Lines of processes: `el, .. := e, ..`, conditions, selectors, options, results. They give faults and typed trees.
+//! `docs/LANGUAGE.md, What lines ask of operands`.
+ghost use Rattle.std.specs.Prelude.{◌≡◌, ◌∷◌, ◌++◌, IfOk, OnOk};
+ghost use Rattle.occ_expr_operations.specs.Parts.{own_faults, terms as spec_terms};
+ghost use Rattle.occ_expr.specs.Trees.{int_tree as spec_int_tree};
+ghost use Rattle.occ_typing_operands.specs.Settling.{int as spec_int};
+ghost use Rattle.occ_typing_tables.specs.Terms.{judged};
+ghost use Rattle.occ_typing_rules.specs.Choosing.{condition as reported_no_condition, selector as reported_selecting};
+ghost use Rattle.occ_typing_rules.specs.Placing.{placed as spec_placed};
+ghost use Rattle.occ_types.specs.declared.types.OccType.TheVariants as t;
+ghost use Rattle.occ_types.specs.declared.value.Primitive.TheVariants as p;
+ghost use Rattle.occ_typing_statements.specs.StatementTrees.{assigned as spec_assigned, assignment_tree as spec_assignment_tree, condition_tree as spec_condition_tree, open_exprs as spec_opens, options_trees as spec_options_trees, results_trees as spec_results_trees, types_of as spec_types_of};
+ghost use Rattle.occ_typing_statements.specs.Statements.{assignment as spec_assignment, condition as reported_condition, hidden_results as spec_hidden_results, is_any_faulty, options as spec_options, results as spec_results, said, selector as reported_selector};
+
+use super::target::all_targets;
+use occ_base::{Fault, Items, Shared};
+use occ_expr::{expression, side};
+use occ_expr_operations::{Reading, Readings};
+use occ_forms_expressions::{Element, Expr};
+use occ_scope::Scope;
+use occ_types::{OccType, Primitive};
+use occ_typing_operands::{Kind, int};
+use occ_typing_rules::{
+    OpenExpr, TypedElement, TypedExpr, all_placed, assigned, condition as judge_condition,
+    each_placed, hidden_results as count_results, options as choose, placed, results as compare,
+    selector as select,
+};
+use occ_typing_tables::{any_has_fault, report_hidden};
+use std::alloc::{AllocError, Global};
+use std::collections::BTreeSet;
+
+/// An assignment: its targets, and the value for each. Of a call with several results each value is the call.
+#[derive(Drop)]
+pub struct TypedAssignment {
+    pub targets: Items<TypedElement>,
+    pub values: Items<Shared<TypedExpr>>,
+}
+
+/// Expressions after those that were read.
+fn more_expressions(
+    alloc: Global,
+    exprs: &[Expr],
+    scope: &Scope,
+    readings: &mut Readings,
+    faults: &mut Items<Fault>,
+) -> Result<(), AllocError>
+    ensures terms { OnOk result (readings.new.terms ≡ readings.old.terms ++ spec_terms (said scope.now exprs.now)) }
+    ensures open_exprs { OnOk result (readings.new.open_exprs ≡ readings.old.open_exprs ++ spec_opens scope.now exprs.now) }
+    ensures faults { OnOk result (faults.new ≡ faults.old ++ own_faults (said scope.now exprs.now)) }
+{
+    for expr in exprs {
+        let reading = expression(alloc, expr, scope, faults)?;
+        readings.push(reading)?;
+    }
+    Ok(())
+}
+
+/// What is read of each expression of a list, before a type is wanted of it.
+fn expressions(
+    alloc: Global,
+    first: &Expr,
+    more: &[Expr],
+    scope: &Scope,
+    faults: &mut Items<Fault>,
+) -> Result<Readings, AllocError>
+    ensures terms { IfOk result (λ readings. readings.terms ≡ spec_terms (said scope.now (first.now ∷ more.now))) }
+    ensures open_exprs { IfOk result (λ readings. readings.open_exprs ≡ spec_opens scope.now (first.now ∷ more.now)) }
+    ensures faults { OnOk result (faults.new ≡ faults.old ++ own_faults (said scope.now (first.now ∷ more.now))) }
+{
+    let mut readings = Readings::new(alloc);
+    let reading = expression(alloc, first, scope, faults)?;
+    readings.push(reading)?;
+    more_expressions(alloc, more, scope, &mut readings, faults)?;
+    Ok(readings)
+}
+
+/// The types of targets.
+fn types_of(alloc: Global, targets: &[TypedElement]) -> Result<Items<Shared<OccType>>, AllocError>
+    ensures { IfOk result (λ types. types ≡ spec_types_of targets.now) }
+{
+    let mut types = Items::new(alloc);
+    for target in targets {
+        types.push(target.known.of.share()?)?;
+    }
+    Ok(types)
+}
+
+/// The targets of an assignment and the values for them, if none has a fault.
+fn assignment_tree(
+    alloc: Global,
+    targets: Option<Items<TypedElement>>,
+    values: &[OpenExpr],
+) -> Result<Option<TypedAssignment>, AllocError>
+    ensures { IfOk result (λ tree. tree ≡ spec_assigned targets values.now) }
+{
+    let Some(targets) = targets else {
+        return Ok(None);
+    };
+    let types = types_of(alloc, targets.as_slice())?;
+    let Some(values) = each_placed(alloc, values, types.as_slice())? else {
+        return Ok(None);
+    };
+    Ok(Some(TypedAssignment { targets, values }))
+}
+
+/// `el, .. := e, ..`: the targets, the values, and each value for its target.
+pub fn assignment(
+    alloc: Global,
+    first_target: &Element,
+    more_targets: &[Element],
+    first_value: &Expr,
+    more_values: &[Expr],
+    scope: &Scope,
+    faults: &mut Items<Fault>,
+) -> Result<Option<TypedAssignment>, AllocError>
+    ensures tree { IfOk result (λ tree. tree ≡ spec_assignment_tree scope.now (first_target.now ∷ more_targets.now) (first_value.now ∷ more_values.now)) }
+    ensures faults { OnOk result (faults.new ≡ faults.old ++ spec_assignment scope.now (first_target.now ∷ more_targets.now) (first_value.now ∷ more_values.now)) }
+{
+    let targets = all_targets(alloc, first_target, more_targets, scope, faults)?;
+    let values = side(alloc, first_value, more_values, scope, faults)?;
+    assigned(
+        alloc,
+        targets.kinds.as_slice(),
+        values.terms.as_slice(),
+        faults,
+    )?;
+    assignment_tree(alloc, targets.trees, values.open_exprs.as_slice())
+}
+
+/// The tree of a condition of which this is read, if it has no fault.
+fn condition_of(
+    alloc: Global,
+    read: &Reading,
+    faults: &mut Items<Fault>,
+) -> Result<Option<Shared<TypedExpr>>, AllocError>
+    ensures tree { IfOk result (λ tree. tree ≡ spec_placed read.now.open_expr (t.Primitive p.Bool)) }
+    ensures faults { OnOk result (faults.new ≡ faults.old ++ reported_no_condition (judged read.now.term)) }
+{
+    judge_condition(alloc, &read.term, faults)?;
+    let bool = Shared::new(alloc, OccType::Primitive(Primitive::Bool))?;
+    placed(alloc, &read.open_expr, &bool)
+}
+
+/// The condition of an `IF` or a `WHILE`.
+pub fn condition(
+    alloc: Global,
+    expr: &Expr,
+    scope: &Scope,
+    faults: &mut Items<Fault>,
+) -> Result<Option<Shared<TypedExpr>>, AllocError>
+    ensures tree { IfOk result (λ tree. tree ≡ spec_condition_tree scope.now expr.now) }
+    ensures faults { OnOk result (faults.new ≡ faults.old ++ reported_condition scope.now expr.now) }
+{
+    let read = expression(alloc, expr, scope, faults)?;
+    let tree = condition_of(alloc, &read, faults);
+    drop(read);
+    tree
+}
+
+/// What is known of a selector of which this is read, and its tree.
+fn selector_of(
+    alloc: Global,
+    read: &Reading,
+    faults: &mut Items<Fault>,
+) -> Result<(Kind, Option<Shared<TypedExpr>>), AllocError>
+    ensures kind { IfOk result (λ r. r.0 ≡ (reported_selecting (judged read.now.term)).kind) }
+    ensures tree { IfOk result (λ r. r.1 ≡ spec_placed read.now.open_expr spec_int) }
+    ensures faults { OnOk result (faults.new ≡ faults.old ++ (reported_selecting (judged read.now.term)).faults) }
+{
+    let kind = select(alloc, &read.term, faults)?;
+    let tree = placed(alloc, &read.open_expr, &int(alloc)?)?;
+    Ok((kind, tree))
+}
+
+/// The selector of a `CASE`: what is known of it, and its tree.
+#[tactic(auto, unfolding(occ_expr::specs::Trees::int_tree))]
+pub fn selector(
+    alloc: Global,
+    expr: &Expr,
+    scope: &Scope,
+    faults: &mut Items<Fault>,
+) -> Result<(Kind, Option<Shared<TypedExpr>>), AllocError>
+    ensures kind { IfOk result (λ r. r.0 ≡ (reported_selector scope.now expr.now).kind) }
+    ensures tree { IfOk result (λ r. r.1 ≡ spec_int_tree scope.now expr.now) }
+    ensures faults { OnOk result (faults.new ≡ faults.old ++ (reported_selector scope.now expr.now).faults) }
+{
+    let read = expression(alloc, expr, scope, faults)?;
+    let selected = selector_of(alloc, &read, faults);
+    drop(read);
+    selected
+}
+
+/// The options of one line of a `CASE` with this selector; `before` holds the numbers of those on the lines before.
+pub fn options(
+    alloc: Global,
+    first: &Expr,
+    more: &[Expr],
+    selector: &Kind,
+    before: &mut BTreeSet<i64>,
+    scope: &Scope,
+    faults: &mut Items<Fault>,
+) -> Result<Option<Items<Shared<TypedExpr>>>, AllocError>
+    ensures trees { IfOk result (λ trees. trees ≡ spec_options_trees scope.now selector.now (first.now ∷ more.now)) }
+    ensures faults { OnOk result (faults.new ≡ faults.old ++ (spec_options scope.now selector.now before.old (first.now ∷ more.now)).faults) }
+    ensures numbers { OnOk result (before.new ≡ (spec_options scope.now selector.now before.old (first.now ∷ more.now)).numbers) }
+{
+    let read = expressions(alloc, first, more, scope, faults)?;
+    match selector {
+        Kind::Known(known) => {
+            choose(alloc, &known.of, read.terms.as_slice(), before, faults)?;
+            all_placed(alloc, read.open_exprs.as_slice(), &known.of)
+        }
+        Kind::Faulty | Kind::Untyped(_) => {
+            report_hidden(alloc, read.terms.as_slice(), faults)?;
+            Ok(None)
+        }
+    }
+}
+
+/// The results of a FUNCTION with results of these types, whose head has no fault: whether one of them has a fault, and
+/// their trees.
+pub fn results(
+    alloc: Global,
+    first: &Expr,
+    more: &[Expr],
+    types: &[Shared<OccType>],
+    scope: &Scope,
+    faults: &mut Items<Fault>,
+) -> Result<(bool, Option<Items<Shared<TypedExpr>>>), AllocError>
+    ensures faulty { IfOk result (λ r. r.0 ≡ is_any_faulty scope.now (first.now ∷ more.now)) }
+    ensures trees { IfOk result (λ r. r.1 ≡ spec_results_trees scope.now types.now (first.now ∷ more.now)) }
+    ensures faults { OnOk result (faults.new ≡ faults.old ++ spec_results scope.now types.now (first.now ∷ more.now)) }
+{
+    let read = side(alloc, first, more, scope, faults)?;
+    compare(alloc, types, read.terms.as_slice(), faults)?;
+    let trees = each_placed(alloc, read.open_exprs.as_slice(), types)?;
+    Ok((any_has_fault(read.terms.as_slice()), trees))
+}
+
+/// The results of a FUNCTION with a fault in its head, which wants so many: whether one of them has a fault.
+pub fn hidden_results(
+    alloc: Global,
+    first: &Expr,
+    more: &[Expr],
+    count: usize,
+    scope: &Scope,
+    faults: &mut Items<Fault>,
+) -> Result<bool, AllocError>
+    ensures faulty { IfOk result (λ faulty. faulty ≡ is_any_faulty scope.now (first.now ∷ more.now)) }
+    ensures faults { OnOk result (faults.new ≡ faults.old ++ spec_hidden_results scope.now count (first.now ∷ more.now)) }
+{
+    let read = side(alloc, first, more, scope, faults)?;
+    count_results(alloc, count, read.terms.as_slice(), faults)?;
+    Ok(any_has_fault(read.terms.as_slice()))
+}

@@ -1,0 +1,509 @@
+//! Tables: the one type of their items, item by item under a wanted type or alone. Each item is settled once, so deep
+//! tables are cheap.
+#![tactic(auto, using(crate::proofs::Judging::judging_rules))]
+
+ghost use Rattle.std.specs.Prelude.{◌≡◌, ◌++◌, ◌∷◌, [], IfOk, OnOk, Some, map};
+ghost use Rattle.std.specs.List.{list_any};
+ghost use Rattle.occ_typing_operands.specs.Settling.{settled as spec_settled};
+ghost use Rattle.occ_typing_operands.specs.Operators.{all_faults, is_faulty as spec_is_faulty, kinds as spec_kinds};
+ghost use Rattle.occ_typing_tables.specs.Terms.{after_first as spec_after_first, all_settled as spec_all_settled, all_under as spec_all_under, alone as spec_alone, each_own_or_alone as spec_each_own_or_alone, each_under as spec_each_under, first_settled as spec_first_settled, fitted_or_alone as spec_fitted_or_alone, fitted_to as spec_fitted_to, is_faulty_settled, others_faults, own_or_alone as spec_own_or_alone, settled_itself as spec_settled_itself, settled_under as spec_settled_under, first_type as spec_first_type, items_type as spec_items_type, judged, judged_all, merged_all as spec_merged_all, merged_next as spec_merged_next, so_many as spec_so_many, table_alone as spec_table_alone, table_settled as spec_table_settled, table_type as spec_table_type, table_under as spec_table_under, under as spec_under, unless_faulty};
+
+use super::extent::arrayed;
+use super::merge::merged;
+use super::term::Term;
+use occ_base::{Code, Fault, Items, Name, Shared, report};
+use occ_types::{OccType, array_of, is_data};
+use occ_typing_operands::{Kind, fitted, int, is_faulty, known, settled, wanted};
+use std::alloc::{AllocError, Global};
+
+/// The one type of the items so far, with one item more.
+fn merged_next(
+    alloc: Global,
+    of: Option<Shared<OccType>>,
+    kind: &Kind,
+) -> Result<Option<Shared<OccType>>, AllocError>
+    ensures { IfOk result (λ found. found ≡ spec_merged_next of kind.now) }
+{
+    match (of, kind) {
+        (Some(of), Kind::Known(found)) => merged(alloc, &of, &found.of),
+        (of, _) => Ok(of),
+    }
+}
+
+/// The one type of the items and of the one that was wanted of them, if they agree.
+pub(super) fn merged_all(
+    alloc: Global,
+    of: &Shared<OccType>,
+    kinds: &[Kind],
+) -> Result<Option<Shared<OccType>>, AllocError>
+    ensures { IfOk result (λ found. found ≡ spec_merged_all (Some of.now) kinds.now) }
+{
+    let mut found = Some(of.share()?);
+    for kind in kinds {
+        found = merged_next(alloc, found, kind)?;
+    }
+    Ok(found)
+}
+
+/// A table of so many items of this type.
+fn so_many(
+    alloc: Global,
+    count: usize,
+    of: &Shared<OccType>,
+    faults: &mut Items<Fault>,
+) -> Result<Kind, AllocError>
+    ensures kind { IfOk result (λ kind. kind ≡ (spec_so_many count of.now).kind) }
+    ensures faults { OnOk result (faults.new ≡ faults.old ++ (spec_so_many count of.now).faults) }
+{
+    let Ok(count) = u32::try_from(count) else {
+        report(faults, Code::T9)?;
+        return Ok(Kind::Faulty);
+    };
+    arrayed(alloc, Some(count), of, faults)
+}
+
+/// A table of so many items of one type, if they have one and it is one of data.
+pub fn table_type(
+    alloc: Global,
+    count: usize,
+    of: Option<Shared<OccType>>,
+    faults: &mut Items<Fault>,
+) -> Result<Kind, AllocError>
+    ensures kind { IfOk result (λ kind. kind ≡ (spec_table_type count of).kind) }
+    ensures faults { OnOk result (faults.new ≡ faults.old ++ (spec_table_type count of).faults) }
+{
+    let Some(of) = of else {
+        report(faults, Code::T2)?;
+        return Ok(Kind::Faulty);
+    };
+    if !is_data(of.get()) {
+        report(faults, Code::T2)?;
+        return Ok(Kind::Faulty);
+    }
+    so_many(alloc, count, &of, faults)
+}
+
+/// The type of the first item; this one, if there is none.
+fn first_type<'a>(of: &'a Shared<OccType>, kinds: &'a [Kind]) -> &'a Shared<OccType>
+    ensures { result.now ≡ spec_first_type of.now kinds.now }
+{
+    for kind in kinds {
+        if let Kind::Known(found) = kind {
+            return &found.of;
+        }
+    }
+    of
+}
+
+/// A table of settled items, of which this type was wanted.
+fn items_type(
+    alloc: Global,
+    of: &Shared<OccType>,
+    kinds: &[Kind],
+    faults: &mut Items<Fault>,
+) -> Result<Kind, AllocError>
+    ensures kind { IfOk result (λ kind. kind ≡ (spec_items_type of.now kinds.now).kind) }
+    ensures faults { OnOk result (faults.new ≡ faults.old ++ (spec_items_type of.now kinds.now).faults) }
+{
+    let of = merged_all(alloc, first_type(of, kinds), kinds)?;
+    table_type(alloc, kinds.len(), of, faults)
+}
+
+/// Whether one of the items is faulty.
+pub fn any_faulty(kinds: &[Kind]) -> bool
+    ensures { result ≡ list_any spec_is_faulty kinds.now }
+{
+    for kind in kinds {
+        if let Kind::Faulty = kind {
+            return true;
+        }
+    }
+    false
+}
+
+/// An operand of which a type is wanted, before it is compared with it: what it reports, what is then known of it, and whether
+/// something in it is faulty, not for being of another type than the one that is wanted.
+#[derive(Drop)]
+pub struct Settled {
+    faults: Items<Fault>,
+    kind: Kind,
+    is_faulty: bool,
+}
+
+/// What is faulty itself, if it is.
+fn settled_itself(faults: Items<Fault>, kind: Kind) -> Settled
+    ensures { result ≡ spec_settled_itself (record { faults = faults; kind = kind }) }
+{
+    let is_faulty = is_faulty(&kind);
+    Settled {
+        faults,
+        kind,
+        is_faulty,
+    }
+}
+
+/// Whether something in one of them is faulty.
+fn any_settled_faulty(settled: &[Settled]) -> bool
+    ensures { result ≡ list_any is_faulty_settled settled.now }
+{
+    settled.iter().any(|one| one.is_faulty)
+}
+
+/// The name of a fault.
+fn name_of(alloc: Global, fault: &Fault) -> Result<Option<Name>, AllocError>
+    ensures { IfOk result (λ name. name ≡ fault.now.name) }
+{
+    match &fault.name {
+        None => Ok(None),
+        Some(name) => Ok(Some(name.copied(alloc)?)),
+    }
+}
+
+/// These faults are reported.
+fn report_again(
+    alloc: Global,
+    reported: &[Fault],
+    faults: &mut Items<Fault>,
+) -> Result<(), AllocError>
+    ensures { OnOk result (faults.new ≡ faults.old ++ reported.now) }
+{
+    for fault in reported {
+        let name = name_of(alloc, fault)?;
+        faults.push(Fault {
+            code: fault.code,
+            name,
+        })?;
+    }
+    Ok(())
+}
+
+/// Settled operands, each of which must be of this type.
+fn each_fitted(
+    alloc: Global,
+    settled: &[Settled],
+    of: &Shared<OccType>,
+    faults: &mut Items<Fault>,
+) -> Result<Items<Kind>, AllocError>
+    ensures kinds { IfOk result (λ kinds. kinds ≡ spec_kinds (map (spec_fitted_to of.now) settled.now)) }
+    ensures faults { OnOk result (faults.new ≡ faults.old ++ all_faults (map (spec_fitted_to of.now) settled.now)) }
+{
+    let mut kinds = Items::new(alloc);
+    for one in settled {
+        report_again(alloc, one.faults.as_slice(), faults)?;
+        let kind = fitted(of, &one.kind, faults)?;
+        kinds.push(kind)?;
+    }
+    Ok(kinds)
+}
+
+/// What is known of a table whose items were judged so, where this type is wanted of them.
+fn joined(
+    alloc: Global,
+    kinds: &[Kind],
+    of: &Shared<OccType>,
+    faults: &mut Items<Fault>,
+) -> Result<Kind, AllocError>
+    ensures kind { IfOk result (λ kind. kind ≡ (unless_faulty kinds.now (spec_items_type of.now kinds.now)).kind) }
+    ensures faults { OnOk result (faults.new ≡ faults.old ++ (unless_faulty kinds.now (spec_items_type of.now kinds.now)).faults) }
+{
+    if any_faulty(kinds) {
+        return Ok(Kind::Faulty);
+    }
+    items_type(alloc, of, kinds, faults)
+}
+
+/// An operand that is no table, of which a type is wanted, before it is compared with it.
+fn single_settled(alloc: Global, kind: &Kind, of: &Shared<OccType>) -> Result<Settled, AllocError>
+    ensures { IfOk result (λ found. found ≡ spec_settled_itself (spec_settled of.now kind.now)) }
+{
+    let mut faults = Items::new(alloc);
+    let kind = settled(alloc, of, kind, &mut faults)?;
+    Ok(settled_itself(faults, kind))
+}
+
+/// Whether an operand is free.
+fn is_untyped(term: &Term) -> bool
+    ensures { result ≡ (judged term.now).is_untyped }
+{
+    matches!(term, Term::Single(Kind::Untyped(_)))
+}
+
+/// An operand of which no type is wanted.
+#[cycle(judge)]
+pub fn alone(alloc: Global, term: &Term, faults: &mut Items<Fault>) -> Result<Kind, AllocError>
+    ensures kind { IfOk result (λ kind. kind ≡ (spec_alone (judged term.now)).kind) }
+    ensures faults { OnOk result (faults.new ≡ faults.old ++ (spec_alone (judged term.now)).faults) }
+{
+    match term {
+        Term::Single(kind) => settled(alloc, &int(alloc)?, kind, faults),
+        Term::Table(items) => table_alone(alloc, items.as_slice(), faults),
+    }
+}
+
+/// An operand of which a type is wanted.
+pub fn under(
+    alloc: Global,
+    term: &Term,
+    of: &Shared<OccType>,
+    faults: &mut Items<Fault>,
+) -> Result<Kind, AllocError>
+    ensures kind { IfOk result (λ kind. kind ≡ (spec_under of.now (judged term.now)).kind) }
+    ensures faults { OnOk result (faults.new ≡ faults.old ++ (spec_under of.now (judged term.now)).faults) }
+{
+    match term {
+        Term::Single(kind) => wanted(alloc, of, kind, faults),
+        Term::Table(items) => table_under(alloc, items.as_slice(), of, faults),
+    }
+}
+
+/// An operand of which a type is wanted, before it is compared with it.
+#[cycle(judge)]
+fn settled_under(alloc: Global, term: &Term, of: &Shared<OccType>) -> Result<Settled, AllocError>
+    ensures { IfOk result (λ found. found ≡ spec_settled_under of.now (judged term.now)) }
+{
+    match term {
+        Term::Single(kind) => single_settled(alloc, kind, of),
+        Term::Table(items) => table_settled(alloc, items.as_slice(), of),
+    }
+}
+
+/// Each operand, of which this type is wanted, before it is compared with it.
+#[cycle(judge)]
+fn each_settled(
+    alloc: Global,
+    terms: &[Term],
+    of: &Shared<OccType>,
+) -> Result<Items<Settled>, AllocError>
+    ensures { IfOk result (λ found. found ≡ map (spec_settled_under of.now) (judged_all terms.now)) }
+{
+    let mut found = Items::new(alloc);
+    for term in terms {
+        let settled = settled_under(alloc, term, of)?;
+        found.push(settled)?;
+    }
+    Ok(found)
+}
+
+/// An operand beside a faulty one, which was settled so.
+#[cycle(judge)]
+fn own_or_alone(
+    alloc: Global,
+    settled: &Settled,
+    term: &Term,
+    faults: &mut Items<Fault>,
+) -> Result<Kind, AllocError>
+    ensures kind { IfOk result (λ kind. kind ≡ (spec_own_or_alone settled.now (judged term.now)).kind) }
+    ensures faults { OnOk result (faults.new ≡ faults.old ++ (spec_own_or_alone settled.now (judged term.now)).faults) }
+{
+    if settled.is_faulty {
+        report_again(alloc, settled.faults.as_slice(), faults)?;
+        Ok(Kind::Faulty)
+    } else {
+        alone(alloc, term, faults)
+    }
+}
+
+/// Operands, of which one is faulty: its own fault, and the others alone.
+#[cycle(judge)]
+fn each_own_or_alone(
+    alloc: Global,
+    settled: &[Settled],
+    terms: &[Term],
+    faults: &mut Items<Fault>,
+) -> Result<Items<Kind>, AllocError>
+    ensures kinds { IfOk result (λ kinds. kinds ≡ spec_kinds (spec_each_own_or_alone settled.now (judged_all terms.now))) }
+    ensures faults { OnOk result (faults.new ≡ faults.old ++ all_faults (spec_each_own_or_alone settled.now (judged_all terms.now))) }
+{
+    let mut kinds = Items::new(alloc);
+    let mut settled = settled;
+    for term in terms {
+        let Some((one, rest)) = settled.split_first() else {
+            return Ok(kinds);
+        };
+        let kind = own_or_alone(alloc, one, term, faults)?;
+        kinds.push(kind)?;
+        settled = rest;
+    }
+    Ok(kinds)
+}
+
+/// Operands that were settled so under this type, as far as none is faulty.
+#[cycle(judge)]
+fn fitted_or_alone(
+    alloc: Global,
+    settled: &[Settled],
+    terms: &[Term],
+    of: &Shared<OccType>,
+    faults: &mut Items<Fault>,
+) -> Result<Items<Kind>, AllocError>
+    ensures kinds { IfOk result (λ kinds. kinds ≡ spec_kinds (spec_fitted_or_alone of.now settled.now (judged_all terms.now))) }
+    ensures faults { OnOk result (faults.new ≡ faults.old ++ all_faults (spec_fitted_or_alone of.now settled.now (judged_all terms.now))) }
+{
+    if any_settled_faulty(settled) {
+        return each_own_or_alone(alloc, settled, terms, faults);
+    }
+    each_fitted(alloc, settled, of, faults)
+}
+
+/// Each operand, of which this type is wanted, as far as none is faulty.
+pub fn each_under(
+    alloc: Global,
+    terms: &[Term],
+    of: &Shared<OccType>,
+    faults: &mut Items<Fault>,
+) -> Result<Items<Kind>, AllocError>
+    ensures kinds { IfOk result (λ kinds. kinds ≡ spec_kinds (spec_each_under of.now (judged_all terms.now))) }
+    ensures faults { OnOk result (faults.new ≡ faults.old ++ all_faults (spec_each_under of.now (judged_all terms.now))) }
+{
+    let settled = each_settled(alloc, terms, of)?;
+    fitted_or_alone(alloc, settled.as_slice(), terms, of, faults)
+}
+
+/// Each operand, of which no type is wanted.
+pub fn each_alone(
+    alloc: Global,
+    terms: &[Term],
+    faults: &mut Items<Fault>,
+) -> Result<Items<Kind>, AllocError>
+    ensures kinds { IfOk result (λ kinds. kinds ≡ spec_kinds (map spec_alone (judged_all terms.now))) }
+    ensures faults { OnOk result (faults.new ≡ faults.old ++ all_faults (map spec_alone (judged_all terms.now))) }
+{
+    let mut kinds = Items::new(alloc);
+    for term in terms {
+        let kind = alone(alloc, term, faults)?;
+        kinds.push(kind)?;
+    }
+    Ok(kinds)
+}
+
+/// A table, where the type of its items is wanted, before it is compared with the type that is wanted of it.
+#[cycle(judge)]
+fn all_settled(alloc: Global, items: &[Term], of: &Shared<OccType>) -> Result<Settled, AllocError>
+    ensures { IfOk result (λ found. found ≡ spec_all_settled of.now (judged_all items.now)) }
+{
+    let settled = each_settled(alloc, items, of)?;
+    let is_faulty = any_settled_faulty(settled.as_slice());
+    let mut faults = Items::new(alloc);
+    let kinds = fitted_or_alone(alloc, settled.as_slice(), items, of, &mut faults)?;
+    let kind = joined(alloc, kinds.as_slice(), of, &mut faults)?;
+    Ok(Settled {
+        faults,
+        kind,
+        is_faulty,
+    })
+}
+
+/// A table, where the type of its items is wanted.
+#[cycle(judge)]
+fn all_under(
+    alloc: Global,
+    items: &[Term],
+    of: &Shared<OccType>,
+    faults: &mut Items<Fault>,
+) -> Result<Kind, AllocError>
+    ensures kind { IfOk result (λ kind. kind ≡ (spec_all_under of.now (judged_all items.now)).kind) }
+    ensures faults { OnOk result (faults.new ≡ faults.old ++ (spec_all_under of.now (judged_all items.now)).faults) }
+{
+    let found = all_settled(alloc, items, of)?;
+    report_again(alloc, found.faults.as_slice(), faults)?;
+    Ok(found.kind)
+}
+
+/// The first item that is not free; if all are, an INT.
+#[cycle(judge)]
+fn first_settled(
+    alloc: Global,
+    items: &[Term],
+    faults: &mut Items<Fault>,
+) -> Result<Kind, AllocError>
+    ensures kind { IfOk result (λ kind. kind ≡ (spec_first_settled (judged_all items.now)).kind) }
+    ensures faults { OnOk result (faults.new ≡ faults.old ++ (spec_first_settled (judged_all items.now)).faults) }
+{
+    for item in items {
+        if !is_untyped(item) {
+            return alone(alloc, item, faults);
+        }
+    }
+    known(&int(alloc)?, None)
+}
+
+/// What is reported of all but the first item that is not free, each by itself.
+#[cycle(judge)]
+fn report_others(alloc: Global, items: &[Term], faults: &mut Items<Fault>) -> Result<(), AllocError>
+    ensures { OnOk result (faults.new ≡ faults.old ++ others_faults (judged_all items.now)) }
+{
+    let mut is_after = false;
+    for item in items {
+        if is_after || is_untyped(item) {
+            alone(alloc, item, faults)?;
+        } else {
+            is_after = true;
+        }
+    }
+    Ok(())
+}
+
+/// A table whose items take the type of this one, if it is not faulty.
+#[cycle(judge)]
+fn after_first(
+    alloc: Global,
+    items: &[Term],
+    first: &Kind,
+    faults: &mut Items<Fault>,
+) -> Result<Kind, AllocError>
+    ensures kind { IfOk result (λ kind. kind ≡ (spec_after_first (judged_all items.now) first.now).kind) }
+    ensures faults { OnOk result (faults.new ≡ faults.old ++ (spec_after_first (judged_all items.now) first.now).faults) }
+{
+    match first {
+        Kind::Known(found) => all_under(alloc, items, &found.of, faults),
+        Kind::Untyped(_) => Ok(Kind::Faulty),
+        Kind::Faulty => {
+            report_others(alloc, items, faults)?;
+            Ok(Kind::Faulty)
+        }
+    }
+}
+
+/// A table of which no type is wanted.
+#[cycle(judge)]
+pub(super) fn table_alone(
+    alloc: Global,
+    items: &[Term],
+    faults: &mut Items<Fault>,
+) -> Result<Kind, AllocError>
+    ensures kind { IfOk result (λ kind. kind ≡ (spec_table_alone (judged_all items.now)).kind) }
+    ensures faults { OnOk result (faults.new ≡ faults.old ++ (spec_table_alone (judged_all items.now)).faults) }
+{
+    let first = first_settled(alloc, items, faults)?;
+    after_first(alloc, items, &first, faults)
+}
+
+/// A table of which this type is wanted, before it is compared with it.
+#[cycle(judge)]
+fn table_settled(alloc: Global, items: &[Term], of: &Shared<OccType>) -> Result<Settled, AllocError>
+    ensures { IfOk result (λ found. found ≡ spec_table_settled (judged_all items.now) of.now) }
+{
+    match array_of(of.get()) {
+        Some((_, component)) => all_settled(alloc, items, component),
+        None => {
+            let mut faults = Items::new(alloc);
+            let kind = table_alone(alloc, items, &mut faults)?;
+            Ok(settled_itself(faults, kind))
+        }
+    }
+}
+
+/// A table of which this type is wanted.
+fn table_under(
+    alloc: Global,
+    items: &[Term],
+    of: &Shared<OccType>,
+    faults: &mut Items<Fault>,
+) -> Result<Kind, AllocError>
+    ensures kind { IfOk result (λ kind. kind ≡ (spec_table_under (judged_all items.now) of.now).kind) }
+    ensures faults { OnOk result (faults.new ≡ faults.old ++ (spec_table_under (judged_all items.now) of.now).faults) }
+{
+    let found = table_settled(alloc, items, of)?;
+    report_again(alloc, found.faults.as_slice(), faults)?;
+    fitted(of, &found.kind, faults)
+}

@@ -1,8 +1,0 @@
-use Rattle.occ_project.specs.Reads.{place}
-use Rattle.occ_units.proofs.Sharing.{links_stay, placed_by}
-use Rattle.occ_units.proofs.graph.Graph.links_behind.Goals as goal
-
-pub returns : goal.returns
-returns c =
-    links_stay c.args.self.now c.self.inside.project c.args.project.now c.self.inside.facts.items c.as_slice.result.now c.args.facts.now c.self.inside.links c.self.inside.readers c.self.inside.settled c.args.edited c.self.view_is c.self.invariant c.as_slice.ensures.value c.requires.facts
-    (c.use_same.ensures c.if-not-use_same.false) (placed_by c.place.result (place c.args.edited c.self.inside.project) c.is_none.result c.place.ensures c.is_none.ensures c.if-is_none.false) c.requires.places

@@ -1,7 +1,0 @@
-use Rattle.std.proofs.Common.{◌<◌, ℕ, get_or}
-use Rattle.std.specs.List.{slice_get}
-use Rattle.occ_units.specs.inside.Keeping.{IsAsBefore}
-use Rattle.occ_units.proofs.renewing.are_as_before.Given as goal
-
-abbrev pub invariant-loop-i : goal.invariant-loop-i
-invariant-loop-i l = (j : ℕ) → j < l.i → IsAsBefore (slice_get l.facts (get_or l.places j 0)) (slice_get l.found j)

@@ -1,5 +1,0 @@
-use Rattle.occ_units.proofs.Renewed.{among_there}
-use Rattle.occ_units.proofs.renewing.facts_of_all.Goals as goal
-
-pub name_at-name-requires : goal.name_at-name-requires
-name_at-name-requires c = c.requires _ (among_there c.args.places.now c.loop-place.place-index c.loop-place-test.true)

@@ -1,9 +1,0 @@
-pub mod Project
-pub mod Spelled
-pub mod Units
-pub mod Places
-pub mod Alike
-pub mod Along
-pub mod New
-pub mod Samples
-pub mod inside

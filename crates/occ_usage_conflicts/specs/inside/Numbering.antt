@@ -1,0 +1,31 @@
+-- A number of each use, by which it is looked for: the same for those that are the same.
+use Rattle.std.specs.Prelude.{ℕ, ◌+◌, ◌*◌, ◌%◌, unsigned_abs, List, [], ◌∷◌, length}
+use Rattle.occ_usage_values.specs.declared.uses.Use.{Use}
+use Rattle.occ_types.specs.declared.interface.PartSelector.{PartSelector}
+use Rattle.occ_types.specs.declared.interface.PartSelector.TheVariants as s
+use Rattle.occ_types.specs.declared.interface.Places.{Places}
+use Rattle.occ_types.specs.declared.interface.Places.TheVariants as places
+
+abbrev pub mixed : ℕ → ℕ → ℕ
+mixed seed more = seed % 2147483647 * 1000003 + more % 2147483647
+
+abbrev pub number_of_places : Places → ℕ
+number_of_places places.None = 0
+number_of_places places.All = 1
+number_of_places (places.From a) = unsigned_abs a
+number_of_places (places.Run a n) = unsigned_abs a
+
+abbrev pub number_of_selector : PartSelector → ℕ
+number_of_selector (s.Field name) = length name
+number_of_selector (s.Interval i) = number_of_places i.places
+
+abbrev pub with_selectors : ℕ → List PartSelector → ℕ
+with_selectors seed [] = seed
+with_selectors seed (x ∷ xs) = with_selectors (mixed seed (number_of_selector x)) xs
+
+abbrev pub number_of : Use → ℕ
+number_of u = with_selectors (mixed u.part.root u.line.line) u.part.selectors
+
+-- which of so many lists is that of a use
+abbrev pub bucket_of : Use → ℕ → ℕ
+bucket_of u count = number_of u % count

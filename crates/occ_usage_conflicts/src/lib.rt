@@ -1,0 +1,23 @@
+//! What components have in common: the rule of parallel components, the uses of a body as they are seen from outside, and
+//! uses that are reported once.
+#![tactic(auto)]
+
+mod accumulate;
+mod accumulated;
+mod body;
+mod each_once;
+mod joining;
+mod numbering;
+mod pairs;
+mod reach;
+mod reporting;
+pub mod rows;
+mod rule;
+mod same;
+
+pub use body::{body_uses, outside_uses};
+pub use each_once::distinct;
+pub use joining::{append, append_joined};
+pub use pairs::target_faults;
+pub use reporting::{component_faults, parted_faults};
+pub use rule::root_name;

@@ -1,0 +1,59 @@
+//! The bucket of a use, by root, line and indices. Nothing is promised of it but that it is made of the use.
+ghost use Rattle.std.specs.Prelude.{◌≡◌, ◌<◌};
+ghost use Rattle.occ_usage_conflicts.specs.inside.Numbering.{bucket_of as spec_bucket_of, mixed as spec_mixed, number_of as spec_number_of, number_of_places, number_of_selector, with_selectors as spec_with_selectors};
+
+use occ_types::{PartSelector, Places};
+use occ_usage_values::Use;
+
+/// One number of two.
+fn mixed(seed: u64, more: u64) -> u64
+    ensures { result ≡ spec_mixed seed more }
+{
+    seed % 2_147_483_647 * 1_000_003 + more % 2_147_483_647
+}
+
+fn of_places(places: Places) -> u64
+    ensures { result ≡ number_of_places places }
+{
+    match places {
+        Places::None => 0,
+        Places::All => 1,
+        Places::From(first) => first.unsigned_abs(),
+        Places::Run(first, _) => first.unsigned_abs(),
+    }
+}
+
+fn of_selector(selector: &PartSelector) -> u64
+    ensures { result ≡ number_of_selector selector.now }
+{
+    match selector {
+        PartSelector::Field(name) => name.as_bytes().len() as u64,
+        PartSelector::Interval(interval) => of_places(interval.places),
+    }
+}
+
+fn with_selectors(seed: u64, selectors: &[PartSelector]) -> u64
+    ensures { result ≡ spec_with_selectors seed selectors.now }
+{
+    let mut number = seed;
+    for selector in selectors {
+        number = mixed(number, of_selector(selector));
+    }
+    number
+}
+
+fn number_of(one: &Use) -> u64
+    ensures { result ≡ spec_number_of one.now }
+{
+    let seed = mixed(one.part.root as u64, u64::from(one.line.line));
+    with_selectors(seed, one.part.selectors.as_slice())
+}
+
+/// Which of so many lists is that of a use.
+pub(crate) fn bucket_of(one: &Use, count: usize) -> usize
+    requires { 0 < count }
+    ensures value { result ≡ spec_bucket_of one.now count }
+    ensures within { result < count }
+{
+    (number_of(one) % count as u64) as usize
+}

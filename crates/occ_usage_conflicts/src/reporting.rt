@@ -1,0 +1,137 @@
+//! The faults of a PAR, root by root and rule by rule, from what its components were found to use.
+ghost use Rattle.std.specs.Prelude.{◌≡◌, ◌<◌, ◌≤◌, ◌++◌, ℕ, OnOk, Some, length};
+ghost use Rattle.occ_usage_conflicts.specs.Components.{parted};
+ghost use Rattle.occ_usage_conflicts.specs.ParallelRule.{below, component_faults as spec_component_faults, fault_if};
+ghost use Rattle.occ_usage_conflicts.specs.inside.Accumulating.{broken_faults, faults_in};
+
+use super::accumulate::{RootUses, parted_root_uses, root_uses};
+use super::reach::{last_parted_root, last_root};
+use super::rule::{Rule, code, root_name};
+use occ_base::{Diag, Items};
+use occ_project::Location;
+use occ_usage_values::{Bound, Use};
+use std::alloc::{AllocError, Global};
+
+/// Adds the fault of a root, if the rule is broken there.
+pub(crate) fn root_fault(
+    alloc: Global,
+    is_broken: bool,
+    rule: Rule,
+    line: &Location,
+    env: &[Bound],
+    root: usize,
+    faults: &mut Items<Diag>,
+) -> Result<(), AllocError>
+    ensures { OnOk result (faults.new ≡ faults.old ++ fault_if is_broken rule line.now env.now root) }
+{
+    if !is_broken {
+        return Ok(());
+    }
+    let name = root_name(alloc, env, root)?;
+    faults.push(Diag::error(line.file, line.line, code(rule), name))
+}
+
+/// Adds the faults of a root, by each rule that is broken there.
+fn root_faults(
+    alloc: Global,
+    line: &Location,
+    env: &[Bound],
+    root: usize,
+    uses: &RootUses,
+    faults: &mut Items<Diag>,
+) -> Result<(), AllocError>
+    ensures { OnOk result (faults.new ≡ faults.old ++ broken_faults line.now env.now root (Some uses.now)) }
+{
+    root_fault(
+        alloc,
+        uses.breaks_written,
+        Rule::Written,
+        line,
+        env,
+        root,
+        faults,
+    )?;
+    root_fault(
+        alloc,
+        uses.breaks_input,
+        Rule::Input,
+        line,
+        env,
+        root,
+        faults,
+    )?;
+    root_fault(
+        alloc,
+        uses.breaks_output,
+        Rule::Output,
+        line,
+        env,
+        root,
+        faults,
+    )
+}
+
+/// Adds the faults of all roots.
+fn report(
+    alloc: Global,
+    line: &Location,
+    env: &[Bound],
+    table: &[RootUses],
+    faults: &mut Items<Diag>,
+) -> Result<(), AllocError>
+    ensures { OnOk result (faults.new ≡ faults.old ++ below (length table.now) (faults_in line.now env.now table.now)) }
+{
+    for (root, uses) in table.iter().enumerate() {
+        root_faults(alloc, line, env, root, uses, faults)?;
+    }
+    Ok(())
+}
+
+/// How many of so many roots there are up to one.
+fn count_to(last: usize, count: usize) -> usize
+    ensures within { result ≤ count }
+    ensures following { (root : ℕ) → result ≤ root → root < count → last < root }
+{
+    if last < count { last + 1 } else { count }
+}
+
+/// What is reported of a PAR with these components, where these specifications stand round it.
+pub fn component_faults(
+    alloc: Global,
+    line: &Location,
+    env: &[Bound],
+    components: &[Items<Use>],
+    faults: &mut Items<Diag>,
+) -> Result<(), AllocError>
+    ensures { OnOk result (faults.new ≡ faults.old ++ spec_component_faults line.now env.now components.now) }
+{
+    if components.len() < 2 {
+        return Ok(());
+    }
+    let table = root_uses(
+        alloc,
+        count_to(last_root(components), env.len()),
+        components,
+    )?;
+    report(alloc, line, env, table.as_slice(), faults)
+}
+
+/// What is reported of a PAR with components of which the uses stand one after the other, so many in each, where these
+/// specifications stand round it.
+pub fn parted_faults(
+    alloc: Global,
+    line: &Location,
+    env: &[Bound],
+    uses: &[Use],
+    sizes: &[usize],
+    faults: &mut Items<Diag>,
+) -> Result<(), AllocError>
+    ensures { OnOk result (faults.new ≡ faults.old ++ spec_component_faults line.now env.now (parted sizes.now uses.now)) }
+{
+    if sizes.len() < 2 {
+        return Ok(());
+    }
+    let count = count_to(last_parted_root(uses, sizes), env.len());
+    let table = parted_root_uses(alloc, count, uses, sizes)?;
+    report(alloc, line, env, table.as_slice(), faults)
+}

@@ -1,0 +1,81 @@
+//! Whether two uses are one.
+ghost use Rattle.std.specs.Prelude.{◌≡◌};
+ghost use Rattle.occ_usage_conflicts.specs.Distinct.{same_mark as spec_same_mark, same_places as spec_same_places, same_selector as spec_same_selector, same_selectors as spec_same_selectors, same_use as spec_same_use};
+ghost use Rattle.occ_usage_conflicts.specs.Kinds.{same_kind as spec_same_kind};
+
+use occ_types::{Mark, PartSelector, Places, UseKind};
+use occ_usage_values::Use;
+
+fn same_mark(a: Mark, b: Mark) -> bool
+    ensures { result ≡ spec_same_mark a b }
+{
+    match (a, b) {
+        (Mark::Sure, Mark::Sure) => true,
+        (Mark::Unsure, Mark::Unsure) => true,
+        _ => false,
+    }
+}
+
+fn same_kind(a: UseKind, b: UseKind) -> bool
+    ensures { result ≡ spec_same_kind a b }
+{
+    match (a, b) {
+        (UseKind::Read, UseKind::Read) => true,
+        (UseKind::Write, UseKind::Write) => true,
+        (UseKind::Input, UseKind::Input) => true,
+        (UseKind::Output, UseKind::Output) => true,
+        _ => false,
+    }
+}
+
+fn same_places(a: Places, b: Places) -> bool
+    ensures { result ≡ spec_same_places a b }
+{
+    match (a, b) {
+        (Places::None, Places::None) => true,
+        (Places::All, Places::All) => true,
+        (Places::From(a), Places::From(b)) => a == b,
+        (Places::Run(a, n), Places::Run(b, m)) => a == b && n == m,
+        _ => false,
+    }
+}
+
+/// Whether two selectors are one.
+fn same_selector(a: &PartSelector, b: &PartSelector) -> bool
+    ensures { result ≡ spec_same_selector a.now b.now }
+{
+    match (a, b) {
+        (PartSelector::Field(a), PartSelector::Field(b)) => a == b,
+        (PartSelector::Interval(a), PartSelector::Interval(b)) => {
+            same_mark(a.mark, b.mark) && same_places(a.places, b.places)
+        }
+        _ => false,
+    }
+}
+
+/// Whether two lists of selectors are one.
+pub(crate) fn same_selectors(a: &[PartSelector], b: &[PartSelector]) -> bool
+    ensures { result ≡ spec_same_selectors a.now b.now }
+{
+    if a.len() != b.len() {
+        return false;
+    }
+    for (depth, x) in a.iter().enumerate() {
+        if !same_selector(x, &b[depth]) {
+            return false;
+        }
+    }
+    true
+}
+
+/// Whether two uses are one.
+pub(crate) fn same_use(a: &Use, b: &Use) -> bool
+    ensures { result ≡ spec_same_use a.now b.now }
+{
+    a.part.root == b.part.root
+        && same_kind(a.kind, b.kind)
+        && a.line.line == b.line.line
+        && same_selectors(a.part.selectors.as_slice(), b.part.selectors.as_slice())
+        && a.chain.as_slice() == b.chain.as_slice()
+        && a.line.file == b.line.file
+}

@@ -1,0 +1,37 @@
+//! A use: a part, its kind, a line, and the abbreviations by whose names it is made.
+ghost use Rattle.std.specs.Prelude.{◌≡◌, IfOk};
+ghost use Rattle.occ_usage_values.specs.Uses.{at_line};
+
+use super::chain::Chain;
+use occ_project::Location;
+use occ_types::UseKind;
+use occ_usage_parts::{Part, copies};
+use std::alloc::{AllocError, Global};
+
+/// A use of a part of a variable, a channel or a formal.
+#[derive(Drop)]
+pub struct Use {
+    pub part: Part,
+    pub kind: UseKind,
+    /// The line at which it stands.
+    pub line: Location,
+    /// The abbreviations by whose names it is made, by the numbers of their specifications.
+    pub chain: Chain,
+}
+
+impl Use {
+    /// The same use, at another line.
+    pub fn at_line(&self, alloc: Global, line: &Location) -> Result<Use, AllocError>
+        ensures { IfOk result (λ moved. moved ≡ at_line self.now line.now) }
+    {
+        Ok(Use {
+            part: Part {
+                root: self.part.root,
+                selectors: copies(alloc, self.part.selectors.as_slice())?,
+            },
+            kind: self.kind,
+            line: *line,
+            chain: Chain::from_slice(alloc, self.chain.as_slice())?,
+        })
+    }
+}

@@ -1,0 +1,89 @@
+//! The answer to a command of a session, if what it heard agrees with the journal.
+ghost use Rattle.occheck_commands.specs.Left.{meant};
+ghost use Rattle.occheck_script.specs.Machine.{Reading, ReadsCommand, with_line_end};
+ghost use Rattle.occheck_sessions.specs.Sessions.{IsAnswer, IsReportAnswer, edits_of};
+ghost use Rattle.std.specs.Prelude.{◌≡◌, ◌≤◌, IfOk, codes, length, take, true};
+
+use super::editing::{Answer, changed, opened, removed};
+use super::matching::is_front;
+use super::talk::{Broken, Said};
+use occ_board::Entry;
+use occ_server::Snapshot;
+use occheck_commands::Command;
+use occheck_script::{line, report_lines};
+use std::alloc::Global;
+
+/// The answer to a command of a session, if what it was told agrees with the edits that were made. The session's last edit
+/// before it has the number `last`.
+pub fn answered(
+    alloc: Global,
+    session: u32,
+    command: Command<'_>,
+    said: &Said,
+    entries: &[Entry],
+    last: usize,
+) -> Result<Answer, Broken>
+    requires { last ≤ length entries.now }
+    ensures within { IfOk result (λ answer. answer.last ≤ length entries.now) }
+    ensures announced { (read : Reading) → ReadsCommand read (meant command.entry) → IfOk result (λ answer. IsAnswer read entries.now session (edits_of session (take last entries.now)) (meant command.entry) answer.text.items (edits_of session (take answer.last entries.now))) }
+{
+    match command {
+        Command::Open(name, text) => opened(alloc, session, name, text, said, entries, last),
+        Command::Change(name, text) => changed(alloc, session, name, text, said, entries, last),
+        Command::Remove(name) => removed(alloc, session, name, said, entries, last),
+        Command::Settle => settled(alloc, said, last),
+        Command::Report => reported(alloc, session, said, entries, last),
+        Command::Take(_) | Command::Finish(_) | Command::Drop(_) => Err(Broken::Disagree),
+    }
+}
+
+fn settled(alloc: Global, said: &Said, last: usize) -> Result<Answer, Broken>
+    ensures text { IfOk result (λ answer. answer.text.items ≡ with_line_end (codes "settled 0")) }
+    ensures last { IfOk result (λ answer. answer.last ≡ last) }
+{
+    match said {
+        Said::Settled => {
+            let text = line(alloc, "settled 0")?;
+            Ok(Answer { text, last })
+        }
+        _ => Err(Broken::Disagree),
+    }
+}
+
+fn reported(
+    alloc: Global,
+    session: u32,
+    said: &Said,
+    entries: &[Entry],
+    last: usize,
+) -> Result<Answer, Broken>
+    requires { last ≤ length entries.now }
+    ensures text { IfOk result (λ answer. IsReportAnswer entries.now session (edits_of session (take last entries.now)) answer.text.items) }
+    ensures last { IfOk result (λ answer. answer.last ≡ last) }
+{
+    match said {
+        Said::Reported(snapshot) => {
+            let text = report_text(alloc, session, snapshot, entries, last)?;
+            Ok(Answer { text, last })
+        }
+        _ => Err(Broken::Disagree),
+    }
+}
+
+/// The text of a report that has seen the first edits of these, the last one of the session among them.
+fn report_text(
+    alloc: Global,
+    session: u32,
+    snapshot: &Snapshot,
+    entries: &[Entry],
+    last: usize,
+) -> Result<Vec<u8>, Broken>
+    requires { last ≤ length entries.now }
+    ensures { IfOk result (λ text. IsReportAnswer entries.now session (edits_of session (take last entries.now)) text.items) }
+{
+    let seen = snapshot.entries();
+    if seen.len() < last || !is_front(seen, entries) {
+        return Err(Broken::Disagree);
+    }
+    Ok(report_lines(alloc, snapshot.report())?)
+}
