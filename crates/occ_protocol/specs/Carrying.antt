@@ -1,9 +1,8 @@
 -- What an element is to those who send and receive through it, and the tags of a protocol.
 use Rattle.std.specs.Prelude.{ℕ, ◌+◌, Option, Some, None, List, [], ◌∷◌, Bool, true, false, if◌then◌else◌}
 use Rattle.std.specs.Borrow.{Bor}
-use Rattle.std.specs.List.{list_any}
 use Rattle.std.specs.Str.{bytes_eq}
-use Rattle.occ_types.specs.View.{as_channel, as_defined, as_sequence, as_value, as_variant, is_timer, is_unknown}
+use Rattle.occ_types.specs.View.{as_channel, as_defined, as_sequence, as_variant, is_timer}
 use Rattle.occ_types.specs.declared.types.Item.{Item}
 use Rattle.occ_types.specs.declared.types.Item.TheFolds.{fold-Protocol}
 use Rattle.occ_types.specs.declared.types.Item.TheOpen.{Protocol-F}
@@ -83,14 +82,3 @@ place_from n (tag ∷ tags) name = if bytes_eq tag.name name then Some n else pl
 
 abbrev pub place_named : List Tag → List ℕ → Option ℕ
 place_named tags name = place_from 0 tags name
-
-abbrev pub unknown_value : Option OccType → Bool
-unknown_value None = false
-unknown_value (Some of) = is_unknown of
-
-abbrev pub is_unknown_item : Item → Bool
-is_unknown_item item = unknown_value (as_value item)
-
--- the line of the tag has a fault: it has an item of unknown type
-abbrev pub is_faulty_tag : Tag → Bool
-is_faulty_tag tag = list_any is_unknown_item tag.items

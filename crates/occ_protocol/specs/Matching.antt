@@ -5,7 +5,7 @@ use Rattle.occ_base.specs.declared.code.Code.{Code}
 use Rattle.occ_base.specs.declared.code.Code.TheVariants as code
 use Rattle.occ_base.specs.declared.fault.Fault.{Fault}
 use Rattle.occ_types.specs.Fits.{array_fits, fits, is_data, primitive_fits}
-use Rattle.occ_types.specs.View.{as_array, as_primitive}
+use Rattle.occ_types.specs.View.{as_array, as_primitive, is_faulty_tag}
 use Rattle.occ_types.specs.declared.types.Field.{Field}
 use Rattle.occ_types.specs.declared.types.Item.{Item, out-Item}
 use Rattle.occ_types.specs.declared.types.Item.TheOpen.{Item-F}
@@ -17,7 +17,7 @@ use Rattle.occ_typing_operands.specs.Operators.{is_faulty, is_there, is_of}
 use Rattle.occ_typing_operands.specs.Settling.{number}
 use Rattle.occ_typing_operands.specs.declared.kind.Kind.{Kind}
 use Rattle.occ_typing_operands.specs.declared.kind.Kind.TheVariants as k
-use Rattle.occ_protocol.specs.Carrying.{Carrier, is_faulty_tag, tag_named}
+use Rattle.occ_protocol.specs.Carrying.{Carrier, tag_named}
 use Rattle.occ_protocol.specs.Carrying.Carrier.{Hidden, Nothing, Time, Data, Sequence, Variant}
 use Rattle.occ_protocol.specs.declared.given.Given.{Given}
 use Rattle.occ_protocol.specs.declared.given.Given.TheVariants as g

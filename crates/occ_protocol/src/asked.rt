@@ -5,9 +5,9 @@ ghost use Rattle.occ_protocol.specs.Carrying.{name_seen};
 ghost use Rattle.occ_protocol.specs.Matching.{asked as spec_asked, following as spec_after};
 ghost use Rattle.occ_protocol.specs.inside.Seen.{asked_seen, seen, tag_seen};
 
-use super::carrier::{Carrier, is_faulty_tag, tag_named};
+use super::carrier::{Carrier, tag_named};
 use occ_base::{Code, Name};
-use occ_types::{Item, Tag};
+use occ_types::{Item, Tag, is_faulty_tag};
 
 /// What a list of items is compared with.
 #[derive(Clone, Copy)]

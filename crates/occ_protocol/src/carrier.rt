@@ -2,12 +2,11 @@
 #![tactic(auto, using(occ_types::proofs::Agreeing::fit_rules, crate::proofs::Carried::carried_rules))]
 
 ghost use Rattle.std.specs.Prelude.{◌≡◌};
-ghost use Rattle.std.specs.List.{list_any};
-ghost use Rattle.occ_protocol.specs.Carrying.{carried as spec_carried, carrier as spec_carrier, is_faulty_tag as spec_is_faulty_tag, is_unknown_item as spec_is_unknown_item, of_type as spec_of_type, place_named as spec_place_named, tag_named as spec_tag_named};
+ghost use Rattle.occ_protocol.specs.Carrying.{carried as spec_carried, carrier as spec_carrier, of_type as spec_of_type, place_named as spec_place_named, tag_named as spec_tag_named};
 ghost use Rattle.occ_protocol.specs.inside.Seen.{seen, tag_seen};
 
 use occ_base::Name;
-use occ_types::{Item, OccType, Protocol, Tag, is_unknown};
+use occ_types::{Item, OccType, Protocol, Tag};
 use occ_typing_operands::Kind;
 
 /// What an element is to those who send and receive through it.
@@ -85,26 +84,4 @@ pub(super) fn place_named(tags: &[Tag], name: &Name) -> Option<usize>
         place += 1;
     }
     None
-}
-
-/// Whether an item is of unknown type.
-fn is_unknown_item(item: &Item) -> bool
-    ensures { result ≡ spec_is_unknown_item item.now }
-{
-    match item {
-        Item::Value(of) => is_unknown(of.get()),
-        Item::Counted(_, _) => false,
-    }
-}
-
-/// Whether the line of a tag has a fault.
-pub(super) fn is_faulty_tag(tag: &Tag) -> bool
-    ensures { result ≡ spec_is_faulty_tag tag.now }
-{
-    for item in tag.items.as_slice() {
-        if is_unknown_item(item) {
-            return true;
-        }
-    }
-    false
 }

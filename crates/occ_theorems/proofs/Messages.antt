@@ -6,7 +6,8 @@ use Rattle.occ_base.specs.declared.code.Code.TheVariants as code
 use Rattle.occ_base.specs.declared.fault.Fault.{Fault}
 use Rattle.occ_types.specs.declared.types.Item.{Item}
 use Rattle.occ_types.specs.declared.types.Tag.{Tag}
-use Rattle.occ_protocol.specs.Carrying.{Carrier, is_faulty_tag, tag_named}
+use Rattle.occ_protocol.specs.Carrying.{Carrier, tag_named}
+use Rattle.occ_types.specs.View.{is_faulty_tag}
 use Rattle.occ_protocol.specs.Carrying.Carrier.{Hidden, Nothing, Time, Data, Sequence, Variant}
 use Rattle.occ_protocol.specs.Lines.{exchanged}
 use Rattle.occ_protocol.specs.Matching.{against, following, each_unmet, each_unmet_any, has_fault, meets, meets_any, named, of_another_number, reported, unmet}

@@ -1,6 +1,7 @@
 -- When two types agree, form by form.
 use Rattle.std.proofs.Common.{◌≡◌, ℕ, List, [], ◌∷◌, map, Option, Some, None, Bool, true, false, refl, ap, sym, ◌∙◌, ◌≢◌}
-use Rattle.std.specs.Prelude.{◌&&◌}
+use Rattle.std.specs.Prelude.{◌&&◌, ◌||◌}
+use Rattle.std.specs.List.{list_any}
 use Rattle.occ_types.specs.declared.types.Item.TheOpen.{Item-F, OccType-F, Protocol-F}
 use Rattle.occ_types.specs.declared.types.Item.TheFolds.{fold-OccType, fold-Field, fold-Tag, fold-roll-Item, fold-roll-OccType, fold-roll-Protocol, fold-roll-Field, fold-roll-Tag}
 use Rattle.occ_types.specs.declared.types.Item.TheViews.{roll-out-Field, roll-out-Item, roll-out-OccType, roll-out-Protocol, roll-out-Tag, out-roll-Item, out-roll-OccType, out-roll-Protocol}
@@ -14,8 +15,8 @@ use Rattle.occ_types.specs.declared.types.Item.TheVariants as i
 use Rattle.occ_types.specs.declared.types.Field.{Field, out-Field}
 use Rattle.occ_types.specs.declared.types.Tag.{Tag, out-Tag}
 use Rattle.occ_types.specs.declared.value.Primitive.{Primitive}
-use Rattle.occ_types.specs.View.{ItemLayer, Layer, ProtocolLayer, any_layer, array_layer, as_array, as_channel, as_counted, as_defined, as_named, as_primitive, as_record, as_sequence, as_value, as_variant, channel_layer, counted_layer, defined_layer, is_any, is_timer, is_unknown, named_layer, primitive_layer, record_layer, sequence_layer, timer_layer, unknown_layer, value_layer, variant_layer}
-use Rattle.occ_types.specs.Fits.{alike, alike_field_step, alike_step, all_fit, array_fits, beneath_step, channel_fits, counted_fits, data_step, defined_fits, field_alike, field_fits, field_step, fields_alike, fields_fit, fits, is_data, is_same_packing, item_fits, item_step, named_fits, primitive_fits, protocol_fits, protocol_step, record_fits, sequence_fits, tag_fits, tag_step, tags_fit, through_name, type_step, unnamed, value_fits, variant_fits}
+use Rattle.occ_types.specs.View.{ItemLayer, Layer, ProtocolLayer, any_layer, array_layer, as_array, as_channel, as_counted, as_defined, as_named, as_primitive, as_record, as_sequence, as_value, as_variant, channel_layer, counted_layer, defined_layer, is_any, is_faulty_tag, is_timer, is_unknown, is_unknown_item, named_layer, primitive_layer, record_layer, sequence_layer, timer_layer, unknown_layer, unknown_value, value_layer, variant_layer}
+use Rattle.occ_types.specs.Fits.{alike, alike_field_step, alike_step, all_fit, array_fits, beneath_step, channel_fits, counted_fits, data_step, defined_fits, field_alike, field_fits, field_step, fields_alike, fields_fit, fits, is_data, is_same_name, is_same_packing, item_fits, item_step, items_fit, named_fits, primitive_fits, protocol_fits, protocol_step, record_fits, sequence_fits, tag_fits, tag_step, tags_fit, through_name, type_step, unnamed, value_fits, variant_fits}
 
 pub as_primitive_at_primitive : (x : Primitive) → as_primitive (t.Primitive x) ≡ Some x
 unfolding as_primitive
@@ -293,8 +294,38 @@ pub as_counted_at_counted : (count : Primitive) (of : OccType) → as_counted (i
 unfolding as_counted
 as_counted_at_counted count of = ap as_counted (sym (i.rolls-Counted count of)) ∙ ap counted_layer (out-roll-Item (Item-F.Counted count of))
 
+-- what agrees with the unknown type is unknown
+unknown_fits_layer : (y : Layer) → fits (roll-OccType y) t.Unknown ≡ unknown_layer y
+unknown_fits_layer (OccType-F.Primitive x) = ap (λ (f : OccType → Bool). f t.Unknown) (fold-roll-OccType (Item → Bool) (OccType → Bool) (Protocol → Bool) (Field → Bool) (Tag → Bool) item_step type_step protocol_step field_step tag_step (OccType-F.Primitive x)) ∙ ap (primitive_fits x) as_primitive_at_unknown
+unknown_fits_layer (OccType-F.Array n inner) = ap (λ (f : OccType → Bool). f t.Unknown) (fold-roll-OccType (Item → Bool) (OccType → Bool) (Protocol → Bool) (Field → Bool) (Tag → Bool) item_step type_step protocol_step field_step tag_step (OccType-F.Array n inner)) ∙ ap (array_fits n (fits inner)) as_array_at_unknown
+unknown_fits_layer (OccType-F.Record packing fields) = ap (λ (f : OccType → Bool). f t.Unknown) (fold-roll-OccType (Item → Bool) (OccType → Bool) (Protocol → Bool) (Field → Bool) (Tag → Bool) item_step type_step protocol_step field_step tag_step (OccType-F.Record packing fields)) ∙ ap (record_fits packing (map (fold-Field (Item → Bool) (OccType → Bool) (Protocol → Bool) (Field → Bool) (Tag → Bool) item_step type_step protocol_step field_step tag_step) fields)) as_record_at_unknown
+unknown_fits_layer (OccType-F.Named name inner) = ap (λ (f : OccType → Bool). f t.Unknown) (fold-roll-OccType (Item → Bool) (OccType → Bool) (Protocol → Bool) (Field → Bool) (Tag → Bool) item_step type_step protocol_step field_step tag_step (OccType-F.Named name inner)) ∙ ap (named_fits name (fits inner)) as_named_at_unknown
+unknown_fits_layer (OccType-F.Channel carried) = ap (λ (f : OccType → Bool). f t.Unknown) (fold-roll-OccType (Item → Bool) (OccType → Bool) (Protocol → Bool) (Field → Bool) (Tag → Bool) item_step type_step protocol_step field_step tag_step (OccType-F.Channel carried)) ∙ ap (channel_fits (protocol_fits carried)) as_channel_at_unknown
+unknown_fits_layer OccType-F.Timer = ap (λ (f : OccType → Bool). f t.Unknown) (fold-roll-OccType (Item → Bool) (OccType → Bool) (Protocol → Bool) (Field → Bool) (Tag → Bool) item_step type_step protocol_step field_step tag_step OccType-F.Timer) ∙ is_timer_at_unknown
+unknown_fits_layer OccType-F.Unknown = ap (λ (f : OccType → Bool). f t.Unknown) (fold-roll-OccType (Item → Bool) (OccType → Bool) (Protocol → Bool) (Field → Bool) (Tag → Bool) item_step type_step protocol_step field_step tag_step OccType-F.Unknown) ∙ is_unknown_at_unknown
+
+unknown_fits : (u : OccType) → fits u t.Unknown ≡ is_unknown u
+unfolding is_unknown
+unknown_fits u = ap (λ (v : OccType). fits v t.Unknown) (sym (roll-out-OccType u)) ∙ unknown_fits_layer (out-OccType u)
+
+unknown_item_fits_layer : (y : ItemLayer) → item_fits (roll-Item y) (i.Value t.Unknown) ≡ unknown_value (value_layer y)
+unknown_item_fits_layer (Item-F.Value of) = ap (λ (f : Item → Bool). f (i.Value t.Unknown)) (fold-roll-Item (Item → Bool) (OccType → Bool) (Protocol → Bool) (Field → Bool) (Tag → Bool) item_step type_step protocol_step field_step tag_step (Item-F.Value of)) ∙ ap (value_fits (fits of)) (as_value_at_value t.Unknown) ∙ unknown_fits of
+unknown_item_fits_layer (Item-F.Counted count of) = ap (λ (f : Item → Bool). f (i.Value t.Unknown)) (fold-roll-Item (Item → Bool) (OccType → Bool) (Protocol → Bool) (Field → Bool) (Tag → Bool) item_step type_step protocol_step field_step tag_step (Item-F.Counted count of)) ∙ ap (counted_fits count (fits of)) (as_counted_at_value t.Unknown)
+
+unknown_item_fits : (x : Item) → item_fits x (i.Value t.Unknown) ≡ is_unknown_item x
+unfolding as_value
+unknown_item_fits x = ap (λ (v : Item). item_fits v (i.Value t.Unknown)) (sym (roll-out-Item x)) ∙ unknown_item_fits_layer (out-Item x)
+
+unknown_items_fit : (xs : List Item) → list_any (λ (f : Item → Bool). f (i.Value t.Unknown)) (map item_fits xs) ≡ list_any is_unknown_item xs
+unknown_items_fit [] = refl
+unknown_items_fit (x ∷ xs) =
+    ap (λ (b : Bool). b || list_any (λ (f : Item → Bool). f (i.Value t.Unknown)) (map item_fits xs)) (unknown_item_fits x)
+    ∙ ap (λ (b : Bool). is_unknown_item x || b) (unknown_items_fit xs)
+
 field_folds : (f g : Field) → fold-Field (Item → Bool) (OccType → Bool) (Protocol → Bool) (Field → Bool) (Tag → Bool) item_step type_step protocol_step field_step tag_step f g ≡ field_fits f g
-field_folds f g = ap (λ (h : Field → Bool). h g) (ap (fold-Field (Item → Bool) (OccType → Bool) (Protocol → Bool) (Field → Bool) (Tag → Bool) item_step type_step protocol_step field_step tag_step) (sym (roll-out-Field f)) ∙ fold-roll-Field (Item → Bool) (OccType → Bool) (Protocol → Bool) (Field → Bool) (Tag → Bool) item_step type_step protocol_step field_step tag_step (out-Field f))
+field_folds f g =
+    ap (λ (h : Field → Bool). h g) (ap (fold-Field (Item → Bool) (OccType → Bool) (Protocol → Bool) (Field → Bool) (Tag → Bool) item_step type_step protocol_step field_step tag_step) (sym (roll-out-Field f)) ∙ fold-roll-Field (Item → Bool) (OccType → Bool) (Protocol → Bool) (Field → Bool) (Tag → Bool) item_step type_step protocol_step field_step tag_step (out-Field f))
+    ∙ ap (λ (b : Bool). is_same_name f.name g.name && (b || is_unknown g.of || fits f.of g.of)) (unknown_fits f.of)
 
 fields_fold : (fs gs : List Field) → all_fit (map (fold-Field (Item → Bool) (OccType → Bool) (Protocol → Bool) (Field → Bool) (Tag → Bool) item_step type_step protocol_step field_step tag_step) fs) gs ≡ fields_fit fs gs
 fields_fold [] [] = refl
@@ -303,7 +334,9 @@ fields_fold (f ∷ fs) [] = refl
 fields_fold (f ∷ fs) (g ∷ gs) = ap (λ (b : Bool). b && all_fit (map (fold-Field (Item → Bool) (OccType → Bool) (Protocol → Bool) (Field → Bool) (Tag → Bool) item_step type_step protocol_step field_step tag_step) fs) gs) (field_folds f g) ∙ ap (λ (b : Bool). field_fits f g && b) (fields_fold fs gs)
 
 tag_folds : (t u : Tag) → fold-Tag (Item → Bool) (OccType → Bool) (Protocol → Bool) (Field → Bool) (Tag → Bool) item_step type_step protocol_step field_step tag_step t u ≡ tag_fits t u
-tag_folds t u = ap (λ (h : Tag → Bool). h u) (ap (fold-Tag (Item → Bool) (OccType → Bool) (Protocol → Bool) (Field → Bool) (Tag → Bool) item_step type_step protocol_step field_step tag_step) (sym (roll-out-Tag t)) ∙ fold-roll-Tag (Item → Bool) (OccType → Bool) (Protocol → Bool) (Field → Bool) (Tag → Bool) item_step type_step protocol_step field_step tag_step (out-Tag t))
+tag_folds t u =
+    ap (λ (h : Tag → Bool). h u) (ap (fold-Tag (Item → Bool) (OccType → Bool) (Protocol → Bool) (Field → Bool) (Tag → Bool) item_step type_step protocol_step field_step tag_step) (sym (roll-out-Tag t)) ∙ fold-roll-Tag (Item → Bool) (OccType → Bool) (Protocol → Bool) (Field → Bool) (Tag → Bool) item_step type_step protocol_step field_step tag_step (out-Tag t))
+    ∙ ap (λ (b : Bool). is_same_name t.name u.name && (b || is_faulty_tag u || items_fit t.items u.items)) (unknown_items_fit t.items)
 
 tags_fold : (ts us : List Tag) → all_fit (map (fold-Tag (Item → Bool) (OccType → Bool) (Protocol → Bool) (Field → Bool) (Tag → Bool) item_step type_step protocol_step field_step tag_step) ts) us ≡ tags_fit ts us
 tags_fold [] [] = refl
@@ -546,7 +579,8 @@ pub unnamed_itself : (u : OccType) → ((name : List ℕ) (inner : OccType) → 
 unnamed_itself u h = ap unnamed (sym (roll-out-OccType u)) ∙ unnamed_layer (out-OccType u) (λ name inner e. h name inner (sym (roll-out-OccType u) ∙ e)) ∙ roll-out-OccType u
 
 alike_field_folds : (f g : Field) → fold-Field (Unit {0}) (OccType → Bool) (Unit {0}) (Field → Bool) (Unit {0}) (λ _. tt) alike_step (λ _. tt) alike_field_step (λ _. tt) f g ≡ field_alike f g
-alike_field_folds f g = ap (λ (h : Field → Bool). h g) (ap (fold-Field (Unit {0}) (OccType → Bool) (Unit {0}) (Field → Bool) (Unit {0}) (λ _. tt) alike_step (λ _. tt) alike_field_step (λ _. tt)) (sym (roll-out-Field f)) ∙ fold-roll-Field (Unit {0}) (OccType → Bool) (Unit {0}) (Field → Bool) (Unit {0}) (λ _. tt) alike_step (λ _. tt) alike_field_step (λ _. tt) (out-Field f))
+alike_field_folds f g =
+    ap (λ (h : Field → Bool). h g) (ap (fold-Field (Unit {0}) (OccType → Bool) (Unit {0}) (Field → Bool) (Unit {0}) (λ _. tt) alike_step (λ _. tt) alike_field_step (λ _. tt)) (sym (roll-out-Field f)) ∙ fold-roll-Field (Unit {0}) (OccType → Bool) (Unit {0}) (Field → Bool) (Unit {0}) (λ _. tt) alike_step (λ _. tt) alike_field_step (λ _. tt) (out-Field f))
 
 alike_fields_fold : (fs gs : List Field) → all_fit (map (fold-Field (Unit {0}) (OccType → Bool) (Unit {0}) (Field → Bool) (Unit {0}) (λ _. tt) alike_step (λ _. tt) alike_field_step (λ _. tt)) fs) gs ≡ fields_alike fs gs
 alike_fields_fold [] [] = refl

@@ -1,18 +1,21 @@
 -- When two types agree, and what a type is under its names.
 use Rattle.std.specs.Prelude.{ℕ, ◌==◌, Option, Some, None, List, [], ◌∷◌, map, Bool, true, false, ◌&&◌, ◌||◌}
+use Rattle.std.specs.List.{list_any}
 use Rattle.std.specs.Str.{bytes_eq}
 use Rattle.occ_types.specs.declared.types.Field.{Field}
 use Rattle.occ_types.specs.declared.types.Item.{Item}
 use Rattle.occ_types.specs.declared.types.Item.TheFolds.{fold-Item, fold-OccType, fold-Protocol}
 use Rattle.occ_types.specs.declared.types.Item.TheOpen.{Field-F, Item-F, OccType-F, Protocol-F, Tag-F}
+use Rattle.occ_types.specs.declared.types.Item.TheVariants as w
 use Rattle.occ_types.specs.declared.types.OccType.{OccType}
+use Rattle.occ_types.specs.declared.types.OccType.TheVariants as v
 use Rattle.occ_types.specs.declared.types.Packing.{Packing}
 use Rattle.occ_types.specs.declared.types.Packing.TheVariants as k
 use Rattle.occ_types.specs.declared.types.Protocol.{Protocol}
 use Rattle.occ_types.specs.declared.types.Tag.{Tag}
 use Rattle.occ_types.specs.declared.value.Primitive.{Primitive}
 use Rattle.occ_types.specs.declared.value.Primitive.TheVariants as p
-use Rattle.occ_types.specs.View.{as_array, as_channel, as_counted, as_defined, as_named, as_primitive, as_record, as_sequence, as_value, as_variant, is_any, is_timer, is_unknown}
+use Rattle.occ_types.specs.View.{as_array, as_channel, as_counted, as_defined, as_named, as_primitive, as_record, as_sequence, as_value, as_variant, is_any, is_faulty_tag, is_timer, is_unknown}
 
 abbrev pub is_same_name : List ℕ → List ℕ → Bool
 is_same_name a b = bytes_eq a b
@@ -125,13 +128,15 @@ protocol_step (Protocol-F.Sequence items) c = sequence_fits items (as_sequence c
 protocol_step (Protocol-F.Variant tags) c = variant_fits tags (as_variant c)
 protocol_step (Protocol-F.Defined name inner) c = defined_fits name inner (as_defined c)
 
+-- a field whose line has a fault agrees with any of its name. Its type reports it: no other agrees with the unknown one
 abbrev pub field_step : Field-F (Item → Bool) (OccType → Bool) (Protocol → Bool) (Field → Bool) (Tag → Bool) → Field → Bool
-field_step f g = is_same_name f.name g.name && f.of g.of
+field_step f g = is_same_name f.name g.name && (f.of v.Unknown || is_unknown g.of || f.of g.of)
 
+-- so does a tag whose line has one, reported by its items likewise
 abbrev pub tag_step : Tag-F (Item → Bool) (OccType → Bool) (Protocol → Bool) (Field → Bool) (Tag → Bool) → Tag → Bool
-tag_step t u = is_same_name t.name u.name && all_fit t.items u.items
+tag_step t u = is_same_name t.name u.name && (list_any (λ fit. fit (w.Value v.Unknown)) t.items || is_faulty_tag u || all_fit t.items u.items)
 
--- the types are one, but for numbers of components that are not known
+-- the types are one, but for unknown numbers of components, and for fields and tags whose lines have faults
 abbrev pub fits : OccType → OccType → Bool
 fits = fold-OccType (Item → Bool) (OccType → Bool) (Protocol → Bool) (Field → Bool) (Tag → Bool) item_step type_step protocol_step field_step tag_step
 
@@ -142,7 +147,7 @@ abbrev pub item_fits : Item → Item → Bool
 item_fits = fold-Item (Item → Bool) (OccType → Bool) (Protocol → Bool) (Field → Bool) (Tag → Bool) item_step type_step protocol_step field_step tag_step
 
 abbrev pub field_fits : Field → Field → Bool
-field_fits f g = is_same_name f.name g.name && fits f.of g.of
+field_fits f g = is_same_name f.name g.name && (is_unknown f.of || is_unknown g.of || fits f.of g.of)
 
 abbrev pub items_fit : List Item → List Item → Bool
 items_fit is js = all_fit (map item_fits is) js
@@ -151,7 +156,7 @@ abbrev pub fields_fit : List Field → List Field → Bool
 fields_fit fs gs = all_fit (map field_fits fs) gs
 
 abbrev pub tag_fits : Tag → Tag → Bool
-tag_fits t u = is_same_name t.name u.name && items_fit t.items u.items
+tag_fits t u = is_same_name t.name u.name && (is_faulty_tag t || is_faulty_tag u || items_fit t.items u.items)
 
 abbrev pub tags_fit : List Tag → List Tag → Bool
 tags_fit ts us = all_fit (map tag_fits ts) us

@@ -1,5 +1,6 @@
 -- What a type is made of, looked at one level deep.
 use Rattle.std.specs.Prelude.{ℕ, Option, Some, None, List, Bool, true, false}
+use Rattle.std.specs.List.{list_any}
 use Rattle.occ_types.specs.declared.types.Item.TheOpen.{Item-F, OccType-F, Protocol-F}
 use Rattle.occ_types.specs.declared.types.OccType.{OccType, out-OccType}
 use Rattle.occ_types.specs.declared.types.Protocol.{Protocol, out-Protocol}
@@ -169,3 +170,16 @@ as_value i = value_layer (out-Item i)
 
 unfoldable pub as_counted : Item → Option (Primitive × OccType)
 as_counted i = counted_layer (out-Item i)
+
+-- ---- tags whose line has a fault
+
+abbrev pub unknown_value : Option OccType → Bool
+unknown_value None = false
+unknown_value (Some of) = is_unknown of
+
+abbrev pub is_unknown_item : Item → Bool
+is_unknown_item item = unknown_value (as_value item)
+
+-- the line of the tag has a fault: it has an item of unknown type
+abbrev pub is_faulty_tag : Tag → Bool
+is_faulty_tag tag = list_any is_unknown_item tag.items

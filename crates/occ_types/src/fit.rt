@@ -3,7 +3,7 @@
 #![tactic(auto, using(crate::proofs::Agreeing::fit_rules))]
 
 ghost use Rattle.std.specs.Prelude.{◌≡◌, MatchOption, None, Some};
-ghost use Rattle.occ_types.specs.View.{as_array as spec_as_array, as_primitive as spec_as_primitive, fields_in, is_unknown as spec_is_unknown};
+ghost use Rattle.occ_types.specs.View.{as_array as spec_as_array, as_primitive as spec_as_primitive, fields_in, is_faulty_tag as spec_is_faulty_tag, is_unknown as spec_is_unknown, is_unknown_item as spec_is_unknown_item};
 ghost use Rattle.occ_types.specs.Fits.{alike as spec_alike, counts_fit, field_alike as spec_field_alike, fields_alike as spec_fields_alike, is_data as spec_is_data, field_fits as spec_field_fits, fields_fit as spec_fields_fit, fits as spec_fits, item_fits as spec_item_fits, items_fit as spec_items_fit, protocol_fits as spec_protocol_fits, tag_fits as spec_tag_fits, tags_fit as spec_tags_fit, unnamed as spec_unnamed};
 
 use super::types::{Field, Item, OccType, Protocol, Tag};
@@ -20,7 +20,7 @@ pub fn unnamed(of: &OccType) -> &OccType
     }
 }
 
-/// Whether two types are one, but for numbers of components that are not known.
+/// Whether two types are one, but for unknown numbers of components, and for fields and tags whose lines have faults.
 #[cycle(fits)]
 pub fn fits(a: &OccType, b: &OccType) -> bool
     ensures { result ≡ spec_fits a.now b.now }
@@ -94,14 +94,18 @@ fn item_fits(a: &Item, b: &Item) -> bool
 fn field_fits(a: &Field, b: &Field) -> bool
     ensures { result ≡ spec_field_fits a.now b.now }
 {
-    a.name == b.name && fits(a.of.get(), b.of.get())
+    a.name == b.name
+        && (is_unknown(a.of.get()) || is_unknown(b.of.get()) || fits(a.of.get(), b.of.get()))
 }
 
 #[cycle(fits)]
 fn tag_fits(a: &Tag, b: &Tag) -> bool
     ensures { result ≡ spec_tag_fits a.now b.now }
 {
-    a.name == b.name && items_fit(a.items.as_slice(), b.items.as_slice())
+    a.name == b.name
+        && (is_faulty_tag(a)
+            || is_faulty_tag(b)
+            || items_fit(a.items.as_slice(), b.items.as_slice()))
 }
 
 #[cycle(fits)]
@@ -263,6 +267,28 @@ pub fn fields_of(of: &OccType) -> Option<&[Field]>
         OccType::Record(_, fields) => Some(fields.as_slice()),
         _ => None,
     }
+}
+
+/// Whether an item is of unknown type.
+fn is_unknown_item(item: &Item) -> bool
+    ensures { result ≡ spec_is_unknown_item item.now }
+{
+    match item {
+        Item::Value(of) => is_unknown(of.get()),
+        Item::Counted(_, _) => false,
+    }
+}
+
+/// Whether the line of a tag has a fault.
+pub fn is_faulty_tag(tag: &Tag) -> bool
+    ensures { result ≡ spec_is_faulty_tag tag.now }
+{
+    for item in tag.items.as_slice() {
+        if is_unknown_item(item) {
+            return true;
+        }
+    }
+    false
 }
 
 /// Whether the type is that of a field whose line has a fault.

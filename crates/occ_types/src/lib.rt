@@ -19,7 +19,8 @@ mod value;
 pub use comparison::same_interface;
 pub use constant::{ConstFault, Monadic, Operator, convert, fold, fold_one};
 pub use fit::{
-    alike, array_of, as_primitive, base_of, fields_of, fits, is_data, is_unknown, unnamed,
+    alike, array_of, as_primitive, base_of, fields_of, fits, is_data, is_faulty_tag, is_unknown,
+    unnamed,
 };
 pub use interface::{
     Effect, Export, ExportKind, Formal, FormalUse, Interface, Interval, Mark, PartSelector,

@@ -1,6 +1,7 @@
 //! Worked rows: bytes and measures of types.
 #![tactic(auto, using(crate::proofs::Measures::measure_rules, crate::proofs::Sizes::size_rules))]
 
+ghost use Rattle.occ_types.specs.Fits.{field_fits, tag_fits};
 ghost use Rattle.occ_types.specs.Measure.{item_measure, measure_of, protocol_measure};
 ghost use Rattle.occ_types.specs.Size.{bytes_in, size_of};
 ghost use Rattle.occ_types.specs.declared.types.Field.{Field as AField};
@@ -9,7 +10,7 @@ ghost use Rattle.occ_types.specs.declared.types.OccType.TheVariants as t;
 ghost use Rattle.occ_types.specs.declared.types.Packing.TheVariants as packing;
 ghost use Rattle.occ_types.specs.declared.types.Protocol.TheVariants as c;
 ghost use Rattle.occ_types.specs.declared.value.Primitive.TheVariants as p;
-ghost use Rattle.std.specs.Prelude.{None, Some, [], ◌∷◌, ◌≡◌};
+ghost use Rattle.std.specs.Prelude.{None, Some, [], false, true, ◌∷◌, ◌≡◌};
 
 /// The bytes of types.
 pub fn size_rows()
@@ -40,4 +41,15 @@ pub fn measure_rows()
     ensures counted { item_measure (i.Counted p.Byte (t.Primitive p.Int)) ≡ record { levels = 2; types = 3 } }
     ensures tags { protocol_measure (c.Variant ((record { name = 97 ∷ []; items = i.Value (t.Primitive p.Int) ∷ [] }) ∷ (record { name = 98 ∷ []; items = [] }) ∷ [])) ≡ record { levels = 1; types = 1 } }
     ensures defined { protocol_measure (c.Defined (80 ∷ []) (c.Sequence (i.Value (t.Primitive p.Int) ∷ i.Value (t.Primitive p.Byte) ∷ []))) ≡ record { levels = 2; types = 3 } }
+{}
+
+/// A field `x` whose line has a fault agrees with any `x`, and with no `y`; so does a tag, whatever stands after it.
+#[tactic(auto, using(crate::proofs::Agreeing::fit_rules))]
+pub fn fault_rows()
+    ensures first { field_fits (record { name = 120 ∷ []; of = t.Unknown }) (record { name = 120 ∷ []; of = t.Array None t.Timer }) ≡ true }
+    ensures second { field_fits (record { name = 120 ∷ []; of = t.Primitive p.Int }) (record { name = 120 ∷ []; of = t.Unknown }) ≡ true }
+    ensures name { field_fits (record { name = 120 ∷ []; of = t.Unknown }) (record { name = 121 ∷ []; of = t.Unknown }) ≡ false }
+    ensures other { field_fits (record { name = 120 ∷ []; of = t.Primitive p.Int }) (record { name = 120 ∷ []; of = t.Primitive p.Byte }) ≡ false }
+    ensures tag { tag_fits (record { name = 116 ∷ []; items = i.Value t.Unknown ∷ [] }) (record { name = 116 ∷ []; items = [] }) ≡ true }
+    ensures other_tag { tag_fits (record { name = 116 ∷ []; items = [] }) (record { name = 116 ∷ []; items = i.Value (t.Primitive p.Int) ∷ [] }) ≡ false }
 {}

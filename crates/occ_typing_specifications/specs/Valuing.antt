@@ -1,7 +1,7 @@
 -- `VAL n IS e:` and `VAL t n IS e:`.
 use Rattle.std.specs.Prelude.{ℕ, Option, Some, None, List, [], ◌∷◌, ◌++◌}
 use Rattle.occ_types.specs.declared.types.OccType.{OccType}
-use Rattle.occ_typing_operands.specs.Settling.{Finding, silent}
+use Rattle.occ_typing_operands.specs.Settling.{Finding}
 use Rattle.occ_base.specs.declared.fault.Fault.{Fault}
 use Rattle.occ_typing_operands.specs.declared.kind.Kind.{Kind}
 use Rattle.occ_typing_operands.specs.declared.kind.Kind.TheVariants as k
@@ -20,9 +20,9 @@ use Rattle.occ_typing_specifications.specs.Entering.{Declared}
 use Rattle.occ_typing_rules.specs.Placing.{tree_of}
 use Rattle.occ_typing_rules.specs.declared.expr.TypedExpr.{TypedExpr}
 
--- nothing is asked of the value where the type is not known
+-- a type that is not known hides what is wanted of the value
 unfoldable pub value_as : Option OccType → Judged → Finding
-value_as None x = silent
+value_as None x = record { faults = x.hidden.faults; kind = k.Faulty }
 value_as (Some of) x = abbreviated_as of x
 
 unfoldable pub value_alone : Scope → Expr → Finding

@@ -35,4 +35,4 @@ pub use protocol_defining::{protocol, tagged_protocol};
 pub use recasting::{recast_element, recast_value};
 pub use recording::record;
 pub use tagging::tag;
-pub use valuing::{ValueLine, value};
+pub use valuing::{ValueLine, value, value_alone};

@@ -1,20 +1,24 @@
 //! `t n RETYPES el:` and `t n RESHAPES el:`, and both with VAL. `docs/LANGUAGE.md, Abbreviations of elements, RETYPES and
 //! RESHAPES`.
 ghost use Rattle.std.specs.Prelude.{◌≡◌, ◌++◌, IfOk, OnOk};
-ghost use Rattle.occ_expr_operations.specs.Views.{element_view};
-ghost use Rattle.occ_typing_specifications.specs.Recasting.{element_reported as spec_element_reported, of_found as spec_of_found, recast as spec_recast, recast_as as spec_recast_as, recast_element as spec_recast_element, recast_value as spec_recast_value, source_tree as spec_source_tree, value_reported as spec_value_reported};
+ghost use Rattle.occ_expr_operations.specs.Views.{element_view, expr_view};
+ghost use Rattle.occ_typing_tables.specs.Terms.{judged};
+ghost use Rattle.occ_typing_rules.specs.Abbreviating.{holding as spec_holding};
+ghost use Rattle.occ_typing_rules.specs.Placing.{tree_of as spec_tree_of};
+ghost use Rattle.occ_typing_specifications.specs.Recasting.{element_reported as spec_element_reported, of_found as spec_of_found, recast as spec_recast, recast_as as spec_recast_as, recast_element as spec_recast_element, recast_value as spec_recast_value, source as spec_source, source_tree as spec_source_tree, sourced as spec_sourced, value_reported as spec_value_reported};
 
 use super::abbreviating::{ElementLine, named};
-use super::valuing::{ValueLine, Valued, kind_unless_reported, value_alone, value_name};
+use super::valuing::{ValueLine, Valued, kind_unless_reported, value_name};
 use occ_base::{Fault, Items, Name, Shared};
-use occ_expr::{target_of, type_form};
-use occ_expr_operations::{ElementReading, Opening};
+use occ_expr::{expression, target_of, type_form};
+use occ_expr_operations::{ElementReading, Opening, Reading};
 use occ_forms::Recast;
 use occ_forms_expressions::{Element, Expr, TypeForm};
 use occ_scope::{Scope, one_entry};
-use occ_types::OccType;
+use occ_types::{OccType, is_data};
 use occ_typing_operands::{Kind, known};
-use occ_typing_rules::{reshaped, retyped};
+use occ_typing_rules::{abbreviated, reshaped, retyped, tree_of};
+use occ_typing_tables::{Term, alone};
 use std::alloc::{AllocError, Global};
 
 /// The type of a name for what is of another type, if the one may stand for the other.
@@ -114,8 +118,74 @@ pub fn recast_element(
     Ok(ElementLine { adds, tree })
 }
 
+/// What is known of a value that is data, without a word of one that is not.
+fn if_data(kind: Kind) -> Kind
+    ensures { result ≡ (spec_holding kind).kind }
+{
+    match kind {
+        Kind::Known(known) => {
+            if is_data(known.of.get()) {
+                return Kind::Known(known);
+            }
+            Kind::Faulty
+        }
+        _ => Kind::Faulty,
+    }
+}
+
+/// A value for a name of this type. Beside a type that is not known nothing is reported of a channel or a timer.
+fn sourced(
+    alloc: Global,
+    to: &Option<Shared<OccType>>,
+    term: &Term,
+    faults: &mut Items<Fault>,
+) -> Result<Kind, AllocError>
+    ensures kind { IfOk result (λ kind. kind ≡ (spec_sourced to.now (judged term.now)).kind) }
+    ensures faults { OnOk result (faults.new ≡ faults.old ++ (spec_sourced to.now (judged term.now)).faults) }
+{
+    match to {
+        None => Ok(if_data(alone(alloc, term, faults)?)),
+        Some(_) => abbreviated(alloc, term, faults),
+    }
+}
+
+/// A value of which this is read, in its own type, for a name of this type.
+fn source_of(
+    alloc: Global,
+    to: &Option<Shared<OccType>>,
+    read: &Reading,
+    faults: &mut Items<Fault>,
+) -> Result<Valued, AllocError>
+    ensures kind { IfOk result (λ value. value.kind ≡ (spec_sourced to.now (judged read.now.term)).kind) }
+    ensures tree { IfOk result (λ value. value.tree ≡ spec_tree_of (spec_sourced to.now (judged read.now.term)).kind read.now.open_expr) }
+    ensures faults { OnOk result (faults.new ≡ faults.old ++ (spec_sourced to.now (judged read.now.term)).faults) }
+{
+    let kind = sourced(alloc, to, &read.term, faults)?;
+    let tree = tree_of(alloc, &kind, &read.open_expr)?;
+    Ok(Valued { kind, tree })
+}
+
+/// The value of `VAL t n RETYPES e`, in its own type, for a name of this type.
+#[tactic(auto, unfolding(crate::specs::Recasting::source, crate::specs::Recasting::source_tree))]
+fn source_read(
+    alloc: Global,
+    to: &Option<Shared<OccType>>,
+    expr: &Expr,
+    scope: &Scope,
+    faults: &mut Items<Fault>,
+) -> Result<Valued, AllocError>
+    ensures kind { IfOk result (λ value. value.kind ≡ (spec_source scope.now to.now expr.now).kind) }
+    ensures tree { IfOk result (λ value. value.tree ≡ spec_source_tree scope.now expr.now) }
+    ensures faults { OnOk result (faults.new ≡ faults.old ++ (spec_source scope.now to.now expr.now).faults) }
+{
+    let read = expression(alloc, expr, scope, faults)?;
+    let source = source_of(alloc, to, &read, faults);
+    drop(read);
+    source
+}
+
 /// What is known of the name of `VAL t n RETYPES e`, and the tree of the value.
-#[tactic(auto, unfolding(crate::specs::Recasting::source_tree, crate::specs::Recasting::value_reported))]
+#[tactic(auto, unfolding(crate::specs::Recasting::value_reported))]
 fn value_read(
     alloc: Global,
     how: Recast,
@@ -129,7 +199,7 @@ fn value_read(
     ensures faults { OnOk result (faults.new ≡ faults.old ++ (spec_value_reported scope.now how of.now expr.now).faults) }
 {
     let to = type_form(alloc, of, Opening::Allowed, scope, faults)?;
-    let read = value_alone(alloc, expr, scope, faults)?;
+    let read = source_read(alloc, &to, expr, scope, faults)?;
     let kind = recast_as(alloc, how, &to, &read.kind, faults)?;
     Ok(Valued {
         kind,

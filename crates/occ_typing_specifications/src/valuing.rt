@@ -14,10 +14,10 @@ use occ_scope::{Access, Meaning, Scope, ScopeEntry, Whole, one_entry};
 use occ_types::OccType;
 use occ_typing_operands::Kind;
 use occ_typing_rules::{TypedExpr, abbreviated, abbreviated_as, tree_of};
-use occ_typing_tables::Term;
+use occ_typing_tables::{Term, hidden};
 use std::alloc::{AllocError, Global};
 
-/// What is known of a value for a name of this type, if the type is known.
+/// What is known of a value for a name of this type, if the type is known; else what is wanted of it is hidden.
 #[tactic(auto, unfolding(crate::specs::Valuing::value_as))]
 fn value_as(
     alloc: Global,
@@ -29,7 +29,10 @@ fn value_as(
     ensures faults { OnOk result (faults.new ≡ faults.old ++ (spec_value_as of.now (judged term.now)).faults) }
 {
     match of {
-        None => Ok(Kind::Faulty),
+        None => {
+            hidden(alloc, term, faults)?;
+            Ok(Kind::Faulty)
+        }
         Some(of) => abbreviated_as(alloc, of, term, faults),
     }
 }

@@ -1,5 +1,5 @@
 -- Tables, characters and strings with their type after them.
-use Rattle.std.specs.Prelude.{ℕ, ◌==◌, Option, Some, None, List, [], ◌∷◌, length, map, if◌then◌else◌}
+use Rattle.std.specs.Prelude.{ℕ, ◌==◌, Option, Some, None, List, [], ◌∷◌, length, map, true, if◌then◌else◌}
 use Rattle.occ_base.specs.declared.code.Code.TheVariants as code
 use Rattle.occ_types.specs.Fits.{alike, counts_fit, unnamed}
 use Rattle.occ_types.specs.View.{as_array, fields_in, is_unknown}
@@ -26,7 +26,7 @@ abbrev pub of_count : OccType → Option ℕ → ℕ → Finding
 of_count to n items = if counts_fit n (Some items) then whole to else fault_of code.T2
 
 abbrev pub of_array : OccType → Option ℕ → OccType → List Judged → Finding
-of_array to n of xs = let ys = each_under of xs in with_items ys (of_count to n (length (kinds ys)))
+of_array to n of xs = let ys = each_under true of xs in with_items ys (of_count to n (length (kinds ys)))
 
 -- of a field whose line has a fault it is not known what it holds, and the table is faulty
 abbrev pub field_value : Field → Judged → Finding

@@ -1,6 +1,6 @@
 -- What is reported of an operand where a type is wanted of it or none is, and what is known of it then. A table takes its
 -- type item by item.
-use Rattle.std.specs.Prelude.{ℕ, nat_le, Bool, true, false, ◌||◌, Option, Some, None, List, [], ◌∷◌, ◌++◌, length, map, if◌then◌else◌}
+use Rattle.std.specs.Prelude.{ℕ, nat_le, Bool, true, false, ◌&&◌, ◌||◌, not, Option, Some, None, List, [], ◌∷◌, ◌++◌, length, map, if◌then◌else◌}
 use Rattle.std.specs.List.{list_any}
 use Rattle.occ_base.specs.declared.code.Code.TheVariants as code
 use Rattle.occ_types.specs.Fits.{is_data}
@@ -144,24 +144,30 @@ hidden_faults xs = all_faults (map hidden xs)
 abbrev pub fitted_to : OccType → Settled → Finding
 fitted_to of y = and_then (reported_of y) (fitted of)
 
--- beside a faulty item nothing is wanted of an item: it is judged alone, and of a faulty one its own fault was reported
-abbrev pub own_or_alone : Settled → Judged → Finding
-own_or_alone y x = if y.is_faulty then record { faults = y.faults; kind = k.Faulty } else x.alone
+-- whether an item stands as it was settled, beside a faulty one. A type that is wanted of the table from outside stands for
+-- what is free. The type of another item does not, but for an item that has its fault by that type alone
+abbrev pub stands : Bool → Settled → Judged → Bool
+stands true y x = y.is_faulty || x.is_untyped
+stands false y x = y.is_faulty && not x.is_faulty
 
-abbrev pub each_own_or_alone : List Settled → List Judged → List Finding
-each_own_or_alone ys [] = []
-each_own_or_alone [] (x ∷ xs) = []
-each_own_or_alone (y ∷ ys) (x ∷ xs) = own_or_alone y x ∷ each_own_or_alone ys xs
+-- else it is judged alone: beside a faulty item nothing more is wanted of it
+abbrev pub own_or_alone : Bool → Settled → Judged → Finding
+own_or_alone from_outside y x = if stands from_outside y x then record { faults = y.faults; kind = k.Faulty } else x.alone
 
-abbrev pub fitted_or_alone : OccType → List Settled → List Judged → List Finding
-fitted_or_alone of ys xs = if list_any is_faulty_settled ys then each_own_or_alone ys xs else map (fitted_to of) ys
+abbrev pub each_own_or_alone : Bool → List Settled → List Judged → List Finding
+each_own_or_alone from_outside ys [] = []
+each_own_or_alone from_outside [] (x ∷ xs) = []
+each_own_or_alone from_outside (y ∷ ys) (x ∷ xs) = own_or_alone from_outside y x ∷ each_own_or_alone from_outside ys xs
 
--- items, of each of which the type is wanted, as far as none is faulty
-abbrev pub each_under : OccType → List Judged → List Finding
-each_under of xs = fitted_or_alone of (map (settled_under of) xs) xs
+abbrev pub fitted_or_alone : Bool → OccType → List Settled → List Judged → List Finding
+fitted_or_alone from_outside of ys xs = if list_any is_faulty_settled ys then each_own_or_alone from_outside ys xs else map (fitted_to of) ys
 
-abbrev pub all_under : OccType → List Judged → Finding
-all_under of xs = joined of (each_under of xs)
+-- items, of each of which the type is wanted, as far as none is faulty: from outside, or by one of them
+abbrev pub each_under : Bool → OccType → List Judged → List Finding
+each_under from_outside of xs = fitted_or_alone from_outside of (map (settled_under of) xs) xs
+
+abbrev pub all_under : Bool → OccType → List Judged → Finding
+all_under from_outside of xs = joined of (each_under from_outside of xs)
 
 -- the first item that is not free; if all are, an INT
 abbrev pub first_settled : List Judged → Finding
@@ -180,19 +186,19 @@ others_faults xs = others_from false xs
 abbrev pub after_first : List Judged → Kind → Finding
 after_first xs k.Faulty = record { faults = others_faults xs; kind = k.Faulty }
 after_first xs (k.Untyped f) = silent
-after_first xs (k.Known x) = all_under x.of xs
+after_first xs (k.Known x) = all_under false x.of xs
 
 -- no type is wanted of a table: the first item that is not free decides
 abbrev pub table_alone : List Judged → Finding
 table_alone xs = and_then (first_settled xs) (after_first xs)
 
 -- where the type of its items is wanted: it is faulty where one of them is
-abbrev pub all_settled : OccType → List Judged → Settled
-all_settled of xs = settled_so (all_under of xs) (list_any is_faulty_settled (map (settled_under of) xs))
+abbrev pub all_settled : Bool → OccType → List Judged → Settled
+all_settled from_outside of xs = settled_so (all_under from_outside of xs) (list_any is_faulty_settled (map (settled_under of) xs))
 
 abbrev pub table_of : List Judged → Option (Option ℕ × OccType) → Settled
 table_of xs None = settled_itself (table_alone xs)
-table_of xs (Some parts) = all_settled parts.1 xs
+table_of xs (Some parts) = all_settled true parts.1 xs
 
 -- a type is wanted: the items of an array without a name are wanted to be of its component's
 abbrev pub table_settled : List Judged → OccType → Settled

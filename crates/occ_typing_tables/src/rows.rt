@@ -53,12 +53,15 @@ pub fn decorated_rows()
     ensures silent { decorated_table int (term_step (Term-F.Single k.Faulty) ∷ []) ≡ silent }
 {}
 
-/// A table of an INT, where BYTEs are wanted: T2, but nothing in it is faulty, as in a table of a faulty item.
+/// A table of an INT, where BYTEs are wanted: T2, but nothing in it is faulty, as in a table of a faulty item. Beside such
+/// an item 5000000000 is right where an INT64 is wanted from outside, and T6 where another item is one.
 #[tactic(auto, using(occ_types::proofs::Agreeing::fit_rules))]
 pub fn beside_rows()
-    ensures reported { (all_settled (t.Primitive p.Byte) (term_step (Term-F.Single (known int None)) ∷ [])).faults ≡ nameless code.T2 ∷ [] }
-    ensures whole { (all_settled (t.Primitive p.Byte) (term_step (Term-F.Single (known int None)) ∷ [])).is_faulty ≡ false }
-    ensures faulty { (all_settled (t.Primitive p.Byte) (term_step (Term-F.Single k.Faulty) ∷ [])).is_faulty ≡ true }
+    ensures reported { (all_settled true (t.Primitive p.Byte) (term_step (Term-F.Single (known int None)) ∷ [])).faults ≡ nameless code.T2 ∷ [] }
+    ensures whole { (all_settled true (t.Primitive p.Byte) (term_step (Term-F.Single (known int None)) ∷ [])).is_faulty ≡ false }
+    ensures faulty { (all_settled true (t.Primitive p.Byte) (term_step (Term-F.Single k.Faulty) ∷ [])).is_faulty ≡ true }
+    ensures wanted { (all_settled true (t.Primitive p.Int64) (term_step (Term-F.Single k.Faulty) ∷ term_step (Term-F.Single (k.Untyped (decimal (pos 5000000000)))) ∷ [])).faults ≡ [] }
+    ensures decided { (all_settled false (t.Primitive p.Int64) (term_step (Term-F.Single k.Faulty) ∷ term_step (Term-F.Single (k.Untyped (decimal (pos 5000000000)))) ∷ [])).faults ≡ nameless code.T6 ∷ [] }
 {}
 
 /// The one type of an array of four and one of which no size is known; an array of five is another.

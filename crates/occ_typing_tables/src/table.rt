@@ -2,14 +2,15 @@
 //! tables are cheap.
 #![tactic(auto, using(crate::proofs::Judging::judging_rules))]
 
-ghost use Rattle.std.specs.Prelude.{◌≡◌, ◌++◌, ◌∷◌, [], IfOk, OnOk, Some, map};
+ghost use Rattle.std.specs.Prelude.{◌≡◌, ◌++◌, ◌∷◌, [], false, IfOk, OnOk, Some, map, true};
 ghost use Rattle.std.specs.List.{list_any};
 ghost use Rattle.occ_typing_operands.specs.Settling.{settled as spec_settled};
 ghost use Rattle.occ_typing_operands.specs.Operators.{all_faults, is_faulty as spec_is_faulty, kinds as spec_kinds};
-ghost use Rattle.occ_typing_tables.specs.Terms.{after_first as spec_after_first, all_settled as spec_all_settled, all_under as spec_all_under, alone as spec_alone, each_own_or_alone as spec_each_own_or_alone, each_under as spec_each_under, first_settled as spec_first_settled, fitted_or_alone as spec_fitted_or_alone, fitted_to as spec_fitted_to, is_faulty_settled, others_faults, own_or_alone as spec_own_or_alone, settled_itself as spec_settled_itself, settled_under as spec_settled_under, first_type as spec_first_type, items_type as spec_items_type, judged, judged_all, merged_all as spec_merged_all, merged_next as spec_merged_next, so_many as spec_so_many, table_alone as spec_table_alone, table_settled as spec_table_settled, table_type as spec_table_type, table_under as spec_table_under, under as spec_under, unless_faulty};
+ghost use Rattle.occ_typing_tables.specs.Terms.{after_first as spec_after_first, all_settled as spec_all_settled, all_under as spec_all_under, alone as spec_alone, each_own_or_alone as spec_each_own_or_alone, each_under as spec_each_under, first_settled as spec_first_settled, fitted_or_alone as spec_fitted_or_alone, fitted_to as spec_fitted_to, is_faulty_settled, others_faults, own_or_alone as spec_own_or_alone, stands as spec_stands, settled_itself as spec_settled_itself, settled_under as spec_settled_under, first_type as spec_first_type, items_type as spec_items_type, judged, judged_all, merged_all as spec_merged_all, merged_next as spec_merged_next, so_many as spec_so_many, table_alone as spec_table_alone, table_settled as spec_table_settled, table_type as spec_table_type, table_under as spec_table_under, under as spec_under, unless_faulty};
 
 use super::extent::arrayed;
 use super::merge::merged;
+use super::placing::has_fault;
 use super::term::Term;
 use occ_base::{Code, Fault, Items, Name, Shared, report};
 use occ_types::{OccType, array_of, is_data};
@@ -284,18 +285,30 @@ fn each_settled(
     Ok(found)
 }
 
+/// Whether an operand stands as it was settled, beside a faulty one. What is free does where the type was wanted from
+/// outside; else what has its fault by that type alone.
+fn stands(from_outside: bool, settled: &Settled, term: &Term) -> bool
+    ensures { result ≡ spec_stands from_outside settled.now (judged term.now) }
+{
+    if from_outside {
+        return settled.is_faulty || is_untyped(term);
+    }
+    settled.is_faulty && !has_fault(term)
+}
+
 /// An operand beside a faulty one, which was settled so.
 #[cycle(judge)]
 fn own_or_alone(
     alloc: Global,
+    from_outside: bool,
     settled: &Settled,
     term: &Term,
     faults: &mut Items<Fault>,
 ) -> Result<Kind, AllocError>
-    ensures kind { IfOk result (λ kind. kind ≡ (spec_own_or_alone settled.now (judged term.now)).kind) }
-    ensures faults { OnOk result (faults.new ≡ faults.old ++ (spec_own_or_alone settled.now (judged term.now)).faults) }
+    ensures kind { IfOk result (λ kind. kind ≡ (spec_own_or_alone from_outside settled.now (judged term.now)).kind) }
+    ensures faults { OnOk result (faults.new ≡ faults.old ++ (spec_own_or_alone from_outside settled.now (judged term.now)).faults) }
 {
-    if settled.is_faulty {
+    if stands(from_outside, settled, term) {
         report_again(alloc, settled.faults.as_slice(), faults)?;
         Ok(Kind::Faulty)
     } else {
@@ -307,12 +320,13 @@ fn own_or_alone(
 #[cycle(judge)]
 fn each_own_or_alone(
     alloc: Global,
+    from_outside: bool,
     settled: &[Settled],
     terms: &[Term],
     faults: &mut Items<Fault>,
 ) -> Result<Items<Kind>, AllocError>
-    ensures kinds { IfOk result (λ kinds. kinds ≡ spec_kinds (spec_each_own_or_alone settled.now (judged_all terms.now))) }
-    ensures faults { OnOk result (faults.new ≡ faults.old ++ all_faults (spec_each_own_or_alone settled.now (judged_all terms.now))) }
+    ensures kinds { IfOk result (λ kinds. kinds ≡ spec_kinds (spec_each_own_or_alone from_outside settled.now (judged_all terms.now))) }
+    ensures faults { OnOk result (faults.new ≡ faults.old ++ all_faults (spec_each_own_or_alone from_outside settled.now (judged_all terms.now))) }
 {
     let mut kinds = Items::new(alloc);
     let mut settled = settled;
@@ -320,7 +334,7 @@ fn each_own_or_alone(
         let Some((one, rest)) = settled.split_first() else {
             return Ok(kinds);
         };
-        let kind = own_or_alone(alloc, one, term, faults)?;
+        let kind = own_or_alone(alloc, from_outside, one, term, faults)?;
         kinds.push(kind)?;
         settled = rest;
     }
@@ -331,32 +345,33 @@ fn each_own_or_alone(
 #[cycle(judge)]
 fn fitted_or_alone(
     alloc: Global,
+    from_outside: bool,
     settled: &[Settled],
     terms: &[Term],
     of: &Shared<OccType>,
     faults: &mut Items<Fault>,
 ) -> Result<Items<Kind>, AllocError>
-    ensures kinds { IfOk result (λ kinds. kinds ≡ spec_kinds (spec_fitted_or_alone of.now settled.now (judged_all terms.now))) }
-    ensures faults { OnOk result (faults.new ≡ faults.old ++ all_faults (spec_fitted_or_alone of.now settled.now (judged_all terms.now))) }
+    ensures kinds { IfOk result (λ kinds. kinds ≡ spec_kinds (spec_fitted_or_alone from_outside of.now settled.now (judged_all terms.now))) }
+    ensures faults { OnOk result (faults.new ≡ faults.old ++ all_faults (spec_fitted_or_alone from_outside of.now settled.now (judged_all terms.now))) }
 {
     if any_settled_faulty(settled) {
-        return each_own_or_alone(alloc, settled, terms, faults);
+        return each_own_or_alone(alloc, from_outside, settled, terms, faults);
     }
     each_fitted(alloc, settled, of, faults)
 }
 
-/// Each operand, of which this type is wanted, as far as none is faulty.
+/// Each operand, of which this type is wanted from outside, as far as none is faulty.
 pub fn each_under(
     alloc: Global,
     terms: &[Term],
     of: &Shared<OccType>,
     faults: &mut Items<Fault>,
 ) -> Result<Items<Kind>, AllocError>
-    ensures kinds { IfOk result (λ kinds. kinds ≡ spec_kinds (spec_each_under of.now (judged_all terms.now))) }
-    ensures faults { OnOk result (faults.new ≡ faults.old ++ all_faults (spec_each_under of.now (judged_all terms.now))) }
+    ensures kinds { IfOk result (λ kinds. kinds ≡ spec_kinds (spec_each_under true of.now (judged_all terms.now))) }
+    ensures faults { OnOk result (faults.new ≡ faults.old ++ all_faults (spec_each_under true of.now (judged_all terms.now))) }
 {
     let settled = each_settled(alloc, terms, of)?;
-    fitted_or_alone(alloc, settled.as_slice(), terms, of, faults)
+    fitted_or_alone(alloc, true, settled.as_slice(), terms, of, faults)
 }
 
 /// Each operand, of which no type is wanted.
@@ -376,15 +391,28 @@ pub fn each_alone(
     Ok(kinds)
 }
 
-/// A table, where the type of its items is wanted, before it is compared with the type that is wanted of it.
+/// A table, where the type of its items is wanted, from outside or by one of them. It is not yet compared with what is
+/// wanted of it.
 #[cycle(judge)]
-fn all_settled(alloc: Global, items: &[Term], of: &Shared<OccType>) -> Result<Settled, AllocError>
-    ensures { IfOk result (λ found. found ≡ spec_all_settled of.now (judged_all items.now)) }
+fn all_settled(
+    alloc: Global,
+    from_outside: bool,
+    items: &[Term],
+    of: &Shared<OccType>,
+) -> Result<Settled, AllocError>
+    ensures { IfOk result (λ found. found ≡ spec_all_settled from_outside of.now (judged_all items.now)) }
 {
     let settled = each_settled(alloc, items, of)?;
     let is_faulty = any_settled_faulty(settled.as_slice());
     let mut faults = Items::new(alloc);
-    let kinds = fitted_or_alone(alloc, settled.as_slice(), items, of, &mut faults)?;
+    let kinds = fitted_or_alone(
+        alloc,
+        from_outside,
+        settled.as_slice(),
+        items,
+        of,
+        &mut faults,
+    )?;
     let kind = joined(alloc, kinds.as_slice(), of, &mut faults)?;
     Ok(Settled {
         faults,
@@ -393,7 +421,7 @@ fn all_settled(alloc: Global, items: &[Term], of: &Shared<OccType>) -> Result<Se
     })
 }
 
-/// A table, where the type of its items is wanted.
+/// A table, where the type of its items is wanted by one of them.
 #[cycle(judge)]
 fn all_under(
     alloc: Global,
@@ -401,10 +429,10 @@ fn all_under(
     of: &Shared<OccType>,
     faults: &mut Items<Fault>,
 ) -> Result<Kind, AllocError>
-    ensures kind { IfOk result (λ kind. kind ≡ (spec_all_under of.now (judged_all items.now)).kind) }
-    ensures faults { OnOk result (faults.new ≡ faults.old ++ (spec_all_under of.now (judged_all items.now)).faults) }
+    ensures kind { IfOk result (λ kind. kind ≡ (spec_all_under false of.now (judged_all items.now)).kind) }
+    ensures faults { OnOk result (faults.new ≡ faults.old ++ (spec_all_under false of.now (judged_all items.now)).faults) }
 {
-    let found = all_settled(alloc, items, of)?;
+    let found = all_settled(alloc, false, items, of)?;
     report_again(alloc, found.faults.as_slice(), faults)?;
     Ok(found.kind)
 }
@@ -484,7 +512,7 @@ fn table_settled(alloc: Global, items: &[Term], of: &Shared<OccType>) -> Result<
     ensures { IfOk result (λ found. found ≡ spec_table_settled (judged_all items.now) of.now) }
 {
     match array_of(of.get()) {
-        Some((_, component)) => all_settled(alloc, items, component),
+        Some((_, component)) => all_settled(alloc, true, items, component),
         None => {
             let mut faults = Items::new(alloc);
             let kind = table_alone(alloc, items, &mut faults)?;

@@ -22,7 +22,7 @@ use Rattle.occ_typing_operands.specs.Operators.{is_faulty}
 use Rattle.occ_typing_operands.specs.Settling.{Finding, int, settled}
 use Rattle.occ_typing_operands.specs.declared.kind.Kind.{Kind}
 use Rattle.occ_typing_operands.specs.declared.kind.Kind.TheVariants as k
-use Rattle.occ_protocol.specs.Carrying.{Carrier, Data, Hidden, Nothing, Sequence, Time, Variant, carried, carrier, is_faulty_tag, is_unknown_item, no_channel, of_channel, place_from, place_named, tag_named, unknown_value}
+use Rattle.occ_protocol.specs.Carrying.{Carrier, Data, Hidden, Nothing, Sequence, Time, Variant, carried, carrier, no_channel, of_channel, place_from, place_named, tag_named}
 use Rattle.occ_protocol.specs.Lines.{alternative, awaited, cased, exchanged, is_timer, received, tag_place}
 use Rattle.occ_protocol.specs.Matching.{AnyData, Asked, Instead, NoTag, Silent, These, against, asked, following, each_unmet, has_fault, meets, of_another_number, reported, unmet}
 use Rattle.occ_protocol.specs.Matching as matching
@@ -62,7 +62,7 @@ use Rattle.occ_typing_statements.proofs.Operands.{operand_single, operand_table}
 use Rattle.occ_typing_rules.specs.Placing.{tree_of}
 use Rattle.occ_expr.specs.Targets.{target_of}
 use Rattle.occ_types.specs.Unknown.{any_of, holds_unknown, item_unknown, items_unknown, protocol_unknown, tags_unknown}
-use Rattle.occ_types.specs.View.{ItemLayer, Layer, as_array, as_channel, as_value, channel_layer, is_timer as spec_is_timer, value_layer}
+use Rattle.occ_types.specs.View.{ItemLayer, Layer, as_array, as_channel, as_value, channel_layer, is_faulty_tag, is_timer as spec_is_timer, is_unknown_item, unknown_value, value_layer}
 use Rattle.occ_types.specs.declared.types.Field.{Field}
 use Rattle.occ_types.specs.declared.types.Item.{Item, out-Item, roll-Item}
 use Rattle.occ_types.specs.declared.types.Item.TheFolds.{ind-Protocol, map-Protocol}

@@ -312,7 +312,7 @@ count_or false to e = absurd cc
 
 array_read : (to : OccType) (parts : Option ℕ × OccType) (js : List Judged) (ds : List OpenExpr) → IsKnownType to → AllSound js ds → as_array (unnamed to) ≡ Some parts → (of_array to parts.0 parts.1 js).faults ≡ [] → ((of_array to parts.0 parts.1 js).kind ≡ known to None) × Has AreWholeExprs (items_placed ds to)
 array_read to parts js ds known h is e =
-    let ys = each_under parts.1 js in
+    let ys = each_under true parts.1 js in
     let x = of_count to parts.0 (length (kinds ys)) in
     let r = each_read_as parts.1 js ds h (front_clean (all_faults ys) (unless_faulty (kinds ys) x).faults e) in
     let y = with_clean ys x r.0 e in (

@@ -1,6 +1,6 @@
 -- Operands without faults, tables among them: what is read of each wherever it stands.
 use Rattle.std.proofs.Common.{◌≡◌, ◌∙◌, ◌||◌, ℕ, suc, Bool, true, false, List, [], ◌∷◌, map, length, Option, Some, None, if◌then◌else◌, refl, ap, sym, subst}
-use Rattle.std.specs.Prelude.{nat_le}
+use Rattle.std.specs.Prelude.{◌&&◌, nat_le, not}
 use Rattle.std.specs.List.{list_any}
 use Rattle.occ_base.specs.declared.code.Code.TheVariants as code
 use Rattle.occ_typing_operands.specs.declared.kind.Kind.{Kind}
@@ -11,7 +11,7 @@ use Rattle.occ_typing_operands.specs.Wanting.{fitted}
 use Rattle.occ_typing_tables.specs.declared.table.Settled.{Settled}
 use Rattle.occ_typing_tables.specs.Extents.{arrayed, is_too_large}
 use Rattle.occ_typing_tables.specs.Merging.{filled}
-use Rattle.occ_typing_tables.specs.Terms.{Judged, after_first, alone, all_under, each_own_or_alone, each_under, first_settled, first_type, fitted_to, has_fault, is_faulty_settled, items_type, joined, judged, judged_all, merged_all, merged_next, own_or_alone, settled_under, so_many, table_alone, table_of, table_settled, table_type, term_step, unless_faulty, with_items}
+use Rattle.occ_typing_tables.specs.Terms.{Judged, after_first, alone, all_under, each_own_or_alone, each_under, first_settled, first_type, fitted_to, has_fault, is_faulty_settled, items_type, joined, judged, judged_all, merged_all, merged_next, own_or_alone, settled_under, so_many, stands, table_alone, table_of, table_settled, table_type, term_step, unless_faulty, with_items}
 use Rattle.occ_typing_tables.specs.declared.term.Term.{Term}
 use Rattle.occ_typing_tables.specs.declared.term.Term.TheOpen.{Term-F}
 use Rattle.occ_typing_tables.specs.declared.term.Term.TheVariants as v
@@ -98,31 +98,37 @@ each_fitted of (j ∷ js) (d ∷ ds) h e =
       each_fitted of js ds h.1 (back_clean (fitted_to of (j.settled of)).faults rest e),
     )
 
-own_or : (b : Bool) (y : Settled) (j : Judged) → y.is_faulty ≡ b → (y.faults ≡ [] → y.is_faulty ≡ false) → (chosen b (record { faults = y.faults; kind = k.Faulty }) j.alone).faults ≡ [] → b ≡ false
-own_or true y j is h e = sym is ∙ h e
-own_or false y j is h e = refl
+-- what is faulty stands as it was settled
+own_if : (b w : Bool) (y : Settled) (j : Judged) → y.is_faulty ≡ b → (y.faults ≡ [] → y.is_faulty ≡ false) → j.is_faulty ≡ false → (own_or_alone w y j).faults ≡ [] → b ≡ false
+own_if false w y j is h g e = refl
+own_if true true y j is h g e =
+    let stand : stands true y j ≡ true = ap (λ (b : Bool). b || j.is_untyped) is in
+    sym is ∙ h (sym (ap (λ (b : Bool). (chosen b (record { faults = y.faults; kind = k.Faulty }) j.alone).faults) stand) ∙ e)
+own_if true false y j is h g e =
+    let stand : stands false y j ≡ true = ap (λ (b : Bool). b && not j.is_faulty) is ∙ ap not g in
+    sym is ∙ h (sym (ap (λ (b : Bool). (chosen b (record { faults = y.faults; kind = k.Faulty }) j.alone).faults) stand) ∙ e)
 
-own_none : (of : OccType) (js : List Judged) (ds : List OpenExpr) → AllSound js ds → all_faults (each_own_or_alone (map (settled_under of) js) js) ≡ [] → list_any is_faulty_settled (map (settled_under of) js) ≡ false
-own_none of [] ds h e = refl
-own_none of (j ∷ js) [] h e = absurd h
-own_none of (j ∷ js) (d ∷ ds) h e =
-    let here = own_or_alone (j.settled of) j in
-    let rest = all_faults (each_own_or_alone (map (settled_under of) js) js) in
-    let first : (j.settled of).is_faulty ≡ false = own_or (j.settled of).is_faulty (j.settled of) j refl (λ g. (h.0.settles of g).0) (front_clean here.faults rest e) in
-    ap (λ (b : Bool). b || list_any is_faulty_settled (map (settled_under of) js)) first ∙ own_none of js ds h.1 (back_clean here.faults rest e)
+own_none : (w : Bool) (of : OccType) (js : List Judged) (ds : List OpenExpr) → AllSound js ds → all_faults (each_own_or_alone w (map (settled_under of) js) js) ≡ [] → list_any is_faulty_settled (map (settled_under of) js) ≡ false
+own_none w of [] ds h e = refl
+own_none w of (j ∷ js) [] h e = absurd h
+own_none w of (j ∷ js) (d ∷ ds) h e =
+    let here = own_or_alone w (j.settled of) j in
+    let rest = all_faults (each_own_or_alone w (map (settled_under of) js) js) in
+    let first : (j.settled of).is_faulty ≡ false = own_if (j.settled of).is_faulty w (j.settled of) j refl (λ g. (h.0.settles of g).0) h.0.faultless (front_clean here.faults rest e) in
+    ap (λ (b : Bool). b || list_any is_faulty_settled (map (settled_under of) js)) first ∙ own_none w of js ds h.1 (back_clean here.faults rest e)
 
-abbrev Under : OccType → List Judged → List OpenExpr → Type 0
-Under of js ds = (list_any is_faulty_settled (map (settled_under of) js) ≡ false) × EachReads of (each_under of js) ds
+abbrev Under : Bool → OccType → List Judged → List OpenExpr → Type 0
+Under w of js ds = (list_any is_faulty_settled (map (settled_under of) js) ≡ false) × EachReads of (each_under w of js) ds
 
-abbrev fitted_if : Bool → OccType → List Judged → List Finding
-fitted_if b of js = if b then each_own_or_alone (map (settled_under of) js) js else map (fitted_to of) (map (settled_under of) js)
+abbrev fitted_if : Bool → Bool → OccType → List Judged → List Finding
+fitted_if b w of js = if b then each_own_or_alone w (map (settled_under of) js) js else map (fitted_to of) (map (settled_under of) js)
 
-under_if : (b : Bool) (of : OccType) (js : List Judged) (ds : List OpenExpr) → AllSound js ds → list_any is_faulty_settled (map (settled_under of) js) ≡ b → all_faults (fitted_if b of js) ≡ [] → (b ≡ false) × EachReads of (fitted_if b of js) ds
-under_if true of js ds h is e = let g : true ≡ false = sym is ∙ own_none of js ds h e in absurd cc
-under_if false of js ds h is e = (refl, each_fitted of js ds h e)
+under_if : (b w : Bool) (of : OccType) (js : List Judged) (ds : List OpenExpr) → AllSound js ds → list_any is_faulty_settled (map (settled_under of) js) ≡ b → all_faults (fitted_if b w of js) ≡ [] → (b ≡ false) × EachReads of (fitted_if b w of js) ds
+under_if true w of js ds h is e = let g : true ≡ false = sym is ∙ own_none w of js ds h e in absurd cc
+under_if false w of js ds h is e = (refl, each_fitted of js ds h e)
 
-each_reads : (of : OccType) (js : List Judged) (ds : List OpenExpr) → AllSound js ds → all_faults (each_under of js) ≡ [] → Under of js ds
-each_reads of js ds h e = under_if (list_any is_faulty_settled (map (settled_under of) js)) of js ds h refl e
+each_reads : (w : Bool) (of : OccType) (js : List Judged) (ds : List OpenExpr) → AllSound js ds → all_faults (each_under w of js) ≡ [] → Under w of js ds
+each_reads w of js ds h e = under_if (list_any is_faulty_settled (map (settled_under of) js)) w of js ds h refl e
 
 -- ---- the type of a table
 
@@ -225,10 +231,10 @@ some_joined of (x ∷ xs) d ds h e = joined_reads of x xs d ds h e
 
 -- ---- a table
 
-under_reads : (of : OccType) (js : List Judged) (d : OpenExpr) (ds : List OpenExpr) → AllSound js (d ∷ ds) → (all_under of js).faults ≡ [] → (list_any is_faulty_settled (map (settled_under of) js) ≡ false) × Reads (all_under of js).kind (dr.Table (d ∷ ds))
-under_reads of js d ds h e =
-    let xs = each_under of js in
-    let x = each_reads of js (d ∷ ds) h (front_clean (all_faults xs) (unless_faulty (kinds xs) (items_type of (kinds xs))).faults e) in
+under_reads : (w : Bool) (of : OccType) (js : List Judged) (d : OpenExpr) (ds : List OpenExpr) → AllSound js (d ∷ ds) → (all_under w of js).faults ≡ [] → (list_any is_faulty_settled (map (settled_under of) js) ≡ false) × Reads (all_under w of js).kind (dr.Table (d ∷ ds))
+under_reads w of js d ds h e =
+    let xs = each_under w of js in
+    let x = each_reads w of js (d ∷ ds) h (front_clean (all_faults xs) (unless_faulty (kinds xs) (items_type of (kinds xs))).faults e) in
     (x.0, some_joined of xs d ds x.1 e)
 
 untyped_or : (b : Bool) (j : Judged) (d : OpenExpr) (x : Finding) → Sound j d → (x.faults ≡ [] → IsKnown x.kind) → (chosen b x j.alone).faults ≡ [] → IsKnown (chosen b x j.alone).kind
@@ -243,7 +249,7 @@ first_known (j ∷ js) (d ∷ ds) h e = untyped_or j.is_untyped j d (first_settl
 after_reads : (js : List Judged) (d : OpenExpr) (ds : List OpenExpr) (kind : Kind) → AllSound js (d ∷ ds) → IsKnown kind → (after_first js kind).faults ≡ [] → Reads (after_first js kind).kind (dr.Table (d ∷ ds))
 after_reads js d ds k.Faulty h g e = absurd g
 after_reads js d ds (k.Untyped f) h g e = absurd g
-after_reads js d ds (k.Known x) h g e = (under_reads x.of js d ds h e).1
+after_reads js d ds (k.Known x) h g e = (under_reads false x.of js d ds h e).1
 
 pub alone_reads : (js : List Judged) (d : OpenExpr) (ds : List OpenExpr) → AllSound js (d ∷ ds) → (table_alone js).faults ≡ [] → Reads (table_alone js).kind (dr.Table (d ∷ ds))
 alone_reads js d ds h e =
@@ -252,7 +258,7 @@ alone_reads js d ds h e =
 
 table_of_reads : (js : List Judged) (d : OpenExpr) (ds : List OpenExpr) (parts : Option (Option ℕ × OccType)) → AllSound js (d ∷ ds) → (table_of js parts).faults ≡ [] → ((table_of js parts).is_faulty ≡ false) × Reads (table_of js parts).kind (dr.Table (d ∷ ds))
 table_of_reads js d ds None h e = let x = alone_reads js d ds h e in (no_fault (table_alone js).kind (dr.Table (d ∷ ds)) x, x)
-table_of_reads js d ds (Some parts) h e = under_reads parts.1 js d ds h e
+table_of_reads js d ds (Some parts) h e = under_reads true parts.1 js d ds h e
 
 table_step : (js : List Judged) (d : OpenExpr) (ds : List OpenExpr) → AllSound js (d ∷ ds) → Sound (term_step (Term-F.Table js)) (dr.Table (d ∷ ds))
 table_step js d ds h =
@@ -270,10 +276,10 @@ table_sound xs d ds h = subst (λ (j : Judged). Sound j (dr.Table (d ∷ ds))) (
 -- ---- items, for what is reported of the whole
 
 -- of each of which this type is wanted
-pub each_read_as : (of : OccType) (js : List Judged) (ds : List OpenExpr) → AllSound js ds → all_faults (each_under of js) ≡ [] → (list_any is_faulty (kinds (each_under of js)) ≡ false) × Trees (depth of) ds
+pub each_read_as : (of : OccType) (js : List Judged) (ds : List OpenExpr) → AllSound js ds → all_faults (each_under true of js) ≡ [] → (list_any is_faulty (kinds (each_under true of js)) ≡ false) × Trees (depth of) ds
 each_read_as of js ds h e =
-    let x = each_reads of js ds h e in
-    (kinds_none of (each_under of js) ds x.1, reads_trees of (each_under of js) ds x.1)
+    let x = each_reads true of js ds h e in
+    (kinds_none of (each_under true of js) ds x.1, reads_trees of (each_under true of js) ds x.1)
 
 -- of which no type is wanted
 pub alone_none : (js : List Judged) (ds : List OpenExpr) → AllSound js ds → all_faults (map alone js) ≡ [] → list_any is_faulty (kinds (map alone js)) ≡ false

@@ -2,7 +2,7 @@
 use Rattle.std.proofs.Common.{◌≡◌, ◌∙◌, ◌++◌, ◌||◌, ◌&&◌, ℕ, Bool, true, false, List, [], ◌∷◌, Option, Some, None, if◌then◌else◌, refl, ap, sym, subst, arith}
 use Rattle.occ_typing_specifications.specs.Abbreviating.{abbreviation, agreed, element_name, element_reported, element_with_type, named, of_type}
 use Rattle.occ_typing_specifications.specs.Recasting as recasting
-use Rattle.occ_typing_specifications.specs.Recasting.{of_found, recast, recast_as, recast_element, recast_value, source_tree, reported}
+use Rattle.occ_typing_specifications.specs.Recasting.{of_found, recast, recast_as, recast_element, recast_value, source, source_tree, reported}
 use Rattle.occ_base.specs.Reporting.{nameless}
 use Rattle.occ_base.specs.declared.code.Code.TheVariants as code
 use Rattle.occ_base.specs.declared.fault.Fault.{Fault}
@@ -353,13 +353,22 @@ recast_element_known s w of name el known e =
     let r = recast_known w to.found x.kind (type_sound of opening.Allowed s known (front_clean to.faults x.faults own)) z.known (back_clean (to.faults ++ x.faults) y.faults e) in
     record { adds = named_known s name el (after (to.faults ++ x.faults) y) e r z.stands; form = z.tree }
 
+source_reads : (s : Scope) (to : Option OccType) (e : Expr) → IsTyped to → IsKnownScope s → (source s to e).faults ≡ [] → Reads (source s to e).kind ((expr_view e).open_expr s)
+unfolding source
+source_reads s None e h known c = absurd h
+source_reads s (Some to) e h known c =
+    let x = (expr_view e).said s in
+    let y = abbreviated (judged x.term) in
+    abbreviated_reads (judged x.term) ((expr_view e).open_expr s) (said_sound s e known (front_clean x.faults y.faults c)) (back_clean x.faults y.faults c)
+
 pub recast_value_known : (s : Scope) (w : Form) (of : TypeForm) (name : List ℕ) (e : Expr) → IsKnownScope s → (recast_value s w of name e).faults ≡ [] → Specified (recast_value s w of name e) (Has IsWholeExpr (source_tree s e))
-unfolding recast_value recasting.value_reported source_tree
+unfolding recast_value recasting.value_reported source source_tree
 recast_value_known s w of name e known c =
     let to = type_form_view of opening.Allowed s in
-    let x = value_alone s e in
+    let x = source s to.found e in
     let y = recast_as w to.found x.kind in
     let own = front_clean (to.faults ++ x.faults) y.faults c in
-    let r = alone_reads s e known (back_clean to.faults x.faults own) in
-    let g = recast_known w to.found x.kind (type_sound of opening.Allowed s known (front_clean to.faults x.faults own)) (read_known x.kind ((expr_view e).open_expr s) r) (back_clean (to.faults ++ x.faults) y.faults c) in
+    let h = type_sound of opening.Allowed s known (front_clean to.faults x.faults own) in
+    let r = source_reads s to.found e h known (back_clean to.faults x.faults own) in
+    let g = recast_known w to.found x.kind h (read_known x.kind ((expr_view e).open_expr s) r) (back_clean (to.faults ++ x.faults) y.faults c) in
     record { adds = (named_value ((to.faults ++ x.faults) ++ y.faults) y.kind name c g, tt); form = read_tree x.kind ((expr_view e).open_expr s) r }
