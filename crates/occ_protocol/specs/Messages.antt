@@ -24,5 +24,5 @@ pub data IsMessage : Carrier → Option (List ℕ) → List Given → Type 0 whe
   of_tag : (tags : List Tag) (name : List ℕ) (tag : Tag) (xs : List Given) → tag_named tags name ≡ Some tag → AreMet tag.items xs → IsMessage (Variant tags) (Some name) xs
 
 -- what the items are compared with is not hidden by a fault of the channel or of the tag
-abbrev pub IsReported : Carrier → Option (List ℕ) → Type 0
-IsReported c tag = asked c tag ≢ Silent
+abbrev pub IsSound : Carrier → Option (List ℕ) → Type 0
+IsSound c tag = asked c tag ≢ Silent

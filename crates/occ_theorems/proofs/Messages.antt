@@ -12,7 +12,7 @@ use Rattle.occ_protocol.specs.Carrying.Carrier.{Hidden, Nothing, Time, Data, Seq
 use Rattle.occ_protocol.specs.Lines.{exchanged}
 use Rattle.occ_protocol.specs.Matching.{against, following, each_unmet, each_unmet_any, has_fault, meets, meets_any, named, of_another_number, reported, unmet}
 use Rattle.occ_protocol.specs.Matching.Asked.{Silent, These}
-use Rattle.occ_protocol.specs.Messages.{AreData, AreMet, IsMessage, IsReported}
+use Rattle.occ_protocol.specs.Messages.{AreData, AreMet, IsMessage, IsSound}
 use Rattle.occ_protocol.specs.Messages.AreMet.{none_met, one_met}
 use Rattle.occ_protocol.specs.Messages.AreData.{no_data, one_datum}
 use Rattle.occ_protocol.specs.Messages.IsMessage.{of_any, of_items, of_tag}
@@ -105,7 +105,7 @@ message_after tags root name xs (Some tag) is known f e = by (is_faulty_tag tag)
   by true k h = absurd (k refl)
   by false k h = of_tag tags name tag xs is (met_against root tag.items xs f h)
 
-pub silent_message : (c : Carrier) (root : List ℕ) (tag : Option (List ℕ)) (xs : List Given) → IsReported c tag → list_any has_fault xs ≡ false → exchanged c root tag xs ≡ [] → IsMessage c tag xs
+pub silent_message : (c : Carrier) (root : List ℕ) (tag : Option (List ℕ)) (xs : List Given) → IsSound c tag → list_any has_fault xs ≡ false → exchanged c root tag xs ≡ [] → IsMessage c tag xs
 silent_message Hidden root tag xs known f e = absurd (known refl)
 silent_message Nothing root tag xs known f e = not_none _ _ e
 silent_message Time root tag xs known f e = not_none _ _ e

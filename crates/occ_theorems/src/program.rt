@@ -2,9 +2,9 @@
 ghost use Rattle.occheck_commands.specs.Lines.{script_limit};
 ghost use Rattle.occheck_commands.specs.Script.{Placed, script_of};
 ghost use Rattle.occheck_script.specs.Machine.{IsReading, Reading, start};
-ghost use Rattle.occheck_script.specs.Output.{IsReported as IsScriptReported, state_after};
+ghost use Rattle.occheck_script.specs.Output.{IsWritten as IsScriptWritten, state_after};
 ghost use Rattle.occheck_script.specs.Status.{is_device_fault};
-ghost use Rattle.occheck_sessions.specs.Output.{AreReading, IsReported as AreSessionsReported};
+ghost use Rattle.occheck_sessions.specs.Output.{AreReading, IsWritten as AreSessionsWritten};
 ghost use Rattle.occ_theorems.specs.Reports.{IsRight};
 ghost use Rattle.std.specs.List.{list_any};
 ghost use Rattle.std.specs.Prelude.{List, Some, false, length, map, true, ℕ, ◌+◌, ◌<◌, ◌||◌, ◌≡◌, ◌≤◌};
@@ -28,7 +28,7 @@ pub fn script_theorem<R: ByteIn, W: ByteOut>(
     requires writer { W.has_failed writer.old ≡ false }
 
     // What is written of a script whose bytes are known.
-    ensures written { (bytes : List ℕ) → R.unread reader.old ≡ Some bytes → (read : Reading) → IsReading read (script_of bytes).commands → IsScriptReported read (script_of bytes) (W.written writer.old) (W.written writer.new) result }
+    ensures written { (bytes : List ℕ) → R.unread reader.old ≡ Some bytes → (read : Reading) → IsReading read (script_of bytes).commands → IsScriptWritten read (script_of bytes) (W.written writer.old) (W.written writer.new) result }
 
     // The report of the state after any commands.
     ensures reports { (read : Reading) (commands : List Placed) → IsRight (state_after read start commands).board }
@@ -58,7 +58,7 @@ pub fn sessions_theorem<R: ByteIn, W: ByteOut, G: Gate + Sync, T: Threads + Wait
     requires writer { W.has_failed writer.old ≡ false }
 
     // What is written of scripts whose bytes are known.
-    ensures written { (bytes : List (List ℕ)) → map R.unread readers.old ≡ map Some bytes → (read : Reading) → AreReading read (map script_of bytes) → AreSessionsReported read (map script_of bytes) (W.written writer.old) (W.written writer.new) result }
+    ensures written { (bytes : List (List ℕ)) → map R.unread readers.old ≡ map Some bytes → (read : Reading) → AreReading read (map script_of bytes) → AreSessionsWritten read (map script_of bytes) (W.written writer.old) (W.written writer.new) result }
 
     // A device fault is reported exactly where a device failed.
     ensures devices { is_device_fault result ≡ (list_any R.has_failed readers.new || W.has_failed writer.new) }

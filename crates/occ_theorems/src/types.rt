@@ -6,7 +6,7 @@ ghost use Rattle.occ_scope.specs.Visible.{nothing};
 ghost use Rattle.occ_protocol.specs.Carrying.{Carrier};
 ghost use Rattle.occ_protocol.specs.Lines.{exchanged};
 ghost use Rattle.occ_protocol.specs.Matching.{has_fault};
-ghost use Rattle.occ_protocol.specs.Messages.{IsMessage, IsReported as IsSoundCarrier};
+ghost use Rattle.occ_protocol.specs.Messages.{IsMessage, IsSound as IsSoundCarrier};
 ghost use Rattle.occ_protocol.specs.declared.given.Given.{Given as AGiven};
 ghost use Rattle.occ_scope.specs.Nearest.{IsNearest, nearest};
 ghost use Rattle.occ_tree.specs.Forest.{Forest};

@@ -4,7 +4,7 @@ use Rattle.std.proofs.Math.Seq.{take-length}
 use Rattle.occheck_script.specs.Devices.{Appends, AppendsFront}
 use Rattle.occheck_commands.specs.Lines.{cut_lines, script_limit, whole_lines}
 use Rattle.occheck_script.specs.Machine.{IsReading, Reading, ReadsCommand, start, answer, after}
-use Rattle.occheck_script.specs.Output.{answers, state_after, fault_text, output, status_of, end_status, IsWhole, IsReported, IsFaultReported}
+use Rattle.occheck_script.specs.Output.{answers, state_after, fault_text, output, status_of, end_status, IsWhole, IsWritten, IsFaultReported}
 use Rattle.occheck_commands.specs.Script.{Command, Placed, Script, ended, is_over, script_from, script_of, then}
 use Rattle.occheck_script.specs.declared.desk.Desk.{Desk}
 use Rattle.occheck_script.specs.declared.status.Status.{Status}
@@ -103,12 +103,12 @@ whole_state : (read : Reading) (script : Script) (k : ℕ) (desk : Desk) (before
     → desk ≡ state_after read start script.commands
 whole_state read script k desk before now h t = h.state ∙ ap (λ (cs : List Placed). state_after read start cs) t
 
-reported_by : (read : Reading) (script : Script) (before now : Option (List ℕ)) (errors : Bool) → IsWhole read script before now (cond errors status.Errors status.Clean) → IsReported read script before now (cond errors status.Errors status.Clean)
+reported_by : (read : Reading) (script : Script) (before now : Option (List ℕ)) (errors : Bool) → IsWhole read script before now (cond errors status.Errors status.Clean) → IsWritten read script before now (cond errors status.Errors status.Clean)
 reported_by read script before now true h = h
 reported_by read script before now false h = h
 
 pub reported_end : (read : Reading) (script left : Script) (k : ℕ) (desk : Desk) (before now : Option (List ℕ)) (errors : Bool) (result : Status)
-    → IsSoFar read script k desk before now → left ≡ following k script → left ≡ ended None → errors ≡ desk.errors → result ≡ cond errors status.Errors status.Clean → IsReported read script before now result
+    → IsSoFar read script k desk before now → left ≡ following k script → left ≡ ended None → errors ≡ desk.errors → result ≡ cond errors status.Errors status.Clean → IsWritten read script before now result
 reported_end read script left k desk before now errors result h l e b r =
     let t = at_end left script k None l e in
     let w : Appends before now (output read script) = subst (λ (f : Option ℕ). Appends before now (answers read start script.commands ++ fault_text f)) (sym t.1)
@@ -116,7 +116,7 @@ reported_end read script left k desk before now errors result h l e b r =
     let s : cond errors status.Errors status.Clean ≡ status_of read script =
     ap (λ (x : Bool). cond x status.Errors status.Clean) (b ∙ ap (λ (x : Desk). x.errors) (whole_state read script k desk before now h t.0))
     ∙ sym (ap (λ (f : Option ℕ). end_status f (state_after read start script.commands)) t.1) in
-    subst (λ (x : Status). IsReported read script before now x) (sym r) (reported_by read script before now errors (w, s))
+    subst (λ (x : Status). IsWritten read script before now x) (sym r) (reported_by read script before now errors (w, s))
 
 front_more : (before now next : Option (List ℕ)) (a b : List ℕ) → Appends before now a → AppendsFront now next b → AppendsFront before next (a ++ b)
 front_more before now next a b h k w e =
@@ -127,7 +127,7 @@ front_of_more : (before next : Option (List ℕ)) (a b : List ℕ) → AppendsFr
 front_of_more before next a b h w e = let f = h w e in (f.0, f.1 ++ b, ap (λ (x : List ℕ). x ++ b) f.2 ∙ append_assoc f.0 f.1 b, f.3)
 
 pub reported_fault : (read : Reading) (script left : Script) (k line : ℕ) (desk : Desk) (before now next : Option (List ℕ)) (result : Status)
-    → IsSoFar read script k desk before now → left ≡ following k script → left ≡ ended (Some line) → IsFaultReported line now next result → IsReported read script before next result
+    → IsSoFar read script k desk before now → left ≡ following k script → left ≡ ended (Some line) → IsFaultReported line now next result → IsWritten read script before next result
 reported_fault read script left k line desk before now next status.Clean h l e f = absurd f
 reported_fault read script left k line desk before now next status.Errors h l e f = absurd f
 reported_fault read script left k line desk before now next status.ScriptFault h l e f =
@@ -148,7 +148,7 @@ reported_fault read script left k line desk before now next status.NoMemory h l 
     )
 
 pub reported_memory : (read : Reading) (script left rest : Script) (k n : ℕ) (c : Command) (desk : Desk) (before now : Option (List ℕ)) → IsSoFar read script k desk before now → left ≡ following k script → left ≡ then n c rest
-    → IsReported read script before now status.NoMemory
+    → IsWritten read script before now status.NoMemory
 reported_memory read script left rest k n c desk before now h l e =
     let m : k + 1 ≤ length script.commands = count_more script.commands k (at_line n c) rest.commands (commands_are left rest script k n c l e) in
     let less : k < length script.commands = omega arith in
@@ -169,7 +169,7 @@ split_output read script k n c rest e =
     )
 
 pub reported_device : (read : Reading) (script left rest : Script) (k n : ℕ) (c : Command) (desk : Desk) (before now next : Option (List ℕ)) (bytes : List ℕ)
-    → IsSoFar read script k desk before now → left ≡ following k script → left ≡ then n c rest → bytes ≡ answer read desk c → AppendsFront now next bytes → IsReported read script before next status.DeviceFault
+    → IsSoFar read script k desk before now → left ≡ following k script → left ≡ then n c rest → bytes ≡ answer read desk c → AppendsFront now next bytes → IsWritten read script before next status.DeviceFault
 reported_device read script left rest k n c desk before now next bytes h l e b f =
     let o = split_output read script k n c rest.commands (commands_are left rest script k n c l e) in
     let s : Desk = state_after read start (take k script.commands) in
@@ -177,10 +177,10 @@ reported_device read script left rest k n c desk before now next bytes h l e b f
     subst (λ (x : List ℕ). AppendsFront before next x) (sym o.1) (front_of_more before next _ o.0 (front_more before now next _ _ h.written g))
 
 -- before anything was written
-pub reported_nothing : (read : Reading) (script : Script) (before : Option (List ℕ)) → IsReported read script before before status.DeviceFault
+pub reported_nothing : (read : Reading) (script : Script) (before : Option (List ℕ)) → IsWritten read script before before status.DeviceFault
 reported_nothing read script before w e = ([], output read script, refl, e ∙ ap Some (sym (append-nil w)))
 
-pub reported_no_memory : (read : Reading) (script : Script) (before : Option (List ℕ)) → IsReported read script before before status.NoMemory
+pub reported_no_memory : (read : Reading) (script : Script) (before : Option (List ℕ)) → IsWritten read script before before status.NoMemory
 reported_no_memory read script before = (0, inl refl, λ w e. e ∙ ap Some (sym (append-nil w)))
 
 -- what was read says what the script says
@@ -189,8 +189,8 @@ same_script over slice items bytes s l o =
     ap (λ (x : List ℕ). script_from over 1 (cut_lines x)) s ∙ ap (λ (x : List (List ℕ)). script_from over 1 x) l ∙ ap (λ (x : Bool). script_from x 1 (whole_lines bytes)) o
 
 pub reported_same : (read : Reading) (script whole : Script) (before now : Option (List ℕ)) (result : Status) → script ≡ whole
-    → (IsReading read script.commands → IsReported read script before now result) → IsReading read whole.commands → IsReported read whole before now result
-reported_same read script whole before now result e h = subst (λ (x : Script). IsReading read x.commands → IsReported read x before now result) e h
+    → (IsReading read script.commands → IsWritten read script before now result) → IsReading read whole.commands → IsWritten read whole before now result
+reported_same read script whole before now result e h = subst (λ (x : Script). IsReading read x.commands → IsWritten read x before now result) e h
 
 reads_at : (read : Reading) (cs rest : List Placed) (k : ℕ) (c : Placed) → drop k cs ≡ c ∷ rest → IsReading read cs → ReadsCommand read c.command
 reads_at read [] rest zero c e r = absurd cc

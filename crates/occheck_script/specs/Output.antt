@@ -43,13 +43,13 @@ IsRefusedAt k script = (k ≡ 0) ⊎ ((k < length script.commands) ⊎ ((k ≡ l
 
 -- what was written when the run of a script ended with the status: all of the output; after a device failed a
 -- front of it; where memory was refused the answers to the commands before
-abbrev pub IsReported : Reading → Script → Option (List ℕ) → Option (List ℕ) → Status → Type 0
-IsReported read script before now status.Clean = IsWhole read script before now status.Clean
-IsReported read script before now status.Errors = IsWhole read script before now status.Errors
-IsReported read script before now status.ScriptFault = IsWhole read script before now status.ScriptFault
-IsReported read script before now status.DeviceFault = AppendsFront before now (output read script)
-IsReported read script before now status.NoMemory = (k : ℕ) × IsRefusedAt k script × Appends before now (answers read start (take k script.commands))
-IsReported read script before now status.Disagree = ⊥
+abbrev pub IsWritten : Reading → Script → Option (List ℕ) → Option (List ℕ) → Status → Type 0
+IsWritten read script before now status.Clean = IsWhole read script before now status.Clean
+IsWritten read script before now status.Errors = IsWhole read script before now status.Errors
+IsWritten read script before now status.ScriptFault = IsWhole read script before now status.ScriptFault
+IsWritten read script before now status.DeviceFault = AppendsFront before now (output read script)
+IsWritten read script before now status.NoMemory = (k : ℕ) × IsRefusedAt k script × Appends before now (answers read start (take k script.commands))
+IsWritten read script before now status.Disagree = ⊥
 
 -- the same of the line that reports a script fault
 abbrev pub IsFaultReported : ℕ → Option (List ℕ) → Option (List ℕ) → Status → Type 0

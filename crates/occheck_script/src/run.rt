@@ -3,7 +3,7 @@ ghost use Rattle.std.specs.Prelude.{◌≡◌, ◌≤◌, ◌+◌, ◌||◌, ◌
 ghost use Rattle.occheck_commands.specs.Ended.{IsEnded};
 ghost use Rattle.occheck_commands.specs.Lines.{cut_lines, script_limit};
 ghost use Rattle.occheck_script.specs.Machine.{IsReading, Reading};
-ghost use Rattle.occheck_script.specs.Output.{IsFaultReported, IsReported, fault_text};
+ghost use Rattle.occheck_script.specs.Output.{IsFaultReported, IsWritten, fault_text};
 ghost use Rattle.occheck_commands.specs.Script.{script_from, script_of};
 ghost use Rattle.occheck_script.specs.Status.{is_device_fault};
 ghost use Rattle.occheck_script.specs.declared.status.Status.TheVariants as status;
@@ -24,7 +24,7 @@ pub fn run_script<R: ByteIn, W: ByteOut>(alloc: Global, reader: &mut R, writer: 
     requires writer { W.has_failed writer.old ≡ false }
 
     // What is written of a script whose bytes are known.
-    ensures reported { (bytes : List ℕ) → R.unread reader.old ≡ Some bytes → (read : Reading) → IsReading read (script_of bytes).commands → IsReported read (script_of bytes) (W.written writer.old) (W.written writer.new) result }
+    ensures reported { (bytes : List ℕ) → R.unread reader.old ≡ Some bytes → (read : Reading) → IsReading read (script_of bytes).commands → IsWritten read (script_of bytes) (W.written writer.old) (W.written writer.new) result }
 
     // A device fault is reported exactly where a device failed.
     ensures devices { is_device_fault result ≡ (R.has_failed reader.new || W.has_failed writer.new) }
@@ -43,7 +43,7 @@ fn run<W: ByteOut>(alloc: Global, bytes: &[u8], over: bool, writer: &mut W) -> S
     requires ended { IsEnded bytes.now }
     requires short { length bytes.now ≤ script_limit + 1 }
     requires writer { W.has_failed writer.old ≡ false }
-    ensures reported { (read : Reading) → IsReading read (script_from over 1 (cut_lines bytes.now)).commands → IsReported read (script_from over 1 (cut_lines bytes.now)) (W.written writer.old) (W.written writer.new) result }
+    ensures reported { (read : Reading) → IsReading read (script_from over 1 (cut_lines bytes.now)).commands → IsWritten read (script_from over 1 (cut_lines bytes.now)) (W.written writer.old) (W.written writer.new) result }
     ensures device { is_device_fault result ≡ W.has_failed writer.new }
 {
     let mut desk = Desk::new(alloc);

@@ -76,10 +76,10 @@ IsFaultFront scripts before now = (fault : ℕ × ℕ) × (first_fault 1 scripts
 
 -- what was written when the run of these scripts ended with the status; nothing where memory was refused, or where what was told does
 -- not agree with the edits that were made
-abbrev pub IsReported : Reading → List Script → Option (List ℕ) → Option (List ℕ) → Status → Type 0
-IsReported read scripts before now status.Clean = IsWhole read scripts before now false
-IsReported read scripts before now status.Errors = IsWhole read scripts before now true
-IsReported read scripts before now status.ScriptFault = IsFaultReported scripts before now
-IsReported read scripts before now status.DeviceFault = (now ≡ before) ⊎ (IsFront read scripts before now ⊎ IsFaultFront scripts before now)
-IsReported read scripts before now status.NoMemory = now ≡ before
-IsReported read scripts before now status.Disagree = now ≡ before
+abbrev pub IsWritten : Reading → List Script → Option (List ℕ) → Option (List ℕ) → Status → Type 0
+IsWritten read scripts before now status.Clean = IsWhole read scripts before now false
+IsWritten read scripts before now status.Errors = IsWhole read scripts before now true
+IsWritten read scripts before now status.ScriptFault = IsFaultReported scripts before now
+IsWritten read scripts before now status.DeviceFault = (now ≡ before) ⊎ (IsFront read scripts before now ⊎ IsFaultFront scripts before now)
+IsWritten read scripts before now status.NoMemory = now ≡ before
+IsWritten read scripts before now status.Disagree = now ≡ before

@@ -4,7 +4,7 @@ ghost use Rattle.occheck_commands.specs.Script.{script_of};
 ghost use Rattle.occheck_script.specs.Machine.{Reading};
 ghost use Rattle.occheck_script.specs.Status.{is_device_fault};
 ghost use Rattle.occ_server.specs.Receipts.{receipts_of};
-ghost use Rattle.occheck_sessions.specs.Output.{AreReading, IsRun, IsReported, first_fault};
+ghost use Rattle.occheck_sessions.specs.Output.{AreReading, IsRun, IsWritten, first_fault};
 ghost use Rattle.occheck_sessions.specs.inside.Written.{IsFaultWritten, IsOutput, IsOutputWritten};
 ghost use Rattle.std.specs.List.{list_any};
 ghost use Rattle.std.specs.Prelude.{◌≡◌, ◌≤◌, ◌<◌, ◌||◌, IfOk, List, None, Some, false, length, map, true, ℕ};
@@ -37,7 +37,7 @@ pub fn run_sessions<R: ByteIn, W: ByteOut, G: Gate + Sync, T: Threads + Wait + S
     requires writer { W.has_failed writer.old ≡ false }
 
     // What is written of scripts whose bytes are known.
-    ensures announced { (bytes : List (List ℕ)) → map R.unread readers.old ≡ map Some bytes → (read : Reading) → AreReading read (map script_of bytes) → IsReported read (map script_of bytes) (W.written writer.old) (W.written writer.new) result }
+    ensures announced { (bytes : List (List ℕ)) → map R.unread readers.old ≡ map Some bytes → (read : Reading) → AreReading read (map script_of bytes) → IsWritten read (map script_of bytes) (W.written writer.old) (W.written writer.new) result }
 
     // A device fault is told exactly where a device failed.
     ensures devices { is_device_fault result ≡ (list_any R.has_failed readers.new || W.has_failed writer.new) }
@@ -63,7 +63,7 @@ fn run<W: ByteOut, G: Gate + Sync, T: Threads + Wait + Sync>(
     requires fine { first_fault 1 scripts.now ≡ None }
     requires few { length scripts.now < 17 }
     requires writer { W.has_failed writer.old ≡ false }
-    ensures announced { (read : Reading) → AreReading read scripts.now → IsReported read scripts.now (W.written writer.old) (W.written writer.new) result }
+    ensures announced { (read : Reading) → AreReading read scripts.now → IsWritten read scripts.now (W.written writer.old) (W.written writer.new) result }
     ensures device { is_device_fault result ≡ W.has_failed writer.new }
 {
     match whole_output(rt, alloc, scripts, workers, gate) {
