@@ -3,7 +3,7 @@
 ghost use Rattle.std.specs.Prelude.{◌≡◌, ◌++◌, OnOk};
 ghost use Rattle.occ_alias.specs.AbbreviationRule.{actual_faults as spec_actual_faults, actuals_faults as spec_actuals_faults, call_faults as spec_call_faults, calls_faults as spec_calls_faults, free_fault as spec_free_fault, free_faults as spec_free_faults, place_pair as spec_place_pair, place_pairs as spec_place_pairs};
 
-use super::pairs::{pair_faults, written_faults};
+use super::pairs::{faults_with_selected, pair_faults, written_faults};
 use occ_base::{Code, Diag, Items};
 use occ_project::Location;
 use occ_usage_parts::{Part, SelectedPart};
@@ -21,11 +21,10 @@ fn place_pair(
 ) -> Result<(), AllocError>
     ensures { OnOk result (faults.new ≡ faults.old ++ spec_place_pair line.now env.now part.now other.now) }
 {
-    let Some(other) = other else {
-        return Ok(());
-    };
-    let other = other.copied(alloc)?.into_part()?;
-    pair_faults(alloc, line, Code::A4, env, part, &other, faults)
+    match other {
+        Some(other) => faults_with_selected(alloc, line, Code::A4, env, part, other, faults),
+        None => Ok(()),
+    }
 }
 
 /// What is reported of an actual with this part and those after it.

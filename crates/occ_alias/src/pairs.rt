@@ -2,13 +2,16 @@
 ghost use Rattle.std.specs.Prelude.{◌≡◌, ◌++◌, OnOk};
 ghost use Rattle.occ_alias.specs.AbbreviationRule.{graded as spec_graded, pair_faults as spec_pair_faults, written_by as spec_written_by, written_fault as spec_written_fault, written_faults as spec_written_faults};
 ghost use Rattle.occ_usage_conflicts.specs.Kinds.{is_read as spec_is_read};
+ghost use Rattle.occ_usage_conflicts.specs.ParallelRule.{root_name as spec_root_name};
+ghost use Rattle.occ_usage_parts.specs.Parts.{overlap_of};
+ghost use Rattle.occ_usage_parts.specs.Selecting.{part_of};
 
 use occ_base::{Code, Diag, Grade, Items, Name};
 use occ_project::Location;
 use occ_types::UseKind;
 use occ_usage_conflicts::root_name;
 use occ_usage_lines::is_write;
-use occ_usage_parts::{Overlap, Part, overlap};
+use occ_usage_parts::{Overlap, Part, SelectedPart, overlap, overlap_selected};
 use occ_usage_values::{Bound, Use};
 use std::alloc::{AllocError, Global};
 
@@ -47,6 +50,25 @@ fn graded(
     })
 }
 
+/// What is reported of parts with this overlap, the first of which has this root.
+fn overlap_faults(
+    alloc: Global,
+    line: &Location,
+    code: Code,
+    env: &[Bound],
+    root: usize,
+    found: Overlap,
+    faults: &mut Items<Diag>,
+) -> Result<(), AllocError>
+    ensures { OnOk result (faults.new ≡ faults.old ++ spec_graded line.now code (spec_root_name env.now root) found) }
+{
+    if found == Overlap::Apart {
+        return Ok(());
+    }
+    let name = root_name(alloc, env, root)?;
+    graded(line, code, name, found, faults)
+}
+
 /// What is reported of two parts, if they are not apart.
 pub(crate) fn pair_faults(
     alloc: Global,
@@ -59,12 +81,68 @@ pub(crate) fn pair_faults(
 ) -> Result<(), AllocError>
     ensures { OnOk result (faults.new ≡ faults.old ++ spec_pair_faults line.now code env.now one.now other.now) }
 {
-    let found = overlap(one, other);
-    if found == Overlap::Apart {
-        return Ok(());
-    }
-    let name = root_name(alloc, env, one.root)?;
-    graded(line, code, name, found, faults)
+    overlap_faults(
+        alloc,
+        line,
+        code,
+        env,
+        one.root,
+        overlap(one, other),
+        faults,
+    )
+}
+
+/// What is reported of the part that is selected and another, if they are not apart.
+pub(crate) fn selected_faults(
+    alloc: Global,
+    line: &Location,
+    code: Code,
+    env: &[Bound],
+    one: &SelectedPart,
+    other: &Part,
+    faults: &mut Items<Diag>,
+) -> Result<(), AllocError>
+    ensures { OnOk result (faults.new ≡ faults.old ++ spec_pair_faults line.now code env.now (part_of one.now) other.now) }
+{
+    overlap_faults(
+        alloc,
+        line,
+        code,
+        env,
+        one.root,
+        overlap_selected(one, other),
+        faults,
+    )
+}
+
+/// What a part and the one that is selected have in common.
+fn overlap_with_selected(one: &Part, other: &SelectedPart) -> Overlap
+    ensures { result ≡ overlap_of one.now (part_of other.now) }
+{
+    overlap_selected(other, one)
+}
+
+/// What is reported of a part and the one that is selected, if they are not apart.
+pub(crate) fn faults_with_selected(
+    alloc: Global,
+    line: &Location,
+    code: Code,
+    env: &[Bound],
+    one: &Part,
+    other: &SelectedPart,
+    faults: &mut Items<Diag>,
+) -> Result<(), AllocError>
+    ensures { OnOk result (faults.new ≡ faults.old ++ spec_pair_faults line.now code env.now one.now (part_of other.now)) }
+{
+    overlap_faults(
+        alloc,
+        line,
+        code,
+        env,
+        one.root,
+        overlap_with_selected(one, other),
+        faults,
+    )
 }
 
 /// What is reported of a use, if it writes what another has read.

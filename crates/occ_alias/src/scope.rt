@@ -3,12 +3,13 @@
 ghost use Rattle.std.specs.List.{list_any};
 ghost use Rattle.std.specs.Prelude.{◌≡◌, ◌++◌, ◌==◌, ℕ, OnOk, slice_get};
 ghost use Rattle.occ_alias.specs.AbbreviationRule.{bound_faults as spec_bound_faults, element_fault as spec_element_fault, element_faults as spec_element_faults, place_faults as spec_place_faults, scope_faults as spec_scope_faults};
+ghost use Rattle.occ_usage_parts.specs.Selecting.{part_of};
 ghost use Rattle.occ_alias.specs.inside.Choosing.{chosen_faults as spec_chosen_faults, numbered_faults as spec_numbered_faults};
 
-use super::pairs::{pair_faults, written_faults};
+use super::pairs::{selected_faults, written_faults};
 use occ_base::{Code, Diag, Items};
 use occ_usage_lines::UsageScope;
-use occ_usage_parts::{Part, SelectedPart};
+use occ_usage_parts::SelectedPart;
 use occ_usage_values::{Bound, Use};
 use std::alloc::{AllocError, Global};
 
@@ -24,16 +25,16 @@ fn element_fault(
     alloc: Global,
     number: usize,
     env: &[Bound],
-    element: &Part,
+    element: &SelectedPart,
     found: &Use,
     faults: &mut Items<Diag>,
 ) -> Result<(), AllocError>
-    ensures { OnOk result (faults.new ≡ faults.old ++ spec_element_fault number env.now element.now found.now) }
+    ensures { OnOk result (faults.new ≡ faults.old ++ spec_element_fault number env.now (part_of element.now) found.now) }
 {
     if is_by(found.chain.as_slice(), number) {
         return Ok(());
     }
-    pair_faults(
+    selected_faults(
         alloc,
         &found.line,
         Code::A1,
@@ -48,11 +49,11 @@ fn element_faults(
     alloc: Global,
     number: usize,
     env: &[Bound],
-    element: &Part,
+    element: &SelectedPart,
     uses: &[Use],
     faults: &mut Items<Diag>,
 ) -> Result<(), AllocError>
-    ensures { OnOk result (faults.new ≡ faults.old ++ spec_element_faults number env.now element.now uses.now) }
+    ensures { OnOk result (faults.new ≡ faults.old ++ spec_element_faults number env.now (part_of element.now) uses.now) }
 {
     for found in uses {
         element_fault(alloc, number, env, element, found, faults)?;
@@ -71,11 +72,10 @@ fn place_faults(
 ) -> Result<(), AllocError>
     ensures { OnOk result (faults.new ≡ faults.old ++ spec_place_faults number env.now place.now uses.now) }
 {
-    let Some(place) = place else {
-        return Ok(());
-    };
-    let element = place.copied(alloc)?.into_part()?;
-    element_faults(alloc, number, env, &element, uses, faults)
+    match place {
+        Some(element) => element_faults(alloc, number, env, element, uses, faults),
+        None => Ok(()),
+    }
 }
 
 /// What is reported of uses in the scope of the specification with this number.

@@ -1,6 +1,6 @@
 //! The exports of a unit: procedures and functions that its outermost lines specify, of two of one name the later.
-ghost use Rattle.std.specs.Prelude.{◌≡◌, ◌+◌, IfOk, OnOk, length};
-ghost use Rattle.occ_check.specs.Exports.{entries_exports, export as spec_export, interface_in, is_use as spec_is_use, line_entries, line_exports, meaning_exports, with_export, with_exports};
+ghost use Rattle.std.specs.Prelude.{[], ◌≡◌, ◌+◌, ◌++◌, IfOk, OnOk, length};
+ghost use Rattle.occ_check.specs.Exports.{entries_exports, export as spec_export, interface_in, is_use as spec_is_use, line_entries, line_exports, lines_exports, meaning_exports, with_exports};
 ghost use Rattle.occ_usage.specs.Entering.{effect_if as spec_effect_if};
 ghost use Rattle.occ_usage.specs.TypedLine.{out-TypedLine};
 
@@ -11,6 +11,7 @@ use occ_types::{Effect, Export, ExportKind, Formal, Interface, OccType};
 use occ_usage::{TypedForm, TypedLine, number_after, shared_formals, shared_types};
 use occ_usage_values::{Bound, body_at, effect_at};
 use std::alloc::{AllocError, Global};
+use std::collections::BTreeSet;
 
 /// An effect, if there is one.
 fn effect_if(has_effect: bool) -> Effect
@@ -45,15 +46,6 @@ fn export(
     })
 }
 
-/// Adds an export, and takes away an earlier one of its name.
-fn add_export(found: &mut Vec<Export>, export: Export) -> Result<(), AllocError>
-    ensures { OnOk result (found.new.items ≡ with_export found.old.items export) }
-{
-    found.retain(|earlier| earlier.name != export.name);
-    found.push(export)?;
-    Ok(())
-}
-
 /// Adds the export that a name is, if it stands for a procedure or a function; it is the specification with this number.
 fn add_entry(
     alloc: Global,
@@ -62,7 +54,7 @@ fn add_entry(
     entry: &ScopeEntry,
     found: &mut Vec<Export>,
 ) -> Result<(), AllocError>
-    ensures { OnOk result (found.new.items ≡ with_exports found.old.items (meaning_exports env.now number entry.now.name entry.now.meaning)) }
+    ensures { OnOk result (found.new.items ≡ found.old.items ++ meaning_exports env.now number entry.now.name entry.now.meaning) }
 {
     let export = match entry.meaning.get() {
         Meaning::Procedure(formals) => export(
@@ -87,12 +79,12 @@ fn add_entry(
             return Ok(());
         }
     };
-    add_export(found, export)
+    found.push(export)?;
+    Ok(())
 }
 
 /// Adds what names export, the first of which is the specification with this number; gives the number of the one after
 /// them.
-#[tactic(auto, using(crate::proofs::Exported::with_more))]
 fn add_entries(
     alloc: Global,
     env: &[Bound],
@@ -100,7 +92,7 @@ fn add_entries(
     entries: &[ScopeEntry],
     found: &mut Vec<Export>,
 ) -> Result<usize, AllocError>
-    ensures found { OnOk result (found.new.items ≡ with_exports found.old.items (entries_exports env.now number entries.now)) }
+    ensures found { OnOk result (found.new.items ≡ found.old.items ++ entries_exports env.now number entries.now) }
     ensures next { IfOk result (λ next. next ≡ number + length entries.now) }
 {
     let mut next = number;
@@ -136,7 +128,7 @@ fn add_line(
     line: &TypedLine,
     found: &mut Vec<Export>,
 ) -> Result<usize, AllocError>
-    ensures found { OnOk result (found.new.items ≡ with_exports found.old.items (line_exports env.now number line.now)) }
+    ensures found { OnOk result (found.new.items ≡ found.old.items ++ line_exports env.now number line.now) }
     ensures next { IfOk result (λ next. next ≡ number + length (line_entries line.now)) }
 {
     let entries = line_entries_of(line);
@@ -146,8 +138,38 @@ fn add_line(
     add_entries(alloc, env, number, entries, found)
 }
 
+/// Adds what the outermost lines of a unit export, an earlier one of a name too.
+fn add_lines(
+    alloc: Global,
+    env: &[Bound],
+    lines: &[TypedLine],
+    found: &mut Vec<Export>,
+) -> Result<(), AllocError>
+    ensures { OnOk result (found.new.items ≡ found.old.items ++ lines_exports env.now 0 lines.now) }
+{
+    let mut number = 0;
+    for line in lines {
+        number = add_line(alloc, env, number, line, found)?;
+    }
+    Ok(())
+}
+
+/// Of two exports of one name the later, at its own place: found from the last on, since a later name is known then.
+fn last_of_each(alloc: Global, mut exports: Vec<Export>) -> Result<Items<Export>, AllocError>
+    ensures { IfOk result (λ last. last ≡ with_exports [] exports.items) }
+{
+    let mut names = BTreeSet::new(alloc);
+    let mut last = Vec::new(alloc);
+    while let Some(export) = exports.pop() {
+        if names.insert(export.name.copied(alloc)?)? {
+            last.push(export)?;
+        }
+    }
+    last.reverse();
+    Ok(Items::from_vec(last))
+}
+
 /// The interface of a unit with these outermost lines, after the last of which this stands in scope.
-#[tactic(auto, using(crate::proofs::Exported::with_more))]
 pub fn interface_of(
     alloc: Global,
     env: &[Bound],
@@ -156,10 +178,7 @@ pub fn interface_of(
     ensures { IfOk result (λ interface. interface ≡ interface_in env.now lines.now) }
 {
     let mut found = Vec::new(alloc);
-    let mut number = 0;
-    for line in lines {
-        number = add_line(alloc, env, number, line, &mut found)?;
-    }
-    let exports = Items::from_vec(found);
+    add_lines(alloc, env, lines, &mut found)?;
+    let exports = last_of_each(alloc, found)?;
     Ok(Interface { exports })
 }

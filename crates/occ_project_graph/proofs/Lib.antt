@@ -8,3 +8,4 @@ pub mod Turned
 pub mod Added
 pub mod Replaced
 pub mod Free
+pub mod Mates

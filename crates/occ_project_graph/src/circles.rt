@@ -1,15 +1,16 @@
 //! Finds which edges are in circles, and for each node those that it rests on: its targets outside of circles.
-#![tactic(auto, using(crate::proofs::Circled::more_rows, crate::proofs::Circled::all_is))]
+#![tactic(auto, using(crate::proofs::Circled::all_is))]
 
-ghost use Rattle.std.specs.Prelude.{[], ◌∷◌, ◌≡◌, ◌<◌, ◌++◌, ℕ, length, IfOk, OnOk};
+ghost use Rattle.std.specs.Prelude.{[], ◌∷◌, ◌≡◌, ◌<◌, ◌+◌, ◌++◌, ℕ, None, get_or, length, replicate, IfOk, IsTrue, OnOk, false, true};
 ghost use Rattle.occ_project_graph.specs.Graph.{IsWhole, all_rests};
-ghost use Rattle.occ_project_graph.specs.inside.Circling.{IsCircles, IsRow, all_rests_by as spec_all_rests_by, is_circle as spec_is_circle, rests_by as spec_rests_by, row_at};
+ghost use Rattle.occ_project_graph.specs.inside.Circling.{AreMates, AreRows, DoReach, IsCircles, IsRow, all_rests_by as spec_all_rests_by, is_circle as spec_is_circle, rests_by as spec_rests_by, row_at};
 ghost use Rattle.occ_project_graph.specs.inside.Linking.{rests_kept};
 ghost use Rattle.occ_project_graph.specs.inside.Ranking.{IsRanked, rank_at, ranked_marks};
 ghost use Rattle.occ_project_graph.specs.inside.Searching.{mark_at};
 
 use super::order::in_order;
 use super::ranks::{find_ranks, have_all_ranks, marks_of};
+use super::reaching::{is_known, reaching};
 use super::search::{is_marked, number_at, search};
 use sqlite_items::Items;
 use std::alloc::{AllocError, Global};
@@ -23,8 +24,75 @@ pub struct Circles {
     pub rows: Items<Items<bool>>,
 }
 
-/// The marks of a search from a node without a rank, and none of one that has a rank.
-fn row(
+/// FoundRows of nodes, from the first on.
+#[derive(Drop)]
+pub struct FoundRows {
+    /// The rows so far.
+    pub rows: Items<Items<bool>>,
+    /// Of each node one with a row that it reaches and that reaches it, where such a one is known.
+    pub mates: Items<Option<usize>>,
+}
+
+/// What is known of a node, if there is something.
+fn mate_at(mates: &[Option<usize>], node: usize) -> Option<usize>
+    ensures { result ≡ get_or mates.now node None }
+{
+    match mates.get(node) {
+        Some(mate) => *mate,
+        None => None,
+    }
+}
+
+/// Whether a node has no rank and both a mark and a mark of those that reach the node that was searched.
+fn is_mate(ranks: &[usize], marks: &[bool], back: &[bool], node: usize) -> bool
+    ensures { IsTrue result → (rank_at ranks.now node ≡ 0) × (mark_at marks.now node ≡ true) × (get_or back.now node false ≡ true) }
+{
+    number_at(ranks, node) == 0 && is_marked(marks, node) && is_known(back, node)
+}
+
+/// Notes a node as the mate of another one, if it reaches that and is known to be reached from it.
+fn note_mate(
+    graph: &[Items<usize>],
+    ranks: &[usize],
+    node: usize,
+    other: usize,
+    marks: &[bool],
+    back: &[bool],
+    mates: &mut Items<Option<usize>>,
+)
+    requires free { rank_at ranks.now node ≡ 0 }
+    requires marks { IsRow graph.now ranks.now node marks.now }
+    requires back { DoReach graph.now node back.now }
+    requires mates { AreMates graph.now ranks.now (node + 1) mates.old }
+    ensures { AreMates graph.now ranks.now (node + 1) mates.new }
+{
+    if other < graph.len() && other < mates.len() && is_mate(ranks, marks, back, other) {
+        mates.set(other, Some(node));
+    }
+}
+
+/// Notes a node as the mate of all that it reaches and that are known to reach it.
+fn note_mates(
+    graph: &[Items<usize>],
+    ranks: &[usize],
+    node: usize,
+    marks: &[bool],
+    back: &[bool],
+    mates: &mut Items<Option<usize>>,
+)
+    requires free { rank_at ranks.now node ≡ 0 }
+    requires marks { IsRow graph.now ranks.now node marks.now }
+    requires back { DoReach graph.now node back.now }
+    requires mates { AreMates graph.now ranks.now (node + 1) mates.old }
+    ensures { AreMates graph.now ranks.now (node + 1) mates.new }
+{
+    for other in 0..graph.len() {
+        note_mate(graph, ranks, node, other, marks, back, mates);
+    }
+}
+
+/// The marks of a search from a node without a rank.
+fn searched_row(
     alloc: Global,
     graph: &[Items<usize>],
     ranks: &[usize],
@@ -34,19 +102,97 @@ fn row(
     requires ranked { IsRanked graph.now ranks.now }
     requires len { length ranks.now ≡ length graph.now }
     requires base { base.now ≡ ranked_marks ranks.now }
-    ensures { IfOk result (λ row. rank_at ranks.now node ≡ 0 → IsRow graph.now ranks.now node row) }
+    ensures { IfOk result (λ row. IsRow graph.now ranks.now node row) }
 {
+    let marks = search(alloc, graph, base, node)?;
+    Ok(marks)
+}
+
+/// The row of the next node: none if it has a rank, that of a mate, or the marks of a search. Of a search its mates are noted, so
+/// that nodes of one circle are searched once.
+fn row(
+    alloc: Global,
+    graph: &[Items<usize>],
+    sources: &[Items<usize>],
+    ranks: &[usize],
+    base: &[bool],
+    found: &mut FoundRows,
+) -> Result<Items<bool>, AllocError>
+    requires ranked { IsRanked graph.now ranks.now }
+    requires len { length ranks.now ≡ length graph.now }
+    requires base { base.now ≡ ranked_marks ranks.now }
+    requires found { AreRows graph.now ranks.now found.old }
+    ensures row { IfOk result (λ row. rank_at ranks.now (length found.old.rows) ≡ 0 → IsRow graph.now ranks.now (length found.old.rows) row) }
+    ensures rows { found.new.rows ≡ found.old.rows }
+    ensures mates { OnOk result (AreMates graph.now ranks.now (length found.old.rows + 1) found.new.mates) }
+{
+    let node = found.rows.len();
     if number_at(ranks, node) > 0 {
         return Ok(Items::new(alloc));
     }
-    let marks = search(alloc, graph, base, node)?;
+    if let Some(mate) = mate_at(found.mates.as_slice(), node) {
+        let row = copied_row(alloc, found.rows.as_slice(), mate)?;
+        return Ok(row);
+    }
+    let marks = searched_row(alloc, graph, ranks, base, node)?;
+    let back = reaching(alloc, graph, sources, node)?;
+    note_mates(
+        graph,
+        ranks,
+        node,
+        marks.as_slice(),
+        back.as_slice(),
+        &mut found.mates,
+    );
     Ok(marks)
+}
+
+/// A copy of a row.
+fn copied_row(alloc: Global, rows: &[Items<bool>], node: usize) -> Result<Items<bool>, AllocError>
+    ensures { IfOk result (λ row. row ≡ row_at rows.now node) }
+{
+    match rows.get(node) {
+        Some(row) => Items::from_slice(alloc, row.as_slice()),
+        None => Ok(Items::new(alloc)),
+    }
+}
+
+/// Adds the row of the next node.
+fn add_row(
+    alloc: Global,
+    graph: &[Items<usize>],
+    sources: &[Items<usize>],
+    ranks: &[usize],
+    base: &[bool],
+    found: &mut FoundRows,
+) -> Result<(), AllocError>
+    requires ranked { IsRanked graph.now ranks.now }
+    requires len { length ranks.now ≡ length graph.now }
+    requires base { base.now ≡ ranked_marks ranks.now }
+    requires found { AreRows graph.now ranks.now found.old }
+    ensures found { OnOk result (AreRows graph.now ranks.now found.new) }
+    ensures more { OnOk result (length found.new.rows ≡ length found.old.rows + 1) }
+{
+    let row = row(alloc, graph, sources, ranks, base, found)?;
+    found.rows.push(row)
+}
+
+/// No mate, so many times.
+fn no_mates(alloc: Global, count: usize) -> Result<Items<Option<usize>>, AllocError>
+    ensures { IfOk result (λ mates. mates ≡ replicate count None) }
+{
+    let mut mates = Items::new(alloc);
+    for _ in 0..count {
+        mates.push(None)?;
+    }
+    Ok(mates)
 }
 
 /// The rows of all nodes.
 fn rows(
     alloc: Global,
     graph: &[Items<usize>],
+    sources: &[Items<usize>],
     ranks: &[usize],
 ) -> Result<Items<Items<bool>>, AllocError>
     requires ranked { IsRanked graph.now ranks.now }
@@ -54,24 +200,28 @@ fn rows(
     ensures { IfOk result (λ rows. (v : ℕ) → v < length graph.now → rank_at ranks.now v ≡ 0 → IsRow graph.now ranks.now v (row_at rows v)) }
 {
     let base = marks_of(alloc, ranks)?;
-    let mut rows = Items::new(alloc);
-    for node in 0..graph.len() {
-        rows.push(row(alloc, graph, ranks, base.as_slice(), node)?)?;
+    let mut found = FoundRows {
+        rows: Items::new(alloc),
+        mates: no_mates(alloc, graph.len())?,
+    };
+    for _ in 0..graph.len() {
+        add_row(alloc, graph, sources, ranks, base.as_slice(), &mut found)?;
     }
-    Ok(rows)
+    Ok(found.rows)
 }
 
 /// What reports of the edges of a graph whether they stand in circles.
 fn find_circles(
     alloc: Global,
     graph: &[Items<usize>],
+    sources: &[Items<usize>],
     ranks: Items<usize>,
 ) -> Result<Circles, AllocError>
     requires ranked { IsRanked graph.now ranks }
     requires len { length ranks ≡ length graph.now }
     ensures { IfOk result (λ circles. IsCircles graph.now circles) }
 {
-    let rows = rows(alloc, graph, ranks.as_slice())?;
+    let rows = rows(alloc, graph, sources, ranks.as_slice())?;
     Ok(Circles { ranks, rows })
 }
 
@@ -143,8 +293,8 @@ fn all_rests_of(
 }
 
 /// For each node of a graph those that it rests on: those to which edges lead from it that stand in no circle; nothing, only if
-/// these are all. It goes once along the edges that reach no circle, and once from each other node along those that do. The graph
-/// turned round serves for the order of this alone: sources that are wrong cost time.
+/// these are all. It goes once along the edges that reach no circle, and for the other nodes once along those that do, once for all
+/// that reach one another. The graph turned round serves for the order of this alone: sources that are wrong cost time.
 pub fn find_rests(
     alloc: Global,
     graph: &[Items<usize>],
@@ -158,6 +308,6 @@ pub fn find_rests(
     if have_all_ranks(ranks.as_slice()) {
         return Ok(None);
     }
-    let circles = find_circles(alloc, graph, ranks)?;
+    let circles = find_circles(alloc, graph, sources, ranks)?;
     Ok(Some(all_rests_of(alloc, graph, &circles)?))
 }

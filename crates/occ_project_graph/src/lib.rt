@@ -7,6 +7,7 @@ pub mod laws;
 mod linked;
 mod order;
 mod ranks;
+mod reaching;
 mod resting;
 pub mod rows;
 mod search;

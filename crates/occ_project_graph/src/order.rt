@@ -1,5 +1,6 @@
-//! An order of the nodes in which targets come first. It has no contract: a node that it leaves out is searched, so it
-//! costs time alone.
+//! Orders of nodes in which targets come first. They have no contract: a node that one leaves out is searched, so it costs
+//! time alone.
+use super::search::{is_marked, targets as row};
 use sqlite_items::Items;
 use std::alloc::{AllocError, Global};
 
@@ -42,6 +43,43 @@ fn release(
             if *count == 0 {
                 order.push(*source)?;
             }
+        }
+    }
+    Ok(())
+}
+
+/// The nodes from which edges lead to a goal, each after one to which an edge leads from it, so breadth first against the edges.
+/// It promises nothing: what it leaves out or puts wrongly costs time.
+pub fn order_back(
+    alloc: Global,
+    sources: &[Items<usize>],
+    goal: usize,
+) -> Result<Vec<usize>, AllocError> {
+    let mut seen = Items::new(alloc);
+    for _ in sources {
+        seen.push(false)?;
+    }
+    let mut order = Vec::new(alloc);
+    come_to(row(sources, goal), &mut seen, &mut order)?;
+    for index in 0..sources.len() {
+        let Some(node) = order.get(index) else {
+            break;
+        };
+        come_to(row(sources, *node), &mut seen, &mut order)?;
+    }
+    Ok(order)
+}
+
+/// These nodes follow in order, but for those that were come to before.
+fn come_to(
+    nodes: &[usize],
+    seen: &mut Items<bool>,
+    order: &mut Vec<usize>,
+) -> Result<(), AllocError> {
+    for node in nodes {
+        if *node < seen.len() && !is_marked(seen.as_slice(), *node) {
+            seen.set(*node, true);
+            order.push(*node)?;
         }
     }
     Ok(())

@@ -7,7 +7,7 @@ use Rattle.occ_base.specs.declared.diag.Diag.{Diag}
 use Rattle.occ_usage_values.specs.declared.bound.Bound.{Bound}
 use Rattle.occ_usage_values.specs.declared.uses.Use.{Use}
 use Rattle.occ_usage_parts.specs.Parts.{overlap_of}
-use Rattle.occ_theorems.proofs.Elements.{overlap_turned}
+use Rattle.occ_usage_parts.proofs.Turning.{overlap_turned}
 use Rattle.occ_project.specs.declared.expanded.Location.{Location as Line}
 use Rattle.occ_types.specs.declared.interface.UseKind.{UseKind}
 use Rattle.occ_usage_conflicts.specs.ParallelRule.{StandsIn, IsReported, IsUsedIn, SomeClash, below, clash, clash_between, component_faults, conflict, counts, fault_of, root_fault, root_faults, some_clash, target_faults, uses_clash}

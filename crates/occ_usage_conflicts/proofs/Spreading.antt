@@ -1,5 +1,5 @@
 -- Parts that are spread over lists meet those of their own list alone.
-use Rattle.std.specs.Prelude.{unsigned_abs, ◌%◌, slice_get, slice_set, not}
+use Rattle.std.specs.Prelude.{unsigned_abs, ◌%◌, slice_get, slice_set, not, Result, Ok, Err, OnOk, OnErr}
 use Rattle.std.specs.List.{list_any}
 use Rattle.std.proofs.Common.{◌≡◌, ◌≢◌, ◌∙◌, ℕ, ℤ, zero, suc, Bool, true, false, ◌||◌, ◌==◌, Some, List, [], ◌∷◌, ◌++◌, length, refl, ap, sym, subst, arith}
 use Rattle.occ_usage_parts.specs.Keeping.{meets_some}
@@ -139,6 +139,19 @@ stays_spread lists j old new p spread at of e = λ i ps q k there q_of d. put i 
       ∙ both_false (meets_some old q) (are_apart p q) (spread j old q k at q_of elsewhere) (apart p q (length lists) j k of q_of elsewhere)
   put i ps q k there q_of d false w = spread i ps q k (set_there lists j new ps i there (other_number i j w)) q_of d
 
+-- also where it lost some
+pub fewer_spread : (lists : List Parts) (j : ℕ) (old new : Parts) → IsSpread lists → slice_get lists j ≡ Some old
+    → ((q : List PartSelector) → meets_some old q ≡ false → meets_some new q ≡ false) → IsSpread (slice_set lists j new)
+fewer_spread lists j old new spread at e = λ i ps q k there q_of d. put i ps q k there (subst (λ (n : ℕ). list_of q n ≡ Some k) (set_length lists j new) q_of) d (i == j) refl where
+  put : (i : ℕ) (ps : Parts) (q : List PartSelector) (k : ℕ) → slice_get (slice_set lists j new) i ≡ Some ps → list_of q (length lists) ≡ Some k → k ≢ i
+      → (same : Bool) → (i == j) ≡ same → meets_some ps q ≡ false
+  put i ps q k there q_of d true w =
+      let is : i ≡ j = same_number i j w in
+      let elsewhere : k ≢ j = λ v. d (v ∙ sym is) in
+      let set : new ≡ ps = set_here lists j new ps (subst (λ (n : ℕ). slice_get (slice_set lists j new) n ≡ Some ps) is there) in
+      ap (λ (z : Parts). meets_some z q) (sym set) ∙ e q (spread j old q k at q_of elsewhere)
+  put i ps q k there q_of d false w = spread i ps q k (set_there lists j new ps i there (other_number i j w)) q_of d
+
 pub put_spread : (lists : List Parts) (j : ℕ) (old new : Parts) (p : List PartSelector) → slice_get lists j ≡ Some old
     → ((q : List PartSelector) → meets_some new q ≡ (meets_some old q || not (are_apart p q)))
     → (q : List PartSelector) → meets_in (slice_set lists j new) q ≡ (meets_in lists q || not (are_apart p q))
@@ -189,3 +202,9 @@ few_more few lists more new e = ap (λ (b : Bool). b || lists) e ∙ moved few m
   moved false true false = refl
   moved false false true = refl
   moved false false false = refl
+
+-- ---- after a step
+
+pub on_result : {A E : Type 0} (r : Result A E) {P Q R : Type 0} → (P → R) → (Q → R) → OnOk r P → OnErr r Q → R
+on_result (Ok a) f g p q = f p
+on_result (Err e) f g p q = g q

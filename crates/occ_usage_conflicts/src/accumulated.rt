@@ -1,32 +1,28 @@
-//! The parts of one root that earlier components use. Few are in one list, many in 256, by the index that they select
-//! first, so that unlike parts cost no pairs.
-ghost use Rattle.std.specs.Prelude.{◌≡◌, ◌<◌, ◌||◌, [], IfOk, IfSome, List, OnErr, OnOk, Some, false, length, not};
-ghost use Rattle.std.specs.List.{list_any};
+//! The parts of one root that earlier components use. Few ways of beginning are in one list, many in 256, by the index that
+//! they select first, so that unlike parts cost no pairs.
+ghost use Rattle.std.specs.Prelude.{◌≡◌, ◌<◌, ◌||◌, [], IfOk, IfSome, List, OnOk, Some, false, length, not};
 ghost use Rattle.occ_usage_parts.specs.Keeping.{meets_some};
 ghost use Rattle.occ_usage_parts.specs.Parts.{are_apart as spec_are_apart};
 ghost use Rattle.occ_types.specs.declared.interface.PartSelector.{PartSelector as ASelector};
-ghost use Rattle.occ_usage_conflicts.specs.Distinct.{same_selectors as spec_same_selectors};
 ghost use Rattle.occ_usage_conflicts.specs.inside.Spreading.{IsSpread, list_of as spec_list_of, meets_at as spec_meets_at, meets_in};
 
-use super::same::same_selectors;
-use occ_base::Items;
 use occ_types::{Interval, PartSelector, Places};
-use occ_usage_parts::{accumulate, accumulate_copy, copies, meets_accumulated};
+use occ_usage_parts::Paths;
 use std::alloc::{AllocError, Global};
 use std::marker::Model;
 
-/// So many parts are kept in one list, before others are spread.
+/// So many ways of beginning are in one list, before others are spread.
 const FEW: usize = 16;
 
 /// Over so many lists parts are spread.
 const LISTS: usize = 256;
 
-/// Parts of one root that are kept to be asked for, those that are joined to others as one.
+/// Parts of one root that are kept to be asked for.
 #[derive(Drop)]
 pub(crate) struct Accumulated {
-    few: Vec<Items<PartSelector>>,
+    few: Paths,
     /// By the place that the first selector selects, if it is one place: so that a part meets those of its own list alone.
-    spread: Vec<Items<Items<PartSelector>>>,
+    spread: Vec<Paths>,
 }
 
 impl Model for Accumulated {
@@ -36,7 +32,7 @@ impl Model for Accumulated {
 
     ghost Value = { List (List PartSelector) };
 
-    ghost view = { λ k. k.few.items ++ all_in k.spread.items };
+    ghost view = { λ k. k.few ++ all_in k.spread.items };
 
     ghost invariant = { λ k. IsSpread k.spread.items };
 }
@@ -47,7 +43,7 @@ impl Accumulated {
         ensures { result ≡ [] }
     {
         Accumulated {
-            few: Vec::new(alloc),
+            few: Paths::none(alloc),
             spread: Vec::new(alloc),
         }
     }
@@ -56,15 +52,15 @@ impl Accumulated {
     pub(crate) fn meets(&self, part: &[PartSelector]) -> bool
         ensures { result ≡ meets_some self.now part.now }
     {
-        meets_accumulated(self.few.as_slice(), part) || meets_spread(self.spread.as_slice(), part)
+        self.few.meets(part) || meets_spread(self.spread.as_slice(), part)
     }
 
     /// From now on what has an element in common with the part has one in common with a kept part.
     pub(crate) fn add(&mut self, alloc: Global, part: &[PartSelector]) -> Result<(), AllocError>
         ensures { OnOk result ((q : List ASelector) → meets_some self.new q ≡ (meets_some self.old q || not (spec_are_apart part.now q))) }
     {
-        if self.few.len() < FEW {
-            return add_few(alloc, &mut self.few, part);
+        if self.few.count() < FEW {
+            return self.few.add(alloc, part);
         }
         make_lists(alloc, &mut self.spread)?;
         put(alloc, part, &mut self.few, &mut self.spread)
@@ -72,7 +68,7 @@ impl Accumulated {
 }
 
 /// Makes the lists, if there are none.
-fn make_lists(alloc: Global, lists: &mut Vec<Items<Items<PartSelector>>>) -> Result<(), AllocError>
+fn make_lists(alloc: Global, lists: &mut Vec<Paths>) -> Result<(), AllocError>
     ensures spread { IsSpread lists.old.items → IsSpread lists.new.items }
     ensures meets { OnOk result ((q : List ASelector) → meets_in lists.new.items q ≡ meets_in lists.old.items q) }
 {
@@ -86,25 +82,25 @@ fn make_lists(alloc: Global, lists: &mut Vec<Items<Items<PartSelector>>>) -> Res
 fn put(
     alloc: Global,
     part: &[PartSelector],
-    few: &mut Vec<Items<PartSelector>>,
-    lists: &mut Vec<Items<Items<PartSelector>>>,
+    few: &mut Paths,
+    lists: &mut Vec<Paths>,
 ) -> Result<(), AllocError>
     ensures spread { IsSpread lists.old.items → IsSpread lists.new.items }
-    ensures meets { OnOk result ((q : List ASelector) → (meets_some few.new.items q || meets_in lists.new.items q) ≡ ((meets_some few.old.items q || meets_in lists.old.items q) || not (spec_are_apart part.now q))) }
+    ensures meets { OnOk result ((q : List ASelector) → (meets_some few.new q || meets_in lists.new.items q) ≡ ((meets_some few.old q || meets_in lists.old.items q) || not (spec_are_apart part.now q))) }
 {
     match list_of(part, lists.len()) {
         Some(at) => add_at(alloc, lists, at, part),
-        None => add_few(alloc, few, part),
+        None => few.add(alloc, part),
     }
 }
 
 /// Lists without a part.
-fn no_lists(alloc: Global) -> Result<Vec<Items<Items<PartSelector>>>, AllocError>
+fn no_lists(alloc: Global) -> Result<Vec<Paths>, AllocError>
     ensures { IfOk result (λ lists. IsSpread lists.items × ((q : List ASelector) → meets_in lists.items q ≡ false)) }
 {
     let mut lists = Vec::new(alloc);
     for _made in 0..LISTS {
-        lists.push(Items::new(alloc))?;
+        lists.push(Paths::none(alloc))?;
     }
     Ok(lists)
 }
@@ -124,7 +120,7 @@ fn list_of(part: &[PartSelector], count: usize) -> Option<usize>
 }
 
 /// Whether a part of one of the lists has an element in common with a part.
-fn meets_spread(lists: &[Items<Items<PartSelector>>], part: &[PartSelector]) -> bool
+fn meets_spread(lists: &[Paths], part: &[PartSelector]) -> bool
     ensures { IsSpread lists.now → result ≡ meets_in lists.now part.now }
 {
     match list_of(part, lists.len()) {
@@ -133,20 +129,20 @@ fn meets_spread(lists: &[Items<Items<PartSelector>>], part: &[PartSelector]) -> 
     }
 }
 
-fn meets_at(lists: &[Items<Items<PartSelector>>], at: usize, part: &[PartSelector]) -> bool
+fn meets_at(lists: &[Paths], at: usize, part: &[PartSelector]) -> bool
     ensures { result ≡ spec_meets_at lists.now at part.now }
 {
     match lists.get(at) {
-        Some(parts) => meets_accumulated(parts.as_slice(), part),
+        Some(parts) => parts.meets(part),
         None => false,
     }
 }
 
-fn meets_any(lists: &[Items<Items<PartSelector>>], part: &[PartSelector]) -> bool
+fn meets_any(lists: &[Paths], part: &[PartSelector]) -> bool
     ensures { result ≡ meets_in lists.now part.now }
 {
     for parts in lists {
-        if meets_accumulated(parts.as_slice(), part) {
+        if parts.meets(part) {
             return true;
         }
     }
@@ -156,7 +152,7 @@ fn meets_any(lists: &[Items<Items<PartSelector>>], part: &[PartSelector]) -> boo
 /// Adds a part to its list.
 fn add_at(
     alloc: Global,
-    lists: &mut Vec<Items<Items<PartSelector>>>,
+    lists: &mut Vec<Paths>,
     at: usize,
     part: &[PartSelector],
 ) -> Result<(), AllocError>
@@ -165,55 +161,5 @@ fn add_at(
     ensures spread { IsSpread lists.old.items → IsSpread lists.new.items }
     ensures meets { OnOk result ((q : List ASelector) → meets_in lists.new.items q ≡ (meets_in lists.old.items q || not (spec_are_apart part.now q))) }
 {
-    add_part(alloc, &mut lists[at], part)?;
-    Ok(())
-}
-
-/// Whether a part is kept as it is.
-fn is_accumulated(accumulated: &[Items<PartSelector>], part: &[PartSelector]) -> bool
-    ensures { result ≡ list_any (λ (p : List ASelector). spec_same_selectors p part.now) accumulated.now }
-{
-    for one in accumulated {
-        if same_selectors(one.as_slice(), part) {
-            return true;
-        }
-    }
-    false
-}
-
-/// Whether the last selector is an interval, so that `accumulate` makes one of two equal parts.
-fn ends_in_places(part: &[PartSelector]) -> bool {
-    match part {
-        [.., PartSelector::Interval(_)] => true,
-        _ => false,
-    }
-}
-
-/// Keeps a part among the few, if it is not kept.
-fn add_few(
-    alloc: Global,
-    few: &mut Vec<Items<PartSelector>>,
-    part: &[PartSelector],
-) -> Result<(), AllocError>
-    ensures { OnOk result ((q : List ASelector) → meets_some few.new.items q ≡ (meets_some few.old.items q || not (spec_are_apart part.now q))) }
-{
-    if !ends_in_places(part) && is_accumulated(few.as_slice(), part) {
-        return Ok(());
-    }
-    accumulate_copy(alloc, few, part)
-}
-
-/// Keeps a part in its list, if it is not kept.
-fn add_part(
-    alloc: Global,
-    accumulated: &mut Items<Items<PartSelector>>,
-    part: &[PartSelector],
-) -> Result<(), AllocError>
-    ensures ok { OnOk result ((q : List ASelector) → meets_some accumulated.new q ≡ (meets_some accumulated.old q || not (spec_are_apart part.now q))) }
-    ensures err { OnErr result (accumulated.new ≡ accumulated.old) }
-{
-    if !ends_in_places(part) && is_accumulated(accumulated.as_slice(), part) {
-        return Ok(());
-    }
-    accumulate(accumulated, copies(alloc, part)?)
+    lists[at].add(alloc, part)
 }

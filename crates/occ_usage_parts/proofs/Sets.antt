@@ -5,7 +5,7 @@ use Rattle.std.specs.Int.{int_max, int_min}
 use Rattle.std.proofs.lemmas.Int.{ints}
 use Rattle.occ_types.specs.declared.interface.Places.{Places}
 use Rattle.occ_types.specs.declared.interface.Places.TheVariants as places
-use Rattle.occ_usage_parts.specs.Places.{is_next, Meet, common, holds, is_none, meet, run_to, united}
+use Rattle.occ_usage_parts.specs.Places.{Meet, common, holds, is_none, meet, run_to}
 
 run_case : (t : Bool) (a b x : ℤ) → int_le a b ≡ t → holds (if t then places.Run a (unsigned_abs (b -ℤ a)) else places.None) x ≡ (int_le a x && int_le x b)
 run_case true a b x e = grind (arith, ints)
@@ -54,44 +54,3 @@ meet_none true p q e (x, h, k) =
 
 pub meet_exactly : (p q : Places) → (meet p q ≡ true) ↔ Meet p q
 meet_exactly p q = (meet_some (is_none (common p q)) p q refl, meet_none (is_none (common p q)) p q refl)
-
--- ---- sets made together
-
-abbrev IsUnionOf : Places → Places → Places → Type 0
-IsUnionOf p q r = (x : ℤ) → holds r x ≡ (holds p x || holds q x)
-
-abbrev IsUnionIfAny : Places → Places → Option Places → Type 0
-IsUnionIfAny p q r = IfSome r (IsUnionOf p q)
-
-from_case : (t : Bool) (p q : Places) (r : Places) → (t ≡ true → IsUnionOf p q r) → IsUnionIfAny p q (if t then Some r else None)
-from_case true p q r h = h refl
-from_case false p q r h = tt
-
-from_union : (a b : ℤ) (m : ℕ) → is_next (b +ℤ pos m) a ≡ true → IsUnionOf (places.From a) (places.Run b m) (places.From (int_min a b))
-from_union a b m e x = grind (arith, ints)
-
-union_from : (a b : ℤ) (n : ℕ) → is_next (a +ℤ pos n) b ≡ true → IsUnionOf (places.Run a n) (places.From b) (places.From (int_min b a))
-union_from a b n e x = grind (arith, ints)
-
-run_union : (a b : ℤ) (n m : ℕ) → (is_next (a +ℤ pos n) b && is_next (b +ℤ pos m) a) ≡ true
-    → IsUnionOf (places.Run a n) (places.Run b m) (run_to (int_min a b) (int_max (a +ℤ pos n) (b +ℤ pos m)))
-run_union a b n m e x = run_to_holds (int_min a b) (int_max (a +ℤ pos n) (b +ℤ pos m)) x ∙ grind (arith, ints)
-
-runs_case : (t u : Bool) (p q r : Places) → (t ≡ true → IsUnionOf p q r) → IsUnionIfAny p q (if t then (if u then Some r else None) else None)
-runs_case true true p q r h = h refl
-runs_case true false p q r h = tt
-runs_case false u p q r h = tt
-
-pub united_holds : (p q : Places) → IfSome (united p q) (λ r. (x : ℤ) → holds r x ≡ (holds p x || holds q x))
-united_holds places.None q = λ x. refl
-united_holds places.All q = λ x. refl
-united_holds (places.From a) places.None = λ x. grind arith
-united_holds (places.From a) places.All = λ x. grind arith
-united_holds (places.From a) (places.From b) = λ x. grind (arith, ints)
-united_holds (places.From a) (places.Run b m) = from_case (is_next (b +ℤ pos m) a) (places.From a) (places.Run b m) (places.From (int_min a b)) (from_union a b m)
-united_holds (places.Run a n) places.None = λ x. grind arith
-united_holds (places.Run a n) places.All = λ x. grind arith
-united_holds (places.Run a n) (places.From b) = from_case (is_next (a +ℤ pos n) b) (places.Run a n) (places.From b) (places.From (int_min b a)) (union_from a b n)
-united_holds (places.Run a n) (places.Run b m) =
-    runs_case (is_next (a +ℤ pos n) b && is_next (b +ℤ pos m) a) (int_le (int_max (a +ℤ pos n) (b +ℤ pos m)) (int_min a b +ℤ pos 4294967295)) (places.Run a n) (places.Run b m)
-    (run_to (int_min a b) (int_max (a +ℤ pos n) (b +ℤ pos m))) (run_union a b n m)

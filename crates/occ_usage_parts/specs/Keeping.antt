@@ -1,4 +1,4 @@
--- Parts of one root that are kept to be asked for: lists of selectors, of which some are made into one.
+-- Parts of one root that are kept to be asked for, as lists of selectors.
 use Rattle.std.specs.Prelude.{◌≡◌, ℤ, Bool, not, ◌||◌, List, [], ◌∷◌, ◌++◌}
 use Rattle.std.specs.List.{list_any}
 use Rattle.occ_types.specs.declared.interface.Interval.{Interval}
@@ -18,12 +18,3 @@ IsUnion p q r = (x : ℤ) → holds r x ≡ (holds p x || holds q x)
 
 abbrev pub following : List PartSelector → Interval → List PartSelector
 following front i = front ++ s.Interval i ∷ []
-
--- two parts agree but for their last intervals, and these places are those of both
-pub record Joins (a b : List PartSelector) (both : Places) : Type 0 where
-  pub front : List PartSelector
-  pub one : Interval
-  pub other : Interval
-  pub left : a ≡ following front one
-  pub right : b ≡ following front other
-  pub union : IsUnion one.places other.places both

@@ -1,4 +1,4 @@
--- Sets of places of an array: which places a set holds, what two sets have in common, and what they make together.
+-- Sets of places of an array: which places a set holds, and what two sets have in common.
 use Rattle.std.specs.Prelude.{◌≡◌, ℕ, ℤ, pos, negsuc, ◌+ℤ◌, ◌-ℤ◌, int_le, unsigned_abs, Bool, true, false, ◌&&◌, Option, Some, None, if◌then◌else◌}
 use Rattle.std.specs.Int.{int_max, int_min}
 use Rattle.occ_types.specs.declared.interface.Places.{Places}
@@ -42,34 +42,6 @@ is_none (places.Run a n) = false
 
 abbrev pub meet : Places → Places → Bool
 meet p q = if is_none (common p q) then false else true
-
--- the places from a to b, if they can be written as a run
-abbrev pub short_run : ℤ → ℤ → Option Places
-short_run a b = if int_le b (a +ℤ pos 4294967295) then Some (run_to a b) else None
-
--- b is at most one place after a
-abbrev pub is_next : ℤ → ℤ → Bool
-is_next a b = int_le (b -ℤ pos 1) a
-
--- from a on, and from b to its last place
-abbrev pub from_with_run : ℤ → ℤ → ℤ → Option Places
-from_with_run a b last = if is_next last a then Some (places.From (int_min a b)) else None
-
-abbrev pub run_with_run : ℤ → ℤ → ℤ → ℤ → Option Places
-run_with_run a last b other = if is_next last b && is_next other a then short_run (int_min a b) (int_max last other) else None
-
--- the places that lie in one or the other, if they follow one another and can be written as one set
-abbrev pub united : Places → Places → Option Places
-united places.None q = Some q
-united places.All q = Some places.All
-united (places.From a) places.None = Some (places.From a)
-united (places.From a) places.All = Some places.All
-united (places.From a) (places.From b) = Some (places.From (int_min a b))
-united (places.From a) (places.Run b m) = from_with_run a b (b +ℤ pos m)
-united (places.Run a n) places.None = Some (places.Run a n)
-united (places.Run a n) places.All = Some places.All
-united (places.Run a n) (places.From b) = from_with_run b a (a +ℤ pos n)
-united (places.Run a n) (places.Run b m) = run_with_run a (a +ℤ pos n) b (b +ℤ pos m)
 
 -- a number of 64 bits
 abbrev pub near : ℤ → Option ℤ

@@ -2,17 +2,20 @@
 //! lists of parts that are asked for.
 #![tactic(auto)]
 
-mod accumulated;
 mod comparing;
 mod interval;
 mod part;
+mod path;
+mod paths;
 mod place;
+mod place_set;
 mod places;
 pub mod rows;
+mod runs;
 mod selectors;
 
-pub use accumulated::{accumulate, accumulate_copy, meets_accumulated};
-pub use comparing::{are_apart, overlap};
+pub use comparing::{overlap, overlap_selected};
 pub use part::{Overlap, Part};
+pub use paths::Paths;
 pub use place::{Ending, SelectedPart};
 pub use selectors::copies;

@@ -1,8 +1,7 @@
-//! Sets of indices: what two have in common, whether they meet, their union where they follow one another, and counting
-//! from a base.
+//! Sets of indices: what two have in common, whether they meet, and counting from a base.
 ghost use Rattle.std.specs.Prelude.{◌≡◌, ◌≤ℤ◌, ◌+ℤ◌, pos};
 ghost use Rattle.occ_types.specs.declared.interface.Places.TheVariants as places;
-ghost use Rattle.occ_usage_parts.specs.Places.{common, from_with_run, is_next, meet, moved, near, run_to, run_with_run, short_run as spec_short_run, united};
+ghost use Rattle.occ_usage_parts.specs.Places.{common, meet, moved, near, run_to};
 
 use occ_types::Places;
 
@@ -77,61 +76,5 @@ pub(crate) fn counted_from(base: i64, places: Places) -> Option<Places>
         Places::None | Places::All => Some(places),
         Places::From(first) => Some(Places::From(sum(base, first)?)),
         Places::Run(first, more) => Some(Places::Run(sum(base, first)?, more)),
-    }
-}
-
-/// The places that lie in one or the other, if they follow one another and can be written as one set.
-pub(crate) fn union(a: Places, b: Places) -> Option<Places>
-    ensures { result ≡ united a b }
-{
-    match (a, b) {
-        (Places::None, b) => Some(b),
-        (Places::All, _) => Some(Places::All),
-        (a, Places::None) => Some(a),
-        (_, Places::All) => Some(Places::All),
-        (Places::From(a), Places::From(b)) => Some(Places::From(a.min(b))),
-        (Places::From(a), Places::Run(b, m)) => from_and_run(a, b, last(b, m)),
-        (Places::Run(a, n), Places::From(b)) => from_and_run(b, a, last(a, n)),
-        (Places::Run(a, n), Places::Run(b, m)) => two_runs(a, last(a, n), b, last(b, m)),
-    }
-}
-
-/// The places from one on, and those of a run.
-fn from_and_run(from: i64, first: i64, last: i128) -> Option<Places>
-    ensures { result ≡ from_with_run from first last }
-{
-    if adjoins(last, from) {
-        Some(Places::From(from.min(first)))
-    } else {
-        None
-    }
-}
-
-/// The places of two runs.
-fn two_runs(a: i64, a_last: i128, b: i64, b_last: i128) -> Option<Places>
-    ensures { result ≡ run_with_run a a_last b b_last }
-{
-    if adjoins(a_last, b) && adjoins(b_last, a) {
-        short_run(a.min(b), a_last.max(b_last))
-    } else {
-        None
-    }
-}
-
-/// Whether the next is at most one place after the last.
-fn adjoins(last: i128, next: i64) -> bool
-    ensures { result ≡ is_next last next }
-{
-    i128::from(next) - 1 <= last
-}
-
-/// The places from one to another, if a run can have so many.
-fn short_run(first: i64, last: i128) -> Option<Places>
-    ensures { result ≡ spec_short_run first last }
-{
-    if last <= i128::from(first) + 4_294_967_295 {
-        Some(run(first, last))
-    } else {
-        None
     }
 }

@@ -1,11 +1,11 @@
-//! Worked rows: subscripts, segments, segments of segments, names, unions.
+//! Worked rows: subscripts, segments, segments of segments, names.
 ghost use Rattle.std.specs.Prelude.{◌≡◌, ◌∷◌, [], None, Some, codes, false, negsuc, pos, true};
 ghost use Rattle.occ_types.specs.declared.interface.PartSelector.TheVariants as s;
 ghost use Rattle.occ_types.specs.declared.interface.Places.TheVariants as places;
 ghost use Rattle.occ_usage_parts.specs.declared.part.Overlap.TheVariants as o;
 ghost use Rattle.occ_usage_parts.specs.Keeping.{meets_some};
 ghost use Rattle.occ_usage_parts.specs.Parts.{overlap_of, overlap_of_selectors};
-ghost use Rattle.occ_usage_parts.specs.Places.{common, moved, united};
+ghost use Rattle.occ_usage_parts.specs.Places.{common, moved};
 ghost use Rattle.occ_usage_parts.specs.Selecting.{following, followed_by, inside, named, part_of, retyped, segment, subscript, sure, unsure, whole, with_field, with_segment, with_subscript};
 
 /// `a[1]`, `a[2]`, `a[i]` with an `i` that is not known, `a`, and `b`.
@@ -66,20 +66,4 @@ pub fn name_rows()
     ensures whole_formal { followed_by (with_segment (whole 0) (Some (pos 2)) (Some (pos 3))) [] ≡ record { root = 0; selectors = s.Interval (sure (places.Run (pos 2) 2)) ∷ [] } }
     ensures component { followed_by (with_subscript (whole 0) (Some (pos 2))) (s.Interval (subscript (Some (pos 1))) ∷ []) ≡ record { root = 0; selectors = s.Interval (sure (places.Run (pos 2) 0)) ∷ s.Interval (sure (places.Run (pos 1) 0)) ∷ [] } }
     ensures retyped_actual { followed_by (retyped (whole 0)) (s.Interval (subscript (Some (pos 1))) ∷ []) ≡ record { root = 0; selectors = [] } }
-{}
-
-/// Sets of places that follow one another, and some that do not.
-pub fn union_rows()
-    ensures next { united (places.Run (pos 0) 1) (places.Run (pos 2) 0) ≡ Some (places.Run (pos 0) 2) }
-    ensures gap { united (places.Run (pos 0) 1) (places.Run (pos 3) 0) ≡ None }
-    ensures before { united (places.Run (pos 2) 3) (places.Run (negsuc 0) 2) ≡ Some (places.Run (negsuc 0) 6) }
-    ensures from { united (places.From (pos 4)) (places.Run (pos 0) 3) ≡ Some (places.From (pos 0)) }
-    ensures from_gap { united (places.Run (pos 0) 3) (places.From (pos 5)) ≡ None }
-    ensures all { united (places.Run (pos 0) 3) places.All ≡ Some places.All }
-    ensures too_long { united (places.Run (pos 0) 4294967295) (places.Run (pos 4294967296) 0) ≡ None }
-    ensures common { common (places.From (pos 2)) (places.Run (pos 0) 3) ≡ places.Run (pos 2) 1 }
-    ensures none_in_common { common (places.From (pos 4)) (places.Run (pos 0) 3) ≡ places.None }
-    ensures moved { moved (negsuc 0) (places.Run (pos 1) 2) ≡ Some (places.Run (pos 0) 2) }
-    ensures accumulated { meets_some ((s.Interval (subscript (Some (pos 1))) ∷ []) ∷ (s.Interval (subscript (Some (pos 3))) ∷ []) ∷ []) (s.Interval (subscript (Some (pos 3))) ∷ []) ≡ true }
-    ensures not_accumulated { meets_some ((s.Interval (subscript (Some (pos 1))) ∷ []) ∷ (s.Interval (subscript (Some (pos 3))) ∷ []) ∷ []) (s.Interval (subscript (Some (pos 2))) ∷ []) ≡ false }
 {}

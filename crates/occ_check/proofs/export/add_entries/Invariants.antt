@@ -1,8 +1,8 @@
-use Rattle.std.proofs.Common.{◌≡◌, ◌+◌, drop}
-use Rattle.occ_check.specs.Exports.{entries_exports, with_exports}
+use Rattle.std.proofs.Common.{◌≡◌, ◌+◌, ◌++◌, drop}
+use Rattle.occ_check.specs.Exports.{entries_exports}
 use Rattle.occ_check.proofs.export.add_entries.Given as goal
 
 abbrev pub invariant-loop-entry : goal.invariant-loop-entry
 invariant-loop-entry l =
-    (with_exports l.found.items (entries_exports l.env l.next (drop l.entry-index l.entries)) ≡ with_exports l.initial.found.items (entries_exports l.env l.number l.entries))
+    (l.found.items ++ entries_exports l.env l.next (drop l.entry-index l.entries) ≡ l.initial.found.items ++ entries_exports l.env l.number l.entries)
     × (l.next ≡ l.number + l.entry-index)

@@ -9,12 +9,12 @@ use Rattle.occ_usage_conflicts.proofs.accumulated.Accumulated.add.Goals as goal
 
 pub returns : goal.returns
 returns c =
-    let view : c.args.self.now ≡ c.self.inside.few.items ++ all_in c.self.inside.spread.items = search rules in
+    let view : c.args.self.now ≡ c.self.inside.few ++ all_in c.self.inside.spread.items = search rules in
     on_ok c.put.result (λ h q.
-    accumulated_meets c.put.new.few.items c.put.new.lists.items q
+    accumulated_meets c.put.new.few c.put.new.lists.items q
     ∙ h q
     ∙ ap (λ (b : Bool). b || not (are_apart c.args.part.now q)) (
-    ap (λ (b : Bool). meets_some c.self.inside.few.items q || b) (c.in_ok-make_lists.ensures.meets q)
-    ∙ sym (accumulated_meets c.self.inside.few.items c.self.inside.spread.items q)
+    ap (λ (b : Bool). meets_some c.self.inside.few q || b) (c.in_ok-make_lists.ensures.meets q)
+    ∙ sym (accumulated_meets c.self.inside.few c.self.inside.spread.items q)
     ∙ sym (ap (λ (ps : List (List PartSelector)). meets_some ps q) view)
     )) c.put.ensures.meets

@@ -1,0 +1,4 @@
+-- Definitions for bodies alone: how parts are kept to be asked for.
+pub mod Runs
+pub mod PlaceSets
+pub mod Paths
