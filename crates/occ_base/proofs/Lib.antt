@@ -3,3 +3,4 @@ pub mod Filled
 pub mod Order
 pub mod Placed
 pub mod Fronts
+pub mod Indices

@@ -2,7 +2,7 @@
 use Rattle.std.specs.Prelude.{ℕ, List, codes, ◌++◌, Option, Some, None}
 use Rattle.std.specs.Fmt.{decimal}
 use Rattle.occ_base.specs.declared.code.Code.{Code}
-use Rattle.occ_base.specs.declared.code.Code.TheVariants.{G1, G2, G3, G4, G5, G6, L1, L2, L3, L4, S1, S2, S3, S4, N1, N2, T1, T2, T3, T4, T5, T6, T7, T8, T9, P1, P2, P3, P4, R1, R2, U1, U2, U3, A1, A2, A3, A4, F1}
+use Rattle.occ_base.specs.declared.code.Code.TheVariants.{G1, G2, G3, G4, G5, G6, G7, L1, L2, L3, L4, S1, S2, S3, S4, N1, N2, T1, T2, T3, T4, T5, T6, T7, T8, T9, P1, P2, P3, P4, R1, R2, U1, U2, U3, A1, A2, A3, A4, F1}
 use Rattle.occ_base.specs.declared.code.Grade.{Grade}
 use Rattle.occ_base.specs.declared.code.Grade.TheVariants.{Error, Check}
 use Rattle.occ_base.specs.declared.diag.Diag.{Diag}
@@ -14,6 +14,7 @@ code_text G3 = codes "G3"
 code_text G4 = codes "G4"
 code_text G5 = codes "G5"
 code_text G6 = codes "G6"
+code_text G7 = codes "G7"
 code_text L1 = codes "L1"
 code_text L2 = codes "L2"
 code_text L3 = codes "L3"

@@ -1,4 +1,4 @@
--- What a file name is: letters, digits, '.', '_' and '-', at most 64, the last four of them '.occ' or '.inc'.
+-- What a file name is: letters, digits, '.', '_' and '-', at most 64, the last four of them '.occ', '.inc' or '.lbb'.
 use Rattle.std.specs.Prelude.{ℕ, Bool, nat_le, nat_eq, ◌&&◌, ◌||◌, ◌==◌, ◌≡◌, List, length, codes, cond, Option, Some, None}
 use Rattle.std.specs.Char.{is_ascii_alphanumeric}
 use Rattle.std.specs.List.{list_all, ends_with}
@@ -14,7 +14,7 @@ abbrev pub is_unit : List ℕ → Bool
 is_unit bytes = ends_with nat_eq bytes (codes ".occ")
 
 abbrev pub has_suffix : List ℕ → Bool
-has_suffix bytes = is_unit bytes || ends_with nat_eq bytes (codes ".inc")
+has_suffix bytes = is_unit bytes || (ends_with nat_eq bytes (codes ".inc") || ends_with nat_eq bytes (codes ".lbb"))
 
 abbrev pub has_length : List ℕ → Bool
 has_length bytes = nat_le 1 (length bytes) && nat_le (length bytes) 64

@@ -1,4 +1,5 @@
 pub mod FileName
+pub mod Firsts
 pub mod Padded
 pub mod Diag
 pub mod Sample

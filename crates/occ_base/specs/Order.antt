@@ -5,7 +5,7 @@ use Rattle.std.specs.Ordering.{is_lt}
 use Rattle.std.specs.declared.cmp.Ordering.{Ordering}
 use Rattle.occ_base.specs.contracts.diag.DiagOrd.TheImpl as diag_ord
 use Rattle.occ_base.specs.declared.code.Code.{Code}
-use Rattle.occ_base.specs.declared.code.Code.TheVariants.{G1, G2, G3, G4, G5, G6, L1, L2, L3, L4, S1, S2, S3, S4, N1, N2, T1, T2, T3, T4, T5, T6, T7, T8, T9, P1, P2, P3, P4, R1, R2, U1, U2, U3, A1, A2, A3, A4, F1}
+use Rattle.occ_base.specs.declared.code.Code.TheVariants.{G1, G2, G3, G4, G5, G6, G7, L1, L2, L3, L4, S1, S2, S3, S4, N1, N2, T1, T2, T3, T4, T5, T6, T7, T8, T9, P1, P2, P3, P4, R1, R2, U1, U2, U3, A1, A2, A3, A4, F1}
 use Rattle.occ_base.specs.declared.diag.Diag.{Diag}
 
 -- that of the type `Diag`
@@ -25,4 +25,4 @@ placed cmp (x ∷ xs) there = insert_key cmp (placed cmp xs there) x
 
 -- all codes, as they stand in order
 abbrev pub all_codes : List Code
-all_codes = G1 ∷ G2 ∷ G3 ∷ G4 ∷ G5 ∷ G6 ∷ L1 ∷ L2 ∷ L3 ∷ L4 ∷ S1 ∷ S2 ∷ S3 ∷ S4 ∷ N1 ∷ N2 ∷ T1 ∷ T2 ∷ T3 ∷ T4 ∷ T5 ∷ T6 ∷ T7 ∷ T8 ∷ T9 ∷ P1 ∷ P2 ∷ P3 ∷ P4 ∷ R1 ∷ R2 ∷ U1 ∷ U2 ∷ U3 ∷ A1 ∷ A2 ∷ A3 ∷ A4 ∷ F1 ∷ []
+all_codes = G1 ∷ G2 ∷ G3 ∷ G4 ∷ G5 ∷ G6 ∷ G7 ∷ L1 ∷ L2 ∷ L3 ∷ L4 ∷ S1 ∷ S2 ∷ S3 ∷ S4 ∷ N1 ∷ N2 ∷ T1 ∷ T2 ∷ T3 ∷ T4 ∷ T5 ∷ T6 ∷ T7 ∷ T8 ∷ T9 ∷ P1 ∷ P2 ∷ P3 ∷ P4 ∷ R1 ∷ R2 ∷ U1 ∷ U2 ∷ U3 ∷ A1 ∷ A2 ∷ A3 ∷ A4 ∷ F1 ∷ []

@@ -24,8 +24,8 @@ pub enum NameFault {
     /// A byte that is no letter, digit, `.`, `_` or `-`.
     #[error("a file name has letters, digits, `.`, `_` and `-` alone")]
     Byte,
-    /// The end is neither `.occ` nor `.inc`.
-    #[error("a file name ends in .occ or .inc")]
+    /// The end is none of `.occ`, `.inc` and `.lbb`.
+    #[error("a file name ends in .occ, .inc or .lbb")]
     Suffix,
 }
 
@@ -120,7 +120,7 @@ fn is_file_byte(b: u8) -> bool
 fn has_suffix(bytes: &[u8]) -> bool
     ensures { result ≡ spec_has_suffix bytes.now }
 {
-    bytes.ends_with(b".occ") || bytes.ends_with(b".inc")
+    bytes.ends_with(b".occ") || bytes.ends_with(b".inc") || bytes.ends_with(b".lbb")
 }
 
 /// The name of bytes that are one.

@@ -12,6 +12,7 @@ ghost use Rattle.occ_base.specs.declared.file_name.NameFault.TheVariants as faul
 pub fn file_name_rows()
     ensures unit { name_fault (codes "a.occ") ≡ None }
     ensures included { name_fault (codes "k-1_x.2.inc") ≡ None }
+    ensures list { name_fault (codes "z.lbb") ≡ None }
     ensures bare { name_fault (codes ".occ") ≡ None }
     ensures longest { name_fault (replicate 60 97 ++ codes ".occ") ≡ None }
     ensures empty { name_fault (codes "") ≡ Some fault.Length }
@@ -22,7 +23,9 @@ pub fn file_name_rows()
     ensures suffix { name_fault (codes "z.txt") ≡ Some fault.Suffix }
     ensures capitals { name_fault (codes "A.OCC") ≡ Some fault.Suffix }
     ensures is_unit { is_unit (codes "a.occ") ≡ true }
+    ensures library { name_fault (codes "z.lib") ≡ Some fault.Suffix }
     ensures is_text { is_unit (codes "k.inc") ≡ false }
+    ensures is_list { is_unit (codes "z.lbb") ≡ false }
 {}
 
 /// How some diagnostics print.

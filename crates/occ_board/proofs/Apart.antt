@@ -6,7 +6,7 @@ use Rattle.std.specs.Option.{is_some}
 use Rattle.std.specs.Str.{bytes_eq}
 use Rattle.occ_base.specs.FileName.{is_unit}
 use Rattle.occ_board.proofs.Heights.{along_rests}
-use Rattle.occ_board.proofs.Judged.{file_lines}
+use Rattle.occ_board.proofs.Judged.{file_source}
 use Rattle.occ_board.proofs.Stands.{used_by}
 use Rattle.occ_board.proofs.Resting.{same_all}
 use Rattle.occ_board.proofs.Truths.{among_first, either_true, not_both, or_left, or_right, same_truth}
@@ -18,7 +18,7 @@ use Rattle.occ_check.specs.Input.{Input}
 use Rattle.occ_check.specs.declared.used.UsedUnit.{UsedUnit}
 use Rattle.occ_project.specs.Entries.{is_among}
 use Rattle.occ_project.specs.Expansion.{Expansion, expansion}
-use Rattle.occ_project.specs.Reads.{lines_of, open_lines}
+use Rattle.occ_project.specs.Reads.{open_source}
 use Rattle.occ_project.specs.Uses.{used_in}
 use Rattle.occ_project.specs.declared.reads.Read.{Read}
 use Rattle.occ_check.proofs.Local.{map_among}
@@ -63,7 +63,7 @@ ws_on (x ∷ ws) v = x ∷ ws_on ws v
 
 module _ (files : List Read) (file : Read) (root : List ℕ) (apart : IsApart files file.name root)
     (put_is : (name : List ℕ) → file_of (put files file) name ≡ cond (bytes_eq file.name name) file (file_of files name))
-    (alone : (fs others : List Read) (unit : List ℕ) → ((name : List ℕ) → is_among (expansion fs unit).reads name ≡ true → open_lines others name ≡ open_lines fs name) → expansion others unit ≡ expansion fs unit)
+    (alone : (fs others : List Read) (unit : List ℕ) → ((name : List ℕ) → is_among (expansion fs unit).reads name ≡ true → open_source others name ≡ open_source fs name) → expansion others unit ≡ expansion fs unit)
     (itself : (fs : List Read) (unit : List ℕ) → is_among (expansion fs unit).reads unit ≡ true)
     (circles : (fs : List Read) (u v : List ℕ) → (is_circular fs u v ≡ true) ↔ IsCircular fs u v) where
   abbrev later : List Read
@@ -80,7 +80,7 @@ module _ (files : List Read) (file : Read) (root : List ℕ) (apart : IsApart fi
   same_file v name under a = put_is name ∙ ap (λ (b : Bool). cond b file (file_of files name)) (other_name v name under a)
 
   same_expansion : (v : List ℕ) → IsUnder files root v → expansion later v ≡ expansion files v
-  same_expansion v under = alone files later v (λ name a. sym (file_lines later name) ∙ ap lines_of (same_file v name under a) ∙ file_lines files name)
+  same_expansion v under = alone files later v (λ name a. sym (file_source later name) ∙ ap (λ (r : Read). r.source) (same_file v name under a) ∙ file_source files name)
 
   same_used : (v : List ℕ) → IsUnder files root v → used_units later v ≡ used_units files v
   same_used v under = ap (λ (e : Expansion). cond (is_unit v) (used_in e.lines) []) (same_expansion v under)

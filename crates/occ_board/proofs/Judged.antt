@@ -20,7 +20,7 @@ use Rattle.occ_forms.specs.Prepared.{Prepared}
 use Rattle.occ_forms.specs.declared.source.SourceLine.{SourceLine}
 use Rattle.occ_project.specs.Entries.{is_among}
 use Rattle.occ_project.specs.Expansion.{Expansion, expansion}
-use Rattle.occ_project.specs.Reads.{lines_of, member, open_lines}
+use Rattle.occ_project.specs.Reads.{member, open_lines, open_source}
 use Rattle.occ_project.specs.Uses.{used_in}
 use Rattle.occ_project.specs.declared.reads.Read.{Read}
 use Rattle.occ_check.specs.Checks.{checked, input, used_unit}
@@ -28,35 +28,33 @@ use Rattle.occ_project_units.specs.Indices.{is_below, standing_of}
 use Rattle.occ_project_units.specs.Project.{file_of}
 use Rattle.occ_project_units.specs.Units.{unit_reads, used_units}
 
--- the lines of the file of a name, by the file
-pub file_lines : (files : List Read) (name : List ℕ) → lines_of (file_of files name) ≡ open_lines files name
-file_lines files name = by (member files name) where
-  by : (m : Option Read) → lines_of (unwrap_or m (record { name = name; revision = 0; source = None })) ≡ option_and_then lines_of m
+-- what is open under a name, by the file
+pub file_source : (files : List Read) (name : List ℕ) → (file_of files name).source ≡ open_source files name
+file_source files name = by (member files name) where
+  by : (m : Option Read) → (unwrap_or m (record { name = name; revision = 0; source = None })).source ≡ option_and_then (λ (r : Read). r.source) m
   by None = refl
   by (Some file) = refl
 
-open_by : (file : Read) → is_some (lines_of file) ≡ is_some file.source
-open_by file = by file.source where
-  by : (source : Option Prepared) → is_some (option_map (λ (s : Prepared). s.lines) source) ≡ is_some source
-  by None = refl
-  by (Some s) = refl
+open_by : (source : Option Prepared) → is_some (option_map (λ (s : Prepared). s.lines) source) ≡ is_some source
+open_by None = refl
+open_by (Some s) = refl
 
 -- reads that are all of the files of their names as they are
 abbrev pub now_of : List Read → Read → Read
 now_of files r = file_of files r.name
 
-open_same : (files rs : List Read) → rs ≡ map (now_of files) rs → (name : List ℕ) → is_among (map (λ r. r.name) rs) name ≡ true → open_lines files name ≡ open_lines rs name
+open_same : (files rs : List Read) → rs ≡ map (now_of files) rs → (name : List ℕ) → is_among (map (λ r. r.name) rs) name ≡ true → open_source files name ≡ open_source rs name
 open_same files [] e name a = absurd cc
 open_same files (r ∷ rs) e name a =
     let first : r ≡ now_of files r = cc in
     let rest : rs ≡ map (now_of files) rs = cc in
     by (bytes_eq r.name name) refl first (open_same files rs rest name) a
   where
-    by : (b : Bool) → bytes_eq r.name name ≡ b → r ≡ now_of files r → (is_among (map (λ r. r.name) rs) name ≡ true → open_lines files name ≡ open_lines rs name) → (b || is_among (map (λ r. r.name) rs) name) ≡ true
-        → open_lines files name ≡ option_and_then lines_of (cond b (Some r) (member rs name))
+    by : (b : Bool) → bytes_eq r.name name ≡ b → r ≡ now_of files r → (is_among (map (λ r. r.name) rs) name ≡ true → open_source files name ≡ open_source rs name) → (b || is_among (map (λ r. r.name) rs) name) ≡ true
+        → open_source files name ≡ option_and_then (λ (r : Read). r.source) (cond b (Some r) (member rs name))
     by true h first more k =
         let same : r.name ≡ name = (bytes_eq-Decides r.name name).0 h in
-        sym (file_lines files name) ∙ ap lines_of (sym (first ∙ ap (file_of files) same))
+        sym (file_source files name) ∙ ap (λ (r : Read). r.source) (sym (first ∙ ap (file_of files) same))
     by false h first more k = more k
 
 -- names again
@@ -105,7 +103,7 @@ module _ (files : List Read) (cached : List Input) (u : List ℕ) where
       by false rest d = rest
 
 module _ (files : List Read) (cached : List Input) (i : Input) (is : IsInput i) (now : i.reads ≡ map (now_of files) i.reads) (on : find (is_off files cached i.unit) i.used ≡ None)
-    (alone : ((name : List ℕ) → is_among (expansion_in i).reads name ≡ true → open_lines files name ≡ open_lines i.reads name) → expansion files i.unit ≡ expansion_in i) where
+    (alone : ((name : List ℕ) → is_among (expansion_in i).reads name ≡ true → open_source files name ≡ open_source i.reads name) → expansion files i.unit ≡ expansion_in i) where
   unit : is_unit i.unit ≡ true
   unit = left_true (is_unit i.unit) (is_some (open_lines i.reads i.unit)) is.0.present
 
@@ -131,8 +129,8 @@ module _ (files : List Read) (cached : List Input) (i : Input) (is : IsInput i) 
   -- the unit is one of its reads
   pub opened_is : is_among (expansion_in i).reads i.unit ≡ true → is_open files i.unit ≡ true
   opened_is itself =
-      sym (open_by (file_of files i.unit))
-      ∙ ap (λ (ls : Option (List SourceLine)). is_some ls) (file_lines files i.unit ∙ open_same files i.reads now i.unit (ap (λ (ns : List (List ℕ)). is_among ns i.unit) is.0.names ∙ itself))
+      sym (open_by (file_of files i.unit).source)
+      ∙ ap (λ (o : Option Prepared). is_some (option_map (λ (s : Prepared). s.lines) o)) (file_source files i.unit ∙ open_same files i.reads now i.unit (ap (λ (ns : List (List ℕ)). is_among ns i.unit) is.0.names ∙ itself))
       ∙ right_true (is_unit i.unit) (is_some (open_lines i.reads i.unit)) is.0.present
 
   pub unit_is : is_unit i.unit ≡ true
@@ -148,7 +146,7 @@ nothing_found (Some one) q e n = absurd cc
 -- so an outcome that nothing decides against may be cached
 pub acceptable : (files : List Read) (cached : List Input) (i : Input) (used : List UsedUnit) (user : List ℕ) (k : Bool) → IsInput i
     → used ≡ i.used → user ≡ i.unit → i.reads ≡ map (now_of files) i.reads → None ≡ option_map (λ one. verdict.Stale one.unit) (find (is_off files cached user) used) → false ≡ is_cached cached i
-    → ((fs others : List Read) (unit : List ℕ) → ((name : List ℕ) → is_among (expansion fs unit).reads name ≡ true → open_lines others name ≡ open_lines fs name) → expansion others unit ≡ expansion fs unit)
+    → ((fs others : List Read) (unit : List ℕ) → ((name : List ℕ) → is_among (expansion fs unit).reads name ≡ true → open_source others name ≡ open_source fs name) → expansion others unit ≡ expansion fs unit)
     → ((fs : List Read) (unit : List ℕ) → is_among (expansion fs unit).reads unit ≡ true)
     → IsAcceptable files cached i
 acceptable files cached i used user k is ones n now none other alone itself =

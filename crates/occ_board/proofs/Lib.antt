@@ -2,6 +2,7 @@ pub mod Trees
 pub mod Run
 pub mod AllShown
 pub mod Resting
+pub mod Bases
 pub mod Truths
 pub mod Indices
 pub mod Heights

@@ -8,7 +8,7 @@ use Rattle.std.specs.Str.{bytes_eq}
 use Rattle.occ_base.specs.FileName.{is_unit}
 use Rattle.occ_board.proofs.Accepted.{cached_here, cached_other}
 use Rattle.occ_board.proofs.Apart.{cached_among}
-use Rattle.occ_board.proofs.Judged.{file_lines}
+use Rattle.occ_board.proofs.Judged.{file_source}
 use Rattle.occ_board.proofs.Marked.{left_by, no_input}
 use Rattle.occ_board.proofs.Newly.{flag_new, flag_then, new_apart, swapped}
 use Rattle.occ_board.proofs.Indices.{name_there}
@@ -26,7 +26,7 @@ use Rattle.occ_project_graph.specs.Adding.{raised}
 use Rattle.occ_project_graph.specs.Graph.{Graph, has_edge, is_among as is_index}
 use Rattle.occ_project.specs.Entries.{is_among}
 use Rattle.occ_project.specs.Expansion.{Expansion, expansion}
-use Rattle.occ_project.specs.Reads.{lines_of, open_lines, index}
+use Rattle.occ_project.specs.Reads.{open_source, index}
 use Rattle.occ_project.specs.Uses.{used_in}
 use Rattle.occ_project.specs.declared.reads.Read.{Read}
 use Rattle.occ_check.proofs.Local.{map_among}
@@ -125,7 +125,7 @@ module _ (files : List Read) (cached : List Input) (i : Input) (verified next : 
 -- a file is edited that a unit does not read, and units stand to each other as before
 module _ (files later : List Read) (file : Read) (alike : AreAlike files later) (indices : (u : List ℕ) → index u later ≡ index u files)
     (is : (name : List ℕ) → file_of later name ≡ cond (bytes_eq file.name name) file (file_of files name))
-    (alone : (fs others : List Read) (unit : List ℕ) → ((name : List ℕ) → is_among (expansion fs unit).reads name ≡ true → open_lines others name ≡ open_lines fs name) → expansion others unit ≡ expansion fs unit)
+    (alone : (fs others : List Read) (unit : List ℕ) → ((name : List ℕ) → is_among (expansion fs unit).reads name ≡ true → open_source others name ≡ open_source fs name) → expansion others unit ≡ expansion fs unit)
     (u : List ℕ) (unread : is_among (read_names files u) file.name ≡ false) where
   other_file : (name : List ℕ) → is_among (read_names files u) name ≡ true → file_of later name ≡ file_of files name
   other_file name a =
@@ -133,7 +133,7 @@ module _ (files later : List Read) (file : Read) (alike : AreAlike files later) 
       is name ∙ ap (λ (b : Bool). cond b file (file_of files name)) other
 
   same_expansion : is_unit u ≡ true → expansion later u ≡ expansion files u
-  same_expansion unit = alone files later u (λ name a. sym (file_lines later name) ∙ ap lines_of (other_file name (ap (λ (b : Bool). is_among (cond b (expansion files u).reads []) name) unit ∙ a)) ∙ file_lines files name)
+  same_expansion unit = alone files later u (λ name a. sym (file_source later name) ∙ ap (λ (r : Read). r.source) (other_file name (ap (λ (b : Bool). is_among (cond b (expansion files u).reads []) name) unit ∙ a)) ∙ file_source files name)
 
   same_names : (read_names later u ≡ read_names files u) × (used_units later u ≡ used_units files u)
   same_names = by (is_unit u) refl where
@@ -171,7 +171,7 @@ pub verified_after : (files one later : List Read) (file : Read) (at : ℕ) (cac
     → ((p : ℕ) → get_or next p false ≡ true → (get_or verified p false ≡ true) × (((alike ≡ true) × (is_index slice p ≡ false)) ⊎ (get_or marks p false ≡ false)))
     → ((v : List ℕ) → ((q : ℕ) → index v files ≡ Some q → get_or marks q false ≡ false) → looked later cached v ≡ looked files cached v)
     → ((fs : List Read) (f : Read) (n : List ℕ) → file_of (put fs f) n ≡ cond (bytes_eq f.name n) f (file_of fs n))
-    → ((fs others : List Read) (unit : List ℕ) → ((name : List ℕ) → is_among (expansion fs unit).reads name ≡ true → open_lines others name ≡ open_lines fs name) → expansion others unit ≡ expansion fs unit)
+    → ((fs others : List Read) (unit : List ℕ) → ((name : List ℕ) → is_among (expansion fs unit).reads name ≡ true → open_source others name ≡ open_source fs name) → expansion others unit ≡ expansion fs unit)
     → ((fs : List Read) (p q : ℕ) → IsProject fs → p < length fs → q < length fs → is_index (readers_at fs q) p ≡ is_among (read_names fs (name_at fs p)) (name_at fs q))
     → AreVerified later cached next
 verified_after files one later file at cached verified next readers slice marks alike project same put_is here r s are like left unmarked put_law alone reading u h = by (index u files) refl where

@@ -14,8 +14,9 @@ use Rattle.occ_board.proofs.Readers.{few_files}
 use Rattle.occ_board.proofs.Settled.{flag_at, step_cached, step_open}
 use Rattle.occ_board.proofs.Truths.{both_true}
 use Rattle.occ_board.specs.Done.{done, done_step, is_that, cached_of, pending_units}
-use Rattle.occ_board.specs.Journal.{edited, else_fault, if_full, is_open, open_number, refusal_of, replay}
+use Rattle.occ_board.specs.Journal.{IsBase, edited, else_fault, if_full, is_open, last_number, open_number, refusal_of, replay}
 use Rattle.occ_board.specs.Machine.{with_cached}
+use Rattle.occ_board.specs.declared.base.Base.{Base}
 use Rattle.occ_board.specs.declared.entry.Edit.{Edit}
 use Rattle.occ_board.specs.declared.entry.Edit.TheVariants as edit
 use Rattle.occ_board.specs.declared.entry.EditFault.{EditFault}
@@ -108,7 +109,7 @@ module _ (q : Read → Bool) (absent : (name : List ℕ) → q (record { name = 
 
   -- ---- after an edit that is not refused, where an open file passes by its name or does not
 
-  module _ (b : Bool) (files : List Read) (accepted : ℕ) (project : IsProject files) where
+  module _ (b : Bool) (files : List Read) (full : Bool) (project : IsProject files) where
     now_by : (n : ℕ) (e : Edit) (was is : Bool) → q (file_of files (edited n e).name) ≡ (b && was) → q (edited n e) ≡ (b && is)
         → length (filter q (put files (edited n e))) + one (b && was) ≡ length (filter q files) + one (b && is)
     now_by n e was is old new =
@@ -122,23 +123,23 @@ module _ (q : Read → Bool) (absent : (name : List ℕ) → q (record { name = 
     closed_by true old new k = omega (arith, k)
     closed_by false old new k = omega (arith, k)
 
-    pub counted_after : (n : ℕ) (e : Edit) → refusal_of files accepted e ≡ None → q (file_of files (edited 0 e).name) ≡ (b && is_open files (edited 0 e).name) → q (edited n e) ≡ (b && is_some (edited 0 e).source)
+    pub counted_after : (n : ℕ) (e : Edit) → refusal_of files full e ≡ None → q (file_of files (edited 0 e).name) ≡ (b && is_open files (edited 0 e).name) → q (edited n e) ≡ (b && is_some (edited 0 e).source)
         → length (filter q (put files (edited n e))) ≡ count_then b (length (filter q files)) e
     counted_after n (edit.Added name source) r old new =
-        let shut : is_open files name ≡ false = passed (is_open files name) fault.AlreadyOpen (else_fault (nat_le 1024 (open_number files)) fault.TooManyFiles (if_full accepted)) r in
+        let shut : is_open files name ≡ false = passed (is_open files name) fault.AlreadyOpen (else_fault (nat_le 4096 (open_number files)) fault.TooManyFiles (if_full full)) r in
         opened_by b (length (filter q files)) (length (filter q (put files (edited n (edit.Added name source))))) (now_by n (edit.Added name source) false true (old ∙ ap (λ (x : Bool). b && x) shut) new)
     counted_after n (edit.Changed name source) r old new =
-        let there : is_open files name ≡ true = not_false (is_open files name) (passed (not (is_open files name)) fault.NotOpen (if_full accepted) r) in
+        let there : is_open files name ≡ true = not_false (is_open files name) (passed (not (is_open files name)) fault.NotOpen (if_full full) r) in
         let k = now_by n (edit.Changed name source) true true (old ∙ ap (λ (x : Bool). b && x) there) new in
         omega (arith, k)
     counted_after n (edit.Removed name) r old new =
-        let there : is_open files name ≡ true = not_false (is_open files name) (passed (not (is_open files name)) fault.NotOpen (if_full accepted) r) in
+        let there : is_open files name ≡ true = not_false (is_open files name) (passed (not (is_open files name)) fault.NotOpen (if_full full) r) in
         closed_by b (length (filter q files)) (length (filter q (put files (edited n (edit.Removed name))))) (now_by n (edit.Removed name) true false (old ∙ ap (λ (x : Bool). b && x) there) new)
 
     -- what is closed was counted
-    pub counted_before : (name : List ℕ) → refusal_of files accepted (edit.Removed name) ≡ None → q (file_of files name) ≡ (b && is_open files name) → q (record { name = name; revision = 0; source = None }) ≡ (b && false) → b ≡ true → 0 < length (filter q files)
+    pub counted_before : (name : List ℕ) → refusal_of files full (edit.Removed name) ≡ None → q (file_of files name) ≡ (b && is_open files name) → q (record { name = name; revision = 0; source = None }) ≡ (b && false) → b ≡ true → 0 < length (filter q files)
     counted_before name r old new is =
-        let there : is_open files name ≡ true = not_false (is_open files name) (passed (not (is_open files name)) fault.NotOpen (if_full accepted) r) in
+        let there : is_open files name ≡ true = not_false (is_open files name) (passed (not (is_open files name)) fault.NotOpen (if_full full) r) in
         let k = now_by 0 (edit.Removed name) true false (old ∙ ap (λ (x : Bool). b && x) there) new in
         let t : one (b && true) ≡ 1 = ap (λ (c : Bool). one (c && true)) is in
         let f : one (b && false) ≡ 0 = ap (λ (c : Bool). one (c && false)) is in
@@ -169,22 +170,22 @@ edited_open n (edit.Removed name) = refl
 named_unit : (files : List Read) (name : List ℕ) → is_open_unit (file_of files name) ≡ (is_unit name && is_open files name)
 named_unit files name = ap (λ (n : List ℕ). is_unit n && is_open files name) (file_named files name)
 
-module _ (files : List Read) (accepted : ℕ) (project : IsProject files) where
-  pub units_after : (n : ℕ) (e : Edit) → refusal_of files accepted e ≡ None → length (open_units (put files (edited n e))) ≡ count_then (is_unit (edited 0 e).name) (length (open_units files)) e
+module _ (files : List Read) (full : Bool) (project : IsProject files) where
+  pub units_after : (n : ℕ) (e : Edit) → refusal_of files full e ≡ None → length (open_units (put files (edited n e))) ≡ count_then (is_unit (edited 0 e).name) (length (open_units files)) e
   units_after n e r =
       units_long (put files (edited n e))
-      ∙ counted_after is_open_unit (λ name. and_false (is_unit name)) (is_unit (edited 0 e).name) files accepted project n e r (named_unit files (edited 0 e).name) (edited_unit n e)
+      ∙ counted_after is_open_unit (λ name. and_false (is_unit name)) (is_unit (edited 0 e).name) files full project n e r (named_unit files (edited 0 e).name) (edited_unit n e)
       ∙ ap (λ (m : ℕ). count_then (is_unit (edited 0 e).name) m e) (sym (units_long files))
 
-  pub open_after : (n : ℕ) (e : Edit) → refusal_of files accepted e ≡ None → open_number (put files (edited n e)) ≡ count_then true (open_number files) e
-  open_after n e r = counted_after is_opened (λ name. refl) true files accepted project n e r refl (edited_open n e)
+  pub open_after : (n : ℕ) (e : Edit) → refusal_of files full e ≡ None → open_number (put files (edited n e)) ≡ count_then true (open_number files) e
+  open_after n e r = counted_after is_opened (λ name. refl) true files full project n e r refl (edited_open n e)
 
-  pub units_before : (name : List ℕ) → refusal_of files accepted (edit.Removed name) ≡ None → is_unit name ≡ true → 0 < length (open_units files)
+  pub units_before : (name : List ℕ) → refusal_of files full (edit.Removed name) ≡ None → is_unit name ≡ true → 0 < length (open_units files)
   units_before name r unit =
-      subst (λ (n : ℕ). 0 < n) (sym (units_long files)) (counted_before is_open_unit (λ m. and_false (is_unit m)) (is_unit name) files accepted project name r (named_unit files name) refl unit)
+      subst (λ (n : ℕ). 0 < n) (sym (units_long files)) (counted_before is_open_unit (λ m. and_false (is_unit m)) (is_unit name) files full project name r (named_unit files name) refl unit)
 
-  pub open_before : (name : List ℕ) → refusal_of files accepted (edit.Removed name) ≡ None → 0 < open_number files
-  open_before name r = counted_before is_opened (λ m. refl) true files accepted project name r refl refl refl
+  pub open_before : (name : List ℕ) → refusal_of files full (edit.Removed name) ≡ None → 0 < open_number files
+  open_before name r = counted_before is_opened (λ m. refl) true files full project name r refl refl refl
 
 -- there are no more of them than files
 least : (q : Read → Bool) (files : List Read) → length (filter q files) ≤ length files
@@ -194,18 +195,18 @@ least q (x ∷ files) = by (q x) (least q files) where
   by true le = omega (arith, le)
   by false le = omega (arith, le)
 
-pub units_few : (es : List Entry) → length es ≤ 10000 → length (open_units (replay es)) ≤ 10000
-units_few es few =
-    let a = least is_open_unit (replay es) in
-    let b = few_files es in
-    let c = units_long (replay es) in
-    omega (arith, a, b, c, few)
+pub units_few : (base : Base) (es : List Entry) → IsBase base → length (open_units (replay base es)) ≤ last_number base es
+units_few base es based =
+    let a = least is_open_unit (replay base es) in
+    let b = few_files base es based in
+    let c = units_long (replay base es) in
+    omega (arith, a, b, c)
 
-pub open_few : (es : List Entry) → length es ≤ 10000 → open_number (replay es) ≤ 10000
-open_few es few =
-    let a = least is_opened (replay es) in
-    let b = few_files es in
-    omega (arith, a, b, few)
+pub open_few : (base : Base) (es : List Entry) → IsBase base → open_number (replay base es) ≤ last_number base es
+open_few base es based =
+    let a = least is_opened (replay base es) in
+    let b = few_files base es based in
+    omega (arith, a, b)
 
 -- ---- what is cached is of units
 

@@ -5,8 +5,10 @@ use Rattle.std.specs.List.{filter}
 use Rattle.std.specs.Ordering.{match_ordering}
 use Rattle.std.specs.declared.cmp.Ordering.{Ordering}
 use Rattle.std.specs.declared.cmp.Ordering.TheVariants.{Less, Equal, Greater}
+use Rattle.occ_board.proofs.Bases.{by_all}
 use Rattle.occ_board.proofs.Shows.{one_by, one_more, units_in, units_more}
-use Rattle.occ_board.specs.Journal.{edited, replay, replay_from}
+use Rattle.occ_board.specs.Journal.{IsBase, edited, last_number, nothing, replay, replay_from}
+use Rattle.occ_board.specs.declared.base.Base.{Base}
 use Rattle.occ_board.specs.declared.entry.Entry.{Entry}
 use Rattle.occ_project.specs.Entries.{is_among}
 use Rattle.occ_project.specs.Reads.{name_cmp}
@@ -49,5 +51,5 @@ replay_short n files (e ∷ es) =
     let more = replay_short (n + 1) (put files (edited n e.edit)) es in
     omega (arith, one, more)
 
-pub few_files : (es : List Entry) → length (replay es) ≤ length es
-few_files es = let k : length (replay es) ≤ 0 + length es = replay_short 1 [] es in omega (arith, k)
+pub few_files : (base : Base) (es : List Entry) → IsBase base → length (replay base es) ≤ last_number base es
+few_files = by_all (λ base. length base.files ≤ base.number) (λ es. let k : length (replay nothing es) ≤ 0 + length es = replay_short 1 [] es in k)

@@ -4,12 +4,14 @@ use Rattle.std.proofs.lemmas.Option.{slice_get-map}
 use Rattle.std.specs.List.{slice_get}
 use Rattle.std.specs.Option.{option_and_then, option_map}
 use Rattle.std.specs.Str.{bytes_eq}
+use Rattle.occ_board.proofs.Bases.{by_all}
 use Rattle.occ_board.proofs.Edits.{edited_is}
 use Rattle.occ_board.proofs.Caches.{cached_there}
 use Rattle.occ_board.proofs.Indices.{file_named}
 use Rattle.occ_board.specs.Done.{cached_of}
-use Rattle.occ_board.specs.Journal.{edited, replay, replay_from}
+use Rattle.occ_board.specs.Journal.{IsBase, edited, last_number, nothing, replay, replay_from}
 use Rattle.occ_board.specs.Machine.{with_cached}
+use Rattle.occ_board.specs.declared.base.Base.{Base}
 use Rattle.occ_board.specs.declared.entry.Entry.{Entry}
 use Rattle.occ_board.specs.inside.Holding.{index_in}
 use Rattle.occ_board.specs.inside.Revisions.{AllGivenByRevision, AreBefore, AreGivenByRevision}
@@ -59,8 +61,10 @@ module _ (law : (files : List Read) (file : Read) (name : List ℕ) → file_of 
   bounded n files [] less name = let few = less name in omega (arith, few)
   bounded n files (e ∷ es) less name = let few = bounded (n + 1) (put files (edited n e.edit)) es (edited_few n files e less) name in omega (arith, few)
 
-  pub revisions_few : (es : List Entry) (name : List ℕ) → (file_of (replay es) name).revision < length es + 1
-  revisions_few es name = let few = bounded 1 [] es (λ other. omega arith) name in omega (arith, few)
+  pub revisions_few : (base : Base) (es : List Entry) → IsBase base → (name : List ℕ) → (file_of (replay base es) name).revision < last_number base es + 1
+  revisions_few =
+      by_all (λ base. (name : List ℕ) → (file_of base.files name).revision < base.number + 1)
+      (λ es name. let few : (file_of (replay nothing es) name).revision < 1 + length es = bounded 1 [] es (λ other. omega arith) name in omega (arith, few))
 
 -- what is cached is that outcome, or was cached
 with_or : (js : List Input) (i : Input) (q : ℕ) (k : Input) → slice_get (with_cached js i) q ≡ Some k → (i ≡ k) ⊎ ((p : ℕ) × (slice_get js p ≡ Some k))

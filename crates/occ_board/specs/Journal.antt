@@ -1,7 +1,8 @@
--- The edits that were accepted, in order, and the project that they make. Edits are numbered from 1.
-use Rattle.std.specs.Prelude.{◌≡◌, ℕ, ◌+◌, nat_le, Bool, not, if◌then◌else◌, List, [], ◌∷◌, ◌++◌, length, Option, Some, None}
+-- The edits that were accepted since a base, in order, and the project that they make of it. Edits are numbered from 1.
+use Rattle.std.specs.Prelude.{◌≡◌, ℕ, ◌+◌, ◌||◌, nat_le, Bool, not, if◌then◌else◌, List, [], ◌∷◌, ◌++◌, length, Option, Some, None}
 use Rattle.std.specs.List.{filter}
 use Rattle.std.specs.Option.{is_some}
+use Rattle.occ_board.specs.declared.base.Base.{Base}
 use Rattle.occ_board.specs.declared.entry.Edit.{Edit}
 use Rattle.occ_board.specs.declared.entry.Edit.TheVariants as edit
 use Rattle.occ_board.specs.declared.entry.EditFault.{EditFault}
@@ -21,8 +22,25 @@ abbrev pub replay_from : ℕ → List Read → List Entry → List Read
 replay_from n files [] = files
 replay_from n files (e ∷ es) = replay_from (n + 1) (put files (edited n e.edit)) es
 
-abbrev pub replay : List Entry → List Read
-replay es = replay_from 1 [] es
+-- the files after these edits over a base
+abbrev pub replay : Base → List Entry → List Read
+replay base es = replay_from (base.number + 1) base.files es
+
+-- the number of the last of them, or of the base if there is none
+abbrev pub last_number : Base → List Entry → ℕ
+last_number base es = base.number + length es
+
+-- the base that they make of it
+abbrev pub base_after : Base → List Entry → Base
+base_after base es = record { number = last_number base es; files = replay base es }
+
+-- before any edit
+abbrev pub nothing : Base
+nothing = record { number = 0; files = [] }
+
+-- a base is what some edits make from nothing
+abbrev pub IsBase : Base → Type 0
+IsBase base = (es : List Entry) × (base ≡ base_after nothing es)
 
 abbrev pub is_open : List Read → List ℕ → Bool
 is_open files name = is_some (file_of files name).source
@@ -34,24 +52,27 @@ open_number files = length (filter (λ file. is_some file.source) files)
 abbrev pub else_fault : Bool → EditFault → Option EditFault → Option EditFault
 else_fault test fault later = if test then Some fault else later
 
--- no more edits are accepted after so many
-abbrev pub if_full : ℕ → Option EditFault
-if_full accepted = else_fault (nat_le 10000 accepted) fault.JournalFull None
+-- no more edits are accepted after so many since the base, or after the last number
+abbrev pub is_full : ℕ → ℕ → Bool
+is_full accepted last = nat_le 100000 accepted || nat_le 4294967295 last
 
--- why an edit of these files is refused after so many, the first that holds
-abbrev pub refusal_of : List Read → ℕ → Edit → Option EditFault
-refusal_of files accepted (edit.Added name source) =
-    else_fault (is_open files name) fault.AlreadyOpen (else_fault (nat_le 1024 (open_number files)) fault.TooManyFiles (if_full accepted))
-refusal_of files accepted (edit.Changed name source) = else_fault (not (is_open files name)) fault.NotOpen (if_full accepted)
-refusal_of files accepted (edit.Removed name) = else_fault (not (is_open files name)) fault.NotOpen (if_full accepted)
+abbrev pub if_full : Bool → Option EditFault
+if_full full = else_fault full fault.JournalFull None
 
-abbrev pub refusal : List Entry → Edit → Option EditFault
-refusal es e = refusal_of (replay es) (length es) e
+-- why an edit of these files is refused where the journal is full or not, the first that holds
+abbrev pub refusal_of : List Read → Bool → Edit → Option EditFault
+refusal_of files full (edit.Added name source) =
+    else_fault (is_open files name) fault.AlreadyOpen (else_fault (nat_le 4096 (open_number files)) fault.TooManyFiles (if_full full))
+refusal_of files full (edit.Changed name source) = else_fault (not (is_open files name)) fault.NotOpen (if_full full)
+refusal_of files full (edit.Removed name) = else_fault (not (is_open files name)) fault.NotOpen (if_full full)
 
--- after these, no edit was accepted that should have been refused
-abbrev pub IsLegalAfter : List Entry → List Entry → Type 0
-IsLegalAfter before [] = Unit {0}
-IsLegalAfter before (e ∷ es) = (refusal before e.edit ≡ None) × IsLegalAfter (before ++ e ∷ []) es
+abbrev pub refusal : Base → List Entry → Edit → Option EditFault
+refusal base es e = refusal_of (replay base es) (is_full (length es) (last_number base es)) e
 
-abbrev pub IsLegal : List Entry → Type 0
-IsLegal es = IsLegalAfter [] es
+-- after these over a base, no edit was accepted that should have been refused
+abbrev pub IsLegalAfter : Base → List Entry → List Entry → Type 0
+IsLegalAfter base before [] = Unit {0}
+IsLegalAfter base before (e ∷ es) = (refusal base before e.edit ≡ None) × IsLegalAfter base (before ++ e ∷ []) es
+
+abbrev pub IsLegal : Base → List Entry → Type 0
+IsLegal base es = IsLegalAfter base [] es

@@ -1,12 +1,14 @@
 -- The machine: what is at a moment, and what each event answers and leaves. No diagnostics are in its state: a report takes
 -- them from the texts.
-use Rattle.std.specs.Prelude.{ℕ, ◌+◌, ◌-◌, slice_get, Bool, true, false, not, List, [], ◌∷◌, ◌++◌, length, map, if◌then◌else◌, Option, Some, None}
+use Rattle.std.specs.Prelude.{ℕ, ◌+◌, nat_eq, Bool, true, false, not, List, [], ◌∷◌, ◌++◌, length, map, if◌then◌else◌, Option, Some, None}
 use Rattle.std.specs.List.{AllByRecursion, filter, find}
 use Rattle.std.specs.Str.{bytes_eq}
 use Rattle.occ_board.specs.Done.{done, is_input_among, pending_units, ready_units}
-use Rattle.occ_board.specs.Journal.{edited, refusal, replay}
+use Rattle.occ_board.specs.Journal.{base_after, last_number, nothing, refusal, replay}
 use Rattle.occ_board.specs.Same.{same_input}
 use Rattle.occ_board.specs.Verdicts.{verdict_of}
+use Rattle.occ_board.specs.declared.base.Base.{Base}
+use Rattle.occ_board.specs.declared.base.Cut.{Cut}
 use Rattle.occ_board.specs.declared.entry.Edit.{Edit}
 use Rattle.occ_board.specs.declared.entry.EditFault.{EditFault}
 use Rattle.occ_board.specs.declared.entry.Entry.{Entry}
@@ -22,29 +24,35 @@ use Rattle.occ_check.specs.Report.{open_units}
 use Rattle.occ_project_units.specs.Spelled.{IsSpelled}
 use Rattle.occ_project_units.specs.Units.{read_names}
 
--- the edits that were accepted; the inputs of the outcomes that are cached, one for each unit at most; those handed out
+-- the base, and the edits that were accepted since; the inputs of the outcomes that are cached, one for each unit at most; those
+-- handed out
 pub record State : Type 0 where
+  pub base : Base
   pub journal : List Entry
   pub cached : List Input
   pub handed : List Input
 
 abbrev pub start : State
-start = record { journal = []; cached = []; handed = [] }
+start = record { base = nothing; journal = []; cached = []; handed = [] }
 
 abbrev pub files_of : State → List Read
-files_of s = replay s.journal
+files_of s = replay s.base s.journal
+
+-- the number of the last edit
+abbrev pub number_of : State → ℕ
+number_of s = last_number s.base s.journal
 
 -- ---- edits
 
 abbrev pub edit_answer : State → Edit → Option EditFault
-edit_answer s e = refusal s.journal e
+edit_answer s e = refusal s.base s.journal e
 
 -- the number of the edit, if it is accepted
 abbrev pub edit_number : State → ℕ
-edit_number s = length s.journal + 1
+edit_number s = number_of s + 1
 
 abbrev pub after_edit : Option EditFault → State → ℕ → Edit → State
-after_edit None s session e = record { journal = s.journal ++ (record { session = session; edit = e }) ∷ []; cached = s.cached; handed = s.handed }
+after_edit None s session e = record { base = s.base; journal = s.journal ++ (record { session = session; edit = e }) ∷ []; cached = s.cached; handed = s.handed }
 after_edit (Some fault) s session e = s
 
 -- ---- jobs
@@ -61,19 +69,19 @@ handed_out handed None = handed
 handed_out handed (Some i) = handed ++ i ∷ []
 
 abbrev pub after_take : State → State
-after_take s = record { journal = s.journal; cached = s.cached; handed = handed_out s.handed (take_answer s) }
+after_take s = record { base = s.base; journal = s.journal; cached = s.cached; handed = handed_out s.handed (take_answer s) }
 
 -- without this one
 abbrev pub unhanded : List Input → Input → List Input
 unhanded handed i = filter (λ j. not (same_input j i)) handed
 
 abbrev pub after_abandon : State → Input → State
-after_abandon s i = record { journal = s.journal; cached = s.cached; handed = unhanded s.handed i }
+after_abandon s i = record { base = s.base; journal = s.journal; cached = s.cached; handed = unhanded s.handed i }
 
 -- ---- outcomes
 
 abbrev pub finish_answer : State → Input → Verdict
-finish_answer s i = verdict_of (files_of s) (length s.journal) s.cached i
+finish_answer s i = verdict_of (files_of s) (number_of s) s.cached i
 
 -- in place of the one that is cached of its unit, if one is
 abbrev pub with_cached : List Input → Input → List Input
@@ -87,7 +95,17 @@ cached_after (verdict.Stale name) cached i = cached
 cached_after (verdict.Foreign name) cached i = cached
 
 abbrev pub after_finish : State → Input → State
-after_finish s i = record { journal = s.journal; cached = cached_after (finish_answer s i) s.cached i; handed = unhanded s.handed i }
+after_finish s i = record { base = s.base; journal = s.journal; cached = cached_after (finish_answer s i) s.cached i; handed = unhanded s.handed i }
+
+-- ---- checkpoints
+
+-- the edits since the base, with the number of the last one
+abbrev pub checkpoint_answer : State → Cut
+checkpoint_answer s = record { number = number_of s; entries = s.journal }
+
+-- the present project is the base from then on, and the journal is empty
+abbrev pub after_checkpoint : State → State
+after_checkpoint s = record { base = base_after s.base s.journal; journal = []; cached = s.cached; handed = s.handed }
 
 -- ---- what is asked
 
@@ -109,13 +127,13 @@ pending_answer s = length (pending_units (files_of s) s.cached)
 abbrev pub readers : List Read → List ℕ → List (List ℕ)
 readers files name = filter (λ u. is_among (read_names files u) name) (open_units files)
 
-abbrev pub expanded_number : List Read → Option Entry → ℕ
+abbrev pub expanded_number : List Read → Option Read → ℕ
 expanded_number files None = 0
-expanded_number files (Some e) = length (readers files (edited 0 e.edit).name)
+expanded_number files (Some file) = length (readers files file.name)
 
 -- how many open units have the file of the last edit among their reads, and so had to be expanded anew; 0 before any edit
 abbrev pub expanded_answer : State → ℕ
-expanded_answer s = expanded_number (files_of s) (slice_get s.journal (length s.journal - 1))
+expanded_answer s = expanded_number (files_of s) (find (λ file. nat_eq file.revision (number_of s)) (files_of s))
 
 -- ---- events
 
@@ -126,6 +144,7 @@ pub data Event : Type 0 where
   -- of an outcome, and of a job, with this input
   Finish : Input → Event
   Abandon : Input → Event
+  Checkpoint : Event
   Report : Event
   Pending : Event
 
@@ -135,6 +154,7 @@ pub data Answer : Type 0 where
   Job : Option Input → Answer
   Judged : Verdict → Answer
   Nothing : Answer
+  Gives : Cut → Answer
   Shows : List Row → Answer
   Count : ℕ → Answer
 
@@ -147,6 +167,7 @@ answer s (Event.Edited session e) = edited_answer (edit_answer s e) (edit_number
 answer s Event.Take = Answer.Job (take_answer s)
 answer s (Event.Finish i) = Answer.Judged (finish_answer s i)
 answer s (Event.Abandon i) = Answer.Nothing
+answer s Event.Checkpoint = Answer.Gives (checkpoint_answer s)
 answer s Event.Report = Answer.Shows (report_answer s)
 answer s Event.Pending = Answer.Count (pending_answer s)
 
@@ -155,6 +176,7 @@ after s (Event.Edited session e) = after_edit (edit_answer s e) s session e
 after s Event.Take = after_take s
 after s (Event.Finish i) = after_finish s i
 after s (Event.Abandon i) = after_abandon s i
+after s Event.Checkpoint = after_checkpoint s
 after s Event.Report = s
 after s Event.Pending = s
 
@@ -173,6 +195,7 @@ IsWork (Event.Edited session e) = ⊥
 IsWork Event.Take = Unit {0}
 IsWork (Event.Finish i) = IsChecked i
 IsWork (Event.Abandon i) = Unit {0}
+IsWork Event.Checkpoint = Unit {0}
 IsWork Event.Report = Unit {0}
 IsWork Event.Pending = Unit {0}
 

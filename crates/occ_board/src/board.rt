@@ -1,8 +1,8 @@
 //! The board: edits, jobs, outcomes and reports. Each public call is one event of the machine. The graph, the flags of
 //! done units and the marks of verified outcomes are cached beside its state. `docs/MACHINE.md, The board`.
 ghost use Rattle.occ_board.specs.Done.{NoneIsHanded};
-ghost use Rattle.occ_board.specs.Journal.{IsLegal, refusal as spec_refusal};
-ghost use Rattle.occ_board.specs.Machine.{Answer, Event, after, answer, edit_number, expanded_answer, files_of, finish_answer, pending_answer, report_answer, start, take_answer, unhanded, with_cached};
+ghost use Rattle.occ_board.specs.Journal.{IsBase, IsLegal, base_after, refusal as spec_refusal};
+ghost use Rattle.occ_board.specs.Machine.{Answer, Event, after, answer, edit_number, expanded_answer, files_of, finish_answer, number_of, pending_answer, report_answer, start, take_answer, unhanded, with_cached};
 ghost use Rattle.occ_board.specs.declared.entry.Edit.TheVariants as an_edit;
 ghost use Rattle.occ_board.specs.declared.entry.EditFault.TheVariants as fault;
 ghost use Rattle.occ_board.specs.declared.entry.EditFault.{EditFault as AFault};
@@ -11,17 +11,18 @@ ghost use Rattle.occ_board.specs.inside.Ready.{HasJob, IsAcceptable};
 ghost use Rattle.occ_check.specs.Checks.{input};
 ghost use Rattle.occ_project_units.specs.Spelled.{AreSpelled};
 ghost use Rattle.std.specs.Option.{is_some, option_map};
-ghost use Rattle.std.specs.Prelude.{◌≡◌, ◌<◌, ◌⊎◌, Err, IfErr, IfOk, IfSome, None, OnErr, OnOk, length, true};
+ghost use Rattle.std.specs.Prelude.{◌≡◌, ◌<◌, ◌^◌, ◌⊎◌, Err, IfErr, IfOk, IfSome, None, OnErr, OnOk, length, true};
 
+use super::base::{Base, Cut};
 use super::cached::Cached;
 use super::caching::unhand;
-use super::copying::copied_job;
+use super::copying::{copied_job, copied_reads};
 use super::entry::{Edit, EditFault, Entry};
-use super::expanding::count_readers;
+use super::expanding::count_expanded;
 use super::flags::{Flags, settle_cached};
-use super::journal::{count_after, refusal};
+use super::journal::{count_after, is_full, refusal};
 use super::judging::judge;
-use super::laws::{done_law, height_law, ready_law, taking_law};
+use super::laws::{base_law, done_law, height_law, ready_law, taking_law};
 use super::report::{Row, rows};
 use super::taking::{first_ready, job_now, next_unit};
 use super::touching::renew;
@@ -34,14 +35,16 @@ use occ_project_units::Graph;
 use occ_project_units::laws::put_law;
 use std::alloc::{AllocError, Global};
 use std::marker::Model;
+use std::mem;
 
-/// The state of everything. In contracts it is the state of the machine: the edits that were accepted, the inputs of the
-/// outcomes that are cached, and those that are handed out.
+/// The state of everything. In contracts it is the state of the machine: a base and the edits that were accepted since, the
+/// inputs of the outcomes that are cached, and those that are handed out.
 pub struct Board {
+    base: Base,
     journal: Vec<Entry>,
     cached: Cached,
     handed: Vec<Job>,
-    /// The graph of the project that the edits make.
+    /// The graph of the project that the edits make of the base.
     graph: Graph,
     /// Of each file of the project whether it is a unit that is done.
     flags: Flags,
@@ -59,6 +62,7 @@ pub struct Board {
 impl Drop for Board {
     fn drop(self) {
         let Board {
+            base: _,
             journal: _,
             cached: _,
             handed: _,
@@ -90,9 +94,9 @@ impl Model for Board {
     ghost use Rattle.occ_board.specs.inside.Holding.{IsBoard};
     ghost use Rattle.occ_board.specs.inside.Ready.{NoneIsReady};
 
-    ghost view = { λ b. record { journal = b.journal.items; cached = b.cached; handed = b.handed.items } };
+    ghost view = { λ b. record { base = b.base; journal = b.journal.items; cached = b.cached; handed = b.handed.items } };
 
-    ghost invariant = { λ b. IsBoard b.journal.items b.cached b.graph b.flags b.opened b.units × NoneIsReady b.graph b.flags b.waiting × AreVerified b.graph b.cached b.verified };
+    ghost invariant = { λ b. IsBoard b.base b.journal.items b.cached b.graph b.flags b.opened b.units × NoneIsReady b.graph b.flags b.waiting × AreVerified b.graph b.cached b.verified };
 }
 
 impl Board {
@@ -102,6 +106,10 @@ impl Board {
     {
         done_law();
         Board {
+            base: Base {
+                number: 0,
+                files: Items::new(alloc),
+            },
             journal: Vec::new(alloc),
             cached: Cached::new(alloc),
             handed: Vec::new(alloc),
@@ -159,11 +167,19 @@ impl Board {
         self.edit(alloc, session, Edit::Removed(name))
     }
 
+    /// The number of the last edit, 0 before any.
+    fn number(&self) -> usize
+        ensures { result ≡ number_of self.now }
+    {
+        self.base.number as usize + self.journal.len()
+    }
+
     /// Why an edit is refused, the first that holds.
     fn refusal(&self, edit: &Edit) -> Option<EditFault>
-        ensures { result ≡ spec_refusal self.now.journal edit.now }
+        ensures { result ≡ spec_refusal self.now.base self.now.journal edit.now }
     {
-        refusal(self.graph.project(), self.opened, self.journal.len(), edit)
+        let full = is_full(self.journal.len(), self.number());
+        refusal(self.graph.project(), self.opened, full, edit)
     }
 
     fn edit(&mut self, alloc: Global, session: u32, edit: Edit) -> Result<u32, EditFault>
@@ -181,14 +197,14 @@ impl Board {
 
     /// Makes an edit that is not refused. All that takes memory comes before the first change but that of the journal.
     fn accept(&mut self, alloc: Global, session: u32, edit: Edit) -> Result<u32, AllocError>
-        requires { spec_refusal self.old.journal edit ≡ None }
+        requires { spec_refusal self.old.base self.old.journal edit ≡ None }
         ensures number { IfOk result (λ number. number ≡ edit_number self.old) }
         ensures after { OnOk result (self.new ≡ after self.old (Event.Edited session edit)) }
         ensures err { OnErr result (self.new ≡ self.old) }
     {
         put_law();
         done_law();
-        let number = self.journal.len() as u32 + 1;
+        let number = self.number() as u32 + 1;
         let name = edit.name();
         let opened = count_after(self.opened, &edit, true);
         let units = count_after(self.units, &edit, name.is_unit());
@@ -289,7 +305,7 @@ impl Board {
     /// looked for at an index first.
     fn accept_outcome(&mut self, file: usize, outcome: Outcome) -> Result<(), (Outcome, AllocError)>
         requires { IsAcceptable (files_of self.old) self.old.cached outcome }
-        ensures ok { OnOk result (self.new ≡ record { journal = self.old.journal; cached = with_cached self.old.cached outcome; handed = unhanded self.old.handed outcome }) }
+        ensures ok { OnOk result (self.new ≡ record { base = self.old.base; journal = self.old.journal; cached = with_cached self.old.cached outcome; handed = unhanded self.old.handed outcome }) }
         ensures fewer { OnOk result (pending_answer self.new < pending_answer self.old) }
         ensures err { IfErr result (λ refused. (refused.0 ≡ outcome) × (self.new ≡ self.old)) }
     {
@@ -320,7 +336,7 @@ impl Board {
     {
         judge(
             &self.graph,
-            self.journal.len(),
+            self.number(),
             &self.cached,
             self.flags.as_slice(),
             file,
@@ -355,17 +371,42 @@ impl Board {
     pub fn expanded(&self) -> u32
         ensures { result ≡ expanded_answer self.now }
     {
-        match self.journal.last() {
-            Some(entry) => count_readers(&self.graph, entry.edit.name()),
-            None => 0,
-        }
+        count_expanded(&self.graph, self.number())
     }
 
-    /// The edits that were accepted, in order. The first has number 1. The files that they make have the lines that their
-    /// texts spell.
+    /// Makes the present project the base, and hands out the edits that the journal had; the journal is empty then. What is
+    /// cached, handed out or pending stays so.
+    pub fn checkpoint(&mut self, alloc: Global) -> Result<Cut, AllocError>
+        ensures answered { IfOk result (λ cut. Answer.Gives cut ≡ answer self.old Event.Checkpoint) }
+        ensures after { OnOk result (self.new ≡ after self.old Event.Checkpoint) }
+        ensures replayed { IfOk result (λ cut. self.new.base ≡ base_after self.old.base cut.entries) }
+        ensures err { OnErr result (self.new ≡ self.old) }
+    {
+        base_law();
+        let files = copied_reads(alloc, self.graph.project().files())?;
+        let number = self.number() as u32;
+        self.base = Base { number, files };
+        let entries = mem::replace(&mut self.journal, Vec::new(alloc));
+        Ok(Cut {
+            number,
+            entries: Items::from_vec(entries),
+        })
+    }
+
+    /// The base: the files after the edits that checkpoints took out of the journal.
+    pub fn base(&self) -> &Base
+        ensures base { result.now ≡ self.now.base }
+        ensures known { IsBase self.now.base }
+    {
+        &self.base
+    }
+
+    /// The edits that were accepted since the base, in order. The first has the number after that of the base. The files that
+    /// they make of it have the lines that their texts spell.
     pub fn entries(&self) -> &[Entry]
         ensures entries { result.now ≡ self.now.journal }
-        ensures legal { IsLegal self.now.journal }
+        ensures legal { IsLegal self.now.base self.now.journal }
+        ensures few { number_of self.now < 2 ^ 32 }
         ensures spelled { AreSpelled (files_of self.now) }
     {
         self.journal.as_slice()

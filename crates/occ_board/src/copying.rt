@@ -1,6 +1,7 @@
-//! A copy of a job, which shares all that the job looks at.
+//! Copies of a job and of a base, which share their texts and all that the job looks at.
 ghost use Rattle.std.specs.Prelude.{◌≡◌, IfOk};
 
+use super::base::Base;
 use occ_base::Items;
 use occ_check::{Job, Used, UsedUnit};
 use occ_project::{Read, Reads};
@@ -8,7 +9,7 @@ use occ_project_units::share;
 use std::alloc::{AllocError, Global};
 
 /// The same reads.
-fn copied_reads(alloc: Global, reads: &[Read]) -> Result<Reads, AllocError>
+pub fn copied_reads(alloc: Global, reads: &[Read]) -> Result<Reads, AllocError>
     ensures { IfOk result (λ copies. copies ≡ reads.now) }
 {
     let mut copies = Items::new(alloc);
@@ -16,6 +17,16 @@ fn copied_reads(alloc: Global, reads: &[Read]) -> Result<Reads, AllocError>
         copies.push(share(read)?)?;
     }
     Ok(copies)
+}
+
+/// The same base, which shares its texts.
+pub fn copied_base(alloc: Global, base: &Base) -> Result<Base, AllocError>
+    ensures { IfOk result (λ copy. copy ≡ base.now) }
+{
+    Ok(Base {
+        number: base.number,
+        files: copied_reads(alloc, base.files.as_slice())?,
+    })
 }
 
 /// How a unit is used, which shares what it shows.

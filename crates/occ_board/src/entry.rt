@@ -78,9 +78,9 @@ pub enum EditFault {
     AlreadyOpen,
     /// The file that is to be changed or closed is not open.
     NotOpen,
-    /// 1,024 files are open.
+    /// 4,096 files are open.
     TooManyFiles,
-    /// 10,000 edits were accepted.
+    /// 100,000 edits were accepted since the base, or the last one has the greatest number of 32 bits.
     JournalFull,
     /// Memory was refused.
     Memory,

@@ -1,9 +1,11 @@
 //! How many open units read the file of the last edit, counted when it is asked.
-ghost use Rattle.occ_board.specs.Machine.{readers};
+ghost use Rattle.occ_board.specs.Machine.{expanded_number, readers};
 ghost use Rattle.occ_project.specs.Entries.{is_among};
 ghost use Rattle.occ_check.specs.Report.{is_open_unit};
 ghost use Rattle.occ_project_units.specs.Units.{read_names};
-ghost use Rattle.std.specs.Prelude.{◌≡◌, ◌<◌, ◌^◌, ◌&&◌, ◌+◌, Some, cond, length, slice_get};
+ghost use Rattle.std.specs.List.{find};
+ghost use Rattle.std.specs.Option.{option_copied};
+ghost use Rattle.std.specs.Prelude.{◌≡◌, ◌<◌, ◌^◌, ◌&&◌, ◌+◌, Some, cond, length, nat_eq, slice_get};
 
 use occ_base::FileName;
 use occ_project::Read;
@@ -19,15 +21,15 @@ fn is_reader(graph: &Graph, index: usize, file: &Read, name: FileName) -> bool
 
 /// One more, if it is counted.
 fn counted(count: u32, is_one: bool) -> u32
-    requires { count < 2 ^ 31 }
+    requires { count + 1 < 2 ^ 32 }
     ensures { result ≡ cond is_one (count + 1) count }
 {
     if is_one { count + 1 } else { count }
 }
 
 /// How many open units have the file of that name among their reads.
-pub fn count_readers(graph: &Graph, name: FileName) -> u32
-    requires { length graph.now < 2 ^ 31 }
+fn count_readers(graph: &Graph, name: FileName) -> u32
+    requires { length graph.now < 2 ^ 32 }
     ensures { result ≡ length (readers graph.now name) }
 {
     let mut count = 0;
@@ -36,4 +38,27 @@ pub fn count_readers(graph: &Graph, name: FileName) -> u32
         count = counted(count, is_one);
     }
     count
+}
+
+/// The file of the edit with this number.
+fn edited_file(files: &[Read], number: usize) -> Option<&Read>
+    ensures { option_copied result ≡ find (λ file. nat_eq file.revision number) files.now }
+{
+    for file in files {
+        if file.revision as usize == number {
+            return Some(file);
+        }
+    }
+    None
+}
+
+/// How many open units have the file of the edit with this number among their reads.
+pub fn count_expanded(graph: &Graph, number: usize) -> u32
+    requires { length graph.now < 2 ^ 32 }
+    ensures { result ≡ expanded_number graph.now (find (λ file. nat_eq file.revision number) graph.now) }
+{
+    match edited_file(graph.project().files(), number) {
+        Some(file) => count_readers(graph, file.name),
+        None => 0,
+    }
 }

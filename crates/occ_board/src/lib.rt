@@ -2,6 +2,7 @@
 //! `specs/Machine.antt`.
 #![tactic(auto)]
 
+mod base;
 mod board;
 mod cached;
 mod caching;
@@ -23,7 +24,9 @@ mod touching;
 mod verdict;
 mod verified;
 
+pub use base::{Base, Cut};
 pub use board::Board;
+pub use copying::copied_base;
 pub use entry::{Edit, EditFault, Entry};
 pub use occ_check::{Job, JobFault, Outcome, Used, UsedUnit, check};
 pub use report::{Row, Shown};

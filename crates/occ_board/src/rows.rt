@@ -1,5 +1,5 @@
 //! Worked rows of the definitions.
-ghost use Rattle.occ_board.specs.Journal.{IsLegal, edited, refusal, replay};
+ghost use Rattle.occ_board.specs.Journal.{IsLegal, base_after, edited, is_full, nothing, refusal, replay};
 ghost use Rattle.occ_board.specs.Machine.{after, finish_answer, pending_answer, start, take_answer};
 ghost use Rattle.occ_board.specs.Machine.Event.{Edited, Take};
 ghost use Rattle.occ_board.specs.Samples.{blank, checked_unit, entries, its_input, one_unit, opened_and_closed, using};
@@ -7,19 +7,29 @@ ghost use Rattle.occ_board.specs.Verdicts.{reads_verdict};
 ghost use Rattle.occ_board.specs.declared.entry.Edit.TheVariants as edit;
 ghost use Rattle.occ_board.specs.declared.entry.EditFault.TheVariants as fault;
 ghost use Rattle.occ_board.specs.declared.verdict.Verdict.TheVariants as verdict;
-ghost use Rattle.std.specs.Prelude.{◌≡◌, ◌∷◌, [], None, Some, codes};
+ghost use Rattle.std.specs.Prelude.{◌≡◌, ◌∷◌, [], None, Some, codes, false, true};
 
 /// Why an edit is refused; the revision of a file is the number of its last edit, also where that closed it.
 pub fn edit_rows()
-    ensures opened { refusal [] (edit.Added (codes "a.occ") (blank [])) ≡ None }
-    ensures twice { refusal (entries (edit.Added (codes "a.occ") (blank []) ∷ [])) (edit.Added (codes "a.occ") (blank (codes "x"))) ≡ Some fault.AlreadyOpen }
-    ensures other { refusal (entries (edit.Added (codes "a.occ") (blank []) ∷ [])) (edit.Changed (codes "b.occ") (blank [])) ≡ Some fault.NotOpen }
-    ensures closed { refusal (opened_and_closed (codes "a.occ")) (edit.Removed (codes "a.occ")) ≡ Some fault.NotOpen }
-    ensures again { refusal (opened_and_closed (codes "a.occ")) (edit.Added (codes "a.occ") (blank [])) ≡ None }
-    ensures gone { replay (opened_and_closed (codes "a.occ")) ≡ edited 2 (edit.Removed (codes "a.occ")) ∷ [] }
-    ensures in_order { replay (entries (edit.Added (codes "b.occ") (blank []) ∷ edit.Added (codes "a.occ") (blank []) ∷ edit.Changed (codes "b.occ") (blank (codes "x")) ∷ []))
+    ensures opened { refusal nothing [] (edit.Added (codes "a.occ") (blank [])) ≡ None }
+    ensures twice { refusal nothing (entries (edit.Added (codes "a.occ") (blank []) ∷ [])) (edit.Added (codes "a.occ") (blank (codes "x"))) ≡ Some fault.AlreadyOpen }
+    ensures other { refusal nothing (entries (edit.Added (codes "a.occ") (blank []) ∷ [])) (edit.Changed (codes "b.occ") (blank [])) ≡ Some fault.NotOpen }
+    ensures closed { refusal nothing (opened_and_closed (codes "a.occ")) (edit.Removed (codes "a.occ")) ≡ Some fault.NotOpen }
+    ensures again { refusal nothing (opened_and_closed (codes "a.occ")) (edit.Added (codes "a.occ") (blank [])) ≡ None }
+    ensures gone { replay nothing (opened_and_closed (codes "a.occ")) ≡ edited 2 (edit.Removed (codes "a.occ")) ∷ [] }
+    ensures in_order { replay nothing (entries (edit.Added (codes "b.occ") (blank []) ∷ edit.Added (codes "a.occ") (blank []) ∷ edit.Changed (codes "b.occ") (blank (codes "x")) ∷ []))
         ≡ edited 2 (edit.Added (codes "a.occ") (blank [])) ∷ edited 3 (edit.Changed (codes "b.occ") (blank (codes "x"))) ∷ [] }
-    ensures legal { IsLegal (opened_and_closed (codes "a.occ")) }
+    ensures legal { IsLegal nothing (opened_and_closed (codes "a.occ")) }
+{}
+
+/// A base has the names of closed files too. Edits over it go on with the numbers after its own, up to the greatest; so many of
+/// them are accepted until there is another base.
+pub fn base_rows()
+    ensures closed { base_after nothing (opened_and_closed (codes "a.occ")) ≡ record { number = 2; files = edited 2 (edit.Removed (codes "a.occ")) ∷ [] } }
+    ensures goes_on { replay (base_after nothing (opened_and_closed (codes "a.occ"))) (entries (edit.Added (codes "a.occ") (blank []) ∷ [])) ≡ edited 3 (edit.Added (codes "a.occ") (blank [])) ∷ [] }
+    ensures last { refusal (record { number = 4294967295; files = [] }) [] (edit.Added (codes "a.occ") (blank [])) ≡ Some fault.JournalFull }
+    ensures full { is_full 100000 100000 ≡ true }
+    ensures room { is_full 99999 4294967294 ≡ false }
 {}
 
 /// The first read that is not at present as it was read decides: an earlier revision is stale, the same text or not; one

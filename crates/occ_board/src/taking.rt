@@ -128,6 +128,9 @@ pub fn first_ready(graph: &Graph, flags: &[bool], from: usize) -> usize
 {
     let files = graph.project().files();
     for index in from..files.len() {
+        if is_flagged(flags, index) {
+            continue;
+        }
         if is_ready(graph, flags, index, &files[index]) {
             return index;
         }

@@ -9,7 +9,7 @@ use Rattle.occ_check.specs.Input.{IsInput}
 use Rattle.occ_check.specs.declared.used.UsedUnit.{UsedUnit}
 use Rattle.occ_forms.specs.Prepared.{Prepared}
 use Rattle.occ_project.specs.Expansion.{Expansion, expansion}
-use Rattle.occ_project.specs.Reads.{is_named, lines_of, member, open_lines}
+use Rattle.occ_project.specs.Reads.{is_named, member, open_lines}
 use Rattle.occ_project.specs.Uses.{used_in}
 use Rattle.occ_project.specs.declared.reads.Read.{Read}
 use Rattle.occ_check.specs.Checks.{checked, input, used_unit}
@@ -34,14 +34,12 @@ all_named files (name ∷ names) = ap (λ (n : List ℕ). n ∷ map (λ file. fi
 -- the unit is the first of its reads
 first_open : (files : List Read) (u : List ℕ) (more : List Read) → is_some (file_of files u).source ≡ true → is_some (open_lines (file_of files u ∷ more) u) ≡ true
 first_open files u more h = by_name (bytes_eq (file_of files u).name u) (file_of files u) (find (is_named u) more) ((bytes_eq-Decides (file_of files u).name u).1 (named files u)) h where
-  has_lines : (file : Read) → is_some file.source ≡ true → is_some (lines_of file) ≡ true
-  has_lines file h = by_source file.source h where
-    by_source : (source : Option Prepared) → is_some source ≡ true → is_some (option_map (λ (s : Prepared). s.lines) source) ≡ true
-    by_source (Some s) h = refl
-    by_source None h = h
+  has_lines : (source : Option Prepared) → is_some source ≡ true → is_some (option_map (λ (s : Prepared). s.lines) source) ≡ true
+  has_lines (Some s) h = refl
+  has_lines None h = h
 
-  by_name : (b : Bool) (file : Read) (rest : Option Read) → b ≡ true → is_some file.source ≡ true → is_some (option_and_then lines_of (if b then Some file else rest)) ≡ true
-  by_name true file rest e h = has_lines file h
+  by_name : (b : Bool) (file : Read) (rest : Option Read) → b ≡ true → is_some file.source ≡ true → is_some (option_map (λ (s : Prepared). s.lines) (option_and_then (λ (r : Read). r.source) (if b then Some file else rest))) ≡ true
+  by_name true file rest e h = has_lines file.source h
   by_name false file rest e h = absurd cc
 
 reads_first : (files : List Read) (u : List ℕ) → is_unit u ≡ true → (more : List (List ℕ)) × (read_names files u ≡ u ∷ more)

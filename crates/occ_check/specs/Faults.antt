@@ -33,10 +33,10 @@ reported_use l unit (Some code) = error_at l.file l.line code (Some unit) ∷ []
 abbrev pub use_faults : List UsedUnit → ExpandedLine → List ℕ → List Diag
 use_faults used l unit = reported_use l unit (use_code (standing used unit))
 
--- the fault that the line has instead of a form, or that of the unit that it uses
+-- the fault that the line has instead of a form, or those of the units that it uses
 abbrev pub body_faults : List UsedUnit → ExpandedLine → ExpandedBody → List Diag
 body_faults used l (body.Form form) = []
-body_faults used l (body.Uses unit) = use_faults used l unit
+body_faults used l (body.Uses units) = flat_map (use_faults used l) units
 body_faults used l (body.Fault code) = error_at l.file l.line code None ∷ []
 
 abbrev pub own_faults : List UsedUnit → ExpandedLine → List Diag

@@ -1,4 +1,5 @@
 //! Faults of lines (L1 to L4, S1, S3), and of used units (G1 to G3). `docs/LANGUAGE.md, Codes`.
+ghost use Rattle.std.specs.List.{flat_map};
 ghost use Rattle.std.specs.Prelude.{◌≡◌, ◌++◌, OnOk};
 ghost use Rattle.occ_check.specs.Faults.{line_faults, own_faults, standing, use_code as spec_use_code, use_faults};
 
@@ -41,7 +42,23 @@ fn add_use_fault(
     found.push(Diag::error(line.file, line.line, code, Some(name)))
 }
 
-/// Adds the fault that the line has instead of a form, or that of the unit that it uses.
+/// Adds the faults of uses of these units at the line.
+fn add_use_faults(
+    alloc: Global,
+    used: &[UsedUnit],
+    line: &ExpandedLine,
+    units: &[FileName],
+    found: &mut Items<Diag>,
+) -> Result<(), AllocError>
+    ensures { OnOk result (found.new ≡ found.old ++ flat_map (use_faults used.now line.now) units.now) }
+{
+    for unit in units {
+        add_use_fault(alloc, used, line, *unit, found)?;
+    }
+    Ok(())
+}
+
+/// Adds the fault that the line has instead of a form, or those of the units that it uses.
 fn add_own_faults(
     alloc: Global,
     used: &[UsedUnit],
@@ -52,7 +69,9 @@ fn add_own_faults(
 {
     match &line.body {
         ExpandedBody::Form(_) => Ok(()),
-        ExpandedBody::Uses(unit) => add_use_fault(alloc, used, line, *unit, found),
+        ExpandedBody::Uses(units) => {
+            add_use_faults(alloc, used, line, units.get().as_slice(), found)
+        }
         ExpandedBody::Fault(code) => found.push(Diag::error(line.file, line.line, *code, None)),
     }
 }

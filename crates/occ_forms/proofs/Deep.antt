@@ -24,14 +24,14 @@ pub form_only : (tokens : List Token) (form : Form) → HasForm tokens form → 
     → (other : LineBody) → IsFormed (body.Tokens tokens) other → other ≡ held.Form form
 form_only tokens form has one (held.Form f) h = ap (λ (x : Form). held.Form x) (sym (one f h.spelled))
 form_only tokens form has one (held.Include name) h = absurd h
-form_only tokens form has one (held.Uses name) h = absurd h
+form_only tokens form has one (held.Uses name list) h = absurd h
 form_only tokens form has one (held.Fault fault) (inl h) = form_no_deep tokens form has one h.1
 form_only tokens form has one (held.Fault fault) (inr h) = absurd (h.1.none form has.spelled)
 
 pub none_only : (tokens : List Token) → HasNoForm tokens → (other : LineBody) → IsFormed (body.Tokens tokens) other → other ≡ held.Fault code.S1
 none_only tokens none (held.Form f) h = absurd (none.none f h.spelled)
 none_only tokens none (held.Include name) h = absurd h
-none_only tokens none (held.Uses name) h = absurd h
+none_only tokens none (held.Uses name list) h = absurd h
 none_only tokens none (held.Fault fault) (inl h) = deep_no_none tokens h.1 none
 none_only tokens none (held.Fault fault) (inr h) = ap (λ (x : Code). held.Fault x) h.0
 
@@ -40,6 +40,6 @@ pub deep_only : (tokens : List Token) → IsTooDeep tokens → ((f : Form) → H
     → (other : LineBody) → IsFormed (body.Tokens tokens) other → other ≡ held.Fault code.S3
 deep_only tokens deep none (held.Form f) h = absurd (none f h)
 deep_only tokens deep none (held.Include name) h = absurd h
-deep_only tokens deep none (held.Uses name) h = absurd h
+deep_only tokens deep none (held.Uses name list) h = absurd h
 deep_only tokens deep none (held.Fault fault) (inl h) = ap (λ (x : Code). held.Fault x) h.0
 deep_only tokens deep none (held.Fault fault) (inr h) = deep_no_none tokens deep h.1

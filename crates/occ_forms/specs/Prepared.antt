@@ -21,7 +21,7 @@ abbrev pub IsFormed : Body → LineBody → Type 0
 IsFormed (body.Tokens tokens) (held.Form form) = HasForm tokens form
 IsFormed (body.Tokens tokens) (held.Fault fault) = ((fault ≡ code.S3) × IsTooDeep tokens) ⊎ ((fault ≡ code.S1) × HasNoForm tokens)
 IsFormed (body.Include given) (held.Include name) = name ≡ given
-IsFormed (body.Uses given) (held.Uses name) = name ≡ given
+IsFormed (body.Uses given lists) (held.Uses name list) = (name ≡ given) × (list ≡ lists)
 IsFormed (body.Fault given) (held.Fault fault) = fault ≡ given
 IsFormed given other = ⊥
 

@@ -1,16 +1,17 @@
-//! Prepares a text: its logical lines, each with its form or its one fault.
+//! Prepares a text: its logical lines, each with its form or its one fault, and the units that it lists.
 ghost use Rattle.occ_forms.specs.Prepared.{AreFormed, IsFormed, IsPrepared};
 ghost use Rattle.occ_forms.specs.declared.source.LineBody.{LineBody as ALineBody};
 ghost use Rattle.occ_forms.specs.declared.source.SourceLine.{SourceLine as ASourceLine};
 ghost use Rattle.occ_lines.specs.Lines.{IsLines, line_count};
+ghost use Rattle.occ_lines.specs.Listing.{listed as spec_listed};
 ghost use Rattle.occ_lines.specs.declared.text.Body.TheVariants as body;
 ghost use Rattle.occ_lines.specs.declared.text.Logical.{Logical as ALogical};
 ghost use Rattle.std.specs.Prelude.{IfOk, IsErrOf, List, length, ◌↔◌, ◌≡◌, ◌≤◌, ◌<◌};
 
 use super::parse::{LineFault, form};
 use super::source::{LineBody, Source, SourceLine};
-use occ_base::{Code, Items, Shared};
-use occ_lines::{Body, Logical, TextFault, Token, logical};
+use occ_base::{Code, FileName, Items, Shared};
+use occ_lines::{Body, Logical, TextFault, Token, listed, logical};
 use std::alloc::{AllocError, Global};
 
 /// What a line of these tokens holds: their form, or its fault.
@@ -34,7 +35,7 @@ fn line_body(alloc: Global, body: &Body) -> Result<LineBody, AllocError>
     match body {
         Body::Fault(fault) => Ok(LineBody::Fault(*fault)),
         Body::Include(name) => Ok(LineBody::Include(*name)),
-        Body::Uses(name) => Ok(LineBody::Uses(*name)),
+        Body::Uses(name, list) => Ok(LineBody::Uses(*name, *list)),
         Body::Tokens(tokens) => formed(alloc, tokens.as_slice()),
     }
 }
@@ -56,6 +57,16 @@ fn formed_lines(alloc: Global, logicals: &[Logical]) -> Result<Items<SourceLine>
     Ok(found)
 }
 
+/// The units that a text lists, to be shared.
+fn shared_list(alloc: Global, text: &[u8]) -> Result<Option<Shared<Items<FileName>>>, AllocError>
+    ensures { IfOk result (λ units. units ≡ spec_listed text.now) }
+{
+    match listed(alloc, text)? {
+        Some(units) => Ok(Some(Shared::new(alloc, units)?)),
+        None => Ok(None),
+    }
+}
+
 /// The source of a text whose logical lines are these.
 fn source(alloc: Global, text: &[u8], logicals: &[Logical]) -> Result<Source, AllocError>
     requires lines { IsLines text.now logicals.now }
@@ -65,11 +76,12 @@ fn source(alloc: Global, text: &[u8], logicals: &[Logical]) -> Result<Source, Al
     ensures only { IfOk result (λ source. (lines : List ASourceLine) → IsPrepared text.now lines → lines ≡ source.lines) }
 {
     let lines = formed_lines(alloc, logicals)?;
+    let listed = shared_list(alloc, text)?;
     let text = Items::from_slice(alloc, text)?;
-    Ok(Source::of(text, lines))
+    Ok(Source::of(text, lines, listed))
 }
 
-/// The text with its lines, each with its form or its one fault.
+/// The text with its lines, each with its form or its one fault, and with the units that it lists.
 pub fn prepare(alloc: Global, text: &[u8]) -> Result<Source, TextFault>
     ensures text { IfOk result (λ source. source.text ≡ text.now) }
     ensures lines { IfOk result (λ source. IsPrepared text.now source.lines) }

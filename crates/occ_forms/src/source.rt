@@ -1,5 +1,7 @@
-//! A `Source`, which is a text with its lines. Its type says that they are the lines which the text spells.
+//! A `Source`, which is a text with its lines, and with the units that it lists. Its type says that they are those of the text.
 ghost use Rattle.occ_forms.specs.Prepared.{IsPrepared};
+ghost use Rattle.occ_lines.specs.Listing.{listed as spec_listed};
+ghost use Rattle.std.specs.Option.{option_copied};
 ghost use Rattle.std.specs.Prelude.{◌≡◌};
 
 use super::tree::Form;
@@ -13,8 +15,9 @@ pub enum LineBody {
     Form(Shared<Form>),
     /// The lines of this file stand here.
     Include(FileName),
-    /// The exports of this unit are visible from here on.
-    Uses(FileName),
+    /// The exports of this unit are visible from here on. Of a library there is also the name of its list: where that file is
+    /// open, the units that it lists are used in place of this one.
+    Uses(FileName, Option<FileName>),
     /// The one fault of the line: `L1`, `L2`, `L3`, `L4`, `S1` or `S3`.
     Fault(Code),
 }
@@ -29,16 +32,22 @@ pub struct SourceLine {
     pub body: LineBody,
 }
 
-/// A text with its lines: they are those that the text spells, each with its form.
+/// A text with its lines: they are those that the text spells, each with its form. The units that the text lists stand beside
+/// them, if it is a list.
 pub struct Source {
     text: Items<u8>,
     lines: Items<SourceLine>,
+    listed: Option<Shared<Items<FileName>>>,
 }
 
 /// Written out: crates above call it, where each would prove a derived one anew.
 impl Drop for Source {
     fn drop(self) {
-        let Source { text: _, lines: _ } = self;
+        let Source {
+            text: _,
+            lines: _,
+            listed: _,
+        } = self;
     }
 }
 
@@ -49,6 +58,8 @@ impl Model for Source {
     ghost use Rattle.occ_forms_expressions.specs.contracts.tree.Expr as expressions;
     ghost use Rattle.occ_forms_expressions.specs.contracts.tree.TypeForm as types;
     ghost use Rattle.occ_forms.specs.Prepared.{IsPrepared, Prepared};
+    ghost use Rattle.occ_lines.specs.Listing.{listed as spec_listed};
+    ghost use Rattle.std.specs.Prelude.{◌≡◌};
     ghost use Rattle.std.specs.Coded.{codes};
 
     ghost Value = { Prepared };
@@ -57,17 +68,26 @@ impl Model for Source {
 
     ghost view = { λ a. record { text = a.text; lines = a.lines } };
 
-    ghost invariant = { λ a. IsPrepared a.text a.lines };
+    ghost invariant = { λ a. IsPrepared a.text a.lines × (a.listed ≡ spec_listed a.text) };
 }
 
 impl Source {
-    /// The source of a text and its lines.
-    pub(crate) fn of(text: Items<u8>, lines: Items<SourceLine>) -> Source
-        requires { IsPrepared text lines }
+    /// The source of a text, its lines and what it lists.
+    pub(crate) fn of(
+        text: Items<u8>,
+        lines: Items<SourceLine>,
+        listed: Option<Shared<Items<FileName>>>,
+    ) -> Source
+        requires lines { IsPrepared text lines }
+        requires listed { listed ≡ spec_listed text }
         ensures text { result.text ≡ text }
         ensures lines { result.lines ≡ lines }
     {
-        Source { text, lines }
+        Source {
+            text,
+            lines,
+            listed,
+        }
     }
 
     /// The text, as it was given.
@@ -83,5 +103,19 @@ impl Source {
         ensures prepared { IsPrepared self.now.text self.now.lines }
     {
         self.lines.as_slice()
+    }
+
+    /// The units that the text lists, each at its first place; nothing, if a line of it names no file.
+    pub fn listed(&self) -> Option<&[FileName]>
+        ensures { option_copied result ≡ spec_listed self.now.text }
+    {
+        self.listed.as_ref().map(|units| units.get().as_slice())
+    }
+
+    /// The same, to be shared.
+    pub fn shared_list(&self) -> Option<&Shared<Items<FileName>>>
+        ensures { option_copied result ≡ spec_listed self.now.text }
+    {
+        self.listed.as_ref()
     }
 }

@@ -8,3 +8,4 @@ pub mod Sizes
 pub mod Spelled
 pub mod Begun
 pub mod Cut
+pub mod Lists

@@ -1,6 +1,6 @@
 -- Directives: a line that speaks to the checker.
-use Rattle.std.specs.Prelude.{◌==◌, ◌+◌, ◌&&◌, not, ℕ, nat_le, Bool, false, cond, List, [], ◌∷◌, ◌++◌, codes, Option, Some, None, drop, take}
-use Rattle.std.specs.List.{prefix_len}
+use Rattle.std.specs.Prelude.{◌==◌, ◌+◌, ◌&&◌, not, ℕ, nat_eq, nat_le, Bool, false, cond, List, [], ◌∷◌, ◌++◌, codes, Option, Some, None, drop, take}
+use Rattle.std.specs.List.{ends_with, prefix_len}
 use Rattle.occ_base.specs.declared.code.Code.TheVariants as code
 use Rattle.occ_base.specs.declared.file_name.NameFault.{NameFault}
 use Rattle.occ_base.specs.FileName.{name_fault}
@@ -61,6 +61,10 @@ without_suffix name = front_of name (last_dot name)
 abbrev pub unit_name : List ℕ → List ℕ
 unit_name name = without_suffix name ++ codes ".occ"
 
+-- a name that ends in `.lib` is a library's, whose list is the file of its name that ends in `.lbb`
+abbrev pub list_name : List ℕ → Option (List ℕ)
+list_name name = cond (ends_with nat_eq name (codes ".lib")) (Some (without_suffix name ++ codes ".lbb")) None
+
 -- what the line holds where the name is a file name, else the fault L1
 abbrev pub if_named : Option NameFault → Body → Body
 if_named None x = x
@@ -72,7 +76,7 @@ include_body (Some name) = if_named (name_fault name) (body.Include name)
 
 abbrev pub use_body : Option (List ℕ) → Body
 use_body None = body.Fault code.L1
-use_body (Some name) = if_named (name_fault (unit_name name)) (body.Uses (unit_name name))
+use_body (Some name) = if_named (name_fault (unit_name name)) (body.Uses (unit_name name) (list_name name))
 
 -- what stands after the word of the directive that begins the text
 abbrev pub after_word : List ℕ → List ℕ

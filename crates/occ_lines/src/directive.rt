@@ -1,7 +1,8 @@
 //! Directives.
-ghost use Rattle.std.specs.Prelude.{◌≡◌, ◌≤◌, ◌==◌, cond, IfOk, MatchOption, None, Some, length};
+ghost use Rattle.std.specs.Prelude.{◌≡◌, ◌≤◌, ◌==◌, ◌++◌, cond, IfOk, MatchOption, None, Some, length};
 ghost use Rattle.std.specs.List.{prefix_len};
-ghost use Rattle.occ_lines.specs.Directive.{after_word as spec_after_word, directive_body as spec_directive_body, directive_of as spec_directive_of, include_body as spec_include_body, is_quoted_byte as spec_is_quoted_byte, last_dot as spec_last_dot, quoted_name as spec_quoted_name, use_body as spec_use_body, unit_name as spec_unit_name, without_suffix as spec_without_suffix};
+ghost use Rattle.occ_base.specs.FileName.{name_fault};
+ghost use Rattle.occ_lines.specs.Directive.{after_word as spec_after_word, directive_body as spec_directive_body, directive_of as spec_directive_of, include_body as spec_include_body, is_quoted_byte as spec_is_quoted_byte, last_dot as spec_last_dot, list_name, quoted_name as spec_quoted_name, use_body as spec_use_body, unit_name as spec_unit_name, without_suffix as spec_without_suffix};
 
 use super::blanks::{after_blanks, is_end};
 use super::lexeme::{after_first, found_in};
@@ -124,13 +125,32 @@ fn include_body(text: &[u8]) -> Body
 }
 
 /// The name of the unit that is used by that name.
-fn unit_name(alloc: Global, name: &[u8]) -> Result<Vec<u8>, AllocError>
+pub fn unit_name(alloc: Global, name: &[u8]) -> Result<Vec<u8>, AllocError>
     ensures { IfOk result (λ unit. unit.items ≡ spec_unit_name name.now) }
 {
-    let mut unit = Vec::new(alloc);
-    unit.extend_from_slice(without_suffix(name))?;
-    unit.extend_from_slice(b".occ")?;
-    Ok(unit)
+    with_suffix(alloc, name, b".occ")
+}
+
+/// The name of a file that has that name but for its suffix.
+fn with_suffix(alloc: Global, name: &[u8], suffix: &[u8]) -> Result<Vec<u8>, AllocError>
+    ensures { IfOk result (λ whole. whole.items ≡ spec_without_suffix name.now ++ suffix.now) }
+{
+    let mut whole = Vec::new(alloc);
+    whole.extend_from_slice(without_suffix(name))?;
+    whole.extend_from_slice(suffix)?;
+    Ok(whole)
+}
+
+/// The list of a library that is used by that name, of which the unit has a file name.
+fn list_of(alloc: Global, name: &[u8]) -> Result<Option<FileName>, AllocError>
+    requires { name_fault (spec_unit_name name.now) ≡ None }
+    ensures { IfOk result (λ list. list ≡ list_name name.now) }
+{
+    if !name.ends_with(b".lib") {
+        return Ok(None);
+    }
+    let list = with_suffix(alloc, name, b".lbb")?;
+    Ok(FileName::read(list.as_slice()).ok())
 }
 
 /// What a line holds that uses what is named after its word.
@@ -142,7 +162,7 @@ fn use_body(alloc: Global, text: &[u8]) -> Result<Body, AllocError>
     };
     let unit = unit_name(alloc, name)?;
     match FileName::read(unit.as_slice()) {
-        Ok(name) => Ok(Body::Uses(name)),
+        Ok(unit) => Ok(Body::Uses(unit, list_of(alloc, name)?)),
         Err(_) => Ok(Body::Fault(Code::L1)),
     }
 }

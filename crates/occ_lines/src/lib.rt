@@ -1,5 +1,5 @@
 //! The logical lines of a text: each statement with its line, its depth and its tokens, or its one fault.
-//! `specs/Lines.antt` says what a text spells; `logical` reads it.
+//! `specs/Lines.antt` says what a text spells; `logical` reads it. A text may also be a list of units: `listed` reads that.
 #![tactic(auto)]
 
 mod blanks;
@@ -7,6 +7,7 @@ mod directive;
 mod ending;
 mod lexeme;
 mod line;
+mod listing;
 mod quoted;
 mod reader;
 mod rows;
@@ -16,10 +17,11 @@ mod text;
 mod token;
 mod tokens;
 
+pub use listing::listed;
 pub use reader::{logical, text_fault};
 pub use rows::{
-    class_rows, directive_rows, first_rows, goes_on_rows, line_rows, lines_law, name_rows,
-    number_rows, quoted_rows, symbol_rows, symbol_token_rows, text_rows,
+    class_rows, directive_rows, first_rows, goes_on_rows, line_rows, lines_law, listing_rows,
+    name_rows, number_rows, quoted_rows, symbol_rows, symbol_token_rows, text_rows,
 };
 pub use text::{Body, Logical, TextFault};
 pub use token::{Symbol, Token, Word};

@@ -95,7 +95,7 @@ fn directed(
 }
 
 /// Whether the line is blanks, or blanks and a comment.
-fn is_skipped(line: &[u8]) -> bool
+pub fn is_skipped(line: &[u8]) -> bool
     ensures { result ≡ spec_is_skipped line.now }
 {
     is_end(after_blanks(line))

@@ -7,6 +7,7 @@ ghost use Rattle.occ_lines.specs.Quoted.{unit};
 ghost use Rattle.occ_lines.specs.Directive.{directive_body, directive_of};
 ghost use Rattle.occ_lines.specs.declared.directive.Directive.TheVariants as d;
 ghost use Rattle.occ_lines.specs.declared.ending.Ending.TheVariants as ending;
+ghost use Rattle.occ_lines.specs.Listing.{listed, name_on};
 ghost use Rattle.occ_lines.specs.Lines.{IsLines, column, continues, goes_on, goes_on_symbol, goes_on_word, is_skipped, logical_of, resumes, takes};
 ghost use Rattle.occ_lines.specs.declared.text.Body.TheVariants as body;
 ghost use Rattle.occ_lines.specs.declared.text.Logical.{Logical as ALogical};
@@ -137,10 +138,28 @@ pub fn directive_rows()
     ensures apart { directive_of (codes "# USE") ≡ None }
     ensures file { directive_body d.Include (codes "#INCLUDE \"k.inc\" --") ≡ Some (body.Include (codes "k.inc")) }
     ensures following { directive_body d.Include (codes "#INCLUDE \"k.inc\" x") ≡ Some (body.Fault code.L1) }
-    ensures unit { directive_body d.Use (codes "#USE \"a.b.c\"") ≡ Some (body.Uses (codes "a.b.occ")) }
-    ensures empty { directive_body d.Use (codes "#USE\"\"") ≡ Some (body.Uses (codes ".occ")) }
+    ensures unit { directive_body d.Use (codes "#USE \"a.b.c\"") ≡ Some (body.Uses (codes "a.b.occ") None) }
+    ensures empty { directive_body d.Use (codes "#USE\"\"") ≡ Some (body.Uses (codes ".occ") None) }
+    ensures library { directive_body d.Use (codes "#USE \"z.lib\"") ≡ Some (body.Uses (codes "z.occ") (Some (codes "z.lbb"))) }
+    ensures capitals { directive_body d.Use (codes "#USE \"z.LIB\"") ≡ Some (body.Uses (codes "z.occ") None) }
+    ensures list { directive_body d.Use (codes "#USE \"z.lbb\"") ≡ Some (body.Uses (codes "z.occ") None) }
     ensures bad { directive_body d.Use (codes "#USE \"a?b\"") ≡ Some (body.Fault code.L1) }
     ensures dropped { directive_body d.Dropped (codes "#OPTION") ≡ None }
+{}
+
+/// What the lines of a list name, and of which lines it is none.
+#[tactic(auto, unfolding(bstr::specs::Text::line_len, bstr::specs::Text::lines_from, crate::specs::Listing::listed))]
+pub fn listing_rows()
+    ensures names { name_on (9 ∷ codes " q.occ  ") ≡ codes "q.occ" }
+    ensures comment { name_on (codes "q  -- q.occ") ≡ codes "q" }
+    ensures beside { name_on (codes "q--x -- y") ≡ codes "q--x" }
+    ensures within { name_on (codes "q x") ≡ codes "q x" }
+    ensures carriage { name_on (codes "q" ++ 13 ∷ []) ≡ codes "q" ++ 13 ∷ [] }
+    ensures some { listed (codes "q.occ" ++ 13 ∷ 10 ∷ 10 ∷ codes "-- x" ++ 10 ∷ codes " s.tco") ≡ Some (codes "q.occ" ∷ codes "s.occ" ∷ []) }
+    ensures again { listed (codes "q" ++ 10 ∷ codes "s" ++ 10 ∷ codes "q.x" ++ 10 ∷ []) ≡ Some (codes "q.occ" ∷ codes "s.occ" ∷ []) }
+    ensures empty { listed [] ≡ Some [] }
+    ensures bad { listed (codes "s" ++ 10 ∷ codes "q!") ≡ None }
+    ensures two { listed (codes "q s") ≡ None }
 {}
 
 /// After which tokens a statement goes on.
@@ -164,7 +183,7 @@ pub fn goes_on_rows()
 /// What whole texts spell: a statement of three lines, of which one is skipped, and one that a directive ends.
 pub fn text_rows()
     ensures continued { IsLines (codes "a:=" ++ 10 ∷ codes "--" ++ 10 ∷ codes "  1") (logical_of 1 0 (body.Tokens (t.Name (codes "a") ∷ t.Symbol s.Assign ∷ t.Decimal 1 ∷ [])) ∷ []) }
-    ensures crossed { IsLines (codes "  a," ++ 10 ∷ codes "#USE \"b\"") (logical_of 1 2 (body.Fault code.L3) ∷ logical_of 2 0 (body.Uses (codes "b.occ")) ∷ []) }
+    ensures crossed { IsLines (codes "  a," ++ 10 ∷ codes "#USE \"b\"") (logical_of 1 2 (body.Fault code.L3) ∷ logical_of 2 0 (body.Uses (codes "b.occ") None) ∷ []) }
 {}
 
 /// The law of the lines: a text spells one list of logical lines, and no other.

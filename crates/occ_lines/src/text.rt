@@ -14,8 +14,9 @@ pub enum Body {
     Tokens(Items<Token>),
     /// The lines of this file stand here.
     Include(FileName),
-    /// The exports of this unit are visible from here on.
-    Uses(FileName),
+    /// The exports of this unit are visible from here on. Of a library there is also the name of its list: where that file is
+    /// open, the units that it lists are used in place of this one.
+    Uses(FileName, Option<FileName>),
     /// The one fault of the line: `L1`, `L2`, `L3` or `L4`.
     Fault(Code),
 }

@@ -1,13 +1,14 @@
 -- The expansion of a unit is what is made of its entries.
 use Rattle.std.proofs.Common.{◌≡◌, ℕ, false, List, [], ◌∷◌, ◌++◌, take, drop, Option, refl, ap, ◌∙◌}
 use Rattle.std.specs.List.{flat_map}
+use Rattle.occ_base.specs.Firsts.{first_indices}
 use Rattle.occ_base.specs.declared.diag.Diag.{Diag}
 use Rattle.occ_forms.specs.declared.source.SourceLine.{SourceLine}
 use Rattle.occ_project.specs.declared.entry.ExpansionEntry.{ExpansionEntry}
 use Rattle.occ_project.specs.declared.expanded.ExpandedLine.{ExpandedLine}
 use Rattle.occ_project.specs.declared.making.Made.{Made}
 use Rattle.occ_project.specs.declared.reads.Read.{Read}
-use Rattle.occ_project.specs.Expansion.{Expansion, entry_faults, entry_lines, entry_names, expansion, expansion_of, first_indices, limit_faults, unit_entries}
+use Rattle.occ_project.specs.Expansion.{Expansion, entry_faults, entry_lines, entry_names, expansion, expansion_of, limit_faults, unit_entries}
 use Rattle.occ_project.specs.inside.Making.{after}
 use Rattle.occ_project.specs.Reads.{open_lines}
 use Rattle.occ_project.proofs.Made.{made_of}

@@ -31,7 +31,7 @@ inner_is reads (suc left) h = let e : suc left - 1 ≡ left = omega arith in ap 
 -- where no more inclusions may be nested, no file is put in
 none_left : (way : List (List ℕ)) (reads : List Read) (body : LineBody) → put_in (included reads way 0) body ≡ None
 none_left way reads (body.Form form) = refl
-none_left way reads (body.Uses unit) = refl
+none_left way reads (body.Uses unit list) = refl
 none_left way reads (body.Fault fault) = refl
 none_left way reads (body.Include name) = by (is_among way name) where
   by : (b : Bool) → option_map {T = List SourceLine} {U = List ℕ × List SourceLine} (λ lines. (name, lines)) (result_ok (cond b (Err G5) (Err G6))) ≡ None
@@ -45,7 +45,7 @@ some_left way reads (suc left) body file e = omega arith
 -- a line is done: what it holds and puts in has come, and the lines after it are left
 pub line_done : (reads : List Read) (left : ℕ) (way : List (List ℕ)) (file : List ℕ) (raise : ℕ) (line : SourceLine) (rest lines : List SourceLine) (seen : List (List ℕ)) (depth : ℕ) (holds : Held) (found : Option (List ℕ × List SourceLine)) (old new total : Made)
     → lines ≡ line ∷ rest → seen ≡ way → depth ≡ raise + line.depth
-    → holds ≡ held (included reads seen left) depth line.body
+    → holds ≡ held reads (included reads seen left) depth line.body
     → found ≡ put_in (included reads seen left) line.body
     → new ≡ after (step old (record { file = file; line = line.line; held = holds })) (inner_entries (inner_of reads left) way depth found)
     → after old (file_entries reads left (inner_of reads left) way file raise lines) ≡ total
@@ -55,10 +55,10 @@ line_done reads left way file raise line rest lines seen depth holds found old n
     let inner : ℕ → Option (List ℕ × List SourceLine) → List ExpansionEntry = inner_entries (inner_of reads left) way in
     let full = raise + line.depth in
     let body = line.body in
-    let whole = held (included reads way left) full body in
+    let whole = held reads (included reads way left) full body in
     let rests = file_entries reads left (inner_of reads left) way file raise rest in
     ap (λ (m : Made). after m rests) (n
-    ∙ ap (λ (x : Held). after (step old (entry_at x)) (inner depth found)) (h ∙ ap (λ (s : List (List ℕ)). held (included reads s left) depth body) w ∙ ap (λ (k : ℕ). held (included reads way left) k body) d)
+    ∙ ap (λ (x : Held). after (step old (entry_at x)) (inner depth found)) (h ∙ ap (λ (s : List (List ℕ)). held reads (included reads s left) depth body) w ∙ ap (λ (k : ℕ). held reads (included reads way left) k body) d)
     ∙ ap (λ (x : Option (List ℕ × List SourceLine)). after (step old (entry_at whole)) (inner depth x)) (f ∙ ap (λ (s : List (List ℕ)). put_in (included reads s left) body) w)
     ∙ ap (λ (k : ℕ). after (step old (entry_at whole)) (inner k (put_in (included reads way left) body))) d)
     ∙ sym (after_both (step old (entry_at whole)) (inner full (put_in (included reads way left) body)) rests)

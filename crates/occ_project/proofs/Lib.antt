@@ -1,6 +1,5 @@
 pub mod Made
 pub mod Inclusions
 pub mod Members
-pub mod Indices
 pub mod Expansions
 pub mod Rising

@@ -1,16 +1,17 @@
 -- The expansion of a unit: what the first 65,535 of its entries give.
 use Rattle.std.specs.Prelude.{ℕ, List, [], ◌∷◌, ◌++◌, take, drop, not, Option, Some, None}
-use Rattle.std.specs.List.{filter, find, flat_map}
+use Rattle.std.specs.List.{find, flat_map}
 use Rattle.std.specs.Option.{is_some}
-use Rattle.std.specs.Str.{bytes_eq}
 use Rattle.occ_base.specs.declared.code.Code.{Code}
 use Rattle.occ_base.specs.declared.code.Code.TheVariants as code
 use Rattle.occ_base.specs.declared.diag.Diag.{Diag}
 use Rattle.occ_base.specs.Errors.{error_at}
+use Rattle.occ_base.specs.Firsts.{first_indices}
 use Rattle.occ_forms.specs.declared.source.SourceLine.{SourceLine}
 use Rattle.occ_project.specs.declared.entry.ExpansionEntry.{ExpansionEntry}
 use Rattle.occ_project.specs.declared.entry.Held.{Held}
-use Rattle.occ_project.specs.declared.entry.Held.TheVariants.{Line, Include}
+use Rattle.occ_project.specs.declared.entry.Held.TheVariants.{Line, Library, Include}
+use Rattle.occ_project.specs.declared.expanded.ExpandedBody.TheVariants as body
 use Rattle.occ_project.specs.declared.expanded.ExpandedLine.{ExpandedLine}
 use Rattle.occ_project.specs.declared.reads.Read.{Read}
 use Rattle.occ_project.specs.Reads.{member, open_lines}
@@ -25,12 +26,14 @@ pub record Expansion : Type 0 where
 -- the line that an entry is, unless it is an `#INCLUDE`
 abbrev pub held_lines : List ℕ → ℕ → Held → List ExpandedLine
 held_lines file line (Line depth body) = record { file = file; line = line; depth = depth; body = body } ∷ []
+held_lines file line (Library depth units list fault) = record { file = file; line = line; depth = depth; body = body.Uses units } ∷ []
 held_lines file line (Include name fault) = []
 
 abbrev pub entry_lines : ExpansionEntry → List ExpandedLine
 entry_lines entry = held_lines entry.file entry.line entry.held
 
--- an `#INCLUDE` looks its file up unless it is refused for the files under way or for their number
+-- a `#USE` of a library looks up its list, and an `#INCLUDE` its file unless that is refused for the files under way or for
+-- their number
 abbrev pub fault_names : List ℕ → Option Code → List (List ℕ)
 fault_names name (Some code.G5) = []
 fault_names name (Some code.G6) = []
@@ -38,13 +41,15 @@ fault_names name other = name ∷ []
 
 abbrev pub held_names : Held → List (List ℕ)
 held_names (Line depth body) = []
+held_names (Library depth units list fault) = list ∷ []
 held_names (Include name fault) = fault_names name fault
 
 abbrev pub entry_names : ExpansionEntry → List (List ℕ)
 entry_names entry = held_names entry.held
 
--- the fault of an `#INCLUDE`, with the name of its file
+-- the fault of a list or of an `#INCLUDE`, with the name of its file
 abbrev pub held_faults : List ℕ → ℕ → Held → List Diag
+held_faults file line (Library depth units list (Some fault)) = error_at file line fault (Some list) ∷ []
 held_faults file line (Include name (Some fault)) = error_at file line fault (Some name) ∷ []
 held_faults file line other = []
 
@@ -58,11 +63,6 @@ limit_fault entry = error_at entry.file entry.line code.G6 None
 abbrev pub limit_faults : List ExpansionEntry → List Diag
 limit_faults [] = []
 limit_faults (entry ∷ more) = limit_fault entry ∷ []
-
--- each name at its first index
-abbrev pub first_indices : List (List ℕ) → List (List ℕ)
-first_indices [] = []
-first_indices (name ∷ names) = name ∷ filter (λ other. not (bytes_eq name other)) (first_indices names)
 
 -- all entries of a unit with these lines, or without any if it is not open; 16 inclusions may be nested
 abbrev pub unit_entries : List Read → List ℕ → Option (List SourceLine) → List ExpansionEntry

@@ -6,6 +6,7 @@ use Rattle.std.specs.Cmp.Lexicographic.{slice_cmp}
 use Rattle.std.specs.declared.cmp.Ordering.{Ordering}
 use Rattle.std.specs.Option.{option_and_then, option_map}
 use Rattle.std.specs.Str.{bytes_eq}
+use Rattle.occ_forms.specs.Prepared.{Prepared}
 use Rattle.occ_forms.specs.declared.source.SourceLine.{SourceLine}
 use Rattle.occ_project.specs.declared.reads.Read.{Read}
 
@@ -17,13 +18,17 @@ is_named name read = bytes_eq read.name name
 abbrev pub member : List Read → List ℕ → Option Read
 member reads name = find (is_named name) reads
 
--- the lines of a member, if its file is open
-abbrev pub lines_of : Read → Option (List SourceLine)
-lines_of read = option_map (λ source. source.lines) read.source
+-- the file of that name, if it is open: one of which there is no member is not
+abbrev pub open_source : List Read → List ℕ → Option Prepared
+open_source reads name = option_and_then (λ read. read.source) (member reads name)
 
--- the lines of the file of that name, if it is open: a file of which there is no member is not
+-- its lines
 abbrev pub open_lines : List Read → List ℕ → Option (List SourceLine)
-open_lines reads name = option_and_then lines_of (member reads name)
+open_lines reads name = option_map (λ source. source.lines) (open_source reads name)
+
+-- its text
+abbrev pub open_text : List Read → List ℕ → Option (List ℕ)
+open_text reads name = option_map (λ source. source.text) (open_source reads name)
 
 -- the place of the first member of that name
 abbrev pub index : List ℕ → List Read → Option ℕ

@@ -21,14 +21,22 @@ abbrev pub include_at : ℕ → ℕ → List ℕ → SourceLine
 include_at line depth name = record { line = line; depth = depth; body = body.Include name }
 
 abbrev pub use_at : ℕ → ℕ → List ℕ → SourceLine
-use_at line depth unit = record { line = line; depth = depth; body = body.Uses unit }
+use_at line depth unit = record { line = line; depth = depth; body = body.Uses unit None }
 
--- that line in an expansion
-abbrev pub use_in : List ℕ → ℕ → ℕ → List ℕ → ExpandedLine
-use_in file line depth unit = record { file = file; line = line; depth = depth; body = to.Uses unit }
+-- of a library with that list
+abbrev pub library_at : ℕ → ℕ → List ℕ → List ℕ → SourceLine
+library_at line depth unit list = record { line = line; depth = depth; body = body.Uses unit (Some list) }
+
+-- such a line in an expansion
+abbrev pub use_in : List ℕ → ℕ → ℕ → List (List ℕ) → ExpandedLine
+use_in file line depth units = record { file = file; line = line; depth = depth; body = to.Uses units }
 
 abbrev pub open_file : List ℕ → List SourceLine → Read
 open_file name lines = record { name = name; revision = 1; source = Some (record { text = []; lines = lines }) }
+
+-- a file with that text, as a list is read
+abbrev pub open_list : List ℕ → List ℕ → Read
+open_list name text = record { name = name; revision = 1; source = Some (record { text = text; lines = [] }) }
 
 abbrev pub absent_file : List ℕ → Read
 absent_file name = record { name = name; revision = 0; source = None }

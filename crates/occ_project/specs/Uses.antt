@@ -7,9 +7,9 @@ use Rattle.occ_project.specs.declared.expanded.ExpandedBody.{ExpandedBody}
 use Rattle.occ_project.specs.declared.expanded.ExpandedBody.TheVariants as body
 use Rattle.occ_project.specs.declared.expanded.ExpandedLine.{ExpandedLine}
 
--- the one that a line names, if it is a `#USE`
+-- those that a line uses, if it is a `#USE`
 abbrev pub body_units : ExpandedBody → List (List ℕ)
-body_units (body.Uses unit) = unit ∷ []
+body_units (body.Uses units) = units
 body_units (body.Form form) = []
 body_units (body.Fault fault) = []
 

@@ -1,7 +1,7 @@
 //! An expansion: its lines with file, number and depth, its reads, and its faults.
 ghost use Rattle.occ_project.specs.Locations.{location_of};
 ghost use Rattle.occ_project.specs.Uses.{units_of};
-ghost use Rattle.std.specs.Prelude.{◌≡◌, ◌∷◌, [], MatchOption};
+ghost use Rattle.std.specs.Prelude.{◌≡◌};
 
 use occ_base::{Code, Diag, FileName, Items, Shared};
 use occ_forms::Form;
@@ -10,8 +10,8 @@ use std::marker::Model;
 /// What a line of an expansion holds.
 pub enum ExpandedBody {
     Form(Shared<Form>),
-    /// A `#USE`: the unit whose exports are visible from here on.
-    Uses(FileName),
+    /// A `#USE`: the units whose exports are visible from here on, in this order. One `#USE` of a library can have many.
+    Uses(Shared<Items<FileName>>),
     /// The one fault of the line: `L1`, `L2`, `L3`, `L4`, `S1` or `S3`.
     Fault(Code),
 }
@@ -69,13 +69,13 @@ impl ExpandedLine {
         }
     }
 
-    /// The unit that a `#USE` names; any other line names none.
-    pub fn used_unit(&self) -> Option<FileName>
-        ensures { MatchOption result (units_of self.now ≡ []) (λ unit. units_of self.now ≡ unit ∷ []) }
+    /// The units that a `#USE` uses; any other line uses none.
+    pub fn used_units(&self) -> &[FileName]
+        ensures { result.now ≡ units_of self.now }
     {
         match &self.body {
-            ExpandedBody::Uses(unit) => Some(*unit),
-            ExpandedBody::Form(_) | ExpandedBody::Fault(_) => None,
+            ExpandedBody::Uses(units) => units.get().as_slice(),
+            ExpandedBody::Form(_) | ExpandedBody::Fault(_) => &[],
         }
     }
 }
@@ -158,7 +158,7 @@ impl Expanded {
         self.reads.as_slice()
     }
 
-    /// The diagnostics `G4`, `G5` and `G6`, in the order of their lines.
+    /// The diagnostics `G4` to `G7`, in the order of their lines.
     pub fn faults(&self) -> &[Diag]
         ensures { result.now ≡ self.now.faults }
     {

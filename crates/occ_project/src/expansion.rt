@@ -1,6 +1,6 @@
-//! Makes the expansion of a unit, file by file, and after each `#INCLUDE` the lines of its file. `docs/LANGUAGE.md,
-//! Expansion`.
-ghost use Rattle.occ_project.specs.Entries.{entries, held as spec_held, included, put_in};
+//! Makes the expansion of a unit, file by file, and after each `#INCLUDE` the lines of its file. The line of a `#USE` of a library
+//! gets the units of its list. `docs/LANGUAGE.md, Expansion`.
+ghost use Rattle.occ_project.specs.Entries.{entries, held as spec_held, included, put_in, use_line as spec_use_line};
 ghost use Rattle.occ_project.specs.Expansion.{expansion, not_given};
 ghost use Rattle.occ_project.specs.inside.Making.{after};
 ghost use Rattle.occ_project.specs.declared.expansion.ExpandFault.TheVariants.{Memory, NotGiven};
@@ -11,9 +11,8 @@ use super::entry::{ExpansionEntry, Held};
 use super::expanded::{Expanded, ExpandedBody};
 use super::files::Files;
 use super::making::Made;
-use super::names::first_indices;
 use super::reads::Reads;
-use occ_base::{FileName, Items};
+use occ_base::{FileName, Items, Shared, first_indices, one_item};
 use occ_forms::{LineBody, SourceLine};
 use std::alloc::{AllocError, Global};
 use thiserror::Error;
@@ -60,6 +59,44 @@ struct Inner<'a> {
     lines: &'a [SourceLine],
 }
 
+/// The units that a library stands for, none where its list has a fault.
+fn library(
+    alloc: Global,
+    files: &Files<'_>,
+    depth: u64,
+    unit: FileName,
+    list: FileName,
+) -> Result<Held, AllocError>
+    ensures { IfOk result (λ held. held ≡ spec_use_line files.now.reads.now depth unit (Some list)) }
+{
+    match files.listing(alloc, unit, list)? {
+        Ok(units) => Ok(Held::Library(depth, units, list, None)),
+        Err(fault) => {
+            let none = Shared::new(alloc, Items::new(alloc))?;
+            Ok(Held::Library(depth, none, list, Some(fault)))
+        }
+    }
+}
+
+/// The line of a `#USE`, of a library if there is a list.
+fn use_line(
+    alloc: Global,
+    files: &Files<'_>,
+    depth: u64,
+    unit: FileName,
+    list: Option<FileName>,
+) -> Result<Held, AllocError>
+    ensures { IfOk result (λ held. held ≡ spec_use_line files.now.reads.now depth unit list) }
+{
+    match list {
+        Some(list) => library(alloc, files, depth, unit, list),
+        None => {
+            let units = Shared::new(alloc, one_item(alloc, unit)?)?;
+            Ok(Held::Line(depth, ExpandedBody::Uses(units)))
+        }
+    }
+}
+
 /// What the entry of a line holds, and the file that the line puts in.
 fn held<'a>(
     alloc: Global,
@@ -69,12 +106,14 @@ fn held<'a>(
     depth: u64,
     body: &LineBody,
 ) -> Result<(Held, Option<Inner<'a>>), AllocError>
-    ensures entry { IfOk result (λ found. found.0 ≡ spec_held (included files.now.reads.now way.now left) depth body.now) }
+    ensures entry { IfOk result (λ found. found.0 ≡ spec_held files.now.reads.now (included files.now.reads.now way.now left) depth body.now) }
     ensures inner { IfOk result (λ found. option_map (λ inner. (inner.name, inner.lines.now)) found.1 ≡ put_in (included files.now.reads.now way.now left) body.now) }
 {
     let body = match body {
         LineBody::Form(form) => ExpandedBody::Form(form.share()?),
-        LineBody::Uses(unit) => ExpandedBody::Uses(*unit),
+        LineBody::Uses(unit, list) => {
+            return Ok((use_line(alloc, files, depth, *unit, *list)?, None));
+        }
         LineBody::Fault(fault) => ExpandedBody::Fault(*fault),
         LineBody::Include(name) => {
             return Ok(match files.included(way, left, *name) {

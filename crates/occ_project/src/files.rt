@@ -1,14 +1,14 @@
-//! Looks files up by name, and says what an `#INCLUDE` puts in, or why nothing (G4 to G6).
-ghost use Rattle.occ_project.specs.Entries.{included as spec_included};
-ghost use Rattle.occ_project.specs.Reads.{member as spec_member, name_cmp, open_lines as spec_open_lines, index};
+//! Looks files up by name, and says what an `#INCLUDE` puts in, or why nothing (G4 to G6), and which units a library stands for.
+ghost use Rattle.occ_project.specs.Entries.{included as spec_included, listing as spec_listing};
+ghost use Rattle.occ_project.specs.Reads.{member as spec_member, name_cmp, open_lines as spec_open_lines, open_source as spec_open_source, open_text as spec_open_text, index};
 ghost use Rattle.std.specs.BTreeMap.{get};
 ghost use Rattle.std.specs.List.{find};
 ghost use Rattle.std.specs.Option.{is_some, option_copied};
 ghost use Rattle.std.specs.Prelude.{Err, IfOk, List, MatchResult, Ok, not, ℕ, ◌≡◌};
 
 use super::reads::{Read, Reads};
-use occ_base::{Code, FileName};
-use occ_forms::SourceLine;
+use occ_base::{Code, FileName, Items, Shared, one_item};
+use occ_forms::{Source, SourceLine};
 use std::alloc::{AllocError, Global};
 use std::collections::BTreeMap;
 
@@ -49,12 +49,19 @@ impl<'a> Files<'a> {
         self.reads.get(*index)
     }
 
+    /// The file of that name, if it is open.
+    fn open_source(&self, name: FileName) -> Option<&Source>
+        ensures { option_copied result ≡ spec_open_source self.now.reads.now name }
+    {
+        let source = self.member(name)?.source.as_ref();
+        source.map(|source| source.get())
+    }
+
     /// The lines of the file of that name, if it is open.
     pub fn open_lines(&self, name: FileName) -> Option<&[SourceLine]>
         ensures { option_copied result ≡ spec_open_lines self.now.reads.now name }
     {
-        let source = self.member(name)?.source.as_ref();
-        source.map(|source| source.get().lines())
+        self.open_source(name).map(|source| source.lines())
     }
 
     /// What stands in the place of an include of that file: its lines, or the fault for which nothing does.
@@ -73,6 +80,25 @@ impl<'a> Files<'a> {
             return Err(Code::G6);
         }
         self.open_lines(name).ok_or(Code::G4)
+    }
+
+    /// The units that a library stands for by its list; the unit of its own name if the list is not open, and a fault if the text of
+    /// that is none.
+    pub fn listing(
+        &self,
+        alloc: Global,
+        unit: FileName,
+        list: FileName,
+    ) -> Result<Result<Shared<Items<FileName>>, Code>, AllocError>
+        ensures { IfOk result (λ found. found ≡ spec_listing unit (spec_open_text self.now.reads.now list)) }
+    {
+        let Some(source) = self.open_source(list) else {
+            return Ok(Ok(Shared::new(alloc, one_item(alloc, unit)?)?));
+        };
+        match source.shared_list() {
+            Some(units) => Ok(Ok(units.share()?)),
+            None => Ok(Err(Code::G7)),
+        }
     }
 
     /// The first of the names that is none of a member.

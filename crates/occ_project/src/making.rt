@@ -5,7 +5,7 @@ ghost use Rattle.occ_project.specs.declared.entry.Held.TheVariants as held;
 ghost use Rattle.std.specs.Prelude.{OnOk, [], false, ◌≡◌, ◌++◌};
 
 use super::entry::{ExpansionEntry, Held};
-use super::expanded::ExpandedLine;
+use super::expanded::{ExpandedBody, ExpandedLine};
 use occ_base::{Code, Diag, FileName, Items, Name};
 use std::alloc::{AllocError, Global};
 
@@ -36,7 +36,7 @@ fn add_name(
     }
 }
 
-/// Adds the fault of an include, if it has one.
+/// Adds the fault of a file that is looked up, if it has one.
 fn add_fault(
     alloc: Global,
     file: FileName,
@@ -97,6 +97,16 @@ impl Made {
                 depth,
                 body,
             }),
+            Held::Library(depth, units, list, fault) => {
+                self.names.push(list)?;
+                add_fault(alloc, file, line, list, fault, &mut self.faults)?;
+                self.lines.push(ExpandedLine {
+                    file,
+                    line,
+                    depth,
+                    body: ExpandedBody::Uses(units),
+                })
+            }
             Held::Include(name, fault) => {
                 add_name(name, fault, &mut self.names)?;
                 add_fault(alloc, file, line, name, fault, &mut self.faults)

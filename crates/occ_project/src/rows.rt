@@ -2,11 +2,13 @@
 #![tactic(auto, unfolding(crate::specs::Entries::entries, crate::specs::Expansion::expansion))]
 
 ghost use Rattle.occ_base.specs.Errors.{error_at};
-ghost use Rattle.occ_base.specs.declared.code.Code.TheVariants.{G4, G5, G6};
-ghost use Rattle.occ_project.specs.Expansion.{expansion, first_indices, not_given};
-ghost use Rattle.occ_project.specs.Samples.{absent_file, chain, close_at, close_in, include_at, limited, open_file, some_names, use_at, use_in};
+ghost use Rattle.occ_base.specs.declared.code.Code.TheVariants.{G4, G5, G6, G7};
+ghost use Rattle.occ_base.specs.Firsts.{first_indices};
+ghost use Rattle.occ_project.specs.Expansion.{expansion, not_given};
+ghost use Rattle.occ_project.specs.Samples.{absent_file, chain, close_at, close_in, include_at, library_at, limited, open_file, open_list, some_names, use_at, use_in};
 ghost use Rattle.occ_project.specs.Uses.{units_of};
-ghost use Rattle.std.specs.Prelude.{None, Some, [], codes, ◌∷◌, ◌≡◌};
+ghost use Rattle.occ_lines.specs.Listing.{listed as spec_listed};
+ghost use Rattle.std.specs.Prelude.{List, None, Some, [], codes, ℕ, ◌∷◌, ◌≡◌};
 
 /// The lines of an included file stand in the place of the directive, whose depth is added to theirs.
 pub fn include_rows()
@@ -32,12 +34,25 @@ pub fn read_rows()
     ensures alone { not_given [] (codes "a") ≡ Some (codes "a") }
 {}
 
-/// A `#USE` is a line, which names the unit that it uses.
+/// A `#USE` is a line, which has the units that it uses.
 pub fn use_rows()
     ensures lines { (expansion (open_file (codes "a") (include_at 1 0 (codes "k") ∷ use_at 2 0 (codes "b") ∷ []) ∷ open_file (codes "k") (use_at 7 0 (codes "c") ∷ []) ∷ []) (codes "a")).lines
-        ≡ use_in (codes "k") 7 0 (codes "c") ∷ use_in (codes "a") 2 0 (codes "b") ∷ [] }
-    ensures units { units_of (use_in (codes "a") 2 0 (codes "b")) ≡ codes "b" ∷ [] }
+        ≡ use_in (codes "k") 7 0 (codes "c" ∷ []) ∷ use_in (codes "a") 2 0 (codes "b" ∷ []) ∷ [] }
+    ensures units { units_of (use_in (codes "a") 2 0 (codes "b" ∷ [])) ≡ codes "b" ∷ [] }
     ensures none { units_of (close_in (codes "a") 1 0) ≡ [] }
+{}
+
+/// A `#USE` of a library looks its list up: it uses the units that are listed, none of a text that is no list, and where the list is
+/// not open the unit of the library's own name.
+pub fn library_rows()
+    ensures listed { (text : List ℕ) → spec_listed text ≡ Some (codes "q.occ" ∷ codes "s.occ" ∷ []) → (expansion (open_file (codes "a") (library_at 2 1 (codes "z") (codes "l") ∷ []) ∷ open_list (codes "l") text ∷ []) (codes "a")).lines
+        ≡ use_in (codes "a") 2 1 (codes "q.occ" ∷ codes "s.occ" ∷ []) ∷ [] }
+    ensures fine { (text : List ℕ) (units : List (List ℕ)) → spec_listed text ≡ Some units → (expansion (open_file (codes "a") (library_at 2 1 (codes "z") (codes "l") ∷ []) ∷ open_list (codes "l") text ∷ []) (codes "a")).faults ≡ [] }
+    ensures bad { (text : List ℕ) → spec_listed text ≡ None → (expansion (open_file (codes "a") (library_at 2 1 (codes "z") (codes "l") ∷ []) ∷ open_list (codes "l") text ∷ []) (codes "a")).lines ≡ use_in (codes "a") 2 1 [] ∷ [] }
+    ensures fault { (text : List ℕ) → spec_listed text ≡ None → (expansion (open_file (codes "a") (library_at 2 1 (codes "z") (codes "l") ∷ []) ∷ open_list (codes "l") text ∷ []) (codes "a")).faults ≡ error_at (codes "a") 2 G7 (Some (codes "l")) ∷ [] }
+    ensures reads { (text : List ℕ) → (expansion (open_file (codes "a") (library_at 2 1 (codes "z") (codes "l") ∷ []) ∷ open_list (codes "l") text ∷ []) (codes "a")).reads ≡ codes "a" ∷ codes "l" ∷ [] }
+    ensures closed { (expansion (open_file (codes "a") (library_at 2 1 (codes "z") (codes "l") ∷ []) ∷ []) (codes "a")).lines ≡ use_in (codes "a") 2 1 (codes "z" ∷ []) ∷ [] }
+    ensures looked_up { (expansion (open_file (codes "a") (library_at 2 1 (codes "z") (codes "l") ∷ []) ∷ []) (codes "a")).reads ≡ codes "a" ∷ codes "l" ∷ [] }
 {}
 
 /// An include puts nothing in if its file is under way, if 16 are nested, or if it is not open, in this order.

@@ -53,14 +53,23 @@ fn put_in_order(alloc: Global, mut names: Items<FileName>) -> Result<Items<FileN
     Ok(Items::from_vec(ordered))
 }
 
-/// Adds the unit that the line uses, if it uses one.
-fn add_unit(names: &mut Items<FileName>, line: &ExpandedLine) -> Result<(), AllocError>
-    ensures { OnOk result (names.new ≡ names.old ++ units_of line.now) }
+/// Adds the units that a line uses, all at once.
+fn add_units(
+    alloc: Global,
+    names: &mut Items<FileName>,
+    units: &[FileName],
+) -> Result<(), AllocError>
+    ensures { OnOk result (names.new ≡ names.old ++ units.now) }
 {
-    match line.used_unit() {
-        Some(unit) => names.push(unit),
-        None => Ok(()),
+    if units.is_empty() {
+        return Ok(());
     }
+    let units = Items::from_slice(alloc, units)?;
+    if names.is_empty() {
+        *names = units;
+        return Ok(());
+    }
+    names.append(units)
 }
 
 /// The units that these lines use, one after the other.
@@ -69,7 +78,7 @@ fn units_of_lines(alloc: Global, lines: &[ExpandedLine]) -> Result<Items<FileNam
 {
     let mut names = Items::new(alloc);
     for line in lines {
-        add_unit(&mut names, line)?;
+        add_units(alloc, &mut names, line.used_units())?;
     }
     Ok(names)
 }

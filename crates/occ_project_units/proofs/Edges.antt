@@ -1,7 +1,7 @@
 -- Places of files, and edges between them.
 use Rattle.std.proofs.Common.{◌≡◌, ℕ, zero, suc, ◌+◌, ◌<◌, ◌≤◌, true, false, Bool, cond, ◌||◌, ◌==◌, List, [], ◌∷◌, ◌++◌, length, map, take, get_or, Option, Some, None, refl, sym, ap, ◌∙◌, inl, inr, arith}
 use Rattle.std.specs.List.{cons_option, slice_get}
-use Rattle.std.specs.Option.{option_and_then}
+use Rattle.std.specs.Option.{option_and_then, option_map}
 use Rattle.std.specs.Str.{bytes_eq}
 use Rattle.std.specs.Cmp.Lexicographic.{same_text}
 use Rattle.std.proofs.lemmas.List.{take_more}
@@ -14,7 +14,8 @@ use Rattle.occ_project_graph.specs.Graph as graph
 use Rattle.occ_project.specs.declared.reads.Read.{Read}
 use Rattle.occ_project.specs.Entries.{is_among}
 use Rattle.occ_project.specs.Expansion.{expansion, expansion_of, unit_entries}
-use Rattle.occ_project.specs.Reads.{lines_of, member, open_lines, index}
+use Rattle.occ_forms.specs.Prepared.{Prepared}
+use Rattle.occ_project.specs.Reads.{member, open_lines, index}
 use Rattle.occ_project.specs.Uses.{used_in}
 use Rattle.occ_project_units.specs.Indices.{graph_of, indices_of}
 use Rattle.occ_project_units.specs.Units.{Uses, read_names, used_units}
@@ -31,7 +32,7 @@ unfolding expansion
 closed files unit e = ap (λ (o : Option (List SourceLine)). expansion_of 65535 unit (unit_entries files unit o)) e
 
 no_lines : (files : List Read) (unit : List ℕ) → index unit files ≡ None → open_lines files unit ≡ None
-no_lines files unit e = ap (option_and_then lines_of) (sym (member_at unit files) ∙ ap (option_and_then (slice_get files)) e)
+no_lines files unit e = ap (λ (o : Option Read). option_map (λ (s : Prepared). s.lines) (option_and_then (λ (r : Read). r.source) o)) (sym (member_at unit files) ∙ ap (option_and_then (slice_get files)) e)
 
 pub unused : (files : List Read) (unit : List ℕ) → index unit files ≡ None → used_units files unit ≡ []
 unused files unit e = ap (λ x. cond (is_unit unit) (used_in x.lines) []) (closed files unit (no_lines files unit e)) ∙ by (is_unit unit) where

@@ -129,16 +129,19 @@ nowhere g (Some p) = refl
 pub no_circle_to : (files : List Read) (u v : List ℕ) → index v files ≡ None → false ≡ is_circular files u v
 no_circle_to files u v e = and_none (is_among (used_units files u) v) (circular_at (graph_of files) (index u files) (index v files)) (ap (circular_at (graph_of files) (index u files)) e ∙ nowhere (graph_of files) (index u files))
 
-pub used_in_circle : (files : List Read) (u v : List ℕ) (p q : ℕ) (among : Bool) → index u files ≡ Some p → index v files ≡ Some q → is_among (used_units files u) v ≡ true
-    → among ≡ graph.is_among (rests (graph_of files) p) q → not among ≡ is_circular files u v
-used_in_circle files u v p q among e f h a =
-    ap not a ∙ ap (λ (b : Bool). b && not (graph.is_among (rests (graph_of files) p) q)) (sym h) ∙ in_circle files u v p q e f
+both_ways : (a b : Bool) → (a && b) ≡ (b && a)
+both_ways true true = refl
+both_ways true false = refl
+both_ways false true = refl
+both_ways false false = refl
 
-pub no_circle_without : (files : List Read) (u v : List ℕ) (p q : ℕ) (used : Bool) → index u files ≡ Some p → index v files ≡ Some q → used ≡ has_edge (graph_of files) p q → used ≡ false → used ≡ is_circular files u v
-no_circle_without files u v p q used e f h none = none ∙ without (is_among (used_units files u) v) (circular_at (graph_of files) (index u files) (index v files)) (sym (edge_used files u v p q e f) ∙ sym h ∙ none) where
-  without : (b c : Bool) → b ≡ false → false ≡ (b && c)
-  without true c k = cc
-  without false c k = refl
+-- whether an edge is in a circle, by the indices that it leads from and to
+pub edge_in_circle : (files : List Read) (u v : List ℕ) (p q : ℕ) → index u files ≡ Some p → index v files ≡ Some q
+    → (not (graph.is_among (rests (graph_of files) p) q) && has_edge (graph_of files) p q) ≡ is_circular files u v
+edge_in_circle files u v p q e f =
+    both_ways (not (graph.is_among (rests (graph_of files) p) q)) (has_edge (graph_of files) p q)
+    ∙ ap (λ (b : Bool). b && not (graph.is_among (rests (graph_of files) p) q)) (edge_used files u v p q e f)
+    ∙ in_circle files u v p q e f
 
 -- a file at its place, and one that has none
 pub open_there : (files : List Read) (name : List ℕ) (p : ℕ) (file : Read) → index name files ≡ Some p → Some file ≡ slice_get files p → is_some file.source ≡ is_some (file_of files name).source

@@ -6,9 +6,11 @@ use Rattle.std.specs.Result.{result_err, result_ok}
 use Rattle.std.specs.Str.{bytes_eq}
 use Rattle.std.proofs.lemmas.Slice.Eq.{bytes_eq-Decides}
 use Rattle.std.specs.Cmp.Lexicographic.{same_text}
+use Rattle.occ_base.specs.Firsts.{first_indices}
 use Rattle.occ_base.specs.declared.code.Code.{Code}
 use Rattle.occ_base.specs.declared.code.Code.TheVariants.{G4, G5, G6}
 use Rattle.occ_base.specs.declared.diag.Diag.{Diag}
+use Rattle.occ_forms.specs.Prepared.{Prepared}
 use Rattle.occ_forms.specs.declared.source.LineBody.{LineBody}
 use Rattle.occ_forms.specs.declared.source.LineBody.TheVariants as body
 use Rattle.occ_forms.specs.declared.source.SourceLine.{SourceLine}
@@ -16,9 +18,9 @@ use Rattle.occ_project.specs.declared.entry.ExpansionEntry.{ExpansionEntry}
 use Rattle.occ_project.specs.declared.entry.Held.{Held}
 use Rattle.occ_project.specs.declared.entry.Held.TheVariants.{Include}
 use Rattle.occ_project.specs.declared.reads.Read.{Read}
-use Rattle.occ_project.specs.Entries.{FileEntries, entries, entry_of, file_entries, held, included, inner_entries, is_among, put_in}
-use Rattle.occ_project.specs.Expansion.{entry_faults, entry_lines, entry_names, expansion, expansion_of, fault_names, first_indices, held_names, limit_faults, unit_entries}
-use Rattle.occ_project.specs.Reads.{open_lines}
+use Rattle.occ_project.specs.Entries.{FileEntries, entries, entry_of, file_entries, held, included, inner_entries, is_among, library_line, listing, put_in}
+use Rattle.occ_project.specs.Expansion.{entry_faults, entry_lines, entry_names, expansion, expansion_of, fault_names, held_names, limit_faults, unit_entries}
+use Rattle.occ_project.specs.Reads.{open_lines, open_source}
 
 -- the name stands in the front, or after it
 or_front : (b c : Bool) → b ≡ true → (b || c) ≡ true
@@ -79,9 +81,9 @@ looked_up false false name None p h = ap (stands false false) (h (or_front (byte
 looked_up false false name (Some lines) p h = ap (stands false false) (h (or_front (bytes_eq name name) false (same_bytes name)))
 
 module _ (files others : List Read) where
-  -- the files of these names have the same lines in both
+  -- the files of these names are the same in both
   abbrev pub Agree : List (List ℕ) → Type 0
-  Agree names = (name : List ℕ) → is_among names name ≡ true → open_lines others name ≡ open_lines files name
+  Agree names = (name : List ℕ) → is_among names name ≡ true → open_source others name ≡ open_source files name
 
   agree_front : (xs ys : List (List ℕ)) → Agree (xs ++ ys) → Agree xs
   agree_front xs ys h name a = h name (among_front xs ys name a)
@@ -114,14 +116,20 @@ module _ (files others : List Read) where
       (subst (λ (es : List ExpansionEntry). Alike es ((front' ++ more) ++ ys)) (sym (append_assoc front rest xs))
       (subst (λ (es : List ExpansionEntry). Alike (front ++ (rest ++ xs)) es) (sym (append_assoc front' more ys)) a))
 
+  lines_alike : (name : List ℕ) → open_source others name ≡ open_source files name → open_lines others name ≡ open_lines files name
+  lines_alike name e = ap (option_map (λ (s : Prepared). s.lines)) e
+
   -- so are what a line holds, and the file that it puts in
-  body_alike : (way : List (List ℕ)) (left depth : ℕ) (line : LineBody) → Agree (held_names (held (included files way left) depth line))
-      → (held (included others way left) depth line ≡ held (included files way left) depth line) × (put_in (included others way left) line ≡ put_in (included files way left) line)
+  body_alike : (way : List (List ℕ)) (left depth : ℕ) (line : LineBody) → Agree (held_names (held files (included files way left) depth line))
+      → (held others (included others way left) depth line ≡ held files (included files way left) depth line) × (put_in (included others way left) line ≡ put_in (included files way left) line)
   body_alike way left depth (body.Form form) a = (refl, refl)
-  body_alike way left depth (body.Uses unit) a = (refl, refl)
+  body_alike way left depth (body.Uses unit None) a = (refl, refl)
+  body_alike way left depth (body.Uses unit (Some list)) a =
+      let same : open_source others list ≡ open_source files list = a list (or_front (bytes_eq list list) false (same_bytes list)) in
+      (ap (λ (o : Option Prepared). library_line depth list (listing unit (option_map (λ (s : Prepared). s.text) o))) same, refl)
   body_alike way left depth (body.Fault fault) a = (refl, refl)
   body_alike way left depth (body.Include name) a =
-      let same : included others way left name ≡ included files way left name = looked_up (is_among way name) (nat_eq left 0) name (open_lines files name) (open_lines others name) (a name) in (
+      let same : included others way left name ≡ included files way left name = looked_up (is_among way name) (nat_eq left 0) name (open_lines files name) (open_lines others name) (λ h. lines_alike name (a name h)) in (
         ap (λ (r : Result (List SourceLine) Code). Include name (result_err r)) same,
         ap (λ (r : Result (List SourceLine) Code). option_map {T = List SourceLine} {U = List ℕ × List SourceLine} (λ lines. (name, lines)) (result_ok r)) same,
       )
@@ -135,17 +143,17 @@ module _ (files others : List Read) where
   inner_alike f g h way raise None xs ys a = a
   inner_alike f g h way raise (Some file) xs ys a = h (way ++ file.0 ∷ []) file.0 raise file.1 xs ys a
 
-  lines_alike : (left : ℕ) (f g : FileEntries) → FilesAlike f g → FilesAlike (file_entries files left f) (file_entries others left g)
-  lines_alike left f g h way file raise [] xs ys a = a
-  lines_alike left f g h way file raise (line ∷ lines) xs ys a =
+  each_alike : (left : ℕ) (f g : FileEntries) → FilesAlike f g → FilesAlike (file_entries files left f) (file_entries others left g)
+  each_alike left f g h way file raise [] xs ys a = a
+  each_alike left f g h way file raise (line ∷ lines) xs ys a =
       let found = included files way left in
       let given = included others way left in
       let depth = raise + line.depth in
       let rest = file_entries files left f way file raise lines in
       let more = file_entries others left g way file raise lines in
       let inner = inner_entries f way depth (put_in found line.body) in
-      let following = inner_alike f g h way depth (put_in found line.body) (rest ++ xs) (more ++ ys) (lines_alike left f g h way file raise lines xs ys a) in
-      one_more (entry_of found file raise line) (entry_of given file raise line) ((inner ++ rest) ++ xs) ((inner_entries g way depth (put_in given line.body) ++ more) ++ ys) refl (λ known.
+      let following = inner_alike f g h way depth (put_in found line.body) (rest ++ xs) (more ++ ys) (each_alike left f g h way file raise lines xs ys a) in
+      one_more (entry_of files found file raise line) (entry_of others given file raise line) ((inner ++ rest) ++ xs) ((inner_entries g way depth (put_in given line.body) ++ more) ++ ys) refl (λ known.
       let same = body_alike way left depth line.body known in (
         ap (λ (x : Held). record { file = file; line = line.line; held = x }) same.0,
         regroup inner rest xs (inner_entries g way depth (put_in found line.body)) more ys (inner_entries g way depth (put_in given line.body)) (ap (inner_entries g way depth) same.1) following,
@@ -156,8 +164,8 @@ module _ (files others : List Read) where
 
   entries_alike : (left : ℕ) → FilesAlike (entries files left) (entries others left)
   unfolding entries
-  entries_alike zero = lines_alike zero (λ way file raise lines. []) (λ way file raise lines. []) none_alike
-  entries_alike (suc left) = lines_alike (suc left) (entries files left) (entries others left) (entries_alike left)
+  entries_alike zero = each_alike zero (λ way file raise lines. []) (λ way file raise lines. []) none_alike
+  entries_alike (suc left) = each_alike (suc left) (entries files left) (entries others left) (entries_alike left)
 
   nothing_alike : Alike [] []
   nothing_alike zero a = record { entries_are = refl; faults_are = refl }
@@ -182,13 +190,13 @@ module _ (files others : List Read) where
       → expansion_of limit unit (unit_entries others unit (open_lines others unit)) ≡ expansion_of limit unit (unit_entries files unit (open_lines files unit))
   limited_alike limit unit a =
       let names = flat_map entry_names (take limit (unit_entries files unit (open_lines files unit))) in
-      let itself : open_lines others unit ≡ open_lines files unit = a unit (among_first (unit ∷ names) unit (or_front (bytes_eq unit unit) (is_among names unit) (same_bytes unit))) in
+      let itself : open_lines others unit ≡ open_lines files unit = lines_alike unit (a unit (among_first (unit ∷ names) unit (or_front (bytes_eq unit unit) (is_among names unit) (same_bytes unit)))) in
       let known : Agree names = λ name h. a name (among_first (unit ∷ names) name (or_back (bytes_eq unit name) (is_among names name) h)) in
       ap (λ (o : Option (List SourceLine)). expansion_of limit unit (unit_entries others unit o)) itself
       ∙ of_same limit unit (unit_entries files unit (open_lines files unit)) (unit_entries others unit (open_lines files unit)) (unit_alike unit (open_lines files unit) limit known)
 
 -- the law
-pub looks_at_reads : (files others : List Read) (unit : List ℕ) → ((name : List ℕ) → is_among (expansion files unit).reads name ≡ true → open_lines others name ≡ open_lines files name)
+pub looks_at_reads : (files others : List Read) (unit : List ℕ) → ((name : List ℕ) → is_among (expansion files unit).reads name ≡ true → open_source others name ≡ open_source files name)
     → expansion others unit ≡ expansion files unit
 unfolding expansion
 looks_at_reads files others unit = limited_alike files others 65535 unit

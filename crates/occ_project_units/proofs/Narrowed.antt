@@ -8,7 +8,7 @@ use Rattle.occ_base.specs.FileName.{is_unit}
 use Rattle.occ_project.specs.declared.reads.Read.{Read}
 use Rattle.occ_project.specs.Entries.{is_among}
 use Rattle.occ_project.specs.Expansion.{Expansion, expansion, not_given}
-use Rattle.occ_project.specs.Reads.{is_named, lines_of, member, open_lines}
+use Rattle.occ_project.specs.Reads.{is_named, member, open_source}
 use Rattle.occ_project_units.specs.Project.{file_of}
 use Rattle.occ_project_units.specs.Units.{unit_reads}
 use Rattle.occ_project_units.proofs.Looks.{looks_at_reads, same_bytes}
@@ -26,9 +26,9 @@ file_named files name = by (member files name) refl where
   by None e = refl
   by (Some file) e = member_named files name file e
 
-pub file_lines : (files : List Read) (name : List ℕ) → lines_of (file_of files name) ≡ open_lines files name
-file_lines files name = by (member files name) where
-  by : (o : Option Read) → lines_of (unwrap_or o (record { name = name; revision = 0; source = None })) ≡ option_and_then lines_of o
+pub file_source : (files : List Read) (name : List ℕ) → (file_of files name).source ≡ open_source files name
+file_source files name = by (member files name) where
+  by : (o : Option Read) → (unwrap_or o (record { name = name; revision = 0; source = None })).source ≡ option_and_then (λ (r : Read). r.source) o
   by None = refl
   by (Some file) = refl
 
@@ -41,8 +41,8 @@ given_is files (n ∷ names) name h = by (is_named name (file_of files n)) refl 
   by true p f k = ap (λ (m : List ℕ). Some (file_of files m)) (sym (file_named files n) ∙ same_text (file_of files n).name name (sym p))
   by false p f k = f k
 
-given_lines : (files : List Read) (names : List (List ℕ)) (name : List ℕ) → is_some (member (map (file_of files) names) name) ≡ true → open_lines (map (file_of files) names) name ≡ open_lines files name
-given_lines files names name h = ap (option_and_then lines_of) (given_is files names name h) ∙ file_lines files name
+given_source : (files : List Read) (names : List (List ℕ)) (name : List ℕ) → is_some (member (map (file_of files) names) name) ≡ true → open_source (map (file_of files) names) name ≡ open_source files name
+given_source files names name h = ap (option_and_then (λ (r : Read). r.source)) (given_is files names name h) ∙ file_source files name
 
 -- where none is found that fails, none of them fails
 none_fails : (names : List (List ℕ)) (test : List ℕ → Bool) (name : List ℕ) → find test names ≡ None → is_among names name ≡ true → test name ≡ false
@@ -61,7 +61,7 @@ not_false false h = cc
 pub narrowed : (files : List Read) (names : List (List ℕ)) (unit : List ℕ) → not_given (map (file_of files) names) unit ≡ None → expansion (map (file_of files) names) unit ≡ expansion files unit
 narrowed files names unit e =
     let some = map (file_of files) names in
-    sym (looks_at_reads some files unit (λ name a. sym (given_lines files names name (not_false (is_some (member some name)) (none_fails (expansion some unit).reads (λ n. not (is_some (member some n))) name e a)))))
+    sym (looks_at_reads some files unit (λ name a. sym (given_source files names name (not_false (is_some (member some name)) (none_fails (expansion some unit).reads (λ n. not (is_some (member some n))) name e a)))))
 
 -- the files of these names are given
 is_given : (files : List Read) (names : List (List ℕ)) (name : List ℕ) → is_among names name ≡ true → is_some (member (map (file_of files) names) name) ≡ true
@@ -77,7 +77,7 @@ pub own_reads : (files : List Read) (unit : List ℕ) → is_unit unit ≡ true 
 own_reads files unit u =
     let names = (expansion files unit).reads in
     let are : unit_reads files unit ≡ map (file_of files) names = ap (λ (b : Bool). map (file_of files) (cond b names [])) u in
-    ap (λ (fs : List Read). expansion fs unit) are ∙ looks_at_reads files (map (file_of files) names) unit (λ name a. given_lines files names name (is_given files names name a))
+    ap (λ (fs : List Read). expansion fs unit) are ∙ looks_at_reads files (map (file_of files) names) unit (λ name a. given_source files names name (is_given files names name a))
 
 all_pass : (names : List (List ℕ)) (test : List ℕ → Bool) → ((name : List ℕ) → is_among names name ≡ true → test name ≡ false) → find test names ≡ None
 all_pass [] test h = refl

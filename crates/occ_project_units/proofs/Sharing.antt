@@ -12,12 +12,12 @@ use Rattle.occ_base.specs.FileName.{is_unit}
 use Rattle.occ_project_graph.specs.Graph.{Graph}
 use Rattle.occ_project.specs.Entries.{is_among}
 use Rattle.occ_project.specs.Expansion.{Expansion, expansion}
-use Rattle.occ_project.specs.Reads.{lines_of, name_cmp, open_lines, index}
+use Rattle.occ_project.specs.Reads.{name_cmp, open_source, index}
 use Rattle.occ_project.specs.Uses.{used_in}
 use Rattle.occ_project.specs.declared.reads.Read.{Read}
 use Rattle.occ_project_units.proofs.Kept.{edges_are, map_at}
 use Rattle.occ_project_units.proofs.Looks.{looks_at_reads}
-use Rattle.occ_project_units.proofs.Narrowed.{file_lines}
+use Rattle.occ_project_units.proofs.Narrowed.{file_source}
 use Rattle.occ_project_units.proofs.Putting.{below_found, file_put}
 use Rattle.occ_project_units.proofs.Rising.{equal_names, turned}
 use Rattle.occ_project_units.specs.declared.facts.Facts.{Facts}
@@ -53,14 +53,14 @@ apart_from names edited name h a = by (bytes_eq edited name) refl where
       let there : is_among names edited ≡ true = ap (is_among names) same ∙ a in
       absurd (cc (h, there))
 
-same_lines : (files later : List Read) (edited name : List ℕ) → AreOthers edited files later → bytes_eq edited name ≡ false → open_lines later name ≡ open_lines files name
-same_lines files later edited name others h = sym (file_lines later name) ∙ ap lines_of (others name h) ∙ file_lines files name
+same_source : (files later : List Read) (edited name : List ℕ) → AreOthers edited files later → bytes_eq edited name ≡ false → open_source later name ≡ open_source files name
+same_source files later edited name others h = sym (file_source later name) ∙ ap (λ (r : Read). r.source) (others name h) ∙ file_source files name
 
 pub facts_stay : (files later : List Read) (name edited : List ℕ) → AreOthers edited files later → is_among (reads_in (facts_of files name).expanded) edited ≡ false → facts_of files name ≡ facts_of later name
 facts_stay files later name edited others apart = by (is_unit name) apart where
   by : (b : Bool) → is_among (reads_in (cond b (Some (expansion files name)) None)) edited ≡ false → facts_by b (expansion files name) ≡ facts_by b (expansion later name)
   by true a =
-      let same : expansion later name ≡ expansion files name = looks_at_reads files later name (λ n h. same_lines files later edited n others (apart_from (expansion files name).reads edited n a h)) in
+      let same : expansion later name ≡ expansion files name = looks_at_reads files later name (λ n h. same_source files later edited n others (apart_from (expansion files name).reads edited n a h)) in
       ap (facts_by true) (sym same)
   by false a = refl
 

@@ -1,16 +1,15 @@
 -- What `#USE` lines name are units.
-use Rattle.std.proofs.Common.{◌≡◌, ◌∙◌, ◌+◌, ◌-◌, ◌==◌, ◌%◌, ◌||◌, ℕ, zero, suc, Bool, true, false, cond, codes, List, [], ◌∷◌, ◌++◌, length, take, Option, Some, None, Err, refl, sym, ap, subst, arith, nat_eq}
+use Rattle.std.proofs.Common.{◌≡◌, ◌∙◌, ◌+◌, ◌==◌, ◌%◌, ◌||◌, ℕ, zero, suc, Bool, true, false, cond, List, [], ◌∷◌, ◌++◌, length, take, Option, Some, None, Err, refl, sym, ap, subst, nat_eq}
 use Rattle.std.specs.Bool.{MatchBool}
 use Rattle.std.specs.BTreeSet.{insert_key}
 use Rattle.std.specs.List.{AllByRecursion, flat_map}
 use Rattle.std.specs.Ordering.{match_ordering}
-use Rattle.std.specs.Option.{ok_or, option_map}
+use Rattle.std.specs.Option.{ok_or, option_map, unwrap_or}
 use Rattle.std.specs.Result.{result_ok}
 use Rattle.std.specs.Str.{bytes_eq}
 use Rattle.std.specs.declared.cmp.Ordering.{Ordering}
 use Rattle.std.specs.declared.cmp.Ordering.TheVariants.{Less, Equal, Greater}
-use Rattle.std.proofs.lemmas.List.{drop_at, length-append}
-use Rattle.std.specs.Cmp.Lexicographic.{pointwise, same_text}
+use Rattle.std.specs.Cmp.Lexicographic.{same_text}
 use Rattle.occ_base.specs.FileName.{is_unit, name_fault}
 use Rattle.occ_base.specs.declared.code.Code.TheVariants as code
 use Rattle.occ_base.specs.declared.file_name.NameFault.{NameFault}
@@ -18,9 +17,11 @@ use Rattle.occ_forms.specs.Prepared.{AreFormed, IsFormed, IsPrepared, Prepared}
 use Rattle.occ_forms.specs.declared.source.LineBody.{LineBody}
 use Rattle.occ_forms.specs.declared.source.LineBody.TheVariants as source
 use Rattle.occ_forms.specs.declared.source.SourceLine.{SourceLine}
-use Rattle.occ_lines.specs.Directive.{directive_body, directive_of, if_named, include_body, quoted_name, after_word, unit_name, use_body, without_suffix}
+use Rattle.occ_lines.specs.Directive.{directive_body, directive_of, if_named, include_body, list_name, quoted_name, after_word, unit_name, use_body, without_suffix}
 use Rattle.occ_lines.specs.Lexeme.{after_blanks}
 use Rattle.occ_lines.specs.Lines.{ArePieces, Holds, IsBegun, IsHeld, IsLines, IsPiece, column, directive_lines, goes_on, is_skipped, joined, logical_of}
+use Rattle.occ_lines.specs.Listing.{listed}
+use Rattle.occ_lines.proofs.Lists.{listed_named, unit_ends_so}
 use Rattle.occ_lines.specs.declared.directive.Directive.{Directive}
 use Rattle.occ_lines.specs.declared.directive.Directive.TheVariants as directive
 use Rattle.occ_lines.specs.declared.ending.Ending.{Ending}
@@ -29,20 +30,20 @@ use Rattle.occ_lines.specs.declared.text.Body.{Body}
 use Rattle.occ_lines.specs.declared.text.Body.TheVariants as body
 use Rattle.occ_lines.specs.declared.text.Logical.{Logical}
 use Rattle.occ_lines.specs.declared.token.Token.{Token}
-use Rattle.occ_project.specs.Entries.{FileEntries, entries, entry_of, file_entries, held as held_in, included, inner_entries, is_among, line_entries, put_in}
+use Rattle.occ_project.specs.Entries.{FileEntries, entries, entry_of, file_entries, held as held_in, included, inner_entries, is_among, line_entries, listing, put_in}
 use Rattle.occ_project.specs.Expansion.{entry_lines, expansion, held_lines, unit_entries}
-use Rattle.occ_project.specs.Reads.{name_cmp, open_lines}
+use Rattle.occ_project.specs.Reads.{name_cmp, open_lines, open_text}
 use Rattle.occ_project.specs.Uses.{body_units, units_of, names_in_order, used_in}
 use Rattle.occ_project.specs.declared.entry.ExpansionEntry.{ExpansionEntry}
 use Rattle.occ_project.specs.declared.entry.Held.{Held}
-use Rattle.occ_project.specs.declared.entry.Held.TheVariants.{Line, Include}
+use Rattle.occ_project.specs.declared.entry.Held.TheVariants.{Line, Library, Include}
 use Rattle.occ_project.specs.declared.expanded.ExpandedBody.{ExpandedBody}
 use Rattle.occ_project.specs.declared.expanded.ExpandedLine.{ExpandedLine}
 use Rattle.occ_project.specs.declared.reads.Read.{Read}
 use Rattle.occ_project_units.specs.Project.{file_of}
 use Rattle.occ_project_units.specs.Spelled.{AreSpelled, IsSpelled}
 use Rattle.occ_project_units.specs.Units.{Uses}
-use Rattle.occ_project_units.proofs.Narrowed.{file_lines}
+use Rattle.occ_project_units.proofs.Narrowed.{file_source}
 
 -- lists of what all have something
 pub all_front : {X : Type 0} (P : X → Type 0) (xs ys : List X) → AllByRecursion P xs → AllByRecursion P ys → AllByRecursion P (xs ++ ys)
@@ -62,19 +63,12 @@ all_taken P (suc n) (x ∷ xs) h = (h.0, all_taken P n xs h.1)
 abbrev IsName : List ℕ → Type 0
 IsName name = is_unit name ≡ true
 
--- the name of a used unit ends as those of units do
-ends_so : (front : List ℕ) → is_unit (front ++ codes ".occ") ≡ true
-ends_so front =
-    let long : length (front ++ codes ".occ") ≡ length front + 4 = length-append front (codes ".occ") in
-    let at : length front ≡ length (front ++ codes ".occ") - 4 = omega (arith, long) in
-    ap (pointwise nat_eq (codes ".occ")) (drop_at front (codes ".occ") (length (front ++ codes ".occ") - 4) at)
-
 -- ---- lines of a text
 
 abbrev IsNamed : Body → Type 0
 IsNamed (body.Tokens tokens) = Unit {0}
 IsNamed (body.Include name) = Unit {0}
-IsNamed (body.Uses name) = IsName name
+IsNamed (body.Uses name list) = IsName name
 IsNamed (body.Fault fault) = Unit {0}
 
 abbrev IsNamedLogical : Logical → Type 0
@@ -94,7 +88,7 @@ included_named (Some name) = named_if (name_fault name) (body.Include name) tt
 
 used_named : (name : Option (List ℕ)) → IsNamed (use_body name)
 used_named None = tt
-used_named (Some name) = named_if (name_fault (unit_name name)) (body.Uses (unit_name name)) (ends_so (without_suffix name))
+used_named (Some name) = named_if (name_fault (unit_name name)) (body.Uses (unit_name name) (list_name name)) (unit_ends_so (without_suffix name))
 
 directive_named : (d : Directive) (number : ℕ) (line text : List ℕ) → AllByRecursion IsNamedLogical (directive_lines number (column line) (directive_body d text))
 directive_named directive.Include number line text = (odd_or (column line % 2 == 1) (include_body (quoted_name (after_word text))) (included_named (quoted_name (after_word text))), tt)
@@ -145,7 +139,7 @@ lines_named text xs h = pieces_named 1 h.0 xs h.2
 abbrev IsNamedSource : LineBody → Type 0
 IsNamedSource (source.Form form) = Unit {0}
 IsNamedSource (source.Include name) = Unit {0}
-IsNamedSource (source.Uses name) = IsName name
+IsNamedSource (source.Uses name list) = IsName name
 IsNamedSource (source.Fault fault) = Unit {0}
 
 abbrev IsNamedLine : SourceLine → Type 0
@@ -155,10 +149,10 @@ formed_named : (given : Body) (x : LineBody) → IsNamed given → IsFormed give
 formed_named given (source.Form form) h f = tt
 formed_named given (source.Include name) h f = tt
 formed_named given (source.Fault fault) h f = tt
-formed_named (body.Uses name) (source.Uses other) h f = subst IsName (sym f) h
-formed_named (body.Tokens tokens) (source.Uses other) h f = absurd f
-formed_named (body.Include name) (source.Uses other) h f = absurd f
-formed_named (body.Fault fault) (source.Uses other) h f = absurd f
+formed_named (body.Uses name list) (source.Uses other found) h f = subst IsName (sym f.0) h
+formed_named (body.Tokens tokens) (source.Uses other found) h f = absurd f
+formed_named (body.Include name) (source.Uses other found) h f = absurd f
+formed_named (body.Fault fault) (source.Uses other found) h f = absurd f
 
 all_formed : (logicals : List Logical) (lines : List SourceLine) → AllByRecursion IsNamedLogical logicals → AreFormed logicals lines → AllByRecursion IsNamedLine lines
 all_formed [] [] h f = tt
@@ -169,6 +163,15 @@ all_formed (x ∷ xs) (line ∷ lines) h f = (formed_named x.body line.body h.0 
 prepared_named : (text : List ℕ) (lines : List SourceLine) → IsPrepared text lines → AllByRecursion IsNamedLine lines
 prepared_named text lines h = all_formed h.0 lines (lines_named text h.0 h.1) h.2
 
+-- ---- in a list
+
+library_named : (unit : List ℕ) (text : Option (List ℕ)) → IsName unit → AllByRecursion IsName (unwrap_or (result_ok (listing unit text)) [])
+library_named unit None h = (h, tt)
+library_named unit (Some text) h = by (listed text) (listed_named text) where
+  by : (o : Option (List (List ℕ))) → AllByRecursion IsName (unwrap_or o []) → AllByRecursion IsName (unwrap_or (result_ok (ok_or o code.G7)) [])
+  by None k = tt
+  by (Some units) k = k
+
 -- ---- in an expansion
 
 abbrev AreNamed : ExpandedBody → Type 0
@@ -176,6 +179,7 @@ AreNamed x = AllByRecursion IsName (body_units x)
 
 abbrev IsNamedHeld : Held → Type 0
 IsNamedHeld (Line depth x) = AreNamed x
+IsNamedHeld (Library depth units list fault) = AllByRecursion IsName units
 IsNamedHeld (Include name fault) = Unit {0}
 
 abbrev IsNamedEntry : ExpansionEntry → Type 0
@@ -199,19 +203,20 @@ module _ (files : List Read) (good : (name : List ℕ) (lines : List SourceLine)
 
   inner_named : (f : FileEntries) → AllNamed f → (way : List (List ℕ)) (left raise : ℕ) (x : LineBody) → AllByRecursion IsNamedEntry (inner_entries f way raise (put_in (included files way left) x))
   inner_named f h way left raise (source.Form form) = tt
-  inner_named f h way left raise (source.Uses unit) = tt
+  inner_named f h way left raise (source.Uses unit list) = tt
   inner_named f h way left raise (source.Fault fault) = tt
   inner_named f h way left raise (source.Include name) = by (result_ok (included files way left name)) refl where
     by : (o : Option (List SourceLine)) → result_ok (included files way left name) ≡ o → AllByRecursion IsNamedEntry (inner_entries f way raise (option_map {T = List SourceLine} {U = List ℕ × List SourceLine} (λ lines. (name, lines)) o))
     by None e = tt
     by (Some lines) e = h (way ++ name ∷ []) name raise lines (included_lines way left name lines e)
 
-  own_named : (way : List (List ℕ)) (left raise : ℕ) (file : List ℕ) (line : SourceLine) → IsNamedLine line → IsNamedEntry (entry_of (included files way left) file raise line)
+  own_named : (way : List (List ℕ)) (left raise : ℕ) (file : List ℕ) (line : SourceLine) → IsNamedLine line → IsNamedEntry (entry_of files (included files way left) file raise line)
   own_named way left raise file line h = by line.body h where
-    by : (x : LineBody) → IsNamedSource x → IsNamedHeld (held_in (included files way left) (raise + line.depth) x)
+    by : (x : LineBody) → IsNamedSource x → IsNamedHeld (held_in files (included files way left) (raise + line.depth) x)
     by (source.Form form) k = tt
     by (source.Include name) k = tt
-    by (source.Uses name) k = (k, tt)
+    by (source.Uses name None) k = (k, tt)
+    by (source.Uses name (Some list)) k = library_named name (open_text files list) k
     by (source.Fault fault) k = tt
 
   file_named : (left : ℕ) (f : FileEntries) → AllNamed f → AllNamed (file_entries files left f)
@@ -231,6 +236,7 @@ module _ (files : List Read) (good : (name : List ℕ) (lines : List SourceLine)
   entry_named entry h = by entry.held h where
     by : (x : Held) → IsNamedHeld x → AllByRecursion IsNamedExpanded (held_lines entry.file entry.line x)
     by (Line depth x) k = (k, tt)
+    by (Library depth units list fault) k = (k, tt)
     by (Include name fault) k = tt
 
   expanded_named : (unit : List ℕ) → AllByRecursion IsName (flat_map units_of (expansion files unit).lines)
@@ -266,7 +272,7 @@ among_all P (name ∷ names) v h a = by (bytes_eq name v) refl a (among_all P na
 -- ---- the law
 
 spelled_named : (files : List Read) → AreSpelled files → (name : List ℕ) (lines : List SourceLine) → open_lines files name ≡ Some lines → AllByRecursion IsNamedLine lines
-spelled_named files spelled name lines e = by (file_of files name).source (spelled name) (file_lines files name ∙ e) where
+spelled_named files spelled name lines e = by (file_of files name).source (spelled name) (ap (option_map (λ (s : Prepared). s.lines)) (file_source files name) ∙ e) where
   by : (s : Option Prepared) → IsSpelled s → option_map (λ (s : Prepared). s.lines) s ≡ Some lines → AllByRecursion IsNamedLine lines
   by None h k = absurd cc
   by (Some s) h k = let same : s.lines ≡ lines = cc in subst (AllByRecursion IsNamedLine) same (prepared_named s.text s.lines h)

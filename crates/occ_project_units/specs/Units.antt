@@ -16,7 +16,7 @@ read_names files unit = cond (is_unit unit) (expansion files unit).reads []
 abbrev pub unit_reads : List Read → List ℕ → List Read
 unit_reads files unit = map (file_of files) (read_names files unit)
 
--- the units that the `#USE` lines of its expansion name, each once, in order of name
+-- the units that the `#USE` lines of its expansion use, each once, in order of name
 abbrev pub used_units : List Read → List ℕ → List (List ℕ)
 used_units files unit = cond (is_unit unit) (used_in (expansion files unit).lines) []
 

@@ -34,19 +34,20 @@ impl LookUps {
         Ok(())
     }
 
-    /// The files that these lines include.
-    fn add_included(&mut self, lines: &[SourceLine]) -> Result<(), AllocError> {
+    /// The files that these lines include, and the lists of the libraries that they use.
+    fn add_named(&mut self, lines: &[SourceLine]) -> Result<(), AllocError> {
         for line in lines {
-            if let LineBody::Include(name) = &line.body {
-                self.add(*name)?;
+            match &line.body {
+                LineBody::Include(name) | LineBody::Uses(_, Some(name)) => self.add(*name)?,
+                _ => {}
             }
         }
         Ok(())
     }
 }
 
-/// The unit, what it includes, what that includes, and so on. Each is looked for at an index first. It promises nothing: a name
-/// that is left out costs time.
+/// The unit, what it includes, what that includes, and so on, and the lists of libraries. Each is looked for at an index first. It
+/// promises nothing: a name that is left out costs time.
 fn look_ups(
     alloc: Global,
     project: &Project,
@@ -60,7 +61,7 @@ fn look_ups(
             break;
         };
         if let Some(source) = project.get_near(hint, *name) {
-            found.add_included(source.get().lines())?;
+            found.add_named(source.get().lines())?;
         }
     }
     Ok(found.names)

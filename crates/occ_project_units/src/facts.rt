@@ -87,7 +87,8 @@ pub fn all_facts(alloc: Global, project: &Project) -> Result<Vec<Shared<Facts>>,
     Ok(all)
 }
 
-/// Adds the place of the file of that name, if it is in the project. It is looked for at the hint first.
+/// Adds the place of the file of that name, if it is in the project. It is looked for first behind the last one,
+/// since names in order often follow one another, and then at the hint.
 fn add_index(
     project: &Project,
     hint: usize,
@@ -96,6 +97,13 @@ fn add_index(
 ) -> Result<(), AllocError>
     ensures { OnOk result (indices.new ≡ indices.old ++ spec_indices_of project.now (name ∷ [])) }
 {
+    let next = match indices.as_slice().last() {
+        Some(last) => last.saturating_add(1),
+        None => hint,
+    };
+    if project.is_at(next, name) {
+        return indices.push(next);
+    }
     match project.index_near(hint, name) {
         Some(index) => indices.push(index),
         None => Ok(()),

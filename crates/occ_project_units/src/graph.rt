@@ -12,7 +12,7 @@ ghost use Rattle.occ_project_units.specs.Project.{put};
 ghost use Rattle.occ_project_units.specs.Units.{read_names, used_units};
 ghost use Rattle.occ_project_units.specs.inside.Keeping.{all_facts as spec_all_facts, facts_of as spec_facts_of};
 ghost use Rattle.std.specs.Option.{is_some, option_and_then, option_copied, option_map};
-ghost use Rattle.std.specs.Prelude.{[], ◌∷◌, cond, false, get_or, IfOk, IfSome, IsFalse, MatchOption, None, OnErr, OnOk, Some, length, List, slice_get, true, ℕ, ◌≡◌, ◌<◌};
+ghost use Rattle.std.specs.Prelude.{[], ◌∷◌, cond, false, get_or, IfOk, IfSome, IsFalse, MatchOption, None, OnErr, OnOk, Some, length, List, not, slice_get, true, ℕ, ◌&&◌, ◌≡◌, ◌<◌};
 
 use super::adding::{add_file, may_read, may_use};
 use super::facts::{Facts, all_facts, does_read};
@@ -281,7 +281,8 @@ impl Graph {
 
     /// Gives the file at an index, which is read by the units at these indices, this text, or takes it away, by the edit of that
     /// number. If all these read and use the same as before, all that is kept but what is known of them stays where it is. It
-    /// says whether that is so, and the file is open as before.
+    /// says whether that is so, and the file is open as before. Of a list that is not tried: what its readers use mostly changes
+    /// with it, and each would be expanded twice.
     pub fn set(
         &mut self,
         alloc: Global,
@@ -297,6 +298,10 @@ impl Graph {
         ensures alike { IfOk result (λ alike. alike ≡ true → AreAlike self.old self.new) }
         ensures err { OnErr result (self.new ≡ self.old) }
     {
+        if name.as_bytes().ends_with(b".lbb") {
+            self.put(alloc, name, revision, source)?;
+            return Ok(false);
+        }
         let _files = self.project.files();
         let file = Read {
             name,
@@ -469,9 +474,16 @@ impl Graph {
         ensures { result ≡ spec_is_circular self.now unit used }
     {
         match self.project.index_near(hint, unit) {
-            Some(from) => self.does_use(from, to) && !is_index_among(self.rests(from), to),
+            Some(from) => self.is_in_circle(from, to),
             None => false,
         }
+    }
+
+    /// Whether an edge that stands in a circle leads from the one index to the other. Most of those that are asked for stand in none.
+    fn is_in_circle(&self, from: usize, to: usize) -> bool
+        ensures { result ≡ (not (spec_is_among (spec_rests (graph_of self.now) from) to) && spec_is_among (targets (graph_of self.now) from) to) }
+    {
+        !is_index_among(self.rests(from), to) && self.does_use(from, to)
     }
 
     /// Whether an edge leads from the one index to the other.

@@ -4,7 +4,7 @@ ghost use Rattle.occ_base.specs.FileName.{is_unit};
 ghost use Rattle.occ_project_graph.specs.Graph.{has_edge, is_among as spec_is_among, rests};
 ghost use Rattle.occ_project.specs.Entries.{is_among};
 ghost use Rattle.occ_project.specs.Expansion.{expansion, not_given};
-ghost use Rattle.occ_project.specs.Reads.{open_lines};
+ghost use Rattle.occ_project.specs.Reads.{open_source};
 ghost use Rattle.occ_project.specs.declared.reads.Read.{Read};
 ghost use Rattle.occ_project_units.specs.Along.{IsLocal, along, name_at};
 ghost use Rattle.occ_project_units.specs.Indices.{graph_of, is_circular, readers_at, users_at};
@@ -16,10 +16,10 @@ ghost use Rattle.std.specs.Str.{bytes_eq};
 
 use occ_project_graph::laws;
 
-/// An expansion looks at nothing but its reads: over other files, among which these have the same lines or are absent
+/// An expansion looks at nothing but its reads: over other files, among which these have the same texts or are absent
 /// as well, it is the same. The unit is one of them. So a unit has the same expansion over its reads alone.
 pub fn reads_law()
-    ensures alone { (files others : List Read) (unit : List ℕ) → ((name : List ℕ) → is_among (expansion files unit).reads name ≡ true → open_lines others name ≡ open_lines files name) → expansion others unit ≡ expansion files unit }
+    ensures alone { (files others : List Read) (unit : List ℕ) → ((name : List ℕ) → is_among (expansion files unit).reads name ≡ true → open_source others name ≡ open_source files name) → expansion others unit ≡ expansion files unit }
     ensures itself { (files : List Read) (unit : List ℕ) → is_among (expansion files unit).reads unit ≡ true }
     ensures own { (files : List Read) (unit : List ℕ) → is_unit unit ≡ true → expansion (unit_reads files unit) unit ≡ expansion files unit }
     ensures given { (files : List Read) (unit : List ℕ) → is_unit unit ≡ true → not_given (unit_reads files unit) unit ≡ None }

@@ -70,6 +70,7 @@ use Rattle.occ_board.specs.UsedContract as used
 use Rattle.occ_board.specs.UsedUnitContract as used_unit
 use Rattle.occ_board.specs.JobContract as job
 use Rattle.occ_board.specs.OutcomeContract as outcome
+use Rattle.occ_board.specs.contracts.base.Base as base
 use Rattle.occ_board.specs.contracts.entry.Edit as edit
 use Rattle.occ_board.specs.contracts.entry.Entry as entry
 use Rattle.occ_board.specs.contracts.flags.Flags as flags
@@ -78,8 +79,9 @@ use Rattle.occ_project_units.specs.contracts.project.Project as project
 use Rattle.occ_project_units.specs.contracts.facts.Facts as facts
 use Rattle.occ_project_graph.specs.contracts.linked.Linked as links
 use Rattle.sqlite_items.specs.contracts.items.Items as items_of
+use Rattle.occ_base.specs.contracts.file_name.FileName as file_name_of
 use Rattle.occ_base.specs.contracts.shared.Shared as shared_of
-use denote.Builtin.{usize}
+use denote.Builtin.{u8, usize}
 use Rattle.occ_project_units.specs.contracts.graph.Graph as graph
 use Rattle.occ_board.specs.contracts.board.Board as board
 use Rattle.std.proofs.sync.Mutex.TheSendSync as mutex
@@ -441,14 +443,36 @@ source_line_field_sync = search (sendable, line_body_field_sync) depth 30
 source_line_sync : IsSync source_line.the_row
 source_line_sync = search (sendable, source_line_field_sync) depth 10
 
+-- lists of names, as a text has one and lines of expansions share it
+names_send : IsSend (items_of.the_row file_name_of.the_row)
+names_send = items.the_send file_name_of.the_row file_name_cross.the_send
+
+names_sync : IsSync (items_of.the_row file_name_of.the_row)
+names_sync = items.the_sync file_name_of.the_row file_name_cross.the_sync
+
+shared_names_send : IsSend (shared_of.the_row (items_of.the_row file_name_of.the_row))
+shared_names_send = shared.the_send (items_of.the_row file_name_of.the_row) names_send names_sync
+
+shared_names_sync : IsSync (shared_of.the_row (items_of.the_row file_name_of.the_row))
+shared_names_sync = shared.the_sync (items_of.the_row file_name_of.the_row) names_send names_sync
+
 source_field_send : IsSend source.the_field.row
-source_field_send = search (sendable, items.the_send, source_line_send) depth 30
+source_field_send = search (sendable, items.the_send, shared_names_send, source_line_send) depth 30
 
 source_send : IsSend source.the_row
 source_send = search (sendable, source_field_send) depth 10
 
+byte_sync : IsSync u8
+byte_sync = search sendable depth 10
+
+bytes_sync : IsSync (items_of.the_row u8)
+bytes_sync = items.the_sync u8 byte_sync
+
+source_lines_sync : IsSync (items_of.the_row source_line.the_row)
+source_lines_sync = items.the_sync source_line.the_row source_line_sync
+
 source_field_sync : IsSync source.the_field.row
-source_field_sync = search (sendable, items.the_sync, source_line_sync) depth 30
+source_field_sync = search (sendable, bytes_sync, source_lines_sync, shared_names_sync) depth 30
 
 source_sync : IsSync source.the_row
 source_sync = search (sendable, source_field_sync) depth 10
@@ -466,13 +490,13 @@ read_sync : IsSync read.the_row
 read_sync = search (sendable, read_field_sync) depth 10
 
 expanded_body_field_send : IsSend expanded_body.the_field.row
-expanded_body_field_send = search (sendable, items.the_send, shared.the_send, form_send, form_sync, file_name_cross.the_send, code_cross.the_field_send) depth 30
+expanded_body_field_send = search (sendable, shared.the_send, shared_names_send, form_send, form_sync, code_cross.the_field_send) depth 30
 
 expanded_body_send : IsSend expanded_body.the_row
 expanded_body_send = search (sendable, expanded_body_field_send) depth 10
 
 expanded_body_field_sync : IsSync expanded_body.the_field.row
-expanded_body_field_sync = search (sendable, items.the_sync, shared.the_sync, form_sync, form_send, file_name_cross.the_sync, code_cross.the_field_sync) depth 30
+expanded_body_field_sync = search (sendable, shared.the_sync, shared_names_sync, form_sync, form_send, code_cross.the_field_sync) depth 30
 
 expanded_body_sync : IsSync expanded_body.the_row
 expanded_body_sync = search (sendable, expanded_body_field_sync) depth 10
@@ -684,12 +708,18 @@ cached_field_send = search (sendable, Vec-send, BTreeMap-send, outcome_field_sen
 flags_field_send : IsSend flags.the_field.row
 flags_field_send = search (sendable, items.the_send) depth 30
 
+base_field_send : IsSend base.the_field.row
+base_field_send = search (sendable, items.the_send, read_send) depth 30
+
+base_send : IsSend base.the_row
+base_send = search (sendable, base_field_send) depth 10
+
 -- the last fields of a board: its flags and counts
 counts_send : IsSend flags.the_field.row × (IsSend flags.the_field.row × (IsSend usize × (IsSend usize × (IsSend usize × Unit {0}))))
 counts_send = (flags_field_send, (flags_field_send, (number_send, (number_send, (number_send, tt)))))
 
 board_field_send : IsSend board.the_field.row
-board_field_send = search (sendable, Vec-send, entry_send, cached_field_send, job_field_send, graph_field_send, counts_send) depth 30
+board_field_send = search (sendable, base_field_send, Vec-send, entry_send, cached_field_send, job_field_send, graph_field_send, counts_send) depth 30
 
 board_send : IsSend board.the_row
 board_send = search (sendable, board_field_send) depth 10
@@ -719,7 +749,7 @@ pub receipt_send : IsSend receipt.the_row
 receipt_send = search (sendable, receipt_field_send) depth 10
 
 pub snapshot_field_send : IsSend snapshot.the_field.row
-snapshot_field_send = search (sendable, items.the_send, entry_send, row_cross.the_send) depth 30
+snapshot_field_send = search (sendable, base_field_send, items.the_send, entry_send, row_cross.the_send) depth 30
 
 snapshot_send : IsSend snapshot.the_row
 snapshot_send = search (sendable, snapshot_field_send) depth 10

@@ -1,5 +1,4 @@
 pub mod Crossing
-pub mod Few
 pub mod Numbers
 pub mod Offs
 pub mod Shows

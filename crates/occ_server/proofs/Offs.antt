@@ -1,6 +1,7 @@
 -- Receipts beside a journal.
-use Rattle.std.proofs.Common.{◌≡◌, ◌⊎◌, ◌∙◌, ◌+◌, ◌<◌, ◌≤◌, ◌==◌, ◌&&◌, ℕ, zero, suc, Bool, true, false, List, [], ◌∷◌, length, take, min, nat_lt, if◌then◌else◌, Option, Some, None, slice_get, refl, sym, ap, subst, arith, inl, inr}
+use Rattle.std.proofs.Common.{◌≡◌, ◌⊎◌, ◌∙◌, ◌+◌, ◌-◌, ◌<◌, ◌≤◌, ◌==◌, ◌&&◌, ℕ, zero, suc, Bool, true, false, List, [], ◌∷◌, length, take, min, nat_lt, if◌then◌else◌, Option, Some, None, slice_get, refl, sym, ap, subst, arith, inl, inr}
 use Rattle.std.proofs.lemmas.Bool.Decides.{nat_tests}
+use Rattle.occ_board.specs.declared.base.Base.{Base}
 use Rattle.occ_board.specs.declared.entry.Entry.{Entry}
 use Rattle.occ_server.specs.Receipts.{Numbered, IsLeastOff, ascends, ascends_after, entry_at, receipts_from, receipts_of, reported_at}
 
@@ -33,9 +34,9 @@ none_before n m (t ∷ ts) h small =
 
 -- ---- the receipts of a journal
 
-pub receipts_rise : (n : ℕ) (es : List Entry) → ascends_after n (receipts_from (n + 1) es) ≡ true
-receipts_rise n [] = refl
-receipts_rise n (e ∷ es) = rw (receipts_rise (n + 1) es) (grind (arith, nat_tests))
+receipts_rise : (m n : ℕ) (es : List Entry) → m ≤ n → ascends_after m (receipts_from (n + 1) es) ≡ true
+receipts_rise m n [] h = refl
+receipts_rise m n (e ∷ es) h = let more : ascends_after (n + 1) (receipts_from (n + 1 + 1) es) ≡ true = receipts_rise (n + 1) (n + 1) es (omega arith) in rw more (grind (arith, nat_tests))
 
 reported_from : (n k : ℕ) (es : List Entry) → reported_at (receipts_from n es) (n + k) ≡ slice_get es k
 reported_from n k [] = refl
@@ -45,9 +46,16 @@ reported_from n (suc k) (e ∷ es) =
     ∙ ap (reported_at (receipts_from (n + 1) es)) (omega arith)
     ∙ reported_from (n + 1) k es
 
-pub reported_is : (es : List Entry) (n : ℕ) → reported_at (receipts_of es) n ≡ entry_at es n
-reported_is es zero = none_before 0 0 (receipts_of es) (receipts_rise 0 es) (omega arith)
-reported_is es (suc n) = ap (reported_at (receipts_of es)) (omega arith) ∙ reported_from 1 n es
+pub reported_is : (base : Base) (es : List Entry) (n : ℕ) → reported_at (receipts_of base es) n ≡ entry_at base es n
+reported_is base es n = by (nat_lt base.number n) refl where
+  by : (b : Bool) → nat_lt base.number n ≡ b → reported_at (receipts_of base es) n ≡ (if b then slice_get es (n - (base.number + 1)) else None)
+  by true e =
+      let past : base.number < n = below base.number n e in
+      let at : n ≡ base.number + 1 + (n - (base.number + 1)) = omega (arith, past) in
+      ap (reported_at (receipts_of base es)) at ∙ reported_from (base.number + 1) (n - (base.number + 1)) es
+  by false e =
+      let before : n ≤ base.number = grind (arith, nat_tests) in
+      none_before base.number n (receipts_of base es) (receipts_rise base.number base.number es (omega arith)) before
 
 -- ---- two lists that rise
 
@@ -136,10 +144,10 @@ differ_at (suc index) k (t ∷ ts) (u ∷ us) h g same differ = subst (λ (x : N
   n : ℕ
   n = lesser (slice_get ts index) (slice_get us index)
 
-least_off : (ts : List Numbered) (es : List Entry) (n : ℕ) → IsLeast ts (receipts_of es) n → IsLeastOff ts es n
-least_off ts es n l = record {
-  off = λ e. l.off (e ∙ sym (reported_is es n));
-  below = λ m small. l.before m small ∙ reported_is es m;
+least_off : (ts : List Numbered) (base : Base) (es : List Entry) (n : ℕ) → IsLeast ts (receipts_of base es) n → IsLeastOff ts base es n
+least_off ts base es n l = record {
+  off = λ e. l.off (e ∙ sym (reported_is base es n));
+  below = λ m small. l.before m small ∙ reported_is base es m;
 }
 
 -- ---- receipts beside a journal, index by index
@@ -149,41 +157,41 @@ receipts_get_from n k [] e h = absurd cc
 receipts_get_from n zero (x ∷ es) e h = let same : x ≡ e = one_some x e h in ap (λ (y : Entry). Some (record { number = n; entry = y })) same ∙ ap (λ (m : ℕ). Some (record { number = m; entry = e })) (omega arith)
 receipts_get_from n (suc k) (x ∷ es) e h = receipts_get_from (n + 1) k es e h ∙ ap (λ (m : ℕ). Some (record { number = m; entry = e })) (omega arith)
 
-pub receipts_get : (k : ℕ) (es : List Entry) (e : Entry) → slice_get es k ≡ Some e → slice_get (receipts_of es) k ≡ Some (record { number = k + 1; entry = e })
-receipts_get k es e h = receipts_get_from 1 k es e h ∙ ap (λ (m : ℕ). Some (record { number = m; entry = e })) (omega arith)
+receipts_get : (base : Base) (k : ℕ) (es : List Entry) (e : Entry) → slice_get es k ≡ Some e → slice_get (receipts_of base es) k ≡ Some (record { number = base.number + k + 1; entry = e })
+receipts_get base k es e h = receipts_get_from (base.number + 1) k es e h ∙ ap (λ (m : ℕ). Some (record { number = m; entry = e })) (omega arith)
 
 receipts_past : (n k : ℕ) (es : List Entry) → length es ≤ k → slice_get (receipts_from n es) k ≡ None
 receipts_past n k [] h = refl
 receipts_past n zero (e ∷ es) h = absurd (omega (arith, h))
 receipts_past n (suc k) (e ∷ es) h = receipts_past (n + 1) k es (omega (arith, h))
 
-rise_all : (es : List Entry) → ascends_after 0 (receipts_of es) ≡ true
-rise_all es = receipts_rise 0 es
+pub rise_all : (base : Base) (es : List Entry) → ascends_after 0 (receipts_of base es) ≡ true
+rise_all base es = receipts_rise 0 base.number es (omega arith)
 
 number_is : (index : ℕ) (ts us : List Numbered) (o p : Option Numbered) → slice_get ts index ≡ o → slice_get us index ≡ p → IsLeast ts us (lesser (slice_get ts index) (slice_get us index)) → IsLeast ts us (lesser o p)
 number_is index ts us o p at there l = subst (λ (x : Option Numbered). IsLeast ts us (lesser o x)) there (subst (λ (x : Option Numbered). IsLeast ts us (lesser x (slice_get us index))) at l)
 
-pub none_there : (index : ℕ) (ts : List Numbered) (es : List Entry) (e : Entry) → ascends ts ≡ true → take index ts ≡ take index (receipts_of es)
-    → slice_get ts index ≡ None → slice_get es index ≡ Some e → IsLeastOff ts es (index + 1)
-none_there index ts es e h same at here =
-    let there = receipts_get index es e here in
-    least_off ts es (index + 1) (number_is index ts (receipts_of es) None (Some (record { number = index + 1; entry = e })) at there (differ_at index 0 ts (receipts_of es) h (rise_all es) same (λ q. some_none_receipt (record { number = index + 1; entry = e }) (sym there ∙ sym q ∙ at)))) where
+pub none_there : (index : ℕ) (ts : List Numbered) (base : Base) (es : List Entry) (e : Entry) → ascends ts ≡ true → take index ts ≡ take index (receipts_of base es)
+    → slice_get ts index ≡ None → slice_get es index ≡ Some e → IsLeastOff ts base es (base.number + index + 1)
+none_there index ts base es e h same at here =
+    let there = receipts_get base index es e here in
+    least_off ts base es (base.number + index + 1) (number_is index ts (receipts_of base es) None (Some (record { number = base.number + index + 1; entry = e })) at there (differ_at index 0 ts (receipts_of base es) h (rise_all base es) same (λ q. some_none_receipt (record { number = base.number + index + 1; entry = e }) (sym there ∙ sym q ∙ at)))) where
       some_none_receipt : (t : Numbered) → Some t ≡ None → ⊥
       some_none_receipt t h = absurd cc
 
-pub other_there : (index : ℕ) (ts : List Numbered) (es : List Entry) (t : Numbered) (e : Entry) → ascends ts ≡ true → take index ts ≡ take index (receipts_of es)
-    → slice_get ts index ≡ Some t → slice_get es index ≡ Some e → (t ≡ record { number = index + 1; entry = e } → ⊥) → IsLeastOff ts es (min (index + 1) t.number)
-other_there index ts es t e h same at here differ =
-    let there = receipts_get index es e here in
-    least_off ts es (min (index + 1) t.number) (number_is index ts (receipts_of es) (Some t) (Some (record { number = index + 1; entry = e })) at there (differ_at index 0 ts (receipts_of es) h (rise_all es) same (λ q. differ (one_there t (record { number = index + 1; entry = e }) (sym at ∙ q ∙ there))))) where
+pub other_there : (index : ℕ) (ts : List Numbered) (base : Base) (es : List Entry) (t : Numbered) (e : Entry) → ascends ts ≡ true → take index ts ≡ take index (receipts_of base es)
+    → slice_get ts index ≡ Some t → slice_get es index ≡ Some e → (t ≡ record { number = base.number + index + 1; entry = e } → ⊥) → IsLeastOff ts base es (min (base.number + index + 1) t.number)
+other_there index ts base es t e h same at here differ =
+    let there = receipts_get base index es e here in
+    least_off ts base es (min (base.number + index + 1) t.number) (number_is index ts (receipts_of base es) (Some t) (Some (record { number = base.number + index + 1; entry = e })) at there (differ_at index 0 ts (receipts_of base es) h (rise_all base es) same (λ q. differ (one_there t (record { number = base.number + index + 1; entry = e }) (sym at ∙ q ∙ there))))) where
       one_there : (t u : Numbered) → Some t ≡ Some u → t ≡ u
       one_there t u h = cc
 
-pub more_there : (ts : List Numbered) (es : List Entry) (t : Numbered) → ascends ts ≡ true → take (length es) ts ≡ take (length es) (receipts_of es)
-    → slice_get ts (length es) ≡ Some t → IsLeastOff ts es t.number
-more_there ts es t h same at =
-    let there = receipts_past 1 (length es) es (omega arith) in
-    least_off ts es t.number (number_is (length es) ts (receipts_of es) (Some t) None at there (differ_at (length es) 0 ts (receipts_of es) h (rise_all es) same (λ q. some_none_receipt t (sym at ∙ q ∙ there)))) where
+pub more_there : (ts : List Numbered) (base : Base) (es : List Entry) (t : Numbered) → ascends ts ≡ true → take (length es) ts ≡ take (length es) (receipts_of base es)
+    → slice_get ts (length es) ≡ Some t → IsLeastOff ts base es t.number
+more_there ts base es t h same at =
+    let there = receipts_past (base.number + 1) (length es) es (omega arith) in
+    least_off ts base es t.number (number_is (length es) ts (receipts_of base es) (Some t) None at there (differ_at (length es) 0 ts (receipts_of base es) h (rise_all base es) same (λ q. some_none_receipt t (sym at ∙ q ∙ there)))) where
       some_none_receipt : (t : Numbered) → Some t ≡ None → ⊥
       some_none_receipt t h = absurd cc
 
@@ -196,11 +204,11 @@ next_same (suc k) (t ∷ ts) [] h e = absurd cc
 next_same zero (t ∷ ts) (u ∷ us) h e = cc
 next_same (suc k) (t ∷ ts) (u ∷ us) h e = let tail : take k ts ≡ take k us = cc in let more : take (suc k) ts ≡ take (suc k) us = next_same k ts us tail e in cc
 
-pub one_more : (index : ℕ) (ts : List Numbered) (es : List Entry) (t : Numbered) (e : Entry) → take index ts ≡ take index (receipts_of es)
-    → slice_get ts index ≡ Some t → slice_get es index ≡ Some e → t ≡ record { number = index + 1; entry = e } → take (index + 1) ts ≡ take (index + 1) (receipts_of es)
-one_more index ts es t e same at here is =
+pub one_more : (index : ℕ) (ts : List Numbered) (base : Base) (es : List Entry) (t : Numbered) (e : Entry) → take index ts ≡ take index (receipts_of base es)
+    → slice_get ts index ≡ Some t → slice_get es index ≡ Some e → t ≡ record { number = base.number + index + 1; entry = e } → take (index + 1) ts ≡ take (index + 1) (receipts_of base es)
+one_more index ts base es t e same at here is =
     let n : suc index ≡ index + 1 = omega arith in
-    subst (λ (k : ℕ). take k ts ≡ take k (receipts_of es)) n (next_same index ts (receipts_of es) same (at ∙ ap Some is ∙ sym (receipts_get index es e here)))
+    subst (λ (k : ℕ). take k ts ≡ take k (receipts_of base es)) n (next_same index ts (receipts_of base es) same (at ∙ ap Some is ∙ sym (receipts_get base index es e here)))
 
 take_short : (k : ℕ) (ts : List Numbered) → slice_get ts k ≡ None → take k ts ≡ ts
 take_short zero [] h = refl
@@ -208,8 +216,8 @@ take_short (suc k) [] h = refl
 take_short zero (t ∷ ts) h = absurd cc
 take_short (suc k) (t ∷ ts) h = ap (λ (us : List Numbered). t ∷ us) (take_short k ts h)
 
-pub all_there : (ts : List Numbered) (es : List Entry) → take (length es) ts ≡ take (length es) (receipts_of es) → slice_get ts (length es) ≡ None → ts ≡ receipts_of es
-all_there ts es same at = sym (take_short (length es) ts at) ∙ same ∙ take_short (length es) (receipts_of es) (receipts_past 1 (length es) es (omega arith))
+pub all_there : (ts : List Numbered) (base : Base) (es : List Entry) → take (length es) ts ≡ take (length es) (receipts_of base es) → slice_get ts (length es) ≡ None → ts ≡ receipts_of base es
+all_there ts base es same at = sym (take_short (length es) ts at) ∙ same ∙ take_short (length es) (receipts_of base es) (receipts_past (base.number + 1) (length es) es (omega arith))
 
 -- ---- only the receipts of a journal have at each number what it has
 
@@ -243,5 +251,5 @@ same_lists k (t ∷ ts) (u ∷ us) h g same = ap (λ (xs : List Numbered). t ∷
   later : (n : ℕ) → reported_at ts n ≡ reported_at us n
   later n = by n (t.number == n) refl
 
-pub only_these : (ts : List Numbered) (es : List Entry) → ascends ts ≡ true → ((n : ℕ) → reported_at ts n ≡ entry_at es n) → ts ≡ receipts_of es
-only_these ts es h same = same_lists 0 ts (receipts_of es) h (rise_all es) (λ n. same n ∙ sym (reported_is es n))
+pub only_these : (ts : List Numbered) (base : Base) (es : List Entry) → ascends ts ≡ true → ((n : ℕ) → reported_at ts n ≡ entry_at base es n) → ts ≡ receipts_of base es
+only_these ts base es h same = same_lists 0 ts (receipts_of base es) h (rise_all base es) (λ n. same n ∙ sym (reported_is base es n))

@@ -3,8 +3,9 @@ use Rattle.std.proofs.Common.{◌≡◌, ◌⊎◌, ◌∙◌, Bool, true, false
 use Rattle.std.proofs.lemmas.List.Elements.{All-map}
 use Rattle.std.specs.List.{slice_index_or}
 use Rattle.occ_board.specs.Done.{done}
-use Rattle.occ_board.specs.Journal.{IsLegal, replay}
+use Rattle.occ_board.specs.Journal.{IsBase, IsLegal, replay}
 use Rattle.occ_board.specs.Machine.{State, report_answer, row_of, rows_of}
+use Rattle.occ_board.specs.declared.base.Base.{Base}
 use Rattle.occ_board.specs.declared.entry.Entry.{Entry}
 use Rattle.occ_board.specs.declared.report.Row.{Row}
 use Rattle.occ_board.specs.declared.report.Shown.TheVariants as shown
@@ -21,13 +22,17 @@ pub row_by : (files : List Read) (u : List ℕ) (b : Bool) → IsShown files (re
 row_by files u true = inr refl
 row_by files u false = inl refl
 
-pub is_snapshot : (es : List Entry) (cached : List Input) → IsLegal es → IsSnapshot es (rows_of (replay es) cached)
-is_snapshot es cached legal = record {
+pub is_snapshot : (base : Base) (es : List Entry) (cached : List Input) → IsBase base → IsLegal base es → IsSnapshot base es (rows_of (replay base es) cached)
+is_snapshot base es cached based legal = record {
+  based = based;
   legal = legal;
-  units = units_are (replay es) cached (open_units (replay es));
-  shown = All-map (IsShown (replay es)) (row_of (replay es) cached) (open_units (replay es)) (λ k d h. row_by (replay es) (slice_index_or (open_units (replay es)) k d) (done (replay es) cached (slice_index_or (open_units (replay es)) k d)));
+  units = units_are (replay base es) cached (open_units (replay base es));
+  shown =
+      All-map (IsShown (replay base es)) (row_of (replay base es) cached) (open_units (replay base es))
+      (λ k d h. row_by (replay base es) (slice_index_or (open_units (replay base es)) k d) (done (replay base es) cached (slice_index_or (open_units (replay base es)) k d)));
 }
 
-pub snapshot_of : (s : State) (es : List Entry) (rows : List Row) → IsLegal s.journal → es ≡ s.journal → rows ≡ report_answer s → IsSnapshot es rows
-snapshot_of s es rows legal same shows =
-    subst (λ (xs : List Entry). IsSnapshot xs rows) (sym same) (subst (λ (rs : List Row). IsSnapshot s.journal rs) (sym shows) (is_snapshot s.journal s.cached legal))
+pub snapshot_of : (s : State) (base : Base) (es : List Entry) (rows : List Row) → IsBase s.base → IsLegal s.base s.journal → base ≡ s.base → es ≡ s.journal → rows ≡ report_answer s → IsSnapshot base es rows
+snapshot_of s base es rows based legal over same shows =
+    subst (λ (b : Base). IsSnapshot b es rows) (sym over)
+    (subst (λ (xs : List Entry). IsSnapshot s.base xs rows) (sym same) (subst (λ (rs : List Row). IsSnapshot s.base s.journal rs) (sym shows) (is_snapshot s.base s.journal s.cached based legal)))

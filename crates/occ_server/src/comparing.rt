@@ -1,11 +1,12 @@
 //! Compares receipts with a journal: the least number at which they disagree.
+ghost use Rattle.occ_board.specs.Journal.{last_number};
 ghost use Rattle.occ_server.specs.Receipts.{IsLeastOff, ascends as spec_ascends, entry_at, receipts_of};
 ghost use Rattle.std.specs.Option.{option_copied};
-ghost use Rattle.std.specs.Prelude.{◌≡◌, ◌≤◌, ◌↔◌, ◌+◌, IfNone, IfSome, IsTrue, Some, length, true};
+ghost use Rattle.std.specs.Prelude.{◌≡◌, ◌<◌, ◌^◌, ◌↔◌, IfNone, IfSome, IsTrue, Some, true};
 
 use super::laws::source_law;
 use super::receipt::Receipt;
-use occ_board::{Edit, Entry};
+use occ_board::{Base, Edit, Entry};
 use occ_forms::Source;
 
 /// Whether two sources are one, which they are if their texts are.
@@ -49,21 +50,21 @@ pub fn is_found(found: Option<&Entry>, entry: &Entry) -> bool
     }
 }
 
-/// What a journal has at a number.
-pub fn entry_of(entries: &[Entry], number: u32) -> Option<&Entry>
-    ensures { option_copied result ≡ entry_at entries.now number }
+/// What a journal has at a number, where its base has one.
+pub fn entry_of<'a>(base: &Base, entries: &'a [Entry], number: u32) -> Option<&'a Entry>
+    ensures { option_copied result ≡ entry_at base.now entries.now number }
 {
-    match number {
-        0 => None,
-        number => entries.get(number as usize - 1),
+    if number <= base.number {
+        return None;
     }
+    entries.get((number - base.number) as usize - 1)
 }
 
 /// Whether this is the receipt of the entry with this number.
-fn is_of(receipt: &Receipt, number: usize, entry: &Entry) -> bool
+fn is_of(receipt: &Receipt, number: u32, entry: &Entry) -> bool
     ensures { IsTrue result ↔ (receipt.now ≡ record { number = number; entry = entry.now }) }
 {
-    receipt.number() as usize == number && is_same_entry(receipt.entry(), entry)
+    receipt.number() == number && is_same_entry(receipt.entry(), entry)
 }
 
 /// Whether the numbers go up, each greater than the one before.
@@ -81,18 +82,18 @@ pub fn ascends(receipts: &[Receipt]) -> bool
 }
 
 /// The least number at which receipts and journal do not have the same, if there is one.
-pub fn first_off(receipts: &[Receipt], entries: &[Entry]) -> Option<u32>
+pub fn first_off(receipts: &[Receipt], base: &Base, entries: &[Entry]) -> Option<u32>
     requires order { spec_ascends receipts.now ≡ true }
-    requires few { length entries.now ≤ 10000 }
-    ensures none { IfNone result (receipts.now ≡ receipts_of entries.now) }
-    ensures off { IfSome result (λ n. IsLeastOff receipts.now entries.now n) }
+    requires few { last_number base.now entries.now < 2 ^ 32 }
+    ensures none { IfNone result (receipts.now ≡ receipts_of base.now entries.now) }
+    ensures off { IfSome result (λ n. IsLeastOff receipts.now base.now entries.now n) }
 {
     for (index, entry) in entries.iter().enumerate() {
-        let number = index as u32 + 1;
+        let number = base.number + index as u32 + 1;
         match receipts.get(index) {
             None => return Some(number),
             Some(receipt) => {
-                if !is_of(receipt, index + 1, entry) {
+                if !is_of(receipt, number, entry) {
                     return Some(number.min(receipt.number()));
                 }
             }

@@ -6,9 +6,11 @@ ghost use Rattle.std.specs.Prelude.{◌≡◌};
 use occ_board::Entry;
 use std::alloc::AllocError;
 
-/// Why there is no report.
+/// Why there is no report. Where several hold, the first of this order is reported.
 #[derive(Drop)]
 pub enum ReportFault {
+    /// The receipt is of an edit up to the base, which has this number: a checkpoint has handed the edit out.
+    Cut(u32),
     /// The journal does not have the receipt: this is what stands at its number, if anything does.
     Behind(Option<Entry>),
     /// Memory was refused.

@@ -18,8 +18,8 @@ mod work;
 pub use comparing::is_same_entry;
 pub use fault::{CloseFault, ReportFault};
 pub use occ_board::{
-    Board, Edit, EditFault, Entry, Job, JobFault, Outcome, Row, Shown, Used, UsedUnit, Verdict,
-    check,
+    Base, Board, Cut, Edit, EditFault, Entry, Job, JobFault, Outcome, Row, Shown, Used, UsedUnit,
+    Verdict, check,
 };
 pub use receipt::Receipt;
 pub use server::Server;

@@ -1,28 +1,30 @@
 //! What is locked: a board and a stop flag. Each method is one critical section, with its whole contract.
+ghost use Rattle.occ_board.specs.Journal.{base_after};
 ghost use Rattle.occ_board.specs.Machine.{Answer, Event, after, answer, edit_number, files_of, finish_answer, pending_answer, report_answer, start};
 ghost use Rattle.occ_board.specs.declared.entry.EditFault.TheVariants as fault;
 ghost use Rattle.occ_board.specs.declared.entry.EditFault.{EditFault as AFault};
 ghost use Rattle.occ_board.specs.declared.verdict.Verdict.TheVariants as verdicts;
-ghost use Rattle.occ_server.specs.Receipts.{IsLeastOff, ascends as spec_ascends, entry_at, receipts_of};
+ghost use Rattle.occ_server.specs.Receipts.{IsLeastOff, Numbered, ascends as spec_ascends, entry_at, receipts_of};
 ghost use Rattle.occ_server.specs.Snapshots.{IsBehind, IsFound, Stands};
 ghost use Rattle.occ_server.specs.declared.fault.CloseFault.TheVariants as refusal;
+ghost use Rattle.occ_server.specs.declared.fault.ReportFault.TheVariants as report_refusal;
 ghost use Rattle.occ_server.specs.declared.work.Settled.TheVariants as ends;
 ghost use Rattle.std.specs.Option.{option_copied};
-ghost use Rattle.std.specs.Prelude.{◌≡◌, ◌<◌, ◌⊎◌, ℕ, ◌&&◌, not, Err, IfErr, IfOk, OnErr, OnOk, Some, false, nat_lt, true};
+ghost use Rattle.std.specs.Prelude.{◌≡◌, ◌≤◌, ◌<◌, ◌⊎◌, ℕ, ◌&&◌, not, Err, IfErr, IfOk, OnErr, OnOk, Some, false, nat_lt, true};
 
 use super::comparing::{ascends, entry_of, first_off, is_found};
 use super::copying::{all_copied, copied};
 use super::fault::{CloseFault, ReportFault};
-use super::laws::{few_law, receipts_law};
+use super::laws::receipts_law;
 use super::receipt::Receipt;
 use super::snapshot::{Ended, Snapshot};
 use super::work::Settled;
 use occ_board::laws::report_law;
-use occ_board::{Board, Edit, EditFault, Entry, Job, Outcome, Verdict};
+use occ_board::{Base, Board, Cut, Edit, EditFault, Entry, Job, Outcome, Verdict, copied_base};
 use std::alloc::{AllocError, Global};
 
-/// What stands after the lock: a board, which is a state of the machine whose files are those that its journal makes, and
-/// whether the server is stopped. Each method is one critical section.
+/// What stands after the lock: a board, which is a state of the machine whose files are those that its journal makes of its
+/// base, and whether the server is stopped. Each method is one critical section.
 #[derive(Drop)]
 pub struct Locked {
     pub board: Board,
@@ -139,28 +141,44 @@ impl Locked {
         }
     }
 
-    /// The report, with a copy of the journal, if that has the receipt.
-    pub fn report(&self, alloc: Global, seen: Option<&Receipt>) -> Result<Snapshot, ReportFault>
-        ensures entries { IfOk result (λ s. s.entries ≡ self.now.board.journal) }
-        ensures rows { IfOk result (λ s. s.rows ≡ report_answer self.now.board) }
-        ensures stands { IfOk result (λ s. Stands (option_copied seen.entry) self.now.board.journal) }
-        ensures behind { IfErr result (λ f. IsBehind (option_copied seen.entry) f) }
-        ensures found { IfErr result (λ f. IsFound (option_copied seen.entry) self.now.board.journal f) }
+    /// Makes the present project the base, and hands out the edits that the journal had.
+    pub fn checkpoint(&mut self, alloc: Global) -> Result<Cut, AllocError>
+        ensures answered { IfOk result (λ cut. Answer.Gives cut ≡ answer self.old.board Event.Checkpoint) }
+        ensures after { OnOk result (self.new.board ≡ after self.old.board Event.Checkpoint) }
+        ensures replayed { IfOk result (λ cut. self.new.board.base ≡ base_after self.old.board.base cut.entries) }
+        ensures err { OnErr result (self.new.board ≡ self.old.board) }
+        ensures stopped { self.new.stopped ≡ self.old.stopped }
     {
-        see(seen, self.board.entries())?;
-        let rows = self.board.report(alloc)?;
-        let entries = all_copied(alloc, self.board.entries())?;
-        Ok(Snapshot::of(entries, rows))
+        let cut = self.board.checkpoint(alloc)?;
+        Ok(cut)
     }
 
-    /// The end: all edits have their receipts, in order, and nothing is pending.
+    /// The report, with a copy of the base and the journal, if that has the receipt.
+    pub fn report(&self, alloc: Global, seen: Option<&Receipt>) -> Result<Snapshot, ReportFault>
+        ensures base { IfOk result (λ s. s.base ≡ self.now.board.base) }
+        ensures entries { IfOk result (λ s. s.entries ≡ self.now.board.journal) }
+        ensures rows { IfOk result (λ s. s.rows ≡ report_answer self.now.board) }
+        ensures stands { IfOk result (λ s. Stands (option_copied seen.entry) self.now.board.base self.now.board.journal) }
+        ensures cut { (t : Numbered) → option_copied seen.entry ≡ Some t → t.number ≤ self.now.board.base.number → result ≡ Err (report_refusal.Cut self.now.board.base.number) }
+        ensures behind { IfErr result (λ f. IsBehind (option_copied seen.entry) f) }
+        ensures found { IfErr result (λ f. IsFound (option_copied seen.entry) self.now.board.base self.now.board.journal f) }
+    {
+        see(seen, self.board.base(), self.board.entries())?;
+        let rows = self.board.report(alloc)?;
+        let base = copied_base(alloc, self.board.base())?;
+        let entries = all_copied(alloc, self.board.entries())?;
+        Ok(Snapshot::of(base, entries, rows))
+    }
+
+    /// The end: all edits since the base have their receipts, in order, and nothing is pending.
     pub fn end(&self, alloc: Global, receipts: &[Receipt]) -> Result<Ended, CloseFault>
+        ensures base { IfOk result (λ e. e.base ≡ self.now.board.base) }
         ensures entries { IfOk result (λ e. e.entries ≡ self.now.board.journal) }
-        ensures agree { IfOk result (λ e. receipts.now ≡ receipts_of self.now.board.journal) }
+        ensures agree { IfOk result (λ e. receipts.now ≡ receipts_of self.now.board.base self.now.board.journal) }
         ensures order { spec_ascends receipts.now ≡ false → result ≡ Err refusal.OutOfOrder }
-        ensures mismatch { (n : ℕ) → spec_ascends receipts.now ≡ true → IsLeastOff receipts.now self.now.board.journal n → result ≡ Err (refusal.Mismatch n) }
-        ensures pending { receipts.now ≡ receipts_of self.now.board.journal → 0 < pending_answer self.now.board → result ≡ Err refusal.Pending }
-        ensures memory { receipts.now ≡ receipts_of self.now.board.journal → pending_answer self.now.board ≡ 0 → IfErr result (λ f. f ≡ refusal.Memory) }
+        ensures mismatch { (n : ℕ) → spec_ascends receipts.now ≡ true → IsLeastOff receipts.now self.now.board.base self.now.board.journal n → result ≡ Err (refusal.Mismatch n) }
+        ensures pending { receipts.now ≡ receipts_of self.now.board.base self.now.board.journal → 0 < pending_answer self.now.board → result ≡ Err refusal.Pending }
+        ensures memory { receipts.now ≡ receipts_of self.now.board.base self.now.board.journal → pending_answer self.now.board ≡ 0 → IfErr result (λ f. f ≡ refusal.Memory) }
     {
         self.agree(receipts)?;
         if self.board.pending() > 0 {
@@ -170,55 +188,61 @@ impl Locked {
         Ok(ended)
     }
 
-    /// Whether receipts are those of all edits, in order.
+    /// Whether receipts are those of all edits since the base, in order.
     fn agree(&self, receipts: &[Receipt]) -> Result<(), CloseFault>
-        ensures agree { OnOk result (receipts.now ≡ receipts_of self.now.board.journal) }
+        ensures agree { OnOk result (receipts.now ≡ receipts_of self.now.board.base self.now.board.journal) }
         ensures order { spec_ascends receipts.now ≡ false → result ≡ Err refusal.OutOfOrder }
-        ensures mismatch { (n : ℕ) → spec_ascends receipts.now ≡ true → IsLeastOff receipts.now self.now.board.journal n → result ≡ Err (refusal.Mismatch n) }
-        ensures same { receipts.now ≡ receipts_of self.now.board.journal → OnErr result ⊥ }
+        ensures mismatch { (n : ℕ) → spec_ascends receipts.now ≡ true → IsLeastOff receipts.now self.now.board.base self.now.board.journal n → result ≡ Err (refusal.Mismatch n) }
+        ensures same { receipts.now ≡ receipts_of self.now.board.base self.now.board.journal → OnErr result ⊥ }
     {
         receipts_law();
-        few_law();
         if !ascends(receipts) {
             return Err(CloseFault::OutOfOrder);
         }
-        match first_off(receipts, self.board.entries()) {
+        match first_off(receipts, self.board.base(), self.board.entries()) {
             Some(number) => Err(CloseFault::Mismatch(number)),
             None => Ok(()),
         }
     }
 
-    /// The journal and its report, where nothing is pending.
+    /// The base, the journal and their report, where nothing is pending.
     fn whole(&self, alloc: Global) -> Result<Ended, AllocError>
         requires { pending_answer self.now.board ≡ 0 }
-        ensures { IfOk result (λ e. e.entries ≡ self.now.board.journal) }
+        ensures base { IfOk result (λ e. e.base ≡ self.now.board.base) }
+        ensures entries { IfOk result (λ e. e.entries ≡ self.now.board.journal) }
     {
         report_law();
         let rows = self.board.report(alloc)?;
+        let base = copied_base(alloc, self.board.base())?;
         let entries = all_copied(alloc, self.board.entries())?;
-        Ok(Ended::of(entries, rows))
+        Ok(Ended::of(base, entries, rows))
     }
 }
 
 /// Whether a journal has the receipt, if one is given.
-fn see(seen: Option<&Receipt>, entries: &[Entry]) -> Result<(), ReportFault>
-    ensures stands { OnOk result (Stands (option_copied seen.entry) entries.now) }
+fn see(seen: Option<&Receipt>, base: &Base, entries: &[Entry]) -> Result<(), ReportFault>
+    ensures stands { OnOk result (Stands (option_copied seen.entry) base.now entries.now) }
+    ensures cut { (t : Numbered) → option_copied seen.entry ≡ Some t → t.number ≤ base.now.number → result ≡ Err (report_refusal.Cut base.now.number) }
     ensures behind { IfErr result (λ f. IsBehind (option_copied seen.entry) f) }
-    ensures found { IfErr result (λ f. IsFound (option_copied seen.entry) entries.now f) }
+    ensures found { IfErr result (λ f. IsFound (option_copied seen.entry) base.now entries.now f) }
 {
     match seen {
-        Some(receipt) => find(receipt, entries),
+        Some(receipt) => find(receipt, base, entries),
         None => Ok(()),
     }
 }
 
 /// Whether a journal has the receipt.
-fn find(receipt: &Receipt, entries: &[Entry]) -> Result<(), ReportFault>
-    ensures stands { OnOk result (Stands (Some receipt.now) entries.now) }
+fn find(receipt: &Receipt, base: &Base, entries: &[Entry]) -> Result<(), ReportFault>
+    ensures stands { OnOk result (Stands (Some receipt.now) base.now entries.now) }
+    ensures cut { receipt.now.number ≤ base.now.number → result ≡ Err (report_refusal.Cut base.now.number) }
     ensures behind { IfErr result (λ f. IsBehind (Some receipt.now) f) }
-    ensures found { IfErr result (λ f. IsFound (Some receipt.now) entries.now f) }
+    ensures found { IfErr result (λ f. IsFound (Some receipt.now) base.now entries.now f) }
 {
-    let found = entry_of(entries, receipt.number());
+    if receipt.number() <= base.number {
+        return Err(ReportFault::Cut(base.number));
+    }
+    let found = entry_of(base, entries, receipt.number());
     if is_found(found, receipt.entry()) {
         return Ok(());
     }

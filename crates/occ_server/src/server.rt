@@ -11,7 +11,7 @@ use super::locked::Locked;
 use super::receipt::Receipt;
 use super::snapshot::{Ended, Snapshot};
 use super::work::{Gate, Settled, WorkEnd, Worked};
-use occ_board::{Edit, EditFault, Job, Outcome, Verdict, check};
+use occ_board::{Cut, Edit, EditFault, Job, Outcome, Verdict, check};
 use std::alloc::{AllocError, Global};
 use std::sync::{Condvar, Mutex, Wait};
 
@@ -141,14 +141,20 @@ impl Server {
         locked.settled()
     }
 
-    /// The report, with the edits that were accepted until then. With a receipt, one that has seen its edit.
+    /// Makes the present project the base, and hands out the edits since the base before. From then on receipts of these have no
+    /// report.
+    pub fn checkpoint<R: Wait>(&self, rt: &R, alloc: Global) -> Result<Cut, AllocError> {
+        self.locked.lock(rt).checkpoint(alloc)
+    }
+
+    /// The report, with the base and the edits that were accepted since. With a receipt, one that has seen its edit.
     pub fn report<R: Wait>(
         &self,
         rt: &R,
         alloc: Global,
         seen: Option<&Receipt>,
     ) -> Result<Snapshot, ReportFault>
-        ensures stands { IfOk result (λ s. Stands (option_copied seen.entry) s.entries) }
+        ensures stands { IfOk result (λ s. Stands (option_copied seen.entry) s.base s.entries) }
         ensures behind { IfErr result (λ f. IsBehind (option_copied seen.entry) f) }
     {
         let snapshot = self.locked.lock(rt).report(alloc, seen)?;
@@ -161,10 +167,10 @@ impl Server {
         self.changed.notify_all();
     }
 
-    /// Ends with the report from nothing, if these are the receipts of all edits, in order, and no unit is pending. Else
-    /// the server comes back.
+    /// Ends with the report from nothing, if these are the receipts of all edits since the base, in order, and no unit is
+    /// pending. Else the server comes back.
     pub fn close(self, alloc: Global, receipts: &[Receipt]) -> Result<Ended, (Server, CloseFault)>
-        ensures { IfOk result (λ e. receipts.now ≡ receipts_of e.entries) }
+        ensures { IfOk result (λ e. receipts.now ≡ receipts_of e.base e.entries) }
     {
         let Server { locked, changed } = self;
         let inner = locked.into_inner();

@@ -1,5 +1,5 @@
 -- A circle is reported of where it is: at the `#USE` lines of each unit in it.
-use Rattle.std.proofs.Common.{◌≡◌, ◌↔◌, ◌∙◌, ◌⊎◌, ◌||◌, ◌++◌, ◌+◌, ℕ, zero, suc, nat_eq, Bool, true, false, cond, List, [], ◌∷◌, map, take, drop, Option, Some, None, Err, refl, sym, ap, subst, inl, inr}
+use Rattle.std.proofs.Common.{◌≡◌, ◌↔◌, ◌∙◌, ◌⊎◌, ◌||◌, ◌++◌, ◌+◌, ℕ, zero, suc, nat_eq, Bool, true, false, cond, List, [], ◌∷◌, map, take, drop, Option, Some, None, Result, Ok, Err, refl, sym, ap, subst, inl, inr}
 use Rattle.std.proofs.lemmas.Slice.Eq.{bytes_eq-Decides}
 use Rattle.std.specs.BTreeSet.{insert_key}
 use Rattle.std.specs.Cmp.Lexicographic.{slice_cmp}
@@ -29,13 +29,14 @@ use Rattle.occ_forms.specs.Prepared.{Prepared}
 use Rattle.occ_forms.specs.declared.source.LineBody.{LineBody}
 use Rattle.occ_forms.specs.declared.source.LineBody.TheVariants as source
 use Rattle.occ_forms.specs.declared.source.SourceLine.{SourceLine}
-use Rattle.occ_project.specs.Entries.{FileEntries, entries, file_entries, held as held_in, included, inner_entries, is_among, line_entries, put_in}
+use Rattle.occ_lines.specs.Listing.{listed}
+use Rattle.occ_project.specs.Entries.{FileEntries, entries, file_entries, held as held_in, included, inner_entries, is_among, library_line, line_entries, listing, put_in}
 use Rattle.occ_project.specs.Expansion.{Expansion, entry_faults, entry_lines, expansion, held_faults, limit_faults, unit_entries}
-use Rattle.occ_project.specs.Reads.{name_cmp, open_lines}
+use Rattle.occ_project.specs.Reads.{name_cmp, open_lines, open_text}
 use Rattle.occ_project.specs.Uses.{body_units, units_of, names_in_order, used_in}
 use Rattle.occ_project.specs.declared.entry.ExpansionEntry.{ExpansionEntry}
 use Rattle.occ_project.specs.declared.entry.Held.{Held}
-use Rattle.occ_project.specs.declared.entry.Held.TheVariants.{Line, Include}
+use Rattle.occ_project.specs.declared.entry.Held.TheVariants.{Line, Library, Include}
 use Rattle.occ_project.specs.declared.expanded.ExpandedBody.{ExpandedBody}
 use Rattle.occ_project.specs.declared.expanded.ExpandedBody.TheVariants as body
 use Rattle.occ_project.specs.declared.expanded.ExpandedLine.{ExpandedLine}
@@ -44,7 +45,7 @@ use Rattle.occ_check.specs.Checks.{checked, diags, input, used_as, used_unit}
 use Rattle.occ_check.specs.Report.{AreReporting}
 use Rattle.occ_check.specs.declared.checked.Checked.{Checked}
 use Rattle.occ_types.specs.declared.interface.Interface.{Interface}
-use Rattle.occ_project_units.proofs.Narrowed.{file_lines}
+use Rattle.occ_project_units.proofs.Narrowed.{file_source}
 use Rattle.occ_project_units.proofs.Rising.{equal_names}
 use Rattle.occ_project_units.proofs.Spelled.{all_front, all_taken}
 use Rattle.occ_project_units.specs.Indices.{is_circular, standing_of}
@@ -253,15 +254,26 @@ module _ (used : List UsedUnit) (v : List ℕ) where
   use_reported l n how.Faulty (inr h) = absurd h
   use_reported l n (how.Clean i) h = absurd h
 
+  units_report : (l : ExpandedLine) (units : List (List ℕ)) → stands used v ≡ how.Circular → is_among units v ≡ true → AreReporting (flat_map (use_faults used l) units) code.G2 v
+  units_report l [] h a = absurd cc
+  units_report l (n ∷ units) h a = either_true (bytes_eq n v) (is_among units v) a
+      (λ e. let same : n ≡ v = (bytes_eq-Decides n v).0 e in reports_front code.G2 v (use_faults used l n) (flat_map (use_faults used l) units) (use_reports l n (stands used n) same (ap (stands used) same ∙ h)))
+      (λ k. reports_back code.G2 v (use_faults used l n) (flat_map (use_faults used l) units) (units_report l units h k))
+
+  units_reported : (l : ExpandedLine) (units : List (List ℕ)) → AreReporting (flat_map (use_faults used l) units) code.G2 v → stands used v ≡ how.Circular
+  units_reported l [] h = absurd h
+  units_reported l (n ∷ units) h = elim (reports_split code.G2 v (use_faults used l n) (flat_map (use_faults used l) units) h) [
+    | inl k ↦ let is = use_reported l n (stands used n) k in ap (stands used) (sym is.0) ∙ is.1
+    | inr k ↦ units_reported l units k
+  ]
+
   body_reports : (l : ExpandedLine) (x : ExpandedBody) → stands used v ≡ how.Circular → is_among (body_units x) v ≡ true → AreReporting (body_faults used l x) code.G2 v
-  body_reports l (body.Uses n) h a = either_true (bytes_eq n v) false a
-      (λ e. let same : n ≡ v = (bytes_eq-Decides n v).0 e in use_reports l n (stands used n) same (ap (stands used) same ∙ h))
-      (λ k. absurd cc)
+  body_reports l (body.Uses units) h a = units_report l units h a
   body_reports l (body.Form form) h a = absurd cc
   body_reports l (body.Fault fault) h a = absurd cc
 
   body_reported : (l : ExpandedLine) (x : ExpandedBody) → AreReporting (body_faults used l x) code.G2 v → stands used v ≡ how.Circular
-  body_reported l (body.Uses n) h = let is = use_reported l n (stands used n) h in ap (stands used) (sym is.0) ∙ is.1
+  body_reported l (body.Uses units) h = units_reported l units h
   body_reported l (body.Form form) h = absurd h
   body_reported l (body.Fault fault) (inl h) = let k = h.1 in absurd cc
   body_reported l (body.Fault fault) (inr h) = absurd h
@@ -284,6 +296,8 @@ module _ (used : List UsedUnit) (v : List ℕ) where
 abbrev IsOther : Held → Type 0
 IsOther (Include name (Some fault)) = fault ≡ code.G2 → ⊥
 IsOther (Include name None) = Unit {0}
+IsOther (Library depth units list (Some fault)) = fault ≡ code.G2 → ⊥
+IsOther (Library depth units list None) = Unit {0}
 IsOther (Line depth x) = Unit {0}
 
 abbrev IsOtherEntry : ExpansionEntry → Type 0
@@ -296,9 +310,22 @@ module _ (files : List Read) where
   other_by name false false None = λ e. absurd cc
   other_by name false false (Some lines) = tt
 
-  own_other : (way : List (List ℕ)) (left depth : ℕ) (x : LineBody) → IsOther (held_in (included files way left) depth x)
+  -- of a list the fault is G7
+  listing_fault : (unit : List ℕ) (text : Option (List ℕ)) (fault : Code) → result_err (listing unit text) ≡ Some fault → fault ≡ code.G7
+  listing_fault unit None fault h = absurd cc
+  listing_fault unit (Some text) fault h = by (listed text) h where
+    by : (o : Option (List (List ℕ))) → result_err (ok_or o code.G7) ≡ Some fault → fault ≡ code.G7
+    by (Some units) k = absurd cc
+    by None k = cc
+
+  list_other : (depth : ℕ) (list : List ℕ) (found : Result (List (List ℕ)) Code) → ((fault : Code) → result_err found ≡ Some fault → fault ≡ code.G7) → IsOther (library_line depth list found)
+  list_other depth list (Ok units) h = tt
+  list_other depth list (Err fault) h = λ e. let g : fault ≡ code.G7 = h fault refl in absurd cc
+
+  own_other : (way : List (List ℕ)) (left depth : ℕ) (x : LineBody) → IsOther (held_in files (included files way left) depth x)
   own_other way left depth (source.Form form) = tt
-  own_other way left depth (source.Uses name) = tt
+  own_other way left depth (source.Uses name None) = tt
+  own_other way left depth (source.Uses name (Some list)) = list_other depth list (listing name (open_text files list)) (listing_fault name (open_text files list))
   own_other way left depth (source.Fault fault) = tt
   own_other way left depth (source.Include name) = other_by name (is_among way name) (nat_eq left 0) (open_lines files name)
 
@@ -329,6 +356,9 @@ module _ (files : List Read) where
   held_silent file name line (Include other (Some fault)) h (inl k) = h k.0
   held_silent file name line (Include other (Some fault)) h (inr k) = k
   held_silent file name line (Include other None) h k = k
+  held_silent file name line (Library depth units list (Some fault)) h (inl k) = h k.0
+  held_silent file name line (Library depth units list (Some fault)) h (inr k) = k
+  held_silent file name line (Library depth units list None) h k = k
   held_silent file name line (Line depth x) h k = k
 
   silent : (name : List ℕ) (es : List ExpansionEntry) → AllByRecursion IsOtherEntry es → AreReporting (flat_map entry_faults es) code.G2 name → ⊥
@@ -357,7 +387,7 @@ module _ (files : List Read) where
   unfolding expansion
   opened_by unit v (Some s) e a = refl
   opened_by unit v None e a =
-      let none : open_lines files unit ≡ None = sym (file_lines files unit) ∙ ap (option_map (λ (s : Prepared). s.lines)) e in
+      let none : open_lines files unit ≡ None = ap (option_map (λ (s : Prepared). s.lines)) (sym (file_source files unit) ∙ e) in
       let no : is_among (flat_map units_of (flat_map entry_lines (take 65535 (unit_entries files unit None)))) v ≡ true = ap (λ (o : Option (List SourceLine)). is_among (flat_map units_of (flat_map entry_lines (take 65535 (unit_entries files unit o)))) v) (sym none) ∙ a in
       absurd cc
 

@@ -1,4 +1,5 @@
 pub mod Anew
+pub mod Bases
 pub mod Calls
 pub mod Circles
 pub mod Elements

@@ -9,9 +9,10 @@ use Rattle.occ_board.proofs.Judged.{acceptable, never_accepted, now_of}
 use Rattle.occ_board.proofs.Indices.{file_named}
 use Rattle.occ_board.proofs.Truths.{left_true, right_true}
 use Rattle.occ_board.specs.Done.{done, done_step, is_cached, pending_units}
-use Rattle.occ_board.specs.Journal.{replay}
-use Rattle.occ_board.specs.Machine.{Answer, Event, IsChecked, IsWork, State, accepted_number, after, after_all, answer, files_of, finish_answer, is_acceptance, cached_after, pending_answer}
+use Rattle.occ_board.specs.Journal.{IsBase, replay}
+use Rattle.occ_board.specs.Machine.{Answer, Event, IsChecked, IsWork, State, accepted_number, after, after_all, answer, cached_after, files_of, finish_answer, is_acceptance, number_of, pending_answer}
 use Rattle.occ_board.specs.Verdicts.{is_as_read, is_off, off_read, or_else, reads_verdict, same_text, uses_verdict, verdict_of}
+use Rattle.occ_board.specs.declared.base.Base.{Base}
 use Rattle.occ_board.specs.declared.entry.Entry.{Entry}
 use Rattle.occ_board.specs.declared.verdict.Verdict.{Verdict}
 use Rattle.occ_board.specs.declared.verdict.Verdict.TheVariants as verdict
@@ -22,7 +23,7 @@ use Rattle.occ_forms.specs.Prepared.{IsPrepared, Prepared}
 use Rattle.occ_forms.specs.declared.source.SourceLine.{SourceLine}
 use Rattle.occ_project.specs.Entries.{is_among}
 use Rattle.occ_project.specs.Expansion.{expansion}
-use Rattle.occ_project.specs.Reads.{open_lines}
+use Rattle.occ_project.specs.Reads.{open_source}
 use Rattle.occ_project.specs.declared.reads.Read.{Read}
 use Rattle.occ_project_units.specs.Indices.{rest_units}
 use Rattle.occ_project_units.specs.Project.{IsProject, file_of}
@@ -67,41 +68,42 @@ module _ (source : (text : List ℕ) (lines others : List SourceLine) → IsPrep
   never_stale None v e h = absurd cc
   never_stale (Some one) v e h = absurd cc
 
-  module _ (alone : (fs others : List Read) (unit : List ℕ) → ((name : List ℕ) → is_among (expansion fs unit).reads name ≡ true → open_lines others name ≡ open_lines fs name) → expansion others unit ≡ expansion fs unit)
+  module _ (alone : (fs others : List Read) (unit : List ℕ) → ((name : List ℕ) → is_among (expansion fs unit).reads name ≡ true → open_source others name ≡ open_source fs name) → expansion others unit ≡ expansion fs unit)
       (itself : (fs : List Read) (unit : List ℕ) → is_among (expansion fs unit).reads unit ≡ true) where
     fits : (files : List Read) (accepted : ℕ) (cached : List Input) (i : Input) → AreSpelled files → IsChecked i → verdict_of files accepted cached i ≡ verdict.Accepted → IsAcceptable files cached i
     fits files accepted cached i spelled is e =
         let parts = nothing_by (reads_verdict files accepted i.reads) (uses_verdict files cached i) (is_cached cached i) (never_accepted files accepted i.reads) (never_stale (find (is_off files cached i.unit) i.used)) e in
         acceptable files cached i i.used i.unit false is.0 refl refl (all_read files accepted i.reads spelled is.1 parts.0) (sym parts.1.0) (sym parts.1.1) alone itself
 
-    module _ (project : (es : List Entry) → IsProject (replay es)) (law : (files : List Read) (cached : List Input) (u : List ℕ) → IsProject files → done files cached u ≡ done_step files cached u (done files cached))
+    module _ (project : (base : Base) (es : List Entry) → IsBase base → IsProject (replay base es)) (law : (files : List Read) (cached : List Input) (u : List ℕ) → IsProject files → done files cached u ≡ done_step files cached u (done files cached))
         (heights : (files : List Read) → IsProject files → (height : List ℕ → ℕ) × ((u v : List ℕ) → is_among (rest_units files u) v ≡ true → height v < height u)) where
-      finished : (s : State) (i : Input) → AreSpelled (files_of s) → IsChecked i → pending_answer (after s (Event.Finish i)) + (if is_acceptance (answer s (Event.Finish i)) then 1 else 0) ≤ pending_answer s
-      finished s i spelled is = by (finish_answer s i) refl where
+      finished : (s : State) (i : Input) → IsBase s.base → AreSpelled (files_of s) → IsChecked i → pending_answer (after s (Event.Finish i)) + (if is_acceptance (answer s (Event.Finish i)) then 1 else 0) ≤ pending_answer s
+      finished s i based spelled is = by (finish_answer s i) refl where
         files : List Read
         files = files_of s
 
         by : (v : Verdict) → finish_answer s i ≡ v → length (pending_units files (cached_after v s.cached i)) + (if is_acceptance (Answer.Judged v) then 1 else 0) ≤ length (pending_units files s.cached)
         by verdict.Accepted e =
-            let fit = fits files (length s.journal) s.cached i spelled is e in
-            let high = heights files (project s.journal) in
-            let less = fewer_pending files (λ ks v. law files ks v (project s.journal)) high.0 high.1 s.cached i fit.now fit.job.unit fit.job.opened fit.job.rested fit.other in
+            let fit = fits files (number_of s) s.cached i spelled is e in
+            let high = heights files (project s.base s.journal based) in
+            let less = fewer_pending files (λ ks v. law files ks v (project s.base s.journal based)) high.0 high.1 s.cached i fit.now fit.job.unit fit.job.opened fit.job.rested fit.other in
             omega (arith, less)
         by verdict.Repeated e = omega arith
         by (verdict.Stale name) e = omega arith
         by (verdict.Foreign name) e = omega arith
 
-      event : (s : State) (e : Event) → AreSpelled (files_of s) → IsWork e → (pending_answer (after s e) + (if is_acceptance (answer s e) then 1 else 0) ≤ pending_answer s) × AreSpelled (files_of (after s e))
-      event s (Event.Edited session e) spelled h = absurd h
-      event s Event.Take spelled h = (omega arith, spelled)
-      event s (Event.Finish i) spelled h = (finished s i spelled h, spelled)
-      event s (Event.Abandon i) spelled h = (omega arith, spelled)
-      event s Event.Report spelled h = (omega arith, spelled)
-      event s Event.Pending spelled h = (omega arith, spelled)
+      event : (s : State) (e : Event) → IsBase s.base → AreSpelled (files_of s) → IsWork e → (pending_answer (after s e) + (if is_acceptance (answer s e) then 1 else 0) ≤ pending_answer s) × AreSpelled (files_of (after s e))
+      event s (Event.Edited session e) based spelled h = absurd h
+      event s Event.Take based spelled h = (omega arith, spelled)
+      event s (Event.Finish i) based spelled h = (finished s i based spelled h, spelled)
+      event s (Event.Abandon i) based spelled h = (omega arith, spelled)
+      event s Event.Checkpoint based spelled h = (omega arith, spelled)
+      event s Event.Report based spelled h = (omega arith, spelled)
+      event s Event.Pending based spelled h = (omega arith, spelled)
 
-      pub worked : (s : State) (es : List Event) → AreSpelled (files_of s) → AllByRecursion IsWork es → pending_answer (after_all s es) + accepted_number s es ≤ pending_answer s
-      worked s [] spelled h = omega arith
-      worked s (e ∷ es) spelled h =
-          let first = event s e spelled h.0 in
-          let rest = worked (after s e) es first.1 h.1 in
+      pub worked : ((s : State) (event : Event) → IsBase s.base → IsBase (after s event).base) → (s : State) (es : List Event) → IsBase s.base → AreSpelled (files_of s) → AllByRecursion IsWork es → pending_answer (after_all s es) + accepted_number s es ≤ pending_answer s
+      worked still s [] based spelled h = omega arith
+      worked still s (e ∷ es) based spelled h =
+          let first = event s e based spelled h.0 in
+          let rest = worked still (after s e) es (still s e based) first.1 h.1 in
           omega (arith, first.0, rest)

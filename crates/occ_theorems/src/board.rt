@@ -1,5 +1,6 @@
 //! What the calls of a board promise: the report, an edit, a job, its check and its outcome.
 ghost use Rattle.occ_board.specs.Done.{NoneIsHanded};
+ghost use Rattle.occ_board.specs.Journal.{IsBase, base_after};
 ghost use Rattle.occ_board.specs.Machine.{Answer, Event, State, after, answer, files_of, finish_answer, pending_answer, report_answer};
 ghost use Rattle.occ_board.specs.declared.entry.Edit.TheVariants as an_edit;
 ghost use Rattle.occ_board.specs.declared.entry.EditFault.TheVariants as fault;
@@ -14,15 +15,15 @@ use super::machine::edit_apart_law;
 use super::projects::circular_use_law;
 use occ_base::{FileName, Items, Shared};
 use occ_board::laws::{done_law, report_law};
-use occ_board::{Board, EditFault, Row, Verdict};
+use occ_board::{Board, Cut, EditFault, Row, Verdict};
 use occ_check::{Job, Outcome, check};
 use occ_forms::Source;
 use std::alloc::{AllocError, Global};
 
-/// The report of each state is right: of a unit that is not pending it has exactly the diagnostics of the present texts.
+/// The report of each state over a base is right: of a unit that is not pending it has exactly the diagnostics of the present texts.
 /// With none pending it is the report from nothing. Each use in a circle has its G2 among the diagnostics, pending or not.
 pub fn right_report_law()
-    ensures { (s : State) → IsRight s }
+    ensures { (s : State) → IsBase s.base → IsRight s }
 {
     report_law();
     done_law();
@@ -36,6 +37,7 @@ pub fn report_theorem(alloc: Global, board: &Board) -> Result<Items<Row>, AllocE
     ensures right { IsRight board.now }
 {
     right_report_law();
+    let _base = board.base();
     board.report(alloc)
 }
 
@@ -55,6 +57,7 @@ pub fn change_theorem(
     ensures err { OnErr result (board.new ≡ board.old) }
 {
     edit_apart_law();
+    let _base = board.base();
     board.change(alloc, session, name, source)
 }
 
@@ -88,4 +91,15 @@ pub fn finish_theorem(board: &mut Board, outcome: Outcome) -> Result<Verdict, (O
     ensures err { IfErr result (λ refused. (refused.0 ≡ outcome) × ((board.new ≡ board.old) × (finish_answer board.old outcome ≡ verdicts.Accepted))) }
 {
     board.finish(outcome)
+}
+
+/// A checkpoint makes the present project the base and hands out the edits in between; over the old base they make the new one.
+/// So a journal may be cut: nothing is lost to whoever keeps what was cut off, and no outcome, job or pending unit changes.
+pub fn checkpoint_theorem(alloc: Global, board: &mut Board) -> Result<Cut, AllocError>
+    ensures answered { IfOk result (λ cut. Answer.Gives cut ≡ answer board.old Event.Checkpoint) }
+    ensures after { OnOk result (board.new ≡ after board.old Event.Checkpoint) }
+    ensures replayed { IfOk result (λ cut. board.new.base ≡ base_after board.old.base cut.entries) }
+    ensures err { OnErr result (board.new ≡ board.old) }
+{
+    board.checkpoint(alloc)
 }

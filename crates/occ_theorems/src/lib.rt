@@ -26,7 +26,8 @@ pub mod types;
 pub mod uses;
 
 pub use board::{
-    change_theorem, check_theorem, finish_theorem, report_theorem, right_report_law, take_theorem,
+    change_theorem, check_theorem, checkpoint_theorem, finish_theorem, report_theorem,
+    right_report_law, take_theorem,
 };
 pub use machine::{
     edit_apart_law, pending_number_law, same_input_law, script_law, settling_law, work_law,

@@ -1,7 +1,7 @@
 //! Laws of the machine: what its definitions say of any state, without a program.
 ghost use Rattle.occ_board.specs.Done.{done};
 ghost use Rattle.occ_board.specs.Edits.{IsApart};
-ghost use Rattle.occ_board.specs.Journal.{edited};
+ghost use Rattle.occ_board.specs.Journal.{IsBase, edited};
 ghost use Rattle.occ_board.specs.Machine.{Event, IsWork, State, accepted_number, after, after_all, files_of, finish_answer, pending_answer};
 ghost use Rattle.occ_board.specs.Same.{same_input, same_used};
 ghost use Rattle.occ_board.specs.declared.entry.Edit.{Edit as AnEdit};
@@ -16,7 +16,7 @@ ghost use Rattle.occ_project_units.specs.Spelled.{AreSpelled};
 ghost use Rattle.std.specs.List.{AllByRecursion};
 ghost use Rattle.std.specs.Prelude.{List, [], true, ℕ, ◌+◌, ◌<◌, ◌↔◌, ◌≡◌, ◌≤◌};
 
-use occ_board::laws::{done_law, height_law, ready_law, taking_law};
+use occ_board::laws::{base_law, done_law, height_law, ready_law, taking_law};
 use occ_check::Checked;
 use occ_project_units::laws::{along_law, circle_law, put_law, reads_law};
 use occ_server::laws::source_law;
@@ -42,6 +42,7 @@ pub fn pending_number_law()
     ensures take { (s : State) → pending_answer (after s Event.Take) ≡ pending_answer s }
     ensures abandon { (s : State) (i : Input) → pending_answer (after s (Event.Abandon i)) ≡ pending_answer s }
     ensures judged { (s : State) (i : Input) → (finish_answer s i ≡ verdict.Accepted → ⊥) → pending_answer (after s (Event.Finish i)) ≡ pending_answer s }
+    ensures checkpoint { (s : State) → pending_answer (after s Event.Checkpoint) ≡ pending_answer s }
     ensures report { (s : State) → pending_answer (after s Event.Report) ≡ pending_answer s }
     ensures pending { (s : State) → pending_answer (after s Event.Pending) ≡ pending_answer s }
 {}
@@ -49,8 +50,9 @@ pub fn pending_number_law()
 /// Work alone lowers the number of pending units by the number of accepted outcomes, at least.
 /// So work ends: no more outcomes are accepted than units were pending.
 pub fn work_law()
-    ensures { (s : State) (es : List Event) → AreSpelled (files_of s) → AllByRecursion IsWork es → pending_answer (after_all s es) + accepted_number s es ≤ pending_answer s }
+    ensures { (s : State) (es : List Event) → IsBase s.base → AreSpelled (files_of s) → AllByRecursion IsWork es → pending_answer (after_all s es) + accepted_number s es ≤ pending_answer s }
 {
+    base_law();
     source_law();
     reads_law();
     done_law();
@@ -60,8 +62,8 @@ pub fn work_law()
 /// A board settles: after at most as many jobs as units are pending, there is none to take.
 /// Where no worker has a job before, no unit is pending then, so a script that settles gets the whole report.
 pub fn settling_law()
-    ensures settles { (s : State) → Settles s (settled s) }
-    ensures done { (s : State) → AreSpelled (files_of s) → s.handed ≡ [] → pending_answer (settled s) ≡ 0 }
+    ensures settles { (s : State) → IsBase s.base → Settles s (settled s) }
+    ensures done { (s : State) → IsBase s.base → AreSpelled (files_of s) → s.handed ≡ [] → pending_answer (settled s) ≡ 0 }
 {
     taking_law();
     ready_law();
@@ -71,8 +73,8 @@ pub fn settling_law()
 /// An edit of a file changes neither the input of a unit nor whether it is done, where the file does not concern the unit.
 /// A file concerns a unit that reads it or reaches a unit that does. So other units are not checked again.
 pub fn edit_apart_law()
-    ensures input { (s : State) (session : ℕ) (e : AnEdit) (u : List ℕ) → IsApart (files_of s) (edited 0 e).name u → input (files_of (after s (Event.Edited session e))) u ≡ input (files_of s) u }
-    ensures done { (s : State) (session : ℕ) (e : AnEdit) (u : List ℕ) → IsApart (files_of s) (edited 0 e).name u → done (files_of (after s (Event.Edited session e))) s.cached u ≡ done (files_of s) s.cached u }
+    ensures input { (s : State) (session : ℕ) (e : AnEdit) (u : List ℕ) → IsBase s.base → IsApart (files_of s) (edited 0 e).name u → input (files_of (after s (Event.Edited session e))) u ≡ input (files_of s) u }
+    ensures done { (s : State) (session : ℕ) (e : AnEdit) (u : List ℕ) → IsBase s.base → IsApart (files_of s) (edited 0 e).name u → done (files_of (after s (Event.Edited session e))) s.cached u ≡ done (files_of s) s.cached u }
 {
     put_law();
     reads_law();

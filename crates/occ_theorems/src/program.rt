@@ -10,6 +10,7 @@ ghost use Rattle.std.specs.List.{list_any};
 ghost use Rattle.std.specs.Prelude.{List, Some, false, length, map, true, ℕ, ◌+◌, ◌<◌, ◌||◌, ◌≡◌, ◌≤◌};
 
 use super::board::right_report_law;
+use occ_board::laws::base_law;
 use occ_server::Gate;
 use occheck_script::{ByteIn, ByteOut, Status, run_script};
 use occheck_sessions::run_sessions;
@@ -38,6 +39,7 @@ pub fn script_theorem<R: ByteIn, W: ByteOut>(
     ensures unread { R.has_failed reader.new ≡ true → W.written writer.new ≡ W.written writer.old }
     ensures taken { R.taken reader.new ≤ R.taken reader.old + (script_limit + 1) }
 {
+    base_law();
     right_report_law();
     run_script(alloc, reader, writer)
 }

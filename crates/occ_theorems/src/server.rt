@@ -22,31 +22,31 @@ pub fn receipt_theorem<R: Wait>(
     server.edit(rt, alloc, session, edit)
 }
 
-/// A report that is asked for with a receipt has the edit of the receipt at its number, in a journal that is legal.
-/// Each open unit is in it in order, as pending or with exactly the diagnostics of the files that the journal makes.
+/// A report that is asked for with a receipt has the edit of the receipt at its number, in a journal that is legal over its base.
+/// Each open unit is in it in order, as pending or with exactly the diagnostics of the files that base and journal make.
 pub fn snapshot_theorem<R: Wait>(
     rt: &R,
     alloc: Global,
     server: &Server,
     seen: &Receipt,
 ) -> Result<Snapshot, ReportFault>
-    ensures right { IfOk result (λ s. IsSnapshot s.entries s.rows) }
-    ensures seen { IfOk result (λ s. entry_at s.entries seen.now.number ≡ Some seen.now.entry) }
+    ensures right { IfOk result (λ s. IsSnapshot s.base s.entries s.rows) }
+    ensures seen { IfOk result (λ s. entry_at s.base s.entries seen.now.number ≡ Some seen.now.entry) }
 {
     let snapshot = server.report(rt, alloc, Some(seen))?;
     let _entries = snapshot.entries();
     Ok(snapshot)
 }
 
-/// A server that is closed gives the report from nothing of all its edits, and the receipts are those of all edits, in order.
+/// A server that is closed gives the report from nothing of its base and all edits since; the receipts are those of these, in order.
 /// So no edit is lost and none is made up, whatever threads did.
 pub fn end_theorem(
     alloc: Global,
     server: Server,
     receipts: &[Receipt],
 ) -> Result<Ended, (Server, CloseFault)>
-    ensures receipts { IfOk result (λ e. receipts.now ≡ receipts_of e.entries) }
-    ensures right { IfOk result (λ e. IsWhole e.entries e.rows) }
+    ensures receipts { IfOk result (λ e. receipts.now ≡ receipts_of e.base e.entries) }
+    ensures right { IfOk result (λ e. IsWhole e.base e.entries e.rows) }
 {
     let ended = server.close(alloc, receipts)?;
     let _entries = ended.entries();

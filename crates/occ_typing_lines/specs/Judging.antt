@@ -13,7 +13,7 @@ use Rattle.occ_typing_lines.specs.Constructs.{constructing}
 use Rattle.occ_typing_lines.specs.Lines.{Judged, alone, main, over, specifying, with_role}
 use Rattle.occ_typing_lines.specs.Parts.{expressing, parting, tagged}
 use Rattle.occ_typing_lines.specs.Specifying.{heading, one_line}
-use Rattle.occ_typing_lines.specs.Using.{imported, interface_of}
+use Rattle.occ_typing_lines.specs.Using.{imported, interfaces_of}
 use Rattle.occ_typing_lines.specs.declared.tree.TypedForm.TheVariants as t
 use Rattle.occ_typing_lines.specs.declared.using.Import.{Import}
 use Rattle.occ_typing_lines.specs.declared.parent.Parent.{Parent}
@@ -35,7 +35,7 @@ form_line s (form.Tagged name d ds) under next = alone (tagged s name (d ∷ ds)
 
 abbrev pub line : List Import → Scope → ExpandedBody → Forest → Parent → Judged
 line is s (body.Form f) under next = form_line s f under next
-line is s (body.Uses unit) under next = alone (specifying [] (imported (interface_of unit is)) (t.Uses (interface_of unit is)) next)
+line is s (body.Uses units) under next = alone (specifying [] (imported (interfaces_of units is)) (t.Uses (interfaces_of units is)) next)
 line is s (body.Fault code) under next = alone (main [] t.Unknown next)
 
 -- the lines of a record and of a protocol are reported with its head

@@ -28,6 +28,11 @@ abbrev pub interface_of : List ℕ → List Import → List Interface
 interface_of unit [] = []
 interface_of unit (i ∷ is) = if bytes_eq i.unit unit then i.interface ∷ [] else interface_of unit is
 
+-- what the imports of these units show, in the order of the units
+abbrev pub interfaces_of : List (List ℕ) → List Import → List Interface
+interfaces_of [] is = []
+interfaces_of (unit ∷ units) is = interface_of unit is ++ interfaces_of units is
+
 -- what comes into scope by what is shown
 abbrev pub imported : List Interface → List ScopeEntry
 imported [] = []

@@ -14,7 +14,7 @@ use super::parent::{Line, Parent, Role};
 use super::part::{expressions, part};
 use super::specifying::one_line;
 use super::tree::TypedForm;
-use super::using::{Import, imported, interface_of};
+use super::using::{Import, imported, interfaces_of};
 use super::variant::tagged;
 use occ_base::{Diag, Fault, Items};
 use occ_forms::{Form, Specified};
@@ -99,8 +99,8 @@ fn line(
         ExpandedBody::Form(form) => {
             form_line(alloc, form.get(), nodes, scope, parent, found, faults)
         }
-        ExpandedBody::Uses(unit) => {
-            let interfaces = interface_of(alloc, imports, unit)?;
+        ExpandedBody::Uses(units) => {
+            let interfaces = interfaces_of(alloc, imports, units.get().as_slice())?;
             let adds = imported(alloc, interfaces.as_slice())?;
             line_of_one(alloc, adds, TypedForm::Uses(interfaces), parent)
         }

@@ -1,8 +1,8 @@
 //! Imports: what comes into scope after a `#USE`, from the interfaces of used units.
-ghost use Rattle.occ_typing_lines.specs.Using.{entry_of, entries_of, imported as spec_imported, interface_of as spec_interface_of, meaning_of as spec_meaning_of};
-ghost use Rattle.std.specs.Prelude.{◌≡◌, ◌++◌, ◌∷◌, [], IfOk, OnOk};
+ghost use Rattle.occ_typing_lines.specs.Using.{entry_of, entries_of, imported as spec_imported, interface_of as spec_interface_of, interfaces_of as spec_interfaces_of, meaning_of as spec_meaning_of};
+ghost use Rattle.std.specs.Prelude.{◌≡◌, ◌++◌, ◌∷◌, [], IfOk, MatchOption, OnOk};
 
-use occ_base::{FileName, Items, Shared, one_item};
+use occ_base::{FileName, Items, Shared};
 use occ_scope::{Meaning, ScopeEntry};
 use occ_types::{Export, ExportKind, Formal, Interface, OccType};
 use std::alloc::{AllocError, Global};
@@ -82,22 +82,47 @@ fn push_exports(
 }
 
 /// What the first import of this unit shows; a unit of which there is none shows nothing.
-pub fn interface_of(
-    alloc: Global,
-    imports: &[Import],
-    unit: &FileName,
-) -> Result<Items<Shared<Interface>>, AllocError>
-    ensures { IfOk result (λ found. found ≡ spec_interface_of unit.now imports.now) }
+fn interface_of(imports: &[Import], unit: FileName) -> Option<&Shared<Interface>>
+    ensures { MatchOption result (spec_interface_of unit imports.now ≡ []) (λ interface. spec_interface_of unit imports.now ≡ interface.now ∷ []) }
 {
     for import in imports {
-        if import.unit == *unit {
-            return one_item(alloc, import.interface.share()?);
+        if import.unit == unit {
+            return Some(&import.interface);
         }
     }
-    Ok(Items::new(alloc))
+    None
 }
 
-/// What comes into scope after a line that uses a unit which shows this.
+/// Adds what the import of this unit shows, if there is one.
+fn push_interface(
+    imports: &[Import],
+    unit: FileName,
+    found: &mut Items<Shared<Interface>>,
+) -> Result<(), AllocError>
+    ensures { OnOk result (found.new ≡ found.old ++ spec_interface_of unit imports.now) }
+{
+    match interface_of(imports, unit) {
+        Some(interface) => found.push(interface.share()?),
+        None => Ok(()),
+    }
+}
+
+/// What the imports of these units show, in the order of the units.
+pub fn interfaces_of(
+    alloc: Global,
+    imports: &[Import],
+    units: &[FileName],
+) -> Result<Items<Shared<Interface>>, AllocError>
+    ensures { IfOk result (λ found. found ≡ spec_interfaces_of units.now imports.now) }
+{
+    let mut found = Items::new(alloc);
+    for unit in units {
+        push_interface(imports, *unit, &mut found)?;
+    }
+    Ok(found)
+}
+
+/// What comes into scope after a line that uses units which show this.
 pub fn imported(
     alloc: Global,
     interfaces: &[Shared<Interface>],

@@ -3,7 +3,7 @@ use Rattle.std.specs.Prelude.{◌+◌, ◌<◌, ◌^◌, Some, None, length}
 use Rattle.occheck_commands.specs.Ended.{IsEnded}
 use Rattle.occheck_commands.specs.Lines.{cut_lines}
 use Rattle.occheck_commands.specs.Script.{Command, Script, script_from, ended, then}
-use Rattle.occheck_commands.specs.Script.Command.{Open, Change, Remove, Take, Finish, Drop, Settle, Report}
+use Rattle.occheck_commands.specs.Script.Command.{Open, Change, Remove, Take, Finish, Drop, Settle, Checkpoint, Report}
 use Rattle.occheck_commands.specs.declared.command.Command.{Command as Lent}
 use Rattle.occheck_commands.specs.declared.command.Command.TheVariants as lent
 use Rattle.occheck_commands.specs.declared.script.Rest.{Rest}
@@ -19,6 +19,7 @@ meant (lent.Take w) = Take w
 meant (lent.Finish w) = Finish w
 meant (lent.Drop w) = Drop w
 meant lent.Settle = Settle
+meant lent.Checkpoint = Checkpoint
 meant lent.Report = Report
 
 -- what is left of a script is ended, and its lines can be counted

@@ -14,6 +14,7 @@ pub data Command : Type 0 where
   Finish : ℕ → Command
   Drop : ℕ → Command
   Settle : Command
+  Checkpoint : Command
   Report : Command
 
 -- ---- the first line of a command
@@ -76,7 +77,10 @@ texts edit name n = cond (nat_lt 0 (length name)) (texts_of edit name (number n)
 
 -- a command of one word
 abbrev pub bare : List ℕ → Option Header
-bare word = cond (bytes_eq word (codes "settle")) (Some (Alone Settle)) (cond (bytes_eq word (codes "report")) (Some (Alone Report)) None)
+bare word =
+    cond (bytes_eq word (codes "settle")) (Some (Alone Settle))
+    (cond (bytes_eq word (codes "checkpoint")) (Some (Alone Checkpoint))
+    (cond (bytes_eq word (codes "report")) (Some (Alone Report)) None))
 
 -- of two: of a file, or of a worker
 abbrev pub for_worker : List ℕ → List ℕ → Option Header

@@ -26,6 +26,8 @@ pub enum Command<'a> {
     Drop(u8),
     /// `settle`
     Settle,
+    /// `checkpoint`
+    Checkpoint,
     /// `report`
     Report,
 }
@@ -72,6 +74,9 @@ fn bare(word: &[u8]) -> Option<Header<'_>>
 {
     if is_word(word, "settle") {
         return Some(Header::Alone(Command::Settle));
+    }
+    if is_word(word, "checkpoint") {
+        return Some(Header::Alone(Command::Checkpoint));
     }
     if is_word(word, "report") {
         return Some(Header::Alone(Command::Report));

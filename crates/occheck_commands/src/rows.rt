@@ -2,7 +2,7 @@
 ghost use Rattle.std.specs.Prelude.{◌≡◌, ◌∷◌, ◌++◌, [], codes, None, Some};
 ghost use Rattle.occheck_commands.specs.Lines.{cut_lines, text_of, words};
 ghost use Rattle.occheck_commands.specs.Script.{header, number, script_of};
-ghost use Rattle.occheck_commands.specs.Script.Command.{Change, Drop, Finish, Open, Remove, Report, Settle, Take};
+ghost use Rattle.occheck_commands.specs.Script.Command.{Change, Checkpoint, Drop, Finish, Open, Remove, Report, Settle, Take};
 ghost use Rattle.occheck_commands.specs.Script.Edit.{Changing, Opening};
 ghost use Rattle.occheck_commands.specs.Script.Header.{Alone, Texts};
 
@@ -36,6 +36,7 @@ pub fn header_rows()
     ensures finish { header (codes "finish 0") ≡ Some (Alone (Finish 0)) }
     ensures drop { header (codes "drop 00007") ≡ Some (Alone (Drop 7)) }
     ensures settle { header (codes "settle") ≡ Some (Alone Settle) }
+    ensures checkpoint { header (codes "checkpoint") ≡ Some (Alone Checkpoint) }
     ensures report { header (codes "report") ≡ Some (Alone Report) }
     ensures any_name { header (codes "remove " ++ 13 ∷ 200 ∷ []) ≡ Some (Alone (Remove (13 ∷ 200 ∷ []))) }
     ensures no_name { header (codes "remove ") ≡ None }
@@ -50,7 +51,7 @@ pub fn header_rows()
     ensures blank { header (codes " ") ≡ None }
     ensures carriage_return { header (codes "report" ++ 13 ∷ []) ≡ None }
     ensures capitals { header (codes "REPORT") ≡ None }
-    ensures other { header (codes "checkpoint") ≡ None }
+    ensures other { header (codes "checkpoints") ≡ None }
 {}
 
 /// What scripts say, with the lines of their commands: lines without bytes between commands and in a text; a last line of a

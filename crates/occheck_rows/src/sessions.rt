@@ -141,6 +141,15 @@ fn sessions_take_no_jobs(rt: HostRuntime) -> Result<(), Fail> {
 }
 
 #[test]
+fn sessions_cut_no_journal(rt: HostRuntime) -> Result<(), Fail> {
+    let a = rt.alloc();
+    let output = "session 2\nscript fault 3\n";
+    let script = "open b.occ 0\nreport\ncheckpoint\n";
+    assert!(rt; ends_so(&rt, a, [SHARED, script], &Free, Status::ScriptFault, output));
+    Ok(())
+}
+
+#[test]
 fn edits_of_a_session_are_refused_as_on_a_board(rt: HostRuntime) -> Result<(), Fail> {
     let a = rt.alloc();
     let script =

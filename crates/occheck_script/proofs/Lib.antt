@@ -1,3 +1,4 @@
+pub mod Cuts
 pub mod Left
 pub mod Known
 pub mod Running

@@ -9,8 +9,8 @@ use Rattle.occ_base.specs.FileName.{name_fault}
 use Rattle.occ_base.specs.declared.diag.Diag.{Diag}
 use Rattle.occ_base.specs.declared.file_name.NameFault.{NameFault}
 use Rattle.occ_base.specs.declared.file_name.NameFault.TheVariants as name
-use Rattle.occ_board.specs.Machine.{after as after_event, edit_answer, finish_answer, pending_answer, report_answer, start as no_files, take_answer}
-use Rattle.occ_board.specs.Machine.Event.{Abandon, Edited, Finish, Take}
+use Rattle.occ_board.specs.Machine.{after as after_event, edit_answer, finish_answer, number_of, pending_answer, report_answer, start as no_files, take_answer}
+use Rattle.occ_board.specs.Machine.Event.{Abandon, Checkpoint as CutOff, Edited, Finish, Take}
 use Rattle.occ_board.specs.declared.entry.Edit.{Edit}
 use Rattle.occ_board.specs.declared.entry.Edit.TheVariants as edit
 use Rattle.occ_board.specs.declared.entry.EditFault.{EditFault}
@@ -22,7 +22,7 @@ use Rattle.occ_board.specs.declared.verdict.Verdict.{Verdict}
 use Rattle.occ_board.specs.declared.verdict.Verdict.TheVariants as verdict
 use Rattle.occ_board.specs.Rules.{Input}
 use Rattle.occheck_commands.specs.Script.{Command, Placed}
-use Rattle.occheck_commands.specs.Script.Command.{Change, Drop, Open, Remove, Report, Settle, Take as TakeBy, Finish as FinishBy}
+use Rattle.occheck_commands.specs.Script.Command.{Change, Checkpoint, Drop, Open, Remove, Report, Settle, Take as TakeBy, Finish as FinishBy}
 use Rattle.occ_forms.specs.Prepared.{IsPrepared, Prepared}
 use Rattle.occ_forms.specs.declared.source.SourceLine.{SourceLine}
 use Rattle.occ_lines.specs.Lines.{limit_fault}
@@ -55,6 +55,7 @@ ReadsCommand read (TakeBy w) = Unit {0}
 ReadsCommand read (FinishBy w) = Unit {0}
 ReadsCommand read (Drop w) = Unit {0}
 ReadsCommand read Settle = Unit {0}
+ReadsCommand read Checkpoint = Unit {0}
 ReadsCommand read Report = Unit {0}
 
 -- each text that the commands have has its lines
@@ -170,6 +171,15 @@ settle_text s = with_line_end (codes "settled " ++ decimal (pending_answer (sett
 abbrev pub after_settle : Desk → Desk
 after_settle s = record { board = settled s.board; held = s.held; errors = s.errors }
 
+-- ---- checkpoints
+
+-- the base has the number of the last edit from then on
+abbrev pub checkpoint_text : Desk → List ℕ
+checkpoint_text s = with_line_end (codes "checkpoint " ++ decimal (number_of s.board))
+
+abbrev pub after_checkpoint : Desk → Desk
+after_checkpoint s = record { board = after_event s.board CutOff; held = s.held; errors = s.errors }
+
 -- ---- reports
 
 abbrev pub diag_text : Diag → List ℕ
@@ -203,6 +213,7 @@ answer read s (TakeBy w) = take_text (job_of w s.held) (take_answer s.board)
 answer read s (FinishBy w) = finish_text s (job_of w s.held)
 answer read s (Drop w) = drop_text (job_of w s.held)
 answer read s Settle = settle_text s
+answer read s Checkpoint = checkpoint_text s
 answer read s Report = report_text (report_answer s.board)
 
 abbrev pub after : Reading → Desk → Command → Desk
@@ -215,4 +226,5 @@ after read s (TakeBy w) = after_take w (job_of w s.held) s
 after read s (FinishBy w) = after_finish w (job_of w s.held) s
 after read s (Drop w) = after_drop w (job_of w s.held) s
 after read s Settle = after_settle s
+after read s Checkpoint = after_checkpoint s
 after read s Report = after_report s

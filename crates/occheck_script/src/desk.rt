@@ -1,7 +1,7 @@
 //! The state of a script, and the answer to each command. It has the board, the jobs that workers hold, and whether the
 //! last report had an error. `docs/MACHINE.md, Scripts`.
 ghost use Rattle.occheck_commands.specs.Left.{meant};
-ghost use Rattle.occheck_commands.specs.Script.Command.{Change, Drop as LetGo, Finish as FinishBy, Open, Remove, Report, Settle, Take as TakeBy};
+ghost use Rattle.occheck_commands.specs.Script.Command.{Change, Checkpoint, Drop as LetGo, Finish as FinishBy, Open, Remove, Report, Settle, Take as TakeBy};
 ghost use Rattle.occheck_script.specs.Machine.{AreLines, Reading, ReadsCommand, after, answer as spec_answer, job_of, start, without};
 ghost use Rattle.std.specs.List.{position};
 ghost use Rattle.std.specs.Prelude.{◌≡◌, ◌==◌, IfOk, OnOk};
@@ -59,6 +59,7 @@ impl Desk {
             Command::Finish(worker) => self.finish(alloc, worker),
             Command::Drop(worker) => self.drop_job(alloc, worker),
             Command::Settle => self.settle(alloc),
+            Command::Checkpoint => self.checkpoint(alloc),
             Command::Report => self.report(alloc),
         }
     }
@@ -147,6 +148,16 @@ impl Desk {
         settle(alloc, &mut self.board)?;
         let number = self.board.pending().to_string(alloc)?;
         line_naming(alloc, "settled ", number.as_bytes())
+    }
+
+    #[tactic(auto, using(crate::proofs::Cuts::cut_number))]
+    fn checkpoint(&mut self, alloc: Global) -> Result<Vec<u8>, AllocError>
+        ensures answered { (read : Reading) → IfOk result (λ bytes. bytes.items ≡ spec_answer read self.old Checkpoint) }
+        ensures after { (read : Reading) → OnOk result (self.new ≡ after read self.old Checkpoint) }
+    {
+        let cut = self.board.checkpoint(alloc)?;
+        let number = cut.number.to_string(alloc)?;
+        line_naming(alloc, "checkpoint ", number.as_bytes())
     }
 
     fn report(&mut self, alloc: Global) -> Result<Vec<u8>, AllocError>

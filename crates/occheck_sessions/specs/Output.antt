@@ -2,7 +2,7 @@
 use Rattle.std.specs.Prelude.{ℕ, Bool, true, false, ◌≡◌, ◌⊎◌, ◌+◌, ◌&&◌, nat_le, List, [], ◌∷◌, ◌++◌, codes, length, Option, Some, None}
 use Rattle.std.specs.Fmt.{decimal}
 use Rattle.std.specs.List.{list_all}
-use Rattle.occ_board.specs.Journal.{IsLegal, replay}
+use Rattle.occ_board.specs.Journal.{IsLegal, nothing, replay}
 use Rattle.occ_board.specs.declared.entry.Entry.{Entry}
 use Rattle.occheck_commands.specs.Script.{Script}
 use Rattle.occheck_script.specs.Devices.{Appends, AppendsFront}
@@ -52,16 +52,16 @@ is_of_one sessions e = nat_le 1 e.session && nat_le e.session sessions
 -- Beside it stand the answers of each session in order, and then the report from nothing of its files
 pub record IsRun (read : Reading) (scripts : List Script) (es : List Entry) (output : List ℕ) : Type 0 where
   pub fine : first_fault 1 scripts ≡ None
-  pub legal : IsLegal es
+  pub legal : IsLegal nothing es
   pub within : list_all (is_of_one (length scripts)) es ≡ true
-  pub announced : (answers : List ℕ) × (output ≡ answers ++ report_text (whole_rows (replay es))) × AreReported read es 1 scripts answers
+  pub announced : (answers : List ℕ) × (output ≡ answers ++ report_text (whole_rows (replay nothing es))) × AreReported read es 1 scripts answers
 
 -- ---- what was written
 
 -- an output of a run was written, and the last report told an error or not
 abbrev pub IsWhole : Reading → List Script → Option (List ℕ) → Option (List ℕ) → Bool → Type 0
 IsWhole read scripts before now errors =
-    (es : List Entry) × (output : List ℕ) × IsRun read scripts es output × Appends before now output × (errors ≡ reports_errors (whole_rows (replay es)))
+    (es : List Entry) × (output : List ℕ) × IsRun read scripts es output × Appends before now output × (errors ≡ reports_errors (whole_rows (replay nothing es)))
 
 -- a front of an output was written
 abbrev pub IsFront : Reading → List Script → Option (List ℕ) → Option (List ℕ) → Type 0

@@ -1,5 +1,6 @@
 -- What a session is told, beside the edits that were made in the end.
 use Rattle.std.specs.Prelude.{ℕ, Bool, true, false, ◌≡◌, ◌⊎◌, ◌==◌, ◌≤◌, List, [], ◌∷◌, ◌++◌, codes, if◌then◌else◌, length, take, Option, Some, None}
+use Rattle.occ_board.specs.Journal.{nothing}
 use Rattle.occ_board.specs.declared.entry.Edit.{Edit}
 use Rattle.occ_board.specs.declared.entry.Edit.TheVariants as edit
 use Rattle.occ_board.specs.declared.entry.EditFault.{EditFault}
@@ -7,14 +8,14 @@ use Rattle.occ_board.specs.declared.entry.EditFault.TheVariants as fault
 use Rattle.occ_board.specs.declared.entry.Entry.{Entry}
 use Rattle.occ_board.specs.declared.report.Row.{Row}
 use Rattle.occheck_commands.specs.Script.{Command, Placed, Script}
-use Rattle.occheck_commands.specs.Script.Command.{Change, Drop, Open, Remove, Report, Settle, Take as TakeBy, Finish as FinishBy}
+use Rattle.occheck_commands.specs.Script.Command.{Change, Checkpoint, Drop, Open, Remove, Report, Settle, Take as TakeBy, Finish as FinishBy}
 use Rattle.occ_lines.specs.Lines.{limit_fault}
 use Rattle.occheck_script.specs.Machine.{Reading, board_word, edited_text, report_text, text_read, with_line_end, wrong_word}
 use Rattle.occ_server.specs.Snapshots.{IsSnapshot}
 
 -- ---- the scripts of sessions
 
--- workers are threads of their own: sessions do not have their commands
+-- workers are threads of their own, and sessions keep all their edits: they do not have these commands
 abbrev pub is_stepped : Command → Bool
 is_stepped (Open file contents) = false
 is_stepped (Change file contents) = false
@@ -23,6 +24,7 @@ is_stepped (TakeBy w) = true
 is_stepped (FinishBy w) = true
 is_stepped (Drop w) = true
 is_stepped Settle = false
+is_stepped Checkpoint = true
 is_stepped Report = false
 
 abbrev pub first_stepped : List Placed → Option ℕ → Option ℕ
@@ -75,7 +77,7 @@ HasMade k made es = (more : List Edit) × (edits_of k es ≡ made ++ more)
 
 -- the report of the files that the first m edits make, with all among them that the session had made
 abbrev pub IsReportAnswer : List Entry → ℕ → List Edit → List ℕ → Type 0
-IsReportAnswer es k made answer = (m : ℕ) × (rows : List Row) × (m ≤ length es) × HasMade k made (take m es) × IsSnapshot (take m es) rows × (answer ≡ report_text rows)
+IsReportAnswer es k made answer = (m : ℕ) × (rows : List Row) × (m ≤ length es) × HasMade k made (take m es) × IsSnapshot nothing (take m es) rows × (answer ≡ report_text rows)
 
 -- the answer to a command of session k, beside the journal of all edits that were made in the end
 abbrev pub IsAnswer : Reading → List Entry → ℕ → List Edit → Command → List ℕ → List Edit → Type 0
@@ -85,6 +87,7 @@ IsAnswer read es k made (Remove file) answer next = IsEditAnswer (wrong_word fil
 IsAnswer read es k made (TakeBy w) answer next = ⊥
 IsAnswer read es k made (FinishBy w) answer next = ⊥
 IsAnswer read es k made (Drop w) answer next = ⊥
+IsAnswer read es k made Checkpoint answer next = ⊥
 IsAnswer read es k made Settle answer next = (answer ≡ with_line_end (codes "settled 0")) × (next ≡ made)
 IsAnswer read es k made Report answer next = IsReportAnswer es k made answer × (next ≡ made)
 

@@ -5,7 +5,7 @@ ghost use Rattle.occheck_sessions.specs.Sessions.{IsAnswer, IsReportAnswer, edit
 ghost use Rattle.std.specs.Prelude.{◌≡◌, ◌≤◌, IfOk, codes, length, take, true};
 
 use super::editing::{Answer, changed, opened, removed};
-use super::matching::is_front;
+use super::matching::{is_first, is_front};
 use super::talk::{Broken, Said};
 use occ_board::Entry;
 use occ_server::Snapshot;
@@ -33,7 +33,9 @@ pub fn answered(
         Command::Remove(name) => removed(alloc, session, name, said, entries, last),
         Command::Settle => settled(alloc, said, last),
         Command::Report => reported(alloc, session, said, entries, last),
-        Command::Take(_) | Command::Finish(_) | Command::Drop(_) => Err(Broken::Disagree),
+        Command::Take(_) | Command::Finish(_) | Command::Drop(_) | Command::Checkpoint => {
+            Err(Broken::Disagree)
+        }
     }
 }
 
@@ -70,7 +72,8 @@ fn reported(
     }
 }
 
-/// The text of a report that has seen the first edits of these, the last one of the session among them.
+/// The text of a report that has seen the first edits of these, the last one of the session among them. None of them was cut
+/// off.
 fn report_text(
     alloc: Global,
     session: u32,
@@ -81,6 +84,9 @@ fn report_text(
     requires { last ≤ length entries.now }
     ensures { IfOk result (λ text. IsReportAnswer entries.now session (edits_of session (take last entries.now)) text.items) }
 {
+    if !is_first(snapshot.base()) {
+        return Err(Broken::Disagree);
+    }
     let seen = snapshot.entries();
     if seen.len() < last || !is_front(seen, entries) {
         return Err(Broken::Disagree);

@@ -6,12 +6,12 @@ ghost use Rattle.std.specs.Prelude.{◌≡◌};
 use super::script::SessionScript;
 use occheck_commands::{Command, Next, next_command};
 
-/// Whether a command is of a worker, which sessions have not.
+/// Whether a command is of a worker, or a checkpoint, which sessions have not.
 fn is_stepped(command: Command<'_>) -> bool
     ensures { result ≡ spec_is_stepped (meant command.entry) }
 {
     match command {
-        Command::Take(_) | Command::Finish(_) | Command::Drop(_) => true,
+        Command::Take(_) | Command::Finish(_) | Command::Drop(_) | Command::Checkpoint => true,
         Command::Open(_, _)
         | Command::Change(_, _)
         | Command::Remove(_)

@@ -1,4 +1,5 @@
 //! Finds the next edit of a session in the journal, and compares it with what a command asks for.
+ghost use Rattle.occ_board.specs.Journal.{IsBase, nothing};
 ghost use Rattle.occ_board.specs.declared.entry.Edit.TheVariants as an_edit;
 ghost use Rattle.occ_lines.specs.Lines.{limit_fault};
 ghost use Rattle.occheck_script.specs.Machine.{AreLines, Reading, text_read};
@@ -6,7 +7,8 @@ ghost use Rattle.occheck_sessions.specs.Sessions.{edits_of, refuses_opening, ref
 ghost use Rattle.std.specs.Prelude.{◌≡◌, ◌≤◌, ◌++◌, ◌∷◌, [], IfNone, IfSome, None, length, take, true};
 
 use occ_base::FileName;
-use occ_board::{Edit, EditFault, Entry};
+use occ_board::laws::base_law;
+use occ_board::{Base, Edit, EditFault, Entry};
 use occ_forms::Source;
 use occ_server::is_same_entry;
 use occ_server::laws::source_law;
@@ -41,6 +43,15 @@ pub fn is_front(front: &[Entry], entries: &[Entry]) -> bool
         }
     }
     true
+}
+
+/// Whether a base is the one before any edit, so that no edit was cut off.
+pub fn is_first(base: &Base) -> bool
+    requires { IsBase base.now }
+    ensures { result ≡ true → base.now ≡ nothing }
+{
+    base_law();
+    base.number == 0
 }
 
 /// Whether a text within the limits is that of a source.

@@ -1,10 +1,12 @@
 //! The output of a run: the answers of each session, and the last report.
+ghost use Rattle.occ_board.specs.Journal.{nothing};
 ghost use Rattle.occheck_sessions.specs.Output.{AreReading, AreReported, IsRun, fault_lines, first_fault, is_of_one, session_line};
 ghost use Rattle.occheck_script.specs.Machine.{Reading};
 ghost use Rattle.std.specs.List.{list_all};
-ghost use Rattle.std.specs.Prelude.{◌≡◌, ◌+◌, ◌<◌, ◌^◌, IfOk, None, length};
+ghost use Rattle.std.specs.Prelude.{◌≡◌, ◌+◌, ◌<◌, ◌^◌, IfOk, None, OnOk, length};
 
 use super::announcing::announce;
+use super::matching::is_first;
 use super::script::SessionScript;
 use super::talk::{Broken, Said};
 use occ_board::Entry;
@@ -41,10 +43,11 @@ pub fn whole_text(
 ) -> Result<Vec<u8>, Broken>
     requires fine { first_fault 1 scripts.now ≡ None }
     requires few { length scripts.now < 17 }
-    ensures { (read : Reading) → AreReading read scripts.now → IfOk result (λ text. IsRun read scripts.now ended.now.entries text.items) }
+    ensures first { OnOk result (ended.now.base ≡ nothing) }
+    ensures run { (read : Reading) → AreReading read scripts.now → IfOk result (λ text. IsRun read scripts.now ended.now.entries text.items) }
 {
     let entries = ended.entries();
-    if !are_within(entries, scripts.len() as u32) {
+    if !is_first(ended.base()) || !are_within(entries, scripts.len() as u32) {
         return Err(Broken::Disagree);
     }
     let mut text = reported_from(alloc, 1, scripts, said, entries)?;

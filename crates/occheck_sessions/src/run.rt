@@ -135,7 +135,7 @@ fn whole_output<G: Gate + Sync, T: Threads + Wait + Sync>(
 
 /// The end of a server.
 fn closed(alloc: Global, server: Server, receipts: &[Receipt]) -> Result<Ended, Broken>
-    ensures { IfOk result (λ ended. receipts.now ≡ receipts_of ended.entries) }
+    ensures { IfOk result (λ ended. receipts.now ≡ receipts_of ended.base ended.entries) }
 {
     match server.close(alloc, receipts) {
         Ok(ended) => Ok(ended),

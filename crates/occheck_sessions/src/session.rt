@@ -68,7 +68,9 @@ impl<'a, R: Wait> Session<'a, R> {
             },
             Command::Settle => self.settle(),
             Command::Report => self.report(talk),
-            Command::Take(_) | Command::Finish(_) | Command::Drop(_) => Err(Broken::Disagree),
+            Command::Take(_) | Command::Finish(_) | Command::Drop(_) | Command::Checkpoint => {
+                Err(Broken::Disagree)
+            }
         }
     }
 
@@ -95,7 +97,7 @@ impl<'a, R: Wait> Session<'a, R> {
         let seen = talk.receipts.as_slice().last();
         match self.server.report(self.rt, self.alloc, seen) {
             Ok(snapshot) => Ok(Said::Reported(snapshot)),
-            Err(ReportFault::Behind(_)) => Err(Broken::Disagree),
+            Err(ReportFault::Cut(_) | ReportFault::Behind(_)) => Err(Broken::Disagree),
             Err(ReportFault::Memory) => Err(Broken::Memory),
         }
     }

@@ -1,7 +1,8 @@
-//! Tests: outcomes that are repeated or foreign, and jobs that are handed out once.
+//! Tests: outcomes that are repeated or foreign, jobs that are handed out once, and a full journal that goes on after a
+//! checkpoint.
 use super::expansion::open;
 use occ_base::{FileName, Items};
-use occ_server::{Board, Job, Outcome, Row, Shown, Verdict, check};
+use occ_server::{Board, EditFault, Job, Outcome, Row, Shown, Verdict, check};
 use std::alloc::Global;
 use std::test::Fail;
 
@@ -120,5 +121,58 @@ fn a_job_is_handed_out_once_until_it_is_given_back(rt: HostRuntime) -> Result<()
     let is_once = is_handed_out_once(a, &mut board);
     drop(board);
     assert!(rt; is_once?);
+    Ok(())
+}
+
+/// Gives a.occ a text without lines, so many times.
+fn change(alloc: Global, board: &mut Board, times: u32) -> Result<(), Fail> {
+    let Some(source) = open(alloc, "a.occ", "")?.source else {
+        return Ok(());
+    };
+    let name = FileName::read(b"a.occ")?;
+    for _ in 0..times {
+        let _edited = board.change(alloc, 1, name, source.share()?);
+    }
+    Ok(())
+}
+
+/// What is answered where b.occ is opened.
+fn opened(alloc: Global, board: &mut Board) -> Result<Result<u32, EditFault>, Fail> {
+    match open(alloc, "b.occ", "")?.source {
+        Some(source) => Ok(board.open(alloc, 1, FileName::read(b"b.occ")?, source)),
+        None => Ok(Err(EditFault::Memory)),
+    }
+}
+
+/// Whether a checkpoint hands so many edits out, and the base has the number of the last one.
+fn cuts(alloc: Global, board: &mut Board, number: u32) -> Result<bool, Fail> {
+    let cut = board.checkpoint(alloc)?;
+    Ok(cut.number == number
+        && cut.entries.len() == number as usize
+        && board.base().number == number
+        && board.entries().is_empty())
+}
+
+/// Whether b.occ is not opened after 100,000 edits, and is after a checkpoint, as the next edit.
+fn goes_on(alloc: Global, board: &mut Board) -> Result<bool, Fail> {
+    change(alloc, board, 99_999)?;
+    let full = opened(alloc, board)?;
+    let cuts = cuts(alloc, board, 100_000)?;
+    let next = opened(alloc, board)?;
+    Ok(
+        matches!(full, Err(EditFault::JournalFull))
+            && cuts
+            && matches!(next, Ok(100_001))
+            && board.entries().len() == 1,
+    )
+}
+
+#[test]
+fn edits_go_on_with_their_numbers_after_a_checkpoint(rt: HostRuntime) -> Result<(), Fail> {
+    let a = rt.alloc();
+    let mut board = board(a)?;
+    let goes_on = goes_on(a, &mut board);
+    drop(board);
+    assert!(rt; goes_on?);
     Ok(())
 }

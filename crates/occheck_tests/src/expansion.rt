@@ -36,11 +36,11 @@ fn stands_at(line: &ExpandedLine, file: &[u8], number: u32, depth: u64) -> bool 
     line.file.as_bytes() == file && line.line == number && line.depth == depth
 }
 
-/// Whether a line uses this unit.
+/// Whether a line uses this unit alone.
 fn uses(line: &ExpandedLine, unit: &[u8]) -> bool {
-    match line.used_unit() {
-        Some(used) => used.as_bytes() == unit,
-        None => false,
+    match line.used_units() {
+        [used] => used.as_bytes() == unit,
+        _ => false,
     }
 }
 

@@ -1,4 +1,4 @@
-//! Tests: reports after edits, closing with all receipts, a stopped server.
+//! Tests: reports after edits, closing with all receipts, receipts of edits that a checkpoint cut off, a stopped server.
 use super::expansion::open;
 use occ_base::FileName;
 use occ_project::Read;
@@ -165,6 +165,50 @@ fn a_server_is_closed_with_all_receipts_in_order(rt: HostRuntime) -> Result<(), 
     match server.close(a, receipts.as_slice()) {
         Ok(ended) => {
             assert_eq!(rt; ended.entries().len(), 2);
+            assert_eq!(rt; ended.report().len(), 1);
+        }
+        Err(_) => assert!(rt; false),
+    }
+    Ok(())
+}
+
+/// Whether a server has cut off the first of these receipts, where its base has number 2, and has a report for the last.
+fn has_cut<R: Wait>(rt: &R, alloc: Global, server: &Server, receipts: &[Receipt]) -> bool {
+    matches!(
+        server.report(rt, alloc, receipts.first()),
+        Err(ReportFault::Cut(2))
+    ) && matches!(
+        server.report(rt, alloc, receipts.last()),
+        Ok(seen) if seen.base().number == 2 && seen.entries().len() == 1
+    )
+}
+
+#[test]
+fn receipts_are_cut_off_by_a_checkpoint(rt: HostRuntime) -> Result<(), Fail> {
+    let a = rt.alloc();
+    let server = Server::new(a);
+    let mut receipts = Vec::new(a);
+    if let Some(receipt) = added(&rt, a, &server, "a.occ", PLAIN)? {
+        receipts.push(receipt)?;
+    }
+    if let Some(receipt) = changed(&rt, a, &server, "a.occ", "SKIP\n")? {
+        receipts.push(receipt)?;
+    }
+    let cut = server.checkpoint(&rt, a)?;
+    assert_eq!(rt; cut.number, 2);
+    assert_eq!(rt; cut.entries.len(), 2);
+    if let Some(receipt) = changed(&rt, a, &server, "a.occ", PLAIN)? {
+        receipts.push(receipt)?;
+    }
+    assert_eq!(rt; receipts.len(), 3);
+    assert!(rt; works(&rt, a, &server, 1));
+    assert!(rt; has_cut(&rt, a, &server, receipts.as_slice()));
+    let (server, fault) = refused(a, server, receipts.as_slice())?;
+    assert!(rt; matches!(fault, CloseFault::Mismatch(1)));
+    match server.close(a, receipts.as_slice().split_at(2).1) {
+        Ok(ended) => {
+            assert_eq!(rt; ended.base().number, 2);
+            assert_eq!(rt; ended.entries().len(), 1);
             assert_eq!(rt; ended.report().len(), 1);
         }
         Err(_) => assert!(rt; false),

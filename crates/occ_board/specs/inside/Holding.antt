@@ -5,7 +5,8 @@ use Rattle.std.specs.BTreeMap.{BTreeMap, get}
 use Rattle.std.specs.Option.{option_map}
 use Rattle.std.specs.Str.{bytes_eq}
 use Rattle.occ_base.specs.FileName.{is_unit}
-use Rattle.occ_board.specs.Journal.{IsLegal, open_number, replay}
+use Rattle.occ_board.specs.Journal.{IsBase, IsLegal, last_number, open_number, replay}
+use Rattle.occ_board.specs.declared.base.Base.{Base}
 use Rattle.occ_board.specs.declared.entry.Edit.{Edit}
 use Rattle.occ_board.specs.declared.entry.Edit.TheVariants as edit
 use Rattle.occ_board.specs.declared.entry.Entry.{Entry}
@@ -17,10 +18,11 @@ use Rattle.occ_project.specs.declared.reads.Read.{Read}
 use Rattle.occ_check.specs.Report.{open_units}
 use Rattle.occ_project_units.specs.Spelled.{AreSpelled}
 
-pub record IsBoard (journal : List Entry) (cached : List Input) (files : List Read) (flags : List Bool) (opened units : ℕ) : Type 0 where
-  pub few : length journal ≤ 10000
-  pub legal : IsLegal journal
-  pub files_are : files ≡ replay journal
+pub record IsBoard (base : Base) (journal : List Entry) (cached : List Input) (files : List Read) (flags : List Bool) (opened units : ℕ) : Type 0 where
+  pub based : IsBase base
+  pub few : last_number base journal ≤ 4294967295
+  pub legal : IsLegal base journal
+  pub files_are : files ≡ replay base journal
   pub spelled : AreSpelled files
   pub len : length flags ≡ length files
   pub flags_are : AreFlags files cached flags
@@ -29,7 +31,7 @@ pub record IsBoard (journal : List Entry) (cached : List Input) (files : List Re
   -- of what cached inputs looked at, a file that has the same revision has the same text
   pub reported : AllGivenByRevision files cached
   -- and none has the revision of the next edit, or a later one
-  pub before : AreBefore (length journal + 1) cached
+  pub before : AreBefore (last_number base journal + 1) cached
   -- how many files are open, includes too, and how many of them are units
   pub opened_are : opened ≡ open_number files
   pub units_are : units ≡ length (open_units files)

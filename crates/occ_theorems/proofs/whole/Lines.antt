@@ -67,7 +67,7 @@ use Rattle.occ_typing_lines.specs.Parts.{expressing_in, guard_faults, guard_of, 
 use Rattle.occ_typing_lines.specs.Protocols.{protocol_of}
 use Rattle.occ_typing_lines.specs.Records.{record_of}
 use Rattle.occ_typing_lines.specs.Specifying.{declared_line, function_faults, function_form, function_line, heading, one_line, one_line_function}
-use Rattle.occ_typing_lines.specs.Using.{entries_of, imported, interface_of}
+use Rattle.occ_typing_lines.specs.Using.{entries_of, imported, interface_of, interfaces_of}
 use Rattle.occ_typing_lines.specs.declared.parent.Line.{Line}
 use Rattle.occ_typing_lines.specs.declared.parent.Parent.{Parent}
 use Rattle.occ_typing_lines.specs.declared.parent.Role.{Role}
@@ -458,6 +458,14 @@ interface_known : (unit : List ℕ) (is : List Import) → AreKnownImports is �
 interface_known unit [] h = tt
 interface_known unit (i ∷ is) h = found_if (bytes_eq i.unit unit) i.interface (interface_of unit is) h.0 (interface_known unit is h.1)
 
+both_known : (xs ys : List Interface) → AllAre IsKnownInterface xs → AllAre IsKnownInterface ys → AllAre IsKnownInterface (xs ++ ys)
+both_known [] ys h g = g
+both_known (x ∷ xs) ys h g = (h.0, both_known xs ys h.1 g)
+
+interfaces_known : (units : List (List ℕ)) (is : List Import) → AreKnownImports is → AllAre IsKnownInterface (interfaces_of units is)
+interfaces_known [] is h = tt
+interfaces_known (unit ∷ units) is h = both_known (interface_of unit is) (interfaces_of units is) (interface_known unit is h) (interfaces_known units is h)
+
 -- ---- all lines
 
 form_known : (r : Row) (p : Parent) (s : Scope) (x : Form) (under : Forest) → NoMembers p.role → Suits r p.role → may_stand r (form_sort x) ≡ true → StandIn (row_under r (form_sort x)) (root_sorts under) → ObeysUnder (row_under r (form_sort x)) under → IsKnownScope s
@@ -474,9 +482,9 @@ form_known r p s (form.Tagged name d ds) under h g st so ob known e b = tagged_k
 body_known : (is : List Import) (r : Row) (p : Parent) (s : Scope) (x : ExpandedBody) (under : Forest) → AreKnownImports is → NoMembers p.role → Suits r p.role → may_stand r (body_sort x) ≡ true → StandIn (row_under r (body_sort x)) (root_sorts under) → ObeysUnder (row_under r (body_sort x)) under → IsKnownScope s
     → (line is s x under p).faults ≡ [] → (line is s x under p).beneath ≡ [] → LineKnown r (body_sort x) (line is s x under p).line
 body_known is r p s (body.Form f) under i h g st so ob known e b = form_known r p s f under h g st so ob known e b
-body_known is r p s (body.Uses unit) under i h g st so ob known e b =
-    let shown = interface_known unit is i in
-    record { form = shown; enters = tt; adds = imported_known (interface_of unit is) shown; under = plain_under r p.role sort.GlobalSpecification h g refl; next = λ _. g }
+body_known is r p s (body.Uses units) under i h g st so ob known e b =
+    let shown = interfaces_known units is i in
+    record { form = shown; enters = tt; adds = imported_known (interfaces_of units is) shown; under = plain_under r p.role sort.GlobalSpecification h g refl; next = λ _. g }
 body_known is r p s (body.Fault code) under i h g st so ob known e b = absurd (nowhere r st)
 
 -- a line that is reported with the head over it

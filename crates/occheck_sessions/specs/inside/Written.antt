@@ -1,6 +1,6 @@
 -- What the last steps of a run write.
 use Rattle.std.specs.Prelude.{ℕ, Bool, true, false, ◌≡◌, List, Option}
-use Rattle.occ_board.specs.Journal.{replay}
+use Rattle.occ_board.specs.Journal.{nothing, replay}
 use Rattle.occ_board.specs.declared.entry.Entry.{Entry}
 use Rattle.occheck_commands.specs.Script.{Script}
 use Rattle.occheck_script.specs.Devices.{Appends, AppendsFront}
@@ -12,7 +12,7 @@ use Rattle.occheck_sessions.specs.Output.{IsRun, fault_lines}
 
 -- the text is the output of a run, and its last report tells an error or not
 abbrev pub IsOutput : Reading → List Script → List ℕ → Bool → Type 0
-IsOutput read scripts text errors = (es : List Entry) × IsRun read scripts es text × (errors ≡ reports_errors (whole_rows (replay es)))
+IsOutput read scripts text errors = (es : List Entry) × IsRun read scripts es text × (errors ≡ reports_errors (whole_rows (replay nothing es)))
 
 -- an output was written, and the run ended with the status
 abbrev pub IsOutputWritten : List ℕ → Bool → Option (List ℕ) → Option (List ℕ) → Status → Type 0

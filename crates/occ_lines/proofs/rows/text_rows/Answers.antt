@@ -1,4 +1,4 @@
-use Rattle.std.proofs.Common.{◌≤◌, [], ◌∷◌, arith, codes, inl, lit≤, refl}
+use Rattle.std.proofs.Common.{◌≤◌, [], ◌∷◌, None, arith, codes, inl, lit≤, refl}
 use Rattle.bstr.specs.Text.{line_len, lines_from}
 use Rattle.occ_base.specs.declared.code.Code.TheVariants as code
 use Rattle.occ_lines.specs.declared.ending.Ending.TheVariants as ending
@@ -51,7 +51,7 @@ returns-clause-continued c =
 pub returns-clause-crossed : goal.returns-clause-crossed
 unfolding IsLines directive_of lines_from line_len
 returns-clause-crossed c =
-    let uses = logical_of 2 0 (body.Uses (codes "b.occ")) ∷ [] in (
+    let uses = logical_of 2 0 (body.Uses (codes "b.occ") None) ∷ [] in (
       (codes "  a," ∷ []) ∷ (codes "#USE \"b\"" ∷ []) ∷ [],
       refl,
       (

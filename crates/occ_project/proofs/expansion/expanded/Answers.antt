@@ -3,7 +3,8 @@ use Rattle.std.specs.Option.{option_copied}
 use Rattle.occ_forms.specs.declared.source.SourceLine.{SourceLine}
 use Rattle.occ_project.specs.declared.making.Made.{Made}
 use Rattle.occ_project.specs.Entries.{entries}
-use Rattle.occ_project.specs.Expansion.{first_indices, unit_entries}
+use Rattle.occ_base.specs.Firsts.{first_indices}
+use Rattle.occ_project.specs.Expansion.{unit_entries}
 use Rattle.occ_project.specs.inside.Making.{after}
 use Rattle.occ_project.proofs.Expansions.{expansion_is, shown, started}
 use Rattle.occ_project.proofs.expansion.expanded.Goals as goal

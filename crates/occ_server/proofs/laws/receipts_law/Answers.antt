@@ -1,4 +1,4 @@
-use Rattle.occ_server.proofs.Offs.{only_these, receipts_rise, reported_is}
+use Rattle.occ_server.proofs.Offs.{only_these, reported_is, rise_all}
 use Rattle.occ_server.proofs.laws.receipts_law.Goals as goal
 
 pub returns-clause-same : goal.returns-clause-same
@@ -8,4 +8,4 @@ pub returns-clause-only : goal.returns-clause-only
 returns-clause-only c = only_these
 
 pub returns-clause-rises : goal.returns-clause-rises
-returns-clause-rises c = receipts_rise 0
+returns-clause-rises c = rise_all

@@ -22,5 +22,5 @@ returns-clause-apart c =
     let old = c.args.board.now in
     let event = Event.Edited c.args.session (an_edit.Changed c.args.name c.args.source) in
     let law : LeavesApart old (after old event) c.args.name
-    = (λ u apart. (c.edit_apart_law.ensures.input old c.args.session (an_edit.Changed c.args.name c.args.source) u apart, c.edit_apart_law.ensures.done old c.args.session (an_edit.Changed c.args.name c.args.source) u apart)) in
+    = (λ u apart. (c.edit_apart_law.ensures.input old c.args.session (an_edit.Changed c.args.name c.args.source) u c.base-base.ensures.known apart, c.edit_apart_law.ensures.done old c.args.session (an_edit.Changed c.args.name c.args.source) u c.base-base.ensures.known apart)) in
     on_ok c.change.result (λ e. left_apart old c.change.new.self (after old event) c.args.name e law) c.change.ensures.after

@@ -5,4 +5,4 @@ use Rattle.occ_board.proofs.Waits.{first_waits}
 use Rattle.occ_board.proofs.board.Board.new.Goals as goal
 
 pub invariant_of-result : goal.invariant_of-result
-invariant_of-result c = (begins _ _ _ _ (search rules) (search rules) (search rules) (search rules) c.done_law.ensures.done, first_waits _ _, new_verified _ _ _ (search rules))
+invariant_of-result c = (begins _ _ _ _ _ (search rules) (search rules) (search rules) (search rules) (search rules) c.done_law.ensures.done, first_waits _ _, new_verified _ _ _ (search rules))

@@ -8,7 +8,7 @@ use Rattle.occ_project_units.specs.Project.{IsProject}
 
 pub overflow_sub-result : goal.overflow_sub-result
 overflow_sub-result c =
-    let project : IsProject c.self.inside.graph = subst IsProject (sym c.self.invariant.0.files_are) (c.done_law.ensures.project c.self.inside.journal.items) in
+    let project : IsProject c.self.inside.graph = subst IsProject (sym c.self.invariant.0.files_are) (c.done_law.ensures.project c.self.inside.base c.self.inside.journal.items c.self.invariant.0.based) in
     let all = done_counted c.self.inside.graph c.self.inside.cached c.self.inside.flags project c.self.invariant.0.of_units (λ u. c.done_law.ensures.done c.self.inside.graph c.self.inside.cached u project) c.self.invariant.0.flags_are c.self.invariant.0.len in
     let units = c.self.invariant.0.units_are in
     let set = c.count.ensures in
@@ -16,7 +16,7 @@ overflow_sub-result c =
 
 pub returns : goal.returns
 returns c =
-    let project : IsProject c.self.inside.graph = subst IsProject (sym c.self.invariant.0.files_are) (c.done_law.ensures.project c.self.inside.journal.items) in
+    let project : IsProject c.self.inside.graph = subst IsProject (sym c.self.invariant.0.files_are) (c.done_law.ensures.project c.self.inside.base c.self.inside.journal.items c.self.invariant.0.based) in
     let all = done_counted c.self.inside.graph c.self.inside.cached c.self.inside.flags project c.self.invariant.0.of_units (λ u. c.done_law.ensures.done c.self.inside.graph c.self.inside.cached u project) c.self.invariant.0.flags_are c.self.invariant.0.len in
     let units = c.self.invariant.0.units_are in
     let set = c.count.ensures in

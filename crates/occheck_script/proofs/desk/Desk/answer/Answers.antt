@@ -60,6 +60,14 @@ pub returns-in-Settle-clause-after : goal.returns-in-Settle-clause-after
 returns-in-Settle-clause-after c = λ read l.
     subst (λ (m : Command). OnOk c.settle.result (c.settle.new.self ≡ after read c.args.self.now (meant m))) (sym c.in-Settle.is) (c.settle.ensures.after read)
 
+pub returns-in-Checkpoint-clause-answered : goal.returns-in-Checkpoint-clause-answered
+returns-in-Checkpoint-clause-answered c = λ read l.
+    subst (λ (m : Command). IfOk c.checkpoint.result (λ bytes. bytes.items ≡ answer read c.args.self.now (meant m))) (sym c.in-Checkpoint.is) (c.checkpoint.ensures.answered read)
+
+pub returns-in-Checkpoint-clause-after : goal.returns-in-Checkpoint-clause-after
+returns-in-Checkpoint-clause-after c = λ read l.
+    subst (λ (m : Command). OnOk c.checkpoint.result (c.checkpoint.new.self ≡ after read c.args.self.now (meant m))) (sym c.in-Checkpoint.is) (c.checkpoint.ensures.after read)
+
 pub returns-in-Report-clause-answered : goal.returns-in-Report-clause-answered
 returns-in-Report-clause-answered c = λ read l.
     subst (λ (m : Command). IfOk c.report.result (λ bytes. bytes.items ≡ answer read c.args.self.now (meant m))) (sym c.in-Report.is) (c.report.ensures.answered read)
