@@ -7,7 +7,7 @@ ghost use Rattle.occ_check.specs.Checks.{checked, input, used_as as spec_used_as
 ghost use Rattle.occ_project_units.specs.Indices.{is_below, standing_of};
 ghost use Rattle.occ_project_units.specs.Project.{IsProject};
 ghost use Rattle.std.specs.Option.{option_copied, option_map};
-ghost use Rattle.std.specs.Prelude.{◌≡◌, IfOk, IfSome, Some, map, slice_get, true};
+ghost use Rattle.std.specs.Prelude.{◌≡◌, ◌<◌, ◌≤◌, ℕ, IfOk, IfSome, Some, false, get_or, map, slice_get, true};
 
 use super::cached::Cached;
 use super::flags::{are_rests_flagged, is_flagged};
@@ -121,16 +121,25 @@ fn is_ready(graph: &Graph, flags: &[bool], index: usize, file: &Read) -> bool
     !is_flagged(flags, index) && are_rests_flagged(graph, flags, index) && is_pending(file, false)
 }
 
+/// The first index, from this one, whose flag is not set; if there is none, how many flags there are.
+fn first_unflagged(flags: &[bool], from: usize) -> usize
+    ensures { (p : ℕ) → from ≤ p → p < result → get_or flags.now p false ≡ true }
+{
+    for index in from..flags.len() {
+        if !flags[index] {
+            return index;
+        }
+    }
+    flags.len()
+}
+
 /// The first index, from one before which no unit is ready, where one is; if there is none, how many files there are.
 pub fn first_ready(graph: &Graph, flags: &[bool], from: usize) -> usize
     requires { NoneIsReady graph.now flags.now from }
     ensures { NoneIsReady graph.now flags.now result }
 {
     let files = graph.project().files();
-    for index in from..files.len() {
-        if is_flagged(flags, index) {
-            continue;
-        }
+    for index in first_unflagged(flags, from)..files.len() {
         if is_ready(graph, flags, index, &files[index]) {
             return index;
         }

@@ -17,6 +17,7 @@ mod used;
 
 pub use checked::Checked;
 pub use job::{Job, JobFault};
+pub use order::in_order;
 pub use outcome::{Outcome, check};
 pub use rows::{input_rows, use_rows};
 pub use used::{Used, UsedUnit};

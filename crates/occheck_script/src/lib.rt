@@ -23,5 +23,6 @@ pub use edit::{RequestedEdit, board_word, named, read_edit, wrong_edit, wrong_na
 pub use input::{ReadFault, read_script};
 pub use report::{report_lines, reports_errors};
 pub use run::run_script;
+pub use settling::settle;
 pub use status::Status;
 pub use written::write_all;

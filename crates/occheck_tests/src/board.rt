@@ -147,10 +147,12 @@ fn opened(alloc: Global, board: &mut Board) -> Result<Result<u32, EditFault>, Fa
 /// Whether a checkpoint hands so many edits out, and the base has the number of the last one.
 fn cuts(alloc: Global, board: &mut Board, number: u32) -> Result<bool, Fail> {
     let cut = board.checkpoint(alloc)?;
-    Ok(cut.number == number
-        && cut.entries.len() == number as usize
-        && board.base().number == number
-        && board.entries().is_empty())
+    Ok(
+        cut.number == number
+            && cut.entries.len() == number as usize
+            && board.base().number == number
+            && board.entries().is_empty(),
+    )
 }
 
 /// Whether b.occ is not opened after 100,000 edits, and is after a checkpoint, as the next edit.

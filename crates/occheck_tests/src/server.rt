@@ -172,37 +172,45 @@ fn a_server_is_closed_with_all_receipts_in_order(rt: HostRuntime) -> Result<(), 
     Ok(())
 }
 
-/// Whether a server has cut off the first of these receipts, where its base has number 2, and has a report for the last.
-fn has_cut<R: Wait>(rt: &R, alloc: Global, server: &Server, receipts: &[Receipt]) -> bool {
+/// Whether a server has cut off a receipt, where its base has number 2.
+fn is_cut<R: Wait>(rt: &R, alloc: Global, server: &Server, receipt: &Receipt) -> bool {
     matches!(
-        server.report(rt, alloc, receipts.first()),
+        server.report(rt, alloc, Some(receipt)),
         Err(ReportFault::Cut(2))
-    ) && matches!(
-        server.report(rt, alloc, receipts.last()),
-        Ok(seen) if seen.base().number == 2 && seen.entries().len() == 1
     )
+}
+
+/// Whether a server has a report after a receipt, with one edit over that base.
+fn is_kept<R: Wait>(rt: &R, alloc: Global, server: &Server, receipt: &Receipt) -> bool {
+    match server.report(rt, alloc, Some(receipt)) {
+        Ok(seen) => seen.base().number == 2 && seen.entries().len() == 1,
+        Err(_) => false,
+    }
 }
 
 #[test]
 fn receipts_are_cut_off_by_a_checkpoint(rt: HostRuntime) -> Result<(), Fail> {
     let a = rt.alloc();
     let server = Server::new(a);
-    let mut receipts = Vec::new(a);
-    if let Some(receipt) = added(&rt, a, &server, "a.occ", PLAIN)? {
-        receipts.push(receipt)?;
-    }
-    if let Some(receipt) = changed(&rt, a, &server, "a.occ", "SKIP\n")? {
-        receipts.push(receipt)?;
-    }
+    let Some(first) = added(&rt, a, &server, "a.occ", PLAIN)? else {
+        return Ok(assert!(rt; false));
+    };
+    let Some(second) = changed(&rt, a, &server, "a.occ", "SKIP\n")? else {
+        return Ok(assert!(rt; false));
+    };
     let cut = server.checkpoint(&rt, a)?;
     assert_eq!(rt; cut.number, 2);
     assert_eq!(rt; cut.entries.len(), 2);
-    if let Some(receipt) = changed(&rt, a, &server, "a.occ", PLAIN)? {
-        receipts.push(receipt)?;
-    }
-    assert_eq!(rt; receipts.len(), 3);
+    let Some(third) = changed(&rt, a, &server, "a.occ", PLAIN)? else {
+        return Ok(assert!(rt; false));
+    };
     assert!(rt; works(&rt, a, &server, 1));
-    assert!(rt; has_cut(&rt, a, &server, receipts.as_slice()));
+    assert!(rt; is_cut(&rt, a, &server, &first));
+    assert!(rt; is_kept(&rt, a, &server, &third));
+    let mut receipts = Vec::new(a);
+    receipts.push(first)?;
+    receipts.push(second)?;
+    receipts.push(third)?;
     let (server, fault) = refused(a, server, receipts.as_slice())?;
     assert!(rt; matches!(fault, CloseFault::Mismatch(1)));
     match server.close(a, receipts.as_slice().split_at(2).1) {

@@ -79,6 +79,7 @@ fn matched<'a>(alloc: Global, line: &'a [&'a str]) -> Result<ArgMatches<'a>, Err
         .num_args(1..)
         .help("a file of commands; - is standard input");
     Command::new(alloc, "occheck")
+        .about("Answers scripts of commands; `occ check FILE..` checks files")
         .arg(steps)?
         .arg(workers)?
         .arg(scripts)?

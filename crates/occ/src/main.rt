@@ -1,0 +1,86 @@
+//! The program for people: it checks files on disk, and explains codes.
+#![tactic(auto)]
+
+mod check;
+mod disk;
+mod printing;
+
+use check::check;
+use occ_base::Code;
+use occ_files_words::{Asked, WordsFault, read_words};
+use occ_messages::{code_named, explained};
+use std::alloc::AllocError;
+use std::env;
+use std::io::{self, ErrorKind};
+use std::process::ExitCode;
+
+/// Nothing is wrong.
+const CLEAN: u8 = 0;
+/// An error was told.
+const ERRORS: u8 = 1;
+/// A file, the command line, memory or a device cannot be read or had.
+const TROUBLE: u8 = 2;
+
+fn main(rt: HostRuntime) -> ExitCode {
+    let done = match asked(&rt) {
+        Ok(Asked::Check(asked)) => check(&rt, &asked),
+        Ok(Asked::Explain(code)) => explain(&rt, code.as_str()),
+        Err(WordsFault::Told(text)) => print!(rt; "{text}").map(|_| CLEAN),
+        Err(WordsFault::Refused(text)) => eprint!(rt; "{text}").map(|_| TROUBLE),
+        Err(WordsFault::Memory) => Ok(TROUBLE),
+    };
+    ExitCode::from(match done {
+        Ok(status) => status,
+        Err(error) if error.kind() == ErrorKind::BrokenPipe => ERRORS,
+        Err(_) => TROUBLE,
+    })
+}
+
+/// The program's name, and the words after it.
+fn words(rt: &HostRuntime) -> io::Result<Vec<String>> {
+    let mut words = Vec::new(rt.alloc());
+    words.push(String::from_str(rt.alloc(), "occ")?)?;
+    for word in env::args(rt)?.skip(1) {
+        words.push(word)?;
+    }
+    Ok(words)
+}
+
+/// What the words ask for.
+fn asked(rt: &HostRuntime) -> Result<Asked, WordsFault> {
+    let Ok(words) = words(rt) else {
+        return Err(unread(rt)?);
+    };
+    let mut texts = Vec::new(rt.alloc());
+    for word in words.as_slice() {
+        texts.push(word.as_str())?;
+    }
+    read_words(rt.alloc(), texts.as_slice())
+}
+
+/// Words that cannot be read.
+fn unread(rt: &HostRuntime) -> Result<WordsFault, AllocError> {
+    let text = String::from_str(rt.alloc(), "error: a word is no text in UTF-8\n")?;
+    Ok(WordsFault::Refused(text))
+}
+
+/// Prints the entry of a code.
+fn explain(rt: &HostRuntime, text: &str) -> io::Result<u8> {
+    match code_named(text) {
+        Some(code) => tell(rt, code),
+        None => {
+            let (first, last) = (Code::G1.as_str(), Code::F1.as_str());
+            eprint!(rt;
+                "error: there is no code '{text}'; the first is {first}, the last {last}\n\nUsage: occ explain <CODE>\n"
+            )?;
+            Ok(TROUBLE)
+        }
+    }
+}
+
+/// Prints the entry of a code.
+fn tell(rt: &HostRuntime, code: Code) -> io::Result<u8> {
+    let text = explained(rt.alloc(), code)?;
+    print!(rt; "{text}")?;
+    Ok(CLEAN)
+}

@@ -1,0 +1,281 @@
+//! The files that are checked together: those that are asked for, and all that they use and include. A name is one file there:
+//! that which is found first.
+use super::finding::{Disk, Found, find, folder_of, name_of};
+use super::refusal::{Refusal, Why};
+use occ_base::{FileName, Items, Shared};
+use occ_forms::{Source, prepare};
+use occ_lines::TextFault;
+use occ_project::{Expanded, Read, Reads, expand_over};
+use std::alloc::{AllocError, Global};
+use std::collections::BTreeMap;
+use std::str;
+
+/// How many files may be checked together.
+const FILE_LIMIT: usize = 4_096;
+
+/// How often an expansion may look up further files: each time it looks up one more at least.
+const ROUND_LIMIT: usize = 65_536;
+
+/// A file that was read.
+#[derive(Drop)]
+pub struct Text {
+    pub path: String,
+    pub name: FileName,
+    pub source: Shared<Source>,
+}
+
+/// What a directive names, and the file in which it stands.
+#[derive(Clone, Copy)]
+struct Mention {
+    file: FileName,
+    name: FileName,
+}
+
+/// Files that are checked together.
+#[derive(Drop)]
+pub struct Gathered {
+    /// The files that were read, mostly after those that they use or include. No two have one name.
+    pub texts: Vec<Text>,
+    /// The units among them that are asked for or used, in the order in which they were found.
+    pub units: Vec<FileName>,
+    /// The files that are not checked.
+    pub refusals: Vec<Refusal>,
+}
+
+/// Files that are being found.
+#[derive(Drop)]
+struct Gathering<'a, D: Disk> {
+    disk: &'a D,
+    folders: &'a [String],
+    found: Gathered,
+    /// Of each name that was looked for the place of its text, if there is one.
+    places: BTreeMap<FileName, Option<usize>>,
+}
+
+/// The files at these paths that are units, and all that they use and include.
+pub fn gather<D: Disk>(
+    alloc: Global,
+    disk: &D,
+    folders: &[String],
+    paths: &[String],
+) -> Result<Gathered, AllocError> {
+    let mut gathering = Gathering {
+        disk,
+        folders,
+        found: Gathered {
+            texts: Vec::new(alloc),
+            units: Vec::new(alloc),
+            refusals: Vec::new(alloc),
+        },
+        places: BTreeMap::new(alloc),
+    };
+    for path in paths {
+        gathering.add_asked(alloc, path.as_str())?;
+    }
+    for index in 0..FILE_LIMIT {
+        let Some(unit) = gathering.unit_at(index) else {
+            break;
+        };
+        gathering.follow(alloc, unit)?;
+    }
+    let Gathering { mut found, .. } = gathering;
+    found.texts.reverse();
+    Ok(found)
+}
+
+/// The text of a file, or why there is none.
+fn prepared(alloc: Global, bytes: &[u8]) -> Result<Result<Shared<Source>, Why>, AllocError> {
+    match prepare(alloc, bytes) {
+        Ok(source) => Ok(Ok(Shared::new(alloc, source)?)),
+        Err(TextFault::Memory) => Err(AllocError),
+        Err(fault) => Ok(Err(Why::Text(fault))),
+    }
+}
+
+/// The name of the unit at a path, or why it is none.
+fn unit_named(path: &str) -> Result<FileName, Why> {
+    match FileName::read(name_of(path).as_bytes()) {
+        Ok(name) if name.is_unit() => Ok(name),
+        Ok(_) => Err(Why::NoUnit),
+        Err(fault) => Err(Why::Name(fault)),
+    }
+}
+
+/// Whether the name is one of those.
+fn is_read(reads: &Reads, name: FileName) -> bool {
+    reads.as_slice().iter().any(|read| read.name == name)
+}
+
+/// The file in which that name stands in a directive, as far as the faults of an expansion say it.
+fn file_naming(expanded: &Expanded, unit: FileName, name: FileName) -> FileName {
+    for fault in expanded.faults() {
+        if let Some(other) = &fault.name
+            && other.as_bytes() == name.as_bytes()
+        {
+            return fault.file;
+        }
+    }
+    unit
+}
+
+/// What an expansion looks up and is not among these files.
+fn missing(
+    alloc: Global,
+    expanded: &Expanded,
+    unit: FileName,
+    reads: &Reads,
+) -> Result<Vec<Mention>, AllocError> {
+    let mut missing = Vec::new(alloc);
+    for name in expanded.reads() {
+        if !is_read(reads, *name) {
+            let file = file_naming(expanded, unit, *name);
+            missing.push(Mention { file, name: *name })?;
+        }
+    }
+    Ok(missing)
+}
+
+impl<'a, D: Disk> Gathering<'a, D> {
+    /// The unit of that number.
+    fn unit_at(&self, index: usize) -> Option<FileName> {
+        self.found.units.get(index).copied()
+    }
+
+    /// The text of that name, if there is one.
+    fn text(&self, name: FileName) -> Option<&Text> {
+        let place = self.places.get(&name)?;
+        self.found.texts.get((*place)?)
+    }
+
+    /// The file at that path is not checked.
+    fn refuse(&mut self, alloc: Global, path: &str, why: Why) -> Result<(), AllocError> {
+        self.found.refusals.push(Refusal::of(alloc, path, why)?)?;
+        Ok(())
+    }
+
+    /// Adds a unit that is asked for.
+    fn add_asked(&mut self, alloc: Global, path: &str) -> Result<(), AllocError> {
+        let name = match unit_named(path) {
+            Ok(name) => name,
+            Err(why) => return self.refuse(alloc, path, why),
+        };
+        if self.places.contains_key(&name) {
+            return Ok(());
+        }
+        match self.disk.read(alloc, path) {
+            Ok(Some(bytes)) => {
+                let path = String::from_str(alloc, path)?;
+                self.add(alloc, name, Found { path, bytes })?;
+                self.add_unit(name)
+            }
+            Ok(None) => self.refuse(alloc, path, Why::NotThere),
+            Err(fault) => self.refuse(alloc, path, Why::of_fault(fault)?),
+        }
+    }
+
+    /// Adds a file that was found, unless its text is refused.
+    fn add(&mut self, alloc: Global, name: FileName, found: Found) -> Result<(), AllocError> {
+        let Found { path, bytes } = found;
+        if self.found.texts.len() >= FILE_LIMIT {
+            return self.refuse(alloc, path.as_str(), Why::TooMany);
+        }
+        match prepared(alloc, bytes.as_slice())? {
+            Ok(source) => {
+                self.places.insert(name, Some(self.found.texts.len()))?;
+                self.found.texts.push(Text { path, name, source })?;
+                Ok(())
+            }
+            Err(why) => self.refuse(alloc, path.as_str(), why),
+        }
+    }
+
+    /// Adds a unit of which there is a text, once.
+    fn add_unit(&mut self, unit: FileName) -> Result<(), AllocError> {
+        if self.text(unit).is_some() && !self.found.units.contains(&unit) {
+            self.found.units.push(unit)?;
+        }
+        Ok(())
+    }
+
+    /// Where a file is looked for that another one names: beside that, then in the other folders.
+    fn folders_from(&self, alloc: Global, file: FileName) -> Result<Vec<String>, AllocError> {
+        let mut folders = Vec::new(alloc);
+        if let Some(text) = self.text(file) {
+            folders.push(String::from_str(alloc, folder_of(text.path.as_str()))?)?;
+        }
+        for folder in self.folders {
+            folders.push(String::from_str(alloc, folder.as_str())?)?;
+        }
+        Ok(folders)
+    }
+
+    /// Looks the file up that a directive names, unless its name was found before.
+    fn look_up(&mut self, alloc: Global, mention: Mention) -> Result<(), AllocError> {
+        if self.text(mention.name).is_some() {
+            return Ok(());
+        }
+        self.places.insert(mention.name, None)?;
+        let folders = self.folders_from(alloc, mention.file)?;
+        let Ok(name) = str::from_utf8(mention.name.as_bytes()) else {
+            return Ok(());
+        };
+        match find(alloc, self.disk, folders.as_slice(), name) {
+            Ok(Some(found)) => self.add(alloc, mention.name, found),
+            Ok(None) => Ok(()),
+            Err(fault) => self.refuse(alloc, name, Why::of_fault(fault)?),
+        }
+    }
+
+    /// A file as an expansion reads it.
+    fn read_of(&self, name: FileName) -> Result<Read, AllocError> {
+        let source = match self.text(name) {
+            Some(text) => Some(text.source.share()?),
+            None => None,
+        };
+        Ok(Read {
+            name,
+            revision: 0,
+            source,
+        })
+    }
+
+    /// Looks up all that the expansion of a unit looks up, and then the units that it uses.
+    fn follow(&mut self, alloc: Global, unit: FileName) -> Result<(), AllocError> {
+        let mut reads = Items::new(alloc);
+        reads.push(self.read_of(unit)?)?;
+        for _ in 0..ROUND_LIMIT {
+            let expanded = expand_over(alloc, &reads, unit)?;
+            let missing = missing(alloc, &expanded, unit, &reads)?;
+            if missing.is_empty() {
+                return self.add_uses(alloc, &expanded);
+            }
+            for mention in missing.as_slice() {
+                self.look_up(alloc, *mention)?;
+                reads.push(self.read_of(mention.name)?)?;
+            }
+        }
+        Ok(())
+    }
+
+    /// Looks up the units that the lines of an expansion use.
+    fn add_uses(&mut self, alloc: Global, expanded: &Expanded) -> Result<(), AllocError> {
+        for line in expanded.lines() {
+            self.add_used(alloc, line.file, line.used_units())?;
+        }
+        Ok(())
+    }
+
+    /// Looks up these units, which a line of a file uses.
+    fn add_used(
+        &mut self,
+        alloc: Global,
+        file: FileName,
+        units: &[FileName],
+    ) -> Result<(), AllocError> {
+        for name in units {
+            self.look_up(alloc, Mention { file, name: *name })?;
+            self.add_unit(*name)?;
+        }
+        Ok(())
+    }
+}

@@ -1,0 +1,7 @@
+//! The check of texts that were read: what people are told is the report from nothing of these texts.
+#![tactic(auto)]
+
+mod checking;
+mod telling;
+
+pub use checking::{CheckFault, Checked, check_texts};

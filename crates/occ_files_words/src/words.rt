@@ -1,0 +1,212 @@
+//! The words of the command line of `occ`: a check of files, or the entry of a code.
+ghost use Rattle.occ_files_words.specs.Words.{IsAllowed};
+ghost use Rattle.std.specs.Prelude.{◌≡◌, ◌<◌, IfOk, length};
+
+use clap::error::ErrorKind;
+use clap::{Arg, ArgAction, ArgMatches, Command, Error};
+use occ_messages::Format;
+use std::alloc::{AllocError, AllocFailed, Global};
+
+/// How files are checked, and how that is told.
+#[derive(Drop)]
+pub struct Checking {
+    /// The files, and folders of files; `-` is standard input.
+    pub files: Vec<String>,
+    /// Where used and included files are looked for, after the folder of the file that names them.
+    pub folders: Vec<String>,
+    /// How diagnostics are written.
+    pub format: Format,
+    /// Whether diagnostics of the grade `check` are told.
+    pub checks: bool,
+    /// Whether any code that is about races counts as an error, also a check.
+    pub race_free: bool,
+    /// Whether only diagnostics are told, without notes and counts.
+    pub quiet: bool,
+    /// The path that standard input has.
+    pub stdin_path: String,
+}
+
+/// What the program is asked to do.
+#[derive(Drop)]
+pub enum Asked {
+    /// To check files.
+    Check(Checking),
+    /// To explain a code.
+    Explain(String),
+}
+
+/// Why the words ask for nothing.
+#[derive(Drop)]
+pub enum WordsFault {
+    /// They ask for help or the version: the text goes to standard output.
+    Told(String),
+    /// They are no line that the program takes: the text goes to standard error.
+    Refused(String),
+    /// Memory was refused.
+    Memory,
+}
+
+impl From<AllocError> for WordsFault {
+    fn from(_error: AllocError) -> WordsFault {
+        WordsFault::Memory
+    }
+}
+
+impl<T: Drop> From<AllocFailed<T>> for WordsFault {
+    fn from(_error: AllocFailed<T>) -> WordsFault {
+        WordsFault::Memory
+    }
+}
+
+const FORMATS: [&str; 5] = ["text", "short", "json", "sarif", "github"];
+
+/// What a line asks for, which begins with the program's name.
+pub fn read_words(alloc: Global, line: &[&str]) -> Result<Asked, WordsFault>
+    ensures { IfOk result (λ asked. IsAllowed asked) }
+{
+    match matched(alloc, line) {
+        Ok(matches) => asked_of(alloc, &matches),
+        Err(error) => Err(told(alloc, &error)?),
+    }
+}
+
+/// The words of a check that have a value.
+fn with_values<'a>(alloc: Global, command: Command<'a>) -> Result<Command<'a>, AllocError> {
+    let folders = Arg::new(alloc, "FOLDER")
+        .short('I')
+        .action(ArgAction::Append)
+        .help("a folder in which used and included files are looked for, too");
+    let format = Arg::new(alloc, "FORMAT")
+        .long("format")
+        .action(ArgAction::Set)
+        .value_parser(FORMATS.as_slice())
+        .default_value("text")
+        .help("how diagnostics are written");
+    let name = Arg::new(alloc, "NAME")
+        .long("stdin-filename")
+        .action(ArgAction::Set)
+        .default_value("stdin.occ")
+        .help("the path that standard input has");
+    let files = Arg::new(alloc, "FILE")
+        .required(true)
+        .action(ArgAction::Append)
+        .num_args(1..)
+        .help("a file, a folder of .occ files, or - for standard input");
+    command.arg(folders)?.arg(format)?.arg(name)?.arg(files)
+}
+
+/// The words of a check that are there or not.
+fn with_flags<'a>(alloc: Global, command: Command<'a>) -> Result<Command<'a>, AllocError> {
+    let no_checks = Arg::new(alloc, "no-checks")
+        .long("no-checks")
+        .action(ArgAction::SetTrue)
+        .help("leave out what is only perhaps wrong (the grade `check`)");
+    let race_free = Arg::new(alloc, "race-free")
+        .long("race-free")
+        .action(ArgAction::SetTrue)
+        .help("fail on each U1, U2, U3 and A4, also of the grade `check`");
+    let quiet = Arg::new(alloc, "quiet")
+        .long("quiet")
+        .short('q')
+        .action(ArgAction::SetTrue)
+        .help("print diagnostics alone, without notes and the count");
+    command.arg(no_checks)?.arg(race_free)?.arg(quiet)
+}
+
+/// What stands in a line, which begins with the program's name.
+fn matched<'a>(alloc: Global, line: &'a [&'a str]) -> Result<ArgMatches<'a>, Error> {
+    let check = with_values(
+        alloc,
+        Command::new(alloc, "check").about(
+            "Checks files with all that they use and include; ends with 0, with 1 after an error, with 2 if something cannot be read",
+        ),
+    )?;
+    let code = Arg::new(alloc, "CODE")
+        .required(true)
+        .action(ArgAction::Set)
+        .help("a code, as U1");
+    let explain = Command::new(alloc, "explain").about("Explains a code");
+    Command::new(alloc, "occ")
+        .about("Checks occam 2.1")
+        .version("0.1.0")
+        .subcommand_required(true)
+        .subcommand(with_flags(alloc, check)?)?
+        .subcommand(explain.arg(code)?)?
+        .try_get_matches_from(line)
+}
+
+/// What clap tells in place of matches.
+fn told(alloc: Global, error: &Error) -> Result<WordsFault, AllocError> {
+    if error.kind() == ErrorKind::OutOfMemory {
+        return Ok(WordsFault::Memory);
+    }
+    let text = format!(in alloc; "{error}")?;
+    Ok(if error.use_stderr() {
+        WordsFault::Refused(text)
+    } else {
+        WordsFault::Told(text)
+    })
+}
+
+/// What the arguments ask for.
+fn asked_of(alloc: Global, matches: &ArgMatches<'_>) -> Result<Asked, WordsFault>
+    ensures { IfOk result (λ asked. IsAllowed asked) }
+{
+    match matches.subcommand() {
+        Some(("explain", words)) => {
+            let code = words.get_str("CODE").unwrap_or("");
+            Ok(Asked::Explain(String::from_str(alloc, code)?))
+        }
+        Some((_, words)) => check_of(alloc, words),
+        None => Err(no_file(alloc)?),
+    }
+}
+
+/// A check of no file.
+fn no_file(alloc: Global) -> Result<WordsFault, AllocError> {
+    Ok(WordsFault::Refused(String::from_str(
+        alloc,
+        "error: no FILE\n\nUsage: occ check [OPTIONS] <FILE>...\n",
+    )?))
+}
+
+/// What the words after `check` ask for.
+fn check_of(alloc: Global, words: &ArgMatches<'_>) -> Result<Asked, WordsFault>
+    ensures { IfOk result (λ asked. IsAllowed asked) }
+{
+    let files = texts(alloc, words.get_strs("FILE").unwrap_or(&[]))?;
+    if files.is_empty() {
+        return Err(no_file(alloc)?);
+    }
+    let folders = texts(alloc, words.get_strs("FOLDER").unwrap_or(&[]))?;
+    let stdin_path = String::from_str(alloc, words.get_str("NAME").unwrap_or("stdin.occ"))?;
+    Ok(Asked::Check(Checking {
+        files,
+        folders,
+        format: format_of(words.get_str("FORMAT")),
+        checks: !words.get_flag("no-checks"),
+        race_free: words.get_flag("race-free"),
+        quiet: words.get_flag("quiet"),
+        stdin_path,
+    }))
+}
+
+/// The format of that name.
+fn format_of(word: Option<&str>) -> Format {
+    match word {
+        Some("short") => Format::Short,
+        Some("json") => Format::Json,
+        Some("sarif") => Format::Sarif,
+        Some("github") => Format::Github,
+        _ => Format::Text,
+    }
+}
+
+/// The words, copied.
+fn texts(alloc: Global, words: &[&str]) -> Result<Vec<String>, AllocError> {
+    let mut texts = Vec::new(alloc);
+    for word in words {
+        texts.push(String::from_str(alloc, word)?)?;
+    }
+    Ok(texts)
+}
