@@ -33,7 +33,7 @@ block_compared block.Sequence line env xs h = cc
 block_compared block.Conditional line env xs h = cc
 block_compared block.Alternation line env xs h = cc
 
-own_compared : (f : TypedForm) (line : Location) (env : Env) (xs : List (List Use)) → are_compared f ≡ true → own_faults f line env xs ≡ component_faults line env xs
+pub own_compared : (f : TypedForm) (line : Location) (env : Env) (xs : List (List Use)) → are_compared f ≡ true → own_faults f line env xs ≡ component_faults line env xs
 own_compared (form.Block kind r) line env xs h = block_compared kind line env xs h
 own_compared (form.Assignment els es) line env xs h = cc
 own_compared other line env xs h = cc
@@ -54,7 +54,7 @@ items_under env h reported e = ap (λ (o : Option KnownReplicator). under_report
 
 -- ---- what is reported
 
-reported_by : (env : Env) (h : Head) (t : Trees) (old mid new under own : List Diag)
+pub reported_by : (env : Env) (h : Head) (t : Trees) (old mid new under own : List Diag)
     → mid ≡ old ++ under → new ≡ mid ++ own → under ≡ under_reported env h (reported_of parallel_at t) → own ≡ own_faults h.form h.place env (components env h (items_of t))
     → new ≡ old ++ line_reported parallel_at env h t (reported_of parallel_at t)
 reported_by env h t old mid new under own a b u o =

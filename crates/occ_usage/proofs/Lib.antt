@@ -3,3 +3,5 @@ pub mod Walking
 pub mod Compared
 pub mod Sizes
 pub mod Functions
+pub mod Sameness
+pub mod Repeated

@@ -9,6 +9,8 @@ pub mod Processes
 pub mod Standing
 pub mod Anew
 pub mod Comparing
+pub mod Naming
+pub mod Rounds
 -- what is passed on
 pub mod Typing
 pub use Rattle.occ_alias.specs.Entering

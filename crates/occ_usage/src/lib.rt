@@ -7,6 +7,7 @@ mod effect;
 mod function;
 mod multiple;
 mod process;
+mod rounds;
 mod walk;
 
 pub use function::function_faults;

@@ -2,9 +2,10 @@
 //! the parallel and the abbreviation rule. The uses of a line are made once. `docs/LANGUAGE.md, The parallel rule`.
 #![tactic(auto, using(crate::proofs::Trees::first_tree))]
 
-ghost use Rattle.std.specs.Prelude.{◌≡◌, ◌≤◌, ◌++◌, ◌∷◌, [], if◌then◌else◌, true, IfOk, None, OnOk, Some, length, take};
+ghost use Rattle.std.specs.Prelude.{◌≡◌, ◌≤◌, ◌++◌, ◌∷◌, [], if◌then◌else◌, true, false, IfOk, None, OnOk, Some, length, replicate, take};
 ghost use Rattle.occ_alias.specs.AbbreviationRule.{line_faults as spec_line_faults};
 ghost use Rattle.occ_usage_conflicts.specs.Components.{joined as spec_joined, parted};
+ghost use Rattle.occ_usage_conflicts.specs.Distinct.{distinct as spec_distinct};
 ghost use Rattle.occ_alias.specs.Forms.{form_uses as spec_form_uses};
 ghost use Rattle.occ_usage.specs.Comparing.{are_compared as spec_are_compared};
 ghost use Rattle.occ_usage.specs.Effect.{effect_under as spec_effect_under, inner as spec_inner, is_body as spec_is_body};
@@ -12,10 +13,12 @@ ghost use Rattle.occ_usage.specs.Lines.{added as spec_added, after_line, after_l
 ghost use Rattle.occ_usage.specs.AbbreviationRule.{abbreviation_at, abbreviation_faults};
 ghost use Rattle.occ_usage.specs.ParallelRule.{block_faults as spec_block_faults, own_faults as spec_own_faults, parallel_at, parallel_faults};
 ghost use Rattle.occ_usage.specs.Walk.{line_reported, rounds_reported, reported_of, under_reported};
+ghost use Rattle.occ_usage.specs.Naming.{lines_name as spec_lines_name};
 ghost use Rattle.occ_usage.specs.Trees.{head_of, trees_of, under as spec_under};
 
 use super::effect::{effect_under, is_body};
 use super::multiple::assignment_faults;
+use super::rounds::{add_times, alike_rounds};
 use occ_alias::{
     UsageScope, body_bound, enter_all, enter_index, enter_line, form_uses, graver, index_value,
     line_faults, number_after,
@@ -25,7 +28,7 @@ use occ_scope::ScopeEntry;
 use occ_typing::{BlockKind, Typed, TypedForm, TypedLine};
 use occ_typing_statements::KnownReplicator;
 use occ_usage_conflicts::{
-    append, append_joined, component_faults, distinct, outside_uses, parted_faults,
+    append, append_joined, component_faults, distinct, outside_uses, parted_faults, twice_faults,
 };
 use occ_usage_values::{Bound, Use};
 use std::alloc::{AllocError, Global};
@@ -352,6 +355,101 @@ fn add_judged(
     own_faults(alloc, line, &[], env.as_slice(), &mut reported.parallel)
 }
 
+/// What is reported of a line with so many rounds that each use this.
+fn repeated_faults(
+    alloc: Global,
+    known: KnownReplicator,
+    line: &TypedLine,
+    env: &[Bound],
+    uses: &[Use],
+    faults: &mut Items<Diag>,
+) -> Result<(), AllocError>
+    requires { spec_known_replicator (head_of line.now).form ≡ Some known }
+    ensures { OnOk result (faults.new ≡ faults.old ++ spec_own_faults (head_of line.now).form (head_of line.now).place env.now (replicate known.count uses.now)) }
+{
+    if !is_parallel(line.form.get()) {
+        return Ok(());
+    }
+    if known.count < 2 {
+        return Ok(());
+    }
+    twice_faults(alloc, &line.place, env, uses, faults)
+}
+
+/// The uses of one round, which all rounds of a replicator do, and what is reported of the lines under a line and of the line by
+/// the parallel rule.
+#[cycle(walk)]
+fn alike_uses(
+    alloc: Global,
+    known: KnownReplicator,
+    line: &TypedLine,
+    env: &mut UsageScope,
+    reported: &mut Finding,
+) -> Result<Items<Use>, AllocError>
+    requires known { spec_known_replicator (head_of line.now).form ≡ Some known }
+    requires alike { spec_lines_name (length env.now) (spec_under line.now) ≡ false }
+    requires some { 1 ≤ known.count }
+    ensures uses { IfOk result (λ uses. spec_distinct uses ≡ spec_distinct (spec_joined (spec_components env.old (head_of line.now) (items_of (spec_under line.now))))) }
+    ensures env { OnOk result (env.new ≡ env.old) }
+    ensures parallel { OnOk result (reported.new.parallel ≡ reported.old.parallel ++ line_reported parallel_at env.old (head_of line.now) (spec_under line.now) (reported_of parallel_at (spec_under line.now))) }
+    ensures abbreviations { OnOk result (reported.new.abbreviations ≡ reported.old.abbreviations ++ under_reported env.old (head_of line.now) (reported_of abbreviation_at (spec_under line.now))) }
+{
+    let mut uses = Items::new(alloc);
+    let mut found = Finding::nothing(alloc);
+    add_round(
+        alloc,
+        known.base,
+        0,
+        line.under.as_slice(),
+        env,
+        &mut uses,
+        &mut found,
+    )?;
+    add_times(
+        alloc,
+        found.parallel.as_slice(),
+        known.count,
+        &mut reported.parallel,
+    )?;
+    add_times(
+        alloc,
+        found.abbreviations.as_slice(),
+        known.count,
+        &mut reported.abbreviations,
+    )?;
+    repeated_faults(
+        alloc,
+        known,
+        line,
+        env.as_slice(),
+        uses.as_slice(),
+        &mut reported.parallel,
+    )?;
+    Ok(uses)
+}
+
+/// Uses of the lines under a replicated line: told once each, they are those of all its rounds. And what is reported of these lines
+/// and of the line by the parallel rule.
+#[cycle(walk)]
+fn replicated_uses(
+    alloc: Global,
+    line: &TypedLine,
+    env: &mut UsageScope,
+    reported: &mut Finding,
+) -> Result<Items<Use>, AllocError>
+    ensures uses { IfOk result (λ uses. spec_distinct uses ≡ spec_distinct (spec_joined (spec_components env.old (head_of line.now) (items_of (spec_under line.now))))) }
+    ensures env { OnOk result (env.new ≡ env.old) }
+    ensures parallel { OnOk result (reported.new.parallel ≡ reported.old.parallel ++ line_reported parallel_at env.old (head_of line.now) (spec_under line.now) (reported_of parallel_at (spec_under line.now))) }
+    ensures abbreviations { OnOk result (reported.new.abbreviations ≡ reported.old.abbreviations ++ under_reported env.old (head_of line.now) (reported_of abbreviation_at (spec_under line.now))) }
+{
+    if let Some(known) = alike_rounds(line, env.len()) {
+        return alike_uses(alloc, known, line, env, reported);
+    }
+    let mut uses = Items::new(alloc);
+    add_judged(alloc, line, env, &mut uses, reported)?;
+    Ok(uses)
+}
+
 /// A PROC or a FUNCTION over lines that use these.
 fn body_over(
     alloc: Global,
@@ -424,9 +522,9 @@ fn under_uses(
         return Ok(apart);
     }
     if is_replicated(form) {
-        add_judged(alloc, line, env, &mut apart, reported)?;
-        append(uses, distinct(alloc, apart)?)?;
-        return Ok(Items::new(alloc));
+        let found = replicated_uses(alloc, line, env, reported)?;
+        append(uses, distinct(alloc, found)?)?;
+        return Ok(apart);
     }
     add_judged(alloc, line, env, uses, reported)?;
     Ok(apart)

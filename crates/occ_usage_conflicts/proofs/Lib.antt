@@ -6,3 +6,4 @@ pub mod Looking
 pub mod Reaching
 pub mod Parting
 pub mod Spreading
+pub mod Copies

@@ -165,3 +165,17 @@ pub(crate) fn parted_root_uses(
     }
     Ok(roots)
 }
+
+/// What two components that both use this use of each root, and what they have in common there.
+pub(crate) fn twice_root_uses(
+    alloc: Global,
+    count: usize,
+    uses: &[Use],
+) -> Result<Vec<RootUses>, AllocError>
+    ensures { IfOk result (λ table. (length table.items ≡ count) × IsTable (uses.now ∷ uses.now ∷ []) (joined (uses.now ∷ uses.now ∷ [])) table.items) }
+{
+    let mut roots = none(alloc, count)?;
+    step(alloc, uses, &mut roots)?;
+    step(alloc, uses, &mut roots)?;
+    Ok(roots)
+}

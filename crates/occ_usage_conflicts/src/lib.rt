@@ -19,5 +19,5 @@ pub use body::{body_uses, outside_uses};
 pub use each_once::distinct;
 pub use joining::{append, append_joined};
 pub use pairs::target_faults;
-pub use reporting::{component_faults, parted_faults};
+pub use reporting::{component_faults, parted_faults, twice_faults};
 pub use rule::root_name;

@@ -1,11 +1,11 @@
 //! The faults of a PAR, root by root and rule by rule, from what its components were found to use.
-ghost use Rattle.std.specs.Prelude.{◌≡◌, ◌<◌, ◌≤◌, ◌++◌, ℕ, OnOk, Some, length};
+ghost use Rattle.std.specs.Prelude.{◌≡◌, ◌<◌, ◌≤◌, ◌++◌, ◌∷◌, [], ℕ, OnOk, Some, length};
 ghost use Rattle.occ_usage_conflicts.specs.Components.{parted};
 ghost use Rattle.occ_usage_conflicts.specs.ParallelRule.{below, component_faults as spec_component_faults, fault_if};
 ghost use Rattle.occ_usage_conflicts.specs.inside.Accumulating.{broken_faults, faults_in};
 
-use super::accumulate::{RootUses, parted_root_uses, root_uses};
-use super::reach::{last_parted_root, last_root};
+use super::accumulate::{RootUses, parted_root_uses, root_uses, twice_root_uses};
+use super::reach::{last_parted_root, last_root, last_root_of};
 use super::rule::{Rule, code, root_name};
 use occ_base::{Diag, Items};
 use occ_project::Location;
@@ -133,5 +133,20 @@ pub fn parted_faults(
     }
     let count = count_to(last_parted_root(uses, sizes), env.len());
     let table = parted_root_uses(alloc, count, uses, sizes)?;
+    report(alloc, line, env, table.as_slice(), faults)
+}
+
+/// What is reported of a PAR with two components that both use this, where these specifications stand round it.
+pub fn twice_faults(
+    alloc: Global,
+    line: &Location,
+    env: &[Bound],
+    uses: &[Use],
+    faults: &mut Items<Diag>,
+) -> Result<(), AllocError>
+    ensures { OnOk result (faults.new ≡ faults.old ++ spec_component_faults line.now env.now (uses.now ∷ uses.now ∷ [])) }
+{
+    let count = count_to(last_root_of(uses), env.len());
+    let table = twice_root_uses(alloc, count, uses)?;
     report(alloc, line, env, table.as_slice(), faults)
 }

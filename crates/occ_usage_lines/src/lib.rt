@@ -5,10 +5,12 @@
 mod effect;
 mod entering;
 mod form;
+mod naming;
 mod scope;
 
 pub use effect::{each_effect, form_effect};
 pub use entering::{body_bound, enter_all, enter_index, enter_line, index_value, number_after};
 pub use form::{each_uses, form_uses, used};
+pub use naming::form_names;
 pub use occ_typing_lines::{TypedForm, TypedGuard};
 pub use scope::{UsageScope, is_write};

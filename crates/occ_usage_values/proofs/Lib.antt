@@ -1,2 +1,5 @@
 pub mod Timers
 pub mod Views
+pub mod Names
+pub mod Differing
+pub mod Sameness

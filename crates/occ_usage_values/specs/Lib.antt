@@ -5,5 +5,7 @@ pub mod Values
 pub mod Calls
 pub mod Views
 pub mod Making
+pub mod Naming
+pub mod Differing
 pub mod Examples
 pub mod inside

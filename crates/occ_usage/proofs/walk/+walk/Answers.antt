@@ -1,12 +1,16 @@
-use Rattle.std.proofs.Common.{rules, ◌≡◌, ◌∙◌, ◌-◌, ◌++◌, ◌∷◌, [], refl, length}
+use Rattle.std.proofs.Common.{rules, ◌≡◌, ◌∙◌, ◌-◌, ◌++◌, ◌∷◌, [], List, ap, refl, length, replicate}
+use Rattle.occ_base.specs.declared.diag.Diag.{Diag}
+use Rattle.occ_usage.proofs.Repeated.{alike_abbreviations, alike_distinct, alike_parallel}
 use Rattle.occ_usage.proofs.Sizes.{sizes_step, reported_step, uses_step}
 use Rattle.occ_usage.proofs.Trees.{from_line}
 use Rattle.occ_usage.proofs.Walking.{end_after, end_stands, step_items, step_joined, step_reported}
 use Rattle.occ_usage.specs.AbbreviationRule.{abbreviation_at}
 use Rattle.occ_usage_conflicts.specs.Components.{joined}
+use Rattle.occ_usage_conflicts.specs.Distinct.{distinct}
 use Rattle.occ_usage.specs.Lines.{ends_item, items_of, with_index}
 use Rattle.occ_usage.specs.Walk.{reported_of}
-use Rattle.occ_usage.specs.ParallelRule.{parallel_at}
+use Rattle.occ_usage.specs.ParallelRule.{own_faults, parallel_at}
+use Rattle.occ_usage.specs.Rounds.{times}
 use Rattle.occ_usage.specs.Trees.{head_of, trees_of, under}
 use Rattle.occ_usage.proofs.walk.+walk.Goals as goal
 
@@ -77,3 +81,20 @@ rounds-loop-i-preserved t c =
       reported_step parallel_at i base _ _ lines _ _ _ same c.loop-i.invariant.3 parallel,
       reported_step abbreviation_at i base _ _ lines _ _ _ same c.loop-i.invariant.4 abbreviations,
     )
+
+pub alike_uses-returns-clause-uses : goal.alike_uses-returns-clause-uses
+alike_uses-returns-clause-uses t c =
+    let used : c.add_round.new.uses ≡ joined (items_of (under c.args.line.now) (with_index c.args.env.now c.args.known.base 0)) = search rules in
+    ap distinct used ∙ alike_distinct c.args.env.now (head_of c.args.line.now) (under c.args.line.now) c.args.known c.requires.known c.requires.alike c.requires.some
+
+pub alike_uses-returns-clause-parallel : goal.alike_uses-returns-clause-parallel
+alike_uses-returns-clause-parallel t c =
+    let used : c.add_round.new.uses ≡ joined (items_of (under c.args.line.now) (with_index c.args.env.now c.args.known.base 0)) = search rules in
+    let told : c.add_times.new.all ≡ c.args.reported.now.parallel ++ times c.args.known.count (reported_of parallel_at (under c.args.line.now) (with_index c.args.env.now c.args.known.base 0)) = search rules in
+    let own : c.repeated_faults.new.faults ≡ c.add_times.new.all ++ own_faults (head_of c.args.line.now).form (head_of c.args.line.now).place c.args.env.now (replicate c.args.known.count c.add_round.new.uses) = search rules in
+    alike_parallel c.args.env.now (head_of c.args.line.now) (under c.args.line.now) c.args.known _ _ _ _ c.requires.known c.requires.alike told used own
+
+pub alike_uses-returns-clause-abbreviations : goal.alike_uses-returns-clause-abbreviations
+alike_uses-returns-clause-abbreviations t c =
+    let told : c.add_times-2.new.all ≡ c.args.reported.now.abbreviations ++ times c.args.known.count (reported_of abbreviation_at (under c.args.line.now) (with_index c.args.env.now c.args.known.base 0)) = search rules in
+    told ∙ ap (λ (ds : List Diag). c.args.reported.now.abbreviations ++ ds) (alike_abbreviations c.args.env.now (head_of c.args.line.now) (under c.args.line.now) c.args.known c.requires.known c.requires.alike)

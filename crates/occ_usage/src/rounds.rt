@@ -1,0 +1,95 @@
+//! Rounds of a replicator that all do the same: no line under it names its index.
+#![tactic(auto, using(crate::proofs::Trees::first_tree))]
+
+ghost use Rattle.std.specs.Prelude.{◌≡◌, ◌≤◌, ◌||◌, ◌++◌, IfOk, IfSome, OnOk, Some, false};
+ghost use Rattle.occ_alias.specs.Naming.{form_names as spec_form_names};
+ghost use Rattle.occ_usage.specs.Lines.{known_replicator as spec_known_replicator};
+ghost use Rattle.occ_usage.specs.Naming.{lines_name as spec_lines_name};
+ghost use Rattle.occ_usage.specs.Rounds.{times};
+ghost use Rattle.occ_usage.specs.Trees.{head_of, trees_of, under as spec_under};
+
+use super::walk::known_replicator;
+use occ_alias::form_names;
+use occ_base::{Diag, Items};
+use occ_typing::TypedLine;
+use occ_typing_statements::KnownReplicator;
+use std::alloc::{AllocError, Global};
+
+/// Whether a line or one under it names the specification with this number.
+#[cycle(naming)]
+fn line_names(line: &TypedLine, number: usize) -> bool
+    ensures { result ≡ (spec_form_names number (head_of line.now).form || spec_lines_name number (spec_under line.now)) }
+{
+    form_names(line.form.get(), number) || lines_name(line.under.as_slice(), number)
+}
+
+/// Whether one of the lines, or one under them, names the specification with this number.
+#[cycle(naming)]
+fn lines_name(lines: &[TypedLine], number: usize) -> bool
+    ensures { result ≡ spec_lines_name number (trees_of lines.now) }
+{
+    for line in lines {
+        if line_names(line, number) {
+            return true;
+        }
+    }
+    false
+}
+
+/// The replicator of a line, if it is known, has a round, and no line under it names its index: then each round does the same.
+pub(crate) fn alike_rounds(line: &TypedLine, number: usize) -> Option<KnownReplicator>
+    ensures known { IfSome result (λ known. spec_known_replicator (head_of line.now).form ≡ Some known) }
+    ensures alike { IfSome result (λ known. spec_lines_name number (spec_under line.now) ≡ false) }
+    ensures some { IfSome result (λ known. 1 ≤ known.count) }
+{
+    let known = known_replicator(line.form.get())?;
+    if known.count == 0 || lines_name(line.under.as_slice(), number) {
+        return None;
+    }
+    Some(known)
+}
+
+/// The same diagnostic again.
+fn again(alloc: Global, fault: &Diag) -> Result<Diag, AllocError>
+    ensures { IfOk result (λ copy. copy ≡ fault.now) }
+{
+    let name = match &fault.name {
+        Some(name) => Some(name.copied(alloc)?),
+        None => None,
+    };
+    Ok(Diag {
+        file: fault.file,
+        line: fault.line,
+        code: fault.code,
+        grade: fault.grade,
+        name,
+    })
+}
+
+/// Adds these once more.
+fn add_copy(alloc: Global, faults: &[Diag], all: &mut Items<Diag>) -> Result<(), AllocError>
+    ensures { OnOk result (all.new ≡ all.old ++ faults.now) }
+{
+    for fault in faults {
+        all.push(again(alloc, fault)?)?;
+    }
+    Ok(())
+}
+
+/// Adds what one round reports, so often as there are rounds.
+pub(crate) fn add_times(
+    alloc: Global,
+    faults: &[Diag],
+    count: u32,
+    all: &mut Items<Diag>,
+) -> Result<(), AllocError>
+    ensures { OnOk result (all.new ≡ all.old ++ times count faults.now) }
+{
+    if faults.is_empty() {
+        return Ok(());
+    }
+    for index in 0..count {
+        add_copy(alloc, faults, all)?;
+    }
+    Ok(())
+}
