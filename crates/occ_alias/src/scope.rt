@@ -1,6 +1,5 @@
 //! A1 to A3: the uses of a line against those abbreviations in scope that concern them. `docs/LANGUAGE.md, The
 //! abbreviation rule`.
-ghost use Rattle.std.specs.List.{list_any};
 ghost use Rattle.std.specs.Prelude.{◌≡◌, ◌++◌, ◌==◌, ℕ, OnOk, slice_get};
 ghost use Rattle.occ_alias.specs.AbbreviationRule.{bound_faults as spec_bound_faults, element_fault as spec_element_fault, element_faults as spec_element_faults, place_faults as spec_place_faults, scope_faults as spec_scope_faults};
 ghost use Rattle.occ_usage_parts.specs.Selecting.{part_of};
@@ -13,13 +12,6 @@ use occ_usage_parts::SelectedPart;
 use occ_usage_values::{Bound, Use};
 use std::alloc::{AllocError, Global};
 
-/// Whether a use is made by the name of the abbreviation with this number, or by one made from it.
-fn is_by(chain: &[usize], number: usize) -> bool
-    ensures { result ≡ list_any (λ (k : ℕ). k == number) chain.now }
-{
-    chain.iter().any(|name| *name == number)
-}
-
 /// What is reported of a use in the scope of the abbreviation with this number, of which this is the element.
 fn element_fault(
     alloc: Global,
@@ -31,7 +23,7 @@ fn element_fault(
 ) -> Result<(), AllocError>
     ensures { OnOk result (faults.new ≡ faults.old ++ spec_element_fault number env.now (part_of element.now) found.now) }
 {
-    if is_by(found.chain.as_slice(), number) {
+    if found.chain.has(number) {
         return Ok(());
     }
     selected_faults(

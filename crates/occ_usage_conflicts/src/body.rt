@@ -1,27 +1,14 @@
 //! The uses of a body from outside: of roots that it does not specify itself, each once, at the line of its head.
 ghost use Rattle.std.specs.Prelude.{◌≡◌, ◌++◌, ◌∷◌, [], if◌then◌else◌, nat_lt, IfOk, OnOk};
-ghost use Rattle.occ_usage_conflicts.specs.Bodies.{below as spec_below, body_uses as spec_body_uses, from_outside as spec_from_outside};
+ghost use Rattle.occ_usage_conflicts.specs.Bodies.{body_uses as spec_body_uses, from_outside as spec_from_outside};
 ghost use Rattle.occ_usage_conflicts.specs.Distinct.{added};
 ghost use Rattle.occ_usage_conflicts.specs.inside.Linking.{IsLinked};
 
 use super::each_once::{Links, add};
 use occ_base::Items;
 use occ_project::Location;
-use occ_usage_values::{Chain, Use};
+use occ_usage_values::Use;
 use std::alloc::{AllocError, Global};
-
-/// The numbers below another.
-fn below(alloc: Global, numbers: &[usize], bound: usize) -> Result<Items<usize>, AllocError>
-    ensures { IfOk result (λ found. found ≡ spec_below bound numbers.now) }
-{
-    let mut found = Items::new(alloc);
-    for number in numbers {
-        if *number < bound {
-            found.push(*number)?;
-        }
-    }
-    Ok(found)
-}
 
 /// A use in a body round which so many specifications stand, as it is seen from outside the body.
 fn from_outside(
@@ -32,7 +19,7 @@ fn from_outside(
 ) -> Result<Use, AllocError>
     ensures { IfOk result (λ seen. seen ≡ spec_from_outside number line.now found) }
 {
-    let chain = Chain::of(alloc, below(alloc, found.chain.as_slice(), number)?)?;
+    let chain = found.chain.below(alloc, number)?;
     Ok(Use {
         part: found.part,
         kind: found.kind,

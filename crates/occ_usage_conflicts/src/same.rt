@@ -76,6 +76,6 @@ pub(crate) fn same_use(a: &Use, b: &Use) -> bool
         && same_kind(a.kind, b.kind)
         && a.line.line == b.line.line
         && same_selectors(a.part.selectors.as_slice(), b.part.selectors.as_slice())
-        && a.chain.as_slice() == b.chain.as_slice()
+        && a.chain.is_same(&b.chain)
         && a.line.file == b.line.file
 }

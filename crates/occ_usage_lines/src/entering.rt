@@ -96,11 +96,15 @@ pub fn enter_index(
 }
 
 /// The place by the name of an abbreviation with this number.
-fn named_at(place: Option<SelectedPart>, number: usize) -> Result<Option<SelectedPart>, AllocError>
+fn named_at(
+    alloc: Global,
+    place: Option<SelectedPart>,
+    number: usize,
+) -> Result<Option<SelectedPart>, AllocError>
     ensures { IfOk result (λ named. named ≡ spec_named_at number place) }
 {
     match place {
-        Some(place) => Ok(Some(place.named(number)?)),
+        Some(place) => Ok(Some(place.named(alloc, number)?)),
         None => Ok(None),
     }
 }
@@ -124,7 +128,7 @@ fn abbreviated(
 ) -> Result<Bound, AllocError>
     ensures { IfOk result (λ bound. bound ≡ spec_abbreviated element.now env.now line.now) }
 {
-    let place = named_at(place(alloc, element, env)?, env.len())?;
+    let place = named_at(alloc, place(alloc, element, env)?, env.len())?;
     let mut reads = Items::new(alloc);
     element_uses(alloc, element, env, line, &mut reads)?;
     Ok(Bound::Abbreviation(place, element_size(element, env), reads))
@@ -139,7 +143,7 @@ fn retyped(
 ) -> Result<Bound, AllocError>
     ensures { IfOk result (λ bound. bound ≡ spec_retyped element.now env.now line.now) }
 {
-    let place = named_at(looked_at(place(alloc, element, env)?)?, env.len())?;
+    let place = named_at(alloc, looked_at(place(alloc, element, env)?)?, env.len())?;
     let mut reads = Items::new(alloc);
     element_uses(alloc, element, env, line, &mut reads)?;
     Ok(Bound::Abbreviation(place, None, reads))

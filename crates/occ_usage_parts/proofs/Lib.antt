@@ -6,3 +6,4 @@ pub mod Listing
 pub mod Fronts
 pub mod Asking
 pub mod Turning
+pub mod Chains

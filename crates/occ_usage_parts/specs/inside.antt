@@ -2,3 +2,4 @@
 pub mod Runs
 pub mod PlaceSets
 pub mod Paths
+pub mod Chains

@@ -2,6 +2,7 @@
 //! lists of parts that are asked for.
 #![tactic(auto)]
 
+mod chain;
 mod comparing;
 mod interval;
 mod part;
@@ -14,6 +15,7 @@ pub mod rows;
 mod runs;
 mod selectors;
 
+pub use chain::Chain;
 pub use comparing::{overlap, overlap_selected};
 pub use part::{Overlap, Part};
 pub use paths::Paths;

@@ -2,6 +2,7 @@
 ghost use Rattle.std.specs.Prelude.{◌≡◌, IfOk, OnOk, ◌++◌, ◌∷◌};
 ghost use Rattle.occ_usage_parts.specs.Selecting.{first_inside, followed, followed_by as spec_followed_by, named as spec_named, part_of, retyped as spec_retyped, segment_ending, selectors_of, whole as spec_whole, with_field as spec_with_field, with_segment as spec_with_segment, with_subscript as spec_with_subscript};
 
+use super::chain::Chain;
 use super::interval::{following, inside, segment, subscript};
 use super::part::Part;
 use super::selectors::{add_copies, copies};
@@ -15,7 +16,7 @@ pub struct SelectedPart {
     /// What it is selected from: the number of its specification.
     pub root: usize,
     /// The abbreviations by whose names it is reached, by the numbers of their specifications, in order.
-    pub chain: Items<usize>,
+    pub chain: Chain,
     /// The selectors, without an ending segment.
     pub selectors: Items<PartSelector>,
     pub ending: Ending,
@@ -39,7 +40,7 @@ impl SelectedPart {
     {
         SelectedPart {
             root,
-            chain: Items::new(alloc),
+            chain: Chain::none(),
             selectors: Items::new(alloc),
             ending: Ending::Plain,
         }
@@ -51,7 +52,7 @@ impl SelectedPart {
     {
         Ok(SelectedPart {
             root,
-            chain: Items::new(alloc),
+            chain: Chain::none(),
             selectors: Items::from_vec(Vec::with_capacity(alloc, room)?),
             ending: Ending::Plain,
         })
@@ -107,11 +108,21 @@ impl SelectedPart {
     }
 
     /// The same under the name of an abbreviation, by the number of its specification.
-    pub fn named(mut self, number: usize) -> Result<SelectedPart, AllocError>
+    pub fn named(self, alloc: Global, number: usize) -> Result<SelectedPart, AllocError>
         ensures { IfOk result (λ place. place ≡ spec_named self number) }
     {
-        self.chain.push(number)?;
-        Ok(self)
+        let SelectedPart {
+            root,
+            chain,
+            selectors,
+            ending,
+        } = self;
+        Ok(SelectedPart {
+            root,
+            chain: chain.followed(alloc, number)?,
+            selectors,
+            ending,
+        })
     }
 
     /// The part that it is.
@@ -147,7 +158,7 @@ impl SelectedPart {
     {
         Ok(SelectedPart {
             root: self.root,
-            chain: Items::from_slice(alloc, self.chain.as_slice())?,
+            chain: self.chain.share(alloc)?,
             selectors: copies(alloc, self.selectors.as_slice())?,
             ending: self.ending,
         })

@@ -8,4 +8,3 @@ pub mod Making
 pub mod Naming
 pub mod Differing
 pub mod Examples
-pub mod inside

@@ -3,7 +3,6 @@
 ghost use Rattle.std.specs.Prelude.{◌≡◌, ◌++◌, MatchOption, None, OnOk, Some, slice_get};
 ghost use Rattle.occ_usage_values.specs.Calls.{called as spec_called, called_all as spec_called_all, made as spec_made, named_by as spec_named_by, of_actual as spec_of_actual};
 
-use super::chain::Chain;
 use super::uses::Use;
 use occ_base::Items;
 use occ_project::Location;
@@ -37,7 +36,7 @@ pub(crate) fn push_made(
     let Some(place) = place else {
         return Ok(());
     };
-    let chain = Chain::from_slice(alloc, place.chain.as_slice())?;
+    let chain = place.chain.share(alloc)?;
     let part = place.into_part()?;
     uses.push(Use {
         part,
@@ -61,7 +60,7 @@ fn push_of_actual(
         part: place.followed_by(alloc, found.part.selectors.as_slice())?,
         kind: found.kind,
         line: *line,
-        chain: Chain::from_slice(alloc, place.chain.as_slice())?,
+        chain: place.chain.share(alloc)?,
     })
 }
 

@@ -5,7 +5,6 @@
 mod bound;
 mod call;
 mod calling;
-mod chain;
 mod effect;
 mod naming;
 mod placing;
@@ -18,9 +17,9 @@ mod valuing;
 pub use bound::{Bound, body_at, effect_at, place_at};
 pub use call::{Call, called};
 pub use calling::{element_calls, expression_calls, instance_calls};
-pub use chain::Chain;
 pub use effect::{element_effect, expression_effect, instance_effect};
 pub use naming::{actuals_name, element_names, expression_names, expressions_name};
+pub use occ_usage_parts::Chain;
 pub use placing::place;
 pub use timing::is_timer;
 pub use uses::Use;

@@ -2,10 +2,9 @@
 ghost use Rattle.std.specs.Prelude.{◌≡◌, IfOk};
 ghost use Rattle.occ_usage_values.specs.Uses.{at_line};
 
-use super::chain::Chain;
 use occ_project::Location;
 use occ_types::UseKind;
-use occ_usage_parts::{Part, copies};
+use occ_usage_parts::{Chain, Part, copies};
 use std::alloc::{AllocError, Global};
 
 /// A use of a part of a variable, a channel or a formal.
@@ -31,7 +30,7 @@ impl Use {
             },
             kind: self.kind,
             line: *line,
-            chain: Chain::from_slice(alloc, self.chain.as_slice())?,
+            chain: self.chain.share(alloc)?,
         })
     }
 }

@@ -1,0 +1,14 @@
+-- The numbers of a chain: those that it shares, and those of its own after them.
+use Rattle.std.specs.Prelude.{List, None, Option, Some, [], ◌++◌, ℕ}
+use Rattle.occ_usage_parts.specs.declared.chain.Links.{Links}
+
+abbrev pub shared_in : Option (List ℕ) → List ℕ
+shared_in None = []
+shared_in (Some numbers) = numbers
+
+abbrev pub numbers_in : Links → List ℕ
+numbers_in l = shared_in l.shared ++ l.own
+
+abbrev pub numbers_of : Option Links → List ℕ
+numbers_of None = []
+numbers_of (Some l) = numbers_in l

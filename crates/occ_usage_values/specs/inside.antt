@@ -1,2 +1,0 @@
--- what no contract of a public call rests on
-pub mod Chains
