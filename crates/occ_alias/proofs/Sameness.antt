@@ -1,8 +1,7 @@
 -- What the abbreviation rule reports of a line that does not name a specification is the same in scopes that differ in the value of
 -- that alone.
-use Rattle.std.proofs.Common.{◌≡◌, ◌∙◌, ◌+◌, ◌++◌, ◌||◌, ◌&&◌, ◌==◌, ℕ, Bool, false, Option, Some, None, List, [], ◌∷◌, slice_get, nat_lt, if◌then◌else◌, refl, ap, ap₂, sym}
+use Rattle.std.proofs.Common.{◌≡◌, ◌∙◌, ◌+◌, ◌++◌, ◌&&◌, ◌==◌, ℕ, false, Option, Some, None, List, [], ◌∷◌, slice_get, nat_lt, if◌then◌else◌, refl, ap, ap₂, sym}
 use Rattle.std.specs.List.{list_any}
-use Rattle.std.specs.Prelude.{ℤ}
 use Rattle.occ_base.specs.declared.code.Code.{Code}
 use Rattle.occ_base.specs.declared.code.Code.TheVariants as code
 use Rattle.occ_base.specs.declared.diag.Diag.{Diag}
@@ -35,15 +34,15 @@ use Rattle.occ_usage_parts.specs.declared.part.Part.{Part}
 use Rattle.occ_usage_parts.specs.declared.place.SelectedPart.{SelectedPart}
 use Rattle.occ_usage_values.specs.Bounds.{Env, body_of}
 use Rattle.occ_usage_values.specs.Differing.{DifferAt, IsSame}
-use Rattle.occ_usage_values.specs.Naming.{actuals_name, element_names, expr_names, exprs_name}
-use Rattle.occ_usage_values.specs.Views.{actual_views, element_view, expr_view}
+use Rattle.occ_usage_values.specs.Naming.{element_names, expr_names, exprs_name}
+use Rattle.occ_usage_values.specs.Views.{actual_views}
 use Rattle.occ_usage_values.specs.declared.bound.Bound.{Bound}
 use Rattle.occ_usage_values.specs.declared.bound.Bound.TheVariants as b
 use Rattle.occ_usage_values.specs.declared.call.Call.{Call}
 use Rattle.occ_usage_values.specs.declared.uses.Use.{Use}
 use Rattle.occ_usage_values.proofs.Differing.{call_calls_same, found_same, left_false, right_false}
 use Rattle.occ_usage_values.proofs.Sameness.{all_actuals_same, element_same, expr_same}
-use Rattle.occ_alias.specs.AbbreviationRule.{actual_faults, actuals_faults, bound_faults, call_faults, calls_faults, element_fault, element_faults, evaluated_faults, free_fault, free_faults, graded, line_faults, pair_faults, place_faults, place_pair, place_pairs, reported_with, results_faults, scope_faults, written_by, written_fault, written_faults}
+use Rattle.occ_alias.specs.AbbreviationRule.{actual_faults, actuals_faults, bound_faults, call_faults, calls_faults, element_fault, element_faults, evaluated_faults, free_fault, free_faults, graded, line_faults, pair_faults, place_faults, place_pair, place_pairs, results_faults, scope_faults, written_by, written_fault, written_faults}
 use Rattle.occ_alias.specs.LineCalls.{each_calls, elements_calls, form_calls, guard_calls, input_calls, output_calls, outputs_calls, replicator_calls, target_calls, targets_calls}
 
 -- ---- calls

@@ -1,6 +1,5 @@
 -- Rounds of a replicator that no line under it names: what one of them uses and reports is what all do.
-use Rattle.std.proofs.Common.{◌≡◌, ◌∙◌, ◌++◌, ◌≤◌, ◌<◌, ◌+◌, ℕ, zero, suc, ℤ, Bool, true, false, Option, Some, None, List, [], ◌∷◌, length, replicate, OnOk, Result, Ok, Err, refl, ap, ap₂, sym, arith}
-use Rattle.std.proofs.lemmas.List.{append-nil}
+use Rattle.std.proofs.Common.{◌≡◌, ◌∙◌, ◌++◌, ◌≤◌, ◌<◌, ℕ, zero, suc, ℤ, true, false, Some, List, [], ◌∷◌, length, replicate, OnOk, Result, Ok, Err, refl, ap, ap₂, sym, arith}
 use Rattle.occ_base.specs.declared.diag.Diag.{Diag}
 use Rattle.occ_alias.specs.Entering.{index_value}
 use Rattle.occ_project.specs.declared.expanded.Location.{Location}

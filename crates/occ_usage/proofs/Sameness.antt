@@ -1,11 +1,8 @@
 -- Lines that do not name a specification use and report the same in scopes that differ in the value of that alone.
-use Rattle.std.proofs.Common.{◌≡◌, ◌∙◌, ◌++◌, ◌+◌, ◌||◌, ◌&&◌, ℕ, zero, suc, ℤ, Bool, true, false, not, Option, Some, None, List, [], ◌∷◌, length, if◌then◌else◌, refl, ap, ap₂, sym, subst}
+use Rattle.std.proofs.Common.{◌≡◌, ◌∙◌, ◌++◌, ◌+◌, ◌||◌, ◌&&◌, ℕ, zero, suc, ℤ, Bool, true, false, not, Option, Some, None, List, [], ◌∷◌, length, if◌then◌else◌, refl, ap, ap₂, subst}
 use Rattle.occ_base.specs.Errors.{error_at}
 use Rattle.occ_base.specs.declared.diag.Diag.{Diag}
-use Rattle.occ_alias.specs.AbbreviationRule.{line_faults}
 use Rattle.occ_alias.specs.Entering.{body_bound, entry_bounds, specified}
-use Rattle.occ_alias.specs.Effects.{form_effect}
-use Rattle.occ_alias.specs.Forms.{form_uses, used}
 use Rattle.occ_alias.specs.Naming.{elements_name, form_names}
 use Rattle.occ_alias.proofs.Sameness.{differ_more, form_effect_same, form_uses_same, length_same, line_faults_same, root_name_same, specified_same, used_same}
 use Rattle.occ_project.specs.declared.expanded.Location.{Location}
@@ -15,12 +12,10 @@ use Rattle.occ_typing.specs.Forms.{BlockKind, TypedForm}
 use Rattle.occ_typing.specs.BlockVariants as block
 use Rattle.occ_typing.specs.FormVariants as form
 use Rattle.occ_typing_rules.specs.declared.expr.TypedElement.{TypedElement}
-use Rattle.occ_typing_rules.specs.declared.expr.TypedExpr.{TypedExpr}
 use Rattle.occ_typing_statements.specs.declared.replicator_tree.KnownReplicator.{KnownReplicator}
 use Rattle.occ_usage_conflicts.specs.Bodies.{body_uses}
 use Rattle.occ_usage_conflicts.specs.Components.{joined}
 use Rattle.occ_usage_conflicts.specs.ParallelRule.{below, code_of, component_faults, fault_if, root_fault, root_faults, some_clash, target_faults}
-use Rattle.occ_usage_conflicts.specs.declared.rule.Least.{Least}
 use Rattle.occ_usage_conflicts.specs.declared.rule.Least.TheVariants as least
 use Rattle.occ_usage_conflicts.specs.declared.rule.Rule.{Rule as ConflictRule}
 use Rattle.occ_usage_conflicts.specs.declared.rule.Rule.TheVariants as rule
@@ -28,16 +23,15 @@ use Rattle.occ_usage_values.specs.Bounds.{Env}
 use Rattle.occ_usage_values.specs.Differing.{DifferAt, IsSame}
 use Rattle.occ_usage_values.specs.Naming.{element_names, exprs_name}
 use Rattle.occ_usage_values.specs.declared.bound.Bound.{Bound}
-use Rattle.occ_usage_values.specs.declared.bound.Bound.TheVariants as b
 use Rattle.occ_usage_values.specs.declared.uses.Use.{Use}
 use Rattle.occ_usage_values.proofs.Differing.{left_false, right_false}
 use Rattle.occ_usage.specs.AbbreviationRule.{abbreviation_at}
 use Rattle.occ_usage.specs.Effect.{effect_after, effect_under, inner, is_body, line_effect, lines_effect}
-use Rattle.occ_usage.specs.Lines.{Under, added, added_by, after_line, after_by, body_over, components, components_by, ends_item, entered, items, items_of, known_replicator, line_uses, rounds_to, under_uses, with_index}
+use Rattle.occ_usage.specs.Lines.{Under, added, added_by, after_by, body_over, components, components_by, ends_item, entered, items, items_of, known_replicator, line_uses, rounds_to, under_uses, with_index}
 use Rattle.occ_usage.specs.Naming.{lines_name}
 use Rattle.occ_usage.specs.ParallelRule.{assignment_faults, block_faults, own_faults, parallel_at, targets}
 use Rattle.occ_usage.specs.Trees.{Empty, Head, Tree, Trees}
-use Rattle.occ_usage.specs.Walk.{Finding, Rule, line_reported, reported, reported_of, rounds_reported, under_reported, under_reported_by}
+use Rattle.occ_usage.specs.Walk.{Finding, Rule, reported, reported_of, rounds_reported, under_reported_by}
 
 -- ---- lines that do not name it
 

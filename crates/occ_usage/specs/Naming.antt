@@ -1,5 +1,5 @@
 -- Whether lines name a specification, each with those under it.
-use Rattle.std.specs.Prelude.{ℕ, Bool, true, false, ◌||◌}
+use Rattle.std.specs.Prelude.{ℕ, Bool, false, ◌||◌}
 use Rattle.occ_alias.specs.Naming.{form_names}
 use Rattle.occ_usage.specs.Trees.{Empty, Tree, Trees}
 

@@ -1,6 +1,6 @@
 -- What a line uses, whether it has an effect and what comes into scope by it is the same in scopes that differ in the value of a
 -- specification alone, if the line does not name that.
-use Rattle.std.proofs.Common.{◌≡◌, ◌∙◌, ◌+◌, ◌++◌, ◌||◌, ℕ, Bool, false, Option, Some, None, List, [], ◌∷◌, length, length-append, refl, ap, ap₂, sym, append_assoc}
+use Rattle.std.proofs.Common.{◌≡◌, ◌∙◌, ◌++◌, ◌||◌, ℕ, Bool, false, Option, Some, None, List, [], ◌∷◌, length, length-append, refl, ap, ap₂, sym, append_assoc}
 use Rattle.occ_project.specs.declared.expanded.Location.{Location}
 use Rattle.occ_scope.specs.declared.meaning.ScopeEntry.{ScopeEntry}
 use Rattle.occ_types.specs.declared.interface.UseKind.{UseKind}
@@ -9,7 +9,6 @@ use Rattle.occ_typing_lines.specs.declared.tree.TypedForm.{TypedForm}
 use Rattle.occ_typing_lines.specs.declared.tree.TypedForm.TheVariants as form
 use Rattle.occ_typing_lines.specs.declared.tree.TypedGuard.{TypedGuard}
 use Rattle.occ_typing_lines.specs.declared.tree.TypedGuard.TheVariants as guard
-use Rattle.occ_typing_rules.specs.declared.expr.TypedActual.{TypedActual}
 use Rattle.occ_typing_rules.specs.declared.expr.TypedElement.{TypedElement}
 use Rattle.occ_typing_rules.specs.declared.expr.TypedExpr.{TypedExpr}
 use Rattle.occ_typing_statements.specs.declared.exchange_tree.TypedInput.{TypedInput}
@@ -24,7 +23,7 @@ use Rattle.occ_usage_parts.specs.declared.place.SelectedPart.{SelectedPart}
 use Rattle.occ_usage_values.specs.Bounds.{Env}
 use Rattle.occ_usage_values.specs.Calls.{made}
 use Rattle.occ_usage_values.specs.Differing.{DifferAt, IsSame}
-use Rattle.occ_usage_values.specs.Naming.{actuals_name, element_names, expr_names, exprs_name}
+use Rattle.occ_usage_values.specs.Naming.{element_names, expr_names, exprs_name}
 use Rattle.occ_usage_values.specs.Views.{actual_views, element_view, expr_view}
 use Rattle.occ_usage_values.specs.declared.bound.Bound.{Bound}
 use Rattle.occ_usage_values.specs.declared.bound.Bound.TheVariants as b
@@ -32,7 +31,7 @@ use Rattle.occ_usage_values.specs.declared.uses.Use.{Use}
 use Rattle.occ_usage_values.proofs.Differing.{call_effect_same, call_uses_same, left_false, right_false}
 use Rattle.occ_usage_values.proofs.Sameness.{all_actuals_same, element_same, expr_same}
 use Rattle.occ_usage_lines.specs.Effects.{calls_effect, communicates, each_effect, elements_effect, form_effect, replicator_effect, target_effect, targets_effect}
-use Rattle.occ_usage_lines.specs.Entering.{abbreviated, body_bound, entry_bounds, interface_bounds, looked_at, named_at, one_line, retyped, retyped_value, specified, valued}
+use Rattle.occ_usage_lines.specs.Entering.{abbreviated, body_bound, entry_bounds, interface_bounds, looked_at, named_at, one_line, retyped, specified, valued}
 use Rattle.occ_usage_lines.specs.Forms.{each_uses, form_uses, guard_uses, input_uses, output_uses, outputs_uses, replicator_uses, target_uses, targets_uses, used, written}
 use Rattle.occ_usage_lines.specs.Naming.{elements_name, form_names, guard_names, input_names, output_names, outputs_name, replicator_names, target_names, targets_name}
 use Rattle.occ_types.specs.declared.value.Value.{Value}

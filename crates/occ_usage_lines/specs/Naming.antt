@@ -1,6 +1,6 @@
 -- Whether a line names a specification, without the lines under it. Options, sizes and types are constants and name nothing whose
 -- value may differ.
-use Rattle.std.specs.Prelude.{ℕ, Bool, true, false, ◌||◌, Option, Some, None, List, [], ◌∷◌}
+use Rattle.std.specs.Prelude.{ℕ, Bool, false, ◌||◌, Option, Some, None, List, [], ◌∷◌}
 use Rattle.occ_usage_values.specs.Naming.{actuals_name, element_names, expr_names, exprs_name}
 use Rattle.occ_typing_statements.specs.declared.replicator_tree.TypedReplicator.{TypedReplicator}
 use Rattle.occ_typing_rules.specs.declared.expr.TypedElement.{TypedElement}

@@ -8,7 +8,7 @@ use Rattle.occ_types.specs.declared.interface.Places.{Places}
 use Rattle.occ_types.specs.declared.interface.Places.TheVariants as places
 use Rattle.occ_usage_parts.specs.Places.{holds}
 use Rattle.occ_usage_parts.specs.declared.place_set.PlaceSet.{PlaceSet}
-use Rattle.occ_usage_parts.specs.inside.PlaceSets.{Has, IsSet, LiesAt, lies_from, place_at}
+use Rattle.occ_usage_parts.specs.inside.PlaceSets.{Has, LiesAt, lies_from, place_at}
 use Rattle.occ_usage_parts.specs.inside.Runs.{HasBetween, HasFrom, IsBetween, LiesIn, runs_of}
 
 abbrev pub HasPlaceFrom : PlaceSet → ℤ → Type 0

@@ -1,5 +1,5 @@
 -- Parts with one front meet a part by what follows the front there.
-use Rattle.std.proofs.Common.{map, ◌≡◌, Bool, true, false, not, ap, sym, subst, ◌∙◌, refl, arith, ℕ, zero, suc, length, List, [], ◌∷◌, ◌++◌, Option, Some, None}
+use Rattle.std.proofs.Common.{◌≡◌, Bool, true, false, not, ap, sym, subst, ◌∙◌, refl, arith, ℕ, zero, suc, length, List, [], ◌∷◌, ◌++◌, Option, Some, None}
 use Rattle.std.specs.Prelude.{◌||◌, ◌&&◌, slice_get, slice_set, if◌then◌else◌}
 use Rattle.std.specs.List.{list_any}
 use Rattle.std.proofs.lemmas.List.Folds.{list_any-append}

@@ -1,8 +1,8 @@
 -- Which of two parts is first does not matter.
 use Rattle.std.proofs.Common.{◌≡◌, ℕ, Bool, ap, ◌∙◌, refl, arith, List, [], ◌∷◌}
-use Rattle.std.specs.Prelude.{◌==◌, ◌&&◌, if◌then◌else◌}
+use Rattle.std.specs.Prelude.{◌==◌, if◌then◌else◌}
 use Rattle.occ_types.specs.declared.interface.PartSelector.{PartSelector}
-use Rattle.occ_usage_parts.specs.Parts.{Meet, all_sure, are_apart, is_sure, overlap_of, overlap_of_selectors}
+use Rattle.occ_usage_parts.specs.Parts.{Meet, all_sure, are_apart, overlap_of, overlap_of_selectors}
 use Rattle.occ_usage_parts.specs.declared.part.Overlap.{Overlap}
 use Rattle.occ_usage_parts.specs.declared.part.Overlap.TheVariants as o
 use Rattle.occ_usage_parts.specs.declared.part.Part.{Part}

@@ -1,5 +1,5 @@
 -- What does not name a specification is the same in scopes that differ in its value alone.
-use Rattle.std.proofs.Common.{◌≡◌, ◌∙◌, ◌+◌, ◌<◌, ◌||◌, ◌==◌, ◌++◌, ℕ, zero, suc, ℤ, pos, Bool, true, false, Option, Some, None, List, [], ◌∷◌, map, length, slice_get, refl, ap, ap₂, sym, subst, arith}
+use Rattle.std.proofs.Common.{◌≡◌, ◌∙◌, ◌||◌, ◌==◌, ◌++◌, ℕ, zero, suc, ℤ, pos, Bool, true, false, Option, Some, None, List, [], ◌∷◌, length, slice_get, refl, ap, ap₂, sym, arith}
 use Rattle.occ_scope.specs.declared.meaning.Referent.{Referent}
 use Rattle.occ_typing_operands.specs.declared.kind.Known.{Known}
 use Rattle.occ_types.specs.declared.constant.Monadic.{Monadic}

@@ -6,7 +6,7 @@ use Rattle.occ_types.specs.declared.constant.Monadic.{Monadic}
 use Rattle.occ_types.specs.declared.constant.Operator.{Operator}
 use Rattle.occ_typing_rules.specs.declared.expr.Selector.{Selector}
 use Rattle.occ_typing_rules.specs.declared.expr.Selector.TheFolds.{fold-roll-Selector, fold-roll-TypedActual, fold-roll-TypedElement, fold-roll-TypedExpr}
-use Rattle.occ_typing_rules.specs.declared.expr.Selector.TheOpen.{Selector-F, TypedActual-F, TypedElement-F, TypedExpr-F}
+use Rattle.occ_typing_rules.specs.declared.expr.Selector.TheOpen.{Selector-F, TypedActual-F, TypedExpr-F}
 use Rattle.occ_typing_rules.specs.declared.expr.Selector.TheVariants as sv
 use Rattle.occ_typing_rules.specs.declared.expr.TypedActual.{TypedActual}
 use Rattle.occ_typing_rules.specs.declared.expr.TypedActual.TheVariants as av

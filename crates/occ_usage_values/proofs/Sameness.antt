@@ -1,5 +1,5 @@
 -- Expressions, elements, selectors and actuals that do not name a specification are the same in scopes that differ in its value alone.
-use Rattle.std.proofs.Common.{◌≡◌, ◌∙◌, ◌||◌, ◌==◌, ℕ, Bool, false, List, [], ◌∷◌, map, ap, sym, subst}
+use Rattle.std.proofs.Common.{◌≡◌, ◌∙◌, ◌||◌, ◌==◌, ℕ, false, List, [], ◌∷◌, map, ap, sym, subst}
 use Rattle.occ_typing_rules.specs.declared.expr.Selector.{Selector, roll-Selector}
 use Rattle.occ_typing_rules.specs.declared.expr.Selector.TheFolds.{ind-TypedActual, ind-TypedElement, ind-TypedExpr, map-Selector, map-TypedActual, map-TypedElement, map-TypedExpr}
 use Rattle.occ_typing_rules.specs.declared.expr.Selector.TheOpen.{Selector-F, TypedActual-F, TypedElement-F, TypedExpr-F}

@@ -1,5 +1,5 @@
 -- Whether an expression, an element, a selector or an actual names a specification: one of the elements in it is named by it.
-use Rattle.std.specs.Prelude.{ℕ, ◌==◌, Bool, true, false, ◌||◌, List, [], ◌∷◌}
+use Rattle.std.specs.Prelude.{ℕ, ◌==◌, Bool, false, ◌||◌, List, [], ◌∷◌}
 use Rattle.occ_typing_rules.specs.declared.expr.Selector.{Selector}
 use Rattle.occ_typing_rules.specs.declared.expr.Selector.TheFolds.{fold-Selector, fold-TypedActual, fold-TypedElement, fold-TypedExpr}
 use Rattle.occ_typing_rules.specs.declared.expr.Selector.TheOpen.{Selector-F, TypedActual-F, TypedElement-F, TypedExpr-F}

@@ -1,4 +1,4 @@
-use Rattle.std.proofs.Common.{◌≡◌, ◌∙◌, ap, length, List, [], ◌∷◌, ◌++◌}
+use Rattle.std.proofs.Common.{◌∙◌, ap, length, List, [], ◌∷◌, ◌++◌}
 use Rattle.occ_base.specs.declared.diag.Diag.{Diag}
 use Rattle.occ_usage_conflicts.specs.Components.{joined}
 use Rattle.occ_usage_conflicts.specs.ParallelRule.{below}

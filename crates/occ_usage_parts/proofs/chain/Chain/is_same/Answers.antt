@@ -1,4 +1,4 @@
-use Rattle.std.proofs.Common.{rules, ◌≡◌, ◌∙◌, ◌<◌, ◌≤◌, ℕ, List, length, slice_get, ap, sym, arith}
+use Rattle.std.proofs.Common.{rules, ◌≡◌, ◌∙◌, ◌≤◌, ℕ, List, length, slice_get, ap, sym, arith}
 use Rattle.occ_usage_parts.proofs.Chains.{are_same, same_all}
 use Rattle.occ_usage_parts.proofs.chain.Chain.is_same.Goals as goal
 
