@@ -3,8 +3,7 @@ use Rattle.std.proofs.Common.{◌≡◌, ◌≢◌, ◌<◌, ◌≤◌, ◌+◌,
 use Rattle.std.proofs.lemmas.Bool.{eqb-true}
 use Rattle.std.proofs.Math.Seq.{take-append_seam}
 use Rattle.occheck_commands.specs.Lines.{cut_lines, text_of}
-use Rattle.occheck_commands.specs.Ended.{IsEnded}
-use Rattle.occheck_commands.specs.inside.Steps.{IsNoFeed}
+use Rattle.occheck_commands.specs.Ended.{IsEnded, IsNoFeed}
 use Rattle.occheck_commands.proofs.Cut.{to_feed}
 use Rattle.occheck_commands.proofs.Ended.{ended_drop, feed_within, first_cut, feed_at}
 
@@ -67,18 +66,18 @@ front_is bytes text following e =
     let n : length bytes - length following ≡ length text = omega (arith, ap (λ (x : List ℕ). length x) e, length-append text following) in
     ap (λ (m : ℕ). take m bytes) n ∙ ap (λ (x : List ℕ). take (length text) x) e ∙ take-append_seam text following
 
-pub none_left : (lines : List (List ℕ)) (c n : ℕ) → drop c lines ≡ [] → c < n → length lines < n
-none_left [] c n e h = omega arith
-none_left (x ∷ lines) zero n e h = absurd cc
-none_left (x ∷ lines) (suc c) zero e h = absurd (omega arith)
-none_left (x ∷ lines) (suc c) (suc n) e h = let k : length lines < n = none_left lines c n e (omega arith) in omega arith
+none_left : (lines : List (List ℕ)) (c : ℕ) → drop c lines ≡ [] → c ≤ length lines → length lines ≡ c
+none_left [] c e h = omega arith
+none_left (x ∷ lines) zero e h = absurd cc
+none_left (x ∷ lines) (suc c) e h = let k : length lines ≡ c = none_left lines c e (omega arith) in omega arith
 
 pub ended_is : (bytes following : List ℕ) (n : ℕ) → following ≡ drop n bytes → IsEnded bytes → IsEnded following
 ended_is bytes following n e h = subst IsEnded (sym e) (ended_drop n bytes h)
 
-pub ran_out : (lines : List (List ℕ)) (following : List ℕ) (c n : ℕ) → drop c lines ≡ cut_lines following → length following ≡ 0 → c < n → length lines < n
-ran_out lines [] c n e z h = none_left lines c n e h
-ran_out lines (b ∷ following) c n e z h = absurd (omega arith)
+-- where nothing follows, all lines were passed
+pub all_passed : (lines : List (List ℕ)) (following : List ℕ) (c : ℕ) → drop c lines ≡ cut_lines following → length following ≡ 0 → c ≤ length lines → length lines ≡ c
+all_passed lines [] c e z h = none_left lines c e h
+all_passed lines (b ∷ following) c e z h = absurd (omega arith)
 
 pub text_step : (lines : List (List ℕ)) (bytes following line rest : List ℕ) (c : ℕ) → drop c lines ≡ cut_lines following → cut_lines following ≡ line ∷ cut_lines rest → following ≡ line ++ 10 ∷ rest
     → bytes ≡ text_of (take c lines) ++ following → bytes ≡ text_of (take (c + 1) lines) ++ rest
@@ -86,3 +85,16 @@ text_step lines bytes following line rest c d k b e = e ∙ ap (λ (x : List ℕ
 
 pub less_by : (following line rest : List ℕ) (c all : ℕ) → following ≡ line ++ 10 ∷ rest → length following + c ≤ all → length rest + (c + 1) ≤ all
 less_by following line rest c all e h = omega (arith, ap (λ (x : List ℕ). length x) e, length-append line (10 ∷ rest))
+
+-- the last bytes of the last bytes are last
+pub last_of_last : (bytes middle left between : List ℕ) → ((front : List ℕ) × (bytes ≡ front ++ middle)) → middle ≡ between ++ left → (front : List ℕ) × (bytes ≡ front ++ left)
+last_of_last bytes middle left between h e = (h.0 ++ between, h.1 ∙ ap (λ (x : List ℕ). h.0 ++ x) e ∙ sym (append_assoc h.0 between left))
+
+pub last_after_line : (bytes middle left line : List ℕ) → ((front : List ℕ) × (bytes ≡ front ++ middle)) → middle ≡ line ++ 10 ∷ left → (front : List ℕ) × (bytes ≡ front ++ left)
+last_after_line bytes middle left line h e = last_of_last bytes middle left (line ++ 10 ∷ []) h (e ∙ sym (append_assoc line (10 ∷ []) left))
+
+pub line_length : (bytes line following : List ℕ) → bytes ≡ line ++ 10 ∷ following → length following + 1 ≤ length bytes
+line_length bytes line following e = omega (arith, ap (λ (x : List ℕ). length x) e, length-append line (10 ∷ following))
+
+pub part_length : (bytes text following : List ℕ) → bytes ≡ text ++ following → length following ≤ length bytes
+part_length bytes text following e = omega (arith, ap (λ (x : List ℕ). length x) e, length-append text following)

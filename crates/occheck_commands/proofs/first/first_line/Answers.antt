@@ -1,6 +1,6 @@
 use Rattle.std.proofs.Common.{◌+◌}
-use Rattle.occheck_commands.proofs.First.{within, cut_is, text_is, begun_is, ended_is}
-use Rattle.occheck_commands.proofs.script.first_line.Goals as goal
+use Rattle.occheck_commands.proofs.FirstLine.{within, cut_is, text_is, begun_is, ended_is}
+use Rattle.occheck_commands.proofs.first.first_line.Goals as goal
 
 pub split_at-requires-2 : goal.split_at-requires-2
 split_at-requires-2 c = within _ _ c.requires.some c.requires.ended c.length_before-length.ensures.value

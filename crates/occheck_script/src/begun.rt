@@ -1,0 +1,85 @@
+//! What was read of a script and is not answered: part of a command, or nothing.
+ghost use Rattle.occheck_commands.specs.Left.{ending};
+ghost use Rattle.occheck_script.specs.inside.Begun.{IsBegun, IsLeft};
+ghost use Rattle.occheck_script.specs.inside.Going.{IsRefusedIn};
+ghost use Rattle.std.specs.Prelude.{◌≡◌, ◌≤◌, ◌<◌, ◌+◌, ◌^◌, ◌++◌, Bool, List, OnErr, OnOk, [], drop, length, ℕ};
+
+use occheck_commands::{Lines, line_ends, skip_blank};
+use std::alloc::{AllocError, Global};
+
+/// What was read of a script and is not answered.
+#[derive(Drop)]
+pub struct Begun {
+    pub bytes: Vec<u8>,
+    /// The line on which it begins.
+    pub line: usize,
+    /// How many lines have to end before a command can be whole, at least.
+    pub lacks: usize,
+}
+
+/// What commands left of some bytes.
+#[derive(Clone, Copy)]
+pub struct Part {
+    /// How many bytes the commands used up.
+    pub used: usize,
+    /// The line after them.
+    pub line: usize,
+    /// How many lines have to end before the next command can be whole, at least.
+    pub lacks: usize,
+}
+
+impl Begun {
+    /// Nothing was read.
+    pub fn new(alloc: Global) -> Begun
+        ensures bytes { result.bytes.items ≡ [] }
+        ensures line { result.line ≡ 1 }
+        ensures begun { IsBegun result }
+    {
+        Begun {
+            bytes: Vec::new(alloc),
+            line: 1,
+            lacks: 1,
+        }
+    }
+
+    /// What was read, and then these bytes. Lines without bytes in front of a command are left out.
+    pub fn add(&mut self, piece: &[u8]) -> Result<(), AllocError>
+        requires begun { IsBegun self.old }
+        requires small { self.old.line + length self.old.bytes.items + length piece.now < 2 ^ 60 }
+        ensures begun { OnOk result (IsBegun self.new) }
+        ensures same { OnOk result ((over : Bool) (more : List ℕ) → ending over self.new.line (self.new.bytes.items ++ more) ≡ ending over self.old.line (self.old.bytes.items ++ (piece.now ++ more))) }
+        ensures line { OnOk result (self.new.line + length self.new.bytes.items ≡ self.old.line + length self.old.bytes.items + length piece.now) }
+        ensures refused { OnErr result ((over : Bool) (more : List ℕ) → IsRefusedIn 0 (ending over self.old.line (self.old.bytes.items ++ (piece.now ++ more)))) }
+    {
+        let added = self.without_blank(piece);
+        self.line = added.line;
+        self.bytes.extend_from_slice(added.bytes)?;
+        self.lacks = self.lacks.saturating_sub(line_ends(added.bytes));
+        Ok(())
+    }
+
+    /// What of the bytes goes on with what was read, and the line on which it all begins.
+    fn without_blank<'a>(&self, piece: &'a [u8]) -> Lines<'a> {
+        let lines = Lines {
+            bytes: piece,
+            line: self.line,
+        };
+        if self.bytes.is_empty() {
+            skip_blank(lines)
+        } else {
+            lines
+        }
+    }
+
+    /// What is left after commands that used bytes up.
+    pub fn keep(&mut self, part: Part)
+        requires { part.used ≤ length self.old.bytes.items }
+        ensures bytes { self.new.bytes.items ≡ drop part.used self.old.bytes.items }
+        ensures line { self.new.line ≡ part.line }
+        ensures lacks { self.new.lacks ≡ part.lacks }
+    {
+        self.bytes.drain(..part.used);
+        self.line = part.line;
+        self.lacks = part.lacks;
+    }
+}
