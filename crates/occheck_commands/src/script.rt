@@ -1,6 +1,6 @@
 //! What is left of a script, and the next command, fault or end. Commands borrow their text.
 ghost use Rattle.occheck_commands.specs.Left.{IsLess, IsRest, next_seen, script_left};
-ghost use Rattle.std.specs.Prelude.{◌≡◌};
+ghost use Rattle.std.specs.Prelude.{◌≡◌, ◌||◌, length, nat_lt};
 
 use super::command::Command;
 use super::first::{First, Lines, first_command};
@@ -47,11 +47,18 @@ pub fn next_command(rest: Rest<'_>) -> Next<'_>
         ),
         First::Fault(line) => Next::Fault(line),
         First::Part(left, _lacks) => {
-            if rest.over || !left.bytes.is_empty() {
+            if is_cut_short(rest.over, left.bytes) {
                 Next::Fault(left.line)
             } else {
                 Next::End
             }
         }
     }
+}
+
+/// Whether a script that ends with this is wrong there: with part of a command, or where there are bytes over the limit.
+pub fn is_cut_short(over: bool, left: &[u8]) -> bool
+    ensures { result ≡ (over || nat_lt 0 (length left.now)) }
+{
+    over || !left.is_empty()
 }

@@ -71,10 +71,11 @@ pub fn ended_length(bytes: &[u8]) -> usize
 /// # Errors
 ///
 /// Where memory is refused.
+#[tactic(auto, using(crate::proofs::Going::last_ended))]
 pub fn closed(bytes: Vec<u8>, over: bool) -> Result<Vec<u8>, AllocError>
     ensures ended { IfOk result (λ closed. IsEnded closed.items) }
     ensures short { IfOk result (λ closed. length closed.items ≤ length bytes.items + 1) }
-    ensures lines { IfOk result (λ closed. cut_lines closed.items ≡ last_lines over bytes.items) }
+    ensures lines { IfOk result (λ closed. last_lines over closed.items ≡ last_lines over bytes.items) }
     ensures refused { OnErr result (0 < length bytes.items) }
 {
     if over {

@@ -1,5 +1,5 @@
 -- What a script writes, and the status with which it ends.
-use Rattle.std.specs.Prelude.{ℕ, ◌≡◌, ◌⊎◌, ◌<◌, cond, length, IsSome, List, [], ◌∷◌, ◌++◌, codes, take, Option, Some, None}
+use Rattle.std.specs.Prelude.{ℕ, ◌≡◌, ◌⊎◌, ◌<◌, ◌^◌, cond, length, IsSome, List, [], ◌∷◌, ◌++◌, codes, take, Option, Some, None}
 use Rattle.std.specs.Fmt.{decimal}
 use Rattle.occheck_script.specs.Devices.{Appends, AppendsFront, counted}
 use Rattle.occheck_commands.specs.Script.{Placed, Script, whole_commands}
@@ -60,7 +60,7 @@ IsFaultReported line before now status.DeviceFault = AppendsFront before now (fa
 IsFaultReported line before now status.NoMemory = now ≡ before
 IsFaultReported line before now status.Disagree = ⊥
 
--- a read failed after some first bytes were read: all commands that lie whole in these were answered, and no other
+-- a read failed after so many bytes: all commands that lie whole in these were answered, and no other
 abbrev pub IsCutOff : Reading → List ℕ → ℕ → ℕ → Option (List ℕ) → Option (List ℕ) → Type 0
 IsCutOff read bytes taken_before taken_now before now =
-    (n : ℕ) × (taken_now ≡ counted taken_before n) × Appends before now (answers read start (whole_commands (take n bytes)))
+    (n : ℕ) × (taken_before < 2 ^ 64 → taken_now ≡ counted taken_before n) × Appends before now (answers read start (whole_commands (take n bytes)))

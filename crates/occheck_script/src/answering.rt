@@ -30,15 +30,17 @@ pub fn answer_begun<W: ByteOut>(
     requires small { begun.old.line + length begun.old.bytes.items < 2 ^ 60 }
     requires writer { W.has_failed writer.old ≡ false }
     ensures begun { OnOk result (IsBegun begun.new) }
+    ensures lacks { OnOk result (0 < begun.new.lacks) }
     ensures goes_on { OnOk result (GoesOn begun.old.line begun.old.bytes.items begun.new.line begun.new.bytes.items desk.old desk.new (W.written writer.old) (W.written writer.new)) }
     ensures line { OnOk result (begun.new.line + length begun.new.bytes.items ≤ begun.old.line + length begun.old.bytes.items) }
     ensures fine { OnOk result (W.has_failed writer.new ≡ false) }
     ensures stops { IfErr result (λ ended. Stops begun.old.line begun.old.bytes.items desk.old (W.written writer.old) (W.written writer.new) ended) }
     ensures device { IfErr result (λ ended. is_device_fault ended ≡ W.has_failed writer.new) }
 {
-    let length = ended_length(begun.bytes.as_slice());
+    let bytes = begun.bytes.as_slice();
+    let (ended, _) = bytes.split_at(ended_length(bytes));
     let lines = Lines {
-        bytes: &begun.bytes[..length],
+        bytes: ended,
         line: begun.line,
     };
     let part = answer_lines(alloc, desk, lines, writer)?;

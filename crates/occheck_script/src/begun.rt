@@ -1,6 +1,7 @@
 //! What was read of a script and is not answered: part of a command, or nothing.
+ghost use Rattle.occheck_commands.specs.Ended.{IsNoFeed};
 ghost use Rattle.occheck_commands.specs.Left.{ending};
-ghost use Rattle.occheck_script.specs.inside.Begun.{IsBegun, IsLeft};
+ghost use Rattle.occheck_script.specs.inside.Begun.{IsBegun};
 ghost use Rattle.occheck_script.specs.inside.Going.{IsRefusedIn};
 ghost use Rattle.std.specs.Prelude.{◌≡◌, ◌≤◌, ◌<◌, ◌+◌, ◌^◌, ◌++◌, Bool, List, OnErr, OnOk, [], drop, length, ℕ};
 
@@ -33,6 +34,7 @@ impl Begun {
     pub fn new(alloc: Global) -> Begun
         ensures bytes { result.bytes.items ≡ [] }
         ensures line { result.line ≡ 1 }
+        ensures lacks { result.lacks ≡ 1 }
         ensures begun { IsBegun result }
     {
         Begun {
@@ -52,23 +54,35 @@ impl Begun {
         ensures refused { OnErr result ((over : Bool) (more : List ℕ) → IsRefusedIn 0 (ending over self.old.line (self.old.bytes.items ++ (piece.now ++ more)))) }
     {
         let added = self.without_blank(piece);
-        self.line = added.line;
-        self.bytes.extend_from_slice(added.bytes)?;
-        self.lacks = self.lacks.saturating_sub(line_ends(added.bytes));
-        Ok(())
+        match self.bytes.extend_from_slice(added) {
+            Ok(()) => {
+                self.lacks = self.lacks.saturating_sub(line_ends(added));
+                Ok(())
+            }
+            Err(refused) => Err(refused),
+        }
     }
 
-    /// What of the bytes goes on with what was read, and the line on which it all begins.
-    fn without_blank<'a>(&self, piece: &'a [u8]) -> Lines<'a> {
-        let lines = Lines {
+    /// What of the bytes goes on with what was read: where that is nothing, without the lines without bytes that come first.
+    fn without_blank<'a>(&mut self, piece: &'a [u8]) -> &'a [u8]
+        requires begun { IsBegun self.old }
+        requires small { self.old.line + length piece.now < 2 ^ 60 }
+        ensures begun { IsBegun self.new }
+        ensures bytes { self.new.bytes ≡ self.old.bytes }
+        ensures begins { IsNoFeed (self.old.bytes.items ++ result.now) }
+        ensures same { (over : Bool) (more : List ℕ) → ending over self.new.line (self.old.bytes.items ++ (result.now ++ more)) ≡ ending over self.old.line (self.old.bytes.items ++ (piece.entry.now ++ more)) }
+        ensures line { self.new.line + length result.now ≡ self.old.line + length piece.entry.now }
+    {
+        if !self.bytes.is_empty() {
+            return piece;
+        }
+        let left = skip_blank(Lines {
             bytes: piece,
             line: self.line,
-        };
-        if self.bytes.is_empty() {
-            skip_blank(lines)
-        } else {
-            lines
-        }
+        });
+        self.line = left.line;
+        self.lacks = 1;
+        left.bytes
     }
 
     /// What is left after commands that used bytes up.

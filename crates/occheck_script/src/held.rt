@@ -1,9 +1,9 @@
 //! Answers that are held back, and written together.
-ghost use Rattle.occheck_script.specs.Devices.{Appends, AppendsFront};
+ghost use Rattle.occheck_script.specs.Devices.{AppendsFront};
 ghost use Rattle.occheck_script.specs.Status.{is_device_fault};
 ghost use Rattle.occheck_script.specs.declared.status.Status.TheVariants as status;
 ghost use Rattle.occheck_script.specs.inside.Going.{IsHalted, Left};
-ghost use Rattle.std.specs.Prelude.{◌≡◌, ◌++◌, Err, IfErr, List, OnErr, OnOk, Option, [], false, true, ℕ};
+ghost use Rattle.std.specs.Prelude.{◌≡◌, ◌++◌, IfErr, List, OnErr, OnOk, Option, [], false, true, ℕ};
 
 use super::devices::ByteOut;
 use super::status::Status;
@@ -20,9 +20,21 @@ pub fn hold<W: ByteOut>(held: &mut Vec<u8>, answer: &[u8], writer: &mut W) -> Re
     ensures halted { IfErr result (λ ended. (before : Option (List ℕ)) (all : List ℕ) → Left before (W.written writer.old) held.old.items all → IsHalted before (W.written writer.new) all answer.now ended) }
     ensures device { IfErr result (λ ended. is_device_fault ended ≡ W.has_failed writer.new) }
 {
-    if held.extend_from_slice(answer).is_err() {
-        return Err(without_memory(held.as_slice(), writer));
+    match held.extend_from_slice(answer) {
+        Ok(()) => write_enough(held, writer),
+        Err(_refused) => Err(without_memory(held.as_slice(), writer)),
     }
+}
+
+/// Writes the answers that are held back, if they are enough.
+fn write_enough<W: ByteOut>(held: &mut Vec<u8>, writer: &mut W) -> Result<(), Status>
+    requires { W.has_failed writer.old ≡ false }
+    ensures held { OnOk result ((before : Option (List ℕ)) (all : List ℕ) → Left before (W.written writer.old) held.old.items all → Left before (W.written writer.new) held.new.items all) }
+    ensures front { OnErr result ((before : Option (List ℕ)) (all : List ℕ) → Left before (W.written writer.old) held.old.items all → AppendsFront before (W.written writer.new) all) }
+    ensures fine { OnOk result (W.has_failed writer.new ≡ false) }
+    ensures failed { IfErr result (λ ended. ended ≡ status.DeviceFault) }
+    ensures failing { OnErr result (W.has_failed writer.new ≡ true) }
+{
     if held.len() < ENOUGH {
         return Ok(());
     }
@@ -33,17 +45,19 @@ pub fn hold<W: ByteOut>(held: &mut Vec<u8>, answer: &[u8], writer: &mut W) -> Re
 pub fn write_held<W: ByteOut>(held: &mut Vec<u8>, writer: &mut W) -> Result<(), Status>
     requires { W.has_failed writer.old ≡ false }
     ensures empty { OnOk result (held.new.items ≡ []) }
-    ensures written { OnOk result (Appends (W.written writer.old) (W.written writer.new) held.old.items) }
-    ensures front { OnErr result (AppendsFront (W.written writer.old) (W.written writer.new) held.old.items) }
+    ensures held { OnOk result ((before : Option (List ℕ)) (all : List ℕ) → Left before (W.written writer.old) held.old.items all → Left before (W.written writer.new) held.new.items all) }
+    ensures front { OnErr result ((before : Option (List ℕ)) (all : List ℕ) → Left before (W.written writer.old) held.old.items all → AppendsFront before (W.written writer.new) all) }
     ensures fine { OnOk result (W.has_failed writer.new ≡ false) }
     ensures failed { IfErr result (λ ended. ended ≡ status.DeviceFault) }
     ensures failing { OnErr result (W.has_failed writer.new ≡ true) }
 {
-    if let Err(_failed) = write_all(writer, held.as_slice()) {
-        return Err(Status::DeviceFault);
+    match write_all(writer, held.as_slice()) {
+        Ok(()) => {
+            held.clear();
+            Ok(())
+        }
+        Err(_failed) => Err(Status::DeviceFault),
     }
-    held.clear();
-    Ok(())
 }
 
 /// Ends a run where memory is refused: the answers that are held back are written.

@@ -17,7 +17,7 @@ use super::desk::Desk;
 use super::devices::{ByteIn, ByteOut};
 use super::fault::report_fault;
 use super::status::Status;
-use occheck_commands::{LIMIT, Lines, closed};
+use occheck_commands::{LIMIT, Lines, closed, is_cut_short};
 use std::alloc::Global;
 use std::mem;
 
@@ -86,7 +86,7 @@ fn go_on<W: ByteOut>(
     ensures stops { IfErr result (λ ended. Stops begun.old.line (begun.old.bytes.items ++ piece.now) desk.old (W.written writer.old) (W.written writer.new) ended) }
     ensures device { IfErr result (λ ended. is_device_fault ended ≡ W.has_failed writer.new) }
 {
-    if begun.add(piece).is_err() {
+    if let Err(_refused) = begun.add(piece) {
         return Err(Status::NoMemory);
     }
     if begun.lacks > 0 {
@@ -111,15 +111,15 @@ fn end<W: ByteOut>(alloc: Global, desk: Desk, begun: Begun, over: bool, writer: 
         bytes: bytes.as_slice(),
         line: begun.line,
     };
-    match answer_lines(alloc, &mut desk, lines, writer) {
-        Ok(part) => {
-            if over || part.used < bytes.len() {
-                report_fault(alloc, part.line, writer)
-            } else {
-                end_run(desk)
-            }
-        }
-        Err(status) => status,
+    let part = match answer_lines(alloc, &mut desk, lines, writer) {
+        Ok(part) => part,
+        Err(status) => return status,
+    };
+    let (_, left) = bytes.as_slice().split_at(part.used);
+    if is_cut_short(over, left) {
+        report_fault(alloc, part.line, writer)
+    } else {
+        end_run(desk)
     }
 }
 
