@@ -1,7 +1,7 @@
 -- How a run goes on from command to command, and from piece to piece.
-use Rattle.std.proofs.Common.{◌≡◌, ◌+◌, ◌<◌, ◌≤◌, ◌||◌, ℕ, inl, inr, IsSome, zero, suc, Bool, true, false, cond, List, [], ◌∷◌, ◌++◌, Option, Some, None, refl, ap, sym, subst, ◌∙◌, append_assoc, append-nil, take, drop, length, nat_lt, length-append, arith}
+use Rattle.std.proofs.Common.{◌≡◌, ◌+◌, ℕ, inl, inr, suc, Bool, true, false, cond, List, [], ◌∷◌, ◌++◌, Option, Some, None, refl, ap, sym, subst, ◌∙◌, append_assoc, append-nil, take, length, length-append, arith}
 use Rattle.std.proofs.Math.Seq.{take-append_seam}
-use Rattle.occheck_commands.specs.Left.{cut_short, ending}
+use Rattle.occheck_commands.specs.Left.{ending}
 use Rattle.occheck_commands.specs.Lines.{last_lines}
 use Rattle.occheck_commands.specs.Script.{Command, Placed, Script, ended, script_from, then}
 use Rattle.occheck_script.specs.Devices.{Appends, AppendsFront}
@@ -11,7 +11,7 @@ use Rattle.occheck_script.specs.declared.desk.Desk.{Desk}
 use Rattle.occheck_script.specs.declared.status.Status.{Status}
 use Rattle.occheck_script.specs.declared.status.Status.TheVariants as status
 use Rattle.occheck_script.specs.inside.Going.{AreAnswered, GoesOn, IsHalted, IsRefusedIn, IsWholeFrom, IsWrittenFrom, Left, Stops, output_from, preceded}
-use Rattle.occheck_script.proofs.Left.{all_is_front, front_of_more, nothing_left}
+use Rattle.occheck_script.proofs.Left.{front_of_more}
 
 -- the command on this line
 abbrev at_line : ℕ → Command → Placed

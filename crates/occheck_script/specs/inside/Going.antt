@@ -1,5 +1,5 @@
 -- How a run goes on: commands that were carried out, and what a script says after them, whatever comes.
-use Rattle.std.specs.Prelude.{ℕ, Bool, ◌≡◌, ◌⊎◌, ◌<◌, cond, length, IsSome, List, ◌++◌, take, Option, Some, None}
+use Rattle.std.specs.Prelude.{ℕ, Bool, ◌≡◌, ◌⊎◌, ◌<◌, length, IsSome, List, ◌++◌, take, Option, Some}
 use Rattle.occheck_commands.specs.Left.{ending}
 use Rattle.occheck_commands.specs.Script.{Placed, Script}
 use Rattle.occheck_script.specs.Devices.{Appends, AppendsFront}

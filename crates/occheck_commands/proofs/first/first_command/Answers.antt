@@ -1,4 +1,4 @@
-use Rattle.std.proofs.Common.{◌≡◌, ◌≤◌, ◌∙◌, ◌+◌, ◌++◌, ap, arith, sym, length, drop, take, Some, None}
+use Rattle.std.proofs.Common.{◌≡◌, ◌≤◌, ◌∙◌, ◌+◌, ◌++◌, ap, arith, sym, length, take, Some, None}
 use Rattle.std.proofs.lemmas.Bool.{eqb-true}
 use Rattle.occheck_commands.specs.Left.{ending, meant}
 use Rattle.occheck_commands.specs.Lines.{cut_lines}

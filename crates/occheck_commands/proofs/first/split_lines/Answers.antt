@@ -1,7 +1,7 @@
 use Rattle.std.proofs.Common.{◌≡◌, ◌∙◌, sym, length, arith}
 use Rattle.std.proofs.lemmas.Bool.{eqb-true}
 use Rattle.occheck_commands.specs.Lines.{cut_lines}
-use Rattle.occheck_commands.proofs.FirstLine.{all_passed, drop_more, count_more, front_is, text_step, less_by}
+use Rattle.occheck_commands.proofs.FirstLine.{all_passed, drop_more, count_more, text_step, less_by}
 use Rattle.occheck_commands.proofs.first.split_lines.Goals as goal
 
 pub returns-then-is_empty-clause-lacking : goal.returns-then-is_empty-clause-lacking

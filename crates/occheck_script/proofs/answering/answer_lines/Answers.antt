@@ -1,4 +1,4 @@
-use Rattle.std.proofs.Common.{◌≡◌, ◌+◌, ◌-◌, ◌≤◌, List, Option, ℕ, arith, drop, length, refl, subst}
+use Rattle.std.proofs.Common.{◌-◌, List, ℕ, arith, length, refl, subst}
 use Rattle.std.proofs.lemmas.Result.{err_from_is_err_and}
 use Rattle.occheck_commands.specs.Left.{meant}
 use Rattle.occheck_script.specs.inside.Going.{GoesOn}

@@ -1,5 +1,5 @@
-use Rattle.std.proofs.Common.{◌≡◌, ◌++◌, List, Option, ℕ, subst, sym}
-use Rattle.occheck_script.specs.inside.Going.{IsHalted, Left}
+use Rattle.std.proofs.Common.{◌++◌, List, ℕ, subst, sym}
+use Rattle.occheck_script.specs.inside.Going.{Left}
 use Rattle.occheck_script.proofs.Left.{left_more, map_device, map_ok}
 use Rattle.occheck_script.proofs.held.hold.Goals as goal
 

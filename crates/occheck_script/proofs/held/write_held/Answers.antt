@@ -1,4 +1,4 @@
-use Rattle.std.proofs.Common.{◌≡◌, List, Option, ℕ, subst, sym}
+use Rattle.std.proofs.Common.{List, ℕ, subst, sym}
 use Rattle.occheck_script.specs.Devices.{Appends, AppendsFront}
 use Rattle.occheck_script.specs.inside.Going.{Left}
 use Rattle.occheck_script.proofs.Left.{left_written, rest_front}

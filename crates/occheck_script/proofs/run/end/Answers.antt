@@ -1,4 +1,4 @@
-use Rattle.std.proofs.Common.{◌≡◌, ◌∙◌, Bool, List, None, Some, [], ap, append-nil, cond, drop, length, nat_lt, subst, sym, ◌||◌, true, false, ℕ}
+use Rattle.std.proofs.Common.{◌≡◌, ◌∙◌, Bool, List, None, Some, [], ap, append-nil, cond, drop, length, nat_lt, subst, sym, ◌||◌, ℕ}
 use Rattle.occheck_commands.specs.Left.{ending}
 use Rattle.occheck_commands.specs.Lines.{last_lines}
 use Rattle.occheck_commands.specs.Script.{ended}

@@ -1,4 +1,4 @@
-use Rattle.std.proofs.Common.{◌≡◌, ◌∙◌, ◌++◌, List, ℕ, ap, append_assoc, sym}
+use Rattle.std.proofs.Common.{◌∙◌, ◌++◌, List, ℕ, ap, append_assoc, sym}
 use Rattle.occheck_commands.specs.Left.{ending}
 use Rattle.occheck_script.specs.inside.Going.{Stops}
 use Rattle.occheck_script.proofs.Left.{map_err, map_ok}

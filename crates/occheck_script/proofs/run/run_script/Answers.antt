@@ -1,4 +1,4 @@
-use Rattle.std.proofs.Common.{◌≡◌, ◌∙◌, ◌+◌, ◌-◌, ◌<◌, ◌≤◌, ◌++◌, List, Option, [], ap, arith, drop, false, length, length-append, length-drop, length-take, nat_lt, refl, rules, subst, sym, take, ℕ}
+use Rattle.std.proofs.Common.{◌≡◌, ◌∙◌, ◌-◌, ◌<◌, ◌≤◌, ◌++◌, List, ap, arith, drop, false, length, length-append, length-drop, length-take, nat_lt, refl, subst, sym, take, ℕ}
 use Rattle.std.proofs.lemmas.List.{take-append-le}
 use Rattle.occheck_script.specs.Devices.{Gives, counted}
 use Rattle.occheck_script.proofs.Talking.{given_length, nothing_comes, talk_begins, talk_cut_off, talk_ends, talk_fails, talk_goes_on, talk_stops, too_many_come}

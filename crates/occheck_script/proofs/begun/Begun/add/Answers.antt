@@ -1,4 +1,4 @@
-use Rattle.std.proofs.Common.{◌≡◌, ◌<◌, ◌+◌, ◌-◌, ◌++◌, ◌∙◌, List, ℕ, ap, arith, length, refl, subst, sym, append_assoc, length-append}
+use Rattle.std.proofs.Common.{◌<◌, ◌-◌, ◌++◌, ◌∙◌, List, ℕ, ap, arith, length, refl, subst, sym, append_assoc, length-append}
 use Rattle.occheck_commands.specs.Ended.{IsNoFeed}
 use Rattle.occheck_commands.specs.Left.{ending}
 use Rattle.occheck_commands.specs.Script.{Script}
