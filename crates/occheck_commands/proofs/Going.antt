@@ -109,10 +109,10 @@ or_true true = refl
 or_true false = refl
 
 -- part of a command
-pub is_part : (n k lacks : ℕ) (edit : Edit) (name bytes line following : List ℕ) → IsEnded bytes → cut_lines bytes ≡ line ∷ cut_lines following → line ≢ [] → Some (Texts edit name k) ≡ header line
+pub is_unfinished : (n k lacks : ℕ) (edit : Edit) (name bytes line following : List ℕ) → IsEnded bytes → cut_lines bytes ≡ line ∷ cut_lines following → line ≢ [] → Some (Texts edit name k) ≡ header line
     → 0 < length bytes → length (cut_lines following) + lacks ≡ k → 0 < lacks
     → IsLacking n bytes lacks × ((over : Bool) → ending over n bytes ≡ cut_short over n bytes)
-is_part n k lacks edit name bytes line following e c l s some t z = (
+is_unfinished n k lacks edit name bytes line following e c l s some t z = (
   λ more f.
       let few : length (cut_lines following ++ last_lines true more) < k = omega (arith, few_ended more, length-append (cut_lines following) (ended_lines more)) in
       ap (λ (x : Script). x.commands) (begins true n bytes line following more (Some (Texts edit name k)) e c l s ∙ few_by n k edit name (cut_lines following ++ last_lines true more) (script_from true) few),
@@ -147,5 +147,5 @@ some_by n true e = let z : n ≡ 0 = eqb-true n 0 e in le-ltb 0 n (omega arith)
 some_by n false e = let z : n ≢ 0 = eqb-false n 0 e in lt-ltb 0 n (omega arith)
 
 -- where there are no bytes over the limit, part of a command decides
-pub part_decides : (over empty : Bool) (n : ℕ) → over ≡ false → empty ≡ (n == 0) → (over || nat_lt 0 n) ≡ not empty
-part_decides over empty n o e = ap (λ (x : Bool). x || nat_lt 0 n) o ∙ some_by n empty (sym e)
+pub unfinished_decides : (over empty : Bool) (n : ℕ) → over ≡ false → empty ≡ (n == 0) → (over || nat_lt 0 n) ≡ not empty
+unfinished_decides over empty n o e = ap (λ (x : Bool). x || nat_lt 0 n) o ∙ some_by n empty (sym e)

@@ -60,7 +60,7 @@ ending over line bytes = script_from over line (last_lines over bytes)
 abbrev pub first_seen : Bool → First → List ℕ → Script
 first_seen over (first.Command n command left) more = then n (meant command) (ending over left.line (left.bytes.now ++ more))
 first_seen over (first.Fault n) more = ended (Some n)
-first_seen over (first.Part left lacks) more = ending over left.line (left.bytes.now ++ more)
+first_seen over (first.Unfinished left lacks) more = ending over left.line (left.bytes.now ++ more)
 
 -- no command is whole in the bytes before so many more lines are ended
 abbrev pub IsLacking : ℕ → List ℕ → ℕ → Type 0
@@ -77,7 +77,7 @@ pub record AreLast (lines left : Lines) : Type 0 where
   pub line : left.line + length left.bytes.now ≤ lines.line + length lines.bytes.now
 
 -- part of a command, or nothing
-pub record IsPart (left : Lines) (lacks : ℕ) : Type 0 where
+pub record IsUnfinished (left : Lines) (lacks : ℕ) : Type 0 where
   pub begun : IsNoFeed left.bytes.now
   pub lacking : IsLacking left.line left.bytes.now lacks
   pub some : 0 < lacks
@@ -87,4 +87,4 @@ pub record IsPart (left : Lines) (lacks : ℕ) : Type 0 where
 abbrev pub IsBehind : Lines → First → Type 0
 IsBehind lines (first.Command n command left) = AreLast lines left × (length left.bytes.now < length lines.bytes.now)
 IsBehind lines (first.Fault n) = Unit {0}
-IsBehind lines (first.Part left lacks) = AreLast lines left × IsPart left lacks
+IsBehind lines (first.Unfinished left lacks) = AreLast lines left × IsUnfinished left lacks

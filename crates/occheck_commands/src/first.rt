@@ -25,7 +25,7 @@ pub enum First<'a> {
     /// This line is wrong.
     Fault(usize),
     /// Part of a command, or nothing: its lines, and how many more have to come before a command can be whole.
-    Part(Lines<'a>, usize),
+    Unfinished(Lines<'a>, usize),
 }
 
 /// What the lines say first.
@@ -36,7 +36,7 @@ pub fn first_command(lines: Lines<'_>) -> First<'_>
 {
     let left = skip_blank(lines);
     if left.bytes.is_empty() {
-        return First::Part(left, 1);
+        return First::Unfinished(left, 1);
     }
     let (line, following) = first_line(left.bytes);
     match read_header(line) {
@@ -58,7 +58,7 @@ pub fn first_command(lines: Lines<'_>) -> First<'_>
                     line: left.line + 1 + count as usize,
                 },
             ),
-            Err(lacks) => First::Part(left, lacks),
+            Err(lacks) => First::Unfinished(left, lacks),
         },
     }
 }

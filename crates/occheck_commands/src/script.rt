@@ -46,7 +46,7 @@ pub fn next_command(rest: Rest<'_>) -> Next<'_>
             },
         ),
         First::Fault(line) => Next::Fault(line),
-        First::Part(left, _lacks) => {
+        First::Unfinished(left, _lacks) => {
             if is_cut_short(rest.over, left.bytes) {
                 Next::Fault(left.line)
             } else {

@@ -3,13 +3,13 @@ use Rattle.std.proofs.Common.{◌≡◌, ◌+◌, ◌-◌, ◌<◌, ◌==◌, �
 use Rattle.std.proofs.lemmas.Bool.{eqb-true}
 use Rattle.std.proofs.lemmas.List.{drop-append-le}
 use Rattle.occheck_commands.specs.Ended.{IsNoFeed}
-use Rattle.occheck_commands.specs.Left.{AreEnded, AreLast, IsLacking, IsPart, cut_short, ending}
+use Rattle.occheck_commands.specs.Left.{AreEnded, AreLast, IsLacking, IsUnfinished, cut_short, ending}
 use Rattle.occheck_commands.specs.Lines.{cut_lines, feeds, put_before}
 use Rattle.occheck_commands.specs.Script.{Edit, Header, Script, command_at, ended, header, script_from, script_in, then, with_lines}
 use Rattle.occheck_commands.specs.Script.Header.{Alone, Texts}
 use Rattle.occheck_commands.specs.declared.first.Lines.{Lines}
 use Rattle.occheck_script.specs.declared.begun.Begun.{Begun}
-use Rattle.occheck_script.specs.declared.begun.Part.{Part}
+use Rattle.occheck_script.specs.declared.begun.Answered.{Answered}
 use Rattle.occheck_script.specs.inside.Begun.{IsBegun, IsLeft}
 use Rattle.occheck_script.specs.inside.Going.{IsRefusedIn}
 
@@ -97,7 +97,7 @@ last_are_last lines rest left h k = record {
 }
 
 -- what is left of lines that are ended
-pub is_left : (lines left : Lines) (used lacks : ℕ) → AreLast lines left → IsPart left lacks → used ≡ length lines.bytes.now - length left.bytes.now → IsLeft lines.line lines.bytes.now (record { used = used; line = left.line; lacks = lacks })
+pub is_left : (lines left : Lines) (used lacks : ℕ) → AreLast lines left → IsUnfinished left lacks → used ≡ length lines.bytes.now - length left.bytes.now → IsLeft lines.line lines.bytes.now (record { used = used; line = left.line; lacks = lacks })
 is_left lines left used lacks l p e =
     let d : left.bytes.now ≡ drop used lines.bytes.now = drop_front lines.bytes.now left.bytes.now l.last used e in
     record {
@@ -110,16 +110,16 @@ is_left lines left used lacks l p e =
     }
 
 -- and of bytes of which they are the ended lines
-pub is_begun : (begun : Begun) (bytes lines behind : List ℕ) (line : ℕ) (part : Part) → bytes ≡ lines ++ behind → feeds behind ≡ 0 → IsLeft line lines part
-    → begun.bytes.items ≡ drop part.used bytes → begun.line ≡ part.line → begun.lacks ≡ part.lacks → IsBegun begun
-is_begun begun bytes lines behind line part e z h b l k =
-    let d : begun.bytes.items ≡ drop part.used lines ++ behind = b ∙ ap (λ (x : List ℕ). drop part.used x) e ∙ drop-append-le part.used lines behind h.used in
+pub is_begun : (begun : Begun) (bytes lines behind : List ℕ) (line : ℕ) (answered : Answered) → bytes ≡ lines ++ behind → feeds behind ≡ 0 → IsLeft line lines answered
+    → begun.bytes.items ≡ drop answered.used bytes → begun.line ≡ answered.line → begun.lacks ≡ answered.lacks → IsBegun begun
+is_begun begun bytes lines behind line answered e z h b l k =
+    let d : begun.bytes.items ≡ drop answered.used lines ++ behind = b ∙ ap (λ (x : List ℕ). drop answered.used x) e ∙ drop-append-le answered.used lines behind h.used in
     record {
-      begins = subst IsNoFeed (sym d) (no_feed_append (drop part.used lines) behind h.begins (no_feed_in behind z));
+      begins = subst IsNoFeed (sym d) (no_feed_append (drop answered.used lines) behind h.begins (no_feed_in behind z));
       lacking =
           subst (λ (x : List ℕ). IsLacking begun.line x begun.lacks) (sym d)
-          (subst (λ (n : ℕ). IsLacking n (drop part.used lines ++ behind) begun.lacks) (sym l)
-          (subst (λ (n : ℕ). IsLacking part.line (drop part.used lines ++ behind) n) (sym k) (lacking_more part.line part.lacks part.lacks (drop part.used lines) behind h.lacking (omega arith))));
+          (subst (λ (n : ℕ). IsLacking n (drop answered.used lines ++ behind) begun.lacks) (sym l)
+          (subst (λ (n : ℕ). IsLacking answered.line (drop answered.used lines ++ behind) n) (sym k) (lacking_more answered.line answered.lacks answered.lacks (drop answered.used lines) behind h.lacking (omega arith))));
     }
 
 -- a piece more was read of what was begun

@@ -6,7 +6,7 @@ ghost use Rattle.occheck_script.specs.inside.Begun.{IsBegun, IsLeft};
 ghost use Rattle.occheck_script.specs.inside.Going.{GoesOn, IsHalted, Left, Stops};
 ghost use Rattle.std.specs.Prelude.{◌≡◌, ◌≤◌, ◌<◌, ◌+◌, ◌^◌, ◌++◌, IfErr, IfOk, List, OnOk, Option, drop, false, length, ℕ};
 
-use super::begun::{Begun, Part};
+use super::begun::{Answered, Begun};
 use super::desk::Desk;
 use super::devices::ByteOut;
 use super::fault::report_fault;
@@ -43,8 +43,8 @@ pub fn answer_begun<W: ByteOut>(
         bytes: ended,
         line: begun.line,
     };
-    let part = answer_lines(alloc, desk, lines, writer)?;
-    begun.keep(part);
+    let answered = answer_lines(alloc, desk, lines, writer)?;
+    begun.keep(answered);
     Ok(())
 }
 
@@ -58,11 +58,11 @@ pub fn answer_lines<W: ByteOut>(
     desk: &mut Desk,
     lines: Lines<'_>,
     writer: &mut W,
-) -> Result<Part, Status>
+) -> Result<Answered, Status>
     requires lines { AreEnded lines }
     requires writer { W.has_failed writer.old ≡ false }
-    ensures left { IfOk result (λ part. IsLeft lines.entry.line lines.entry.bytes.now part) }
-    ensures goes_on { IfOk result (λ part. GoesOn lines.entry.line lines.entry.bytes.now part.line (drop part.used lines.entry.bytes.now) desk.old desk.new (W.written writer.old) (W.written writer.new)) }
+    ensures left { IfOk result (λ answered. IsLeft lines.entry.line lines.entry.bytes.now answered) }
+    ensures goes_on { IfOk result (λ answered. GoesOn lines.entry.line lines.entry.bytes.now answered.line (drop answered.used lines.entry.bytes.now) desk.old desk.new (W.written writer.old) (W.written writer.new)) }
     ensures fine { OnOk result (W.has_failed writer.new ≡ false) }
     ensures stops { IfErr result (λ ended. Stops lines.entry.line lines.entry.bytes.now desk.old (W.written writer.old) (W.written writer.new) ended) }
     ensures device { IfErr result (λ ended. is_device_fault ended ≡ W.has_failed writer.new) }
@@ -80,9 +80,9 @@ pub fn answer_lines<W: ByteOut>(
                 write_held(&mut held, writer)?;
                 return Err(report_fault(alloc, line, writer));
             }
-            First::Part(left, lacks) => {
+            First::Unfinished(left, lacks) => {
                 write_held(&mut held, writer)?;
-                return Ok(Part {
+                return Ok(Answered {
                     used: all - left.bytes.len(),
                     line: left.line,
                     lacks,

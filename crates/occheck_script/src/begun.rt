@@ -18,9 +18,9 @@ pub struct Begun {
     pub lacks: usize,
 }
 
-/// What commands left of some bytes.
+/// How far some bytes were answered, and what is left.
 #[derive(Clone, Copy)]
-pub struct Part {
+pub struct Answered {
     /// How many bytes the commands used up.
     pub used: usize,
     /// The line after them.
@@ -86,14 +86,14 @@ impl Begun {
     }
 
     /// What is left after commands that used bytes up.
-    pub fn keep(&mut self, part: Part)
-        requires { part.used ≤ length self.old.bytes.items }
-        ensures bytes { self.new.bytes.items ≡ drop part.used self.old.bytes.items }
-        ensures line { self.new.line ≡ part.line }
-        ensures lacks { self.new.lacks ≡ part.lacks }
+    pub fn keep(&mut self, answered: Answered)
+        requires { answered.used ≤ length self.old.bytes.items }
+        ensures bytes { self.new.bytes.items ≡ drop answered.used self.old.bytes.items }
+        ensures line { self.new.line ≡ answered.line }
+        ensures lacks { self.new.lacks ≡ answered.lacks }
     {
-        self.bytes.drain(..part.used);
-        self.line = part.line;
-        self.lacks = part.lacks;
+        self.bytes.drain(..answered.used);
+        self.line = answered.line;
+        self.lacks = answered.lacks;
     }
 }

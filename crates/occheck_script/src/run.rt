@@ -111,13 +111,13 @@ fn end<W: ByteOut>(alloc: Global, desk: Desk, begun: Begun, over: bool, writer: 
         bytes: bytes.as_slice(),
         line: begun.line,
     };
-    let part = match answer_lines(alloc, &mut desk, lines, writer) {
-        Ok(part) => part,
+    let answered = match answer_lines(alloc, &mut desk, lines, writer) {
+        Ok(answered) => answered,
         Err(status) => return status,
     };
-    let (_, left) = bytes.as_slice().split_at(part.used);
+    let (_, left) = bytes.as_slice().split_at(answered.used);
     if is_cut_short(over, left) {
-        report_fault(alloc, part.line, writer)
+        report_fault(alloc, answered.line, writer)
     } else {
         end_run(desk)
     }

@@ -6,7 +6,7 @@ use Rattle.occheck_commands.specs.Script.{Command, then}
 use Rattle.occheck_commands.specs.Script.Header.{Alone, Texts}
 use Rattle.occheck_commands.specs.inside.Header.{edit_seen}
 use Rattle.occheck_commands.proofs.FirstLine.{last_after_line, last_of_last, line_length, part_length}
-use Rattle.occheck_commands.proofs.Going.{alone_says, begins, is_nothing, is_part, texts_say}
+use Rattle.occheck_commands.proofs.Going.{alone_says, begins, is_nothing, is_unfinished, texts_say}
 use Rattle.occheck_commands.proofs.first.first_command.Goals as goal
 
 pub returns-in-None-clause-says : goal.returns-in-None-clause-says
@@ -55,7 +55,7 @@ pub returns-in-Err-clause-behind : goal.returns-in-Err-clause-behind
 returns-in-Err-clause-behind c =
     let p : length c.skip_blank-left.result.bytes.now ≤ length c.args.lines.bytes.now = part_length c.args.lines.bytes.now _ c.skip_blank-left.result.bytes.now c.skip_blank-left.ensures.last.1 in
     let l : length c.first_line.result.1.now + 1 ≤ length c.skip_blank-left.result.bytes.now = line_length c.skip_blank-left.result.bytes.now c.first_line.result.0.now c.first_line.result.1.now c.first_line.ensures.text in
-    let part = is_part c.skip_blank-left.result.line c.in-Some-Texts.count c.in-Err.lacks (edit_seen c.in-Some-Texts.edit) c.in-Some-Texts.name.now c.skip_blank-left.result.bytes.now c.first_line.result.0.now c.first_line.result.1.now (c.skip_blank-left.ensures.ended c.requires.is_ended) c.first_line.ensures.cut (c.first_line.ensures.begun c.skip_blank-left.ensures.begun) (rw c.in-Some-Texts.field-0-is at c.in-Some-Texts.ensures) (omega arith) c.in-Err.ensures.lacking.1 c.in-Err.ensures.lacking.0 in (
+    let part = is_unfinished c.skip_blank-left.result.line c.in-Some-Texts.count c.in-Err.lacks (edit_seen c.in-Some-Texts.edit) c.in-Some-Texts.name.now c.skip_blank-left.result.bytes.now c.first_line.result.0.now c.first_line.result.1.now (c.skip_blank-left.ensures.ended c.requires.is_ended) c.first_line.ensures.cut (c.first_line.ensures.begun c.skip_blank-left.ensures.begun) (rw c.in-Some-Texts.field-0-is at c.in-Some-Texts.ensures) (omega arith) c.in-Err.ensures.lacking.1 c.in-Err.ensures.lacking.0 in (
       record {
         are_ended = record { is_ended = c.skip_blank-left.ensures.ended c.requires.is_ended; small = omega (arith, c.skip_blank-left.ensures.line) };
         last = c.skip_blank-left.ensures.last;

@@ -14,10 +14,10 @@ returns-in-Fault-clause-says c = sym (ending_is c.args.rest.over c.args.rest.lin
 
 pub returns-then-is_cut_short-clause-says : goal.returns-then-is_cut_short-clause-says
 returns-then-is_cut_short-clause-says c =
-    sym (ending_is c.args.rest.over c.args.rest.line c.args.rest.bytes.now c.requires.is_ended) ∙ c.in-Part.ensures.says c.args.rest.over [] ∙ ap (λ (x : List ℕ). ending c.args.rest.over c.in-Part.left.line x) (append-nil c.in-Part.left.bytes.now)
-    ∙ c.in-Part.ensures.behind.1.at_end c.args.rest.over ∙ ap (λ (x : Bool). ended (cond x (Some c.in-Part.left.line) None)) (sym c.if-is_cut_short.ensures)
+    sym (ending_is c.args.rest.over c.args.rest.line c.args.rest.bytes.now c.requires.is_ended) ∙ c.in-Unfinished.ensures.says c.args.rest.over [] ∙ ap (λ (x : List ℕ). ending c.args.rest.over c.in-Unfinished.left.line x) (append-nil c.in-Unfinished.left.bytes.now)
+    ∙ c.in-Unfinished.ensures.behind.1.at_end c.args.rest.over ∙ ap (λ (x : Bool). ended (cond x (Some c.in-Unfinished.left.line) None)) (sym c.if-is_cut_short.ensures)
 
 pub returns-else-is_cut_short-clause-says : goal.returns-else-is_cut_short-clause-says
 returns-else-is_cut_short-clause-says c =
-    sym (ending_is c.args.rest.over c.args.rest.line c.args.rest.bytes.now c.requires.is_ended) ∙ c.in-Part.ensures.says c.args.rest.over [] ∙ ap (λ (x : List ℕ). ending c.args.rest.over c.in-Part.left.line x) (append-nil c.in-Part.left.bytes.now)
-    ∙ c.in-Part.ensures.behind.1.at_end c.args.rest.over ∙ ap (λ (x : Bool). ended (cond x (Some c.in-Part.left.line) None)) (sym c.if-is_cut_short.ensures)
+    sym (ending_is c.args.rest.over c.args.rest.line c.args.rest.bytes.now c.requires.is_ended) ∙ c.in-Unfinished.ensures.says c.args.rest.over [] ∙ ap (λ (x : List ℕ). ending c.args.rest.over c.in-Unfinished.left.line x) (append-nil c.in-Unfinished.left.bytes.now)
+    ∙ c.in-Unfinished.ensures.behind.1.at_end c.args.rest.over ∙ ap (λ (x : Bool). ended (cond x (Some c.in-Unfinished.left.line) None)) (sym c.if-is_cut_short.ensures)

@@ -24,20 +24,20 @@ pub returns-in-Fault-clause-stops : goal.returns-in-Fault-clause-stops
 returns-in-Fault-clause-stops g c =
     fault_stops _ c.in-Fault.line _ _ _ _ _ _ _ _ _ _ _ c.loop.invariant.holding c.in-Fault.ensures.says (λ b all h. all_held b _ _ all c.in_ok-write_held-in-Fault.ensures.empty (c.in_ok-write_held-in-Fault.ensures.held b all h)) c.report_fault.ensures.reported
 
-pub returns-in_err-write_held-in-Part-clause-stops : goal.returns-in_err-write_held-in-Part-clause-stops
-returns-in_err-write_held-in-Part-clause-stops g c =
-    passed_on c.from_residual-in_err-write_held-in-Part.result _ c.in_err-write_held-in-Part.field-0.0 (err_from_is_err_and c.from_residual-in_err-write_held-in-Part.result c.from_residual-in_err-write_held-in-Part.ensures.1)
-    (held_failed _ _ _ _ _ _ _ _ _ _ _ c.loop.invariant.holding c.in_err-write_held-in-Part.ensures.front c.in_err-write_held-in-Part.ensures.failed)
+pub returns-in_err-write_held-in-Unfinished-clause-stops : goal.returns-in_err-write_held-in-Unfinished-clause-stops
+returns-in_err-write_held-in-Unfinished-clause-stops g c =
+    passed_on c.from_residual-in_err-write_held-in-Unfinished.result _ c.in_err-write_held-in-Unfinished.field-0.0 (err_from_is_err_and c.from_residual-in_err-write_held-in-Unfinished.result c.from_residual-in_err-write_held-in-Unfinished.ensures.1)
+    (held_failed _ _ _ _ _ _ _ _ _ _ _ c.loop.invariant.holding c.in_err-write_held-in-Unfinished.ensures.front c.in_err-write_held-in-Unfinished.ensures.failed)
 
-pub returns-in-Part-clause-left : goal.returns-in-Part-clause-left
-returns-in-Part-clause-left g c = is_left c.args.lines c.in-Part.left _ c.in-Part.lacks (last_are_last c.args.lines c.loop.rest c.in-Part.left c.loop.invariant.last c.in-Part.ensures.behind.0) c.in-Part.ensures.behind.1 refl
+pub returns-in-Unfinished-clause-left : goal.returns-in-Unfinished-clause-left
+returns-in-Unfinished-clause-left g c = is_left c.args.lines c.in-Unfinished.left _ c.in-Unfinished.lacks (last_are_last c.args.lines c.loop.rest c.in-Unfinished.left c.loop.invariant.last c.in-Unfinished.ensures.behind.0) c.in-Unfinished.ensures.behind.1 refl
 
-pub returns-in-Part-clause-goes_on : goal.returns-in-Part-clause-goes_on
-returns-in-Part-clause-goes_on g c =
-    let l = last_are_last c.args.lines c.loop.rest c.in-Part.left c.loop.invariant.last c.in-Part.ensures.behind.0 in
-    subst (λ (x : List ℕ). GoesOn c.args.lines.line c.args.lines.bytes.now c.in-Part.left.line x c.args.desk.now c.loop.desk (g.W.ByteOut.written c.args.writer.now) (g.W.ByteOut.written c.write_held-in-Part.new.writer))
-    (drop_front c.args.lines.bytes.now c.in-Part.left.bytes.now l.last (length c.args.lines.bytes.now - length c.in-Part.left.bytes.now) refl)
-    (held_written _ _ _ _ c.in-Part.left.line c.in-Part.left.bytes.now _ _ _ _ _ _ c.loop.invariant.holding c.in-Part.ensures.says (λ b all h. all_held b _ _ all c.in_ok-write_held-in-Part.ensures.empty (c.in_ok-write_held-in-Part.ensures.held b all h)))
+pub returns-in-Unfinished-clause-goes_on : goal.returns-in-Unfinished-clause-goes_on
+returns-in-Unfinished-clause-goes_on g c =
+    let l = last_are_last c.args.lines c.loop.rest c.in-Unfinished.left c.loop.invariant.last c.in-Unfinished.ensures.behind.0 in
+    subst (λ (x : List ℕ). GoesOn c.args.lines.line c.args.lines.bytes.now c.in-Unfinished.left.line x c.args.desk.now c.loop.desk (g.W.ByteOut.written c.args.writer.now) (g.W.ByteOut.written c.write_held-in-Unfinished.new.writer))
+    (drop_front c.args.lines.bytes.now c.in-Unfinished.left.bytes.now l.last (length c.args.lines.bytes.now - length c.in-Unfinished.left.bytes.now) refl)
+    (held_written _ _ _ _ c.in-Unfinished.left.line c.in-Unfinished.left.bytes.now _ _ _ _ _ _ c.loop.invariant.holding c.in-Unfinished.ensures.says (λ b all h. all_held b _ _ all c.in_ok-write_held-in-Unfinished.ensures.empty (c.in_ok-write_held-in-Unfinished.ensures.held b all h)))
 
 pub loop-preserved : goal.loop-preserved
 loop-preserved g c = record {
