@@ -2,7 +2,7 @@
 ghost use Rattle.occheck_commands.specs.Lines.{script_limit};
 ghost use Rattle.occheck_commands.specs.Script.{Placed, script_of};
 ghost use Rattle.occheck_script.specs.Machine.{IsReading, Reading, start};
-ghost use Rattle.occheck_script.specs.Output.{IsWritten as IsScriptWritten, state_after};
+ghost use Rattle.occheck_script.specs.Output.{IsCutOff, IsWritten as IsScriptWritten, state_after};
 ghost use Rattle.occheck_script.specs.Status.{is_device_fault};
 ghost use Rattle.occheck_sessions.specs.Output.{AreReading, IsWritten as AreSessionsWritten};
 ghost use Rattle.occ_theorems.specs.Reports.{IsRight};
@@ -36,7 +36,9 @@ pub fn script_theorem<R: ByteIn, W: ByteOut>(
 
     // A device fault is reported exactly where a device failed.
     ensures devices { is_device_fault result ≡ (R.has_failed reader.new || W.has_failed writer.new) }
-    ensures unread { R.has_failed reader.new ≡ true → W.written writer.new ≡ W.written writer.old }
+
+    // Where a read failed, exactly the commands were answered that lie whole in what was read.
+    ensures answered { R.has_failed reader.new ≡ true → (bytes : List ℕ) → R.unread reader.old ≡ Some bytes → (read : Reading) → IsReading read (script_of bytes).commands → IsCutOff read bytes (R.taken reader.old) (R.taken reader.new) (W.written writer.old) (W.written writer.new) }
     ensures taken { R.taken reader.new ≤ R.taken reader.old + (script_limit + 1) }
 {
     base_law();

@@ -3,6 +3,6 @@ pub mod Words
 pub mod Before
 pub mod Ended
 pub mod Going
-pub mod First
+pub mod FirstLine
 pub mod Whole
 pub mod Over

@@ -37,7 +37,7 @@ count_lines [] h = refl
 count_lines (b ∷ []) h = subst (λ (x : ℕ). length (cut_lines (x ∷ [])) ≡ feeds (x ∷ [])) (sym h) refl
 count_lines (b ∷ c ∷ bytes) h = count_lines_by b c bytes (b == 10) (count_lines (c ∷ bytes) h)
 
-feeds_append : (xs ys : List ℕ) → feeds (xs ++ ys) ≡ feeds xs + feeds ys
+pub feeds_append : (xs ys : List ℕ) → feeds (xs ++ ys) ≡ feeds xs + feeds ys
 feeds_append [] ys = omega arith
 feeds_append (x ∷ xs) ys = omega (arith, feeds_append xs ys)
 
@@ -123,3 +123,9 @@ take_whole zero [] h = refl
 take_whole (suc n) [] h = refl
 take_whole zero (x ∷ xs) h = absurd (omega arith)
 take_whole (suc n) (x ∷ xs) h = ap (λ (ys : List ℕ). x ∷ ys) (take_whole n xs (omega arith))
+
+-- one byte more is passed
+pub feeds_at : (n : ℕ) (bytes : List ℕ) → n < length bytes → feeds (drop n bytes) ≡ cond (get_or bytes n 0 == 10) 1 0 + feeds (drop (n + 1) bytes)
+feeds_at n [] h = absurd (omega arith)
+feeds_at zero (b ∷ bytes) h = refl
+feeds_at (suc n) (b ∷ bytes) h = let e : suc n + 1 ≡ suc (n + 1) = omega arith in rw e (feeds_at n bytes (omega arith))

@@ -12,3 +12,8 @@ abbrev pub IsOpen : List ℕ → Type 0
 IsOpen [] = ⊥
 IsOpen (b ∷ []) = b ≡ 10 → ⊥
 IsOpen (b ∷ c ∷ bytes) = IsOpen (c ∷ bytes)
+
+-- the bytes do not begin with LF
+abbrev pub IsNoFeed : List ℕ → Type 0
+IsNoFeed [] = Unit {0}
+IsNoFeed (b ∷ bytes) = b ≡ 10 → ⊥

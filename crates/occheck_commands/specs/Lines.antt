@@ -1,5 +1,5 @@
 -- The lines of a script, and the words of a line.
-use Rattle.std.specs.Prelude.{ℕ, List, [], ◌∷◌, ◌++◌, ◌+◌, ◌==◌, cond, length, take, nat_lt}
+use Rattle.std.specs.Prelude.{ℕ, Bool, List, [], ◌∷◌, ◌++◌, ◌+◌, ◌==◌, cond, length, take, nat_lt}
 
 -- the byte put before the first of the pieces
 abbrev pub put_before : ℕ → List (List ℕ) → List (List ℕ)
@@ -35,3 +35,11 @@ abbrev pub whole_lines : List ℕ → List (List ℕ)
 whole_lines bytes =
     let front = take script_limit bytes in
     cond (nat_lt script_limit (length bytes)) (take (feeds front) (cut_lines front)) (cut_lines bytes)
+
+-- the lines that are ended by LF
+abbrev pub ended_lines : List ℕ → List (List ℕ)
+ended_lines bytes = take (feeds bytes) (cut_lines bytes)
+
+-- the lines that end a script: where there are bytes over the limit behind them, those alone that are ended
+abbrev pub last_lines : Bool → List ℕ → List (List ℕ)
+last_lines over bytes = cond over (ended_lines bytes) (cut_lines bytes)

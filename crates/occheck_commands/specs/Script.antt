@@ -1,9 +1,9 @@
 -- What a script says: its commands, each with its line, and where it is wrong.
-use Rattle.std.specs.Prelude.{ℕ, zero, suc, Bool, List, [], ◌∷◌, ◌+◌, ◌-◌, ◌*◌, cond, nat_le, nat_lt, ◌&&◌, length, take, drop, codes, Option, Some, None}
+use Rattle.std.specs.Prelude.{ℕ, zero, suc, Bool, true, List, [], ◌∷◌, ◌+◌, ◌-◌, ◌*◌, cond, nat_le, nat_lt, ◌&&◌, length, take, drop, codes, Option, Some, None}
 use Rattle.std.specs.Char.{is_ascii_digit}
 use Rattle.std.specs.List.{list_all}
 use Rattle.std.specs.Str.{bytes_eq}
-use Rattle.occheck_commands.specs.Lines.{whole_lines, script_limit, text_of, words}
+use Rattle.occheck_commands.specs.Lines.{ended_lines, whole_lines, script_limit, text_of, words}
 
 -- a command, with the name and the text, or the worker, that it is given
 pub data Command : Type 0 where
@@ -155,3 +155,7 @@ is_over bytes = nat_lt script_limit (length bytes)
 -- what the bytes of a script say
 abbrev pub script_of : List ℕ → Script
 script_of bytes = script_from (is_over bytes) 1 (whole_lines bytes)
+
+-- the commands that lie whole in the first bytes of a script, whatever comes after these
+abbrev pub whole_commands : List ℕ → List Placed
+whole_commands bytes = (script_from true 1 (ended_lines bytes)).commands

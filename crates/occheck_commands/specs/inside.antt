@@ -1,3 +1,2 @@
 -- what no contract of a public call rests on
 pub mod Header
-pub mod Steps

@@ -2,11 +2,14 @@
 #![tactic(auto)]
 
 mod command;
+mod first;
 mod lines;
 pub mod rows;
 mod script;
 mod text;
 
 pub use command::Command;
-pub use script::{Next, Rest, next_command};
-pub use text::{LIMIT, ScriptText, whole_text};
+pub use first::{First, Lines, first_command, skip_blank};
+pub use lines::line_ends;
+pub use script::{Next, Rest, is_cut_short, next_command};
+pub use text::{LIMIT, ScriptText, closed, ended_length, whole_text};

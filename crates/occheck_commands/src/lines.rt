@@ -1,4 +1,5 @@
-//! How far it is to a byte, such as the end of a line or a word.
+//! How far it is to a byte, such as the end of a line or a word; how many lines end.
+ghost use Rattle.occheck_commands.specs.Lines.{feeds};
 ghost use Rattle.std.specs.List.{position, position_or_len};
 ghost use Rattle.std.specs.Prelude.{◌≡◌, ◌≤◌, ◌==◌, length};
 
@@ -15,4 +16,17 @@ fn place_of(bytes: &[u8], byte: u8) -> Option<usize>
     ensures { result ≡ position (λ b. b == byte) bytes.now }
 {
     bytes.iter().position(|b| *b == byte)
+}
+
+/// How many lines end in these bytes.
+pub fn line_ends(bytes: &[u8]) -> usize
+    ensures { result ≡ feeds bytes.now }
+{
+    let mut count = 0;
+    for byte in bytes {
+        if *byte == b'\n' {
+            count += 1;
+        }
+    }
+    count
 }

@@ -1,8 +1,8 @@
 //! The whole lines of a script, up to the limit of 67,108,864 bytes.
 ghost use Rattle.std.specs.Bool.{MatchBool};
-ghost use Rattle.std.specs.Prelude.{◌≡◌, ◌+◌, ◌≤◌, ◌<◌, ℕ, List, IfOk, drop, length, false, take, true};
+ghost use Rattle.std.specs.Prelude.{◌≡◌, ◌+◌, ◌≤◌, ◌<◌, ℕ, List, IfOk, OnErr, drop, length, false, take, true};
 ghost use Rattle.occheck_commands.specs.Ended.{IsEnded, IsOpen};
-ghost use Rattle.occheck_commands.specs.Lines.{cut_lines, feeds, script_limit, whole_lines};
+ghost use Rattle.occheck_commands.specs.Lines.{cut_lines, ended_lines, feeds, last_lines, script_limit, whole_lines};
 ghost use Rattle.occheck_commands.specs.Script.{is_over};
 
 use std::alloc::{AllocError, Global};
@@ -46,13 +46,14 @@ fn cut_off(bytes: Vec<u8>) -> ScriptText
 {
     let mut bytes = bytes;
     bytes.truncate(LIMIT);
-    let length = ended_length(bytes.as_slice());
-    bytes.truncate(length);
-    ScriptText { bytes, over: true }
+    ScriptText {
+        bytes: ended_part(bytes),
+        over: true,
+    }
 }
 
 /// How many bytes stand up to the last LF, with it.
-fn ended_length(bytes: &[u8]) -> usize
+pub fn ended_length(bytes: &[u8]) -> usize
     ensures within { result ≤ length bytes.now }
     ensures ended { IsEnded (take result bytes.now) }
     ensures none { feeds (drop result bytes.now) ≡ 0 }
@@ -64,12 +65,44 @@ fn ended_length(bytes: &[u8]) -> usize
     length
 }
 
+/// The last bytes of a script with all their lines ended, those that count: where there are bytes over the limit behind them, no
+/// line that is not ended counts.
+///
+/// # Errors
+///
+/// Where memory is refused.
+#[tactic(auto, using(crate::proofs::Going::last_ended))]
+pub fn closed(bytes: Vec<u8>, over: bool) -> Result<Vec<u8>, AllocError>
+    ensures ended { IfOk result (λ closed. IsEnded closed.items) }
+    ensures short { IfOk result (λ closed. length closed.items ≤ length bytes.items + 1) }
+    ensures lines { IfOk result (λ closed. last_lines over closed.items ≡ last_lines over bytes.items) }
+    ensures refused { OnErr result (0 < length bytes.items) }
+{
+    if over {
+        return Ok(ended_part(bytes));
+    }
+    end_last(bytes)
+}
+
+/// The bytes up to the last LF.
+fn ended_part(bytes: Vec<u8>) -> Vec<u8>
+    ensures ended { IsEnded result.items }
+    ensures short { length result.items ≤ length bytes.items }
+    ensures lines { cut_lines result.items ≡ ended_lines bytes.items }
+{
+    let mut bytes = bytes;
+    let length = ended_length(bytes.as_slice());
+    bytes.truncate(length);
+    bytes
+}
+
 /// The bytes with the last line ended like the others.
 #[tactic(auto, using(crate::proofs::Whole::close_last, crate::proofs::Whole::ended_close))]
 fn end_last(bytes: Vec<u8>) -> Result<Vec<u8>, AllocError>
     ensures ended { IfOk result (λ whole. IsEnded whole.items) }
     ensures short { IfOk result (λ whole. length whole.items ≤ length bytes.items + 1) }
     ensures lines { IfOk result (λ whole. cut_lines whole.items ≡ cut_lines bytes.items) }
+    ensures refused { OnErr result (0 < length bytes.items) }
 {
     let mut bytes = bytes;
     if !is_ended(bytes.as_slice()) {

@@ -11,7 +11,7 @@ Known before now got = (all : List ℕ) → before ≡ Some all → option_map (
 pub nothing_read : (before : Option (List ℕ)) → Known before before []
 nothing_read before all e = ap (λ (o : Option (List ℕ)). option_map (λ rest. [] ++ rest) o) e
 
-some_left : (now : Option (List ℕ)) (got all : List ℕ) → option_map (λ rest. got ++ rest) now ≡ Some all → (rest : List ℕ) × (now ≡ Some rest) × (got ++ rest ≡ all)
+pub some_left : (now : Option (List ℕ)) (got all : List ℕ) → option_map (λ rest. got ++ rest) now ≡ Some all → (rest : List ℕ) × (now ≡ Some rest) × (got ++ rest ≡ all)
 some_left None got all e = absurd cc
 some_left (Some rest) got all e = (rest, refl, cc)
 

@@ -2,6 +2,8 @@ pub mod Cuts
 pub mod Left
 pub mod Known
 pub mod Running
+pub mod Talking
+pub mod Partial
 pub mod Std
 pub mod Stepwise
 pub mod Holding

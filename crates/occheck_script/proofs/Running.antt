@@ -1,48 +1,26 @@
--- How a run goes on from command to command.
-use Rattle.std.proofs.Common.{◌≡◌, ◌+◌, ◌<◌, ◌≤◌, ℕ, inl, inr, IsSome, zero, suc, Bool, true, false, cond, List, [], ◌∷◌, ◌++◌, Option, Some, None, refl, ap, sym, subst, ◌∙◌, append_assoc, append-nil, take, drop, length, nat_lt, take-append-drop, arith}
-use Rattle.std.proofs.Math.Seq.{take-length}
+-- How a run goes on from command to command, and from piece to piece.
+use Rattle.std.proofs.Common.{◌≡◌, ◌+◌, ℕ, inl, inr, suc, Bool, true, false, cond, List, [], ◌∷◌, ◌++◌, Option, Some, None, refl, ap, sym, subst, ◌∙◌, append_assoc, append-nil, take, length, length-append, arith}
+use Rattle.std.proofs.Math.Seq.{take-append_seam}
+use Rattle.occheck_commands.specs.Left.{ending}
+use Rattle.occheck_commands.specs.Lines.{last_lines}
+use Rattle.occheck_commands.specs.Script.{Command, Placed, Script, ended, script_from, then}
 use Rattle.occheck_script.specs.Devices.{Appends, AppendsFront}
-use Rattle.occheck_commands.specs.Lines.{cut_lines, script_limit, whole_lines}
-use Rattle.occheck_script.specs.Machine.{IsReading, Reading, ReadsCommand, start, answer, after}
-use Rattle.occheck_script.specs.Output.{answers, state_after, fault_text, output, status_of, end_status, IsWhole, IsWritten, IsFaultReported}
-use Rattle.occheck_commands.specs.Script.{Command, Placed, Script, ended, is_over, script_from, script_of, then}
+use Rattle.occheck_script.specs.Machine.{IsReading, Reading, ReadsCommand, after, answer, start}
+use Rattle.occheck_script.specs.Output.{IsFaultReported, IsWritten, answers, end_status, fault_text, state_after}
 use Rattle.occheck_script.specs.declared.desk.Desk.{Desk}
 use Rattle.occheck_script.specs.declared.status.Status.{Status}
 use Rattle.occheck_script.specs.declared.status.Status.TheVariants as status
+use Rattle.occheck_script.specs.inside.Going.{AreAnswered, GoesOn, IsHalted, IsRefusedIn, IsWholeFrom, IsWrittenFrom, Left, Stops, output_from, preceded}
+use Rattle.occheck_script.proofs.Left.{front_of_more}
 
 -- the command on this line
 abbrev at_line : ℕ → Command → Placed
 at_line n c = record { line = n; command = c }
 
-drop_more : (ps : List Placed) (k : ℕ) (p : Placed) (rest : List Placed) → drop k ps ≡ p ∷ rest → drop (k + 1) ps ≡ rest
-drop_more [] zero p rest e = absurd cc
-drop_more [] (suc k) p rest e = absurd cc
-drop_more (x ∷ ps) zero p rest e = cc
-drop_more (x ∷ ps) (suc k) p rest e = let n : suc k + 1 ≡ suc (k + 1) = omega arith in rw n (drop_more ps k p rest e)
+abbrev script_with : List Placed → Option ℕ → Script
+script_with commands fault = record { commands = commands; fault = fault }
 
-count_more : (ps : List Placed) (k : ℕ) (p : Placed) (rest : List Placed) → drop k ps ≡ p ∷ rest → k + 1 ≤ length ps
-count_more [] zero p rest e = absurd cc
-count_more [] (suc k) p rest e = absurd cc
-count_more (x ∷ ps) zero p rest e = omega arith
-count_more (x ∷ ps) (suc k) p rest e = let n : k + 1 ≤ length ps = count_more ps k p rest e in omega arith
-
--- what is left of a script after its first k commands
-abbrev pub following : ℕ → Script → Script
-following k script = record { commands = drop k script.commands; fault = script.fault }
-
--- the first k commands of the script were carried out, and their answers written
-pub record IsSoFar (read : Reading) (script : Script) (k : ℕ) (desk : Desk) (before now : Option (List ℕ)) : Type 0 where
-  pub state : desk ≡ state_after read start (take k script.commands)
-  pub written : Appends before now (answers read start (take k script.commands))
-
-pub begun : (read : Reading) (script : Script) (desk : Desk) (before : Option (List ℕ)) → desk ≡ start → IsSoFar read script 0 desk before before
-begun read script desk before e = record { state = e; written = λ w h. h ∙ ap Some (sym (append-nil w)) }
-
-take_more : (cs rest : List Placed) (k : ℕ) (c : Placed) → drop k cs ≡ c ∷ rest → take (k + 1) cs ≡ take k cs ++ c ∷ []
-take_more [] rest zero c e = absurd cc
-take_more [] rest (suc k) c e = absurd cc
-take_more (x ∷ cs) rest zero c e = let h : x ≡ c = cc in ap (λ (y : Placed). y ∷ []) h
-take_more (x ∷ cs) rest (suc k) c e = let n : suc k + 1 ≡ suc (k + 1) = omega arith in rw n (ap (λ (ys : List Placed). x ∷ ys) (take_more cs rest k c e))
+-- ---- commands, and those after them
 
 answers_append : (read : Reading) (s : Desk) (cs ds : List Placed) → answers read s (cs ++ ds) ≡ answers read s cs ++ answers read (state_after read s cs) ds
 answers_append read s [] ds = refl
@@ -54,150 +32,298 @@ state_append : (read : Reading) (s : Desk) (cs ds : List Placed) → state_after
 state_append read s [] ds = refl
 state_append read s (p ∷ cs) ds = state_append read (after read s p.command) cs ds
 
-pub appends_more : (before now next : Option (List ℕ)) (a b : List ℕ) → Appends before now a → Appends now next b → Appends before next (a ++ b)
+pub reading_first : (read : Reading) (cs ds : List Placed) → IsReading read (cs ++ ds) → IsReading read cs
+reading_first read [] ds r = tt
+reading_first read (p ∷ cs) ds r = (r.0, reading_first read cs ds r.1)
+
+pub reading_second : (read : Reading) (cs ds : List Placed) → IsReading read (cs ++ ds) → IsReading read ds
+reading_second read [] ds r = r
+reading_second read (p ∷ cs) ds r = reading_second read cs ds r.1
+
+take_past : (xs ys : List Placed) (n : ℕ) → take (length xs + n) (xs ++ ys) ≡ xs ++ take n ys
+take_past [] ys n = let e : 0 + n ≡ n = omega arith in ap (λ (m : ℕ). take m ys) e
+take_past (x ∷ xs) ys n = let e : suc (length xs) + n ≡ suc (length xs + n) = omega arith in rw e (ap (λ (zs : List Placed). x ∷ zs) (take_past xs ys n))
+
+preceded_twice : (cs ds : List Placed) (s : Script) → preceded cs (preceded ds s) ≡ preceded (cs ++ ds) s
+preceded_twice cs ds s = ap (λ (x : List Placed). script_with x s.fault) (sym (append_assoc cs ds s.commands))
+
+appends_more : (before now next : Option (List ℕ)) (a b : List ℕ) → Appends before now a → Appends now next b → Appends before next (a ++ b)
 appends_more before now next a b h k w e = k (w ++ a) (h w e) ∙ ap Some (append_assoc w a b)
-
-pub commands_are : (left rest script : Script) (k n : ℕ) (c : Command) → left ≡ following k script → left ≡ then n c rest → drop k script.commands ≡ at_line n c ∷ rest.commands
-commands_are left rest script k n c l e = ap (λ (s : Script). s.commands) (sym l ∙ e)
-
-abbrev script_with : List Placed → Option ℕ → Script
-script_with commands fault = record { commands = commands; fault = fault }
-
--- after one more command
-pub after_more : (left rest script : Script) (k n : ℕ) (c : Command) → left ≡ following k script → left ≡ then n c rest → rest ≡ following (k + 1) script
-after_more left rest script k n c l e =
-    let d : rest.commands ≡ drop (k + 1) script.commands = sym (drop_more script.commands k (at_line n c) rest.commands (commands_are left rest script k n c l e)) in
-    let f : rest.fault ≡ script.fault = ap (λ (s : Script). s.fault) (sym e ∙ l) in
-    ap (λ (x : List Placed). script_with x rest.fault) d ∙ ap (λ (x : Option ℕ). script_with (drop (k + 1) script.commands) x) f
-
-pub one_command : (read : Reading) (script left rest : Script) (k n : ℕ) (c : Command) (desk next : Desk) (before now new : Option (List ℕ)) (bytes : List ℕ)
-    → IsSoFar read script k desk before now → left ≡ following k script → left ≡ then n c rest → next ≡ after read desk c → bytes ≡ answer read desk c → Appends now new bytes
-    → IsSoFar read script (k + 1) next before new
-one_command read script left rest k n c desk next before now new bytes h l e m b a =
-    let t : take (k + 1) script.commands ≡ take k script.commands ++ at_line n c ∷ [] = take_more script.commands rest.commands k (at_line n c) (commands_are left rest script k n c l e) in
-    let s : Desk = state_after read start (take k script.commands) in
-    record {
-      state = m ∙ ap (λ (x : Desk). after read x c) h.state ∙ sym (ap (λ (x : List Placed). state_after read start x) t ∙ state_append read start (take k script.commands) (at_line n c ∷ []));
-      written =
-          let w : answers read start (take (k + 1) script.commands) ≡ answers read start (take k script.commands) ++ bytes =
-          ap (λ (x : List Placed). answers read start x) t ∙ answers_append read start (take k script.commands) (at_line n c ∷ [])
-          ∙ ap (λ (x : List ℕ). answers read start (take k script.commands) ++ x) (append-nil (answer read s c) ∙ sym (b ∙ ap (λ (x : Desk). answer read x c) h.state)) in
-          subst (λ (x : List ℕ). Appends before new x) (sym w) (appends_more before now new (answers read start (take k script.commands)) bytes h.written a);
-    }
-
-take_all : (cs : List Placed) (k : ℕ) → drop k cs ≡ [] → take k cs ≡ cs
-take_all [] zero e = refl
-take_all [] (suc k) e = refl
-take_all (c ∷ cs) zero e = absurd cc
-take_all (c ∷ cs) (suc k) e = ap (λ (xs : List Placed). c ∷ xs) (take_all cs k e)
-
--- at the end all commands were carried out
-pub at_end : (left script : Script) (k : ℕ) (fault : Option ℕ) → left ≡ following k script → left ≡ ended fault → (take k script.commands ≡ script.commands) × (script.fault ≡ fault)
-at_end left script k fault l e = (take_all script.commands k (ap (λ (s : Script). s.commands) (sym l ∙ e)), ap (λ (s : Script). s.fault) (sym l ∙ e))
-
-whole_written : (read : Reading) (script : Script) (k : ℕ) (desk : Desk) (before now : Option (List ℕ)) → IsSoFar read script k desk before now → take k script.commands ≡ script.commands
-    → Appends before now (answers read start script.commands)
-whole_written read script k desk before now h t = subst (λ (cs : List Placed). Appends before now (answers read start cs)) t h.written
-
-whole_state : (read : Reading) (script : Script) (k : ℕ) (desk : Desk) (before now : Option (List ℕ)) → IsSoFar read script k desk before now → take k script.commands ≡ script.commands
-    → desk ≡ state_after read start script.commands
-whole_state read script k desk before now h t = h.state ∙ ap (λ (cs : List Placed). state_after read start cs) t
-
-reported_by : (read : Reading) (script : Script) (before now : Option (List ℕ)) (errors : Bool) → IsWhole read script before now (cond errors status.Errors status.Clean) → IsWritten read script before now (cond errors status.Errors status.Clean)
-reported_by read script before now true h = h
-reported_by read script before now false h = h
-
-pub reported_end : (read : Reading) (script left : Script) (k : ℕ) (desk : Desk) (before now : Option (List ℕ)) (errors : Bool) (result : Status)
-    → IsSoFar read script k desk before now → left ≡ following k script → left ≡ ended None → errors ≡ desk.errors → result ≡ cond errors status.Errors status.Clean → IsWritten read script before now result
-reported_end read script left k desk before now errors result h l e b r =
-    let t = at_end left script k None l e in
-    let w : Appends before now (output read script) = subst (λ (f : Option ℕ). Appends before now (answers read start script.commands ++ fault_text f)) (sym t.1)
-    (subst (λ (x : List ℕ). Appends before now x) (sym (append-nil (answers read start script.commands))) (whole_written read script k desk before now h t.0)) in
-    let s : cond errors status.Errors status.Clean ≡ status_of read script =
-    ap (λ (x : Bool). cond x status.Errors status.Clean) (b ∙ ap (λ (x : Desk). x.errors) (whole_state read script k desk before now h t.0))
-    ∙ sym (ap (λ (f : Option ℕ). end_status f (state_after read start script.commands)) t.1) in
-    subst (λ (x : Status). IsWritten read script before now x) (sym r) (reported_by read script before now errors (w, s))
 
 front_more : (before now next : Option (List ℕ)) (a b : List ℕ) → Appends before now a → AppendsFront now next b → AppendsFront before next (a ++ b)
 front_more before now next a b h k w e =
     let f = k (w ++ a) (h w e) in
     (a ++ f.0, f.1, ap (λ (x : List ℕ). a ++ x) f.2 ∙ sym (append_assoc a f.0 f.1), f.3 ∙ ap Some (append_assoc w a f.0))
 
-front_of_more : (before next : Option (List ℕ)) (a b : List ℕ) → AppendsFront before next a → AppendsFront before next (a ++ b)
-front_of_more before next a b h w e = let f = h w e in (f.0, f.1 ++ b, ap (λ (x : List ℕ). x ++ b) f.2 ∙ append_assoc f.0 f.1 b, f.3)
+output_preceded : (read : Reading) (s : Desk) (cs : List Placed) (script : Script) → output_from read s (preceded cs script) ≡ answers read s cs ++ output_from read (state_after read s cs) script
+output_preceded read s cs script =
+    ap (λ (x : List ℕ). x ++ fault_text script.fault) (answers_append read s cs script.commands)
+    ∙ append_assoc (answers read s cs) (answers read (state_after read s cs) script.commands) (fault_text script.fault)
 
-pub reported_fault : (read : Reading) (script left : Script) (k line : ℕ) (desk : Desk) (before now next : Option (List ℕ)) (result : Status)
-    → IsSoFar read script k desk before now → left ≡ following k script → left ≡ ended (Some line) → IsFaultReported line now next result → IsWritten read script before next result
-reported_fault read script left k line desk before now next status.Clean h l e f = absurd f
-reported_fault read script left k line desk before now next status.Errors h l e f = absurd f
-reported_fault read script left k line desk before now next status.ScriptFault h l e f =
-    let t = at_end left script k (Some line) l e in (
-      subst (λ (x : Option ℕ). Appends before next (answers read start script.commands ++ fault_text x)) (sym t.1) (appends_more before now next _ _ (whole_written read script k desk before now h t.0) f),
-      sym (ap (λ (x : Option ℕ). end_status x (state_after read start script.commands)) t.1),
-    )
-reported_fault read script left k line desk before now next status.DeviceFault h l e f =
-    let t = at_end left script k (Some line) l e in
-    subst (λ (x : Option ℕ). AppendsFront before next (answers read start script.commands ++ fault_text x)) (sym t.1) (front_more before now next _ _ (whole_written read script k desk before now h t.0) f)
-reported_fault read script left k line desk before now next status.Disagree h l e f = absurd f
-reported_fault read script left k line desk before now next status.NoMemory h l e f =
-    let t = at_end left script k (Some line) l e in (
-      length script.commands,
-      inr (inr (refl, subst IsSome (sym t.1) refl)),
-      subst (λ (x : Option (List ℕ)). Appends before x (answers read start (take (length script.commands) script.commands))) (sym f)
-          (subst (λ (cs : List Placed). Appends before now (answers read start cs)) (sym (take-length script.commands)) (whole_written read script k desk before now h t.0)),
-    )
+-- ---- what a run wrote that went on after commands
 
-pub reported_memory : (read : Reading) (script left rest : Script) (k n : ℕ) (c : Command) (desk : Desk) (before now : Option (List ℕ)) → IsSoFar read script k desk before now → left ≡ following k script → left ≡ then n c rest
-    → IsWritten read script before now status.NoMemory
-reported_memory read script left rest k n c desk before now h l e =
-    let m : k + 1 ≤ length script.commands = count_more script.commands k (at_line n c) rest.commands (commands_are left rest script k n c l e) in
-    let less : k < length script.commands = omega arith in
-    (k, inr (inl less), h.written)
+whole_after : (read : Reading) (s : Desk) (cs : List Placed) (script : Script) (before now next : Option (List ℕ)) (ended : Status)
+    → Appends before now (answers read s cs) → IsWholeFrom read (state_after read s cs) script now next ended → IsWholeFrom read s (preceded cs script) before next ended
+whole_after read s cs script before now next ended a h = (
+  subst (λ (x : List ℕ). Appends before next x) (sym (output_preceded read s cs script)) (appends_more before now next _ _ a h.0),
+  h.1 ∙ sym (ap (λ (x : Desk). end_status script.fault x) (state_append read s cs script.commands)),
+)
 
--- the answers to all commands begin with those to the first k, and then comes that to the next one
-split_output : (read : Reading) (script : Script) (k n : ℕ) (c : Command) (rest : List Placed) → drop k script.commands ≡ at_line n c ∷ rest
-    → (more : List ℕ) × (output read script ≡ (answers read start (take k script.commands) ++ answer read (state_after read start (take k script.commands)) c) ++ more)
-split_output read script k n c rest e =
-    let a : List ℕ = answers read start (take k script.commands) in
-    let s : Desk = state_after read start (take k script.commands) in
-    let m : List ℕ = answers read (after read s c) rest ++ fault_text script.fault in
-    let whole : answers read start script.commands ≡ a ++ (answer read s c ++ answers read (after read s c) rest) =
-    ap (λ (cs : List Placed). answers read start cs) (sym (take-append-drop k script.commands) ∙ ap (λ (cs : List Placed). take k script.commands ++ cs) e) ∙ answers_append read start (take k script.commands) (at_line n c ∷ rest) in (
-      m,
-      ap (λ (x : List ℕ). x ++ fault_text script.fault) whole ∙ append_assoc a (answer read s c ++ answers read (after read s c) rest) (fault_text script.fault)
-          ∙ ap (λ (x : List ℕ). a ++ x) (append_assoc (answer read s c) (answers read (after read s c) rest) (fault_text script.fault)) ∙ sym (append_assoc a (answer read s c) m),
-    )
+refused_after : (cs : List Placed) (script : Script) (k : ℕ) → IsRefusedIn k script → IsRefusedIn (length cs + k) (preceded cs script)
+refused_after cs script k (inl h) = inl (omega (arith, length-append cs script.commands))
+refused_after cs script k (inr h) = inr (omega (arith, length-append cs script.commands, h.0), h.1)
 
-pub reported_device : (read : Reading) (script left rest : Script) (k n : ℕ) (c : Command) (desk : Desk) (before now next : Option (List ℕ)) (bytes : List ℕ)
-    → IsSoFar read script k desk before now → left ≡ following k script → left ≡ then n c rest → bytes ≡ answer read desk c → AppendsFront now next bytes → IsWritten read script before next status.DeviceFault
-reported_device read script left rest k n c desk before now next bytes h l e b f =
-    let o = split_output read script k n c rest.commands (commands_are left rest script k n c l e) in
-    let s : Desk = state_after read start (take k script.commands) in
-    let g : AppendsFront now next (answer read s c) = subst (λ (x : List ℕ). AppendsFront now next x) (b ∙ ap (λ (x : Desk). answer read x c) h.state) f in
-    subst (λ (x : List ℕ). AppendsFront before next x) (sym o.1) (front_of_more before next _ o.0 (front_more before now next _ _ h.written g))
+written_by : (read : Reading) (s : Desk) (cs : List Placed) (script : Script) (before now next : Option (List ℕ)) (ended : Status)
+    → Appends before now (answers read s cs) → IsWrittenFrom read (state_after read s cs) script now next ended → IsWrittenFrom read s (preceded cs script) before next ended
+written_by read s cs script before now next status.Clean a h = whole_after read s cs script before now next status.Clean a h
+written_by read s cs script before now next status.Errors a h = whole_after read s cs script before now next status.Errors a h
+written_by read s cs script before now next status.ScriptFault a h = whole_after read s cs script before now next status.ScriptFault a h
+written_by read s cs script before now next status.DeviceFault a h =
+    subst (λ (x : List ℕ). AppendsFront before next x) (sym (output_preceded read s cs script)) (front_more before now next _ _ a h)
+written_by read s cs script before now next status.NoMemory a h = (
+  length cs + h.0,
+  refused_after cs script h.0 h.1,
+  subst (λ (x : List ℕ). Appends before next x)
+      (sym (ap (λ (x : List Placed). answers read s x) (take_past cs script.commands h.0) ∙ answers_append read s cs (take h.0 script.commands)))
+      (appends_more before now next _ _ a h.2),
+)
+written_by read s cs script before now next status.Disagree a h = absurd h
 
--- before anything was written
-pub reported_nothing : (read : Reading) (script : Script) (before : Option (List ℕ)) → IsWritten read script before before status.DeviceFault
-reported_nothing read script before w e = ([], output read script, refl, e ∙ ap Some (sym (append-nil w)))
+pub written_after : (read : Reading) (s mid : Desk) (cs : List Placed) (script : Script) (before now next : Option (List ℕ)) (ended : Status)
+    → AreAnswered read cs s mid before now → IsWrittenFrom read mid script now next ended → IsWrittenFrom read s (preceded cs script) before next ended
+written_after read s mid cs script before now next ended a h =
+    written_by read s cs script before now next ended a.written (subst (λ (x : Desk). IsWrittenFrom read x script now next ended) a.state h)
 
-pub reported_no_memory : (read : Reading) (script : Script) (before : Option (List ℕ)) → IsWritten read script before before status.NoMemory
-reported_no_memory read script before = (0, inl refl, λ w e. e ∙ ap Some (sym (append-nil w)))
+-- from the first state on
+pub written_whole : (read : Reading) (script : Script) (before now : Option (List ℕ)) (ended : Status) → IsWrittenFrom read start script before now ended → IsWritten read script before now ended
+written_whole read script before now status.Clean h = h
+written_whole read script before now status.Errors h = h
+written_whole read script before now status.ScriptFault h = h
+written_whole read script before now status.DeviceFault h = h
+written_whole read script before now status.NoMemory h = (h.0, inr h.1, h.2)
+written_whole read script before now status.Disagree h = h
 
--- what was read says what the script says
-pub same_script : (over : Bool) (slice items bytes : List ℕ) → slice ≡ items → cut_lines items ≡ whole_lines bytes → over ≡ is_over bytes → script_from over 1 (cut_lines slice) ≡ script_of bytes
-same_script over slice items bytes s l o =
-    ap (λ (x : List ℕ). script_from over 1 (cut_lines x)) s ∙ ap (λ (x : List (List ℕ)). script_from over 1 x) l ∙ ap (λ (x : Bool). script_from x 1 (whole_lines bytes)) o
+-- a run that ends before it has written anything
+pub stopped_device : (read : Reading) (s : Desk) (script : Script) (before : Option (List ℕ)) → IsWrittenFrom read s script before before status.DeviceFault
+stopped_device read s script before w e = ([], output_from read s script, refl, e ∙ ap Some (sym (append-nil w)))
 
-pub reported_same : (read : Reading) (script whole : Script) (before now : Option (List ℕ)) (result : Status) → script ≡ whole
-    → (IsReading read script.commands → IsWritten read script before now result) → IsReading read whole.commands → IsWritten read whole before now result
-reported_same read script whole before now result e h = subst (λ (x : Script). IsReading read x.commands → IsWritten read x before now result) e h
+pub stopped_memory : (read : Reading) (s : Desk) (script : Script) (before : Option (List ℕ)) → IsRefusedIn 0 script → IsWrittenFrom read s script before before status.NoMemory
+stopped_memory read s script before h = (0, h, λ w e. e ∙ ap Some (sym (append-nil w)))
 
-reads_at : (read : Reading) (cs rest : List Placed) (k : ℕ) (c : Placed) → drop k cs ≡ c ∷ rest → IsReading read cs → ReadsCommand read c.command
-reads_at read [] rest zero c e r = absurd cc
-reads_at read [] rest (suc k) c e r = absurd cc
-reads_at read (x ∷ cs) rest zero c e r = let h : x ≡ c = cc in subst (λ (y : Placed). ReadsCommand read y.command) h r.0
-reads_at read (x ∷ cs) rest (suc k) c e r = reads_at read cs rest k c e r.1
+-- at the line that reports a fault
+pub fault_written : (read : Reading) (s : Desk) (line : ℕ) (before now : Option (List ℕ)) (result : Status) → IsFaultReported line before now result → IsWrittenFrom read s (ended (Some line)) before now result
+fault_written read s line before now status.Clean h = absurd h
+fault_written read s line before now status.Errors h = absurd h
+fault_written read s line before now status.ScriptFault h = (h, refl)
+fault_written read s line before now status.DeviceFault h = h
+fault_written read s line before now status.NoMemory h = (0, inr (refl, refl), λ w e. h ∙ e ∙ ap Some (sym (append-nil w)))
+fault_written read s line before now status.Disagree h = absurd h
 
--- the text that the next command opens has its lines
-pub reads_next : (read : Reading) (left rest script : Script) (k n : ℕ) (c : Command) → left ≡ following k script → left ≡ then n c rest → IsReading read script.commands → ReadsCommand read c
-reads_next read left rest script k n c l e r = reads_at read script.commands rest.commands k (at_line n c) (commands_are left rest script k n c l e) r
+end_by : (read : Reading) (s : Desk) (before now : Option (List ℕ)) (errors : Bool) → IsWholeFrom read s (ended None) before now (cond errors status.Errors status.Clean) → IsWrittenFrom read s (ended None) before now (cond errors status.Errors status.Clean)
+end_by read s before now true h = h
+end_by read s before now false h = h
+
+-- after the last command
+pub end_written : (read : Reading) (s : Desk) (before : Option (List ℕ)) (result : Status) → result ≡ cond s.errors status.Errors status.Clean → IsWrittenFrom read s (ended None) before before result
+end_written read s before result e =
+    subst (λ (x : Status). IsWrittenFrom read s (ended None) before before x) (sym e) (end_by read s before before s.errors (λ w h. h ∙ ap Some (sym (append-nil w)), refl))
+
+-- ---- command by command
+
+-- some commands were carried out; their answers were written, but for those that are held back
+pub record IsHolding (line : ℕ) (bytes : List ℕ) (next_line : ℕ) (left : List ℕ) (desk next : Desk) (before now : Option (List ℕ)) (held : List ℕ) : Type 0 where
+  pub done : List Placed
+  pub says : (over : Bool) (more : List ℕ) → ending over line (bytes ++ more) ≡ preceded done (ending over next_line (left ++ more))
+  pub state : (read : Reading) → IsReading read done → next ≡ state_after read desk done
+  pub unwritten : (read : Reading) → IsReading read done → Left before now held (answers read desk done)
+
+pub holds_nothing : (line : ℕ) (bytes : List ℕ) (desk : Desk) (before : Option (List ℕ)) (held : List ℕ) → held ≡ [] → IsHolding line bytes line bytes desk desk before before held
+unfolding Left
+holds_nothing line bytes desk before held e = record {
+  done = [];
+  says = λ over more. refl;
+  state = λ read r. refl;
+  unwritten = λ read r w h. ([], sym e, h ∙ ap Some (sym (append-nil w)));
+}
+
+-- one command more
+pub holds_more : (line n : ℕ) (bytes : List ℕ) (next_line following_line : ℕ) (left following : List ℕ) (desk next then_desk : Desk) (before now then_now : Option (List ℕ)) (held then_held : List ℕ) (c : Command)
+    → IsHolding line bytes next_line left desk next before now held
+    → ((over : Bool) (more : List ℕ) → ending over next_line (left ++ more) ≡ then n c (ending over following_line (following ++ more)))
+    → ((read : Reading) → ReadsCommand read c → then_desk ≡ after read next c)
+    → ((read : Reading) → ReadsCommand read c → (b : Option (List ℕ)) (all : List ℕ) → Left b now held all → Left b then_now then_held (all ++ answer read next c))
+    → IsHolding line bytes following_line following desk then_desk before then_now then_held
+holds_more line n bytes next_line following_line left following desk next then_desk before now then_now held then_held c h e s l = record {
+  done = h.done ++ at_line n c ∷ [];
+  says = λ over more. h.says over more ∙ ap (λ (x : Script). preceded h.done x) (e over more) ∙ preceded_twice h.done (at_line n c ∷ []) (ending over following_line (following ++ more));
+  state = λ read r.
+      s read (reading_second read h.done (at_line n c ∷ []) r).0 ∙ ap (λ (x : Desk). after read x c) (h.state read (reading_first read h.done (at_line n c ∷ []) r))
+      ∙ sym (state_append read desk h.done (at_line n c ∷ []));
+  unwritten = λ read r.
+      let t : next ≡ state_after read desk h.done = h.state read (reading_first read h.done (at_line n c ∷ []) r) in
+      let a : answers read desk h.done ++ answer read next c ≡ answers read desk (h.done ++ at_line n c ∷ []) =
+      ap (λ (x : Desk). answers read desk h.done ++ answer read x c) t
+      ∙ ap (λ (x : List ℕ). answers read desk h.done ++ x) (sym (append-nil (answer read (state_after read desk h.done) c)))
+      ∙ sym (answers_append read desk h.done (at_line n c ∷ [])) in
+      subst (λ (x : List ℕ). Left before then_now then_held x) a
+      (l read (reading_second read h.done (at_line n c ∷ []) r).0 before (answers read desk h.done) (h.unwritten read (reading_first read h.done (at_line n c ∷ []) r)));
+}
+
+-- all answers that were held back are written
+pub held_written : (line : ℕ) (bytes : List ℕ) (next_line : ℕ) (left : List ℕ) (last_line : ℕ) (last : List ℕ) (desk next : Desk) (before now then_now : Option (List ℕ)) (held : List ℕ)
+    → IsHolding line bytes next_line left desk next before now held → ((over : Bool) (more : List ℕ) → ending over next_line (left ++ more) ≡ ending over last_line (last ++ more))
+    → ((b : Option (List ℕ)) (all : List ℕ) → Left b now held all → Appends b then_now all) → GoesOn line bytes last_line last desk next before then_now
+held_written line bytes next_line left last_line last desk next before now then_now held h e w = record {
+  done = h.done;
+  says = λ over more. h.says over more ∙ ap (λ (x : Script). preceded h.done x) (e over more);
+  run = λ read r. record { state = h.state read r; written = w before (answers read desk h.done) (h.unwritten read r) };
+}
+
+-- a write of answers that were held back failed
+pub held_failed : (line : ℕ) (bytes : List ℕ) (next_line : ℕ) (left : List ℕ) (desk next : Desk) (before now then_now : Option (List ℕ)) (held : List ℕ) (result : Status)
+    → IsHolding line bytes next_line left desk next before now held → ((b : Option (List ℕ)) (all : List ℕ) → Left b now held all → AppendsFront b then_now all) → result ≡ status.DeviceFault
+    → Stops line bytes desk before then_now result
+held_failed line bytes next_line left desk next before now then_now held result h f e over more read r =
+    let s : Script = ending over next_line (left ++ more) in
+    let r2 : IsReading read (h.done ++ s.commands) = subst (λ (x : Script). IsReading read x.commands) (h.says over more) r in
+    let a : AppendsFront before then_now (answers read desk h.done) = f before (answers read desk h.done) (h.unwritten read (reading_first read h.done s.commands r2)) in
+    let b : AppendsFront before then_now (output_from read desk (preceded h.done s)) =
+    subst (λ (x : List ℕ). AppendsFront before then_now x) (sym (output_preceded read desk h.done s)) (front_of_more before then_now _ (output_from read (state_after read desk h.done) s) a) in
+    subst (λ (x : Script). IsWrittenFrom read desk x before then_now result) (sym (h.says over more)) (subst (λ (x : Status). IsWrittenFrom read desk (preceded h.done s) before then_now x) (sym e) b)
+
+halted_by : (read : Reading) (desk : Desk) (cs : List Placed) (n : ℕ) (c : Command) (rest : Script) (before now : Option (List ℕ)) (result : Status)
+    → IsHalted before now (answers read desk cs) (answer read (state_after read desk cs) c) result → IsWrittenFrom read desk (preceded cs (then n c rest)) before now result
+halted_by read desk cs n c rest before now status.Clean h = absurd h
+halted_by read desk cs n c rest before now status.Errors h = absurd h
+halted_by read desk cs n c rest before now status.ScriptFault h = absurd h
+halted_by read desk cs n c rest before now status.DeviceFault h =
+    let s : Desk = state_after read desk cs in
+    let m : List ℕ = answers read (after read s c) rest.commands ++ fault_text rest.fault in
+    let o : output_from read desk (preceded cs (then n c rest)) ≡ (answers read desk cs ++ answer read s c) ++ m =
+    output_preceded read desk cs (then n c rest) ∙ ap (λ (x : List ℕ). answers read desk cs ++ x) (append_assoc (answer read s c) (answers read (after read s c) rest.commands) (fault_text rest.fault)) ∙ sym (append_assoc (answers read desk cs) (answer read s c) m) in
+    subst (λ (x : List ℕ). AppendsFront before now x) (sym o) (front_of_more before now _ m h)
+halted_by read desk cs n c rest before now status.NoMemory h = (
+  length cs,
+  inl (omega (arith, length-append cs (at_line n c ∷ rest.commands))),
+  subst (λ (x : List ℕ). Appends before now x) (sym (ap (λ (x : List Placed). answers read desk x) (take-append_seam cs (at_line n c ∷ rest.commands)))) h,
+)
+halted_by read desk cs n c rest before now status.Disagree h = absurd h
+
+-- a command could not be carried out or its answer not be written
+pub command_halted : (line n : ℕ) (bytes : List ℕ) (next_line following_line : ℕ) (left following : List ℕ) (desk next : Desk) (before now then_now : Option (List ℕ)) (held : List ℕ) (c : Command) (result : Status)
+    → IsHolding line bytes next_line left desk next before now held
+    → ((over : Bool) (more : List ℕ) → ending over next_line (left ++ more) ≡ then n c (ending over following_line (following ++ more)))
+    → ((read : Reading) → ReadsCommand read c → (b : Option (List ℕ)) (all : List ℕ) → Left b now held all → IsHalted b then_now all (answer read next c) result)
+    → Stops line bytes desk before then_now result
+command_halted line n bytes next_line following_line left following desk next before now then_now held c result h e k over more read r =
+    let rest : Script = ending over following_line (following ++ more) in
+    let is : ending over line (bytes ++ more) ≡ preceded h.done (then n c rest) = h.says over more ∙ ap (λ (x : Script). preceded h.done x) (e over more) in
+    let r2 : IsReading read (h.done ++ at_line n c ∷ rest.commands) = subst (λ (x : Script). IsReading read x.commands) is r in
+    let r3 = reading_first read h.done (at_line n c ∷ rest.commands) r2 in
+    let t : next ≡ state_after read desk h.done = h.state read r3 in
+    let a : IsHalted before then_now (answers read desk h.done) (answer read (state_after read desk h.done) c) result =
+    subst (λ (x : Desk). IsHalted before then_now (answers read desk h.done) (answer read x c) result) t (k read (reading_second read h.done (at_line n c ∷ rest.commands) r2).0 before (answers read desk h.done) (h.unwritten read r3)) in
+    subst (λ (x : Script). IsWrittenFrom read desk x before then_now result) (sym is) (halted_by read desk h.done n c rest before then_now result a)
+
+-- the script is wrong on the next line
+pub fault_stops : (line n : ℕ) (bytes : List ℕ) (next_line : ℕ) (left : List ℕ) (desk next : Desk) (before now then_now last : Option (List ℕ)) (held : List ℕ) (result : Status)
+    → IsHolding line bytes next_line left desk next before now held → ((over : Bool) (more : List ℕ) → ending over next_line (left ++ more) ≡ ended (Some n))
+    → ((b : Option (List ℕ)) (all : List ℕ) → Left b now held all → Appends b then_now all) → IsFaultReported n then_now last result
+    → Stops line bytes desk before last result
+fault_stops line n bytes next_line left desk next before now then_now last held result h e w f over more read r =
+    let is : ending over line (bytes ++ more) ≡ preceded h.done (ended (Some n)) = h.says over more ∙ ap (λ (x : Script). preceded h.done x) (e over more) in
+    let r2 : IsReading read (h.done ++ []) = subst (λ (x : Script). IsReading read x.commands) is r in
+    let r3 = reading_first read h.done [] r2 in
+    subst (λ (x : Script). IsWrittenFrom read desk x before last result) (sym is)
+    (written_after read desk next h.done (ended (Some n)) before then_now last result (record { state = h.state read r3; written = w before (answers read desk h.done) (h.unwritten read r3) }) (fault_written read next n then_now last result f))
+
+-- ---- piece by piece
+
+assoc : (a b c : List ℕ) → (a ++ b) ++ c ≡ a ++ (b ++ c)
+assoc a b c = append_assoc a b c
+
+-- bytes that are in no line yet come after lines
+pub goes_on_behind : (line : ℕ) (lines behind : List ℕ) (next_line : ℕ) (left : List ℕ) (desk next : Desk) (before now : Option (List ℕ))
+    → GoesOn line lines next_line left desk next before now → GoesOn line (lines ++ behind) next_line (left ++ behind) desk next before now
+goes_on_behind line lines behind next_line left desk next before now h = record {
+  done = h.done;
+  says = λ over more.
+      ap (λ (x : List ℕ). ending over line x) (assoc lines behind more) ∙ h.says over (behind ++ more) ∙ ap (λ (x : List ℕ). preceded h.done (ending over next_line x)) (sym (assoc left behind more));
+  run = h.run;
+}
+
+pub stops_behind : (line : ℕ) (lines behind : List ℕ) (desk : Desk) (before now : Option (List ℕ)) (result : Status) → Stops line lines desk before now result → Stops line (lines ++ behind) desk before now result
+stops_behind line lines behind desk before now result h over more read r =
+    let e : ending over line ((lines ++ behind) ++ more) ≡ ending over line (lines ++ (behind ++ more)) = ap (λ (x : List ℕ). ending over line x) (assoc lines behind more) in
+    subst (λ (x : Script). IsWrittenFrom read desk x before now result) (sym e) (h over (behind ++ more) read (subst (λ (x : Script). IsReading read x.commands) e r))
+
+-- the bytes are read as others
+pub goes_on_same : (line : ℕ) (bytes : List ℕ) (other_line : ℕ) (other : List ℕ) (next_line : ℕ) (left : List ℕ) (desk next : Desk) (before now : Option (List ℕ))
+    → ((over : Bool) (more : List ℕ) → ending over other_line (other ++ more) ≡ ending over line (bytes ++ more)) → GoesOn other_line other next_line left desk next before now → GoesOn line bytes next_line left desk next before now
+goes_on_same line bytes other_line other next_line left desk next before now e h = record { done = h.done; says = λ over more. sym (e over more) ∙ h.says over more; run = h.run }
+
+pub stops_same : (line : ℕ) (bytes : List ℕ) (other_line : ℕ) (other : List ℕ) (desk : Desk) (before now : Option (List ℕ)) (result : Status)
+    → ((over : Bool) (more : List ℕ) → ending over other_line (other ++ more) ≡ ending over line (bytes ++ more)) → Stops other_line other desk before now result → Stops line bytes desk before now result
+stops_same line bytes other_line other desk before now result e h over more read r =
+    subst (λ (x : Script). IsWrittenFrom read desk x before now result) (e over more) (h over more read (subst (λ (x : Script). IsReading read x.commands) (sym (e over more)) r))
+
+-- nothing was carried out
+pub goes_on_nothing : (line : ℕ) (bytes : List ℕ) (next_line : ℕ) (left : List ℕ) (desk : Desk) (before : Option (List ℕ))
+    → ((over : Bool) (more : List ℕ) → ending over next_line (left ++ more) ≡ ending over line (bytes ++ more)) → GoesOn line bytes next_line left desk desk before before
+goes_on_nothing line bytes next_line left desk before e =
+    record { done = []; says = λ over more. sym (e over more); run = λ read r. record { state = refl; written = λ w h. h ∙ ap Some (sym (append-nil w)) } }
+
+answered_twice : (read : Reading) (cs ds : List Placed) (desk next then_desk : Desk) (before now then_now : Option (List ℕ)) → AreAnswered read cs desk next before now → AreAnswered read ds next then_desk now then_now
+    → AreAnswered read (cs ++ ds) desk then_desk before then_now
+answered_twice read cs ds desk next then_desk before now then_now a b = record {
+  state = b.state ∙ ap (λ (x : Desk). state_after read x ds) a.state ∙ sym (state_append read desk cs ds);
+  written =
+      let d : Appends now then_now (answers read (state_after read desk cs) ds) = subst (λ (x : Desk). Appends now then_now (answers read x ds)) a.state b.written in
+      subst (λ (x : List ℕ). Appends before then_now x) (sym (answers_append read desk cs ds)) (appends_more before now then_now _ _ a.written d);
+}
+
+-- one piece more
+pub goes_further : (line : ℕ) (got : List ℕ) (next_line : ℕ) (left piece : List ℕ) (then_line : ℕ) (then_left : List ℕ) (desk next then_desk : Desk) (before now then_now : Option (List ℕ))
+    → GoesOn line got next_line left desk next before now → GoesOn next_line (left ++ piece) then_line then_left next then_desk now then_now → GoesOn line (got ++ piece) then_line then_left desk then_desk before then_now
+goes_further line got next_line left piece then_line then_left desk next then_desk before now then_now h k = record {
+  done = h.done ++ k.done;
+  says = λ over more.
+      ap (λ (x : List ℕ). ending over line x) (assoc got piece more) ∙ h.says over (piece ++ more)
+      ∙ ap (λ (x : Script). preceded h.done x) (ap (λ (x : List ℕ). ending over next_line x) (sym (assoc left piece more)) ∙ k.says over more)
+      ∙ preceded_twice h.done k.done (ending over then_line (then_left ++ more));
+  run = λ read r.
+      answered_twice read h.done k.done desk next then_desk before now then_now (h.run read (reading_first read h.done k.done r)) (k.run read (reading_second read h.done k.done r));
+}
+
+-- a run that ends after a piece more
+pub stops_further : (line : ℕ) (got : List ℕ) (next_line : ℕ) (left piece : List ℕ) (desk next : Desk) (before now then_now : Option (List ℕ)) (result : Status)
+    → GoesOn line got next_line left desk next before now → Stops next_line (left ++ piece) next now then_now result → Stops line (got ++ piece) desk before then_now result
+stops_further line got next_line left piece desk next before now then_now result h k over more read r =
+    let s : Script = ending over next_line ((left ++ piece) ++ more) in
+    let is : ending over line ((got ++ piece) ++ more) ≡ preceded h.done s =
+    ap (λ (x : List ℕ). ending over line x) (assoc got piece more) ∙ h.says over (piece ++ more) ∙ ap (λ (x : List ℕ). preceded h.done (ending over next_line x)) (sym (assoc left piece more)) in
+    let r2 : IsReading read (h.done ++ s.commands) = subst (λ (x : Script). IsReading read x.commands) is r in
+    subst (λ (x : Script). IsWrittenFrom read desk x before then_now result) (sym is)
+    (written_after read desk next h.done s before now then_now result (h.run read (reading_first read h.done s.commands r2)) (k over more read (reading_second read h.done s.commands r2)))
+
+-- ---- at the end of the script
+
+closed_says : (over : Bool) (line : ℕ) (bytes closed : List ℕ) → last_lines over closed ≡ last_lines over bytes → ending over line bytes ≡ ending over line (closed ++ [])
+closed_says over line bytes closed e = sym (ap (λ (lines : List (List ℕ)). script_from over line lines) e) ∙ ap (λ (x : List ℕ). ending over line x) (sym (append-nil closed))
+
+-- what was begun and closed was carried out, and this is said at its end
+pub end_says : (over : Bool) (line : ℕ) (bytes closed : List ℕ) (next_line : ℕ) (left : List ℕ) (desk next : Desk) (before now last : Option (List ℕ)) (script : Script) (result : Status)
+    → last_lines over closed ≡ last_lines over bytes → GoesOn line closed next_line left desk next before now → ending over next_line left ≡ script → ((read : Reading) → IsWrittenFrom read next script now last result)
+    → (read : Reading) → IsReading read (ending over line bytes).commands → IsWrittenFrom read desk (ending over line bytes) before last result
+end_says over line bytes closed next_line left desk next before now last script result l h e w read r =
+    let is : ending over line bytes ≡ preceded h.done script =
+    closed_says over line bytes closed l ∙ h.says over [] ∙ ap (λ (x : List ℕ). preceded h.done (ending over next_line x)) (append-nil left) ∙ ap (λ (x : Script). preceded h.done x) e in
+    let r2 : IsReading read (h.done ++ script.commands) = subst (λ (x : Script). IsReading read x.commands) is r in
+    subst (λ (x : Script). IsWrittenFrom read desk x before last result) (sym is)
+    (written_after read desk next h.done script before now last result (h.run read (reading_first read h.done script.commands r2)) (w read))
+
+pub end_stops : (over : Bool) (line : ℕ) (bytes closed : List ℕ) (desk : Desk) (before now : Option (List ℕ)) (result : Status)
+    → last_lines over closed ≡ last_lines over bytes → Stops line closed desk before now result → (read : Reading) → IsReading read (ending over line bytes).commands → IsWrittenFrom read desk (ending over line bytes) before now result
+end_stops over line bytes closed desk before now result l s read r =
+    let is = closed_says over line bytes closed l in
+    subst (λ (x : Script). IsWrittenFrom read desk x before now result) (sym is) (s over [] read (subst (λ (x : Script). IsReading read x.commands) is r))

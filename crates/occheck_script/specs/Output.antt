@@ -1,8 +1,8 @@
 -- What a script writes, and the status with which it ends.
-use Rattle.std.specs.Prelude.{ℕ, ◌≡◌, ◌⊎◌, ◌<◌, cond, length, IsSome, List, [], ◌∷◌, ◌++◌, codes, take, Option, Some, None}
+use Rattle.std.specs.Prelude.{ℕ, ◌≡◌, ◌⊎◌, ◌<◌, ◌^◌, cond, length, IsSome, List, [], ◌∷◌, ◌++◌, codes, take, Option, Some, None}
 use Rattle.std.specs.Fmt.{decimal}
-use Rattle.occheck_script.specs.Devices.{Appends, AppendsFront}
-use Rattle.occheck_commands.specs.Script.{Placed, Script}
+use Rattle.occheck_script.specs.Devices.{Appends, AppendsFront, counted}
+use Rattle.occheck_commands.specs.Script.{Placed, Script, whole_commands}
 use Rattle.occheck_script.specs.Machine.{Reading, start, answer, after, with_line_end}
 use Rattle.occheck_script.specs.declared.desk.Desk.{Desk}
 use Rattle.occheck_script.specs.declared.status.Status.{Status}
@@ -59,3 +59,8 @@ IsFaultReported line before now status.ScriptFault = Appends before now (fault_t
 IsFaultReported line before now status.DeviceFault = AppendsFront before now (fault_text (Some line))
 IsFaultReported line before now status.NoMemory = now ≡ before
 IsFaultReported line before now status.Disagree = ⊥
+
+-- a read failed after so many bytes: all commands that lie whole in these were answered, and no other
+abbrev pub IsCutOff : Reading → List ℕ → ℕ → ℕ → Option (List ℕ) → Option (List ℕ) → Type 0
+IsCutOff read bytes taken_before taken_now before now =
+    (n : ℕ) × (taken_before < 2 ^ 64 → taken_now ≡ counted taken_before n) × Appends before now (answers read start (whole_commands (take n bytes)))

@@ -6,9 +6,13 @@
 #![tactic(auto)]
 
 mod answer;
+mod answering;
+mod begun;
 mod desk;
 mod devices;
 mod edit;
+mod fault;
+mod held;
 mod input;
 mod jobs;
 mod report;

@@ -1,10 +1,9 @@
 //! The bytes of a report, and whether it has an error.
 ghost use Rattle.std.specs.Fmt.{decimal};
 ghost use Rattle.std.specs.List.{flat_map};
-ghost use Rattle.std.specs.Prelude.{◌≡◌, ◌++◌, IfOk, codes, length};
+ghost use Rattle.std.specs.Prelude.{◌≡◌, ◌++◌, IfOk, OnOk, codes, length};
 ghost use Rattle.occheck_script.specs.Machine.{diag_text, report_text, shows_error, reports_errors as spec_reports_errors, with_line_end, unit_text};
 
-use super::answer::line_naming;
 use occ_base::{Diag, has_error, write_diag};
 use occ_board::{Row, Shown};
 use std::alloc::{AllocError, Global};
@@ -15,22 +14,26 @@ pub fn report_lines(alloc: Global, rows: &[Row]) -> Result<Vec<u8>, AllocError>
 {
     let mut bytes = Vec::new(alloc);
     for row in rows {
-        let unit = unit_report(alloc, row.unit.as_bytes(), &row.shown)?;
-        bytes.extend_from_slice(unit.as_slice())?;
+        add_unit(alloc, row.unit.as_bytes(), &row.shown, &mut bytes)?;
     }
     bytes.extend_from_slice(b"end\n")?;
     Ok(bytes)
 }
 
-/// What a report reports of a unit: its diagnostics in order, or that it is pending.
-fn unit_report(alloc: Global, unit: &[u8], shown: &Shown) -> Result<Vec<u8>, AllocError>
-    ensures { IfOk result (λ bytes. bytes.items ≡ unit_text unit.now shown.now) }
+/// Appends what a report reports of a unit: its diagnostics in order, or that it is pending.
+fn add_unit(
+    alloc: Global,
+    unit: &[u8],
+    shown: &Shown,
+    bytes: &mut Vec<u8>,
+) -> Result<(), AllocError>
+    ensures { OnOk result (bytes.new.items ≡ bytes.old.items ++ unit_text unit.now shown.now) }
 {
     match shown {
-        Shown::Pending => pending(alloc, unit),
+        Shown::Pending => add_pending(unit, bytes),
         Shown::Done(diags) => match diags.as_slice() {
-            [] => clean(alloc, unit),
-            diags => faulty(alloc, unit, diags),
+            [] => add_clean(unit, bytes),
+            diags => add_faulty(alloc, unit, diags, bytes),
         },
     }
 }
@@ -52,43 +55,53 @@ fn has_errors(row: &Row) -> bool
     }
 }
 
-fn pending(alloc: Global, file: &[u8]) -> Result<Vec<u8>, AllocError>
-    ensures { IfOk result (λ bytes. bytes.items ≡ with_line_end (codes "pending " ++ file.now)) }
+/// Appends the line of a unit that is pending.
+fn add_pending(file: &[u8], bytes: &mut Vec<u8>) -> Result<(), AllocError>
+    ensures { OnOk result (bytes.new.items ≡ bytes.old.items ++ with_line_end (codes "pending " ++ file.now)) }
 {
-    let bytes = line_naming(alloc, "pending ", file)?;
-    Ok(bytes)
+    bytes.extend_from_slice(b"pending ")?;
+    bytes.extend_from_slice(file)?;
+    bytes.push(b'\n')?;
+    Ok(())
 }
 
-fn clean(alloc: Global, file: &[u8]) -> Result<Vec<u8>, AllocError>
-    ensures { IfOk result (λ bytes. bytes.items ≡ with_line_end (codes "unit " ++ file.now ++ codes " ok")) }
+/// Appends the line of a unit without diagnostics.
+fn add_clean(file: &[u8], bytes: &mut Vec<u8>) -> Result<(), AllocError>
+    ensures { OnOk result (bytes.new.items ≡ bytes.old.items ++ with_line_end (codes "unit " ++ file.now ++ codes " ok")) }
 {
-    let mut bytes = Vec::from_slice(alloc, b"unit ")?;
+    bytes.extend_from_slice(b"unit ")?;
     bytes.extend_from_slice(file)?;
     bytes.extend_from_slice(b" ok\n")?;
-    Ok(bytes)
+    Ok(())
 }
 
-fn faulty(alloc: Global, file: &[u8], diags: &[Diag]) -> Result<Vec<u8>, AllocError>
-    ensures { IfOk result (λ bytes. bytes.items ≡ with_line_end (codes "unit " ++ file.now ++ codes " " ++ decimal (length diags.now)) ++ flat_map diag_text diags.now) }
+/// Appends the lines of a unit with diagnostics.
+fn add_faulty(
+    alloc: Global,
+    file: &[u8],
+    diags: &[Diag],
+    bytes: &mut Vec<u8>,
+) -> Result<(), AllocError>
+    ensures { OnOk result (bytes.new.items ≡ bytes.old.items ++ (with_line_end (codes "unit " ++ file.now ++ codes " " ++ decimal (length diags.now)) ++ flat_map diag_text diags.now)) }
 {
-    let mut bytes = head(alloc, file, diags.len())?;
+    add_head(alloc, file, diags.len(), bytes)?;
     for diag in diags {
         bytes.extend_from_slice(b"  ")?;
-        write_diag(alloc, diag, &mut bytes)?;
+        write_diag(alloc, diag, bytes)?;
         bytes.push(b'\n')?;
     }
-    Ok(bytes)
+    Ok(())
 }
 
-/// The line of a unit with so many diagnostics.
-fn head(alloc: Global, file: &[u8], count: usize) -> Result<Vec<u8>, AllocError>
-    ensures { IfOk result (λ bytes. bytes.items ≡ with_line_end (codes "unit " ++ file.now ++ codes " " ++ decimal count)) }
+/// Appends the line of a unit with so many diagnostics.
+fn add_head(alloc: Global, file: &[u8], count: usize, bytes: &mut Vec<u8>) -> Result<(), AllocError>
+    ensures { OnOk result (bytes.new.items ≡ bytes.old.items ++ with_line_end (codes "unit " ++ file.now ++ codes " " ++ decimal count)) }
 {
     let number = count.to_string(alloc)?;
-    let mut bytes = Vec::from_slice(alloc, b"unit ")?;
+    bytes.extend_from_slice(b"unit ")?;
     bytes.extend_from_slice(file)?;
     bytes.extend_from_slice(b" ")?;
     bytes.extend_from_slice(number.as_bytes())?;
     bytes.push(b'\n')?;
-    Ok(bytes)
+    Ok(())
 }

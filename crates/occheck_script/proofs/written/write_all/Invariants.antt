@@ -1,5 +1,5 @@
 use Rattle.std.proofs.Common.{◌≡◌, length}
-use Rattle.occheck_script.proofs.Left.{Left}
+use Rattle.occheck_script.specs.inside.Going.{Left}
 use Rattle.occheck_script.proofs.written.write_all.Given as goal
 
 abbrev pub invariant-loop-rest : goal.invariant-loop-rest
