@@ -1,0 +1,6 @@
+pub mod Memory
+pub mod Runs
+pub mod Scopes
+pub mod Works
+pub mod Running
+pub mod Executions
