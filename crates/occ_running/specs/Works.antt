@@ -337,13 +337,14 @@ plan Idle f = None
 
 -- ---- the lines under a line
 
+abbrev pub behind_line : Option (List ScopeEntry) → List TypedLine → List Piece → List Piece
+behind_line (Some names) ls ps = ps
+behind_line None ls ps = (record { index = []; lines = ls }) ∷ ps
+
 -- the lines behind each main line
 abbrev pub items_behind : List TypedLine → List Piece
 items_behind [] = []
-items_behind (l ∷ ls) = one_if (out-TypedLine l).adds (items_behind ls) where
-  one_if : Option (List ScopeEntry) → List Piece → List Piece
-  one_if (Some entries) ps = ps
-  one_if None ps = (record { index = []; lines = ls }) ∷ ps
+items_behind (l ∷ ls) = behind_line (out-TypedLine l).adds ls (items_behind ls)
 
 -- each item; behind the last main line stands one without any
 abbrev pub items_of : List TypedLine → List Piece

@@ -14,7 +14,9 @@ use Rattle.occ_typing_rules.specs.declared.expr.Selector.{Selector, out-Selector
 use Rattle.occ_typing_rules.specs.declared.expr.Selector.TheOpen.{Selector-F, TypedExpr-F}
 use Rattle.occ_typing_rules.specs.declared.expr.TypedElement.{TypedElement, out-TypedElement}
 use Rattle.occ_typing_rules.specs.declared.expr.TypedExpr.{TypedExpr, out-TypedExpr}
+use Rattle.occ_typing_statements.specs.declared.replicator_tree.KnownReplicator.{KnownReplicator}
 use Rattle.occ_usage_lines.specs.Entering.{abbreviated, entry_bounds, export_bounds, exported_uses, interface_bounds, looked_at, named_at, one_line, retyped, retyped_value, specified, valued}
+use Rattle.occ_usage_conflicts.specs.Bodies.{body_uses}
 use Rattle.occ_usage_conflicts.specs.Components.{joined}
 use Rattle.occ_usage_parts.specs.declared.place.SelectedPart.{SelectedPart}
 use Rattle.occ_usage_values.specs.Bounds.{Env, place_of, size_of, value_of}
@@ -24,7 +26,7 @@ use Rattle.occ_usage_values.specs.declared.bound.Bound.{Bound}
 use Rattle.occ_usage_values.specs.declared.bound.Bound.TheVariants as b
 use Rattle.occ_usage_values.specs.declared.uses.Use.{Use}
 use Rattle.occ_usage.specs.Effect.{effect_under, is_body}
-use Rattle.occ_usage.specs.Lines.{added, added_by, body_over, components, entered, items_of}
+use Rattle.occ_usage.specs.Lines.{added, added_by, body_over, components, components_by, entered, items_of, known_replicator}
 use Rattle.occ_usage.specs.Trees.{Head, head_of, under}
 use Rattle.occ_running.specs.Memory.{ComponentOf, FieldOf, Recast, SegmentOf, Spot, Step, Thread}
 use Rattle.occ_running.specs.Running
@@ -32,7 +34,7 @@ use Rattle.occ_running.specs.Running.{Brings, Does, Gave, Outcome, Passed, Stopp
 use Rattle.occ_running.specs.Runs.{Quiet, Run}
 use Rattle.occ_running.specs.Scopes.{AreDeclared, Body, Clock, Element, Formal, Formula, Held, Other, Scope, Stored, Thing}
 use Rattle.occ_running.specs.Works.{Both, Call, Choice, Evaluate, ExprForm, Find, IsComponent, IsField, IsNumber, IsSegment, IsValue, Item, Main, Nothing, Pieces, Reach, Select, SelectorForm, Selects, Specify, Taken, Tells, Together, Under, Way, Work, bounds, count_in, count_value, evaluate, operands, or_else, value_in}
-use Rattle.occ_sound.specs.Agreeing.{Agrees, IsAt, Knows, LiesAt, Matches, one_more}
+use Rattle.occ_sound.specs.Agreeing.{Agrees, IsAt, Knows, LiesAt, Matches, one_more, uses_of_body}
 use Rattle.occ_sound.specs.Covering.{form_view}
 use Rattle.occ_sound.proofs.Forms.{element_opened, expr_form, layer, selector_form, selector_opened}
 use Rattle.occ_sound.proofs.Lists.{none_some, one_same, some_same}
@@ -162,7 +164,7 @@ selector_found d env (Selector-F.FromFor typed e f) (z ∷ w ∷ v ∷ xs) place
 
 -- ---- work
 
-abbrev raw_value : TypedElement → Env → Option Value
+abbrev pub raw_value : TypedElement → Env → Option Value
 raw_value el env = name_value (layer el).selectors (value_of (slice_get env (out-TypedElement el).referent.spec))
 
 abbrev pub FoundWith : Scope → ElementView → Option Value → Env → List Thing → Type 0
@@ -264,7 +266,7 @@ select_good env d s ss x y xs (Gave zs) a h g = λ place size value f.
 select_good env d s ss x y xs Passed a h g = tt
 
 -- the element that was found, as the rules know it
-found_one : (env : Env) (d : Scope) (el : TypedElement) (y : Thing) → Good env d (Find el) (y ∷ []) → FoundAs d ((element_view el).place env) ((element_view el).size env) (raw_value el env) y
+pub found_one : (env : Env) (d : Scope) (el : TypedElement) (y : Thing) → Good env d (Find el) (y ∷ []) → FoundAs d ((element_view el).place env) ((element_view el).size env) (raw_value el env) y
 found_one env d el y h = subst (λ (z : Thing). FoundAs d ((element_view el).place env) ((element_view el).size env) (raw_value el env) z) (sym (one_same y h.0 h.1)) h.2
 
 element_value : (env : Env) (el : TypedElement) (x : Option Value) → Tells (known_or (out-TypedElement el).known.value (raw_value el env)) x → Tells ((element_view el).value env) x
@@ -347,6 +349,12 @@ interfaces_agree n line [] env d a = agrees_same env d a
 interfaces_agree n line (i ∷ is) env d a =
     all_exported env d n line i.exports (interface_bounds (n + length i.exports) line is) (exports_of is) (λ e f h. interfaces_agree (n + length i.exports) line is e f h) a
 
+-- under a head the lines stand as they are
+head_uses : (env : Env) (l : TypedLine) (f : TypedForm) → (out-TypedLine l).form ≡ f → known_replicator f ≡ None
+    → body_uses (length env) (length env + length (head_of l).enters) (head_of l).place (joined (components env (head_of l) (items_of (under l)))) ≡ uses_of_body env l
+head_uses env l f is none =
+    ap (λ (o : Option KnownReplicator). body_uses (length env) (length env + length (head_of l).enters) (head_of l).place (joined (components_by o env (head_of l) (items_of (under l))))) (ap known_replicator is ∙ none)
+
 -- a line of specification, of this form
 abbrev Brought : Env → Scope → TypedLine → List ScopeEntry → TypedForm → List Thing → Type 0
 Brought env d l names f ys =
@@ -364,43 +372,43 @@ recast_brought env d el line at n layout apart xs ys a h k g =
 value_matches : (env : Env) (d : Scope) (e : TypedExpr) (line : Location) (x : Option Value) (n : Option ℤ) → Tells ((form_view (out-TypedExpr e)).value env) x → Tells ((form_view (out-TypedExpr e)).size env) n → Matches env d (valued e env line) (Held x n)
 value_matches env d e line x n h k = (subst (λ (w : ExprView). Tells (w.value env) x) (sym (expr_form e)) h, subst (λ (w : ExprView). Tells (w.size env) n) (sym (expr_form e)) k)
 
-brought : (env : Env) (d : Scope) (t : Thread) (l : TypedLine) (names : List ScopeEntry) (f : TypedForm) (xs ys : List Thing) → Agrees env d → Good env d (specifying f) xs → Brings t l names f xs ys → Brought env d l names f ys
-brought env d t l names (form.Abbreviation el) xs ys a g h =
+brought : (env : Env) (d : Scope) (t : Thread) (l : TypedLine) (names : List ScopeEntry) (f : TypedForm) (xs ys : List Thing) → (out-TypedLine l).form ≡ f → Agrees env d → Good env d (specifying f) xs → Brings t l names f xs ys → Brought env d l names f ys
+brought env d t l names (form.Abbreviation el) xs ys is a g h =
     same_brought env d (abbreviated el env (head_of l).place) xs ys g.0 a h g.1 (abbreviation_matches env d el (head_of l).place g.0 g.2)
-brought env d t l names (form.Retyped el) xs ys a g h = recast_brought env d el (head_of l).place h.0 h.1 h.2 h.3 xs ys a h.4 h.5 g
-brought env d t l names (form.Value e) xs ys a g h = same_brought env d (valued e env (head_of l).place) xs ys (Held g.0 g.1) a h g.2 (value_matches env d e (head_of l).place g.0 g.1 g.3 g.4)
-brought env d t l names (form.RetypedValue e) xs ys a g h = one_agrees env d (retyped_value e env (head_of l).place) (Held h.0 None) ys a (tt, tt) h.1
-brought env d t l names (form.OneLineFunction formals results) xs ys a g h = one_agrees env d (one_line formals results env (head_of l).place) (Formula formals results) ys a ((head_of l).place, refl) h
-brought env d t l names (form.Uses interfaces) xs ys a g h = subst (λ (zs : List Thing). Agrees (env ++ interface_bounds (length env) (head_of l).place interfaces) (d ++ zs)) (sym h) (interfaces_agree (length env) (head_of l).place interfaces env d a)
-brought env d t l names form.ProcedureHead xs ys a g h =
-    one_agrees env d (body_over env (head_of l) (joined (components env (head_of l) (items_of (under l)))) (effect_under (under l) env (head_of l))) (Body l) ys a refl h
-brought env d t l names form.FunctionHead xs ys a g h =
-    one_agrees env d (body_over env (head_of l) (joined (components env (head_of l) (items_of (under l)))) (effect_under (under l) env (head_of l))) (Body l) ys a refl h
-brought env d t l names form.Declaration xs ys a g h = declared_agree env d t names ys a h
-brought env d t l names form.DataType xs ys a g h = declared_agree env d t names ys a h
-brought env d t l names form.Protocol xs ys a g h = declared_agree env d t names ys a h
-brought env d t l names form.RecordHead xs ys a g h = declared_agree env d t names ys a h
-brought env d t l names form.ProtocolHead xs ys a g h = declared_agree env d t names ys a h
-brought env d t l names form.Member xs ys a g h = declared_agree env d t names ys a h
-brought env d t l names form.Close xs ys a g h = declared_agree env d t names ys a h
-brought env d t l names form.Skip xs ys a g h = declared_agree env d t names ys a h
-brought env d t l names form.Stop xs ys a g h = declared_agree env d t names ys a h
-brought env d t l names form.Otherwise xs ys a g h = declared_agree env d t names ys a h
-brought env d t l names form.ValueOf xs ys a g h = declared_agree env d t names ys a h
-brought env d t l names form.Unknown xs ys a g h = declared_agree env d t names ys a h
-brought env d t l names (form.Assignment els es) xs ys a g h = declared_agree env d t names ys a h
-brought env d t l names (form.Output el os) xs ys a g h = declared_agree env d t names ys a h
-brought env d t l names (form.Input i) xs ys a g h = declared_agree env d t names ys a h
-brought env d t l names (form.Instance callee actuals) xs ys a g h = declared_agree env d t names ys a h
-brought env d t l names (form.Block k r) xs ys a g h = declared_agree env d t names ys a h
-brought env d t l names (form.While e) xs ys a g h = declared_agree env d t names ys a h
-brought env d t l names (form.Selection e) xs ys a g h = declared_agree env d t names ys a h
-brought env d t l names (form.CaseInput el) xs ys a g h = declared_agree env d t names ys a h
-brought env d t l names (form.Condition e) xs ys a g h = declared_agree env d t names ys a h
-brought env d t l names (form.Options es) xs ys a g h = declared_agree env d t names ys a h
-brought env d t l names (form.Guard e g2) xs ys a g h = declared_agree env d t names ys a h
-brought env d t l names (form.Variant place tag ts) xs ys a g h = declared_agree env d t names ys a h
-brought env d t l names (form.Results es) xs ys a g h = declared_agree env d t names ys a h
+brought env d t l names (form.Retyped el) xs ys is a g h = recast_brought env d el (head_of l).place h.0 h.1 h.2 h.3 xs ys a h.4 h.5 g
+brought env d t l names (form.Value e) xs ys is a g h = same_brought env d (valued e env (head_of l).place) xs ys (Held g.0 g.1) a h g.2 (value_matches env d e (head_of l).place g.0 g.1 g.3 g.4)
+brought env d t l names (form.RetypedValue e) xs ys is a g h = one_agrees env d (retyped_value e env (head_of l).place) (Held h.0 None) ys a (tt, tt) h.1
+brought env d t l names (form.OneLineFunction formals results) xs ys is a g h = one_agrees env d (one_line formals results env (head_of l).place) (Formula formals results) ys a ((head_of l).place, refl) h
+brought env d t l names (form.Uses interfaces) xs ys is a g h = subst (λ (zs : List Thing). Agrees (env ++ interface_bounds (length env) (head_of l).place interfaces) (d ++ zs)) (sym h) (interfaces_agree (length env) (head_of l).place interfaces env d a)
+brought env d t l names form.ProcedureHead xs ys is a g h =
+    one_agrees env d (body_over env (head_of l) (joined (components env (head_of l) (items_of (under l)))) (effect_under (under l) env (head_of l))) (Body l) ys a (head_uses env l form.ProcedureHead is refl) h
+brought env d t l names form.FunctionHead xs ys is a g h =
+    one_agrees env d (body_over env (head_of l) (joined (components env (head_of l) (items_of (under l)))) (effect_under (under l) env (head_of l))) (Body l) ys a (head_uses env l form.FunctionHead is refl) h
+brought env d t l names form.Declaration xs ys is a g h = declared_agree env d t names ys a h
+brought env d t l names form.DataType xs ys is a g h = declared_agree env d t names ys a h
+brought env d t l names form.Protocol xs ys is a g h = declared_agree env d t names ys a h
+brought env d t l names form.RecordHead xs ys is a g h = declared_agree env d t names ys a h
+brought env d t l names form.ProtocolHead xs ys is a g h = declared_agree env d t names ys a h
+brought env d t l names form.Member xs ys is a g h = declared_agree env d t names ys a h
+brought env d t l names form.Close xs ys is a g h = declared_agree env d t names ys a h
+brought env d t l names form.Skip xs ys is a g h = declared_agree env d t names ys a h
+brought env d t l names form.Stop xs ys is a g h = declared_agree env d t names ys a h
+brought env d t l names form.Otherwise xs ys is a g h = declared_agree env d t names ys a h
+brought env d t l names form.ValueOf xs ys is a g h = declared_agree env d t names ys a h
+brought env d t l names form.Unknown xs ys is a g h = declared_agree env d t names ys a h
+brought env d t l names (form.Assignment els es) xs ys is a g h = declared_agree env d t names ys a h
+brought env d t l names (form.Output el os) xs ys is a g h = declared_agree env d t names ys a h
+brought env d t l names (form.Input i) xs ys is a g h = declared_agree env d t names ys a h
+brought env d t l names (form.Instance callee actuals) xs ys is a g h = declared_agree env d t names ys a h
+brought env d t l names (form.Block k r) xs ys is a g h = declared_agree env d t names ys a h
+brought env d t l names (form.While e) xs ys is a g h = declared_agree env d t names ys a h
+brought env d t l names (form.Selection e) xs ys is a g h = declared_agree env d t names ys a h
+brought env d t l names (form.CaseInput el) xs ys is a g h = declared_agree env d t names ys a h
+brought env d t l names (form.Condition e) xs ys is a g h = declared_agree env d t names ys a h
+brought env d t l names (form.Options es) xs ys is a g h = declared_agree env d t names ys a h
+brought env d t l names (form.Guard e g2) xs ys is a g h = declared_agree env d t names ys a h
+brought env d t l names (form.Variant place tag ts) xs ys is a g h = declared_agree env d t names ys a h
+brought env d t l names (form.Results es) xs ys is a g h = declared_agree env d t names ys a h
 
 added_names : (env : Env) (d : Scope) (l : TypedLine) (names : List ScopeEntry) (ys : List Thing) → (out-TypedLine l).adds ≡ Some names → Brought env d l names (out-TypedLine l).form ys → Good env d (Specify l) ys
 added_names env d l names ys h k =
@@ -440,7 +448,7 @@ good _ _ _ _ _ (Running.calls d t n xs l r s ys o h x suits y) env a = call_good
 good _ _ _ _ _ (Running.calls_formula d t n xs formals results r s ys o h x suits y) env a = call_good env d n xs (of_process o)
 good _ _ _ _ _ (Running.actual_stops d t n xs r x) env a = tt
 good _ _ _ _ _ (Running.specifies d t l names r xs ys h x brings) env a =
-    added_names env d l names ys h (brought env d t l names (out-TypedLine l).form xs ys a (good d t (specifying (out-TypedLine l).form) r (Gave xs) x env a) brings)
+    added_names env d l names ys h (brought env d t l names (out-TypedLine l).form xs ys refl a (good d t (specifying (out-TypedLine l).form) r (Gave xs) x env a) brings)
 good _ _ _ _ _ (Running.specifying_stops d t l r x) env a = tt
 good _ _ _ _ _ (Running.main d t way next l w r s xs o h x y) env a = main_good env d way l (ended way o)
 good _ _ _ _ _ (Running.main_stops d t way next l w r h x) env a = tt

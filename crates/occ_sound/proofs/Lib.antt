@@ -6,3 +6,8 @@ mod Clocks
 mod Names
 mod Values
 mod Knowing
+mod Touching
+mod Calls
+mod Lines
+mod Items
+mod Covers

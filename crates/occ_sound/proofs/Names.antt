@@ -89,7 +89,7 @@ FoundAs d place size value Other = ⊥
 abbrev pub Kept : Scope → Scope → Type 0
 Kept d e = (m : ℕ) (z : Thing) → slice_get d m ≡ Some z → slice_get e m ≡ Some z
 
-some_origin : (d e : Scope) (n : ℕ) (c : Spot) (x : Option Thing) → slice_get d n ≡ x → ((z : Thing) → slice_get d n ≡ Some z → slice_get e n ≡ Some z) → origin n x ≡ Some c → origin n (slice_get e n) ≡ Some c
+pub some_origin : (d e : Scope) (n : ℕ) (c : Spot) (x : Option Thing) → slice_get d n ≡ x → ((z : Thing) → slice_get d n ≡ Some z → slice_get e n ≡ Some z) → origin n x ≡ Some c → origin n (slice_get e n) ≡ Some c
 some_origin d e n c None h kept i = cc
 some_origin d e n c (Some x) h kept i = ap (origin n) (kept x h) ∙ i
 

@@ -18,7 +18,8 @@ use Rattle.occ_usage_values.specs.Bounds.{Env}
 use Rattle.occ_usage_values.specs.declared.bound.Bound.{Bound}
 use Rattle.occ_usage_values.specs.declared.bound.Bound.TheVariants as b
 use Rattle.occ_usage_values.specs.declared.uses.Use.{Use}
-use Rattle.occ_usage.specs.Lines.{components, items_of}
+use Rattle.occ_usage.specs.Effect.{inner}
+use Rattle.occ_usage.specs.Lines.{items_of}
 use Rattle.occ_usage.specs.Trees.{head_of, under}
 use Rattle.occ_running.specs.Memory.{At, Cell, IsOneOf, Reaches, Spot, Step, Thread, To, Variable}
 use Rattle.occ_running.specs.Runs.{Event}
@@ -111,7 +112,7 @@ IsAt d (Some p) at = LiesAt d p at
 
 -- what the rules know of the body of a PROC or a FUNCTION: its uses
 abbrev pub uses_of_body : Env → TypedLine → List Use
-uses_of_body env l = body_uses (length env) (length env + length (head_of l).enters) (head_of l).place (joined (components env (head_of l) (items_of (under l))))
+uses_of_body env l = body_uses (length env) (length env + length (head_of l).enters) (head_of l).place (joined (items_of (under l) (inner env (head_of l))))
 
 abbrev pub Matches : Env → Scope → Bound → Thing → Type 0
 Matches env d (b.Value v size reads) (Held x n) = Tells v x × Tells size n

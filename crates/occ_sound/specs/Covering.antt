@@ -86,5 +86,7 @@ pub record ByOne (way : Way) (d : Scope) (t : Thread) (k : ℕ) (comps : List (L
 
 -- the event lies in one of the uses of what is run
 abbrev pub CoveredWork : Work → Env → Scope → Thread → Event → Type 0
+CoveredWork Nothing env d t e = ⊥
+CoveredWork (Both w u) env d t e = CoveredWork w env d t e ⊎ CoveredWork u env d t e
 CoveredWork (Pieces way k ps) env d t e = (comps : List (List Use)) → Allows env ps comps → ByOne way d t k comps e
 CoveredWork w env d t e = (line : Location) → Covered d t (work_uses w env line) e

@@ -3,4 +3,4 @@
 
 mod laws;
 
-pub use laws::places_law;
+pub use laws::{places_law, uses_law};
