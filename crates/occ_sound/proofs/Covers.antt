@@ -40,7 +40,7 @@ use Rattle.occ_usage_values.specs.declared.uses.Use.{Use}
 use Rattle.occ_usage.specs.Effect.{inner, is_body}
 use Rattle.occ_usage.specs.Lines.{added, components, components_by, items_of, known_replicator, rounds_to, line_uses}
 use Rattle.occ_usage.specs.Trees.{head_of, trees_of, under}
-use Rattle.occ_running.specs.Memory.{Cell, Has, InCall, InComponent, IsOneOf, Reaches, Spot, Step, Thread, Variable}
+use Rattle.occ_running.specs.Memory.{Cell, Has, InCall, InComponent, IsOneOf, Reaches, Recast, Spot, Step, Thread, Variable}
 use Rattle.occ_running.specs.Running
 use Rattle.occ_running.specs.Running.{Brings, Does, EndsThere, Gave, GoesOn, Outcome, Passed, Stopped, at_end, both_ended, ended, exported, exports_of, of_process, specifying}
 use Rattle.occ_running.specs.Runs.{Event, Occurs, Run}
@@ -77,7 +77,7 @@ covered_less d t more us e (inr h) = inr h
 
 -- what begins here lies in these components and calls
 abbrev pub IsHere : Thread → Thing → Type 0
-IsHere t x = (n : ℕ) (at : Spot) (steps : List Step) (c : Cell) → origin n (Some x) ≡ Some at → Reaches at steps c → Extends t c.thread
+IsHere t x = (n : ℕ) (at : Spot) → origin n (Some x) ≡ Some at → at ≡ Variable n t
 
 abbrev pub AreHere : Thread → List Thing → Type 0
 AreHere t xs = (x : Thing) → IsOneOf xs x → IsHere t x
@@ -87,8 +87,8 @@ variable_here t n at steps c h r =
     let reached : c ≡ record { root = n; thread = t; steps = steps } = subst (λ (z : Spot). Reaches z steps c) (sym h) r in
     subst (λ (z : Cell). Extends t z.thread) (sym reached) (extends_itself t)
 
-stored_here : (t : Thread) → IsHere t (Stored t)
-stored_here t n at steps c h r = variable_here t n at steps c (some_same (Variable n t) at h) r
+pub stored_here : (t : Thread) → IsHere t (Stored t)
+stored_here t n at h = sym (some_same (Variable n t) at h)
 
 -- in a scope with more: what lay in the part before, or what begins with one of them
 pub part_cases : (d : Scope) (xs : List Thing) (p : Part) (c : Cell) → InPart (d ++ xs) p c
@@ -104,19 +104,19 @@ pub narrowed : (d : Scope) (t : Thread) (us : List Use) (e : Event) (xs : List T
 narrowed d t us e xs here (inl h) = inl h
 narrowed d t us e xs here (inr h) = elim (part_cases d xs h.u.part e.cell h.cell) [
   | inl before ↦ inr (record { u = h.u; among = h.among; kind = h.kind; cell = before })
-  | inr last ↦ inl (here last.1 (got_in xs last.0 last.1 last.3) h.u.part.root last.4 last.6 e.cell last.5 last.7)
+  | inr last ↦ inl (variable_here t h.u.part.root last.4 last.6 e.cell (sym (here last.1 (got_in xs last.0 last.1 last.3) h.u.part.root last.4 last.5)) last.7)
 ]
 
 -- ---- what is brought begins here
 
 declared_by_here : (t : Thread) (a : Access) (of : OccType) (x : Thing) → IsDeclaredBy t a of x → IsHere t x
-declared_by_here t access.Variable of x (inl h) = subst (λ (z : Thing). IsHere t z) (sym h.1) (λ n at steps c e r. none_some at e)
+declared_by_here t access.Variable of x (inl h) = subst (λ (z : Thing). IsHere t z) (sym h.1) (λ n at e. none_some at e)
 declared_by_here t access.Variable of x (inr h) = subst (λ (z : Thing). IsHere t z) (sym h.1) (stored_here t)
-declared_by_here t access.Formal of x h = subst (λ (z : Thing). IsHere t z) (sym h) (λ n at steps c e r. none_some at e)
-declared_by_here t access.Value of x h = subst (λ (z : Thing). IsHere t z) (sym h) (λ n at steps c e r. none_some at e)
+declared_by_here t access.Formal of x h = subst (λ (z : Thing). IsHere t z) (sym h) (λ n at e. none_some at e)
+declared_by_here t access.Value of x h = subst (λ (z : Thing). IsHere t z) (sym h) (λ n at e. none_some at e)
 
 other_here : (t : Thread) (x : Thing) → x ≡ Other → IsHere t x
-other_here t x h = subst (λ (z : Thing). IsHere t z) (sym h) (λ n at steps c e r. none_some at e)
+other_here t x h = subst (λ (z : Thing). IsHere t z) (sym h) (λ n at e. none_some at e)
 
 declared_here : (t : Thread) (m : Meaning) (x : Thing) → IsDeclared t m x → IsHere t x
 declared_here t (meaning.Element w) x h = declared_by_here t w.access w.of x h
@@ -140,9 +140,9 @@ one_here t x ys h here = subst (λ (zs : List Thing). AreHere t zs) (sym h) sing
   single z (inr e) = absurd e
 
 found_here : (d : Scope) (t : Thread) (place : Option SelectedPart) (size : Option ℤ) (value : Option Value) (x : Thing) → FoundAs d place size value x → IsHere t x
-found_here d t place size value (Element el n) h = λ m at steps c e r. none_some at e
-found_here d t place size value (Held w n) h = λ m at steps c e r. none_some at e
-found_here d t place size value (Clock n) h = λ m at steps c e r. none_some at e
+found_here d t place size value (Element el n) h = λ m at e. none_some at e
+found_here d t place size value (Held w n) h = λ m at e. none_some at e
+found_here d t place size value (Clock n) h = λ m at e. none_some at e
 found_here d t place size value (Stored u) h = absurd h
 found_here d t place size value (Formal el) h = absurd h
 found_here d t place size value (Body l) h = absurd h
@@ -162,8 +162,8 @@ pub brought_here : (env : Env) (d : Scope) (t : Thread) (l : TypedLine) (names :
 brought_here env d t l names form.Declaration xs ys g h = all_declared_here t names ys h
 brought_here env d t l names form.DataType xs ys g h = all_declared_here t names ys h
 brought_here env d t l names form.Protocol xs ys g h = all_declared_here t names ys h
-brought_here env d t l names form.ProcedureHead xs ys g h = one_here t (Body l) ys h (λ n at steps c e r. none_some at e)
-brought_here env d t l names form.FunctionHead xs ys g h = one_here t (Body l) ys h (λ n at steps c e r. none_some at e)
+brought_here env d t l names form.ProcedureHead xs ys g h = one_here t (Body l) ys h (λ n at e. none_some at e)
+brought_here env d t l names form.FunctionHead xs ys g h = one_here t (Body l) ys h (λ n at e. none_some at e)
 brought_here env d t l names form.RecordHead xs ys g h = all_declared_here t names ys h
 brought_here env d t l names form.ProtocolHead xs ys g h = all_declared_here t names ys h
 brought_here env d t l names form.Member xs ys g h = all_declared_here t names ys h
@@ -174,10 +174,10 @@ brought_here env d t l names form.Otherwise xs ys g h = all_declared_here t name
 brought_here env d t l names form.ValueOf xs ys g h = all_declared_here t names ys h
 brought_here env d t l names form.Unknown xs ys g h = all_declared_here t names ys h
 brought_here env d t l names (form.Abbreviation el) xs ys g h = one_here t g.0 ys (h ∙ g.1) (found_here d t ((element_view el).place env) ((element_view el).size env) (raw_value el env) g.0 g.2)
-brought_here env d t l names (form.Retyped el) xs ys g h = one_here t _ ys h.5 (λ n at steps c e r. none_some at e)
-brought_here env d t l names (form.Value e) xs ys g h = one_here t (Held g.0 g.1) ys (h ∙ g.2) (λ n at steps c q r. none_some at q)
-brought_here env d t l names (form.RetypedValue e) xs ys g h = one_here t (Held h.0 None) ys h.1 (λ n at steps c q r. none_some at q)
-brought_here env d t l names (form.OneLineFunction formals results) xs ys g h = one_here t (Formula formals results) ys h (λ n at steps c e r. none_some at e)
+brought_here env d t l names (form.Retyped el) xs ys g h = one_here t _ ys h.5 (λ n at e. none_some at e)
+brought_here env d t l names (form.Value e) xs ys g h = one_here t (Held g.0 g.1) ys (h ∙ g.2) (λ n at q. none_some at q)
+brought_here env d t l names (form.RetypedValue e) xs ys g h = one_here t (Held h.0 None) ys h.1 (λ n at q. none_some at q)
+brought_here env d t l names (form.OneLineFunction formals results) xs ys g h = one_here t (Formula formals results) ys h (λ n at e. none_some at e)
 brought_here env d t l names (form.Uses interfaces) xs ys g h = subst (λ (zs : List Thing). AreHere t zs) (sym h) (exports_here t interfaces)
 brought_here env d t l names (form.Assignment els es) xs ys g h = all_declared_here t names ys h
 brought_here env d t l names (form.Output el os) xs ys g h = all_declared_here t names ys h
@@ -193,9 +193,107 @@ brought_here env d t l names (form.Guard e g2) xs ys g h = all_declared_here t n
 brought_here env d t l names (form.Variant place tag ts) xs ys g h = all_declared_here t names ys h
 brought_here env d t l names (form.Results es) xs ys g h = all_declared_here t names ys h
 
+-- ---- bodies among what is brought
+
+abbrev pub IsBrought : TypedLine → ℕ → Thing → Type 0
+IsBrought l i (Body m) = (i ≡ 0) × (m ≡ l) × (((out-TypedLine l).form ≡ form.ProcedureHead) ⊎ ((out-TypedLine l).form ≡ form.FunctionHead))
+IsBrought l i (Formula fs rs) = (i ≡ 0) × ((out-TypedLine l).form ≡ form.OneLineFunction fs rs)
+IsBrought l i _ = Unit {0}
+
+abbrev pub BroughtBodies : TypedLine → List Thing → Type 0
+BroughtBodies l xs = (i : ℕ) (z : Thing) → slice_get xs i ≡ Some z → IsBrought l i z
+
+single_brought : (l : TypedLine) (x : Thing) → IsBrought l 0 x → BroughtBodies l (x ∷ [])
+single_brought l x h zero z e = subst (λ (y : Thing). IsBrought l 0 y) (some_same x z e) h
+single_brought l x h (suc i) z e = absurd (nothing_there e) where
+  nothing_there : None ≡ Some z → ⊥
+  nothing_there k = cc
+
+one_brought : (l : TypedLine) (x : Thing) (ys : List Thing) → ys ≡ x ∷ [] → IsBrought l 0 x → BroughtBodies l ys
+one_brought l x ys h k = subst (λ (zs : List Thing). BroughtBodies l zs) (sym h) (single_brought l x k)
+
+found_brought : (d : Scope) (l : TypedLine) (place : Option SelectedPart) (size : Option ℤ) (value : Option Value) (x : Thing) → FoundAs d place size value x → IsBrought l 0 x
+found_brought d l place size value (Element el n) h = tt
+found_brought d l place size value (Held w n) h = tt
+found_brought d l place size value (Clock n) h = tt
+found_brought d l place size value (Stored u) h = absurd h
+found_brought d l place size value (Formal el) h = absurd h
+found_brought d l place size value (Body m) h = absurd h
+found_brought d l place size value (Formula fs rs) h = absurd h
+found_brought d l place size value Other h = absurd h
+
+declared_by_brought : (l : TypedLine) (i : ℕ) (t : Thread) (a : Access) (of : OccType) (x : Thing) → IsDeclaredBy t a of x → IsBrought l i x
+declared_by_brought l i t access.Variable of x (inl h) = subst (λ (z : Thing). IsBrought l i z) (sym h.1) tt
+declared_by_brought l i t access.Variable of x (inr h) = subst (λ (z : Thing). IsBrought l i z) (sym h.1) tt
+declared_by_brought l i t access.Formal of x h = subst (λ (z : Thing). IsBrought l i z) (sym h) tt
+declared_by_brought l i t access.Value of x h = subst (λ (z : Thing). IsBrought l i z) (sym h) tt
+
+other_brought : (l : TypedLine) (i : ℕ) (x : Thing) → x ≡ Other → IsBrought l i x
+other_brought l i x h = subst (λ (z : Thing). IsBrought l i z) (sym h) tt
+
+declared_brought : (l : TypedLine) (i : ℕ) (t : Thread) (m : Meaning) (x : Thing) → IsDeclared t m x → IsBrought l i x
+declared_brought l i t (meaning.Element w) x h = declared_by_brought l i t w.access w.of x h
+declared_brought l i t (meaning.Procedure formals) x h = other_brought l i x h
+declared_brought l i t (meaning.Function formals results) x h = other_brought l i x h
+declared_brought l i t meaning.Faulty x h = other_brought l i x h
+declared_brought l i t (meaning.Type of) x h = other_brought l i x h
+declared_brought l i t (meaning.Protocol protocol) x h = other_brought l i x h
+
+all_declared_brought : (l : TypedLine) (t : Thread) (es : List ScopeEntry) (xs : List Thing) → AreDeclared t es xs → (i k : ℕ) (z : Thing) → slice_get xs i ≡ Some z → IsBrought l k z
+all_declared_brought l t [] [] h i k z e = none_some z e
+all_declared_brought l t [] (y ∷ xs) h i k z e = absurd h
+all_declared_brought l t (f ∷ es) [] h i k z e = absurd h
+all_declared_brought l t (f ∷ es) (y ∷ xs) h zero k z e = subst (λ (w : Thing). IsBrought l k w) (some_same y z e) (declared_brought l k t f.meaning y h.0)
+all_declared_brought l t (f ∷ es) (y ∷ xs) h (suc i) k z e = all_declared_brought l t es xs h.1 i k z e
+
+exported_brought : (l : TypedLine) (is : List Interface) → BroughtBodies l (exports_of is)
+exported_brought l is i z h = other_brought l i z (all_other is i z h) where
+  among : (xs : List Export) (ys : List Thing) (j : ℕ) → ((k : ℕ) → slice_get ys k ≡ Some z → z ≡ Other) → slice_get (exported xs ++ ys) j ≡ Some z → z ≡ Other
+  among [] ys j k e = k j e
+  among (x ∷ xs) ys zero k e = sym (some_same Other z e)
+  among (x ∷ xs) ys (suc j) k e = among xs ys j k e
+  all_other : (js : List Interface) (j : ℕ) (y : Thing) → slice_get (exports_of js) j ≡ Some z → z ≡ Other
+  all_other [] j y e = none_some z e
+  all_other (x ∷ js) j y e = among x.exports (exports_of js) j (λ k f. all_other js k y f) e
+
+brought_bodies : (env : Env) (d : Scope) (t : Thread) (l : TypedLine) (names : List ScopeEntry) (f : TypedForm) (xs ys : List Thing) → (out-TypedLine l).form ≡ f → Good env d (specifying f) xs → Brings t l names f xs ys → BroughtBodies l ys
+brought_bodies env d t l names form.Declaration xs ys is g h = λ i z e. all_declared_brought l t names ys h i i z e
+brought_bodies env d t l names form.DataType xs ys is g h = λ i z e. all_declared_brought l t names ys h i i z e
+brought_bodies env d t l names form.Protocol xs ys is g h = λ i z e. all_declared_brought l t names ys h i i z e
+brought_bodies env d t l names form.ProcedureHead xs ys is g h = one_brought l (Body l) ys h (refl, refl, inl is)
+brought_bodies env d t l names form.FunctionHead xs ys is g h = one_brought l (Body l) ys h (refl, refl, inr is)
+brought_bodies env d t l names form.RecordHead xs ys is g h = λ i z e. all_declared_brought l t names ys h i i z e
+brought_bodies env d t l names form.ProtocolHead xs ys is g h = λ i z e. all_declared_brought l t names ys h i i z e
+brought_bodies env d t l names form.Member xs ys is g h = λ i z e. all_declared_brought l t names ys h i i z e
+brought_bodies env d t l names form.Close xs ys is g h = λ i z e. all_declared_brought l t names ys h i i z e
+brought_bodies env d t l names form.Skip xs ys is g h = λ i z e. all_declared_brought l t names ys h i i z e
+brought_bodies env d t l names form.Stop xs ys is g h = λ i z e. all_declared_brought l t names ys h i i z e
+brought_bodies env d t l names form.Otherwise xs ys is g h = λ i z e. all_declared_brought l t names ys h i i z e
+brought_bodies env d t l names form.ValueOf xs ys is g h = λ i z e. all_declared_brought l t names ys h i i z e
+brought_bodies env d t l names form.Unknown xs ys is g h = λ i z e. all_declared_brought l t names ys h i i z e
+brought_bodies env d t l names (form.Abbreviation el) xs ys is g h = one_brought l g.0 ys (h ∙ g.1) (found_brought d l ((element_view el).place env) ((element_view el).size env) (raw_value el env) g.0 g.2)
+brought_bodies env d t l names (form.Retyped el) xs ys is g h = one_brought l (Element (Recast h.0 h.2 h.3) None) ys h.5 tt
+brought_bodies env d t l names (form.Value e) xs ys is g h = one_brought l (Held g.0 g.1) ys (h ∙ g.2) tt
+brought_bodies env d t l names (form.RetypedValue e) xs ys is g h = one_brought l (Held h.0 None) ys h.1 tt
+brought_bodies env d t l names (form.OneLineFunction formals results) xs ys is g h = one_brought l (Formula formals results) ys h (refl, is)
+brought_bodies env d t l names (form.Uses interfaces) xs ys is g h = subst (λ (zs : List Thing). BroughtBodies l zs) (sym h) (exported_brought l interfaces)
+brought_bodies env d t l names (form.Assignment els es) xs ys is g h = λ i z e. all_declared_brought l t names ys h i i z e
+brought_bodies env d t l names (form.Output el os) xs ys is g h = λ i z e. all_declared_brought l t names ys h i i z e
+brought_bodies env d t l names (form.Input i) xs ys is g h = λ i z e. all_declared_brought l t names ys h i i z e
+brought_bodies env d t l names (form.Instance callee actuals) xs ys is g h = λ i z e. all_declared_brought l t names ys h i i z e
+brought_bodies env d t l names (form.Block k r) xs ys is g h = λ i z e. all_declared_brought l t names ys h i i z e
+brought_bodies env d t l names (form.While e) xs ys is g h = λ i z e. all_declared_brought l t names ys h i i z e
+brought_bodies env d t l names (form.Selection e) xs ys is g h = λ i z e. all_declared_brought l t names ys h i i z e
+brought_bodies env d t l names (form.CaseInput el) xs ys is g h = λ i z e. all_declared_brought l t names ys h i i z e
+brought_bodies env d t l names (form.Condition e) xs ys is g h = λ i z e. all_declared_brought l t names ys h i i z e
+brought_bodies env d t l names (form.Options es) xs ys is g h = λ i z e. all_declared_brought l t names ys h i i z e
+brought_bodies env d t l names (form.Guard e g2) xs ys is g h = λ i z e. all_declared_brought l t names ys h i i z e
+brought_bodies env d t l names (form.Variant place tag ts) xs ys is g h = λ i z e. all_declared_brought l t names ys h i i z e
+brought_bodies env d t l names (form.Results es) xs ys is g h = λ i z e. all_declared_brought l t names ys h i i z e
+
 -- what comes of a line of specification begins here
 abbrev HereIf : Thread → Work → Outcome → Type 0
-HereIf t (Specify l) (Gave xs) = AreHere t xs
+HereIf t (Specify l) (Gave xs) = AreHere t xs × BroughtBodies l xs
 HereIf t w o = Unit {0}
 
 stopped_here : (t : Thread) (w : Work) → HereIf t w Stopped
@@ -216,7 +314,8 @@ here_if : (d : Scope) (t : Thread) (w : Work) (r : Run) (o : Outcome) → Does d
 here_if _ _ _ _ _ (Running.stops_before d t w) env a = stopped_here t w
 here_if _ _ _ _ _ (Running.stops_after d t w r o y) env a = stopped_here t w
 here_if _ _ _ _ _ (Running.specifies d t l names r xs ys h x brings) env a =
-    brought_here env d t l names (out-TypedLine l).form xs ys (good d t (specifying (out-TypedLine l).form) r (Gave xs) x env a) brings
+    let g = good d t (specifying (out-TypedLine l).form) r (Gave xs) x env a in
+    (brought_here env d t l names (out-TypedLine l).form xs ys g brings, brought_bodies env d t l names (out-TypedLine l).form xs ys refl g brings)
 here_if _ _ _ _ _ (Running.nothing d t) env a = tt
 here_if _ _ _ _ _ (Running.both d t w u r s xs ys x y) env a = tt
 here_if _ _ _ _ _ (Running.first_stops d t w u r x) env a = tt
@@ -265,11 +364,14 @@ here_if _ _ _ _ _ (Running.not_taken d t k p ps r o x) env a = tt
 here_if _ _ _ _ _ (Running.beside d t k p ps r s o q x y) env a = tt
 
 pub specified_here : (d : Scope) (t : Thread) (l : TypedLine) (r : Run) (xs : List Thing) → Does d t (Specify l) r (Gave xs) → (env : Env) → Agrees env d → AreHere t xs
-specified_here d t l r xs x env a = here_if d t (Specify l) r (Gave xs) x env a
+specified_here d t l r xs x env a = (here_if d t (Specify l) r (Gave xs) x env a).0
+
+pub specified_bodies : (d : Scope) (t : Thread) (l : TypedLine) (r : Run) (xs : List Thing) → Does d t (Specify l) r (Gave xs) → (env : Env) → Agrees env d → BroughtBodies l xs
+specified_bodies d t l r xs x env a = (here_if d t (Specify l) r (Gave xs) x env a).1
 
 -- ---- indices
 
-indices_here : (t : Thread) (bs : List Bound) (xs : List Thing) → AreIndices bs xs → AreHere t xs
+pub indices_here : (t : Thread) (bs : List Bound) (xs : List Thing) → AreIndices bs xs → AreHere t xs
 indices_here t [] [] h x i = absurd i
 indices_here t [] (y ∷ xs) h x i = absurd h
 indices_here t (bound ∷ bs) [] h x i = absurd (none_left bound h) where
@@ -279,7 +381,7 @@ indices_here t (bound ∷ bs) [] h x i = absurd (none_left bound h) where
   none_left (b.Abbreviation p size reads) k = k
   none_left (b.Body us does) k = k
   none_left b.Other k = k
-indices_here t (b.Value w size reads ∷ bs) (Held y n ∷ xs) h x (inl i) = subst (λ (z : Thing). IsHere t z) (sym i) (λ m at steps c e r. none_some at e)
+indices_here t (b.Value w size reads ∷ bs) (Held y n ∷ xs) h x (inl i) = subst (λ (z : Thing). IsHere t z) (sym i) (λ m at e. none_some at e)
 indices_here t (b.Value w size reads ∷ bs) (Held y n ∷ xs) h x (inr i) = indices_here t bs xs h.2 x i
 indices_here t (b.Value w size reads ∷ bs) (Element el n ∷ xs) h x i = absurd h
 indices_here t (b.Value w size reads ∷ bs) (Clock n ∷ xs) h x i = absurd h
@@ -317,7 +419,7 @@ indices_agree env d (b.Other ∷ bs) (y ∷ xs) a h = absurd h
 
 -- ---- calls
 
-root_below : (d : Scope) (p : Part) (c : Cell) → InPart d p c → p.root < length d
+pub root_below : (d : Scope) (p : Part) (c : Cell) → InPart d p c → p.root < length d
 root_below d p c h = let found = has_entry p.root (slice_get d p.root) h.start h.is in get_below d p.root found.0 found.1
 
 -- an event of the body is one of the call
@@ -331,11 +433,11 @@ call_covered env d t n m actuals xs us line x st len g size same (inr h) = λ wh
     covered_right d t (actuals_uses (actual_views actuals) env where_) (called_all where_ n (places_of (actual_views actuals) env) (body_of (slice_get env n))) x
     (inr (record { u = k.w; among = k.among; kind = k.kind ∙ h.kind; cell = k.cell }))
 
-bounds_length : (es : List ScopeEntry) → length (entry_bounds es) ≡ length es
+pub bounds_length : (es : List ScopeEntry) → length (entry_bounds es) ≡ length es
 bounds_length [] = refl
 bounds_length (e ∷ es) = ap suc (bounds_length es)
 
-append_length : {X : Type 0} (xs ys : List X) → length (xs ++ ys) ≡ length xs + length ys
+pub append_length : {X : Type 0} (xs ys : List X) → length (xs ++ ys) ≡ length xs + length ys
 append_length [] ys = omega arith
 append_length (x ∷ xs) ys = let h : length (xs ++ ys) ≡ length xs + length ys = append_length xs ys in omega (arith, h)
 
@@ -346,11 +448,11 @@ body_matches env d (b.Abbreviation p size reads) l h = absurd h
 body_matches env d (b.Body us does) l h = h
 body_matches env d b.Other l h = absurd h
 
-abbrev FormulaUses : Env → List ScopeEntry → List TypedExpr → List Use → Type 0
+abbrev pub FormulaUses : Env → List ScopeEntry → List TypedExpr → List Use → Type 0
 FormulaUses env formals results us =
     (line : Location) × (us ≡ body_uses (length env) (length (env ++ entry_bounds formals)) line (each_uses results (env ++ entry_bounds formals) line))
 
-formula_matches : (env : Env) (d : Scope) (bound : Bound) (formals : List ScopeEntry) (results : List TypedExpr) → Matches env d bound (Formula formals results) → FormulaUses env formals results (body_of (Some bound))
+pub formula_matches : (env : Env) (d : Scope) (bound : Bound) (formals : List ScopeEntry) (results : List TypedExpr) → Matches env d bound (Formula formals results) → FormulaUses env formals results (body_of (Some bound))
 formula_matches env d (b.Root name) formals results h = absurd h
 formula_matches env d (b.Value w size reads) formals results h = absurd h
 formula_matches env d (b.Abbreviation p size reads) formals results h = absurd h
@@ -361,7 +463,7 @@ formula_matches env d b.Other formals results h = absurd h
 joined_covered : (d : Scope) (t : Thread) (comps : List (List Use)) (x : Event) → ByOne InTurn d t 0 comps x → Covered d t (joined comps) x
 joined_covered d t comps x h = covered_in d t h.us (joined comps) x (λ u i. in_joined comps h.place h.us u h.is i) h.covered
 
-env_length : (env : Env) (d : Scope) (n : ℕ) → Agrees (take n env) (take n d) → length (take n d) ≡ n → length (take n env) ≡ n
+pub env_length : (env : Env) (d : Scope) (n : ℕ) → Agrees (take n env) (take n d) → length (take n d) ≡ n → length (take n env) ≡ n
 env_length env d n a h = agrees_length (take n env) (take n d) a ∙ h
 
 body_covered : (env : Env) (d : Scope) (t : Thread) (n : ℕ) (actuals : List TypedActual) (l : TypedLine) (xs : List Thing) (x : Event) → Agrees env d → slice_get d n ≡ Some (Body l) → Good env d (pass actuals) xs → Suits (out-TypedLine l).enters xs
@@ -411,7 +513,7 @@ under_covered env d t way l comps x all h = λ line.
       own_thread Taken k us c = c
       own_thread Idle k us c = c
 
-plain_components : (env : Env) (l : TypedLine) → replicator_of (out-TypedLine l).form ≡ None → (out-TypedLine l).enters ≡ [] → components env (head_of l) (items_of (under l)) ≡ items_of (under l) env
+pub plain_components : (env : Env) (l : TypedLine) → replicator_of (out-TypedLine l).form ≡ None → (out-TypedLine l).enters ≡ [] → components env (head_of l) (items_of (under l)) ≡ items_of (under l) env
 plain_components env l h none =
     ap (λ (o : Option KnownReplicator). components_by o env (head_of l) (items_of (under l))) (known_none (out-TypedLine l).form h)
     ∙ ap (λ (es : List ScopeEntry). items_of (under l) (env ++ entry_bounds es)) none ∙ ap (λ (e : Env). items_of (under l) e) (no_more env)
@@ -420,7 +522,7 @@ pub known_components : (env : Env) (l : TypedLine) (by : TypedReplicator) (k : K
     → components env (head_of l) (items_of (under l)) ≡ rounds_to k.count k.base env (items_of (under l))
 known_components env l by k h known = ap (λ (o : Option KnownReplicator). components_by o env (head_of l) (items_of (under l))) (known_some (out-TypedLine l).form by h ∙ known)
 
-unknown_components : (env : Env) (l : TypedLine) (by : TypedReplicator) → replicator_of (out-TypedLine l).form ≡ Some by → by.known ≡ None → EntersIndex (out-TypedLine l).enters
+pub unknown_components : (env : Env) (l : TypedLine) (by : TypedReplicator) → replicator_of (out-TypedLine l).form ≡ Some by → by.known ≡ None → EntersIndex (out-TypedLine l).enters
     → components env (head_of l) (items_of (under l)) ≡ items_of (under l) (env ++ b.Value None None [] ∷ [])
 unknown_components env l by h none enters =
     ap (λ (o : Option KnownReplicator). components_by o env (head_of l) (items_of (under l))) (known_some (out-TypedLine l).form by h ∙ none)
@@ -488,7 +590,7 @@ main_covered env d t way l ls x h event = λ line. subst (λ (us : List Use). Co
 
 -- ---- items and rounds
 
-first_piece : (env : Env) (d : Scope) (t : Thread) (way : Way) (p : Piece) (us : List Use) (u : Thread) (x : Event) → Agrees env d → AllowsOne env p us
+pub first_piece : (env : Env) (d : Scope) (t : Thread) (way : Way) (p : Piece) (us : List Use) (u : Thread) (x : Event) → Agrees env d → AllowsOne env p us
     → ((e : Env) → Agrees e (d ++ p.index) → CoveredWork (Item way p.lines) e (d ++ p.index) u x) → Covered d u us x
 first_piece env d t way p us u x a allowed event =
     let e = env ++ allowed.0 in

@@ -66,7 +66,7 @@ pub record Split (ls : List TypedLine) (outer env : Env) (own : List Use) : Type
   pub is : items (trees_of ls) outer env own ≡ (own ++ item_uses (trees_of ls) env) ∷ rest
   pub allows : Allows outer (items_behind ls) rest
 
-allows_item : (env : Env) (ls : List TypedLine) → AllowsOne env (record { index = []; lines = ls }) ([] ++ item_uses (trees_of ls) env)
+pub allows_item : (env : Env) (ls : List TypedLine) → AllowsOne env (record { index = []; lines = ls }) ([] ++ item_uses (trees_of ls) env)
 allows_item env ls = ([], tt, λ u h. subst (λ (e : Env). IsOneOf (item_uses (trees_of ls) e) u) (no_more env) h)
 
 split_main : (l : TypedLine) (ls : List TypedLine) (outer env : Env) (own : List Use) → (out-TypedLine l).adds ≡ None → Split ls outer outer [] → Split (l ∷ ls) outer env own
@@ -114,33 +114,30 @@ in_first_item env ls u h =
 
 -- ---- rounds
 
-rounds_front : ℕ → ℕ → ℤ → Env → UnderUses → List (List Use)
+abbrev pub rounds_front : ℕ → ℕ → ℤ → Env → UnderUses → List (List Use)
 rounds_front zero i base env below = []
 rounds_front (suc n) i base env below = joined (below (with_index env base i)) ∷ rounds_front n (suc i) base env below
 
 front_last : (n i : ℕ) (base : ℤ) (env : Env) (below : UnderUses) → rounds_front (suc n) i base env below ≡ rounds_front n i base env below ++ joined (below (with_index env base (i + n))) ∷ []
-unfolding rounds_front
 front_last zero i base env below = ap (λ (j : ℕ). joined (below (with_index env base j)) ∷ []) (omega arith)
 front_last (suc n) i base env below =
     ap (λ (us : List (List Use)). joined (below (with_index env base i)) ∷ us) (front_last n (suc i) base env below
     ∙ ap (λ (j : ℕ). rounds_front n (suc i) base env below ++ joined (below (with_index env base j)) ∷ []) (omega arith))
 
-to_front : (n : ℕ) (base : ℤ) (env : Env) (below : UnderUses) → rounds_to n base env below ≡ rounds_front n 0 base env below
-unfolding rounds_front
+pub to_front : (n : ℕ) (base : ℤ) (env : Env) (below : UnderUses) → rounds_to n base env below ≡ rounds_front n 0 base env below
 to_front zero base env below = refl
 to_front (suc n) base env below =
     ap (λ (us : List (List Use)). us ++ joined (below (with_index env base n)) ∷ []) (to_front n base env below)
     ∙ ap (λ (j : ℕ). rounds_front n 0 base env below ++ joined (below (with_index env base j)) ∷ []) (omega arith) ∙ sym (front_last n 0 base env below)
 
-index_if : (t : Bool) (k : ℤ) → Tells (if t then Some (v.Int k) else None) (Some (v.Int k))
+pub index_if : (t : Bool) (k : ℤ) → Tells (if t then Some (v.Int k) else None) (Some (v.Int k))
 index_if true k = refl
 index_if false k = tt
 
-round_allowed : (env : Env) (base : ℤ) (i : ℕ) (ls : List TypedLine) → AllowsOne env (record { index = index_at base i ∷ []; lines = ls }) (joined (items_of (trees_of ls) (with_index env base i)))
+pub round_allowed : (env : Env) (base : ℤ) (i : ℕ) (ls : List TypedLine) → AllowsOne env (record { index = index_at base i ∷ []; lines = ls }) (joined (items_of (trees_of ls) (with_index env base i)))
 round_allowed env base i ls = (b.Value (index_value base i) None [] ∷ [], (index_if _ (base +ℤ pos i), tt, tt), λ u h. in_first_item (with_index env base i) ls u h)
 
 rounds_allowed : (n i : ℕ) (env : Env) (base : ℤ) (ls : List TypedLine) → Allows env (rounds n i base ls) (rounds_front n i base env (items_of (trees_of ls)))
-unfolding rounds_front
 rounds_allowed zero i env base ls = tt
 rounds_allowed (suc n) i env base ls = (round_allowed env base i ls, rounds_allowed n (suc i) env base ls)
 
@@ -351,15 +348,18 @@ in_under : (u : Use) (us : List Use) (t replicated : Bool) → t ≡ false → I
 in_under u us false replicated e h = in_replicated u us replicated h
 in_under u us true replicated e h = absurd (let no : true ≡ false = e in cc)
 
+pub under_in_line : (env : Env) (l : TypedLine) (u : Use) → is_body (out-TypedLine l).form ≡ false
+    → IsOneOf (form_uses (head_of l).form env (head_of l).place ++ joined (components env (head_of l) (items_of (under l)))) u → IsOneOf (own_uses env l) u
+under_in_line env l u e i = elim (in_cases u (form_uses (head_of l).form env (head_of l).place) (joined (components env (head_of l) (items_of (under l)))) i) [
+  | inl a ↦ in_left u (form_uses (head_of l).form env (head_of l).place) (under_uses (head_of l).form (joined (components env (head_of l) (items_of (under l))))) a
+  | inr c ↦ in_right u (form_uses (head_of l).form env (head_of l).place) (under_uses (head_of l).form (joined (components env (head_of l) (items_of (under l)))))
+      (in_under u (joined (components env (head_of l) (items_of (under l)))) (is_body (head_of l).form) (is_replicated (head_of l).form) e c)
+]
+
 pub line_covered : (env : Env) (d : Scope) (t : Thread) (l : TypedLine) (x : Event) → is_body (out-TypedLine l).form ≡ false
     → Covered d t (form_uses (head_of l).form env (head_of l).place ++ joined (components env (head_of l) (items_of (under l)))) x → Covered d t (own_uses env l) x
-line_covered env d t l x e h = covered_in d t (form_uses (head_of l).form env (head_of l).place ++ joined (components env (head_of l) (items_of (under l)))) (own_uses env l) x each h where
-  each : (u : Use) → IsOneOf (form_uses (head_of l).form env (head_of l).place ++ joined (components env (head_of l) (items_of (under l)))) u → IsOneOf (own_uses env l) u
-  each u i = elim (in_cases u (form_uses (head_of l).form env (head_of l).place) (joined (components env (head_of l) (items_of (under l)))) i) [
-    | inl a ↦ in_left u (form_uses (head_of l).form env (head_of l).place) (under_uses (head_of l).form (joined (components env (head_of l) (items_of (under l))))) a
-    | inr c ↦ in_right u (form_uses (head_of l).form env (head_of l).place) (under_uses (head_of l).form (joined (components env (head_of l) (items_of (under l)))))
-        (in_under u (joined (components env (head_of l) (items_of (under l)))) (is_body (head_of l).form) (is_replicated (head_of l).form) e c)
-  ]
+line_covered env d t l x e h =
+    covered_in d t (form_uses (head_of l).form env (head_of l).place ++ joined (components env (head_of l) (items_of (under l)))) (own_uses env l) x (λ u i. under_in_line env l u e i) h
 
 pub in_joined : (comps : List (List Use)) (k : ℕ) (us : List Use) (u : Use) → slice_get comps k ≡ Some us → IsOneOf us u → IsOneOf (joined comps) u
 in_joined [] k us u h i = cc

@@ -311,7 +311,7 @@ plain_size_good env d k e n h t =
 
 -- ---- specifications
 
-abbrev entered_as : Env → Head → List Use → Bool → List ScopeEntry → TypedForm → List Bound
+abbrev pub entered_as : Env → Head → List Use → Bool → List ScopeEntry → TypedForm → List Bound
 entered_as env h us does names f = Rattle.std.specs.Prelude.if◌then◌else◌ (is_body f) (body_over env h us does ∷ []) (specified env h.place names f)
 
 one_agrees : (env : Env) (d : Scope) (bound : Bound) (x : Thing) (ys : List Thing) → Agrees env d → Matches env d bound x → ys ≡ x ∷ [] → Agrees (env ++ bound ∷ []) (d ++ ys)

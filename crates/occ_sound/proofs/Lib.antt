@@ -11,3 +11,6 @@ mod Calls
 mod Lines
 mod Items
 mod Covers
+mod Keeping
+mod Readying
+mod Races

@@ -64,7 +64,7 @@ same_each : (es : List TypedExpr) (env : Env) (line : Location) → each_uses es
 same_each [] env line = refl
 same_each (e ∷ es) env line = ap (λ (us : List Use). (expr_view e).uses env line ++ us) (same_each es env line)
 
-operand_uses : (f : ExprForm) (es : List TypedExpr) (env : Env) (line : Location) → operands f ≡ Some es → each_uses es env line ≡ (form_view f).uses env line
+pub operand_uses : (f : ExprForm) (es : List TypedExpr) (env : Env) (line : Location) → operands f ≡ Some es → each_uses es env line ≡ (form_view f).uses env line
 operand_uses (TypedExpr-F.Literal k) es env line o = ap (λ (gs : List TypedExpr). each_uses gs env line) (sym (some_same [] es o))
 operand_uses (TypedExpr-F.Element el) es env line o = absurd cc
 operand_uses (TypedExpr-F.Operation k op gs) es env line o = ap (λ (hs : List TypedExpr). each_uses hs env line) (sym (some_same gs es o)) ∙ same_each gs env line
@@ -82,7 +82,7 @@ operands_covered env d t f es x o h = λ line. subst (λ (us : List Use). Covere
 pub element_covered : (env : Env) (d : Scope) (t : Thread) (el : TypedElement) (x : Event) → ((line : Location) → Covered d t (selectors_uses (selector_views (out-TypedElement el).selectors) env line) x) → CoveredWork (Find el) env d t x
 element_covered env d t el x h = λ line. subst (λ (w : ElementView). Covered d t (w.uses env line) x) (sym (element_opened el)) (h line)
 
-bound_uses : (f : SelectorForm) (env : Env) (line : Location) → each_uses (bounds f) env line ≡ (selector_form f).uses env line
+pub bound_uses : (f : SelectorForm) (env : Env) (line : Location) → each_uses (bounds f) env line ≡ (selector_form f).uses env line
 bound_uses (Selector-F.Field k name) env line = refl
 bound_uses (Selector-F.Component e) env line = no_more ((expr_view e).uses env line)
 bound_uses (Selector-F.From n e) env line = no_more ((expr_view e).uses env line)
@@ -208,7 +208,7 @@ guard_covered env d t guard.Skip x line h = absurd h
 guard_covered env d t (guard.Input i) x line h = input_covered env d t i x line h
 guard_covered env d t (guard.CaseInput el) x line h = one_reached env d t kind.Input el x line h
 
-same_written : (els : List TypedElement) (env : Env) (line : Location) → all_used kind.Write els env line ≡ written els env line
+pub same_written : (els : List TypedElement) (env : Env) (line : Location) → all_used kind.Write els env line ≡ written els env line
 same_written [] env line = refl
 same_written (el ∷ els) env line = ap (λ (us : List Use). used kind.Write el env line ++ us) (same_written els env line)
 

@@ -117,3 +117,20 @@ take_take xs zero n h = refl
 take_take xs (suc k) zero h = absurd (omega (arith, h))
 take_take [] (suc k) (suc n) h = refl
 take_take (x ∷ xs) (suc k) (suc n) h = ap (λ (ys : List _). x ∷ ys) (take_take xs k n (let l : suc k ≤ suc n = h in omega (arith, l)))
+
+-- ---- what stands in a front
+
+pub get_front : {X : Type 0} (xs ys : List X) (n : ℕ) → n < length xs → slice_get (xs ++ ys) n ≡ slice_get xs n
+get_front [] ys n h = absurd (omega (arith, h))
+get_front (x ∷ xs) ys zero h = refl
+get_front (x ∷ xs) ys (suc n) h = get_front xs ys n (let k : suc n < suc (length xs) = h in omega (arith, k))
+
+pub get_behind : {X : Type 0} (xs ys : List X) (i : ℕ) → slice_get (xs ++ ys) (length xs + i) ≡ slice_get ys i
+get_behind [] ys i = let e : 0 + i ≡ i = omega arith in ap (λ (n : ℕ). slice_get ys n) e
+get_behind (x ∷ xs) ys i = let e : suc (length xs) + i ≡ suc (length xs + i) = omega arith in ap (λ (n : ℕ). slice_get (x ∷ (xs ++ ys)) n) e ∙ get_behind xs ys i
+
+pub get_taken : {X : Type 0} (xs : List X) (n m : ℕ) → m < n → slice_get (take n xs) m ≡ slice_get xs m
+get_taken xs zero m h = absurd (omega (arith, h))
+get_taken [] (suc n) m h = refl
+get_taken (x ∷ xs) (suc n) zero h = refl
+get_taken (x ∷ xs) (suc n) (suc m) h = get_taken xs n m (let k : suc m < suc n = h in omega (arith, k))
