@@ -222,6 +222,8 @@ pub data Does : Scope → Thread → Work → Run → Outcome → Type 0 where
       → Does d t (Under InTurn l) s o → Does d t (Main Choice l) (Then r s) (of_process o)
   passed_over : (d : Scope) (t : Thread) (l : TypedLine) (e : TypedExpr) (r : Run) (n : Option ℤ)
       → (out-TypedLine l).form ≡ form.Condition e → Does d t (Evaluate (out-TypedExpr e)) r (Gave (Held (Some (v.Bool false)) n ∷ [])) → Does d t (Main Choice l) r Passed
+  -- an option or an alternative that is not taken, though what is specified before it was found
+  left_out : (d : Scope) (t : Thread) (l : TypedLine) → Does d t (Main Taken l) Quiet Passed
   -- an ALT waits for all of its alternatives, and then takes one
   alternation : (d : Scope) (t : Thread) (way : Way) (l : TypedLine) (by : Option TypedReplicator) (r s : Run) (xs : List Thing) (o : Outcome)
       → (out-TypedLine l).form ≡ form.Block block.Alternation by → runs_processes way ≡ true → Does d t (Under Waiting l) r (Gave xs) → Does d t (Under Taken l) s o

@@ -252,6 +252,7 @@ exported_brought l is i z h = other_brought l i z (all_other is i z h) where
   among [] ys j k e = k j e
   among (x ∷ xs) ys zero k e = sym (some_same Other z e)
   among (x ∷ xs) ys (suc j) k e = among xs ys j k e
+
   all_other : (js : List Interface) (j : ℕ) (y : Thing) → slice_get (exports_of js) j ≡ Some z → z ≡ Other
   all_other [] j y e = none_some z e
   all_other (x ∷ js) j y e = among x.exports (exports_of js) j (λ k f. all_other js k y f) e
@@ -347,6 +348,7 @@ here_if _ _ _ _ _ (Running.loop_stops d t way l e r s n h k x y) env a = tt
 here_if _ _ _ _ _ (Running.condition_stops d t way l e r h x) env a = tt
 here_if _ _ _ _ _ (Running.chosen d t l e r s n o h x y) env a = tt
 here_if _ _ _ _ _ (Running.passed_over d t l e r n h x) env a = tt
+here_if _ _ _ _ _ (Running.left_out d t l) env a = tt
 here_if _ _ _ _ _ (Running.alternation d t way l by r s xs o h k x y) env a = tt
 here_if _ _ _ _ _ (Running.waiting_stops d t way l by r h k x) env a = tt
 here_if _ _ _ _ _ (Running.idle d t l) env a = tt
@@ -715,6 +717,7 @@ covers _ _ _ _ _ (Running.condition_stops d t way l e r h y) env a x i = λ line
 covers _ _ _ _ _ (Running.chosen d t l e r s n o h y z) env a x (inl i) = λ line. condition_covered env d t l e x (inr h) (covers d t (Evaluate (out-TypedExpr e)) r (Gave (Held (Some (v.Bool true)) n ∷ [])) y env a x i)
 covers _ _ _ _ _ (Running.chosen d t l e r s n o h y z) env a x (inr i) = λ line. by_under env d t InTurn l (form.Condition e) x h refl (covers d t (Under InTurn l) s o z env a x i)
 covers _ _ _ _ _ (Running.passed_over d t l e r n h y) env a x i = λ line. condition_covered env d t l e x (inr h) (covers d t (Evaluate (out-TypedExpr e)) r (Gave (Held (Some (v.Bool false)) n ∷ [])) y env a x i)
+covers _ _ _ _ _ (Running.left_out d t l) env a x i = absurd i
 covers _ _ _ _ _ (Running.alternation d t way l by r s xs o h k y z) env a x (inl i) = λ line. by_under env d t Waiting l (form.Block block.Alternation by) x h refl (covers d t (Under Waiting l) r (Gave xs) y env a x i)
 covers _ _ _ _ _ (Running.alternation d t way l by r s xs o h k y z) env a x (inr i) = λ line. by_under env d t Taken l (form.Block block.Alternation by) x h refl (covers d t (Under Taken l) s o z env a x i)
 covers _ _ _ _ _ (Running.waiting_stops d t way l by r h k y) env a x i = λ line. by_under env d t Waiting l (form.Block block.Alternation by) x h refl (covers d t (Under Waiting l) r Stopped y env a x i)

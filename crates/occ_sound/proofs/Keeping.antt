@@ -54,7 +54,7 @@ extends_more (k ∷ s) (m ∷ t) more h = (h.0, extends_more s t more h.1)
 one_deeper : (t u : Thread) (m : Mark) → length u < length t → length u < length (t ++ m ∷ [])
 one_deeper t u m l = let e : length (t ++ m ∷ []) ≡ suc (length t) = length_last t m in omega (arith, l, e)
 
-visible_deeper : (t : Thread) (m : Mark) (z : Thing) → IsVisible t z → IsVisible (t ++ m ∷ []) z
+pub visible_deeper : (t : Thread) (m : Mark) (z : Thing) → IsVisible t z → IsVisible (t ++ m ∷ []) z
 visible_deeper t m (Stored s) h = extends_more s t (m ∷ []) h
 visible_deeper t m (Formal at) h = λ steps c r. let g = h steps c r in (extends_more c.thread t (m ∷ []) g.0, one_deeper t c.thread m g.1)
 visible_deeper t m (Element at n) h = tt
@@ -160,9 +160,9 @@ separate_more d t us xs v here h u w i j differ c y z = elim (part_cases d xs u.
   ]
 ]
   where
-  both_here : (a : Spot) (ts : List Step) (e : Spot) (ss : List Step) → a ≡ Variable u.part.root t → Reaches a ts c → e ≡ Variable w.part.root t → Reaches e ss c → ⊥
-  both_here a ts e ss k r l q =
-      differ (sym (cell_root u.part.root t ts c (subst (λ (y : Spot). Reaches y ts c) k r)) ∙ cell_root w.part.root t ss c (subst (λ (y : Spot). Reaches y ss c) l q))
+    both_here : (a : Spot) (ts : List Step) (e : Spot) (ss : List Step) → a ≡ Variable u.part.root t → Reaches a ts c → e ≡ Variable w.part.root t → Reaches e ss c → ⊥
+    both_here a ts e ss k r l q =
+        differ (sym (cell_root u.part.root t ts c (subst (λ (y : Spot). Reaches y ts c) k r)) ∙ cell_root w.part.root t ss c (subst (λ (y : Spot). Reaches y ss c) l q))
 
 -- ---- what is brought can be seen
 
@@ -215,7 +215,7 @@ take_behind : {X : Type 0} (xs ys : List X) (i : ℕ) → take (length xs + i) (
 take_behind [] ys i = let e : 0 + i ≡ i = omega arith in ap (λ (n : ℕ). take n ys) e
 take_behind (x ∷ xs) ys i = let e : suc (length xs) + i ≡ suc (length xs + i) = omega arith in ap (λ (n : ℕ). take n (x ∷ (xs ++ ys))) e ∙ ap (λ (zs : List _). x ∷ zs) (take_behind xs ys i)
 
-formula_same : (e f : Env) (x y : Option Bound) (fs : List ScopeEntry) (rs : List TypedExpr) → e ≡ f → x ≡ y → IsCleanFormula e (body_of x) fs rs → IsCleanFormula f (body_of y) fs rs
+pub formula_same : (e f : Env) (x y : Option Bound) (fs : List ScopeEntry) (rs : List TypedExpr) → e ≡ f → x ≡ y → IsCleanFormula e (body_of x) fs rs → IsCleanFormula f (body_of y) fs rs
 formula_same e f x y fs rs h k c = subst (λ (g : Env). IsCleanFormula g (body_of y) fs rs) h (subst (λ (z : Option Bound). IsCleanFormula e (body_of z) fs rs) k c)
 
 pub safe_more : (env : Env) (d : Scope) (t : Thread) (bs : List Bound) (xs : List Thing) → Safe env d t → Agrees (env ++ bs) (d ++ xs) → AreHere t xs → BodiesClean env bs xs → Safe (env ++ bs) (d ++ xs) t
@@ -232,21 +232,24 @@ safe_more env d t bs xs s a here clean =
         | inr last ↦ formula_same (env ++ take last.0 bs) (take n (env ++ bs)) (slice_get bs last.0) (slice_get (env ++ bs) n) fs rs (sym (behind_same n last.0 last.1)) (sym (behind_got n last.0 last.1)) (clean.1 last.0 fs rs last.2)
       ];
     }
-    where
-  front_same : (n : ℕ) (z : Thing) → slice_get d n ≡ Some z → take n (env ++ bs) ≡ take n env
-  front_same n z h = let low : n < length d = get_below d n z h in let e : length env ≡ length d = agrees_length env d s.agrees in take_more env bs n (omega (arith, low, e))
-  front_got : (n : ℕ) (z : Thing) → slice_get d n ≡ Some z → slice_get (env ++ bs) n ≡ slice_get env n
-  front_got n z h = let low : n < length d = get_below d n z h in let e : length env ≡ length d = agrees_length env d s.agrees in get_front env bs n (omega (arith, low, e))
-  behind_got : (n i : ℕ) → n ≡ length d + i → slice_get (env ++ bs) n ≡ slice_get bs i
-  behind_got n i h =
-      let e : length env ≡ length d = agrees_length env d s.agrees in
-      let same : n ≡ length env + i = omega (arith, h, e) in
-      ap (λ (k : ℕ). slice_get (env ++ bs) k) same ∙ get_behind env bs i
-  behind_same : (n i : ℕ) → n ≡ length d + i → take n (env ++ bs) ≡ env ++ take i bs
-  behind_same n i h =
-      let e : length env ≡ length d = agrees_length env d s.agrees in
-      let same : n ≡ length env + i = omega (arith, h, e) in
-      ap (λ (k : ℕ). take k (env ++ bs)) same ∙ take_behind env bs i
+  where
+    front_same : (n : ℕ) (z : Thing) → slice_get d n ≡ Some z → take n (env ++ bs) ≡ take n env
+    front_same n z h = let low : n < length d = get_below d n z h in let e : length env ≡ length d = agrees_length env d s.agrees in take_more env bs n (omega (arith, low, e))
+
+    front_got : (n : ℕ) (z : Thing) → slice_get d n ≡ Some z → slice_get (env ++ bs) n ≡ slice_get env n
+    front_got n z h = let low : n < length d = get_below d n z h in let e : length env ≡ length d = agrees_length env d s.agrees in get_front env bs n (omega (arith, low, e))
+
+    behind_got : (n i : ℕ) → n ≡ length d + i → slice_get (env ++ bs) n ≡ slice_get bs i
+    behind_got n i h =
+        let e : length env ≡ length d = agrees_length env d s.agrees in
+        let same : n ≡ length env + i = omega (arith, h, e) in
+        ap (λ (k : ℕ). slice_get (env ++ bs) k) same ∙ get_behind env bs i
+
+    behind_same : (n i : ℕ) → n ≡ length d + i → take n (env ++ bs) ≡ env ++ take i bs
+    behind_same n i h =
+        let e : length env ≡ length d = agrees_length env d s.agrees in
+        let same : n ≡ length env + i = omega (arith, h, e) in
+        ap (λ (k : ℕ). take k (env ++ bs)) same ∙ take_behind env bs i
 
 pub safe_deeper : (env : Env) (d : Scope) (t : Thread) (m : Mark) → Safe env d t → Safe env d (t ++ m ∷ [])
 safe_deeper env d t m s = record { agrees = s.agrees; visible = deeper_visible d t m s.visible; bodies = s.bodies; formulas = s.formulas }
@@ -303,11 +306,11 @@ separate_called env d line place n m xs zs us kept len g size same quiet sep u v
     let a = mapped env d line n xs zs (body_of (slice_get env n)) (from_outside n place u) c kept len g (known u i x) x in
     let e = mapped env d line n xs zs (body_of (slice_get env n)) (from_outside n place v) c kept len g (known v j y) y in
     by_roots env d line n xs (body_of (slice_get env n)) (from_outside n place u) (from_outside n place v) c quiet sep differ a e (a.w.part.root == e.w.part.root) refl
-    where
-  known : (w : Use) → IsOneOf us w → InPart (take n d ++ formals_of zs) w.part c → IsOneOf (body_of (slice_get env n)) (from_outside n place w)
-  known w k z =
-      let low : w.part.root < length (take n d ++ formals_of zs) = root_below (take n d ++ formals_of zs) w.part c z in
-      subst (λ (ws : List Use). IsOneOf ws (from_outside n place w)) (sym same) (seen n m place us w k (omega (arith, low, size)))
+  where
+    known : (w : Use) → IsOneOf us w → InPart (take n d ++ formals_of zs) w.part c → IsOneOf (body_of (slice_get env n)) (from_outside n place w)
+    known w k z =
+        let low : w.part.root < length (take n d ++ formals_of zs) = root_below (take n d ++ formals_of zs) w.part c z in
+        subst (λ (ws : List Use). IsOneOf ws (from_outside n place w)) (sym same) (seen n m place us w k (omega (arith, low, size)))
 
 -- a formal is seen in its body
 formal_visible : (env : Env) (d : Scope) (t : Thread) (xs : List TypedActual) (zs : List Thing) (i : ℕ) (z : Thing) → AllVisible d t → Good env d (pass xs) zs → slice_get (formals_of zs) i ≡ Some z → IsVisible (t ++ InCall ∷ []) z
@@ -410,12 +413,13 @@ safe_called env d t n z es xs zs s at g suits =
         | inr later ↦ absurd (no_formula_passed es zs later.0 fs rs suits later.2)
       ];
     }
-    where
-  front_same : (m : ℕ) (y : Thing) → length (take n d) ≡ n → length (take n env) ≡ n → slice_get (take n d) m ≡ Some y → take m (take n env ++ entry_bounds es) ≡ take m env
-  front_same m y cut cut_env h =
-      let low : m < length (take n d) = get_below (take n d) m y h in
-      take_more (take n env) (entry_bounds es) m (omega (arith, low, cut, cut_env)) ∙ take_take env m n (omega (arith, low, cut))
-  front_got : (m : ℕ) (y : Thing) → length (take n d) ≡ n → length (take n env) ≡ n → slice_get (take n d) m ≡ Some y → slice_get (take n env ++ entry_bounds es) m ≡ slice_get env m
-  front_got m y cut cut_env h =
-      let low : m < length (take n d) = get_below (take n d) m y h in
-      get_front (take n env) (entry_bounds es) m (omega (arith, low, cut, cut_env)) ∙ get_taken env n m (omega (arith, low, cut))
+  where
+    front_same : (m : ℕ) (y : Thing) → length (take n d) ≡ n → length (take n env) ≡ n → slice_get (take n d) m ≡ Some y → take m (take n env ++ entry_bounds es) ≡ take m env
+    front_same m y cut cut_env h =
+        let low : m < length (take n d) = get_below (take n d) m y h in
+        take_more (take n env) (entry_bounds es) m (omega (arith, low, cut, cut_env)) ∙ take_take env m n (omega (arith, low, cut))
+
+    front_got : (m : ℕ) (y : Thing) → length (take n d) ≡ n → length (take n env) ≡ n → slice_get (take n d) m ≡ Some y → slice_get (take n env ++ entry_bounds es) m ≡ slice_get env m
+    front_got m y cut cut_env h =
+        let low : m < length (take n d) = get_below (take n d) m y h in
+        get_front (take n env) (entry_bounds es) m (omega (arith, low, cut, cut_env)) ∙ get_taken env n m (omega (arith, low, cut))

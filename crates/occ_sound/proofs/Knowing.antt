@@ -458,6 +458,7 @@ good _ _ _ _ _ (Running.loop_stops d t way l e r s n h k x y) env a = tt
 good _ _ _ _ _ (Running.condition_stops d t way l e r h x) env a = tt
 good _ _ _ _ _ (Running.chosen d t l e r s n o h x y) env a = main_good env d Choice l (of_process o)
 good _ _ _ _ _ (Running.passed_over d t l e r n h x) env a = tt
+good _ _ _ _ _ (Running.left_out d t l) env a = tt
 good _ _ _ _ _ (Running.alternation d t way l by r s xs o h k x y) env a = main_good env d way l (of_process o)
 good _ _ _ _ _ (Running.waiting_stops d t way l by r h k x) env a = tt
 good _ _ _ _ _ (Running.idle d t l) env a = tt

@@ -14,3 +14,4 @@ mod Covers
 mod Keeping
 mod Readying
 mod Races
+mod Units

@@ -85,7 +85,6 @@ use Rattle.occ_sound.specs.Safe.{IsClean, IsCleanFormula, IsOther, IsSilent, NoC
 use Rattle.occ_sound.proofs.Covers.{BroughtBodies, IsBrought}
 use Rattle.occ_sound.proofs.Items.{copies, first_tree, in_first_item, index_if, items_allowed, known_none, known_some, own_uses, planned_no_body, round_allowed, rounds_front, split, to_front, under_in_line}
 use Rattle.occ_sound.proofs.Keeping.{BodiesClean, NoAlias, same_number, separate_in, separate_left, separate_right}
-
 use Rattle.occ_running.specs.Memory.{Cell, InCall, InComponent, Mark}
 use Rattle.occ_running.specs.Running
 use Rattle.occ_running.specs.Running.{Does, Gave, Outcome, Passed, Stopped, Touches, both_ended, ended, of_process}
@@ -113,10 +112,9 @@ use Rattle.std.specs.List.{list_any}
 clean_same : (t u : Trees) (outer env : Env) → t ≡ u → IsClean t outer env → IsClean u outer env
 clean_same t u outer env e h = subst (λ (z : Trees). IsClean z outer env) e h
 
-first_clean : (l : TypedLine) (ls : List TypedLine) (outer env : Env) → IsClean (trees_of (l ∷ ls)) outer env → IsCleanLine env l
+pub first_clean : (l : TypedLine) (ls : List TypedLine) (outer env : Env) → IsClean (trees_of (l ∷ ls)) outer env → IsCleanLine env l
 first_clean l ls outer env h =
-    let g = clean_same (trees_of (l ∷ ls)) (Tree (head_of l) (under l) (trees_of ls)) outer env (first_tree l ls) h in
-    (
+    let g = clean_same (trees_of (l ∷ ls)) (Tree (head_of l) (under l) (trees_of ls)) outer env (first_tree l ls) h in (
       silent_left (line_reported parallel_at env (head_of l) (under l) (λ (e : Env). reported parallel_at (under l) e e)) (reported parallel_at (trees_of ls) outer (after_line outer env (head_of l) (under l))) g.parallel,
       silent_left (line_reported abbreviation_at env (head_of l) (under l) (λ (e : Env). reported abbreviation_at (under l) e e)) (reported abbreviation_at (trees_of ls) outer (after_line outer env (head_of l) (under l))) g.abbreviations,
     )
@@ -129,7 +127,7 @@ later_clean l ls outer env h =
       abbreviations = silent_right (line_reported abbreviation_at env (head_of l) (under l) (λ (e : Env). reported abbreviation_at (under l) e e)) (reported abbreviation_at (trees_of ls) outer (after_line outer env (head_of l) (under l))) g.abbreviations;
     }
 
-behind_specified : (l : TypedLine) (ls : List TypedLine) (outer env : Env) (names : List ScopeEntry) → (out-TypedLine l).adds ≡ Some names → IsClean (trees_of (l ∷ ls)) outer env → IsClean (trees_of ls) outer (env ++ added env (head_of l) (under l) (items_of (under l)))
+pub behind_specified : (l : TypedLine) (ls : List TypedLine) (outer env : Env) (names : List ScopeEntry) → (out-TypedLine l).adds ≡ Some names → IsClean (trees_of (l ∷ ls)) outer env → IsClean (trees_of ls) outer (env ++ added env (head_of l) (under l) (items_of (under l)))
 behind_specified l ls outer env names h c =
     subst (λ (e : Env). IsClean (trees_of ls) outer e) (ap (λ (o : Option (List ScopeEntry)). after_by outer env (head_of l) (under l) o) h ∙ sym (ap (λ (o : Option (List ScopeEntry)). env ++ added env (head_of l) (under l) (items_of (under l))) h)) (later_clean l ls outer env c)
 
@@ -174,7 +172,7 @@ plain_ready env [] comps c a = tt
 plain_ready env (p ∷ ps) [] c a = absurd a
 plain_ready env (p ∷ ps) (us ∷ comps) c a = (one_ready env p us c.0 c.1 a.0, plain_ready env ps comps c.2 a.1)
 
-items_ready : (env : Env) (ls : List TypedLine) → IsClean (trees_of ls) env env → AllReady env (works.items_of ls) (items_of (trees_of ls) env)
+pub items_ready : (env : Env) (ls : List TypedLine) → IsClean (trees_of ls) env env → AllReady env (works.items_of ls) (items_of (trees_of ls) env)
 items_ready env ls c = plain_ready env (works.items_of ls) (items_of (trees_of ls) env) (refl, c, behind_clean ls env env c) (items_allowed env ls)
 
 rounds_ready : (n i : ℕ) (env : Env) (base : ℤ) (ls : List TypedLine) → ((j : ℕ) → j < i + n → IsClean (trees_of ls) (with_index env base j) (with_index env base j)) → AllReady env (rounds n i base ls) (rounds_front n i base env (items_of (trees_of ls)))
@@ -213,7 +211,7 @@ plain_under : (rule_ : WalkRule) (env : Env) (l : TypedLine) → known_replicato
     → IsSilent (reported rule_ (under l) (inner env (head_of l)) (inner env (head_of l)))
 plain_under rule_ env l none h = subst (λ (o : Option KnownReplicator). IsSilent (under_reported_by o env (head_of l) (λ (e : Env). reported rule_ (under l) e e))) none (under_of rule_ env l h)
 
-clean_under : (env : Env) (l : TypedLine) → known_replicator (out-TypedLine l).form ≡ None → IsCleanLine env l → IsClean (under l) (inner env (head_of l)) (inner env (head_of l))
+pub clean_under : (env : Env) (l : TypedLine) → known_replicator (out-TypedLine l).form ≡ None → IsCleanLine env l → IsClean (under l) (inner env (head_of l)) (inner env (head_of l))
 clean_under env l none c = record { parallel = plain_under parallel_at env l none c.0; abbreviations = plain_under abbreviation_at env l none c.1 }
 
 round_by : (n : ℕ) (base : ℤ) (env : Env) (f : Finding) (j : ℕ) (t : Bool) → (j == n) ≡ t → j < suc n → (j < n → IsSilent (f (with_index env base j))) → IsSilent (f (with_index env base n)) → IsSilent (f (with_index env base j))
@@ -235,7 +233,7 @@ clean_round env l k j known l2 c = record { parallel = round_under parallel_at e
 
 -- ---- bodies that come into scope
 
-head_known : (l : TypedLine) → ((out-TypedLine l).form ≡ form.ProcedureHead) ⊎ ((out-TypedLine l).form ≡ form.FunctionHead) → known_replicator (out-TypedLine l).form ≡ None
+pub head_known : (l : TypedLine) → ((out-TypedLine l).form ≡ form.ProcedureHead) ⊎ ((out-TypedLine l).form ≡ form.FunctionHead) → known_replicator (out-TypedLine l).form ≡ None
 head_known l (inl h) = ap known_replicator h
 head_known l (inr h) = ap known_replicator h
 
@@ -267,7 +265,7 @@ formula_clean env l names fs rs i adds c h =
     subst (λ (k : ℕ). IsCleanFormula (env ++ take k bs) (body_of (slice_get bs k)) fs rs) (sym h.0)
     (subst (λ (e : Env). IsCleanFormula e (body_of (slice_get bs 0)) fs rs) (sym (no_more env)) ((head_of l).place, formula_added env l names fs rs adds h.1, formula_silent env l fs rs h.1 (own_of abbreviation_at env l c.1)))
 
-bodies_clean : (env : Env) (l : TypedLine) (names : List ScopeEntry) (xs : List Thing) → (out-TypedLine l).adds ≡ Some names → IsCleanLine env l → BroughtBodies l xs → BodiesClean env (added env (head_of l) (under l) (items_of (under l))) xs
+pub bodies_clean : (env : Env) (l : TypedLine) (names : List ScopeEntry) (xs : List Thing) → (out-TypedLine l).adds ≡ Some names → IsCleanLine env l → BroughtBodies l xs → BodiesClean env (added env (head_of l) (under l) (items_of (under l))) xs
 bodies_clean env l names xs adds c h =
     (λ i m e. body_clean env l m (added env (head_of l) (under l) (items_of (under l))) i c (h i (Body m) e), λ i fs rs e. formula_clean env l names fs rs i adds c (h i (Formula fs rs) e))
 
@@ -328,7 +326,6 @@ not_deeper t u m h i =
     let c : length u ≤ length t = extends_length u t i in
     let e : length (t ++ m ∷ []) ≡ suc (length t) = length_last t m in
     omega (arith, a, c, e)
-
 
 collides : (k l : UseKind) → collide k l ≡ true → (r : Rule) × (conflict r k l ≡ true)
 collides kind.Read kind.Read h = cc
@@ -461,11 +458,13 @@ body_ready env d t n actuals l xs line s at g suits ready =
     let sum : length e ≡ length (take n env) + length (entry_bounds (out-TypedLine l).enters) = append_length (take n env) (entry_bounds (out-TypedLine l).enters) in
     let names : length (entry_bounds (out-TypedLine l).enters) ≡ length (out-TypedLine l).enters = bounds_length (out-TypedLine l).enters in
     let uses : body_of (slice_get env n) ≡ uses_of_body (take n env) l = ap body_of st.got ∙ body_matches (take n env) (take n d) st.bound l st.matches in
-    let parts = called_ready d line env n actuals ready in
-    (items_of (under l) e, items_ready e (out-TypedLine l).under (s.bodies n l at),
-        separate_called env d line (head_of l).place n (length (take n env) + length (head_of l).enters) actuals xs (joined (items_of (under l) e)) st.kept len g (omega (arith, all, sum, names))
-            (uses ∙ ap (λ (k : ℕ). body_uses k (length (take n env) + length (head_of l).enters) (head_of l).place (joined (items_of (under l) e))) env_len) parts.1 parts.0,
-        tt)
+    let parts = called_ready d line env n actuals ready in (
+      items_of (under l) e,
+      items_ready e (out-TypedLine l).under (s.bodies n l at),
+      separate_called env d line (head_of l).place n (length (take n env) + length (head_of l).enters) actuals xs (joined (items_of (under l) e)) st.kept len g (omega (arith, all, sum, names))
+          (uses ∙ ap (λ (k : ℕ). body_uses k (length (take n env) + length (head_of l).enters) (head_of l).place (joined (items_of (under l) e))) env_len) parts.1 parts.0,
+      tt,
+    )
 
 formula_ready : (env : Env) (d : Scope) (t : Thread) (n : ℕ) (actuals : List TypedActual) (fs : List ScopeEntry) (rs : List TypedExpr) (xs : List Thing) (line : Location) → Safe env d t → slice_get d n ≡ Some (Formula fs rs) → Good env d (pass actuals) xs → Suits fs xs
     → Ready (Call n actuals) env d line → (place : Location) × Ready (evaluate rs) (take n env ++ entry_bounds fs) (take n d ++ formals_of xs) place
@@ -478,7 +477,7 @@ formula_ready env d t n actuals fs rs xs line s at g suits ready =
     let clean = s.formulas n fs rs at in
     let parts = called_ready d line env n actuals ready in
     let apart = separate_called env d line clean.0 n (length e) actuals xs (each_uses rs e clean.0) st.kept len g (agrees_length e (take n d ++ formals_of xs) (formals_agree (take n env) (take n d) fs xs st.agrees suits))
-        (clean.1 ∙ ap (λ (k : ℕ). body_uses k (length e) clean.0 (each_uses rs e clean.0)) env_len) parts.1 parts.0 in
+    (clean.1 ∙ ap (λ (k : ℕ). body_uses k (length e) clean.0 (each_uses rs e clean.0)) env_len) parts.1 parts.0 in
     (clean.0, evaluate_ready (take n d ++ formals_of xs) clean.0 e rs (apart, clean.2))
 
 replicated_calls : (f : TypedForm) (by : TypedReplicator) (env : Env) (line : Location) → replicator_of f ≡ Some by → form_calls f env line ≡ replicator_calls (Some by) env line
@@ -520,9 +519,9 @@ bounds_of_ready : (env : Env) (d : Scope) (way : Way) (l : TypedLine) (by : Type
 bounds_of_ready env d way l by line h r =
     let place = (head_of l).place in
     let uses : each_uses (by.base ∷ by.count ∷ []) env place ≡ form_uses (head_of l).form env place =
-        ap (λ (us : List Use). (expr_view by.base).uses env place ++ us) (no_more ((expr_view by.count).uses env place)) ∙ sym (replicated_uses (out-TypedLine l).form by env place h) in
+    ap (λ (us : List Use). (expr_view by.base).uses env place ++ us) (no_more ((expr_view by.count).uses env place)) ∙ sym (replicated_uses (out-TypedLine l).form by env place h) in
     let calls : each_calls (by.base ∷ by.count ∷ []) env place ≡ form_calls (head_of l).form env place =
-        ap (λ (cs : List ACall). (expr_view by.base).calls env place ++ cs) (no_more ((expr_view by.count).calls env place)) ∙ sym (replicated_calls (out-TypedLine l).form by env place h) in
+    ap (λ (cs : List ACall). (expr_view by.base).calls env place ++ cs) (no_more ((expr_view by.count).calls env place)) ∙ sym (replicated_calls (out-TypedLine l).form by env place h) in
     evaluate_ready d place env (by.base ∷ by.count ∷ [])
     (subst (λ (us : List Use). IsReady d place env us (each_calls (by.base ∷ by.count ∷ []) env place)) (sym uses)
     (subst (λ (cs : List ACall). IsReady d place env (form_uses (head_of l).form env place) cs) (sym calls)
@@ -533,10 +532,12 @@ under_ready : (env : Env) (d : Scope) (way : Way) (l : TypedLine) (line : Locati
 under_ready env d way l line h none r =
     let same = plain_components env l h none in
     let clean = clean_under env l (known_none (out-TypedLine l).form h) r.1 in
-    let here : inner env (head_of l) ≡ env = ap (λ (es : List ScopeEntry). env ++ entry_bounds es) none ∙ no_more env in
-    (items_of (under l) env, items_ready env (out-TypedLine l).under (subst (λ (e : Env). IsClean (under l) e e) here clean),
-        separate_right d (form_uses (head_of l).form env (head_of l).place) (joined (items_of (under l) env)) (subst (λ (comps : List (List Use)). Separate d (form_uses (head_of l).form env (head_of l).place ++ joined comps)) same r.0),
-        subst (λ (comps : List (List Use)). ClashFree way env comps) same r.2)
+    let here : inner env (head_of l) ≡ env = ap (λ (es : List ScopeEntry). env ++ entry_bounds es) none ∙ no_more env in (
+      items_of (under l) env,
+      items_ready env (out-TypedLine l).under (subst (λ (e : Env). IsClean (under l) e e) here clean),
+      separate_right d (form_uses (head_of l).form env (head_of l).place) (joined (items_of (under l) env)) (subst (λ (comps : List (List Use)). Separate d (form_uses (head_of l).form env (head_of l).place ++ joined comps)) same r.0),
+      subst (λ (comps : List (List Use)). ClashFree way env comps) same r.2,
+    )
 
 in_copies : (n : ℕ) (one : List Use) (u : Use) → IsOneOf (joined (copies n one)) u → IsOneOf one u
 in_copies zero one u h = absurd h
@@ -555,10 +556,12 @@ rounds_of_ready : (env : Env) (d : Scope) (way : Way) (l : TypedLine) (by : Type
 rounds_of_ready env d way l by base n line (Some k) h enters known noted r =
     let same = known_components env l by k h known in
     let comps = rounds_to k.count k.base env (items_of (under l)) in
-    let clean = known_ready k.count env k.base (out-TypedLine l).under (λ j l2. clean_round env l k j (known_some (out-TypedLine l).form by h ∙ known) l2 r.1) in
-    (comps, subst (λ (z : ℤ). AllReady env (rounds n 0 z (out-TypedLine l).under) comps) (sym noted.0) (subst (λ (z : ℕ). AllReady env (rounds z 0 k.base (out-TypedLine l).under) comps) (sym noted.1) clean),
-        separate_right d (form_uses (head_of l).form env (head_of l).place) (joined comps) (subst (λ (cs : List (List Use)). Separate d (form_uses (head_of l).form env (head_of l).place ++ joined cs)) same r.0),
-        subst (λ (cs : List (List Use)). ClashFree way env cs) same r.2)
+    let clean = known_ready k.count env k.base (out-TypedLine l).under (λ j l2. clean_round env l k j (known_some (out-TypedLine l).form by h ∙ known) l2 r.1) in (
+      comps,
+      subst (λ (z : ℤ). AllReady env (rounds n 0 z (out-TypedLine l).under) comps) (sym noted.0) (subst (λ (z : ℕ). AllReady env (rounds z 0 k.base (out-TypedLine l).under) comps) (sym noted.1) clean),
+      separate_right d (form_uses (head_of l).form env (head_of l).place) (joined comps) (subst (λ (cs : List (List Use)). Separate d (form_uses (head_of l).form env (head_of l).place ++ joined cs)) same r.0),
+      subst (λ (cs : List (List Use)). ClashFree way env cs) same r.2,
+    )
 rounds_of_ready env d way l by base n line None h enters known noted r =
     let same = unknown_components env l by h known enters in
     let one = joined (items_of (under l) (env ++ b.Value None None [] ∷ [])) in
@@ -617,16 +620,14 @@ free _ _ _ _ _ (Running.bound_stops d t g ss x r y) env line s h = free d t (eva
 free _ _ _ _ _ (Running.reaches d t k els r q xs y touches) env line s h = (free d t (find els) r (Gave xs) y env line s (finds_ready d line env k els h), touches_free k xs q touches)
 free _ _ _ _ _ (Running.finding_stops d t k els r y) env line s h = free d t (find els) r Stopped y env line s (finds_ready d line env k els h)
 free _ _ _ _ _ (Running.calls d t n actuals l r q xs o k y suits z) env line s h =
-    let g = good d t (pass actuals) r (Gave xs) y env s.agrees in
-    (
+    let g = good d t (pass actuals) r (Gave xs) y env s.agrees in (
       free d t (pass actuals) r (Gave xs) y env line s (passing_ready d line env n actuals h),
       free (take n d ++ formals_of xs) (t ++ InCall ∷ []) (Pieces InTurn 0 (works.items_of (out-TypedLine l).under)) q o z (take n env ++ entry_bounds (out-TypedLine l).enters) line (safe_called env d t n (Body l) (out-TypedLine l).enters actuals xs s k g suits)
           (body_ready env d t n actuals l xs line s k g suits h),
     )
 free _ _ _ _ _ (Running.calls_formula d t n actuals fs rs r q xs o k y suits z) env line s h =
     let g = good d t (pass actuals) r (Gave xs) y env s.agrees in
-    let e = formula_ready env d t n actuals fs rs xs line s k g suits h in
-    (
+    let e = formula_ready env d t n actuals fs rs xs line s k g suits h in (
       free d t (pass actuals) r (Gave xs) y env line s (passing_ready d line env n actuals h),
       free (take n d ++ formals_of xs) (t ++ InCall ∷ []) (evaluate rs) q o z (take n env ++ entry_bounds fs) e.0 (safe_called env d t n (Formula fs rs) fs actuals xs s k g suits) e.1,
     )
@@ -655,6 +656,7 @@ free _ _ _ _ _ (Running.chosen d t l e r q n o k y z) env line s h = (
   free d t (Under InTurn l) q o z env line s (form_under env d InTurn l (form.Condition e) line k refl (λ comps. tt) h.0 h.1),
 )
 free _ _ _ _ _ (Running.passed_over d t l e r n k y) env line s h = free d t (Evaluate (out-TypedExpr e)) r (Gave (Held (Some (v.Bool false)) n ∷ [])) y env (head_of l).place s (condition_ready env d Choice l e line k h)
+free _ _ _ _ _ (Running.left_out d t l) env line s h = tt
 free _ _ _ _ _ (Running.alternation d t way l by r q xs o k f y z) env line s h = (
   free d t (Under Waiting l) r (Gave xs) y env line s (form_under env d Waiting l (form.Block block.Alternation by) line k refl (λ comps. tt) h.0 h.1),
   free d t (Under Taken l) q o z env line s (form_under env d Taken l (form.Block block.Alternation by) line k refl (λ comps. tt) h.0 h.1),
@@ -671,8 +673,7 @@ free _ _ _ _ _ (Running.no_line d t way) env line s h = tt
 free _ _ _ _ _ (Running.with_specification d t way l ls names r q xs o k y z) env line s h =
     let here = specified_here d t l r xs y env s.agrees in
     let parts = specified_ready env d way l ls names line k h in
-    let bs = added env (head_of l) (under l) (items_of (under l)) in
-    (
+    let bs = added env (head_of l) (under l) (items_of (under l)) in (
       free d t (Specify l) r (Gave xs) y env line s parts,
       free (d ++ xs) t (Item way ls) q o z (env ++ bs) line (safe_more env d t bs xs s (good d t (Specify l) r (Gave xs) y env s.agrees) here (bodies_clean env l names xs k parts.1 (specified_bodies d t l r xs y env s.agrees)))
           (behind_ready env d t way l ls names xs line k s.visible here h),

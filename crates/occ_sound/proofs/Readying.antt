@@ -123,8 +123,8 @@ pairs_apart line env p (None ∷ qs) zero q h e = cc
 pairs_apart line env p (None ∷ qs) (suc j) q h e = pairs_apart line env p qs j q h e
 pairs_apart line env p (Some x ∷ qs) zero q h e =
     subst (λ (z : SelectedPart). overlap_of p (part_of z) ≡ o.Apart) (same x q e) (graded_apart line (root_name env p.root) (overlap_of p (part_of x)) (silent_left (pair_faults line code.A4 env p (part_of x)) (place_pairs line env p qs) h)) where
-  same : (y z : SelectedPart) → Some (Some y) ≡ Some (Some z) → y ≡ z
-  same y z k = cc
+      same : (y z : SelectedPart) → Some (Some y) ≡ Some (Some z) → y ≡ z
+      same y z k = cc
 pairs_apart line env p (Some x ∷ qs) (suc j) q h e = pairs_apart line env p qs j q (silent_right (pair_faults line code.A4 env p (part_of x)) (place_pairs line env p qs) h) e
 
 free_if : (line : Location) (n : ℕ) (env : Env) (p : Part) (u : Use) (t : Bool) → nat_lt u.part.root n ≡ t → u.part.root < n → IsSilent (if t then pair_faults line code.A4 env p u.part else []) → overlap_of p u.part ≡ o.Apart
@@ -426,7 +426,6 @@ block_ready env d line block.Sequence f = λ h. tt
 block_ready env d line block.Parallel f = λ h. tt
 block_ready env d line block.Conditional f = λ h. tt
 block_ready env d line block.Alternation f = tt
-
 
 process_ready : (env : Env) (d : Scope) (line : Location) (f : TypedForm) → ReadyPlan (process_plan f) f env d line
 process_ready env d line form.Declaration = tt

@@ -1,3 +1,4 @@
 pub mod Agreeing
 pub mod Covering
 pub mod Safe
+pub mod Units

@@ -1,12 +1,21 @@
-//! Laws of runs: what the rules find in a line is all that it touches when it runs.
-ghost use Rattle.std.specs.Prelude.{◌≡◌};
+//! Laws of runs: what the rules find in a line is all that it touches, and what they tell nothing of has no race.
+ghost use Rattle.std.specs.Prelude.{List, [], ◌≡◌};
 ghost use Rattle.occ_running.specs.Memory.{Cell as ACell, Thread};
 ghost use Rattle.occ_running.specs.Running.{Does, Outcome};
-ghost use Rattle.occ_running.specs.Runs.{Event as AnEvent, Occurs, Run as ARun};
-ghost use Rattle.occ_running.specs.Scopes.{Scope};
-ghost use Rattle.occ_running.specs.Works.{Work as SomeWork};
+ghost use Rattle.occ_running.specs.Runs.{Event as AnEvent, Occurs, RaceFree, Run as ARun};
+ghost use Rattle.occ_running.specs.Scopes.{Scope, Suits, Thing as AThing};
+ghost use Rattle.occ_running.specs.Works.{InTurn, Pieces, Work as SomeWork, items_of as pieces_of};
 ghost use Rattle.occ_sound.specs.Agreeing.{Agrees, InPart};
 ghost use Rattle.occ_sound.specs.Covering.{CoveredWork};
+ghost use Rattle.occ_sound.specs.Safe.{IsClean, IsSilent, Safe, Separate};
+ghost use Rattle.occ_sound.specs.Units.{ArePassedApart, HasNoVariable, IsHead, NeverRaces, Opens};
+ghost use Rattle.occ_typing.specs.declared.tree.TypedLine.{TypedLine as ATypedLine, out-TypedLine};
+ghost use Rattle.occ_usage.specs.AbbreviationRule.{abbreviation_at};
+ghost use Rattle.occ_usage.specs.Lines.{items_of};
+ghost use Rattle.occ_usage.specs.ParallelRule.{parallel_faults};
+ghost use Rattle.occ_usage.specs.Trees.{trees_of};
+ghost use Rattle.occ_usage.specs.Walk.{unit_reported};
+ghost use Rattle.occ_usage_conflicts.specs.Components.{joined};
 ghost use Rattle.occ_usage_parts.specs.Parts.{overlap_of};
 ghost use Rattle.occ_usage_parts.specs.declared.part.Overlap.TheVariants as o;
 ghost use Rattle.occ_usage_parts.specs.declared.part.Part.{Part as APart};
@@ -21,4 +30,15 @@ pub fn places_law()
 /// Else it is of a variable that is declared inside.
 pub fn uses_law()
     ensures { (d : Scope) (t : Thread) (w : SomeWork) (r : ARun) (o : Outcome) → Does d t w r o → (env : Env) → Agrees env d → (x : AnEvent) → Occurs x r → CoveredWork w env d t x }
+{}
+
+/// Lines of which neither U1, U2, U3 nor A4 is told have no race, in a scope where names that they use share no cell.
+pub fn lines_law()
+    ensures { (d : Scope) (t : Thread) (lines : List ATypedLine) (r : ARun) (o : Outcome) → Does d t (Pieces InTurn 0 (pieces_of lines)) r o → (env : Env) → Safe env d t → Separate d (joined (items_of (trees_of lines) env)) → IsClean (trees_of lines) env env → RaceFree r }
+{}
+
+/// No PROC or FUNCTION of a unit of which neither U1, U2, U3 nor A4 is told has a race, whoever calls it with elements that are apart.
+pub fn race_law()
+    ensures { (lines : List ATypedLine) → IsSilent (parallel_faults lines) → IsSilent (unit_reported abbreviation_at lines) → (d : Scope) (l : ATypedLine) → Opens lines [] d l → IsHead l → HasNoVariable d
+        → (xs : List AThing) → Suits (out-TypedLine l).enters xs → ArePassedApart xs → NeverRaces d l xs }
 {}

@@ -3,4 +3,4 @@
 
 mod laws;
 
-pub use laws::{places_law, uses_law};
+pub use laws::{lines_law, places_law, race_law, uses_law};
