@@ -15,3 +15,4 @@ mod Keeping
 mod Readying
 mod Races
 mod Units
+mod Racing

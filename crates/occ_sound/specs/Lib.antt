@@ -2,3 +2,4 @@ pub mod Agreeing
 pub mod Covering
 pub mod Safe
 pub mod Units
+pub mod Racing

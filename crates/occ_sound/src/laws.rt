@@ -1,12 +1,13 @@
 //! Laws of runs: what the rules find in a line is all that it touches, and what they tell nothing of has no race.
-ghost use Rattle.std.specs.Prelude.{List, [], ◌≡◌};
+ghost use Rattle.std.specs.Prelude.{List, None, Some, [], slice_get, ◌≡◌, ◌∷◌, ℕ};
 ghost use Rattle.occ_running.specs.Memory.{Cell as ACell, Thread};
 ghost use Rattle.occ_running.specs.Running.{Does, Outcome};
 ghost use Rattle.occ_running.specs.Runs.{Event as AnEvent, Occurs, RaceFree, Run as ARun};
-ghost use Rattle.occ_running.specs.Scopes.{Scope, Suits, Thing as AThing};
-ghost use Rattle.occ_running.specs.Works.{InTurn, Pieces, Work as SomeWork, items_of as pieces_of};
+ghost use Rattle.occ_running.specs.Scopes.{Scope, Stored, Suits, Thing as AThing};
+ghost use Rattle.occ_running.specs.Works.{InTurn, Main, Pieces, Work as SomeWork, items_of as pieces_of};
 ghost use Rattle.occ_sound.specs.Agreeing.{Agrees, InPart};
 ghost use Rattle.occ_sound.specs.Covering.{CoveredWork};
+ghost use Rattle.occ_sound.specs.Racing.{Assigns, CanRace, IsParallel};
 ghost use Rattle.occ_sound.specs.Safe.{IsClean, IsSilent, Safe, Separate};
 ghost use Rattle.occ_sound.specs.Units.{ArePassedApart, HasNoVariable, IsHead, NeverRaces, Opens};
 ghost use Rattle.occ_typing.specs.declared.tree.TypedLine.{TypedLine as ATypedLine, out-TypedLine};
@@ -41,4 +42,10 @@ pub fn lines_law()
 pub fn race_law()
     ensures { (lines : List ATypedLine) → IsSilent (parallel_faults lines) → IsSilent (unit_reported abbreviation_at lines) → (d : Scope) (l : ATypedLine) → Opens lines [] d l → IsHead l → HasNoVariable d
         → (xs : List AThing) → Suits (out-TypedLine l).enters xs → ArePassedApart xs → NeverRaces d l xs }
+{}
+
+/// A PAR of which two components assign to one variable can run so that it has a race, whatever stands between them.
+/// So the laws above are not about nothing.
+pub fn assigned_twice_law()
+    ensures { (d : Scope) (t u : Thread) (n : ℕ) (l first other last : ATypedLine) → slice_get d n ≡ Some (Stored u) → IsParallel l (first ∷ other ∷ last ∷ []) → Assigns n first → (out-TypedLine other).adds ≡ None → Assigns n last → CanRace d t (Main InTurn l) }
 {}
