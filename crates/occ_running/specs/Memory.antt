@@ -1,5 +1,5 @@
 -- Memory: cells, and elements as what was selected from a variable step by step.
-use Rattle.std.specs.Prelude.{◌≡◌, ◌⊎◌, ℕ, ℤ, pos, ◌+ℤ◌, int_le, int_lt, true, Option, List, [], ◌∷◌}
+use Rattle.std.specs.Prelude.{◌≡◌, ◌⊎◌, ℕ, ℤ, pos, ◌+ℤ◌, int_le, int_lt, true, List, [], ◌∷◌}
 
 -- from an element to its field of a name, or to its component at a place
 pub data Step : Type 0 where

@@ -1,6 +1,6 @@
 -- What a process may do when it runs: which cells it touches, what comes before what, and what runs beside what. What is read,
 -- written, sent or received has any value. Each beginning of what runs is a run, too.
-use Rattle.std.specs.Prelude.{◌≡◌, ◌⊎◌, ℕ, zero, suc, ℤ, pos, Bool, true, false, Option, Some, None, List, [], ◌∷◌, ◌++◌, slice_get, take}
+use Rattle.std.specs.Prelude.{◌≡◌, ◌⊎◌, ℕ, suc, ℤ, pos, Bool, true, false, Option, Some, None, List, [], ◌∷◌, ◌++◌, slice_get, take}
 use Rattle.occ_scope.specs.declared.meaning.Referent.{Referent}
 use Rattle.occ_scope.specs.declared.meaning.ScopeEntry.{ScopeEntry}
 use Rattle.occ_types.specs.declared.interface.Export.{Export}
@@ -10,7 +10,6 @@ use Rattle.occ_types.specs.declared.interface.UseKind.TheVariants as kind
 use Rattle.occ_types.specs.declared.value.Value.{Value}
 use Rattle.occ_types.specs.declared.value.Value.TheVariants as v
 use Rattle.occ_typing.specs.declared.tree.TypedLine.{TypedLine, out-TypedLine}
-use Rattle.occ_typing_lines.specs.declared.tree.BlockKind.{BlockKind}
 use Rattle.occ_typing_lines.specs.declared.tree.BlockKind.TheVariants as block
 use Rattle.occ_typing_lines.specs.declared.tree.TypedForm.{TypedForm}
 use Rattle.occ_typing_lines.specs.declared.tree.TypedForm.TheVariants as form
@@ -24,7 +23,7 @@ use Rattle.occ_typing_statements.specs.declared.replicator_tree.TypedReplicator.
 use Rattle.occ_running.specs.Memory.{Cell, Has, InCall, InComponent, IsOneOf, Recast, Spot, Step, Thread, Variable}
 use Rattle.occ_running.specs.Runs.{Beside, Quiet, Run, Then, Touch}
 use Rattle.occ_running.specs.Scopes.{AreDeclared, Body, Clock, Element, Formal, Formula, Held, Other, Scope, Stored, Suits, Thing, formals_of}
-use Rattle.occ_running.specs.Works.{Both, Call, Choice, EntersIndex, Evaluate, ExprForm, Find, Idle, InTurn, IsNoted, IsValue, Item, Main, Nothing, Piece, Pieces, Plan, Reach, Select, Selects, Specify, Taken, Tells, Together, Under, Waiting, Way, Work, bounds, count_in, count_value, evaluate, find, items_of, operands, or_else, pass, plan, replicator_of, rounds}
+use Rattle.occ_running.specs.Works.{Both, Call, Choice, EntersIndex, Evaluate, ExprForm, Find, Idle, InTurn, IsNoted, IsValue, Item, Main, Nothing, Piece, Pieces, Reach, Select, Selects, Specify, Taken, Tells, Together, Under, Waiting, Way, Work, bounds, count_in, count_value, evaluate, find, items_of, operands, or_else, pass, plan, replicator_of, rounds}
 
 -- ---- touches
 

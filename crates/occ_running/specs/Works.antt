@@ -1,5 +1,5 @@
 -- What there is to run: expressions, elements, calls, lines and the lines under them; and what a line does before those.
-use Rattle.std.specs.Prelude.{◌≡◌, ℕ, zero, suc, ℤ, pos, ◌+ℤ◌, Bool, true, false, Option, Some, None, List, [], ◌∷◌, Result, Ok, Err}
+use Rattle.std.specs.Prelude.{◌≡◌, ℕ, zero, suc, ℤ, pos, ◌+ℤ◌, Option, Some, None, List, [], ◌∷◌, Result, Ok, Err}
 use Rattle.occ_scope.specs.declared.meaning.Access.{Access}
 use Rattle.occ_scope.specs.declared.meaning.Access.TheVariants as access
 use Rattle.occ_scope.specs.declared.meaning.Meaning.{Meaning}
@@ -22,7 +22,7 @@ use Rattle.occ_typing_lines.specs.declared.tree.TypedForm.{TypedForm}
 use Rattle.occ_typing_lines.specs.declared.tree.TypedForm.TheVariants as form
 use Rattle.occ_typing_lines.specs.declared.tree.TypedGuard.{TypedGuard}
 use Rattle.occ_typing_lines.specs.declared.tree.TypedGuard.TheVariants as guard
-use Rattle.occ_typing_rules.specs.declared.expr.Selector.{Selector, out-Selector}
+use Rattle.occ_typing_rules.specs.declared.expr.Selector.{Selector}
 use Rattle.occ_typing_rules.specs.declared.expr.Selector.TheOpen.{Selector-F, TypedActual-F, TypedExpr-F}
 use Rattle.occ_typing_rules.specs.declared.expr.TypedActual.{TypedActual, out-TypedActual}
 use Rattle.occ_typing_rules.specs.declared.expr.TypedElement.{TypedElement}

@@ -1,16 +1,12 @@
 -- What a call does, by the uses of the body and by the actuals.
-use Rattle.std.proofs.Common.{◌≡◌, ◌+◌, ◌-◌, ◌<◌, ◌≤◌, ℕ, zero, suc, Bool, true, false, ap, sym, subst, ◌∙◌, refl, arith, List, [], ◌∷◌, ◌++◌, Option, Some, None, inl, inr, length, ◌↔◌}
+use Rattle.std.proofs.Common.{◌≡◌, ◌+◌, ◌-◌, ◌<◌, ◌≤◌, ℕ, zero, suc, Bool, true, false, ap, sym, subst, ◌∙◌, refl, arith, List, [], ◌∷◌, ◌++◌, Option, Some, None, inl, inr, length}
 use Rattle.std.specs.Prelude.{◌⊎◌, ◌||◌, nat_lt, slice_get, take, if◌then◌else◌}
-use Rattle.std.specs.List.{list_any}
 use Rattle.occ_project.specs.declared.expanded.Location.{Location}
-use Rattle.occ_scope.specs.declared.meaning.ScopeEntry.{ScopeEntry}
-use Rattle.occ_types.specs.declared.value.Value.{Value}
 use Rattle.occ_typing_rules.specs.declared.expr.Selector.TheOpen.{TypedActual-F}
 use Rattle.occ_typing_rules.specs.declared.expr.TypedActual.{TypedActual, out-TypedActual}
 use Rattle.occ_usage_conflicts.specs.Bodies.{body_uses, from_outside, outside}
-use Rattle.occ_usage_conflicts.specs.Distinct.{added, distinct, is_among, same_use}
+use Rattle.occ_usage_conflicts.specs.Distinct.{distinct, is_among, same_use}
 use Rattle.occ_usage_conflicts.proofs.Equality.{same_exactly}
-use Rattle.occ_usage_parts.specs.declared.part.Part.{Part}
 use Rattle.occ_usage_parts.specs.declared.place.SelectedPart.{SelectedPart}
 use Rattle.occ_usage_parts.specs.Selecting.{followed_by, part_of}
 use Rattle.occ_usage_values.specs.Bounds.{Env}
@@ -18,14 +14,14 @@ use Rattle.occ_usage_values.specs.Calls.{called, called_all, named_by, of_actual
 use Rattle.occ_usage_values.specs.Uses.{at_line}
 use Rattle.occ_usage_values.specs.Views.{ActualView, actual_view, actual_views, element_view, places_of}
 use Rattle.occ_usage_values.specs.declared.uses.Use.{Use}
-use Rattle.occ_running.specs.Memory.{Cell, Has, IsOneOf, Spot, Thread}
+use Rattle.occ_running.specs.Memory.{Cell, IsOneOf, Spot}
 use Rattle.occ_running.specs.Scopes.{Body, Clock, Element, Formal, Formula, Held, Other, Scope, Stored, Thing, formal_of, formals_of}
 use Rattle.occ_running.specs.Works.{Find, actual_work, pass}
 use Rattle.occ_sound.specs.Agreeing.{InPart, IsAt, LiesAt, origin}
 use Rattle.occ_sound.proofs.Forms.{ActualForm, actual_form, actual_opened}
 use Rattle.occ_sound.proofs.Knowing.{Good, found_one, raw_value}
-use Rattle.occ_sound.proofs.Lists.{get_below, get_cases, get_more, in_left, in_right, none_some, some_same, take_length}
-use Rattle.occ_sound.proofs.Names.{FoundAs, Kept, some_origin}
+use Rattle.occ_sound.proofs.Lists.{get_below, get_cases, in_left, in_right, none_some, some_same}
+use Rattle.occ_sound.proofs.Names.{FoundAs, Kept}
 use Rattle.occ_sound.proofs.Touching.{cell_in_part, in_actual}
 
 -- ---- uses, each once

@@ -1,12 +1,12 @@
 -- Timers of the rules are timers when they run.
-use Rattle.std.proofs.Common.{◌≡◌, ◌∙◌, ℕ, Bool, true, false, List, Option, Some, map, refl, ap, sym, subst}
+use Rattle.std.proofs.Common.{◌≡◌, ◌∙◌, ℕ, Bool, true, false, Option, Some, map, refl, ap, sym, subst}
 use Rattle.occ_types.specs.View.{array_layer, as_array, is_timer as is_timer_type, timer_layer}
 use Rattle.occ_types.specs.declared.types.Field.{Field}
 use Rattle.occ_types.specs.declared.types.Item.{Item}
 use Rattle.occ_types.specs.declared.types.Item.TheFolds.{fold-roll-OccType, ind-OccType, map-OccType}
 use Rattle.occ_types.specs.declared.types.Item.TheOpen.{OccType-F}
 use Rattle.occ_types.specs.declared.types.Item.TheViews.{out-roll-OccType}
-use Rattle.occ_types.specs.declared.types.OccType.{OccType, out-OccType, roll-OccType}
+use Rattle.occ_types.specs.declared.types.OccType.{OccType, roll-OccType}
 use Rattle.occ_types.specs.declared.types.Protocol.{Protocol}
 use Rattle.occ_types.specs.declared.types.Tag.{Tag}
 use Rattle.occ_usage_values.specs.Timers.{is_timer, timer_step}

@@ -1,11 +1,10 @@
 -- Each event of a run lies in a use of what is run.
-use Rattle.std.proofs.Common.{◌≡◌, ◌+◌, ◌<◌, ◌≤◌, ℕ, zero, suc, Bool, true, false, ap, sym, subst, ◌∙◌, refl, arith, List, [], ◌∷◌, ◌++◌, Option, Some, None, inl, inr, length, append_assoc}
+use Rattle.std.proofs.Common.{◌≡◌, ◌+◌, ◌<◌, ℕ, zero, suc, true, false, ap, sym, subst, ◌∙◌, refl, arith, List, [], ◌∷◌, ◌++◌, Option, Some, None, inl, inr, length}
 use Rattle.std.specs.Prelude.{ℤ, pos, ◌⊎◌, slice_get, take}
 use Rattle.occ_project.specs.declared.expanded.Location.{Location}
 use Rattle.occ_scope.specs.declared.meaning.ScopeEntry.{ScopeEntry}
 use Rattle.occ_types.specs.declared.interface.Export.{Export}
 use Rattle.occ_types.specs.declared.interface.Interface.{Interface}
-use Rattle.occ_types.specs.declared.interface.UseKind.{UseKind}
 use Rattle.occ_types.specs.declared.interface.UseKind.TheVariants as kind
 use Rattle.occ_types.specs.declared.value.Value.{Value}
 use Rattle.occ_types.specs.declared.value.Value.TheVariants as v
@@ -18,7 +17,7 @@ use Rattle.occ_typing.specs.declared.tree.TypedLine.{TypedLine, out-TypedLine}
 use Rattle.occ_typing_lines.specs.declared.tree.BlockKind.TheVariants as block
 use Rattle.occ_typing_lines.specs.declared.tree.TypedForm.{TypedForm}
 use Rattle.occ_typing_lines.specs.declared.tree.TypedForm.TheVariants as form
-use Rattle.occ_typing_rules.specs.declared.expr.Selector.{Selector, out-Selector}
+use Rattle.occ_typing_rules.specs.declared.expr.Selector.{out-Selector}
 use Rattle.occ_typing_rules.specs.declared.expr.Selector.TheOpen.{TypedExpr-F}
 use Rattle.occ_typing_rules.specs.declared.expr.TypedActual.{TypedActual}
 use Rattle.occ_typing_rules.specs.declared.expr.TypedElement.{TypedElement, out-TypedElement}
@@ -28,17 +27,17 @@ use Rattle.occ_typing_statements.specs.declared.replicator_tree.TypedReplicator.
 use Rattle.occ_usage_conflicts.specs.Bodies.{body_uses, from_outside}
 use Rattle.occ_usage_conflicts.specs.Components.{joined}
 use Rattle.occ_usage_lines.specs.Entering.{entry_bounds}
-use Rattle.occ_usage_lines.specs.Forms.{each_uses, form_uses, replicator_uses}
+use Rattle.occ_usage_lines.specs.Forms.{each_uses, form_uses}
 use Rattle.occ_usage_parts.specs.declared.part.Part.{Part}
 use Rattle.occ_usage_parts.specs.declared.place.SelectedPart.{SelectedPart}
 use Rattle.occ_usage_values.specs.Bounds.{Env, body_of}
 use Rattle.occ_usage_values.specs.Calls.{called_all}
-use Rattle.occ_usage_values.specs.Views.{ExprView, actual_views, actuals_uses, call_uses, expr_view, element_view, places_of, selector_views, selectors_uses}
+use Rattle.occ_usage_values.specs.Views.{ExprView, actual_views, actuals_uses, expr_view, element_view, places_of}
 use Rattle.occ_usage_values.specs.declared.bound.Bound.{Bound}
 use Rattle.occ_usage_values.specs.declared.bound.Bound.TheVariants as b
 use Rattle.occ_usage_values.specs.declared.uses.Use.{Use}
-use Rattle.occ_usage.specs.Effect.{inner, is_body}
-use Rattle.occ_usage.specs.Lines.{added, components, components_by, items_of, known_replicator, rounds_to, line_uses}
+use Rattle.occ_usage.specs.Effect.{is_body}
+use Rattle.occ_usage.specs.Lines.{added, components, components_by, items_of, rounds_to}
 use Rattle.occ_usage.specs.Trees.{head_of, trees_of, under}
 use Rattle.occ_running.specs.Memory.{Cell, Has, InCall, InComponent, IsOneOf, Reaches, Recast, Spot, Step, Thread, Variable}
 use Rattle.occ_running.specs.Running
@@ -47,14 +46,14 @@ use Rattle.occ_running.specs.Runs.{Event, Occurs, Run}
 use Rattle.occ_running.specs.Scopes.{AreDeclared, Body, Clock, Element, Formal, Formula, Held, IsDeclared, IsDeclaredBy, Other, Scope, Stored, Suits, Thing, formals_of}
 use Rattle.occ_running.specs.Works as works
 use Rattle.occ_running.specs.Works.{Both, Call, Choice, EntersIndex, Evaluate, Find, Idle, InTurn, IsNoted, Item, Main, Nothing, Piece, Pieces, Reach, Select, Specify, Taken, Tells, Together, Under, Waiting, Way, Work, bounds, evaluate, find, pass, plan, replicator_of, rounds}
-use Rattle.occ_sound.specs.Agreeing.{Agrees, Covered, Extends, InPart, IsAt, Matches, Shared, one_more, origin, uses_of_body}
-use Rattle.occ_sound.specs.Covering.{Allows, AllowsOne, AreIndices, ByOne, CoveredWork, all_used, component_thread, form_view, item_uses, work_uses}
-use Rattle.occ_sound.proofs.Calls.{Mapped, has_entry, mapped, seen}
+use Rattle.occ_sound.specs.Agreeing.{Agrees, Covered, Extends, InPart, Matches, one_more, origin, uses_of_body}
+use Rattle.occ_sound.specs.Covering.{Allows, AllowsOne, AreIndices, ByOne, CoveredWork, component_thread, item_uses}
+use Rattle.occ_sound.proofs.Calls.{has_entry, mapped, seen}
 use Rattle.occ_sound.proofs.Forms.{expr_form}
 use Rattle.occ_sound.proofs.Items.{copies, copies_same, in_joined, index_bounds, items_allowed, known_allowed, known_none, known_some, line_covered, main_item, own_uses, planned_no_body, replicated_uses, specified_item, unknown_allowed}
 use Rattle.occ_sound.proofs.Knowing.{Good, good, raw_value}
 use Rattle.occ_sound.proofs.Lines.{actuals_covered, bounds_covered, element_covered, evaluated_covered, find_covered, finds_covered, operands_covered, plan_covered, read_covered, selected_covered, specifying_covered, touch_covered}
-use Rattle.occ_sound.proofs.Lists.{get_below, get_cases, get_more, got_in, no_more, none_some, some_same, take_length}
+use Rattle.occ_sound.proofs.Lists.{get_below, get_cases, got_in, no_more, none_some, some_same, take_length}
 use Rattle.occ_sound.proofs.Names.{FoundAs, Kept, agrees_length, agrees_same, agrees_then, formals_agree, stands}
 use Rattle.occ_sound.proofs.Touching.{covered_in, covered_left, covered_right, touched}
 

@@ -1,5 +1,5 @@
 -- What the rules know of expressions, selectors, actuals and elements, by their forms.
-use Rattle.std.proofs.Common.{◌≡◌, ◌∙◌, ℕ, ℤ, Option, List, [], ◌∷◌, map, refl, ap, sym}
+use Rattle.std.proofs.Common.{◌≡◌, ◌∙◌, List, [], ◌∷◌, map, refl, ap, sym}
 use Rattle.occ_typing_rules.specs.declared.expr.Selector.{Selector, out-Selector, roll-Selector}
 use Rattle.occ_typing_rules.specs.declared.expr.Selector.TheFolds.{fold-roll-Selector, fold-roll-TypedActual, fold-roll-TypedElement, fold-roll-TypedExpr}
 use Rattle.occ_typing_rules.specs.declared.expr.Selector.TheOpen.{Selector-F, TypedActual-F, TypedElement-F, TypedExpr-F}

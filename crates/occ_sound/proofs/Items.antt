@@ -1,22 +1,17 @@
 -- The items and rounds of lines, as the rules and as runs have them.
-use Rattle.std.proofs.Common.{◌≡◌, ◌+◌, ◌<◌, ◌≤◌, ℕ, zero, suc, Bool, true, false, ap, sym, subst, ◌∙◌, refl, arith, List, [], ◌∷◌, ◌++◌, Option, Some, None, inl, inr, length, append_assoc}
-use Rattle.std.specs.Prelude.{ℤ, pos, negsuc, ◌+ℤ◌, ◌⊎◌, ◌&&◌, int_le, slice_get, if◌then◌else◌}
+use Rattle.std.proofs.Common.{◌≡◌, ◌+◌, ℕ, zero, suc, Bool, true, false, ap, sym, subst, ◌∙◌, refl, arith, List, [], ◌∷◌, ◌++◌, Option, Some, None, inl, inr, append_assoc}
+use Rattle.std.specs.Prelude.{ℤ, pos, ◌+ℤ◌, slice_get, if◌then◌else◌}
 use Rattle.occ_project.specs.declared.expanded.Location.{Location}
 use Rattle.occ_scope.specs.declared.meaning.Access.{Access}
 use Rattle.occ_scope.specs.declared.meaning.Access.TheVariants as access
 use Rattle.occ_scope.specs.declared.meaning.Meaning.{Meaning}
 use Rattle.occ_scope.specs.declared.meaning.Meaning.TheVariants as meaning
 use Rattle.occ_scope.specs.declared.meaning.ScopeEntry.{ScopeEntry}
-use Rattle.occ_types.specs.declared.types.OccType.{OccType}
-use Rattle.occ_types.specs.declared.value.Value.{Value}
 use Rattle.occ_types.specs.declared.value.Value.TheVariants as v
 use Rattle.occ_typing.specs.declared.tree.TypedLine.{TypedLine, out-TypedLine}
 use Rattle.occ_typing.specs.declared.tree.TypedLine.TheFolds.{fold_out-TypedLine}
-use Rattle.occ_typing_lines.specs.declared.tree.BlockKind.{BlockKind}
-use Rattle.occ_typing_lines.specs.declared.tree.BlockKind.TheVariants as block
 use Rattle.occ_typing_lines.specs.declared.tree.TypedForm.{TypedForm}
 use Rattle.occ_typing_lines.specs.declared.tree.TypedForm.TheVariants as form
-use Rattle.occ_typing_statements.specs.declared.replicator_tree.KnownReplicator.{KnownReplicator}
 use Rattle.occ_typing_statements.specs.declared.replicator_tree.TypedReplicator.{TypedReplicator}
 use Rattle.occ_usage_conflicts.specs.Components.{joined}
 use Rattle.occ_usage_conflicts.specs.Distinct.{distinct}
@@ -26,16 +21,16 @@ use Rattle.occ_usage_values.specs.Bounds.{Env}
 use Rattle.occ_usage_values.specs.declared.bound.Bound.{Bound}
 use Rattle.occ_usage_values.specs.declared.bound.Bound.TheVariants as b
 use Rattle.occ_usage_values.specs.declared.uses.Use.{Use}
-use Rattle.occ_usage.specs.Effect.{inner, is_body}
-use Rattle.occ_usage.specs.Lines.{Under as UnderUses, added, components, components_by, ends_item, is_replicated, items, items_of, known_of, known_replicator, line_uses, rounds_to, under_uses, with_index}
-use Rattle.occ_usage.specs.Trees.{Empty, Head, Tree, Trees, head_of, tree_step, trees_of, under}
+use Rattle.occ_usage.specs.Effect.{is_body}
+use Rattle.occ_usage.specs.Lines.{Under as UnderUses, added, components, ends_item, is_replicated, items, items_of, known_of, known_replicator, line_uses, rounds_to, under_uses, with_index}
+use Rattle.occ_usage.specs.Trees.{Tree, Trees, head_of, tree_step, trees_of, under}
 use Rattle.occ_running.specs.Memory.{IsOneOf, Thread}
 use Rattle.occ_running.specs.Runs.{Event}
 use Rattle.occ_running.specs.Scopes.{Scope}
 use Rattle.occ_running.specs.Works as works
 use Rattle.occ_running.specs.Works.{Choice, EntersIndex, Idle, InTurn, IsIndex, IsIndexBy, Piece, Plan, Taken, Tells, Together, Waiting, Way, behind_line, index_at, items_behind, plan, replicator_of, rounds}
 use Rattle.occ_sound.specs.Agreeing.{Covered}
-use Rattle.occ_sound.specs.Covering.{Allows, AllowsOne, AreIndices, ByOne, item_uses}
+use Rattle.occ_sound.specs.Covering.{Allows, AllowsOne, item_uses}
 use Rattle.occ_sound.proofs.Calls.{distinct_keeps}
 use Rattle.occ_sound.proofs.Lists.{in_cases, in_left, in_right, no_more}
 use Rattle.occ_sound.proofs.Touching.{covered_in}

@@ -1,6 +1,6 @@
 -- What a scope keeps while it is run in.
-use Rattle.std.proofs.Common.{◌≡◌, ◌+◌, ◌<◌, ◌≤◌, ℕ, zero, suc, Bool, true, false, ap, sym, subst, ◌∙◌, refl, arith, List, [], ◌∷◌, ◌++◌, Option, Some, None, inl, inr, length, append_assoc}
-use Rattle.std.specs.Prelude.{◌⊎◌, ◌==◌, ◌&&◌, ◌||◌, nat_lt, slice_get, take, if◌then◌else◌}
+use Rattle.std.proofs.Common.{◌≡◌, ◌+◌, ◌<◌, ◌≤◌, ℕ, zero, suc, Bool, true, false, ap, sym, subst, ◌∙◌, refl, arith, List, [], ◌∷◌, ◌++◌, Option, Some, inl, inr, length}
+use Rattle.std.specs.Prelude.{◌⊎◌, ◌==◌, slice_get, take, if◌then◌else◌}
 use Rattle.occ_project.specs.declared.expanded.Location.{Location}
 use Rattle.occ_scope.specs.declared.meaning.Access.{Access}
 use Rattle.occ_scope.specs.declared.meaning.Access.TheVariants as access
@@ -8,7 +8,7 @@ use Rattle.occ_scope.specs.declared.meaning.Meaning.{Meaning}
 use Rattle.occ_scope.specs.declared.meaning.Meaning.TheVariants as meaning
 use Rattle.occ_scope.specs.declared.meaning.ScopeEntry.{ScopeEntry}
 use Rattle.occ_types.specs.declared.types.OccType.{OccType}
-use Rattle.occ_typing.specs.declared.tree.TypedLine.{TypedLine, out-TypedLine}
+use Rattle.occ_typing.specs.declared.tree.TypedLine.{TypedLine}
 use Rattle.occ_typing_rules.specs.declared.expr.TypedActual.{TypedActual}
 use Rattle.occ_typing_rules.specs.declared.expr.TypedExpr.{TypedExpr}
 use Rattle.occ_usage_conflicts.specs.Bodies.{from_outside}
@@ -27,7 +27,7 @@ use Rattle.occ_usage_values.specs.declared.bound.Bound.{Bound}
 use Rattle.occ_usage_values.specs.declared.uses.Use.{Use}
 use Rattle.occ_usage.specs.Effect.{inner}
 use Rattle.occ_usage.specs.Trees.{head_of, under}
-use Rattle.occ_running.specs.Memory.{Cell, Has, InCall, IsOneOf, Mark, Reaches, Spot, Step, Thread, Variable}
+use Rattle.occ_running.specs.Memory.{Cell, InCall, IsOneOf, Mark, Reaches, Spot, Step, Thread, Variable}
 use Rattle.occ_running.specs.Scopes.{Body, Clock, Element, Formal, Formula, Held, Other, Scope, Stored, Suits, SuitsBy, SuitsOne, Thing, formal_of, formals_of}
 use Rattle.occ_running.specs.Works.{pass}
 use Rattle.occ_sound.specs.Agreeing.{Agrees, Extends, InPart, LiesAt, origin}
@@ -36,7 +36,7 @@ use Rattle.occ_sound.proofs.Calls.{Comes, Mapped, has_entry, mapped, passed, see
 use Rattle.occ_sound.proofs.Cells.{meeting, own_number}
 use Rattle.occ_sound.proofs.Covers.{AreHere, IsHere, extends_itself, part_cases, root_below}
 use Rattle.occ_sound.proofs.Knowing.{Good}
-use Rattle.occ_sound.proofs.Lists.{get_behind, get_below, get_cases, get_front, get_taken, got_in, in_left, in_right, length_last, none_some, or_cases, some_same, take_length, take_more, take_take}
+use Rattle.occ_sound.proofs.Lists.{get_behind, get_below, get_cases, get_front, get_taken, got_in, in_left, in_right, length_last, none_some, some_same, take_length, take_more, take_take}
 use Rattle.occ_sound.proofs.Names.{Kept, agrees_length, formals_agree, stands}
 
 -- ---- threads

@@ -1,5 +1,5 @@
 -- What comes of work is what the rules know of it.
-use Rattle.std.proofs.Common.{◌≡◌, ◌+◌, ℕ, zero, suc, Bool, true, false, ap, sym, subst, ◌∙◌, refl, arith, List, [], ◌∷◌, ◌++◌, Option, Some, None, inl, inr, length}
+use Rattle.std.proofs.Common.{◌≡◌, ◌+◌, ℕ, Bool, ap, sym, subst, ◌∙◌, refl, List, [], ◌∷◌, ◌++◌, Option, Some, None, length}
 use Rattle.std.specs.Prelude.{ℤ, pos, ◌⊎◌, slice_get}
 use Rattle.occ_project.specs.declared.expanded.Location.{Location}
 use Rattle.occ_scope.specs.declared.meaning.ScopeEntry.{ScopeEntry}
@@ -15,32 +15,32 @@ use Rattle.occ_typing_rules.specs.declared.expr.Selector.TheOpen.{Selector-F, Ty
 use Rattle.occ_typing_rules.specs.declared.expr.TypedElement.{TypedElement, out-TypedElement}
 use Rattle.occ_typing_rules.specs.declared.expr.TypedExpr.{TypedExpr, out-TypedExpr}
 use Rattle.occ_typing_statements.specs.declared.replicator_tree.KnownReplicator.{KnownReplicator}
-use Rattle.occ_usage_lines.specs.Entering.{abbreviated, entry_bounds, export_bounds, exported_uses, interface_bounds, looked_at, named_at, one_line, retyped, retyped_value, specified, valued}
+use Rattle.occ_usage_lines.specs.Entering.{abbreviated, export_bounds, exported_uses, interface_bounds, looked_at, named_at, one_line, retyped, retyped_value, specified, valued}
 use Rattle.occ_usage_conflicts.specs.Bodies.{body_uses}
 use Rattle.occ_usage_conflicts.specs.Components.{joined}
 use Rattle.occ_usage_parts.specs.declared.place.SelectedPart.{SelectedPart}
 use Rattle.occ_usage_values.specs.Bounds.{Env, place_of, size_of, value_of}
 use Rattle.occ_usage_values.specs.Values.{int_of, known_or, less, size_value, whole}
-use Rattle.occ_usage_values.specs.Views.{ElementView, ExprView, SelectorView, element_step, element_view, expr_view, expr_views, name_value, placed, placed_from, selector_view, selector_views, sized}
+use Rattle.occ_usage_values.specs.Views.{ElementView, ExprView, SelectorView, element_step, element_view, expr_view, name_value, placed_from, selector_view, selector_views, sized}
 use Rattle.occ_usage_values.specs.declared.bound.Bound.{Bound}
 use Rattle.occ_usage_values.specs.declared.bound.Bound.TheVariants as b
 use Rattle.occ_usage_values.specs.declared.uses.Use.{Use}
 use Rattle.occ_usage.specs.Effect.{effect_under, is_body}
-use Rattle.occ_usage.specs.Lines.{added, added_by, body_over, components, components_by, entered, items_of, known_replicator}
+use Rattle.occ_usage.specs.Lines.{added, added_by, body_over, components, components_by, items_of, known_replicator}
 use Rattle.occ_usage.specs.Trees.{Head, head_of, under}
 use Rattle.occ_running.specs.Memory.{ComponentOf, FieldOf, Recast, SegmentOf, Spot, Step, Thread}
 use Rattle.occ_running.specs.Running
 use Rattle.occ_running.specs.Running.{Brings, Does, Gave, Outcome, Passed, Stopped, at_end, both_ended, ended, exported, exports_of, found_of, of_process, specifying}
-use Rattle.occ_running.specs.Runs.{Quiet, Run}
-use Rattle.occ_running.specs.Scopes.{AreDeclared, Body, Clock, Element, Formal, Formula, Held, Other, Scope, Stored, Thing}
-use Rattle.occ_running.specs.Works.{Both, Call, Choice, Evaluate, ExprForm, Find, IsComponent, IsField, IsNumber, IsSegment, IsValue, Item, Main, Nothing, Pieces, Reach, Select, SelectorForm, Selects, Specify, Taken, Tells, Together, Under, Way, Work, bounds, count_in, count_value, evaluate, operands, or_else, value_in}
-use Rattle.occ_sound.specs.Agreeing.{Agrees, IsAt, Knows, LiesAt, Matches, one_more, uses_of_body}
+use Rattle.occ_running.specs.Runs.{Run}
+use Rattle.occ_running.specs.Scopes.{Body, Clock, Element, Formal, Formula, Held, Other, Scope, Stored, Thing}
+use Rattle.occ_running.specs.Works.{Both, Call, Choice, Evaluate, ExprForm, Find, IsComponent, IsField, IsNumber, IsSegment, Item, Main, Nothing, Pieces, Reach, Select, SelectorForm, Selects, Specify, Taken, Tells, Together, Under, Way, Work, bounds, count_in, count_value, evaluate, or_else}
+use Rattle.occ_sound.specs.Agreeing.{Agrees, IsAt, Knows, Matches, one_more, uses_of_body}
 use Rattle.occ_sound.specs.Covering.{form_view}
 use Rattle.occ_sound.proofs.Forms.{element_opened, expr_form, layer, selector_form, selector_opened}
-use Rattle.occ_sound.proofs.Lists.{none_some, one_same, some_same}
+use Rattle.occ_sound.proofs.Lists.{one_same}
 use Rattle.occ_sound.proofs.Names.{FoundAs, agrees_then, declared_agree, name_found, other_matches, agrees_same}
 use Rattle.occ_sound.proofs.Places.{component_lies, field_lies, named_lies, recast_lies, segment_lies}
-use Rattle.occ_sound.proofs.Values.{AreKnown, either_tells, int_known, known_first, known_tells, knows_tells, noted_tells, operation_known, operation_size, rest_known, size_tells}
+use Rattle.occ_sound.proofs.Values.{AreKnown, either_tells, int_known, known_first, known_tells, knows_tells, operation_known, operation_size, rest_known, size_tells}
 
 -- ---- selectors
 

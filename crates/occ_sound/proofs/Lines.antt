@@ -1,18 +1,9 @@
 -- Each event of a run lies in a use of what is run.
-use Rattle.std.proofs.Common.{◌≡◌, ◌+◌, ◌<◌, ◌≤◌, ℕ, zero, suc, Bool, true, false, ap, sym, subst, ◌∙◌, refl, arith, List, [], ◌∷◌, ◌++◌, Option, Some, None, inl, inr, length, append_assoc}
-use Rattle.std.specs.Prelude.{ℤ, pos, negsuc, ◌+ℤ◌, ◌⊎◌, ◌&&◌, int_le, slice_get, take, if◌then◌else◌}
+use Rattle.std.proofs.Common.{◌≡◌, ap, sym, subst, ◌∙◌, refl, List, [], ◌∷◌, ◌++◌, Option, Some, None, inl, inr}
+use Rattle.std.specs.Prelude.{ℤ}
 use Rattle.occ_project.specs.declared.expanded.Location.{Location}
-use Rattle.occ_scope.specs.declared.meaning.Access.{Access}
-use Rattle.occ_scope.specs.declared.meaning.Access.TheVariants as access
-use Rattle.occ_scope.specs.declared.meaning.Meaning.{Meaning}
-use Rattle.occ_scope.specs.declared.meaning.Meaning.TheVariants as meaning
-use Rattle.occ_scope.specs.declared.meaning.ScopeEntry.{ScopeEntry}
 use Rattle.occ_types.specs.declared.interface.UseKind.{UseKind}
 use Rattle.occ_types.specs.declared.interface.UseKind.TheVariants as kind
-use Rattle.occ_types.specs.declared.value.Value.{Value}
-use Rattle.occ_types.specs.declared.value.Value.TheVariants as v
-use Rattle.occ_typing.specs.declared.tree.TypedLine.{TypedLine, out-TypedLine}
-use Rattle.occ_typing.specs.declared.tree.TypedLine.TheFolds.{fold_out-TypedLine}
 use Rattle.occ_typing_lines.specs.declared.tree.BlockKind.{BlockKind}
 use Rattle.occ_typing_lines.specs.declared.tree.BlockKind.TheVariants as block
 use Rattle.occ_typing_lines.specs.declared.tree.TypedForm.{TypedForm}
@@ -30,7 +21,7 @@ use Rattle.occ_typing_statements.specs.declared.exchange_tree.TypedOutput.{Typed
 use Rattle.occ_typing_statements.specs.declared.exchange_tree.TypedOutput.TheVariants as output
 use Rattle.occ_typing_statements.specs.declared.exchange_tree.TypedTarget.{TypedTarget}
 use Rattle.occ_typing_statements.specs.declared.exchange_tree.TypedTarget.TheVariants as target
-use Rattle.occ_usage_lines.specs.Forms.{each_uses, form_uses, guard_uses, input_uses, output_uses, outputs_uses, replicator_uses, target_uses, targets_uses, used, written}
+use Rattle.occ_usage_lines.specs.Forms.{each_uses, form_uses, guard_uses, input_uses, output_uses, outputs_uses, target_uses, targets_uses, used, written}
 use Rattle.occ_usage_values.specs.Bounds.{Env}
 use Rattle.occ_usage_values.specs.Calls.{made}
 use Rattle.occ_usage_values.specs.Views.{ActualView, ElementView, ExprView, SelectorView, actual_view, actual_views, actuals_uses, element_step, element_view, expr_view, expr_views, selector_view, selector_views, selectors_uses}
@@ -40,14 +31,14 @@ use Rattle.occ_running.specs.Memory.{Has, IsOneOf, Spot, Thread}
 use Rattle.occ_running.specs.Running.{specifying}
 use Rattle.occ_running.specs.Runs.{Event}
 use Rattle.occ_running.specs.Scopes.{Element, Scope, Thing}
-use Rattle.occ_running.specs.Works.{Both, Call, Choice, Evaluate, ExprForm, Find, Idle, InTurn, Item, Main, Nothing, Pieces, Plan, Reach, Select, SelectorForm, Specify, Taken, Together, Under, Waiting, Way, Work, actual_work, block_plan, bounds, choice_plan, evaluate, find, guard_waits, guard_work, input_work, operands, pass, plan, process_plan, receive, receive_all, received, send, send_all, taken_plan, wait_for, waiting_plan}
-use Rattle.occ_sound.specs.Agreeing.{Covered, IsAt, Shared}
+use Rattle.occ_running.specs.Works.{Both, Choice, Evaluate, ExprForm, Find, Idle, InTurn, Plan, Reach, SelectorForm, Taken, Together, Waiting, Way, Work, actual_work, block_plan, bounds, choice_plan, evaluate, find, guard_waits, guard_work, input_work, operands, pass, plan, process_plan, receive, receive_all, received, send, send_all, taken_plan, wait_for, waiting_plan}
+use Rattle.occ_sound.specs.Agreeing.{Covered, IsAt}
 use Rattle.occ_sound.specs.Covering.{CoveredWork, all_used, form_view}
-use Rattle.occ_sound.proofs.Forms.{ActualForm, actual_form, actual_opened, element_opened, expr_form, layer, selector_form, selector_opened}
-use Rattle.occ_sound.proofs.Knowing.{FoundWith, Good, found_one, raw_value}
-use Rattle.occ_sound.proofs.Lists.{in_cases, in_left, in_right, no_more, one_same, some_same}
+use Rattle.occ_sound.proofs.Forms.{ActualForm, actual_form, actual_opened, element_opened, expr_form, selector_form, selector_opened}
+use Rattle.occ_sound.proofs.Knowing.{Good, found_one, raw_value}
+use Rattle.occ_sound.proofs.Lists.{in_cases, no_more, some_same}
 use Rattle.occ_sound.proofs.Names.{FoundAs}
-use Rattle.occ_sound.proofs.Touching.{covered_in, covered_left, covered_right, made_shared, shared_in}
+use Rattle.occ_sound.proofs.Touching.{covered_left, covered_right, made_shared}
 
 -- ---- expressions, one after the other
 

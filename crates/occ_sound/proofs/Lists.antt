@@ -1,5 +1,5 @@
 -- Lists: what is one of them, and what stands at a place.
-use Rattle.std.proofs.Common.{◌≡◌, ◌<◌, ◌≤◌, ◌+◌, ℕ, zero, suc, Bool, true, false, ap, sym, subst, ◌∙◌, refl, arith, List, [], ◌∷◌, ◌++◌, Option, Some, None, inl, inr, length, append_assoc}
+use Rattle.std.proofs.Common.{◌≡◌, ◌<◌, ◌≤◌, ◌+◌, ℕ, zero, suc, Bool, true, false, ap, sym, ◌∙◌, refl, arith, List, [], ◌∷◌, ◌++◌, Some, None, inl, inr, length}
 use Rattle.std.specs.Prelude.{◌⊎◌, ◌&&◌, ◌||◌, slice_get, take}
 use Rattle.occ_running.specs.Memory.{IsOneOf}
 

@@ -1,6 +1,6 @@
 -- Names: what stands for a name, by what the rules know of it.
-use Rattle.std.proofs.Common.{◌≡◌, ◌<◌, ◌≤◌, ◌+◌, ℕ, zero, suc, Bool, true, false, ap, sym, subst, ◌∙◌, refl, arith, List, [], ◌∷◌, ◌++◌, Option, Some, None, inl, inr, length, append_assoc}
-use Rattle.std.specs.Prelude.{ℤ, ◌⊎◌, slice_get, take}
+use Rattle.std.proofs.Common.{◌≡◌, ◌<◌, ℕ, suc, Bool, true, false, ap, sym, subst, ◌∙◌, refl, arith, List, [], ◌∷◌, ◌++◌, Option, Some, None, inl, inr, length, append_assoc}
+use Rattle.std.specs.Prelude.{ℤ, slice_get, take}
 use Rattle.occ_scope.specs.declared.meaning.Access.{Access}
 use Rattle.occ_scope.specs.declared.meaning.Access.TheVariants as access
 use Rattle.occ_scope.specs.declared.meaning.Meaning.{Meaning}
@@ -8,8 +8,6 @@ use Rattle.occ_scope.specs.declared.meaning.Meaning.TheVariants as meaning
 use Rattle.occ_scope.specs.declared.meaning.ScopeEntry.{ScopeEntry}
 use Rattle.occ_types.specs.declared.types.OccType.{OccType}
 use Rattle.occ_types.specs.declared.value.Value.{Value}
-use Rattle.occ_typing.specs.declared.tree.TypedLine.{TypedLine}
-use Rattle.occ_typing_rules.specs.declared.expr.TypedExpr.{TypedExpr}
 use Rattle.occ_usage_lines.specs.Entering.{access_bound, entry_bounds, meaning_bound}
 use Rattle.occ_usage_parts.specs.Selecting.{whole}
 use Rattle.occ_usage_parts.specs.declared.place.SelectedPart.{SelectedPart}
@@ -17,11 +15,10 @@ use Rattle.occ_usage_values.specs.Bounds.{Env, place_of, size_of, value_of}
 use Rattle.occ_usage_values.specs.Timers.{is_timer}
 use Rattle.occ_usage_values.specs.declared.bound.Bound.{Bound}
 use Rattle.occ_usage_values.specs.declared.bound.Bound.TheVariants as b
-use Rattle.occ_running.specs.Memory.{Cell, Reaches, Spot, Step, Thread, Variable}
+use Rattle.occ_running.specs.Memory.{Spot, Thread, Variable}
 use Rattle.occ_running.specs.Running.{found_of}
-use Rattle.occ_running.specs.Scopes.{AreDeclared, Body, Clock, Element, Formal, Formula, Held, IsClock, IsDeclared, IsDeclaredBy, Other, Scope, Stored, Suits, SuitsBy, SuitsOne, Thing, formal_of, formals_of}
+use Rattle.occ_running.specs.Scopes.{AreDeclared, Body, Clock, Element, Formal, Formula, Held, IsDeclared, IsDeclaredBy, Other, Scope, Stored, Suits, SuitsBy, SuitsOne, Thing, formal_of, formals_of}
 use Rattle.occ_running.specs.Works.{Tells}
-use Rattle.occ_sound.specs.Agreeing
 use Rattle.occ_sound.specs.Agreeing.{Agrees, IsAt, LiesAt, Matches, empty_scope, one_more, origin}
 use Rattle.occ_sound.proofs.Clocks.{clock_known}
 use Rattle.occ_sound.proofs.Lists.{get_below, get_end, get_last, get_more, length_last, none_some, no_more, some_same, take_all, take_more}

@@ -1,5 +1,5 @@
 -- What is selected from an element lies where the rules place it.
-use Rattle.std.proofs.Common.{◌≡◌, ◌<◌, ◌≤◌, ◌+◌, ℕ, zero, suc, Bool, true, false, ap, sym, subst, ◌∙◌, refl, arith, List, [], ◌∷◌, ◌++◌, Option, Some, None, inl, inr, append_assoc}
+use Rattle.std.proofs.Common.{◌≡◌, ℕ, Bool, true, false, ap, sym, subst, ◌∙◌, refl, arith, List, [], ◌∷◌, ◌++◌, Option, Some, None, inl, inr, append_assoc}
 use Rattle.std.specs.Prelude.{ℤ, pos, ◌+ℤ◌, ◌-ℤ◌, int_le, int_lt, unsigned_abs, ◌⊎◌, ◌&&◌, slice_get, if◌then◌else◌}
 use Rattle.std.proofs.lemmas.Int.{ints}
 use Rattle.std.proofs.Math.IntN.{+ℤ_assoc}
@@ -8,7 +8,7 @@ use Rattle.occ_types.specs.declared.interface.PartSelector.{PartSelector}
 use Rattle.occ_types.specs.declared.interface.PartSelector.TheVariants as s
 use Rattle.occ_types.specs.declared.interface.Places.{Places}
 use Rattle.occ_types.specs.declared.interface.Places.TheVariants as places
-use Rattle.occ_usage_parts.specs.Places.{common, from_place, holds, moved, near, run_from}
+use Rattle.occ_usage_parts.specs.Places.{from_place, holds, moved, near, run_from}
 use Rattle.occ_usage_parts.specs.Selecting.{counted, cut_to, following, inside, named, retyped, segment, segment_ending, selectors_of, subscript, with_field, with_field_of, with_segment, with_subscript, with_subscript_of}
 use Rattle.occ_usage_parts.specs.declared.place.Ending.{Ending}
 use Rattle.occ_usage_parts.specs.declared.place.Ending.TheVariants as e

@@ -1,107 +1,78 @@
 -- What the rules tell nothing of has no race.
-use Rattle.std.proofs.Common.{◌≡◌, ◌+◌, ◌<◌, ◌≤◌, ℕ, zero, suc, Bool, true, false, ap, sym, subst, ◌∙◌, refl, arith, List, [], ◌∷◌, ◌++◌, Option, Some, None, inl, inr, length, append_assoc}
-use Rattle.std.specs.Prelude.{ℤ, pos, negsuc, ◌+ℤ◌, ◌⊎◌, ◌&&◌, ◌==◌, ◌||◌, int_le, nat_lt, slice_get, take, if◌then◌else◌}
+use Rattle.std.proofs.Common.{◌≡◌, ◌+◌, ◌<◌, ◌≤◌, ℕ, zero, suc, Bool, true, false, ap, sym, subst, ◌∙◌, refl, arith, List, [], ◌∷◌, ◌++◌, Option, Some, None, inl, inr, length}
+use Rattle.std.specs.Prelude.{ℤ, pos, ◌+ℤ◌, ◌⊎◌, ◌&&◌, ◌==◌, ◌||◌, slice_get, take}
 use Rattle.occ_project.specs.declared.expanded.Location.{Location}
-use Rattle.occ_scope.specs.declared.meaning.Access.{Access}
-use Rattle.occ_scope.specs.declared.meaning.Access.TheVariants as access
-use Rattle.occ_scope.specs.declared.meaning.Meaning.{Meaning}
-use Rattle.occ_scope.specs.declared.meaning.Meaning.TheVariants as meaning
 use Rattle.occ_scope.specs.declared.meaning.ScopeEntry.{ScopeEntry}
 use Rattle.occ_types.specs.declared.interface.UseKind.{UseKind}
 use Rattle.occ_types.specs.declared.interface.UseKind.TheVariants as kind
 use Rattle.occ_types.specs.declared.value.Value.{Value}
 use Rattle.occ_types.specs.declared.value.Value.TheVariants as v
 use Rattle.occ_typing.specs.declared.tree.TypedLine.{TypedLine, out-TypedLine}
-use Rattle.occ_typing.specs.declared.tree.TypedLine.TheFolds.{fold_out-TypedLine}
-use Rattle.occ_typing_lines.specs.declared.tree.BlockKind.{BlockKind}
 use Rattle.occ_typing_lines.specs.declared.tree.BlockKind.TheVariants as block
 use Rattle.occ_typing_lines.specs.declared.tree.TypedForm.{TypedForm}
 use Rattle.occ_typing_lines.specs.declared.tree.TypedForm.TheVariants as form
-use Rattle.occ_typing_lines.specs.declared.tree.TypedGuard.{TypedGuard}
-use Rattle.occ_typing_lines.specs.declared.tree.TypedGuard.TheVariants as guard
-use Rattle.occ_typing_rules.specs.declared.expr.Selector.{Selector, out-Selector}
-use Rattle.occ_typing_rules.specs.declared.expr.Selector.TheOpen.{Selector-F, TypedActual-F, TypedExpr-F}
-use Rattle.occ_typing_rules.specs.declared.expr.TypedActual.{TypedActual, out-TypedActual}
-use Rattle.occ_typing_rules.specs.declared.expr.TypedElement.{TypedElement, out-TypedElement}
+use Rattle.occ_typing_rules.specs.declared.expr.Selector.{out-Selector}
+use Rattle.occ_typing_rules.specs.declared.expr.TypedActual.{TypedActual}
+use Rattle.occ_typing_rules.specs.declared.expr.TypedElement.{out-TypedElement}
 use Rattle.occ_typing_rules.specs.declared.expr.TypedExpr.{TypedExpr, out-TypedExpr}
-use Rattle.occ_typing_statements.specs.declared.exchange_tree.TypedInput.{TypedInput}
-use Rattle.occ_typing_statements.specs.declared.exchange_tree.TypedInput.TheVariants as input
-use Rattle.occ_typing_statements.specs.declared.exchange_tree.TypedOutput.{TypedOutput}
-use Rattle.occ_typing_statements.specs.declared.exchange_tree.TypedOutput.TheVariants as output
-use Rattle.occ_typing_statements.specs.declared.exchange_tree.TypedTarget.{TypedTarget}
-use Rattle.occ_typing_statements.specs.declared.exchange_tree.TypedTarget.TheVariants as target
-use Rattle.occ_usage_lines.specs.Forms.{each_uses, form_uses, guard_uses, input_uses, output_uses, outputs_uses, replicator_uses, target_uses, targets_uses, used, written}
+use Rattle.occ_usage_lines.specs.Forms.{each_uses, form_uses}
 use Rattle.occ_usage_values.specs.Bounds.{Env}
-use Rattle.occ_usage_values.specs.Calls.{made}
-use Rattle.occ_usage_values.specs.Views.{ActualView, ElementView, ExprView, SelectorView, actual_view, actual_views, actuals_uses, element_step, element_view, expr_view, expr_views, selector_view, selector_views, selectors_uses}
-use Rattle.occ_usage_values.specs.Views as views
+use Rattle.occ_usage_values.specs.Views.{expr_view}
 use Rattle.occ_usage_values.specs.declared.uses.Use.{Use}
-use Rattle.occ_running.specs.Memory.{Has, IsOneOf, Spot, Thread}
+use Rattle.occ_running.specs.Memory.{IsOneOf, Thread}
 use Rattle.occ_running.specs.Running.{specifying}
 use Rattle.occ_running.specs.Runs.{Event}
 use Rattle.occ_running.specs.Scopes.{Element, Scope, Thing}
 use Rattle.occ_running.specs.Works.{Both, Call, Choice, Evaluate, ExprForm, Find, Idle, InTurn, Item, Main, Nothing, Pieces, Plan, Reach, Select, SelectorForm, Specify, Taken, Together, Under, Waiting, Way, Work, actual_work, block_plan, bounds, choice_plan, evaluate, find, guard_waits, guard_work, input_work, operands, pass, plan, process_plan, receive, receive_all, received, send, send_all, taken_plan, wait_for, waiting_plan}
-use Rattle.occ_sound.specs.Agreeing.{Covered, IsAt, Shared}
-use Rattle.occ_sound.specs.Covering.{CoveredWork, all_used, form_view}
-use Rattle.occ_sound.proofs.Forms.{ActualForm, actual_form, actual_opened, element_opened, expr_form, layer, selector_form, selector_opened}
-use Rattle.occ_sound.proofs.Knowing.{FoundWith, Good, found_one, raw_value}
-use Rattle.occ_sound.proofs.Lines.{bound_uses, operand_uses, same_written}
-use Rattle.occ_sound.proofs.Lists.{in_cases, in_left, in_right, no_more, one_same, some_same}
-use Rattle.occ_sound.proofs.Names.{FoundAs}
-use Rattle.occ_sound.proofs.Touching.{covered_in, covered_left, covered_right, made_shared, shared_in}
-use Rattle.occ_alias.specs.AbbreviationRule.{actual_faults, actuals_faults, call_faults, calls_faults, evaluated_faults, free_fault, free_faults, graded, line_faults, pair_faults, place_pairs, reported_with, scope_faults, written_faults}
-use Rattle.occ_alias.specs.LineCalls.{each_calls, elements_calls, form_calls, guard_calls, input_calls, output_calls, outputs_calls, replicator_calls, target_calls, targets_calls}
-use Rattle.occ_base.specs.declared.code.Code.TheVariants as code
-use Rattle.occ_base.specs.declared.diag.Diag.{Diag}
+use Rattle.occ_sound.specs.Agreeing.{Covered, Shared}
+use Rattle.occ_sound.specs.Covering.{CoveredWork}
+use Rattle.occ_sound.proofs.Knowing.{Good}
+use Rattle.occ_sound.proofs.Lists.{in_cases, in_left, in_right, no_more, some_same}
+use Rattle.occ_alias.specs.AbbreviationRule.{calls_faults, reported_with, scope_faults}
+use Rattle.occ_alias.specs.LineCalls.{each_calls, form_calls, replicator_calls}
 use Rattle.occ_typing_statements.specs.declared.replicator_tree.KnownReplicator.{KnownReplicator}
 use Rattle.occ_typing_statements.specs.declared.replicator_tree.TypedReplicator.{TypedReplicator}
 use Rattle.occ_usage.specs.AbbreviationRule.{abbreviation_at}
-use Rattle.occ_usage.specs.Effect.{effect_under, inner, is_body}
-use Rattle.occ_usage.specs.Lines.{added, added_by, after_by, after_line, components, components_by, items, items_of, known_of, known_replicator, rounds_to, with_index}
-use Rattle.occ_usage.specs.ParallelRule.{block_faults, own_faults, parallel_at}
-use Rattle.occ_usage.specs.Trees.{Head, Tree, Trees, head_of, trees_of, under}
+use Rattle.occ_usage.specs.Effect.{effect_under, inner}
+use Rattle.occ_usage.specs.Lines.{added, added_by, after_by, after_line, components, items_of, known_replicator, rounds_to, with_index}
+use Rattle.occ_usage.specs.ParallelRule.{parallel_at}
+use Rattle.occ_usage.specs.Trees.{Tree, Trees, head_of, trees_of, under}
 use Rattle.occ_usage.specs.Walk.{Finding, Rule as WalkRule, line_reported, reported, rounds_reported, under_reported, under_reported_by}
 use Rattle.occ_usage_conflicts.specs.Components.{joined}
-use Rattle.occ_usage_conflicts.specs.ParallelRule.{below, component_faults, fault_if, root_fault, root_faults, root_name, some_clash}
+use Rattle.occ_usage_conflicts.specs.ParallelRule.{some_clash}
 use Rattle.occ_usage_conflicts.specs.declared.rule.Least.TheVariants as least
 use Rattle.occ_usage_conflicts.specs.declared.rule.Rule.{Rule}
 use Rattle.occ_usage_conflicts.specs.declared.rule.Rule.TheVariants as rule
 use Rattle.occ_usage_lines.specs.Entering.{entry_bounds, index_value}
 use Rattle.occ_usage_parts.specs.Parts.{overlap_of}
-use Rattle.occ_usage_parts.specs.Selecting.{part_of}
-use Rattle.occ_usage_parts.specs.declared.part.Overlap.{Overlap}
-use Rattle.occ_usage_parts.specs.declared.part.Overlap.TheVariants as o
-use Rattle.occ_usage_parts.specs.declared.part.Part.{Part}
-use Rattle.occ_usage_parts.specs.declared.place.SelectedPart.{SelectedPart}
 use Rattle.occ_usage_values.specs.Bounds.{body_of}
-use Rattle.occ_usage_values.specs.Views.{actuals_calls, call_at, call_calls, call_uses, called_uses, places_of, selectors_calls}
 use Rattle.occ_usage_values.specs.declared.bound.Bound.{Bound}
 use Rattle.occ_usage_values.specs.declared.bound.Bound.TheVariants as b
 use Rattle.occ_usage_values.specs.declared.call.Call.{Call as ACall}
 use Rattle.occ_running.specs.Works as works
 use Rattle.occ_running.specs.Works.{Piece, items_behind, behind_line, replicator_of, rounds}
 use Rattle.occ_sound.specs.Covering.{Allows, AllowsOne, AreIndices, item_uses}
-use Rattle.occ_sound.specs.Safe.{IsClean, IsCleanFormula, IsOther, IsSilent, NoClash, Separate}
+use Rattle.occ_sound.specs.Safe.{IsClean, IsCleanFormula, IsSilent, NoClash, Separate}
 use Rattle.occ_sound.proofs.Covers.{BroughtBodies, IsBrought}
-use Rattle.occ_sound.proofs.Items.{copies, first_tree, in_first_item, index_if, items_allowed, known_none, known_some, own_uses, planned_no_body, round_allowed, rounds_front, split, to_front, under_in_line}
-use Rattle.occ_sound.proofs.Keeping.{BodiesClean, NoAlias, same_number, separate_in, separate_left, separate_right}
+use Rattle.occ_sound.proofs.Items.{copies, first_tree, in_first_item, index_if, items_allowed, known_none, known_some, own_uses, rounds_front, to_front}
+use Rattle.occ_sound.proofs.Keeping.{BodiesClean, same_number, separate_in, separate_left, separate_right}
 use Rattle.occ_running.specs.Memory.{Cell, InCall, InComponent, Mark}
 use Rattle.occ_running.specs.Running
 use Rattle.occ_running.specs.Running.{Does, Gave, Outcome, Passed, Stopped, Touches, both_ended, ended, of_process}
-use Rattle.occ_running.specs.Runs.{Beside, NoRace, Occurs, Quiet, Race, RaceFree, Run, Then, Touch, collide}
+use Rattle.occ_running.specs.Runs.{NoRace, Occurs, Race, RaceFree, Run, collide}
 use Rattle.occ_running.specs.Scopes.{Body, Clock, Formal, Formula, Held, Other, Stored, Suits, formals_of}
 use Rattle.occ_running.specs.Works.{EntersIndex, IsNoted}
 use Rattle.occ_sound.specs.Agreeing.{Agrees, Extends, InPart, uses_of_body}
-use Rattle.occ_sound.specs.Covering.{ByOne, component_thread}
+use Rattle.occ_sound.specs.Covering.{ByOne}
 use Rattle.occ_sound.specs.Safe.{Safe}
-use Rattle.occ_sound.proofs.Covers.{AreHere, FormulaUses, append_length, body_matches, bounds_length, covers, env_length, first_piece, formula_matches, indices_agree, indices_here, known_components, plain_components, root_below, specified_bodies, specified_here, unknown_components}
-use Rattle.occ_sound.proofs.Items.{copies_same, in_joined, index_bounds, known_allowed, main_item, replicated_uses, specified_item, unknown_allowed}
-use Rattle.occ_sound.proofs.Keeping.{AllVisible, count_meeting, deeper_visible, extends_length, other_number, part_visible, safe_called, safe_deeper, safe_more, separate_called, separate_more}
+use Rattle.occ_sound.proofs.Covers.{AreHere, append_length, body_matches, bounds_length, covers, env_length, first_piece, indices_agree, indices_here, known_components, plain_components, root_below, specified_bodies, specified_here, unknown_components}
+use Rattle.occ_sound.proofs.Items.{in_joined, index_bounds, main_item, replicated_uses, specified_item}
+use Rattle.occ_sound.proofs.Keeping.{AllVisible, count_meeting, extends_length, other_number, part_visible, safe_called, safe_deeper, safe_more, separate_called, separate_more}
 use Rattle.occ_sound.proofs.Knowing.{entered_as, good}
 use Rattle.occ_sound.proofs.Lists.{and_both, get_below, in_got, length_last, none_some, take_length}
 use Rattle.occ_sound.proofs.Cells.{own_number}
 use Rattle.occ_sound.proofs.Names.{agrees_length, formals_agree, stands}
-use Rattle.occ_sound.proofs.Readying.{AllReady, AreQuiet, ClashFree, IsCleanLine, IsReady, Ready, ReadyOne, bounds_ready, called_ready, evaluate_ready, expression_ready, finds_ready, form_under, line_ready, operands_ready, pass_ready, passing_ready, plan_ready, planned_under, quiet_line, read_ready, rest_ready, select_ready, silent_left, silent_right, specifying_ready}
+use Rattle.occ_sound.proofs.Readying.{AllReady, ClashFree, IsCleanLine, IsReady, Ready, ReadyOne, bounds_ready, called_ready, evaluate_ready, expression_ready, finds_ready, form_under, line_ready, operands_ready, passing_ready, plan_ready, planned_under, read_ready, rest_ready, select_ready, silent_left, silent_right, specifying_ready}
 use Rattle.occ_usage_conflicts.proofs.Clashing.{any_given}
 use Rattle.occ_usage_conflicts.specs.Bodies.{body_uses}
 use Rattle.occ_usage_conflicts.specs.ParallelRule.{clash, clash_between, conflict, counts, uses_clash}

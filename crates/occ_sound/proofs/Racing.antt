@@ -1,25 +1,21 @@
 -- Components that assign to one variable can race, though another stands between them.
-use Rattle.std.proofs.Common.{◌≡◌, ℕ, zero, suc, true, ap, sym, subst, ◌∙◌, refl, List, [], ◌∷◌, ◌++◌, Option, Some, None, inl, inr}
-use Rattle.std.specs.Prelude.{◌⊎◌, slice_get}
+use Rattle.std.proofs.Common.{◌≡◌, ℕ, ap, sym, subst, ◌∙◌, refl, List, [], ◌∷◌, ◌++◌, Option, Some, None, inl, inr}
+use Rattle.std.specs.Prelude.{slice_get}
 use Rattle.occ_scope.specs.declared.meaning.ScopeEntry.{ScopeEntry}
 use Rattle.occ_types.specs.declared.interface.UseKind.TheVariants as kind
 use Rattle.occ_types.specs.declared.value.Value.{Value}
 use Rattle.occ_typing.specs.declared.tree.TypedLine.{TypedLine, out-TypedLine}
-use Rattle.occ_typing_lines.specs.declared.tree.BlockKind.TheVariants as block
-use Rattle.occ_typing_lines.specs.declared.tree.TypedForm.{TypedForm}
-use Rattle.occ_typing_lines.specs.declared.tree.TypedForm.TheVariants as form
 use Rattle.occ_typing_operands.specs.declared.kind.Known.{Known}
 use Rattle.occ_typing_rules.specs.declared.expr.Selector.{Selector}
 use Rattle.occ_typing_rules.specs.declared.expr.Selector.TheOpen.{TypedExpr-F}
 use Rattle.occ_typing_rules.specs.declared.expr.TypedElement.{TypedElement, out-TypedElement}
 use Rattle.occ_typing_rules.specs.declared.expr.TypedExpr.{TypedExpr, out-TypedExpr}
-use Rattle.occ_typing_statements.specs.declared.replicator_tree.TypedReplicator.{TypedReplicator}
-use Rattle.occ_running.specs.Memory.{Cell, InComponent, Thread, Variable}
+use Rattle.occ_running.specs.Memory.{InComponent, Thread, Variable}
 use Rattle.occ_running.specs.Running
 use Rattle.occ_running.specs.Running.{Does, Gave, Outcome, Stopped, at_end, both_ended, ended}
-use Rattle.occ_running.specs.Runs.{Beside, Event, Occurs, Quiet, RaceFree, Run, Then, Touch, collide}
-use Rattle.occ_running.specs.Scopes.{Element, Held, Scope, Stored, Thing}
-use Rattle.occ_running.specs.Works.{Both, Evaluate, ExprForm, Find, InTurn, Item, Main, Nothing, Piece, Pieces, Plan, Reach, Select, Tells, Together, Under, Work, behind_line, evaluate, find, items_behind, items_of, or_else, plan, process_plan, replicator_of}
+use Rattle.occ_running.specs.Runs.{Beside, Event, Occurs, Quiet, RaceFree, Run, Then, Touch}
+use Rattle.occ_running.specs.Scopes.{Element, Held, Scope, Stored}
+use Rattle.occ_running.specs.Works.{Both, Evaluate, ExprForm, Find, InTurn, Item, Main, Nothing, Piece, Pieces, Reach, Select, Tells, Together, Under, behind_line, evaluate, items_behind, items_of, or_else, process_plan, replicator_of}
 use Rattle.occ_sound.specs.Racing.{Assigns, CanRace, IsParallel}
 use Rattle.occ_sound.proofs.Lists.{get_more}
 

@@ -1,6 +1,6 @@
 -- What is touched lies in the uses of an element.
-use Rattle.std.proofs.Common.{◌≡◌, ◌+◌, ℕ, Bool, true, false, ap, sym, subst, ◌∙◌, refl, arith, List, [], ◌∷◌, ◌++◌, Option, Some, None, inl, inr}
-use Rattle.std.specs.Prelude.{ℤ, ◌+ℤ◌, ◌⊎◌, ◌&&◌, slice_get}
+use Rattle.std.proofs.Common.{◌≡◌, true, false, ap, sym, subst, refl, List, [], ◌∷◌, ◌++◌, Option, Some, None, inl, inr}
+use Rattle.std.specs.Prelude.{ℤ, ◌+ℤ◌}
 use Rattle.occ_project.specs.declared.expanded.Location.{Location}
 use Rattle.occ_types.specs.declared.interface.Interval.{Interval}
 use Rattle.occ_types.specs.declared.interface.PartSelector.{PartSelector}
@@ -9,7 +9,6 @@ use Rattle.occ_types.specs.declared.interface.UseKind.{UseKind}
 use Rattle.occ_usage_parts.specs.Parts.{lies, selects}
 use Rattle.occ_usage_parts.specs.Places.{holds}
 use Rattle.occ_usage_parts.specs.Selecting.{first_inside, followed, inside, part_of, selectors_of}
-use Rattle.occ_usage_parts.specs.declared.part.Part.{Part}
 use Rattle.occ_usage_parts.specs.declared.place.Ending.{Ending}
 use Rattle.occ_usage_parts.specs.declared.place.Ending.TheVariants as e
 use Rattle.occ_usage_parts.specs.declared.place.SelectedPart.{SelectedPart}
@@ -20,7 +19,7 @@ use Rattle.occ_running.specs.Running
 use Rattle.occ_running.specs.Running.{Touches}
 use Rattle.occ_running.specs.Runs.{Event, Occurs, Run}
 use Rattle.occ_running.specs.Scopes.{Element, Scope, Thing}
-use Rattle.occ_sound.specs.Agreeing.{AreSelected, Covered, Extends, Follows, InPart, IsAt, IsCounted, Knows, LiesAt, Shared, step_of, steps_of}
+use Rattle.occ_sound.specs.Agreeing.{AreSelected, Covered, Follows, InPart, IsAt, IsCounted, Knows, LiesAt, Shared, step_of, steps_of}
 use Rattle.occ_sound.proofs.Lists.{and_both, and_left, and_right, in_left, in_right}
 use Rattle.occ_sound.proofs.Places.{inside_holds}
 

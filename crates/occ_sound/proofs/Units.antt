@@ -1,7 +1,6 @@
 -- What is told of a unit, and how its PROCs and FUNCTIONs run.
-use Rattle.std.proofs.Common.{◌≡◌, ◌+◌, ◌<◌, ◌≤◌, ℕ, zero, suc, ap, sym, subst, ◌∙◌, refl, arith, List, [], ◌∷◌, ◌++◌, Option, Some, None, inl, inr, length}
-use Rattle.std.specs.Prelude.{ℤ, ◌⊎◌, ◌≢◌, slice_get, take}
-use Rattle.occ_base.specs.declared.diag.Diag.{Diag}
+use Rattle.std.proofs.Common.{◌≡◌, ◌+◌, ◌<◌, ℕ, zero, suc, ap, sym, subst, ◌∙◌, refl, arith, List, [], ◌∷◌, ◌++◌, Option, Some, inl, inr, length}
+use Rattle.std.specs.Prelude.{ℤ, slice_get, take}
 use Rattle.occ_scope.specs.declared.meaning.Access.{Access}
 use Rattle.occ_scope.specs.declared.meaning.Access.TheVariants as access
 use Rattle.occ_scope.specs.declared.meaning.Meaning.{Meaning}
@@ -9,28 +8,25 @@ use Rattle.occ_scope.specs.declared.meaning.Meaning.TheVariants as meaning
 use Rattle.occ_scope.specs.declared.meaning.ScopeEntry.{ScopeEntry}
 use Rattle.occ_types.specs.declared.types.OccType.{OccType}
 use Rattle.occ_typing.specs.declared.tree.TypedLine.{TypedLine, out-TypedLine}
-use Rattle.occ_typing_rules.specs.declared.expr.TypedExpr.{TypedExpr}
 use Rattle.occ_usage_conflicts.specs.Components.{joined}
 use Rattle.occ_usage_lines.specs.Entering.{entry_bounds}
 use Rattle.occ_usage_parts.specs.declared.part.Part.{Part}
-use Rattle.occ_usage_values.specs.Bounds.{Env, body_of}
-use Rattle.occ_usage_values.specs.declared.bound.Bound.{Bound}
+use Rattle.occ_usage_values.specs.Bounds.{Env}
 use Rattle.occ_usage_values.specs.declared.uses.Use.{Use}
 use Rattle.occ_usage.specs.AbbreviationRule.{abbreviation_at}
 use Rattle.occ_usage.specs.Effect.{inner}
 use Rattle.occ_usage.specs.Lines.{added, items_of}
-use Rattle.occ_usage.specs.ParallelRule.{parallel_at, parallel_faults}
+use Rattle.occ_usage.specs.ParallelRule.{parallel_faults}
 use Rattle.occ_usage.specs.Trees.{head_of, trees_of, under}
 use Rattle.occ_usage.specs.Walk.{unit_reported}
-use Rattle.occ_running.specs.Executions.{Execution, Store}
 use Rattle.occ_running.specs.Memory.{Cell, InCall, Reaches, Spot, Step, Thread}
 use Rattle.occ_running.specs.Running.{Does, Gave, Outcome}
-use Rattle.occ_running.specs.Runs.{Event, RaceFree, Run}
+use Rattle.occ_running.specs.Runs.{RaceFree, Run}
 use Rattle.occ_running.specs.Scopes.{Body, Clock, Element, Formal, Formula, Held, Other, Scope, Stored, Suits, SuitsBy, SuitsOne, Thing, formal_of, formals_of}
 use Rattle.occ_running.specs.Works as works
 use Rattle.occ_running.specs.Works.{InTurn, Pieces}
 use Rattle.occ_sound.specs.Agreeing.{Extends, InPart, empty_scope, origin}
-use Rattle.occ_sound.specs.Safe.{IsClean, IsCleanFormula, IsSilent, IsVisible, Safe, Separate}
+use Rattle.occ_sound.specs.Safe.{IsClean, IsSilent, IsVisible, Safe, Separate}
 use Rattle.occ_sound.specs.Units
 use Rattle.occ_sound.specs.Units.{ArePassedApart, HasNoVariable, IsHead, NeverRaces, Opens, body_work}
 use Rattle.occ_sound.proofs.Calls.{has_entry}

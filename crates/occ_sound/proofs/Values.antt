@@ -1,6 +1,6 @@
 -- Values of expressions, as far as the rules know them.
-use Rattle.std.proofs.Common.{inl, inr, ◌≡◌, ◌+◌, ℕ, Bool, true, false, ap, sym, subst, ◌∙◌, refl, arith, List, [], ◌∷◌, ◌++◌, Option, Some, None}
-use Rattle.std.specs.Prelude.{ℤ, pos, negsuc, ◌+ℤ◌, ◌-ℤ◌, int_le, ◌&&◌, Result, Ok, Err, if◌then◌else◌}
+use Rattle.std.proofs.Common.{inl, inr, ◌≡◌, ℕ, Bool, true, false, ap, sym, subst, ◌∙◌, refl, arith, List, [], ◌∷◌, Option, Some, None}
+use Rattle.std.specs.Prelude.{ℤ, pos, ◌+ℤ◌, ◌-ℤ◌, Result, Ok, Err, if◌then◌else◌}
 use Rattle.std.proofs.lemmas.Int.{ints}
 use Rattle.occ_types.specs.Constant as constant
 use Rattle.occ_types.specs.Fits.{unnamed}
@@ -8,7 +8,6 @@ use Rattle.occ_types.specs.View.{as_primitive}
 use Rattle.occ_types.specs.declared.constant.ConstFault.{ConstFault}
 use Rattle.occ_types.specs.declared.constant.Monadic.{Monadic}
 use Rattle.occ_types.specs.declared.constant.Operator.{Operator}
-use Rattle.occ_types.specs.declared.types.OccType.{OccType}
 use Rattle.occ_types.specs.declared.value.Primitive.{Primitive}
 use Rattle.occ_types.specs.declared.value.Value.{Value}
 use Rattle.occ_types.specs.declared.value.Value.TheVariants as v
@@ -18,7 +17,7 @@ use Rattle.occ_typing_rules.specs.declared.expr.TypedExpr.{TypedExpr}
 use Rattle.occ_usage_parts.specs.Places.{near}
 use Rattle.occ_usage_values.specs.Bounds.{Env}
 use Rattle.occ_usage_values.specs.Values.{both, converted_base, converted_to, folded_after, if_good, int_in, int_of, known_or, less, one, size_value, whole}
-use Rattle.occ_usage_values.specs.Views.{ExprView, expr_view, expr_views, folded_all, values_of}
+use Rattle.occ_usage_values.specs.Views.{expr_view, expr_views, folded_all, values_of}
 use Rattle.occ_running.specs.Scopes.{Body, Clock, Element, Formal, Formula, Held, Other, Stored, Thing}
 use Rattle.occ_running.specs.Works as works
 use Rattle.occ_running.specs.Works.{ExprForm, IsNumber, IsRest, IsValue, Tells, computed, converted_by, count_value, folded, given_by, given_by_two, noted, operands, or_else, value_in, whole_count, without_fault}

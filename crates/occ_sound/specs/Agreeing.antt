@@ -1,8 +1,7 @@
 -- What the rules of uses know of a scope holds of it when it runs.
-use Rattle.std.specs.Prelude.{◌≡◌, ◌⊎◌, ℕ, ℤ, pos, ◌+ℤ◌, ◌+◌, true, Option, Some, None, List, [], ◌∷◌, ◌++◌, length, slice_get}
+use Rattle.std.specs.Prelude.{◌≡◌, ◌⊎◌, ℕ, ℤ, ◌+ℤ◌, ◌+◌, true, Option, Some, None, List, [], ◌∷◌, ◌++◌, length, slice_get}
 use Rattle.occ_project.specs.declared.expanded.Location.{Location}
 use Rattle.occ_types.specs.declared.interface.PartSelector.{PartSelector}
-use Rattle.occ_types.specs.declared.value.Value.{Value}
 use Rattle.occ_typing.specs.declared.tree.TypedLine.{TypedLine}
 use Rattle.occ_usage_lines.specs.Entering.{entry_bounds}
 use Rattle.occ_usage_lines.specs.Forms.{each_uses}

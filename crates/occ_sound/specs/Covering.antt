@@ -1,8 +1,7 @@
 -- The uses that the rules find in what is run.
-use Rattle.std.specs.Prelude.{◌≡◌, ◌⊎◌, ℕ, ◌+◌, Option, Some, None, List, [], ◌∷◌, ◌++◌, slice_get, if◌then◌else◌}
+use Rattle.std.specs.Prelude.{◌≡◌, ◌⊎◌, ℕ, ◌+◌, Some, List, [], ◌∷◌, ◌++◌, slice_get, if◌then◌else◌}
 use Rattle.occ_project.specs.declared.expanded.Location.{Location}
 use Rattle.occ_types.specs.declared.interface.UseKind.{UseKind}
-use Rattle.occ_typing.specs.declared.tree.TypedLine.{TypedLine}
 use Rattle.occ_typing_rules.specs.declared.expr.Selector.TheOpen.{TypedExpr-F}
 use Rattle.occ_typing_rules.specs.declared.expr.TypedElement.{TypedElement}
 use Rattle.occ_usage_lines.specs.Forms.{form_uses, used}
@@ -17,8 +16,8 @@ use Rattle.occ_usage.specs.Trees.{Empty, Tree, Trees, head_of, trees_of, under}
 use Rattle.occ_running.specs.Memory.{InComponent, IsOneOf, Thread}
 use Rattle.occ_running.specs.Runs.{Event}
 use Rattle.occ_running.specs.Scopes.{Held, Scope, Thing}
-use Rattle.occ_running.specs.Works.{Both, Call, Choice, Evaluate, ExprForm, Find, Idle, InTurn, Item, Main, Nothing, Piece, Pieces, Reach, Select, Specify, Taken, Tells, Together, Under, Waiting, Way, Work}
-use Rattle.occ_sound.specs.Agreeing.{Covered, Shared}
+use Rattle.occ_running.specs.Works.{Both, Call, Evaluate, ExprForm, Find, Item, Main, Nothing, Piece, Pieces, Reach, Select, Specify, Tells, Together, Under, Way, Work}
+use Rattle.occ_sound.specs.Agreeing.{Covered}
 
 -- what the rules know of an expression of this form
 abbrev pub form_view : ExprForm → ExprView

@@ -1,5 +1,5 @@
 -- Runs that have a race: so the laws are not about nothing.
-use Rattle.std.specs.Prelude.{◌≡◌, ℕ, Option, Some, None, List, [], ◌∷◌, slice_get}
+use Rattle.std.specs.Prelude.{◌≡◌, ℕ, None, List, [], ◌∷◌}
 use Rattle.occ_typing.specs.declared.tree.TypedLine.{TypedLine, out-TypedLine}
 use Rattle.occ_typing_lines.specs.declared.tree.BlockKind.TheVariants as block
 use Rattle.occ_typing_lines.specs.declared.tree.TypedForm.TheVariants as form
@@ -10,7 +10,7 @@ use Rattle.occ_typing_rules.specs.declared.expr.TypedExpr.{TypedExpr, out-TypedE
 use Rattle.occ_running.specs.Memory.{Thread}
 use Rattle.occ_running.specs.Running.{Does, Outcome}
 use Rattle.occ_running.specs.Runs.{RaceFree, Run}
-use Rattle.occ_running.specs.Scopes.{Scope, Stored}
+use Rattle.occ_running.specs.Scopes.{Scope}
 use Rattle.occ_running.specs.Works.{Work}
 
 -- it can run so that it has a race

@@ -1,5 +1,5 @@
 -- When nothing stands in the way of running: what is told of lines, and what a scope keeps.
-use Rattle.std.specs.Prelude.{◌≡◌, ◌⊎◌, ◌<◌, ℕ, false, Option, Some, None, List, [], ◌∷◌, ◌++◌, length, slice_get, take}
+use Rattle.std.specs.Prelude.{◌≡◌, ◌<◌, ℕ, false, Some, List, [], ◌∷◌, ◌++◌, length, slice_get, take}
 use Rattle.occ_alias.specs.AbbreviationRule.{calls_faults}
 use Rattle.occ_alias.specs.LineCalls.{each_calls}
 use Rattle.occ_base.specs.declared.code.Code.{Code}
@@ -16,15 +16,14 @@ use Rattle.occ_usage_conflicts.specs.ParallelRule.{some_clash}
 use Rattle.occ_usage_conflicts.specs.declared.rule.Least.TheVariants as least
 use Rattle.occ_usage_conflicts.specs.declared.rule.Rule.{Rule}
 use Rattle.occ_usage_values.specs.Bounds.{Env, body_of}
-use Rattle.occ_usage_values.specs.declared.call.Call.{Call}
 use Rattle.occ_usage_values.specs.declared.uses.Use.{Use}
 use Rattle.occ_usage.specs.AbbreviationRule.{abbreviation_at}
 use Rattle.occ_usage.specs.Effect.{inner}
 use Rattle.occ_usage.specs.ParallelRule.{parallel_at}
 use Rattle.occ_usage.specs.Trees.{Trees, head_of, under}
 use Rattle.occ_usage.specs.Walk.{reported}
-use Rattle.occ_running.specs.Memory.{Cell, IsOneOf, Reaches, Spot, Step, Thread}
-use Rattle.occ_running.specs.Scopes.{Body, Clock, Element, Formal, Formula, Held, Other, Scope, Stored, Thing}
+use Rattle.occ_running.specs.Memory.{Cell, IsOneOf, Reaches, Step, Thread}
+use Rattle.occ_running.specs.Scopes.{Body, Formal, Formula, Scope, Stored, Thing}
 use Rattle.occ_sound.specs.Agreeing.{Agrees, Extends, InPart}
 
 -- ---- what is told

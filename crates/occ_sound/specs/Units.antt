@@ -7,7 +7,7 @@ use Rattle.occ_running.specs.Executions.{Execution, Store}
 use Rattle.occ_running.specs.Memory.{Cell, InCall, Reaches, Spot, Step, Thread}
 use Rattle.occ_running.specs.Running.{Does, Gave, Outcome}
 use Rattle.occ_running.specs.Runs.{Event, RaceFree, Run}
-use Rattle.occ_running.specs.Scopes.{Element, Scope, Stored, Suits, Thing, formals_of}
+use Rattle.occ_running.specs.Scopes.{Element, Scope, Stored, Thing, formals_of}
 use Rattle.occ_running.specs.Works.{InTurn, Pieces, Specify, Work, items_of}
 
 -- The line stands at the outermost level of a unit, where the lines before it have brought this scope.
