@@ -4,6 +4,7 @@ use Rattle.std.specs.Prelude.{◌≡◌, ◌⊎◌, ℕ, suc, ℤ, pos, Bool, tr
 use Rattle.occ_scope.specs.declared.meaning.Referent.{Referent}
 use Rattle.occ_scope.specs.declared.meaning.ScopeEntry.{ScopeEntry}
 use Rattle.occ_types.specs.declared.interface.Export.{Export}
+use Rattle.occ_types.specs.declared.interface.FormalUse.{FormalUse}
 use Rattle.occ_types.specs.declared.interface.Interface.{Interface}
 use Rattle.occ_types.specs.declared.interface.UseKind.{UseKind}
 use Rattle.occ_types.specs.declared.interface.UseKind.TheVariants as kind
@@ -20,9 +21,10 @@ use Rattle.occ_typing_rules.specs.declared.expr.TypedActual.{TypedActual}
 use Rattle.occ_typing_rules.specs.declared.expr.TypedElement.{TypedElement, out-TypedElement}
 use Rattle.occ_typing_rules.specs.declared.expr.TypedExpr.{TypedExpr, out-TypedExpr}
 use Rattle.occ_typing_statements.specs.declared.replicator_tree.TypedReplicator.{TypedReplicator}
+use Rattle.occ_running.specs.Exports.{IsShown}
 use Rattle.occ_running.specs.Memory.{Cell, Has, InCall, InComponent, IsOneOf, Recast, Spot, Step, Thread, Variable}
-use Rattle.occ_running.specs.Runs.{Beside, Quiet, Run, Then, Touch}
-use Rattle.occ_running.specs.Scopes.{AreDeclared, Body, Clock, Element, Formal, Formula, Held, Other, Scope, Stored, Suits, Thing, formals_of}
+use Rattle.occ_running.specs.Runs.{Beside, Event, Occurs, Quiet, RaceFree, Run, Then, Touch}
+use Rattle.occ_running.specs.Scopes.{AreDeclared, Body, Clock, Element, Formal, Formula, Held, Other, Scope, Shown, Stored, Suits, Thing, formals_of}
 use Rattle.occ_running.specs.Works.{Both, Call, Choice, EntersIndex, Evaluate, ExprForm, Find, Idle, InTurn, IsNoted, IsValue, Item, Main, Nothing, Piece, Pieces, Reach, Select, Selects, Specify, Taken, Tells, Together, Under, Waiting, Way, Work, bounds, count_in, count_value, evaluate, find, items_of, operands, or_else, pass, plan, replicator_of, rounds}
 
 -- ---- touches
@@ -44,6 +46,7 @@ found_of n (Clock m) = Some (Clock m)
 found_of n (Held x m) = Some (Held x m)
 found_of n (Body l) = None
 found_of n (Formula formals results) = None
+found_of n (Shown us) = None
 found_of n Other = None
 
 -- ---- lines of specification
@@ -59,7 +62,7 @@ specifying _ = Nothing
 -- what the names of other units stand for
 abbrev pub exported : List Export → List Thing
 exported [] = []
-exported (x ∷ xs) = Other ∷ exported xs
+exported (x ∷ xs) = Shown x.uses ∷ exported xs
 
 abbrev pub exports_of : List Interface → List Thing
 exports_of [] = []
@@ -194,6 +197,10 @@ pub data Does : Scope → Thread → Work → Run → Outcome → Type 0 where
   calls_formula : (d : Scope) (t : Thread) (n : ℕ) (actuals : List TypedActual) (formals : List ScopeEntry) (results : List TypedExpr) (r s : Run) (xs : List Thing) (o : Outcome)
       → slice_get d n ≡ Some (Formula formals results) → Does d t (pass actuals) r (Gave xs) → Suits formals xs
       → Does (take n d ++ formals_of xs) (t ++ InCall ∷ []) (evaluate results) s o → Does d t (Call n actuals) (Then r s) (of_process o)
+  -- what another unit exports does any run without a race, of which each event is one that its interface tells
+  calls_export : (d : Scope) (t : Thread) (n : ℕ) (actuals : List TypedActual) (us : List FormalUse) (r s : Run) (xs : List Thing)
+      → slice_get d n ≡ Some (Shown us) → Does d t (pass actuals) r (Gave xs) → RaceFree s → ((e : Event) → Occurs e s → IsShown us xs t e)
+      → Does d t (Call n actuals) (Then r s) (Gave [])
   actual_stops : (d : Scope) (t : Thread) (n : ℕ) (actuals : List TypedActual) (r : Run) → Does d t (pass actuals) r Stopped → Does d t (Call n actuals) r Stopped
   -- specifications
   specifies : (d : Scope) (t : Thread) (l : TypedLine) (names : List ScopeEntry) (r : Run) (xs ys : List Thing)

@@ -5,6 +5,7 @@ use Rattle.occ_scope.specs.declared.meaning.Access.TheVariants as access
 use Rattle.occ_scope.specs.declared.meaning.Meaning.{Meaning}
 use Rattle.occ_scope.specs.declared.meaning.Meaning.TheVariants as meaning
 use Rattle.occ_scope.specs.declared.meaning.ScopeEntry.{ScopeEntry}
+use Rattle.occ_types.specs.declared.interface.FormalUse.{FormalUse}
 use Rattle.occ_types.specs.View.{as_array, is_timer}
 use Rattle.occ_types.specs.declared.types.OccType.{OccType}
 use Rattle.occ_types.specs.declared.value.Value.{Value}
@@ -28,7 +29,9 @@ pub data Thing : Type 0 where
   Body : TypedLine → Thing
   -- a FUNCTION of one line: its formals and its results
   Formula : List ScopeEntry → List TypedExpr → Thing
-  -- a type or a protocol, or what another unit exports
+  -- what another unit exports, with the uses of its formals that its interface tells
+  Shown : List FormalUse → Thing
+  -- a type or a protocol
   Other : Thing
 
 -- all that stands in scope, the outermost first
@@ -73,6 +76,7 @@ formal_of (Clock n) = Clock None
 formal_of (Held v n) = Held v n
 formal_of (Body l) = Body l
 formal_of (Formula formals results) = Formula formals results
+formal_of (Shown us) = Shown us
 formal_of Other = Other
 
 abbrev pub formals_of : List Thing → List Thing

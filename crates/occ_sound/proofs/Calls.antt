@@ -15,7 +15,7 @@ use Rattle.occ_usage_values.specs.Uses.{at_line}
 use Rattle.occ_usage_values.specs.Views.{ActualView, actual_view, actual_views, element_view, places_of}
 use Rattle.occ_usage_values.specs.declared.uses.Use.{Use}
 use Rattle.occ_running.specs.Memory.{Cell, IsOneOf, Spot}
-use Rattle.occ_running.specs.Scopes.{Body, Clock, Element, Formal, Formula, Held, Other, Scope, Stored, Thing, formal_of, formals_of}
+use Rattle.occ_running.specs.Scopes.{Body, Clock, Element, Formal, Formula, Held, Other, Shown, Scope, Stored, Thing, formal_of, formals_of}
 use Rattle.occ_running.specs.Works.{Find, actual_work, pass}
 use Rattle.occ_sound.specs.Agreeing.{InPart, IsAt, LiesAt, origin}
 use Rattle.occ_sound.proofs.Forms.{ActualForm, actual_form, actual_opened}
@@ -95,6 +95,7 @@ first_passed env d (TypedActual-F.Variable el) ws y m at g h k = by_thing y (fou
   by_thing (Formal x) f e = absurd f
   by_thing (Body l) f e = absurd f
   by_thing (Formula fs rs) f e = absurd f
+  by_thing (Shown us2) f e = absurd f
   by_thing Other f e = absurd f
 
 -- one thing comes of an actual

@@ -1,6 +1,6 @@
 -- Each event of a run lies in a use of what is run.
 use Rattle.std.proofs.Common.{◌≡◌, ◌+◌, ◌<◌, ℕ, zero, suc, true, false, ap, sym, subst, ◌∙◌, refl, arith, List, [], ◌∷◌, ◌++◌, Option, Some, None, inl, inr, length}
-use Rattle.std.specs.Prelude.{ℤ, pos, ◌⊎◌, slice_get, take}
+use Rattle.std.specs.Prelude.{◌+ℤ◌, int_le, ℤ, pos, ◌⊎◌, slice_get, take}
 use Rattle.occ_project.specs.declared.expanded.Location.{Location}
 use Rattle.occ_scope.specs.declared.meaning.ScopeEntry.{ScopeEntry}
 use Rattle.occ_types.specs.declared.interface.Export.{Export}
@@ -26,7 +26,7 @@ use Rattle.occ_typing_statements.specs.declared.replicator_tree.KnownReplicator.
 use Rattle.occ_typing_statements.specs.declared.replicator_tree.TypedReplicator.{TypedReplicator}
 use Rattle.occ_usage_conflicts.specs.Bodies.{body_uses, from_outside}
 use Rattle.occ_usage_conflicts.specs.Components.{joined}
-use Rattle.occ_usage_lines.specs.Entering.{entry_bounds}
+use Rattle.occ_usage_lines.specs.Entering.{exported_use, exported_uses, entry_bounds}
 use Rattle.occ_usage_lines.specs.Forms.{each_uses, form_uses}
 use Rattle.occ_usage_parts.specs.declared.part.Part.{Part}
 use Rattle.occ_usage_parts.specs.declared.place.SelectedPart.{SelectedPart}
@@ -39,21 +39,30 @@ use Rattle.occ_usage_values.specs.declared.uses.Use.{Use}
 use Rattle.occ_usage.specs.Effect.{is_body}
 use Rattle.occ_usage.specs.Lines.{added, components, components_by, items_of, rounds_to}
 use Rattle.occ_usage.specs.Trees.{head_of, trees_of, under}
-use Rattle.occ_running.specs.Memory.{Cell, Has, InCall, InComponent, IsOneOf, Reaches, Recast, Spot, Step, Thread, Variable}
+use Rattle.occ_running.specs.Exports.{IsPlace, IsShown, IsStep, IsUseOf, LeadInto}
+use Rattle.occ_types.specs.declared.interface.FormalUse.{FormalUse}
+use Rattle.occ_types.specs.declared.interface.PartSelector.{PartSelector}
+use Rattle.occ_types.specs.declared.interface.PartSelector.TheVariants as sel
+use Rattle.occ_types.specs.declared.interface.Places.{Places}
+use Rattle.occ_types.specs.declared.interface.Places.TheVariants as places
+use Rattle.occ_usage_parts.specs.Parts.{lies, selects}
+use Rattle.occ_usage_parts.specs.Places.{holds}
+use Rattle.std.proofs.lemmas.Slice.Eq.{bytes_eq-Decides}
+use Rattle.occ_running.specs.Memory.{At, To, Cell, Has, InCall, InComponent, IsOneOf, Reaches, Recast, Spot, Step, Thread, Variable}
 use Rattle.occ_running.specs.Running
 use Rattle.occ_running.specs.Running.{Brings, Does, EndsThere, Gave, GoesOn, Outcome, Passed, Stopped, at_end, both_ended, ended, exported, exports_of, of_process, specifying}
 use Rattle.occ_running.specs.Runs.{Event, Occurs, Run}
-use Rattle.occ_running.specs.Scopes.{AreDeclared, Body, Clock, Element, Formal, Formula, Held, IsDeclared, IsDeclaredBy, Other, Scope, Stored, Suits, Thing, formals_of}
+use Rattle.occ_running.specs.Scopes.{AreDeclared, Body, Clock, Element, Formal, Formula, Held, IsDeclared, IsDeclaredBy, Other, Shown, Scope, Stored, Suits, Thing, formals_of}
 use Rattle.occ_running.specs.Works as works
 use Rattle.occ_running.specs.Works.{Both, Call, Choice, EntersIndex, Evaluate, Find, Idle, InTurn, IsNoted, Item, Main, Nothing, Piece, Pieces, Reach, Select, Specify, Taken, Tells, Together, Under, Waiting, Way, Work, bounds, evaluate, find, pass, plan, replicator_of, rounds}
-use Rattle.occ_sound.specs.Agreeing.{Agrees, Covered, Extends, InPart, Matches, one_more, origin, uses_of_body}
+use Rattle.occ_sound.specs.Agreeing.{Agrees, Covered, Extends, InPart, Matches, one_more, origin, uses_of_body, step_of, steps_of}
 use Rattle.occ_sound.specs.Covering.{Allows, AllowsOne, AreIndices, ByOne, CoveredWork, component_thread, item_uses}
 use Rattle.occ_sound.proofs.Calls.{has_entry, mapped, seen}
 use Rattle.occ_sound.proofs.Forms.{expr_form}
 use Rattle.occ_sound.proofs.Items.{copies, copies_same, in_joined, index_bounds, items_allowed, known_allowed, known_none, known_some, line_covered, main_item, own_uses, planned_no_body, replicated_uses, specified_item, unknown_allowed}
 use Rattle.occ_sound.proofs.Knowing.{Good, good, raw_value}
 use Rattle.occ_sound.proofs.Lines.{actuals_covered, bounds_covered, element_covered, evaluated_covered, find_covered, finds_covered, operands_covered, plan_covered, read_covered, selected_covered, specifying_covered, touch_covered}
-use Rattle.occ_sound.proofs.Lists.{get_below, get_cases, got_in, no_more, none_some, some_same, take_length}
+use Rattle.occ_sound.proofs.Lists.{and_both, get_behind, get_below, get_cases, got_in, no_more, none_some, some_same, take_length}
 use Rattle.occ_sound.proofs.Names.{FoundAs, Kept, agrees_length, agrees_same, agrees_then, formals_agree, stands}
 use Rattle.occ_sound.proofs.Touching.{covered_in, covered_left, covered_right, touched}
 
@@ -146,16 +155,20 @@ found_here d t place size value (Stored u) h = absurd h
 found_here d t place size value (Formal el) h = absurd h
 found_here d t place size value (Body l) h = absurd h
 found_here d t place size value (Formula fs rs) h = absurd h
+found_here d t place size value (Shown us2) h = absurd h
 found_here d t place size value Other h = absurd h
 
-in_others : (x : Thing) (xs : List Export) (ys : List Thing) → IsOneOf (exported xs ++ ys) x → (x ≡ Other) ⊎ IsOneOf ys x
-in_others x [] ys h = inr h
-in_others x (e ∷ xs) ys (inl h) = inl h
-in_others x (e ∷ xs) ys (inr h) = in_others x xs ys h
+in_exports : (x : Thing) (xs : List Export) (ys : List Thing) → IsOneOf (exported xs ++ ys) x → ((us : List FormalUse) × (x ≡ Shown us)) ⊎ IsOneOf ys x
+in_exports x [] ys h = inr h
+in_exports x (e ∷ xs) ys (inl h) = inl (e.uses, h)
+in_exports x (e ∷ xs) ys (inr h) = in_exports x xs ys h
+
+shown_here : (t : Thread) (us : List FormalUse) (x : Thing) → x ≡ Shown us → IsHere t x
+shown_here t us x h = subst (λ (z : Thing). IsHere t z) (sym h) (λ n at e. none_some at e)
 
 exports_here : (t : Thread) (is : List Interface) → AreHere t (exports_of is)
 exports_here t [] x h = absurd h
-exports_here t (i ∷ is) x h = elim (in_others x i.exports (exports_of is) h) [ inl e ↦ other_here t x e | inr g ↦ exports_here t is x g ]
+exports_here t (i ∷ is) x h = elim (in_exports x i.exports (exports_of is) h) [ inl e ↦ shown_here t e.0 x e.1 | inr g ↦ exports_here t is x g ]
 
 pub brought_here : (env : Env) (d : Scope) (t : Thread) (l : TypedLine) (names : List ScopeEntry) (f : TypedForm) (xs ys : List Thing) → Good env d (specifying f) xs → Brings t l names f xs ys → AreHere t ys
 brought_here env d t l names form.Declaration xs ys g h = all_declared_here t names ys h
@@ -219,6 +232,7 @@ found_brought d l place size value (Stored u) h = absurd h
 found_brought d l place size value (Formal el) h = absurd h
 found_brought d l place size value (Body m) h = absurd h
 found_brought d l place size value (Formula fs rs) h = absurd h
+found_brought d l place size value (Shown us2) h = absurd h
 found_brought d l place size value Other h = absurd h
 
 declared_by_brought : (l : TypedLine) (i : ℕ) (t : Thread) (a : Access) (of : OccType) (x : Thing) → IsDeclaredBy t a of x → IsBrought l i x
@@ -245,16 +259,15 @@ all_declared_brought l t (f ∷ es) [] h i k z e = absurd h
 all_declared_brought l t (f ∷ es) (y ∷ xs) h zero k z e = subst (λ (w : Thing). IsBrought l k w) (some_same y z e) (declared_brought l k t f.meaning y h.0)
 all_declared_brought l t (f ∷ es) (y ∷ xs) h (suc i) k z e = all_declared_brought l t es xs h.1 i k z e
 
-exported_brought : (l : TypedLine) (is : List Interface) → BroughtBodies l (exports_of is)
-exported_brought l is i z h = other_brought l i z (all_other is i z h) where
-  among : (xs : List Export) (ys : List Thing) (j : ℕ) → ((k : ℕ) → slice_get ys k ≡ Some z → z ≡ Other) → slice_get (exported xs ++ ys) j ≡ Some z → z ≡ Other
-  among [] ys j k e = k j e
-  among (x ∷ xs) ys zero k e = sym (some_same Other z e)
-  among (x ∷ xs) ys (suc j) k e = among xs ys j k e
+shown_brought : (l : TypedLine) (i : ℕ) (us : List FormalUse) (x : Thing) → x ≡ Shown us → IsBrought l i x
+shown_brought l i us x h = subst (λ (z : Thing). IsBrought l i z) (sym h) tt
 
-  all_other : (js : List Interface) (j : ℕ) (y : Thing) → slice_get (exports_of js) j ≡ Some z → z ≡ Other
-  all_other [] j y e = none_some z e
-  all_other (x ∷ js) j y e = among x.exports (exports_of js) j (λ k f. all_other js k y f) e
+exports_shown : (js : List Interface) (x : Thing) → IsOneOf (exports_of js) x → (us : List FormalUse) × (x ≡ Shown us)
+exports_shown [] x h = absurd h
+exports_shown (i ∷ js) x h = elim (in_exports x i.exports (exports_of js) h) [ inl e ↦ e | inr g ↦ exports_shown js x g ]
+
+exported_brought : (l : TypedLine) (is : List Interface) → BroughtBodies l (exports_of is)
+exported_brought l is i z h = let g = exports_shown is z (got_in (exports_of is) i z h) in shown_brought l i g.0 z g.1
 
 brought_bodies : (env : Env) (d : Scope) (t : Thread) (l : TypedLine) (names : List ScopeEntry) (f : TypedForm) (xs ys : List Thing) → (out-TypedLine l).form ≡ f → Good env d (specifying f) xs → Brings t l names f xs ys → BroughtBodies l ys
 brought_bodies env d t l names form.Declaration xs ys is g h = λ i z e. all_declared_brought l t names ys h i i z e
@@ -337,6 +350,7 @@ here_if _ _ _ _ _ (Running.reaches d t k els r s xs x y) env a = tt
 here_if _ _ _ _ _ (Running.finding_stops d t k els r x) env a = tt
 here_if _ _ _ _ _ (Running.calls d t n xs l r s ys o h x suits y) env a = tt
 here_if _ _ _ _ _ (Running.calls_formula d t n xs formals results r s ys o h x suits y) env a = tt
+here_if _ _ _ _ _ (Running.calls_export d t n actuals us r s xs h y clean shown) env a = tt
 here_if _ _ _ _ _ (Running.actual_stops d t n xs r x) env a = tt
 here_if _ _ _ _ _ (Running.specifying_stops d t l r x) env a = tt
 here_if _ _ _ _ _ (Running.main d t way next l w r s xs o h x y) env a = tt
@@ -390,6 +404,7 @@ indices_here t (b.Value w size reads ∷ bs) (Stored u ∷ xs) h x i = absurd h
 indices_here t (b.Value w size reads ∷ bs) (Formal el ∷ xs) h x i = absurd h
 indices_here t (b.Value w size reads ∷ bs) (Body l ∷ xs) h x i = absurd h
 indices_here t (b.Value w size reads ∷ bs) (Formula fs rs ∷ xs) h x i = absurd h
+indices_here t (b.Value w size reads ∷ bs) ((Shown us2) ∷ xs) h x i = absurd h
 indices_here t (b.Value w size reads ∷ bs) (Other ∷ xs) h x i = absurd h
 indices_here t (b.Root name ∷ bs) (y ∷ xs) h x i = absurd h
 indices_here t (b.Abbreviation p size reads ∷ bs) (y ∷ xs) h x i = absurd h
@@ -408,6 +423,7 @@ indices_agree env d (b.Value w size reads ∷ bs) (Stored u ∷ xs) a h = absurd
 indices_agree env d (b.Value w size reads ∷ bs) (Formal el ∷ xs) a h = absurd h
 indices_agree env d (b.Value w size reads ∷ bs) (Body l ∷ xs) a h = absurd h
 indices_agree env d (b.Value w size reads ∷ bs) (Formula fs rs ∷ xs) a h = absurd h
+indices_agree env d (b.Value w size reads ∷ bs) ((Shown us2) ∷ xs) a h = absurd h
 indices_agree env d (b.Value w size reads ∷ bs) (Other ∷ xs) a h = absurd h
 indices_agree env d (b.Root name ∷ bs) [] a h = absurd h
 indices_agree env d (b.Root name ∷ bs) (y ∷ xs) a h = absurd h
@@ -422,6 +438,71 @@ indices_agree env d (b.Other ∷ bs) (y ∷ xs) a h = absurd h
 
 pub root_below : (d : Scope) (p : Part) (c : Cell) → InPart d p c → p.root < length d
 root_below d p c h = let found = has_entry p.root (slice_get d p.root) h.start h.is in get_below d p.root found.0 found.1
+
+-- ---- what another unit exports
+
+pub env_length : (env : Env) (d : Scope) (n : ℕ) → Agrees (take n env) (take n d) → length (take n d) ≡ n → length (take n env) ≡ n
+env_length env d n a h = agrees_length (take n env) (take n d) a ∙ h
+
+place_held : (p : Places) (x : ℤ) → IsPlace p x → holds p x ≡ true
+place_held places.None x h = absurd h
+place_held places.All x h = refl
+place_held (places.From a) x h = h
+place_held (places.Run a n) x h = and_both (int_le a x) (int_le x (a +ℤ pos n)) h.0 h.1
+
+step_selected : (x : PartSelector) (t : Step) → IsStep x t → selects x (step_of t) ≡ true
+step_selected (sel.Field m) (To n) h = (bytes_eq-Decides m n).1 h
+step_selected (sel.Field m) (At x) h = absurd h
+step_selected (sel.Interval i) (To n) h = absurd h
+step_selected (sel.Interval i) (At x) h = place_held i.places x h
+
+lead_lies : (xs : List PartSelector) (ts : List Step) → LeadInto xs ts → lies xs (steps_of ts) ≡ true
+lead_lies [] ts h = refl
+lead_lies (x ∷ xs) [] h = absurd h
+lead_lies (x ∷ xs) (t ∷ ts) h = and_both (selects x (step_of t)) (lies xs (steps_of ts)) (step_selected x t h.0) (lead_lies xs ts h.1)
+
+exported_in : (n : ℕ) (line : Location) (us : List FormalUse) (u : FormalUse) → IsOneOf us u → IsOneOf (exported_uses n line us) (exported_use n line u)
+exported_in n line [] u h = absurd h
+exported_in n line (w ∷ us) u (inl h) = inl (ap (exported_use n line) h)
+exported_in n line (w ∷ us) u (inr h) = inr (exported_in n line us u h)
+
+shown_matches : (env : Env) (d : Scope) (bound : Bound) (us : List FormalUse) → Matches env d bound (Shown us) → (line : Location) × (body_of (Some bound) ≡ exported_uses (length env) line us)
+shown_matches env d (b.Root name) us h = absurd h
+shown_matches env d (b.Value w size reads) us h = absurd h
+shown_matches env d (b.Abbreviation p size reads) us h = absurd h
+shown_matches env d (b.Body ws does) us h = h
+shown_matches env d b.Other us h = absurd h
+
+formal_got : (xs : List Thing) (i : ℕ) (at : Spot) (n : Option ℤ) → slice_get xs i ≡ Some (Element at n) → slice_get (formals_of xs) i ≡ Some (Formal at)
+formal_got [] i at n h = cc
+formal_got (x ∷ xs) zero at n h = ap (λ (y : Thing). Some (Rattle.occ_running.specs.Scopes.formal_of y)) (some_same x (Element at n) h)
+formal_got (x ∷ xs) (suc i) at n h = formal_got xs i at n h
+
+thread_below : (t more u : Thread) → u ≡ t ++ more → Extends t u
+thread_below t more u h = subst (λ (z : Thread). Extends t z) (sym h) (below t) where
+  below : (s : Thread) → Extends s (s ++ more)
+  below [] = tt
+  below (k ∷ s) = (refl, below s)
+
+shown_covered : (env : Env) (d : Scope) (t : Thread) (n : ℕ) (actuals : List TypedActual) (us : List FormalUse) (xs : List Thing) (x : Event) → Agrees env d → slice_get d n ≡ Some (Shown us) → Good env d (pass actuals) xs → IsShown us xs t x
+    → CoveredWork (Call n actuals) env d t x
+shown_covered env d t n actuals us xs x a at g (inl h) = λ line. inl (extends_less t (InCall ∷ []) x.cell.thread (thread_below (t ++ InCall ∷ []) h.0 x.cell.thread h.1))
+shown_covered env d t n actuals us xs x a at g (inr h) = λ line.
+    let st = stands env d a n (Shown us) at in
+    let high : n < length d = get_below d n (Shown us) at in
+    let len : length (take n d) ≡ n = take_length n d (omega (arith, high)) in
+    let env_len : length (take n env) ≡ n = env_length env d n st.agrees len in
+    let known = shown_matches (take n env) (take n d) st.bound us st.matches in
+    let uses : body_of (slice_get env n) ≡ exported_uses n known.0 us = ap body_of st.got ∙ known.1 ∙ ap (λ (k : ℕ). exported_uses k known.0 us) env_len in
+    let u = exported_use n known.0 h.u in
+    let among : IsOneOf (body_of (slice_get env n)) u = subst (λ (ws : List Use). IsOneOf ws u) (sym uses) (exported_in n known.0 us h.u h.among) in
+    let place : slice_get (take n d ++ formals_of xs) (n + h.u.formal) ≡ Some (Formal h.at) =
+        ap (λ (k : ℕ). slice_get (take n d ++ formals_of xs) (k + h.u.formal)) (sym len) ∙ get_behind (take n d) (formals_of xs) h.u.formal ∙ formal_got xs h.u.formal h.at h.count h.passed in
+    let part : InPart (take n d ++ formals_of xs) u.part x.cell =
+        record { start = h.at; is = ap (origin (n + h.u.formal)) place; steps = h.steps; reaches = h.reaches; inside = lead_lies h.u.selectors h.steps h.selected } in
+    let k = mapped env d line n actuals xs (body_of (slice_get env n)) u x.cell st.kept len g among part in
+    covered_right d t (actuals_uses (actual_views actuals) env line) (called_all line n (places_of (actual_views actuals) env) (body_of (slice_get env n))) x
+    (inr (record { u = k.w; among = k.among; kind = k.kind ∙ h.kind; cell = k.cell }))
 
 -- an event of the body is one of the call
 pub call_covered : (env : Env) (d : Scope) (t : Thread) (n m : ℕ) (actuals : List TypedActual) (xs : List Thing) (us : List Use) (line : Location) (x : Event) → Kept (take n d) d → length (take n d) ≡ n → Good env d (pass actuals) xs
@@ -464,8 +545,6 @@ formula_matches env d b.Other formals results h = absurd h
 joined_covered : (d : Scope) (t : Thread) (comps : List (List Use)) (x : Event) → ByOne InTurn d t 0 comps x → Covered d t (joined comps) x
 joined_covered d t comps x h = covered_in d t h.us (joined comps) x (λ u i. in_joined comps h.place h.us u h.is i) h.covered
 
-pub env_length : (env : Env) (d : Scope) (n : ℕ) → Agrees (take n env) (take n d) → length (take n d) ≡ n → length (take n env) ≡ n
-env_length env d n a h = agrees_length (take n env) (take n d) a ∙ h
 
 body_covered : (env : Env) (d : Scope) (t : Thread) (n : ℕ) (actuals : List TypedActual) (l : TypedLine) (xs : List Thing) (x : Event) → Agrees env d → slice_get d n ≡ Some (Body l) → Good env d (pass actuals) xs → Suits (out-TypedLine l).enters xs
     → ((e : Env) → Agrees e (take n d ++ formals_of xs) → CoveredWork (Pieces InTurn 0 (works.items_of (out-TypedLine l).under)) e (take n d ++ formals_of xs) (t ++ InCall ∷ []) x) → CoveredWork (Call n actuals) env d t x
@@ -692,6 +771,9 @@ covers _ _ _ _ _ (Running.calls_formula d t n actuals formals results r s xs o h
 covers _ _ _ _ _ (Running.calls_formula d t n actuals formals results r s xs o h y suits z) env a x (inr i) =
     formula_covered env d t n actuals formals results xs x a h (good d t (pass actuals) r (Gave xs) y env a) suits
     (λ e g. covers (take n d ++ formals_of xs) (t ++ InCall ∷ []) (evaluate results) s o z e g x i)
+covers _ _ _ _ _ (Running.calls_export d t n actuals us r s xs h y clean shown) env a x (inl i) = λ line.
+    covered_left d t (actuals_uses (actual_views actuals) env line) (called_all line n (places_of (actual_views actuals) env) (body_of (slice_get env n))) x (actuals_covered env d t actuals x line (covers d t (pass actuals) r (Gave xs) y env a x i))
+covers _ _ _ _ _ (Running.calls_export d t n actuals us r s xs h y clean shown) env a x (inr i) = shown_covered env d t n actuals us xs x a h (good d t (pass actuals) r (Gave xs) y env a) (shown x i)
 covers _ _ _ _ _ (Running.actual_stops d t n actuals r y) env a x i = λ line.
     covered_left d t (actuals_uses (actual_views actuals) env line) (called_all line n (places_of (actual_views actuals) env) (body_of (slice_get env n))) x (actuals_covered env d t actuals x line (covers d t (pass actuals) r Stopped y env a x i))
 covers _ _ _ _ _ (Running.specifies d t l names r xs ys h y brings) env a x i = λ line. specifying_covered env d t (out-TypedLine l).form x (head_of l).place (covers d t (specifying (out-TypedLine l).form) r (Gave xs) y env a x i)

@@ -28,7 +28,7 @@ use Rattle.occ_usage_values.specs.declared.uses.Use.{Use}
 use Rattle.occ_usage.specs.Effect.{inner}
 use Rattle.occ_usage.specs.Trees.{head_of, under}
 use Rattle.occ_running.specs.Memory.{Cell, InCall, IsOneOf, Mark, Reaches, Spot, Step, Thread, Variable}
-use Rattle.occ_running.specs.Scopes.{Body, Clock, Element, Formal, Formula, Held, Other, Scope, Stored, Suits, SuitsBy, SuitsOne, Thing, formal_of, formals_of}
+use Rattle.occ_running.specs.Scopes.{Body, Clock, Element, Formal, Formula, Held, Other, Shown, Scope, Stored, Suits, SuitsBy, SuitsOne, Thing, formal_of, formals_of}
 use Rattle.occ_running.specs.Works.{pass}
 use Rattle.occ_sound.specs.Agreeing.{Agrees, Extends, InPart, LiesAt, origin}
 use Rattle.occ_sound.specs.Safe.{IsClean, IsCleanFormula, IsVisible, Safe, Separate}
@@ -62,6 +62,7 @@ visible_deeper t m (Clock n) h = tt
 visible_deeper t m (Held v n) h = tt
 visible_deeper t m (Body l) h = tt
 visible_deeper t m (Formula fs rs) h = tt
+visible_deeper t m (Shown us2) h = tt
 visible_deeper t m Other h = tt
 
 variable_thread : (n : ℕ) (s t : Thread) (at : Spot) (steps : List Step) (c : Cell) → Variable n s ≡ at → Reaches at steps c → Extends s t → Extends c.thread t
@@ -77,6 +78,7 @@ origin_visible t n (Clock m) at steps c h e r = none_some at e
 origin_visible t n (Held v m) at steps c h e r = none_some at e
 origin_visible t n (Body l) at steps c h e r = none_some at e
 origin_visible t n (Formula fs rs) at steps c h e r = none_some at e
+origin_visible t n (Shown us2) at steps c h e r = none_some at e
 origin_visible t n Other at steps c h e r = none_some at e
 
 abbrev pub AllVisible : Scope → Thread → Type 0
@@ -138,6 +140,7 @@ other_cell t n m (Clock j) at steps c v e r l k q = none_some at e
 other_cell t n m (Held w j) at steps c v e r l k q = none_some at e
 other_cell t n m (Body x) at steps c v e r l k q = none_some at e
 other_cell t n m (Formula fs rs) at steps c v e r l k q = none_some at e
+other_cell t n m (Shown us2) at steps c v e r l k q = none_some at e
 other_cell t n m Other at steps c v e r l k q = none_some at e
 
 before_and_here : (d : Scope) (t : Thread) (p q : Part) (c : Cell) (i : ℕ) (at : Spot) (steps : List Step) → AllVisible d t → InPart d p c → q.root ≡ length d + i → at ≡ Variable q.root t → Reaches at steps c → ⊥
@@ -192,6 +195,7 @@ here_visible t (Clock n) h = tt
 here_visible t (Held v n) h = tt
 here_visible t (Body l) h = tt
 here_visible t (Formula fs rs) h = tt
+here_visible t (Shown us2) h = tt
 here_visible t Other h = tt
 
 pub more_visible : (d : Scope) (t : Thread) (xs : List Thing) → AllVisible d t → AreHere t xs → AllVisible (d ++ xs) t
@@ -326,6 +330,7 @@ formal_visible env d t xs zs i (Clock n) v g h = tt
 formal_visible env d t xs zs i (Held w n) v g h = tt
 formal_visible env d t xs zs i (Body l) v g h = tt
 formal_visible env d t xs zs i (Formula fs rs) v g h = tt
+formal_visible env d t xs zs i (Shown us2) v g h = tt
 formal_visible env d t xs zs i Other v g h = tt
 
 -- no body is passed
@@ -363,6 +368,7 @@ body_one m (Element at n) l h e = cc
 body_one m (Clock n) l h e = cc
 body_one m (Held v n) l h e = cc
 body_one m (Formula fs rs) l h e = cc
+body_one m (Shown us2) l h e = cc
 body_one m Other l h e = cc
 
 formula_one : (m : Meaning) (z : Thing) (fs : List ScopeEntry) (rs : List TypedExpr) → SuitsOne m z → formal_of z ≡ Formula fs rs → ⊥
@@ -373,6 +379,7 @@ formula_one m (Element at n) fs rs h e = cc
 formula_one m (Clock n) fs rs h e = cc
 formula_one m (Held v n) fs rs h e = cc
 formula_one m (Body x) fs rs h e = cc
+formula_one m (Shown us2) fs rs h e = cc
 formula_one m Other fs rs h e = cc
 
 pub no_body_passed : (es : List ScopeEntry) (zs : List Thing) (i : ℕ) (l : TypedLine) → Suits es zs → slice_get (formals_of zs) i ≡ Some (Body l) → ⊥

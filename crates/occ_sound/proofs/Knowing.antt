@@ -1,5 +1,5 @@
 -- What comes of work is what the rules know of it.
-use Rattle.std.proofs.Common.{◌≡◌, ◌+◌, ℕ, Bool, ap, sym, subst, ◌∙◌, refl, List, [], ◌∷◌, ◌++◌, Option, Some, None, length}
+use Rattle.std.proofs.Common.{arith, suc, ◌≡◌, ◌+◌, ℕ, Bool, ap, sym, subst, ◌∙◌, refl, List, [], ◌∷◌, ◌++◌, Option, Some, None, length}
 use Rattle.std.specs.Prelude.{ℤ, pos, ◌⊎◌, slice_get}
 use Rattle.occ_project.specs.declared.expanded.Location.{Location}
 use Rattle.occ_scope.specs.declared.meaning.ScopeEntry.{ScopeEntry}
@@ -32,12 +32,12 @@ use Rattle.occ_running.specs.Memory.{ComponentOf, FieldOf, Recast, SegmentOf, Sp
 use Rattle.occ_running.specs.Running
 use Rattle.occ_running.specs.Running.{Brings, Does, Gave, Outcome, Passed, Stopped, at_end, both_ended, ended, exported, exports_of, found_of, of_process, specifying}
 use Rattle.occ_running.specs.Runs.{Run}
-use Rattle.occ_running.specs.Scopes.{Body, Clock, Element, Formal, Formula, Held, Other, Scope, Stored, Thing}
+use Rattle.occ_running.specs.Scopes.{Body, Clock, Element, Formal, Formula, Held, Other, Shown, Scope, Stored, Thing}
 use Rattle.occ_running.specs.Works.{Both, Call, Choice, Evaluate, ExprForm, Find, IsComponent, IsField, IsNumber, IsSegment, Item, Main, Nothing, Pieces, Reach, Select, SelectorForm, Selects, Specify, Taken, Tells, Together, Under, Way, Work, bounds, count_in, count_value, evaluate, or_else}
 use Rattle.occ_sound.specs.Agreeing.{Agrees, IsAt, Knows, Matches, one_more, uses_of_body}
 use Rattle.occ_sound.specs.Covering.{form_view}
 use Rattle.occ_sound.proofs.Forms.{element_opened, expr_form, layer, selector_form, selector_opened}
-use Rattle.occ_sound.proofs.Lists.{one_same}
+use Rattle.occ_sound.proofs.Lists.{length_last, one_same}
 use Rattle.occ_sound.proofs.Names.{FoundAs, agrees_then, declared_agree, name_found, other_matches, agrees_same}
 use Rattle.occ_sound.proofs.Places.{component_lies, field_lies, named_lies, recast_lies, segment_lies}
 use Rattle.occ_sound.proofs.Values.{AreKnown, either_tells, int_known, known_first, known_tells, knows_tells, operation_known, operation_size, rest_known, size_tells}
@@ -68,6 +68,7 @@ field_found d env place size value k name (Stored t) y h i = absurd h
 field_found d env place size value k name (Formal at) y h i = absurd h
 field_found d env place size value k name (Body l) y h i = absurd h
 field_found d env place size value k name (Formula fs rs) y h i = absurd h
+field_found d env place size value k name (Shown us2) y h i = absurd h
 field_found d env place size value k name Other y h i = absurd h
 
 component_place : (d : Scope) (env : Env) (place : Option SelectedPart) (size : Option ℤ) (e : TypedExpr) (at : Spot) (k : ℤ) → Knows (int_of ((expr_view e).value env)) k → IsAt d place at
@@ -85,6 +86,7 @@ component_found d env place size value e k (Stored t) y g h i = absurd h
 component_found d env place size value e k (Formal at) y g h i = absurd h
 component_found d env place size value e k (Body l) y g h i = absurd h
 component_found d env place size value e k (Formula fs rs) y g h i = absurd h
+component_found d env place size value e k (Shown us2) y g h i = absurd h
 component_found d env place size value e k Other y g h i = absurd h
 
 abbrev segment_place : Option ℤ → Option ℤ → Option SelectedPart → Option SelectedPart
@@ -104,6 +106,7 @@ segment_found d base count place size value k n (Stored t) y f g h i = absurd h
 segment_found d base count place size value k n (Formal at) y f g h i = absurd h
 segment_found d base count place size value k n (Body l) y f g h i = absurd h
 segment_found d base count place size value k n (Formula fs rs) y f g h i = absurd h
+segment_found d base count place size value k n (Shown us2) y f g h i = absurd h
 segment_found d base count place size value k n Other y f g h i = absurd h
 
 size_told : (d : Scope) (place : Option SelectedPart) (size : Option ℤ) (value : Option Value) (x : Thing) → FoundAs d place size value x → Tells size (count_in x)
@@ -114,6 +117,7 @@ size_told d place size value (Stored t) h = absurd h
 size_told d place size value (Formal at) h = absurd h
 size_told d place size value (Body l) h = absurd h
 size_told d place size value (Formula fs rs) h = absurd h
+size_told d place size value (Shown us2) h = absurd h
 size_told d place size value Other h = absurd h
 
 same_from : (w : SelectorView) (env : Env) (size base count : Option ℤ) (place : Option SelectedPart) → ((p : SelectedPart) → w.place env size p ≡ Rattle.occ_usage_parts.specs.Selecting.with_segment p base count)
@@ -334,20 +338,23 @@ abbreviation_matches env d el line (Stored t) h = absurd h
 abbreviation_matches env d el line (Formal at) h = absurd h
 abbreviation_matches env d el line (Body l) h = absurd h
 abbreviation_matches env d el line (Formula fs rs) h = absurd h
+abbreviation_matches env d el line (Shown us2) h = absurd h
 abbreviation_matches env d el line Other h = absurd h
 
-all_exported : (env : Env) (d : Scope) (n : ℕ) (line : Location) (xs : List Export) (bs : List Bound) (ys : List Thing)
-    → ((e : Env) (f : Scope) → Agrees e f → Agrees (e ++ bs) (f ++ ys)) → Agrees env d → Agrees (env ++ (export_bounds n line xs ++ bs)) (d ++ (exported xs ++ ys))
-all_exported env d n line [] bs ys k a = k env d a
-all_exported env d n line (x ∷ xs) bs ys k a =
+all_exported : (env : Env) (d : Scope) (n : ℕ) (line : Location) (xs : List Export) (bs : List Bound) (ys : List Thing) → n ≡ length env
+    → ((e : Env) (f : Scope) → n + length xs ≡ length e → Agrees e f → Agrees (e ++ bs) (f ++ ys)) → Agrees env d → Agrees (env ++ (export_bounds n line xs ++ bs)) (d ++ (exported xs ++ ys))
+all_exported env d n line [] bs ys same k a = k env d (omega (arith, same)) a
+all_exported env d n line (x ∷ xs) bs ys same k a =
     let bound = b.Body (exported_uses n line x.uses) x.effect in
-    agrees_then env d bound (export_bounds (n + 1) line xs ++ bs) Other (exported xs ++ ys)
-    (all_exported (env ++ bound ∷ []) (d ++ Other ∷ []) (n + 1) line xs bs ys k (one_more env d bound Other a (other_matches env d bound)))
+    let after : length (env ++ bound ∷ []) ≡ suc (length env) = length_last env bound in
+    agrees_then env d bound (export_bounds (n + 1) line xs ++ bs) (Shown x.uses) (exported xs ++ ys)
+    (all_exported (env ++ bound ∷ []) (d ++ Shown x.uses ∷ []) (n + 1) line xs bs ys (omega (arith, same, after)) (λ e f h g. k e f (let z : (n + 1) + length xs ≡ length e = h in omega (arith, z)) g)
+    (one_more env d bound (Shown x.uses) a (line, ap (λ (m : ℕ). exported_uses m line x.uses) same)))
 
-interfaces_agree : (n : ℕ) (line : Location) (is : List Interface) (env : Env) (d : Scope) → Agrees env d → Agrees (env ++ interface_bounds n line is) (d ++ exports_of is)
-interfaces_agree n line [] env d a = agrees_same env d a
-interfaces_agree n line (i ∷ is) env d a =
-    all_exported env d n line i.exports (interface_bounds (n + length i.exports) line is) (exports_of is) (λ e f h. interfaces_agree (n + length i.exports) line is e f h) a
+interfaces_agree : (n : ℕ) (line : Location) (is : List Interface) (env : Env) (d : Scope) → n ≡ length env → Agrees env d → Agrees (env ++ interface_bounds n line is) (d ++ exports_of is)
+interfaces_agree n line [] env d same a = agrees_same env d a
+interfaces_agree n line (i ∷ is) env d same a =
+    all_exported env d n line i.exports (interface_bounds (n + length i.exports) line is) (exports_of is) same (λ e f h g. interfaces_agree (n + length i.exports) line is e f h g) a
 
 -- under a head the lines stand as they are
 head_uses : (env : Env) (l : TypedLine) (f : TypedForm) → (out-TypedLine l).form ≡ f → known_replicator f ≡ None
@@ -379,7 +386,7 @@ brought env d t l names (form.Retyped el) xs ys is a g h = recast_brought env d 
 brought env d t l names (form.Value e) xs ys is a g h = same_brought env d (valued e env (head_of l).place) xs ys (Held g.0 g.1) a h g.2 (value_matches env d e (head_of l).place g.0 g.1 g.3 g.4)
 brought env d t l names (form.RetypedValue e) xs ys is a g h = one_agrees env d (retyped_value e env (head_of l).place) (Held h.0 None) ys a (tt, tt) h.1
 brought env d t l names (form.OneLineFunction formals results) xs ys is a g h = one_agrees env d (one_line formals results env (head_of l).place) (Formula formals results) ys a ((head_of l).place, refl) h
-brought env d t l names (form.Uses interfaces) xs ys is a g h = subst (λ (zs : List Thing). Agrees (env ++ interface_bounds (length env) (head_of l).place interfaces) (d ++ zs)) (sym h) (interfaces_agree (length env) (head_of l).place interfaces env d a)
+brought env d t l names (form.Uses interfaces) xs ys is a g h = subst (λ (zs : List Thing). Agrees (env ++ interface_bounds (length env) (head_of l).place interfaces) (d ++ zs)) (sym h) (interfaces_agree (length env) (head_of l).place interfaces env d refl a)
 brought env d t l names form.ProcedureHead xs ys is a g h =
     one_agrees env d (body_over env (head_of l) (joined (components env (head_of l) (items_of (under l)))) (effect_under (under l) env (head_of l))) (Body l) ys a (head_uses env l form.ProcedureHead is refl) h
 brought env d t l names form.FunctionHead xs ys is a g h =
@@ -446,6 +453,7 @@ good _ _ _ _ _ (Running.reaches d t k els r s xs x y) env a = tt
 good _ _ _ _ _ (Running.finding_stops d t k els r x) env a = tt
 good _ _ _ _ _ (Running.calls d t n xs l r s ys o h x suits y) env a = call_good env d n xs (of_process o)
 good _ _ _ _ _ (Running.calls_formula d t n xs formals results r s ys o h x suits y) env a = call_good env d n xs (of_process o)
+good _ _ _ _ _ (Running.calls_export d t n actuals us r s xs h x clean shown) env a = tt
 good _ _ _ _ _ (Running.actual_stops d t n xs r x) env a = tt
 good _ _ _ _ _ (Running.specifies d t l names r xs ys h x brings) env a =
     added_names env d l names ys h (brought env d t l names (out-TypedLine l).form xs ys refl a (good d t (specifying (out-TypedLine l).form) r (Gave xs) x env a) brings)

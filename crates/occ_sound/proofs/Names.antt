@@ -17,7 +17,7 @@ use Rattle.occ_usage_values.specs.declared.bound.Bound.{Bound}
 use Rattle.occ_usage_values.specs.declared.bound.Bound.TheVariants as b
 use Rattle.occ_running.specs.Memory.{Spot, Thread, Variable}
 use Rattle.occ_running.specs.Running.{found_of}
-use Rattle.occ_running.specs.Scopes.{AreDeclared, Body, Clock, Element, Formal, Formula, Held, IsDeclared, IsDeclaredBy, Other, Scope, Stored, Suits, SuitsBy, SuitsOne, Thing, formal_of, formals_of}
+use Rattle.occ_running.specs.Scopes.{AreDeclared, Body, Clock, Element, Formal, Formula, Held, IsDeclared, IsDeclaredBy, Other, Shown, Scope, Stored, Suits, SuitsBy, SuitsOne, Thing, formal_of, formals_of}
 use Rattle.occ_running.specs.Works.{Tells}
 use Rattle.occ_sound.specs.Agreeing.{Agrees, IsAt, LiesAt, Matches, empty_scope, one_more, origin}
 use Rattle.occ_sound.proofs.Clocks.{clock_known}
@@ -81,6 +81,7 @@ FoundAs d place size value (Stored thread) = ⊥
 FoundAs d place size value (Formal at) = ⊥
 FoundAs d place size value (Body l) = ⊥
 FoundAs d place size value (Formula formals results) = ⊥
+FoundAs d place size value (Shown us2) = ⊥
 FoundAs d place size value Other = ⊥
 
 abbrev pub Kept : Scope → Scope → Type 0
@@ -146,6 +147,7 @@ name_by env d n (Clock k) y h f s = subst (λ (z : Thing). Found d n s.bound z) 
 name_by env d n (Held x k) y h f s = subst (λ (z : Thing). Found d n s.bound z) (some_same (Held x k) y f) (held_found (take n env) (take n d) d n s.bound x k s.matches)
 name_by env d n (Body l) y h f s = none_some y f
 name_by env d n (Formula formals results) y h f s = none_some y f
+name_by env d n (Shown us2) y h f s = none_some y f
 name_by env d n Other y h f s = none_some y f
 
 -- what a name stands for lies where the rules place it
@@ -220,6 +222,7 @@ formal_variable env d name of (Stored t) h = absurd h
 formal_variable env d name of (Formal at) h = absurd h
 formal_variable env d name of (Body l) h = absurd h
 formal_variable env d name of (Formula fs rs) h = absurd h
+formal_variable env d name of (Shown us2) h = absurd h
 formal_variable env d name of Other h = absurd h
 
 formal_value : (env : Env) (d : Scope) (x : Thing) (of : OccType) → SuitsBy access.Formal of x → Matches env d (b.Value None None []) (formal_of x)
@@ -230,6 +233,7 @@ formal_value env d (Stored t) of h = absurd h
 formal_value env d (Formal at) of h = absurd h
 formal_value env d (Body l) of h = absurd h
 formal_value env d (Formula fs rs) of h = absurd h
+formal_value env d (Shown us2) of h = absurd h
 formal_value env d Other of h = absurd h
 
 formal_name : (env : Env) (d : Scope) (x : Thing) (of : OccType) → SuitsBy access.Value of x → Matches env d (b.Value None None []) (formal_of x)
@@ -240,6 +244,7 @@ formal_name env d (Stored t) of h = absurd h
 formal_name env d (Formal at) of h = absurd h
 formal_name env d (Body l) of h = absurd h
 formal_name env d (Formula fs rs) of h = absurd h
+formal_name env d (Shown us2) of h = absurd h
 formal_name env d Other of h = absurd h
 
 formal_by : (env : Env) (d : Scope) (name : List ℕ) (a : Access) (of : OccType) (x : Thing) → SuitsBy a of x → Matches env d (access_bound name a (is_timer of)) (formal_of x)

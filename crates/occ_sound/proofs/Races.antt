@@ -60,7 +60,7 @@ use Rattle.occ_running.specs.Memory.{Cell, InCall, InComponent, Mark}
 use Rattle.occ_running.specs.Running
 use Rattle.occ_running.specs.Running.{Does, Gave, Outcome, Passed, Stopped, Touches, both_ended, ended, of_process}
 use Rattle.occ_running.specs.Runs.{NoRace, Occurs, Race, RaceFree, Run, collide}
-use Rattle.occ_running.specs.Scopes.{Body, Clock, Formal, Formula, Held, Other, Stored, Suits, formals_of}
+use Rattle.occ_running.specs.Scopes.{Body, Clock, Formal, Formula, Held, Other, Shown, Stored, Suits, formals_of}
 use Rattle.occ_running.specs.Works.{EntersIndex, IsNoted}
 use Rattle.occ_sound.specs.Agreeing.{Agrees, Extends, InPart, uses_of_body}
 use Rattle.occ_sound.specs.Covering.{ByOne}
@@ -253,6 +253,7 @@ index_held (b.Value w size reads ∷ bs) (Stored t ∷ xs) i z h e = absurd h
 index_held (b.Value w size reads ∷ bs) (Formal at ∷ xs) i z h e = absurd h
 index_held (b.Value w size reads ∷ bs) (Body l ∷ xs) i z h e = absurd h
 index_held (b.Value w size reads ∷ bs) (Formula fs rs ∷ xs) i z h e = absurd h
+index_held (b.Value w size reads ∷ bs) ((Shown us2) ∷ xs) i z h e = absurd h
 index_held (b.Value w size reads ∷ bs) (Other ∷ xs) i z h e = absurd h
 index_held (b.Root name ∷ bs) [] i z h e = absurd h
 index_held (b.Root name ∷ bs) (y ∷ xs) i z h e = absurd h
@@ -602,6 +603,7 @@ free _ _ _ _ _ (Running.calls_formula d t n actuals fs rs r q xs o k y suits z) 
       free d t (pass actuals) r (Gave xs) y env line s (passing_ready d line env n actuals h),
       free (take n d ++ formals_of xs) (t ++ InCall ∷ []) (evaluate rs) q o z (take n env ++ entry_bounds fs) e.0 (safe_called env d t n (Formula fs rs) fs actuals xs s k g suits) e.1,
     )
+free _ _ _ _ _ (Running.calls_export d t n actuals us r q xs k y clean shown) env line s h = (free d t (pass actuals) r (Gave xs) y env line s (passing_ready d line env n actuals h), clean)
 free _ _ _ _ _ (Running.actual_stops d t n actuals r y) env line s h = free d t (pass actuals) r Stopped y env line s (passing_ready d line env n actuals h)
 free _ _ _ _ _ (Running.specifies d t l names r xs ys k y brings) env line s h =
     free d t (specifying (out-TypedLine l).form) r (Gave xs) y env (head_of l).place s (specifying_ready env d (head_of l).place (out-TypedLine l).form (line_ready env d l h.0 h.1))

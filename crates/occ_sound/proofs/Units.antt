@@ -22,7 +22,7 @@ use Rattle.occ_usage.specs.Walk.{unit_reported}
 use Rattle.occ_running.specs.Memory.{Cell, InCall, Reaches, Spot, Step, Thread}
 use Rattle.occ_running.specs.Running.{Does, Gave, Outcome}
 use Rattle.occ_running.specs.Runs.{RaceFree, Run}
-use Rattle.occ_running.specs.Scopes.{Body, Clock, Element, Formal, Formula, Held, Other, Scope, Stored, Suits, SuitsBy, SuitsOne, Thing, formal_of, formals_of}
+use Rattle.occ_running.specs.Scopes.{Body, Clock, Element, Formal, Formula, Held, Other, Shown, Scope, Stored, Suits, SuitsBy, SuitsOne, Thing, formal_of, formals_of}
 use Rattle.occ_running.specs.Works as works
 use Rattle.occ_running.specs.Works.{InTurn, Pieces}
 use Rattle.occ_sound.specs.Agreeing.{Extends, InPart, empty_scope, origin}
@@ -97,8 +97,11 @@ passable_by access.Value of (Body l) h = h
 passable_by access.Variable of (Formula fs rs) h = h
 passable_by access.Formal of (Formula fs rs) h = h
 passable_by access.Value of (Formula fs rs) h = h
+passable_by access.Variable of (Shown us2) h = h
 passable_by access.Variable of Other h = h
+passable_by access.Formal of (Shown us2) h = h
 passable_by access.Formal of Other h = h
+passable_by access.Value of (Shown us2) h = h
 passable_by access.Value of Other h = h
 
 passable_one : (m : Meaning) (y : Thing) → SuitsOne m y → IsPassable y
@@ -124,6 +127,7 @@ from_element m (Stored t) at h k = absurd h
 from_element m (Formal p) at h k = absurd h
 from_element m (Body l) at h k = absurd h
 from_element m (Formula fs rs) at h k = absurd h
+from_element m (Shown us2) at h k = absurd h
 from_element m Other at h k = absurd h
 
 abbrev NoFormal : Scope → Type 0
@@ -137,6 +141,7 @@ no_origin d n (Clock m) at steps c none v h k r = none_some at k
 no_origin d n (Held w m) at steps c none v h k r = none_some at k
 no_origin d n (Body l) at steps c none v h k r = none_some at k
 no_origin d n (Formula fs rs) at steps c none v h k r = none_some at k
+no_origin d n (Shown us2) at steps c none v h k r = none_some at k
 no_origin d n Other at steps c none v h k r = none_some at k
 
 -- a cell in a part of what the body sees is one of an element that was passed
@@ -171,6 +176,7 @@ formal_outside es xs i (Stored t) suits apart h = let p = passed_thing xs i (Sto
   stored_not (Formal at) s g e = g
   stored_not (Body l) s g e = g
   stored_not (Formula fs rs) s g e = g
+  stored_not (Shown us2) s g e = g
   stored_not Other s g e = g
 formal_outside es xs i (Formal at) suits apart h = λ steps c r.
     let p = passed_thing xs i (Formal at) h in
@@ -185,6 +191,7 @@ formal_outside es xs i (Clock n) suits apart h = tt
 formal_outside es xs i (Held v n) suits apart h = tt
 formal_outside es xs i (Body l) suits apart h = tt
 formal_outside es xs i (Formula fs rs) suits apart h = tt
+formal_outside es xs i (Shown us2) suits apart h = tt
 formal_outside es xs i Other suits apart h = tt
 
 safe_outside : (env : Env) (d : Scope) (es : List ScopeEntry) (xs : List Thing) → Safe env d [] → Suits es xs → ArePassedApart xs → Safe (env ++ entry_bounds es) (d ++ formals_of xs) (InCall ∷ [])

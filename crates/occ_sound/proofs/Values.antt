@@ -18,7 +18,7 @@ use Rattle.occ_usage_parts.specs.Places.{near}
 use Rattle.occ_usage_values.specs.Bounds.{Env}
 use Rattle.occ_usage_values.specs.Values.{both, converted_base, converted_to, folded_after, if_good, int_in, int_of, known_or, less, one, size_value, whole}
 use Rattle.occ_usage_values.specs.Views.{expr_view, expr_views, folded_all, values_of}
-use Rattle.occ_running.specs.Scopes.{Body, Clock, Element, Formal, Formula, Held, Other, Stored, Thing}
+use Rattle.occ_running.specs.Scopes.{Body, Clock, Element, Formal, Formula, Held, Other, Shown, Stored, Thing}
 use Rattle.occ_running.specs.Works as works
 use Rattle.occ_running.specs.Works.{ExprForm, IsNumber, IsRest, IsValue, Tells, computed, converted_by, count_value, folded, given_by, given_by_two, noted, operands, or_else, value_in, whole_count, without_fault}
 use Rattle.occ_sound.specs.Agreeing.{Knows}
@@ -82,6 +82,7 @@ known_first env e es (Stored t) xs h = absurd h
 known_first env e es (Formal at) xs h = absurd h
 known_first env e es (Body l) xs h = absurd h
 known_first env e es (Formula fs rs) xs h = absurd h
+known_first env e es (Shown us2) xs h = absurd h
 known_first env e es Other xs h = absurd h
 
 folded_tells : (env : Env) (op : Operator) (found found2 : Option Value) (es : List TypedExpr) (xs : List Thing) → Tells found found2 → AreKnown env es xs

@@ -3,7 +3,7 @@ use Rattle.std.specs.Prelude.{◌≡◌, ◌⊎◌, ℕ, ℤ, ◌+ℤ◌, ◌+�
 use Rattle.occ_project.specs.declared.expanded.Location.{Location}
 use Rattle.occ_types.specs.declared.interface.PartSelector.{PartSelector}
 use Rattle.occ_typing.specs.declared.tree.TypedLine.{TypedLine}
-use Rattle.occ_usage_lines.specs.Entering.{entry_bounds}
+use Rattle.occ_usage_lines.specs.Entering.{entry_bounds, exported_uses}
 use Rattle.occ_usage_lines.specs.Forms.{each_uses}
 use Rattle.occ_usage_conflicts.specs.Bodies.{body_uses}
 use Rattle.occ_usage_conflicts.specs.Components.{joined}
@@ -22,7 +22,7 @@ use Rattle.occ_usage.specs.Lines.{items_of}
 use Rattle.occ_usage.specs.Trees.{head_of, under}
 use Rattle.occ_running.specs.Memory.{At, Cell, IsOneOf, Reaches, Spot, Step, Thread, To, Variable}
 use Rattle.occ_running.specs.Runs.{Event}
-use Rattle.occ_running.specs.Scopes.{Body, Clock, Element, Formal, Formula, Held, Other, Scope, Stored, Thing}
+use Rattle.occ_running.specs.Scopes.{Body, Clock, Element, Formal, Formula, Held, Other, Scope, Shown, Stored, Thing}
 use Rattle.occ_running.specs.Works.{Tells}
 
 -- ---- steps
@@ -124,6 +124,7 @@ Matches env d (b.Abbreviation place size reads) (Clock n) = Tells size n
 Matches env d (b.Body uses does) (Body l) = uses ≡ uses_of_body env l
 Matches env d (b.Body uses does) (Formula formals results) =
     (line : Location) × (uses ≡ body_uses (length env) (length (env ++ entry_bounds formals)) line (each_uses results (env ++ entry_bounds formals) line))
+Matches env d (b.Body uses does) (Shown us) = (line : Location) × (uses ≡ exported_uses (length env) line us)
 Matches env d b.Other (Clock n) = Unit {0}
 Matches env d bound Other = Unit {0}
 Matches env d _ _ = ⊥
