@@ -14,5 +14,6 @@ mod Covers
 mod Keeping
 mod Readying
 mod Races
+mod Grades
 mod Units
 mod Racing

@@ -13,7 +13,7 @@ use Rattle.occ_usage_lines.specs.Entering.{entry_bounds}
 use Rattle.occ_usage_parts.specs.declared.part.Part.{Part}
 use Rattle.occ_usage_values.specs.Bounds.{Env}
 use Rattle.occ_usage_values.specs.declared.uses.Use.{Use}
-use Rattle.occ_usage.specs.AbbreviationRule.{abbreviation_at}
+use Rattle.occ_usage.specs.AbbreviationRule.{abbreviation_at, abbreviation_faults}
 use Rattle.occ_usage.specs.Effect.{inner}
 use Rattle.occ_usage.specs.Lines.{added, items_of}
 use Rattle.occ_usage.specs.ParallelRule.{parallel_faults}
@@ -31,6 +31,7 @@ use Rattle.occ_sound.specs.Units
 use Rattle.occ_sound.specs.Units.{ArePassedApart, HasNoVariable, IsHead, NeverRaces, Opens, body_work}
 use Rattle.occ_sound.proofs.Calls.{has_entry}
 use Rattle.occ_sound.proofs.Covers.{specified_bodies, specified_here}
+use Rattle.occ_sound.proofs.Grades.{silent_before}
 use Rattle.occ_sound.proofs.Keeping.{formula_same, no_body_passed, no_formula_passed, safe_more, visible_deeper}
 use Rattle.occ_sound.proofs.Knowing.{good}
 use Rattle.occ_sound.proofs.Lists.{get_below, get_cases, get_front, none_some, some_same, take_more}
@@ -222,10 +223,10 @@ safe_outside env d es xs s suits apart =
 no_formal : (env : Env) (d : Scope) → Safe env d [] → (n : ℕ) (p : Spot) (steps : List Step) (c : Cell) → slice_get d n ≡ Some (Formal p) → Reaches p steps c → ⊥
 no_formal env d s n p steps c h r = let l : length c.thread < 0 = (s.visible n (Formal p) h steps c r).1 in omega (arith, l)
 
-pub unit_free : (lines : List TypedLine) → IsSilent (parallel_faults lines) → IsSilent (unit_reported abbreviation_at lines) → (d : Scope) (l : TypedLine) → Opens lines [] d l → IsHead l → HasNoVariable d → (xs : List Thing) → Suits (out-TypedLine l).enters xs → ArePassedApart xs
+pub unit_free : (lines : List TypedLine) → IsSilent (parallel_faults lines) → IsSilent (abbreviation_faults lines) → (d : Scope) (l : TypedLine) → Opens lines [] d l → IsHead l → HasNoVariable d → (xs : List Thing) → Suits (out-TypedLine l).enters xs → ArePassedApart xs
     → NeverRaces d l xs
 unit_free lines p a d l opens head none xs suits apart =
-    let o = opened lines [] d l opens [] [] safe_nothing (record { parallel = p; abbreviations = a }) in
+    let o = opened lines [] d l opens [] [] safe_nothing (record { parallel = p; abbreviations = silent_before (unit_reported abbreviation_at lines) a }) in
     let s = safe_outside o.env d (out-TypedLine l).enters xs o.safe suits apart in
     let c = clean_under o.env l (head_known l head) o.clean in
     let sep = outside_separate d (out-TypedLine l).enters xs (joined (items_of (under l) (inner o.env (head_of l)))) none (no_formal o.env d o.safe) suits apart in

@@ -11,11 +11,10 @@ ghost use Rattle.occ_sound.specs.Racing.{Assigns, CanRace, IsParallel};
 ghost use Rattle.occ_sound.specs.Safe.{IsClean, IsSilent, Safe, Separate};
 ghost use Rattle.occ_sound.specs.Units.{ArePassedApart, HasNoVariable, IsHead, NeverRaces, Opens};
 ghost use Rattle.occ_typing.specs.declared.tree.TypedLine.{TypedLine as ATypedLine, out-TypedLine};
-ghost use Rattle.occ_usage.specs.AbbreviationRule.{abbreviation_at};
+ghost use Rattle.occ_usage.specs.AbbreviationRule.{abbreviation_faults};
 ghost use Rattle.occ_usage.specs.Lines.{items_of};
 ghost use Rattle.occ_usage.specs.ParallelRule.{parallel_faults};
 ghost use Rattle.occ_usage.specs.Trees.{trees_of};
-ghost use Rattle.occ_usage.specs.Walk.{unit_reported};
 ghost use Rattle.occ_usage_conflicts.specs.Components.{joined};
 ghost use Rattle.occ_usage_parts.specs.Parts.{overlap_of};
 ghost use Rattle.occ_usage_parts.specs.declared.part.Overlap.TheVariants as o;
@@ -40,7 +39,7 @@ pub fn lines_law()
 
 /// No PROC or FUNCTION of a unit of which neither U1, U2, U3 nor A4 is told has a race, whoever calls it with elements that are apart.
 pub fn race_law()
-    ensures { (lines : List ATypedLine) → IsSilent (parallel_faults lines) → IsSilent (unit_reported abbreviation_at lines) → (d : Scope) (l : ATypedLine) → Opens lines [] d l → IsHead l → HasNoVariable d
+    ensures { (lines : List ATypedLine) → IsSilent (parallel_faults lines) → IsSilent (abbreviation_faults lines) → (d : Scope) (l : ATypedLine) → Opens lines [] d l → IsHead l → HasNoVariable d
         → (xs : List AThing) → Suits (out-TypedLine l).enters xs → ArePassedApart xs → NeverRaces d l xs }
 {}
 
