@@ -497,9 +497,9 @@ shown_covered env d t n actuals us xs x a at g (inr h) = λ line.
     let u = exported_use n known.0 h.u in
     let among : IsOneOf (body_of (slice_get env n)) u = subst (λ (ws : List Use). IsOneOf ws u) (sym uses) (exported_in n known.0 us h.u h.among) in
     let place : slice_get (take n d ++ formals_of xs) (n + h.u.formal) ≡ Some (Formal h.at) =
-        ap (λ (k : ℕ). slice_get (take n d ++ formals_of xs) (k + h.u.formal)) (sym len) ∙ get_behind (take n d) (formals_of xs) h.u.formal ∙ formal_got xs h.u.formal h.at h.count h.passed in
+    ap (λ (k : ℕ). slice_get (take n d ++ formals_of xs) (k + h.u.formal)) (sym len) ∙ get_behind (take n d) (formals_of xs) h.u.formal ∙ formal_got xs h.u.formal h.at h.count h.passed in
     let part : InPart (take n d ++ formals_of xs) u.part x.cell =
-        record { start = h.at; is = ap (origin (n + h.u.formal)) place; steps = h.steps; reaches = h.reaches; inside = lead_lies h.u.selectors h.steps h.selected } in
+    record { start = h.at; is = ap (origin (n + h.u.formal)) place; steps = h.steps; reaches = h.reaches; inside = lead_lies h.u.selectors h.steps h.selected } in
     let k = mapped env d line n actuals xs (body_of (slice_get env n)) u x.cell st.kept len g among part in
     covered_right d t (actuals_uses (actual_views actuals) env line) (called_all line n (places_of (actual_views actuals) env) (body_of (slice_get env n))) x
     (inr (record { u = k.w; among = k.among; kind = k.kind ∙ h.kind; cell = k.cell }))
@@ -544,7 +544,6 @@ formula_matches env d b.Other formals results h = absurd h
 -- by one of the lists
 joined_covered : (d : Scope) (t : Thread) (comps : List (List Use)) (x : Event) → ByOne InTurn d t 0 comps x → Covered d t (joined comps) x
 joined_covered d t comps x h = covered_in d t h.us (joined comps) x (λ u i. in_joined comps h.place h.us u h.is i) h.covered
-
 
 body_covered : (env : Env) (d : Scope) (t : Thread) (n : ℕ) (actuals : List TypedActual) (l : TypedLine) (xs : List Thing) (x : Event) → Agrees env d → slice_get d n ≡ Some (Body l) → Good env d (pass actuals) xs → Suits (out-TypedLine l).enters xs
     → ((e : Env) → Agrees e (take n d ++ formals_of xs) → CoveredWork (Pieces InTurn 0 (works.items_of (out-TypedLine l).under)) e (take n d ++ formals_of xs) (t ++ InCall ∷ []) x) → CoveredWork (Call n actuals) env d t x
