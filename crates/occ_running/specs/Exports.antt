@@ -1,5 +1,5 @@
 -- What a call of another unit's PROC or FUNCTION does, as its interface tells it.
-use Rattle.std.specs.Prelude.{◌≡◌, ◌⊎◌, ℕ, ℤ, pos, ◌+ℤ◌, int_le, true, Option, Some, List, [], ◌∷◌, ◌++◌, slice_get}
+use Rattle.std.specs.Prelude.{◌≡◌, ◌⊎◌, ℤ, pos, ◌+ℤ◌, int_le, true, Option, Some, List, [], ◌∷◌, ◌++◌, slice_get}
 use Rattle.occ_types.specs.declared.interface.FormalUse.{FormalUse}
 use Rattle.occ_types.specs.declared.interface.PartSelector.{PartSelector}
 use Rattle.occ_types.specs.declared.interface.PartSelector.TheVariants as s

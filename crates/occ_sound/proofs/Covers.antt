@@ -39,7 +39,7 @@ use Rattle.occ_usage_values.specs.declared.uses.Use.{Use}
 use Rattle.occ_usage.specs.Effect.{is_body}
 use Rattle.occ_usage.specs.Lines.{added, components, components_by, items_of, rounds_to}
 use Rattle.occ_usage.specs.Trees.{head_of, trees_of, under}
-use Rattle.occ_running.specs.Exports.{IsPlace, IsShown, IsStep, IsUseOf, LeadInto}
+use Rattle.occ_running.specs.Exports.{IsPlace, IsShown, IsStep, LeadInto}
 use Rattle.occ_types.specs.declared.interface.FormalUse.{FormalUse}
 use Rattle.occ_types.specs.declared.interface.PartSelector.{PartSelector}
 use Rattle.occ_types.specs.declared.interface.PartSelector.TheVariants as sel

@@ -1,14 +1,13 @@
 -- Of an error and a check that differ in nothing else the error alone is told: no code is lost by that.
-use Rattle.std.proofs.Common.{◌≡◌, Bool, true, false, ap, sym, subst, ◌∙◌, refl, List, [], ◌∷◌, ◌++◌, ℕ, Option, inl, inr}
+use Rattle.std.proofs.Common.{◌≡◌, Bool, true, false, ap, sym, subst, ◌∙◌, refl, List, [], ◌∷◌, ◌++◌, inl, inr}
 use Rattle.std.specs.BTreeMap.{is_at}
 use Rattle.std.specs.BTreeSet.{insert_key}
 use Rattle.std.specs.Cmp.Lexicographic.{slice_cmp}
-use Rattle.std.specs.List.{list_any}
 use Rattle.std.specs.Ordering.{is_eq, match_ordering, nat_cmp, ordering_then}
 use Rattle.std.specs.Prelude.{◌⊎◌, ◌||◌, if◌then◌else◌}
 use Rattle.std.specs.declared.cmp.Ordering.{Ordering}
 use Rattle.std.specs.declared.cmp.Ordering.TheVariants.{Less, Equal, Greater}
-use Rattle.occ_alias.specs.Grades.{all_unless_reported, checks_of, graded_as, graver, if_check, is_among, is_check, unless_reported, with_error, with_errors}
+use Rattle.occ_alias.specs.Grades.{all_unless_reported, checks_of, graded_as, graver, is_among, is_check, unless_reported, with_errors}
 use Rattle.occ_base.specs.Order.{diag_order}
 use Rattle.occ_base.specs.contracts.code.CodeOrd.TheImpl as code_ord
 use Rattle.occ_base.specs.declared.code.Code.{Code}

@@ -38,7 +38,7 @@ use Rattle.occ_sound.specs.Agreeing.{Agrees, IsAt, Knows, Matches, one_more, use
 use Rattle.occ_sound.specs.Covering.{form_view}
 use Rattle.occ_sound.proofs.Forms.{element_opened, expr_form, layer, selector_form, selector_opened}
 use Rattle.occ_sound.proofs.Lists.{length_last, one_same}
-use Rattle.occ_sound.proofs.Names.{FoundAs, agrees_then, declared_agree, name_found, other_matches, agrees_same}
+use Rattle.occ_sound.proofs.Names.{FoundAs, agrees_then, declared_agree, name_found, agrees_same}
 use Rattle.occ_sound.proofs.Places.{component_lies, field_lies, named_lies, recast_lies, segment_lies}
 use Rattle.occ_sound.proofs.Values.{AreKnown, either_tells, int_known, known_first, known_tells, knows_tells, operation_known, operation_size, rest_known, size_tells}
 

@@ -1,9 +1,9 @@
 //! Laws of runs: what the rules find in a line is all that it touches, and what they tell nothing of has no race.
 ghost use Rattle.std.specs.Prelude.{List, None, Some, [], slice_get, ◌≡◌, ◌∷◌, ℕ};
-ghost use Rattle.occ_running.specs.Memory.{Cell as ACell, Thread};
+ghost use Rattle.occ_running.specs.Memory.{Cell as ACell, Has, Spot as ASpot, Thread};
 ghost use Rattle.occ_running.specs.Running.{Does, Outcome};
 ghost use Rattle.occ_running.specs.Runs.{Event as AnEvent, Occurs, RaceFree, Run as ARun};
-ghost use Rattle.occ_running.specs.Scopes.{Scope, Stored, Suits, Thing as AThing};
+ghost use Rattle.occ_running.specs.Scopes.{Formal, Scope, Stored, Suits, Thing as AThing};
 ghost use Rattle.occ_running.specs.Works.{InTurn, Main, Pieces, Work as SomeWork, items_of as pieces_of};
 ghost use Rattle.occ_sound.specs.Agreeing.{Agrees, InPart};
 ghost use Rattle.occ_sound.specs.Covering.{CoveredWork};
@@ -47,4 +47,11 @@ pub fn race_law()
 /// So the laws above are not about nothing.
 pub fn assigned_twice_law()
     ensures { (d : Scope) (t u : Thread) (n : ℕ) (l first other last : ATypedLine) → slice_get d n ≡ Some (Stored u) → IsParallel l (first ∷ other ∷ last ∷ []) → Assigns n first → (out-TypedLine other).adds ≡ None → Assigns n last → CanRace d t (Main InTurn l) }
+{}
+
+/// So can one of which two components assign to two formals that stand for one element. U1 goes by names, and these are two.
+/// This is why A4 is asked for.
+pub fn alias_law()
+    ensures { (d : Scope) (t : Thread) (n m : ℕ) (at : ASpot) (c : ACell) (l first other last : ATypedLine) → slice_get d n ≡ Some (Formal at) → slice_get d m ≡ Some (Formal at) → Has at c → IsParallel l (first ∷ other ∷ last ∷ [])
+        → Assigns n first → (out-TypedLine other).adds ≡ None → Assigns m last → CanRace d t (Main InTurn l) }
 {}

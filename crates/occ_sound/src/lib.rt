@@ -3,4 +3,4 @@
 
 mod laws;
 
-pub use laws::{assigned_twice_law, lines_law, places_law, race_law, uses_law};
+pub use laws::{alias_law, assigned_twice_law, lines_law, places_law, race_law, uses_law};

@@ -1,6 +1,5 @@
 use Rattle.occ_sound.proofs.Cells.{apart_cells}
 use Rattle.occ_sound.proofs.laws.places_law.Goals as goal
 
--- src/laws.rt:10:1
 pub returns : goal.returns
 returns c = apart_cells
