@@ -183,7 +183,12 @@ Selects _ _ x y = ⊥
 -- How lines beside one another are run: in turn, each; beside one another, each; the first choice that holds; each alternative of an
 -- ALT as far as it waits; one of them, whichever. Or not at all.
 pub data Way : Type 0 where
-  InTurn Together Choice Waiting Taken Idle : Way
+  InTurn : Way
+  Together : Way
+  Choice : Way
+  Waiting : Way
+  Taken : Way
+  Idle : Way
 
 -- one of the items under a line, or one of its rounds: what the index stands for, and lines of which the first item is meant
 pub record Piece : Type 0 where
