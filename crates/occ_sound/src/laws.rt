@@ -1,5 +1,5 @@
 //! Laws of runs: what the rules find in a line is all that it touches, and what they tell nothing of has no race.
-ghost use Rattle.std.specs.Prelude.{List, None, Some, [], slice_get, ◌≡◌, ◌∷◌, ℕ};
+ghost use Rattle.std.specs.Prelude.{List, None, Some, [], slice_get, ◌≡◌, ◌∷◌, ℕ, ℤ};
 ghost use Rattle.occ_running.specs.Memory.{Cell as ACell, Has, Spot as ASpot, Thread};
 ghost use Rattle.occ_running.specs.Running.{Does, Outcome};
 ghost use Rattle.occ_running.specs.Runs.{Event as AnEvent, Occurs, RaceFree, Run as ARun};
@@ -7,10 +7,11 @@ ghost use Rattle.occ_running.specs.Scopes.{Formal, Scope, Stored, Suits, Thing a
 ghost use Rattle.occ_running.specs.Works.{InTurn, Main, Pieces, Work as SomeWork, items_of as pieces_of};
 ghost use Rattle.occ_sound.specs.Agreeing.{Agrees, InPart};
 ghost use Rattle.occ_sound.specs.Covering.{CoveredWork};
-ghost use Rattle.occ_sound.specs.Racing.{Assigns, CanRace, IsParallel};
+ghost use Rattle.occ_sound.specs.Racing.{Assigns, AssignsComponent, CanRace, IsName, IsNumeral, IsParallel, Loops, Passes};
 ghost use Rattle.occ_sound.specs.Safe.{IsClean, IsSilent, Safe, Separate};
 ghost use Rattle.occ_sound.specs.Units.{ArePassedApart, HasNoVariable, IsHead, NeverRaces, Opens};
 ghost use Rattle.occ_typing.specs.declared.tree.TypedLine.{TypedLine as ATypedLine, out-TypedLine};
+ghost use Rattle.occ_typing_rules.specs.declared.expr.TypedExpr.{TypedExpr as AnExpr};
 ghost use Rattle.occ_usage.specs.AbbreviationRule.{abbreviation_faults};
 ghost use Rattle.occ_usage.specs.Lines.{items_of};
 ghost use Rattle.occ_usage.specs.ParallelRule.{parallel_faults};
@@ -54,4 +55,20 @@ pub fn assigned_twice_law()
 pub fn alias_law()
     ensures { (d : Scope) (t : Thread) (n m : ℕ) (at : ASpot) (c : ACell) (l first other last : ATypedLine) → slice_get d n ≡ Some (Formal at) → slice_get d m ≡ Some (Formal at) → Has at c → IsParallel l (first ∷ other ∷ last ∷ [])
         → Assigns n first → (out-TypedLine other).adds ≡ None → Assigns m last → CanRace d t (Main InTurn l) }
+{}
+
+/// So can `WHILE x` beside `x := k`.
+pub fn condition_law()
+    ensures { (d : Scope) (t u : Thread) (n : ℕ) (l first last : ATypedLine) → slice_get d n ≡ Some (Stored u) → IsParallel l (first ∷ last ∷ []) → Loops n first → Assigns n last → CanRace d t (Main InTurn l) }
+{}
+
+/// So can `p (x)`, for a VAL formal, beside `x := k`.
+pub fn actual_law()
+    ensures { (d : Scope) (t u : Thread) (n : ℕ) (l first last : ATypedLine) → slice_get d n ≡ Some (Stored u) → IsParallel l (first ∷ last ∷ []) → Passes n first → Assigns n last → CanRace d t (Main InTurn l) }
+{}
+
+/// So can `a[i] := j` beside `a[k] := m`, for a numeral `k`.
+pub fn subscript_law()
+    ensures { (d : Scope) (t u w : Thread) (n m : ℕ) (i j : AnExpr) (k : ℤ) (l first last : ATypedLine) → slice_get d n ≡ Some (Stored u) → slice_get d m ≡ Some (Stored w) → IsParallel l (first ∷ last ∷ []) → IsName m i → AssignsComponent n i first
+        → IsNumeral k j → AssignsComponent n j last → CanRace d t (Main InTurn l) }
 {}

@@ -3,4 +3,7 @@
 
 mod laws;
 
-pub use laws::{alias_law, assigned_twice_law, lines_law, places_law, race_law, uses_law};
+pub use laws::{
+    actual_law, alias_law, assigned_twice_law, condition_law, lines_law, places_law, race_law,
+    subscript_law, uses_law,
+};
