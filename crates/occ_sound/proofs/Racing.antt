@@ -1,0 +1,240 @@
+-- Components that assign to one variable can race, though another stands between them.
+use Rattle.std.proofs.Common.{◌≡◌, ℕ, ap, sym, subst, ◌∙◌, refl, List, [], ◌∷◌, ◌++◌, Option, Some, None, inl, inr}
+use Rattle.std.specs.Prelude.{ℤ, slice_get}
+use Rattle.occ_scope.specs.declared.meaning.ScopeEntry.{ScopeEntry}
+use Rattle.occ_types.specs.declared.interface.UseKind.TheVariants as kind
+use Rattle.occ_types.specs.declared.value.Value.{Value}
+use Rattle.occ_typing.specs.declared.tree.TypedLine.{TypedLine, out-TypedLine}
+use Rattle.occ_typing_operands.specs.declared.kind.Known.{Known}
+use Rattle.occ_typing_rules.specs.declared.expr.Selector.{Selector}
+use Rattle.occ_typing_rules.specs.declared.expr.Selector.TheOpen.{TypedActual-F, TypedExpr-F}
+use Rattle.occ_typing_rules.specs.declared.expr.TypedActual.{TypedActual, out-TypedActual}
+use Rattle.occ_types.specs.declared.value.Value.TheVariants as v
+use Rattle.occ_typing_rules.specs.declared.expr.TypedElement.{TypedElement, out-TypedElement}
+use Rattle.occ_typing_rules.specs.declared.expr.TypedExpr.{TypedExpr, out-TypedExpr}
+use Rattle.occ_running.specs.Memory.{At, Cell, ComponentOf, Has, InComponent, Spot, Thread, Variable}
+use Rattle.occ_running.specs.Running
+use Rattle.occ_running.specs.Running.{Does, Gave, Stopped, found_of}
+use Rattle.occ_running.specs.Runs.{Beside, Event, Occurs, Quiet, Race, RaceFree, Run, Then, Touch}
+use Rattle.occ_running.specs.Scopes.{Element, Formal, Held, Scope, Stored, Thing}
+use Rattle.occ_running.specs.Works.{Both, Call, Evaluate, ExprForm, Find, InTurn, Item, Main, Nothing, Piece, Pieces, Reach, Select, SelectorForm, Selects, Tells, Together, Under, actual_work, behind_line, bounds, evaluate, items_behind, items_of, or_else, process_plan, replicator_of}
+use Rattle.occ_sound.specs.Racing.{Assigns, AssignsComponent, CanRace, IsName, IsNumeral, IsParallel, Loops, Passes}
+use Rattle.occ_sound.proofs.Lists.{get_more}
+
+told_itself : (x : Option Value) → Tells (or_else x None) (or_else x None)
+told_itself None = tt
+told_itself (Some x) = refl
+
+literal_runs : (d : Scope) (t : Thread) (e : TypedExpr) (k : Known) → out-TypedExpr e ≡ TypedExpr-F.Literal k → Does d t (Evaluate (out-TypedExpr e)) Quiet (Gave (Held (or_else k.value None) None ∷ []))
+literal_runs d t e k h =
+    subst (λ (f : ExprForm). Does d t (Evaluate f) Quiet (Gave (Held (or_else k.value None) None ∷ []))) (sym h)
+    (Running.operation d t (TypedExpr-F.Literal k) [] Quiet [] (or_else k.value None) refl (Running.nothing d t) (told_itself k.value))
+
+name_runs : (d : Scope) (t : Thread) (n : ℕ) (x : Thing) (at : Spot) (k : Option ℤ) (el : TypedElement) → slice_get d n ≡ Some x → found_of n x ≡ Some (Element at k) → (out-TypedElement el).referent.spec ≡ n → (out-TypedElement el).selectors ≡ []
+    → Does d t (Find el) Quiet (Gave (Element at k ∷ []))
+name_runs d t n x at k el h found name whole =
+    Running.named d t el x (Element at k) Quiet (Gave (Element at k ∷ []))
+    (subst (λ (m : ℕ). slice_get d m ≡ Some x) (sym name) h)
+    (subst (λ (m : ℕ). found_of m x ≡ Some (Element at k)) (sym name) found)
+    (subst (λ (ss : List Selector). Does d t (Select ss (Element at k)) Quiet (Gave (Element at k ∷ []))) (sym whole) (Running.all_selected d t (Element at k)))
+
+abbrev write_of : Cell → Event
+write_of c = record { kind = kind.Write; cell = c; value = None }
+
+abbrev written_run : Cell → Run
+written_run c = Then (Then Quiet Quiet) (Then (Touch (write_of c)) Quiet)
+
+reach_runs : (d : Scope) (t : Thread) (n : ℕ) (x : Thing) (at : Spot) (k : Option ℤ) (c : Cell) (el : TypedElement) → slice_get d n ≡ Some x → found_of n x ≡ Some (Element at k) → Has at c → (out-TypedElement el).referent.spec ≡ n → (out-TypedElement el).selectors ≡ []
+    → Does d t (Reach kind.Write (el ∷ [])) (written_run c) (Gave [])
+reach_runs d t n x at k c el h found has name whole =
+    Running.reaches d t kind.Write (el ∷ []) (Then Quiet Quiet) (Then (Touch (write_of c)) Quiet) (Element at k ∷ [])
+    (Running.both d t (Find el) Nothing Quiet Quiet (Element at k ∷ []) [] (name_runs d t n x at k el h found name whole) (Running.nothing d t))
+    (Running.one_more at k c None Quiet (inl refl) has Running.none)
+
+abbrev assign_run : Cell → Run
+assign_run c = Then (Then (Then Quiet Quiet) (written_run c)) Quiet
+
+-- a name of an element with this cell
+record Names (d : Scope) (n : ℕ) (c : Cell) : Type 0 where
+  x : Thing
+  at : Spot
+  k : Option ℤ
+  got : slice_get d n ≡ Some x
+  found : found_of n x ≡ Some (Element at k)
+  has : Has at c
+
+assign_runs : (d : Scope) (t : Thread) (n : ℕ) (c : Cell) (l : TypedLine) (ls : List TypedLine) → Names d n c → Assigns n l → Does d t (Item Together (l ∷ ls)) (assign_run c) Stopped
+assign_runs d t n c l ls m h =
+    Running.main_line d t Together l ls (assign_run c) Stopped h.main
+    (Running.main d t Together InTurn l (Both (evaluate (h.e ∷ [])) (Reach kind.Write (h.el ∷ []))) (Then (Then Quiet Quiet) (written_run c)) Quiet (Held (or_else h.known.value None) None ∷ []) Stopped (ap process_plan h.is)
+    (Running.both d t (evaluate (h.e ∷ [])) (Reach kind.Write (h.el ∷ [])) (Then Quiet Quiet) (written_run c) (Held (or_else h.known.value None) None ∷ []) []
+    (Running.both d t (Evaluate (out-TypedExpr h.e)) Nothing Quiet Quiet (Held (or_else h.known.value None) None ∷ []) [] (literal_runs d t h.e h.known h.literal) (Running.nothing d t))
+    (reach_runs d t n m.x m.at m.k c h.el m.got m.found m.has h.name h.whole))
+    (Running.stops_before d t (Under InTurn l)))
+
+assign_writes : (c : Cell) → Occurs (write_of c) (assign_run c)
+assign_writes c = inl (inr (inr (inl refl)))
+
+-- `PAR`, over three lines of which the first and the last assign
+abbrev three_run : Cell → Run
+three_run c = Beside (assign_run c) (Beside Quiet (Beside (assign_run c) Quiet))
+
+three_races : (c : Cell) → RaceFree (three_run c) → ⊥
+three_races c h = h.2 (write_of c) (write_of c) (assign_writes c) (inr (inl (assign_writes c))) (refl, refl)
+
+pieces_three : (a s c : TypedLine) → (out-TypedLine a).adds ≡ None → (out-TypedLine s).adds ≡ None → items_of (a ∷ s ∷ c ∷ []) ≡ (record { index = []; lines = a ∷ s ∷ c ∷ [] }) ∷ (record { index = []; lines = s ∷ c ∷ [] }) ∷ (record { index = []; lines = c ∷ [] }) ∷ items_behind (c ∷ [])
+pieces_three a s c h k =
+    ap (λ (o : Option (List ScopeEntry)). (record { index = []; lines = a ∷ s ∷ c ∷ [] }) ∷ behind_line o (s ∷ c ∷ []) (items_behind (s ∷ c ∷ []))) h
+    ∙ ap (λ (o : Option (List ScopeEntry)). (record { index = []; lines = a ∷ s ∷ c ∷ [] }) ∷ (record { index = []; lines = s ∷ c ∷ [] }) ∷ behind_line o (c ∷ []) (items_behind (c ∷ []))) k
+
+still_names : (d : Scope) (n : ℕ) (c : Cell) → Names d n c → Names (d ++ []) n c
+still_names d n c m = record { x = m.x; at = m.at; k = m.k; got = get_more d [] n m.x m.got; found = m.found; has = m.has }
+
+three_run_of : (d : Scope) (t : Thread) (n m : ℕ) (cell : Cell) (a s c : TypedLine) → Names d n cell → Names d m cell → Assigns n a → (out-TypedLine s).adds ≡ None → Assigns m c → Does d t (Pieces Together 0 (items_of (a ∷ s ∷ c ∷ []))) (three_run cell) Stopped
+three_run_of d t n m cell a s c one two first none last =
+    let p : Piece = record { index = []; lines = a ∷ s ∷ c ∷ [] } in
+    let q : Piece = record { index = []; lines = s ∷ c ∷ [] } in
+    let w : Piece = record { index = []; lines = c ∷ [] } in
+    subst (λ (ps : List Piece). Does d t (Pieces Together 0 ps) (three_run cell) Stopped) (sym (pieces_three a s c first.main none))
+    (Running.beside d t 0 p (q ∷ w ∷ items_behind (c ∷ [])) (assign_run cell) (Beside Quiet (Beside (assign_run cell) Quiet)) Stopped Stopped (assign_runs (d ++ []) (t ++ InComponent 0 ∷ []) n cell a (s ∷ c ∷ []) (still_names d n cell one) first)
+    (Running.beside d t 1 q (w ∷ items_behind (c ∷ [])) Quiet (Beside (assign_run cell) Quiet) Stopped Stopped (Running.stops_before (d ++ []) (t ++ InComponent 1 ∷ []) (Item Together (s ∷ c ∷ [])))
+    (Running.beside d t 2 w (items_behind (c ∷ [])) (assign_run cell) Quiet Stopped Stopped (assign_runs (d ++ []) (t ++ InComponent 2 ∷ []) m cell c [] (still_names d m cell two) last) (Running.stops_before d t (Pieces Together 3 (items_behind (c ∷ [])))))))
+
+races : (d : Scope) (t : Thread) (n m : ℕ) (cell : Cell) (l a s c : TypedLine) → Names d n cell → Names d m cell → IsParallel l (a ∷ s ∷ c ∷ []) → Assigns n a → (out-TypedLine s).adds ≡ None → Assigns m c → CanRace d t (Main InTurn l)
+races d t n m cell l a s c one two par first none last =
+    record {
+      run = Then Quiet (three_run cell);
+      outcome = Stopped;
+      runs = Running.main d t InTurn Together l Nothing Quiet (three_run cell) [] Stopped (ap process_plan par.is) (Running.nothing d t)
+          (Running.lines_under d t Together l (three_run cell) Stopped (ap replicator_of par.is) par.enters
+          (subst (λ (ls : List TypedLine). Does d t (Pieces Together 0 (items_of ls)) (three_run cell) Stopped) (sym par.under) (three_run_of d t n m cell a s c one two first none last)));
+      race = λ h. three_races cell h.1;
+    }
+
+pub assigns_twice : (d : Scope) (t u : Thread) (n : ℕ) (l a s c : TypedLine) → slice_get d n ≡ Some (Stored u) → IsParallel l (a ∷ s ∷ c ∷ []) → Assigns n a → (out-TypedLine s).adds ≡ None → Assigns n c → CanRace d t (Main InTurn l)
+assigns_twice d t u n l a s c at par first none last =
+    let names : Names d n (record { root = n; thread = u; steps = [] }) = record { x = Stored u; at = Variable n u; k = None; got = at; found = refl; has = ([], refl) } in
+    races d t n n (record { root = n; thread = u; steps = [] }) l a s c names names par first none last
+
+pub assigns_aliases : (d : Scope) (t : Thread) (n m : ℕ) (at : Spot) (cell : Cell) (l a s c : TypedLine) → slice_get d n ≡ Some (Formal at) → slice_get d m ≡ Some (Formal at) → Has at cell → IsParallel l (a ∷ s ∷ c ∷ []) → Assigns n a → (out-TypedLine s).adds ≡ None
+    → Assigns m c → CanRace d t (Main InTurn l)
+assigns_aliases d t n m at cell l a s c one two has par first none last =
+    races d t n m cell l a s c (record { x = Formal at; at = at; k = None; got = one; found = refl; has = has }) (record { x = Formal at; at = at; k = None; got = two; found = refl; has = has }) par first none last
+
+-- ---- two components, one of which reads
+
+two_pieces : (a c : TypedLine) → (out-TypedLine a).adds ≡ None → items_of (a ∷ c ∷ []) ≡ (record { index = []; lines = a ∷ c ∷ [] }) ∷ (record { index = []; lines = c ∷ [] }) ∷ items_behind (c ∷ [])
+two_pieces a c h = ap (λ (o : Option (List ScopeEntry)). (record { index = []; lines = a ∷ c ∷ [] }) ∷ behind_line o (c ∷ []) (items_behind (c ∷ []))) h
+
+two_race : (d : Scope) (t : Thread) (l a c : TypedLine) (r s : Run) (e f : Event) → IsParallel l (a ∷ c ∷ []) → (out-TypedLine a).adds ≡ None → Does (d ++ []) (t ++ InComponent 0 ∷ []) (Item Together (a ∷ c ∷ [])) r Stopped
+    → Does (d ++ []) (t ++ InComponent 1 ∷ []) (Item Together (c ∷ [])) s Stopped → Occurs e r → Occurs f s → Race e f → CanRace d t (Main InTurn l)
+two_race d t l a c r s e f par main x y i j race =
+    let p : Piece = record { index = []; lines = a ∷ c ∷ [] } in
+    let q : Piece = record { index = []; lines = c ∷ [] } in
+    record {
+      run = Then Quiet (Beside r (Beside s Quiet));
+      outcome = Stopped;
+      runs = Running.main d t InTurn Together l Nothing Quiet (Beside r (Beside s Quiet)) [] Stopped (ap process_plan par.is) (Running.nothing d t)
+          (Running.lines_under d t Together l (Beside r (Beside s Quiet)) Stopped (ap replicator_of par.is) par.enters
+          (subst (λ (ls : List TypedLine). Does d t (Pieces Together 0 (items_of ls)) (Beside r (Beside s Quiet)) Stopped) (sym par.under)
+          (subst (λ (ps : List Piece). Does d t (Pieces Together 0 ps) (Beside r (Beside s Quiet)) Stopped) (sym (two_pieces a c main))
+          (Running.beside d t 0 p (q ∷ items_behind (c ∷ [])) r (Beside s Quiet) Stopped Stopped x
+          (Running.beside d t 1 q (items_behind (c ∷ [])) s Quiet Stopped Stopped y (Running.stops_before d t (Pieces Together 2 (items_behind (c ∷ [])))))))));
+      race = λ h. h.1.2 e f i (inl j) race;
+    }
+
+abbrev own_cell : ℕ → Thread → Cell
+own_cell n u = record { root = n; thread = u; steps = [] }
+
+abbrev read_of : Cell → Option Value → Event
+read_of c x = record { kind = kind.Read; cell = c; value = x }
+
+abbrev read_run : Cell → Option Value → Run
+read_run c x = Then Quiet (Then Quiet (Touch (read_of c x)))
+
+read_runs : (d : Scope) (t u : Thread) (n : ℕ) (e : TypedExpr) (x : Option Value) → slice_get d n ≡ Some (Stored u) → IsName n e → Does d t (Evaluate (out-TypedExpr e)) (read_run (own_cell n u) x) (Gave (Held x None ∷ []))
+read_runs d t u n e x at h =
+    subst (λ (f : ExprForm). Does d t (Evaluate f) (read_run (own_cell n u) x) (Gave (Held x None ∷ []))) (sym h.is)
+    (Running.read d t h.el Quiet Quiet (Variable n u) None (own_cell n u) x (name_runs d t n (Stored u) (Variable n u) None h.el at refl h.name h.whole) Running.none ([], refl) (subst (λ (o : Option Value). Tells o x) (sym h.unnoted) tt))
+
+read_stops : (d : Scope) (t u : Thread) (n : ℕ) (e : TypedExpr) → slice_get d n ≡ Some (Stored u) → IsName n e → Does d t (Evaluate (out-TypedExpr e)) (read_run (own_cell n u) None) Stopped
+read_stops d t u n e at h = Running.stops_after d t (Evaluate (out-TypedExpr e)) (read_run (own_cell n u) None) (Gave (Held None None ∷ [])) (read_runs d t u n e None at h)
+
+loop_runs : (d : Scope) (t u : Thread) (n : ℕ) (l : TypedLine) (ls : List TypedLine) → slice_get d n ≡ Some (Stored u) → Loops n l → Does d t (Item Together (l ∷ ls)) (read_run (own_cell n u) None) Stopped
+loop_runs d t u n l ls at h =
+    Running.main_line d t Together l ls (read_run (own_cell n u) None) Stopped h.main (Running.condition_stops d t Together l h.e (read_run (own_cell n u) None) (inl h.is) (read_stops d t u n h.e at h.name))
+
+pass_runs : (d : Scope) (t u : Thread) (n : ℕ) (l : TypedLine) (ls : List TypedLine) → slice_get d n ≡ Some (Stored u) → Passes n l → Does d t (Item Together (l ∷ ls)) (read_run (own_cell n u) None) Stopped
+pass_runs d t u n l ls at h =
+    Running.main_line d t Together l ls (read_run (own_cell n u) None) Stopped h.main
+    (Running.main_stops d t Together InTurn l (Call h.callee.spec (h.actual ∷ [])) (read_run (own_cell n u) None) (ap process_plan h.is)
+    (Running.actual_stops d t h.callee.spec (h.actual ∷ []) (read_run (own_cell n u) None)
+    (Running.first_stops d t (actual_work (out-TypedActual h.actual)) Nothing (read_run (own_cell n u) None)
+    (subst (λ (o : TypedActual-F Selector TypedActual TypedExpr TypedElement). Does d t (actual_work o) (read_run (own_cell n u) None) Stopped) (sym h.value) (read_stops d t u n h.e at h.name)))))
+
+stored_names : (d : Scope) (n : ℕ) (u : Thread) → slice_get d n ≡ Some (Stored u) → Names d n (own_cell n u)
+stored_names d n u at = record { x = Stored u; at = Variable n u; k = None; got = at; found = refl; has = ([], refl) }
+
+pub loop_races : (d : Scope) (t u : Thread) (n : ℕ) (l a c : TypedLine) → slice_get d n ≡ Some (Stored u) → IsParallel l (a ∷ c ∷ []) → Loops n a → Assigns n c → CanRace d t (Main InTurn l)
+loop_races d t u n l a c at par h k =
+    let here : slice_get (d ++ []) n ≡ Some (Stored u) = get_more d [] n (Stored u) at in
+    two_race d t l a c (read_run (own_cell n u) None) (assign_run (own_cell n u)) (read_of (own_cell n u) None) (write_of (own_cell n u)) par h.main (loop_runs (d ++ []) (t ++ InComponent 0 ∷ []) u n a (c ∷ []) here h)
+    (assign_runs (d ++ []) (t ++ InComponent 1 ∷ []) n (own_cell n u) c [] (stored_names (d ++ []) n u here) k) (inr (inr refl)) (assign_writes (own_cell n u)) (refl, refl)
+
+pub pass_races : (d : Scope) (t u : Thread) (n : ℕ) (l a c : TypedLine) → slice_get d n ≡ Some (Stored u) → IsParallel l (a ∷ c ∷ []) → Passes n a → Assigns n c → CanRace d t (Main InTurn l)
+pass_races d t u n l a c at par h k =
+    let here : slice_get (d ++ []) n ≡ Some (Stored u) = get_more d [] n (Stored u) at in
+    two_race d t l a c (read_run (own_cell n u) None) (assign_run (own_cell n u)) (read_of (own_cell n u) None) (write_of (own_cell n u)) par h.main (pass_runs (d ++ []) (t ++ InComponent 0 ∷ []) u n a (c ∷ []) here h)
+    (assign_runs (d ++ []) (t ++ InComponent 1 ∷ []) n (own_cell n u) c [] (stored_names (d ++ []) n u here) k) (inr (inr refl)) (assign_writes (own_cell n u)) (refl, refl)
+
+-- ---- a subscript that is not known
+
+abbrev part_cell : ℕ → Thread → ℤ → Cell
+part_cell n u k = record { root = n; thread = u; steps = At k ∷ [] }
+
+abbrev part_run : Run → Cell → Run
+part_run r c = Then (Then (Then Quiet Quiet) (Then (Then (Then (Then r Quiet) Quiet) Quiet) (Then (Touch (write_of c)) Quiet))) Quiet
+
+part_found : (d : Scope) (t u : Thread) (n : ℕ) (j : TypedExpr) (k : ℤ) (r : Run) (l : TypedLine) (h : AssignsComponent n j l) → slice_get d n ≡ Some (Stored u) → Does d t (Evaluate (out-TypedExpr j)) r (Gave (Held (Some (v.Int k)) None ∷ []))
+    → Does d t (Find h.el) (Then (Then r Quiet) Quiet) (Gave (Element (ComponentOf (Variable n u) k) None ∷ []))
+part_found d t u n j k r l h at x =
+    Running.named d t h.el (Stored u) (Element (Variable n u) None) (Then (Then r Quiet) Quiet) (Gave (Element (ComponentOf (Variable n u) k) None ∷ []))
+    (subst (λ (m : ℕ). slice_get d m ≡ Some (Stored u)) (sym h.name) at)
+    (subst (λ (m : ℕ). found_of m (Stored u) ≡ Some (Element (Variable n u) None)) (sym h.name) refl)
+    (subst (λ (ss : List Selector). Does d t (Select ss (Element (Variable n u) None)) (Then (Then r Quiet) Quiet) (Gave (Element (ComponentOf (Variable n u) k) None ∷ []))) (sym h.one)
+    (Running.selects d t h.s [] (Element (Variable n u) None) (Element (ComponentOf (Variable n u) k) None) (Then r Quiet) Quiet (Held (Some (v.Int k)) None ∷ []) (Gave (Element (ComponentOf (Variable n u) k) None ∷ []))
+    (subst (λ (f : SelectorForm). Does d t (evaluate (bounds f)) (Then r Quiet) (Gave (Held (Some (v.Int k)) None ∷ []))) (sym h.subscript)
+    (Running.both d t (Evaluate (out-TypedExpr j)) Nothing r Quiet (Held (Some (v.Int k)) None ∷ []) [] x (Running.nothing d t)))
+    (subst (λ (f : SelectorForm). Selects f (Held (Some (v.Int k)) None ∷ []) (Element (Variable n u) None) (Element (ComponentOf (Variable n u) k) None)) (sym h.subscript) (k, refl, refl))
+    (Running.all_selected d t (Element (ComponentOf (Variable n u) k) None))))
+
+part_runs : (d : Scope) (t u : Thread) (n : ℕ) (j : TypedExpr) (k : ℤ) (r : Run) (l : TypedLine) (ls : List TypedLine) → AssignsComponent n j l → slice_get d n ≡ Some (Stored u) → Does d t (Evaluate (out-TypedExpr j)) r (Gave (Held (Some (v.Int k)) None ∷ []))
+    → Does d t (Item Together (l ∷ ls)) (part_run r (part_cell n u k)) Stopped
+part_runs d t u n j k r l ls h at x =
+    let at_part = ComponentOf (Variable n u) k in
+    let cell = part_cell n u k in
+    let touch = Then (Then (Then (Then r Quiet) Quiet) Quiet) (Then (Touch (write_of cell)) Quiet) in
+    Running.main_line d t Together l ls (part_run r cell) Stopped h.main
+    (Running.main d t Together InTurn l (Both (evaluate (h.e ∷ [])) (Reach kind.Write (h.el ∷ []))) (Then (Then Quiet Quiet) touch) Quiet (Held (or_else h.known.value None) None ∷ []) Stopped (ap process_plan h.is)
+    (Running.both d t (evaluate (h.e ∷ [])) (Reach kind.Write (h.el ∷ [])) (Then Quiet Quiet) touch (Held (or_else h.known.value None) None ∷ []) []
+    (Running.both d t (Evaluate (out-TypedExpr h.e)) Nothing Quiet Quiet (Held (or_else h.known.value None) None ∷ []) [] (literal_runs d t h.e h.known h.literal) (Running.nothing d t))
+    (Running.reaches d t kind.Write (h.el ∷ []) (Then (Then (Then r Quiet) Quiet) Quiet) (Then (Touch (write_of cell)) Quiet) (Element at_part None ∷ [])
+    (Running.both d t (Find h.el) Nothing (Then (Then r Quiet) Quiet) Quiet (Element at_part None ∷ []) [] (part_found d t u n j k r l h at x) (Running.nothing d t))
+    (Running.one_more at_part None cell None Quiet (inl refl) ([], refl) Running.none)))
+    (Running.stops_before d t (Under InTurn l)))
+
+numeral_runs : (d : Scope) (t : Thread) (k : ℤ) (e : TypedExpr) → IsNumeral k e → Does d t (Evaluate (out-TypedExpr e)) Quiet (Gave (Held (Some (v.Int k)) None ∷ []))
+numeral_runs d t k e h = subst (λ (o : Option Value). Does d t (Evaluate (out-TypedExpr e)) Quiet (Gave (Held (or_else o None) None ∷ []))) h.value (literal_runs d t e h.known h.is)
+
+part_writes : (r : Run) (c : Cell) → Occurs (write_of c) (part_run r c)
+part_writes r c = inl (inr (inr (inl refl)))
+
+pub part_races : (d : Scope) (t u w : Thread) (n m : ℕ) (i j : TypedExpr) (k : ℤ) (l a c : TypedLine) → slice_get d n ≡ Some (Stored u) → slice_get d m ≡ Some (Stored w) → IsParallel l (a ∷ c ∷ []) → IsName m i → AssignsComponent n i a → IsNumeral k j
+    → AssignsComponent n j c → CanRace d t (Main InTurn l)
+part_races d t u w n m i j k l a c at index par name first numeral last =
+    let here : slice_get (d ++ []) n ≡ Some (Stored u) = get_more d [] n (Stored u) at in
+    let there : slice_get (d ++ []) m ≡ Some (Stored w) = get_more d [] m (Stored w) index in
+    let cell = part_cell n u k in
+    two_race d t l a c (part_run (read_run (own_cell m w) (Some (v.Int k))) cell) (part_run Quiet cell) (write_of cell) (write_of cell) par first.main
+    (part_runs (d ++ []) (t ++ InComponent 0 ∷ []) u n i k (read_run (own_cell m w) (Some (v.Int k))) a (c ∷ []) first here (read_runs (d ++ []) (t ++ InComponent 0 ∷ []) w m i (Some (v.Int k)) there name))
+    (part_runs (d ++ []) (t ++ InComponent 1 ∷ []) u n j k Quiet c [] last here (numeral_runs (d ++ []) (t ++ InComponent 1 ∷ []) k j numeral)) (part_writes (read_run (own_cell m w) (Some (v.Int k))) cell) (part_writes Quiet cell) (refl, refl)
