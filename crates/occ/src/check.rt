@@ -1,20 +1,23 @@
 //! Checks files and prints what is wrong with them.
 use super::disk::{Machine, read_text};
+use super::failing::{does_fail, status};
 use super::printing::print_all;
-use super::{CLEAN, ERRORS, TROUBLE};
-use occ_base::{Code, Grade};
+use occ_base::Grade;
 use occ_files::{Gathered, Group, Refusal, gather, groups};
 use occ_files_check::{CheckFault, Checked, check_texts};
 use occ_files_words::Checking;
 use occ_messages::Message;
 use occ_messages_formats::Tally;
 use std::alloc::{AllocError, Global};
+use std::collections::BTreeSet;
 use std::io::{self, BufReader};
 
 /// What was found in all files.
 #[derive(Drop)]
 pub struct Findings {
     pub messages: Vec<Message>,
+    /// The files of which messages were told before those of the present folder.
+    paths: BTreeSet<String>,
     pub tally: Tally,
     /// Whether one of them makes the program fail.
     fails: bool,
@@ -30,6 +33,7 @@ pub fn check(rt: &HostRuntime, asked: &Checking) -> io::Result<u8> {
     let found = groups(alloc, &machine, paths.as_slice())?;
     let mut findings = Findings {
         messages: Vec::new(alloc),
+        paths: BTreeSet::new(alloc),
         tally: Tally::default(),
         fails: false,
         is_trouble: refuse(rt, found.refusals.as_slice())?,
@@ -38,7 +42,7 @@ pub fn check(rt: &HostRuntime, asked: &Checking) -> io::Result<u8> {
         check_group(rt, &machine, asked, group, &mut findings)?;
     }
     print_all(rt, asked, &findings)?;
-    Ok(status(&findings))
+    Ok(status(findings.is_trouble, findings.fails))
 }
 
 /// The files of the machine, with standard input if it is asked for.
@@ -92,7 +96,7 @@ fn check_group(
     }
     let Gathered { texts, units, .. } = &gathered;
     match check_texts(alloc, texts.as_slice(), units.as_slice()) {
-        Ok(checked) => add(asked, checked, units.len(), findings)?,
+        Ok(mut checked) => add(alloc, asked, &mut checked, units.len(), findings)?,
         Err(CheckFault::Memory) => return Err(AllocError)?,
         Err(CheckFault::Refused(_) | CheckFault::Pending) => {
             let folder = group.folder.as_str();
@@ -105,30 +109,44 @@ fn check_group(
 
 /// Adds what is told of the files of a folder, but for what was told before.
 fn add(
+    alloc: Global,
     asked: &Checking,
-    checked: Checked,
+    checked: &mut Checked,
     units: usize,
     findings: &mut Findings,
 ) -> Result<(), AllocError> {
     let before = findings.messages.len();
-    findings.tally.told = findings.tally.told.saturating_add(checked.faulty);
-    findings.tally.units = findings.tally.units.saturating_add(units);
-    for message in checked.messages {
-        if is_wanted(asked, &message) && !is_told(findings, before, &message) {
-            findings.count(asked, &message);
-            findings.messages.push(message)?;
+    findings.count_units(checked.faulty, units);
+    let mut left = turned(alloc, &mut checked.messages)?;
+    for _ in 0..left.len() {
+        match left.pop() {
+            Some(message) => findings.take(asked, before, message)?,
+            None => break,
         }
     }
-    Ok(())
+    findings.add_paths(alloc, before)
 }
 
-/// Whether a message is one of the first so many.
+/// The messages, taken out, the last one first.
+fn turned(alloc: Global, messages: &mut Vec<Message>) -> Result<Vec<Message>, AllocError> {
+    let mut turned = Vec::new(alloc);
+    for _ in 0..messages.len() {
+        match messages.pop() {
+            Some(message) => turned.push(message)?,
+            None => break,
+        }
+    }
+    Ok(turned)
+}
+
+/// Whether a message is one of the first so many, which are of other folders.
 fn is_told(findings: &Findings, before: usize, message: &Message) -> bool {
-    findings
-        .messages
-        .iter()
-        .take(before)
-        .any(|other| is_same(other, message))
+    findings.paths.contains(message.path.as_str())
+        && findings
+            .messages
+            .iter()
+            .take(before)
+            .any(|other| is_same(other, message))
 }
 
 /// Whether two messages are one.
@@ -138,35 +156,55 @@ fn is_same(a: &Message, b: &Message) -> bool {
 
 /// Whether a message is asked for.
 fn is_wanted(asked: &Checking, message: &Message) -> bool {
-    asked.checks || message.grade == Grade::Error || does_fail(asked, message)
-}
-
-/// Whether a message makes the program fail.
-fn does_fail(asked: &Checking, message: &Message) -> bool {
-    let is_race = matches!(message.code, Code::U1 | Code::U2 | Code::U3 | Code::A4);
-    message.grade == Grade::Error || (asked.race_free && is_race)
+    asked.checks || does_fail(asked.race_free, message.grade, message.code)
 }
 
 impl Findings {
+    /// Takes a message, if it is asked for and is none of the first so many.
+    fn take(
+        &mut self,
+        asked: &Checking,
+        before: usize,
+        message: Message,
+    ) -> Result<(), AllocError> {
+        if is_wanted(asked, &message) && !is_told(self, before, &message) {
+            self.count(asked, &message);
+            self.messages.push(message)?;
+        }
+        Ok(())
+    }
+
+    /// The file of the message of that number.
+    fn path_at(&self, alloc: Global, at: usize) -> Result<String, AllocError> {
+        match self.messages.get(at) {
+            Some(message) => String::from_str(alloc, message.path.as_str()),
+            None => Ok(String::new(alloc)),
+        }
+    }
+
+    /// Adds the files of all messages but the first so many.
+    fn add_paths(&mut self, alloc: Global, before: usize) -> Result<(), AllocError> {
+        for at in before..self.messages.len() {
+            let path = self.path_at(alloc, at)?;
+            self.paths.insert(path)?;
+        }
+        Ok(())
+    }
+
+    /// Counts units, of some of which there is something to tell.
+    fn count_units(&mut self, told: usize, units: usize) {
+        self.tally.told = self.tally.told.saturating_add(told);
+        self.tally.units = self.tally.units.saturating_add(units);
+    }
+
     /// Counts a message.
     fn count(&mut self, asked: &Checking, message: &Message) {
         match message.grade {
             Grade::Error => self.tally.errors = self.tally.errors.saturating_add(1),
             Grade::Check => self.tally.checks = self.tally.checks.saturating_add(1),
         }
-        if does_fail(asked, message) {
+        if does_fail(asked.race_free, message.grade, message.code) {
             self.fails = true;
         }
-    }
-}
-
-/// The exit status.
-fn status(findings: &Findings) -> u8 {
-    if findings.is_trouble {
-        TROUBLE
-    } else if findings.fails {
-        ERRORS
-    } else {
-        CLEAN
     }
 }

@@ -3,9 +3,11 @@
 
 mod check;
 mod disk;
+mod failing;
 mod printing;
 
 use check::check;
+use failing::{CLEAN, ERRORS, TROUBLE};
 use occ_base::Code;
 use occ_files_words::{Asked, WordsFault, read_words};
 use occ_messages::{code_named, explained};
@@ -13,13 +15,6 @@ use std::alloc::AllocError;
 use std::env;
 use std::io::{self, ErrorKind};
 use std::process::ExitCode;
-
-/// Nothing is wrong.
-const CLEAN: u8 = 0;
-/// An error was told.
-const ERRORS: u8 = 1;
-/// A file, the command line, memory or a device cannot be read or had.
-const TROUBLE: u8 = 2;
 
 fn main(rt: HostRuntime) -> ExitCode {
     let done = match asked(&rt) {

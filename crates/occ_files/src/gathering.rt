@@ -3,7 +3,7 @@
 use super::finding::{Disk, Found, find, folder_of, name_of};
 use super::refusal::{Refusal, Why};
 use occ_base::{FileName, Items, Shared};
-use occ_forms::{Source, prepare};
+use occ_forms::{LineBody, Source, prepare};
 use occ_lines::TextFault;
 use occ_project::{Expanded, Read, Reads, expand_over};
 use std::alloc::{AllocError, Global};
@@ -106,13 +106,22 @@ fn is_read(reads: &Reads, name: FileName) -> bool {
     reads.as_slice().iter().any(|read| read.name == name)
 }
 
-/// The file in which that name stands in a directive, as far as the faults of an expansion say it.
-fn file_naming(expanded: &Expanded, unit: FileName, name: FileName) -> FileName {
-    for fault in expanded.faults() {
-        if let Some(other) = &fault.name
-            && other.as_bytes() == name.as_bytes()
+/// Whether a line of a text names that file: to include it, or as the list of a library.
+fn does_name(source: &Source, name: FileName) -> bool {
+    source.lines().iter().any(|line| match &line.body {
+        LineBody::Include(file) => *file == name,
+        LineBody::Uses(_, Some(list)) => *list == name,
+        LineBody::Uses(_, None) | LineBody::Form(_) | LineBody::Fault(_) => false,
+    })
+}
+
+/// The first of these files that names that one, or else the unit.
+fn file_naming(reads: &Reads, unit: FileName, name: FileName) -> FileName {
+    for read in reads.as_slice() {
+        if let Some(source) = &read.source
+            && does_name(source.get(), name)
         {
-            return fault.file;
+            return read.name;
         }
     }
     unit
@@ -128,7 +137,7 @@ fn missing(
     let mut missing = Vec::new(alloc);
     for name in expanded.reads() {
         if !is_read(reads, *name) {
-            let file = file_naming(expanded, unit, *name);
+            let file = file_naming(reads, unit, *name);
             missing.push(Mention { file, name: *name })?;
         }
     }

@@ -60,7 +60,7 @@ impl Why {
             Why::Name(NameFault::Length) => "the name of a file has 64 characters at most",
             Why::Name(NameFault::Byte) =>
                 "the name of a file has letters, digits, '.', '_' and '-' alone",
-            Why::Name(NameFault::Suffix) => "the name of a file ends in .occ or .inc",
+            Why::Name(NameFault::Suffix) => "the name of a file ends in .occ, .inc or .lbb",
             Why::Text(TextFault::TooLarge) => "a text has 262,144 bytes at most",
             Why::Text(TextFault::TooManyLines) => "a text has 16,384 lines at most",
             Why::Text(TextFault::Memory) => "memory is refused",

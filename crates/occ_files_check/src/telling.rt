@@ -8,7 +8,7 @@ use occ_base::{Diag, FileName, Items};
 use occ_board::{Row, Shown};
 use occ_check::in_order;
 use occ_files::Text;
-use occ_messages::{Message, message_of};
+use occ_messages::{Message, Page, message_of};
 use std::alloc::{AllocError, Global};
 
 /// Whether a unit is one of these.
@@ -100,25 +100,70 @@ fn has_diags(shown: &Shown) -> bool {
     }
 }
 
+/// The page of the text that was looked at last.
+#[derive(Drop)]
+struct Open<'a> {
+    file: FileName,
+    page: Page<'a>,
+}
+
 /// What people are told of diagnostics in these texts.
 pub fn messages(alloc: Global, diags: &[Diag], texts: &[Text]) -> Result<Vec<Message>, AllocError>
     ensures { IfOk result (λ messages. map head_of messages.items ≡ heads texts.now diags.now) }
 {
     let mut messages = Vec::new(alloc);
+    let mut open = None;
     for diag in diags {
-        messages.push(message(alloc, diag, texts)?)?;
+        messages.push(message(alloc, diag, texts, &mut open)?)?;
     }
     Ok(messages)
 }
 
 /// What people are told of a diagnostic in these texts.
-fn message(alloc: Global, diag: &Diag, texts: &[Text]) -> Result<Message, AllocError>
+fn message<'a>(
+    alloc: Global,
+    diag: &Diag,
+    texts: &'a [Text],
+    open: &mut Option<Open<'a>>,
+) -> Result<Message, AllocError>
     ensures { IfOk result (λ message. head_of message ≡ located (path_of texts.now diag.now.file) diag.now) }
 {
     for text in texts {
         if text.name == diag.file {
-            return message_of(alloc, diag, text.path.as_str(), text.source.get().text());
+            turn_to(alloc, text, open)?;
+            return message_in(alloc, diag, text.path.as_str(), open);
         }
     }
-    message_of(alloc, diag, "", &[])
+    message_of(alloc, diag, "", &mut Page::new(alloc, &[])?)
+}
+
+/// Opens the page of a text, unless it is open.
+fn turn_to<'a>(
+    alloc: Global,
+    text: &'a Text,
+    open: &mut Option<Open<'a>>,
+) -> Result<(), AllocError> {
+    if open.as_ref().is_none_or(|open| open.file != text.name) {
+        let page = Page::new(alloc, text.source.get().text())?;
+        *open = Some(Open {
+            file: text.name,
+            page,
+        });
+    }
+    Ok(())
+}
+
+/// What people are told of a diagnostic by the page that is open.
+fn message_in(
+    alloc: Global,
+    diag: &Diag,
+    path: &str,
+    open: &mut Option<Open<'_>>,
+) -> Result<Message, AllocError>
+    ensures { IfOk result (λ message. head_of message ≡ located path.now diag.now) }
+{
+    match open {
+        Some(open) => message_of(alloc, diag, path, &mut open.page),
+        None => message_of(alloc, diag, path, &mut Page::new(alloc, &[])?),
+    }
 }

@@ -103,6 +103,25 @@ fn files_are_found_beside_and_then_in_folders(rt: HostRuntime) -> Result<(), Fai
     Ok(())
 }
 
+const LIBRARY: [(&str, &str); 5] = [
+    ("a/main.occ", "#INCLUDE \"all.inc\"\n"),
+    ("lib/all.inc", "#USE \"z.lib\"\n"),
+    ("lib/z.lbb", "queues\n"),
+    ("lib/queues.occ", ""),
+    ("more/z.lbb", "stacks\n"),
+];
+
+#[test]
+fn a_list_is_found_beside_the_file_that_names_it(rt: HostRuntime) -> Result<(), Fail> {
+    let a = rt.alloc();
+    let (folders, paths) = (texts(a, &["more", "lib"])?, texts(a, &["a/main.occ"])?);
+    let disk = List(LIBRARY.as_slice());
+    let found = gather(a, &disk, folders.as_slice(), paths.as_slice())?;
+    let files = found.texts.as_slice();
+    assert!(rt; has(files, "lib/z.lbb") && has(files, "lib/queues.occ") && files.len() == 4);
+    Ok(())
+}
+
 #[test]
 fn folders_are_walked_for_units(rt: HostRuntime) -> Result<(), Fail> {
     let a = rt.alloc();

@@ -18,7 +18,7 @@ pub struct Checking {
     pub format: Format,
     /// Whether diagnostics of the grade `check` are told.
     pub checks: bool,
-    /// Whether any code that is about races counts as an error, also a check.
+    /// Whether each diagnostic of U or A makes the program fail, also one of the grade `check`.
     pub race_free: bool,
     /// Whether only diagnostics are told, without notes and counts.
     pub quiet: bool,
@@ -104,7 +104,7 @@ fn with_flags<'a>(alloc: Global, command: Command<'a>) -> Result<Command<'a>, Al
     let race_free = Arg::new(alloc, "race-free")
         .long("race-free")
         .action(ArgAction::SetTrue)
-        .help("fail on each U1, U2, U3 and A4, also of the grade `check`");
+        .help("fail on each diagnostic of U or A, also on one of the grade `check`");
     let quiet = Arg::new(alloc, "quiet")
         .long("quiet")
         .short('q')

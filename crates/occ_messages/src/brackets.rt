@@ -1,36 +1,46 @@
-//! Hints at brackets: those that do not balance, and operators that want some.
-use super::hinting::Place;
-use super::text::count;
+//! What is wrong with brackets: those that do not balance, and operators that want some.
+use super::spelling::after_assignment;
+use super::text::{closed, count};
+use super::told::{Place, Told};
 use std::alloc::{AllocError, Global};
 use std::str;
 
-/// What is wrong with the brackets of a line.
-pub fn bracket_hint(alloc: Global, place: Place<'_>) -> Result<Option<String>, AllocError> {
-    if let Some(hint) = unbalanced(alloc, place.said, b'(', b')', "( )")? {
-        return Ok(Some(hint));
+/// Tells what is wrong with the brackets of a line.
+pub fn brackets(alloc: Global, place: Place<'_>, told: &mut Told) -> Result<(), AllocError> {
+    unbalanced(alloc, place.said, [b'(', b')'], told)?;
+    if !told.is_said() {
+        unbalanced(alloc, place.said, [b'[', b']'], told)?;
     }
-    if let Some(hint) = unbalanced(alloc, place.said, b'[', b']', "[ ]")? {
-        return Ok(Some(hint));
+    if told.is_said() {
+        return Ok(());
     }
-    mixed(alloc, place.said)
+    if let Some(hint) = mixed(alloc, place.said)? {
+        told.say(String::from_str(
+            alloc,
+            "two operators stand beside one another without brackets, and none comes before the other",
+        )?);
+        told.help(hint)?;
+    }
+    Ok(())
 }
 
-/// Whether so many brackets of a kind are opened as are closed.
+/// Tells that not so many brackets of a kind are opened as are closed, if so it is.
 fn unbalanced(
     alloc: Global,
     said: &[u8],
-    open: u8,
-    close: u8,
-    kind: &str,
-) -> Result<Option<String>, AllocError> {
-    let opened = count(said, open);
-    let closed = count(said, close);
+    kind: [u8; 2],
+    told: &mut Told,
+) -> Result<(), AllocError> {
+    let [open, close] = kind;
+    let (opened, closed) = (count(said, open), count(said, close));
     if opened == closed {
-        return Ok(None);
+        return Ok(());
     }
-    Ok(Some(format!(in alloc;
-        "of the brackets {kind} there are {opened} that open and {closed} that close"
-    )?))
+    let (open, close) = (char::from(open), char::from(close));
+    told.say(format!(in alloc;
+        "{opened} `{open}` and {closed} `{close}` stand in this line: as many have to close as open"
+    )?);
+    Ok(())
 }
 
 /// An operator, and what is before it and after it.
@@ -83,26 +93,12 @@ fn mixed(alloc: Global, said: &[u8]) -> Result<Option<String>, AllocError> {
         };
         let (_, from) = rest.split_at(at);
         let (_, inside) = from.split_at(1);
-        if let Some(hint) = mixed_in(alloc, closed(inside))? {
+        if let Some(hint) = mixed_in(alloc, closed(inside).0)? {
             return Ok(Some(hint));
         }
         rest = inside;
     }
     Ok(None)
-}
-
-/// What is before the bracket that closes.
-fn closed(inside: &[u8]) -> &[u8] {
-    let mut open = 0usize;
-    for (at, b) in inside.iter().enumerate() {
-        match b {
-            b'(' | b'[' => open = open.saturating_add(1),
-            b')' | b']' if open == 0 => return inside.get(..at).unwrap_or(&[]),
-            b')' | b']' => open = open.saturating_sub(1),
-            _ => {}
-        }
-    }
-    inside
 }
 
 /// How the operands of two operators that are in no brackets are put in some.
@@ -116,20 +112,13 @@ fn mixed_in(alloc: Global, whole: &[u8]) -> Result<Option<String>, AllocError> {
     let (left, one) = (trimmed(first.left), trimmed(first.operator));
     let (middle, two) = (trimmed(second.left), trimmed(second.operator));
     let right = trimmed(second.right);
-    if left.contains(',') || middle.contains(',') {
+    let may_follow = one == two && (one == "+" || one == "*");
+    if may_follow || left.contains(',') || middle.contains(',') {
         return Ok(None);
     }
     Ok(Some(format!(in alloc;
-        "operators have no order among one another; brackets say it: `{left} {one} ({middle} {two} {right})` or `({left} {one} {middle}) {two} {right}`"
+        "brackets say which is meant: `{left} {one} ({middle} {two} {right})` or `({left} {one} {middle}) {two} {right}`"
     )?))
-}
-
-/// What is after `:=`, or all.
-fn after_assignment(said: &[u8]) -> &[u8] {
-    match said.windows(2).position(|two| two == b":=".as_slice()) {
-        Some(at) => said.get(at.saturating_add(2)..).unwrap_or(&[]),
-        None => said,
-    }
 }
 
 /// Bytes as text, without blanks around.

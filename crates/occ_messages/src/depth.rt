@@ -1,68 +1,99 @@
-//! Hints at a line that may not be where it stands, or lacks what belongs to it.
-use super::hinting::Place;
+//! What is wrong with a line that may not be where it stands, or lacks what belongs to it.
+use super::declared::add_number;
 use super::text::{
-    Numbered, column, first_word, has_word, line_after, line_at, line_before, line_behind, parent,
+    Lines, Numbered, column, first_word, has, has_word, is_skipped, line_after, line_before,
+    line_behind, number_of, parent,
 };
+use super::told::{Place, Told};
 use std::alloc::{AllocError, Global};
 
-/// What is wrong with the depth of a line, or with those around it.
-pub fn depth_hint(alloc: Global, place: Place<'_>) -> Result<Option<String>, AllocError> {
-    let line = line_at(place.text, place.number);
-    let depth = column(line);
-    if is_head(place.said)
-        && let Some(hint) = closing(alloc, place, depth)?
-    {
-        return Ok(Some(hint));
+/// Tells what is wrong with the depth of a line, or with those around it.
+pub fn depth(alloc: Global, place: Place<'_>, told: &mut Told) -> Result<(), AllocError> {
+    let depth = column(place.line);
+    if is_head(place.said) {
+        closing(alloc, place, depth, told)?;
     }
-    match line_before(place.text, place.number) {
+    if !told.is_said() {
+        sequence(alloc, place, told)?;
+    }
+    if told.is_said() {
+        return Ok(());
+    }
+    match line_before(place.lines, place.number) {
         Some(before) if column(before.line) < depth && !takes_lines(before.line.trim_ascii()) => {
             let number = before.number;
-            Ok(Some(format!(in alloc;
-                "it is deeper than line {number}, which takes nothing under it"
-            )?))
+            told.show(alloc, before, first_word(before.line.trim_ascii()), "")?;
+            told.say(format!(in alloc;
+                "this line is deeper than line {number}, which takes nothing under it"
+            )?);
         }
         Some(before) if column(before.line) == depth && is_opener(before.line.trim_ascii()) => {
             let number = before.number;
-            Ok(Some(format!(in alloc;
+            told.show(alloc, before, first_word(before.line.trim_ascii()), "")?;
+            told.say(format!(in alloc;
                 "what belongs to line {number} stands under it, two blanks further in"
-            )?))
+            )?);
         }
-        before => match around(place, depth, before) {
-            Some(hint) => Ok(Some(String::from_str(alloc, hint)?)),
-            None => Ok(None),
-        },
+        Some(before) if column(before.line).saturating_add(2) < depth => {
+            let number = before.number;
+            told.show(alloc, before, first_word(before.line.trim_ascii()), "")?;
+            told.say(format!(in alloc;
+                "this line is too deep: what is under line {number} begins two blanks further in than that"
+            )?);
+        }
+        before => {
+            if let Some(words) = around(place, depth, before) {
+                told.say(String::from_str(alloc, words)?);
+            }
+        }
     }
+    Ok(())
 }
 
 /// What is wrong with the lines around one that is not too deep.
 fn around(place: Place<'_>, depth: usize, before: Option<Numbered<'_>>) -> Option<&'static str> {
-    let line = line_at(place.text, place.number);
-    if line.starts_with(b"\t") {
+    if place.line.starts_with(b"\t") {
         Some("a tab goes to the next multiple of 8 columns, and each level is two columns")
     } else if has_word(place.said, b"FUNCTION") {
         Some(
-            "under it stand declarations and then a `VALOF`, which has a process and a `RESULT` under it",
+            "under this head stand declarations and then a `VALOF`, which has a process and a `RESULT` under it",
         )
     } else if is_head(place.said) {
-        Some("under it stand declarations, each ended by `:`, and then one process")
-    } else if takes_lines(place.said) && !is_deeper(line_after(place.text, place.number), depth) {
-        Some("what belongs to it stands under it, two blanks further in")
+        Some("under this head stand declarations, each ended by `:`, and then one process")
+    } else if takes_lines(place.said) && !is_deeper(line_after(place.lines, place.number), depth) {
+        Some("what belongs to this line stands under it, two blanks further in, and is missing")
     } else if is_under_choice(place) {
-        Some(
-            "under `IF`, `ALT` and `CASE` stand conditions, guards and options, each with its process under it, two blanks further in",
-        )
+        Some(choice(place))
     } else if before.is_some_and(|before| column(before.line) >= depth) {
-        Some(
-            "processes that follow one another stand under a `SEQ`, one that is alone needs none; declarations come before them",
-        )
+        Some("no `SEQ` stands over this line and the process before it")
     } else {
         None
     }
 }
 
+/// What stands under the choice that a line is under.
+fn choice(place: Place<'_>) -> &'static str {
+    if !is_deeper(line_after(place.lines, place.number), column(place.line)) {
+        return "the process of this line is missing: it stands under it, two blanks further in";
+    }
+    let said = match parent(place.lines, place.number) {
+        Some(parent) => parent.line.trim_ascii(),
+        None => &[],
+    };
+    if said.starts_with(b"IF") {
+        "under `IF` stand conditions, each with its process under it, two blanks further in"
+    } else if has(said, b"CASE") {
+        "under `CASE` stand options, each with its process under it, two blanks further in"
+    } else if place.said.contains(&b'!') {
+        "a guard is an input or SKIP, no output"
+    } else {
+        "under `ALT` stand guards, each with its process under it, two blanks further in"
+    }
+}
+
 /// Whether a line is under one that takes conditions, guards or options.
 fn is_under_choice(place: Place<'_>) -> bool {
-    match parent(place.text, place.number) {
+    match parent(place.lines, place.number) {
         Some(parent) => {
             let said = parent.line.trim_ascii();
             said.starts_with(b"IF")
@@ -114,30 +145,154 @@ fn takes_lines(said: &[u8]) -> bool {
         )
 }
 
-/// Where the `:` of a head is missing.
-fn closing(alloc: Global, place: Place<'_>, depth: usize) -> Result<Option<String>, AllocError> {
-    match line_behind(place.text, place.number) {
-        Some(behind)
-            if behind.line.trim_ascii().starts_with(b":") && column(behind.line) == depth => Ok(
-            None,
-        ),
-        Some(behind) => {
-            let number = behind.number;
-            Ok(Some(format!(in alloc;
-                "the `:` that closes it is missing; it would stand before line {number}, in the column of this line"
-            )?))
-        }
-        None => Ok(Some(String::from_str(
-            alloc,
-            "the `:` that closes it is missing at the end, in the column of this line",
-        )?)),
+/// What a head is of.
+fn kind(said: &[u8]) -> &'static str {
+    if has_word(said, b"FUNCTION") {
+        "FUNCTION"
+    } else if first_word(said) == b"PROC".as_slice() {
+        "PROC"
+    } else if first_word(said) == b"PROTOCOL".as_slice() {
+        "PROTOCOL"
+    } else {
+        "DATA TYPE"
     }
 }
 
-/// How far in a line begins.
-pub fn blanks(alloc: Global, line: &[u8]) -> Result<String, AllocError> {
-    let depth = column(line);
-    format!(in alloc;
-        "it begins behind {depth} blanks; each level begins two blanks further in than the one around it"
-    )
+/// Tells where the `:` of a head is missing, if it is.
+fn closing(
+    alloc: Global,
+    place: Place<'_>,
+    depth: usize,
+    told: &mut Told,
+) -> Result<(), AllocError> {
+    let behind = line_behind(place.lines, place.number);
+    if behind.is_some_and(|behind| {
+        behind.line.trim_ascii().starts_with(b":") && column(behind.line) == depth
+    }) {
+        return Ok(());
+    }
+    let kind = kind(place.said);
+    told.say(format!(in alloc; "the `:` that closes this {kind} is missing")?);
+    told.mean(place, first_word(place.said));
+    match behind {
+        Some(behind) => {
+            let number = behind.number;
+            told.show(alloc, behind, first_word(behind.line.trim_ascii()), "")?;
+            told.help(format!(in alloc;
+                "put it on a line of its own before line {number}, in the column of this line"
+            )?)
+        }
+        None => told.help(String::from_str(
+            alloc,
+            "put it on a line of its own at the end, in the column of this line",
+        )?),
+    }
+}
+
+/// Tells which lines have no SEQ over them, if there are some at this line: the first is deeper than the line before it, which
+/// takes nothing under it, and others follow it in its column.
+fn sequence(alloc: Global, place: Place<'_>, told: &mut Told) -> Result<(), AllocError> {
+    let Some(first) = first_of_sequence(place) else {
+        return Ok(());
+    };
+    let depth = column(first.line);
+    let mut numbers = String::new(alloc);
+    add_number(alloc, first.number, &mut numbers)?;
+    let mut others = 0usize;
+    for (at, line) in place.lines.after(first.number).iter().enumerate() {
+        if is_skipped(line) || column(line) > depth {
+            continue;
+        }
+        if column(line) < depth {
+            break;
+        }
+        let number = number_of(at).saturating_add(first.number);
+        add_number(alloc, number, &mut numbers)?;
+        let line = Numbered { number, line };
+        told.show(alloc, line, first_word(line.line.trim_ascii()), "")?;
+        others = others.saturating_add(1);
+    }
+    if others == 0 {
+        return Ok(());
+    }
+    told.show(alloc, first, first_word(first.line.trim_ascii()), "")?;
+    told.say(format!(in alloc; "no `SEQ` stands over the lines {numbers}")?);
+    let number = first.number;
+    told.help(format!(in alloc;
+        "put a `SEQ` before line {number}, two blanks less far in than that"
+    )?)
+}
+
+/// The first of some lines that are deeper than what is before them, which takes nothing under it.
+fn first_of_sequence(place: Place<'_>) -> Option<Numbered<'_>> {
+    let depth = column(place.line);
+    let here = Numbered {
+        number: place.number,
+        line: place.line,
+    };
+    if is_too_deep(place.lines, here) {
+        return Some(here);
+    }
+    if let Some(before) = before_in(place.lines, place.number, depth)
+        && is_too_deep(place.lines, before)
+    {
+        return Some(before);
+    }
+    under(place.lines, place.number, depth)
+}
+
+/// Whether a line is deeper than the one before it, which takes nothing under it.
+fn is_too_deep(lines: Lines<'_>, line: Numbered<'_>) -> bool {
+    match line_before(lines, line.number) {
+        Some(before) => {
+            column(before.line) < column(line.line)
+                && !takes_lines(before.line.trim_ascii())
+                && before.line.trim_ascii().ends_with(b":")
+        }
+        None => false,
+    }
+}
+
+/// The first line above in a column, with no line between that is less far in.
+fn before_in(lines: Lines<'_>, number: u32, depth: usize) -> Option<Numbered<'_>> {
+    let mut found = None;
+    for (at, line) in lines.before(number).iter().enumerate().rev() {
+        if is_skipped(line) || column(line) > depth {
+            continue;
+        }
+        if column(line) < depth {
+            break;
+        }
+        let number = number_of(at);
+        found = Some(Numbered { number, line });
+    }
+    found
+}
+
+/// The first line under another one that is deeper than what is before it, which takes nothing under it.
+fn under(lines: Lines<'_>, number: u32, depth: usize) -> Option<Numbered<'_>> {
+    for (at, line) in lines.after(number).iter().enumerate() {
+        if is_skipped(line) {
+            continue;
+        }
+        if column(line) <= depth {
+            break;
+        }
+        let number = number_of(at).saturating_add(number);
+        let here = Numbered { number, line };
+        if is_too_deep(lines, here) {
+            return Some(here);
+        }
+    }
+    None
+}
+
+/// Tells how far in a line begins.
+pub fn blanks(alloc: Global, place: Place<'_>, told: &mut Told) -> Result<(), AllocError> {
+    let depth = column(place.line);
+    told.say(format!(in alloc; "this line begins behind {depth} blanks, an odd number")?);
+    told.help(String::from_str(
+        alloc,
+        "each level begins two blanks further in than the one around it",
+    )?)
 }

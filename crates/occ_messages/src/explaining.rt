@@ -7,7 +7,7 @@ use occ_base::Code;
 use std::alloc::{AllocError, Global};
 
 /// All codes, in their order.
-const CODES: [Code; 40] = [
+pub const CODES: [Code; 40] = [
     Code::G1,
     Code::G2,
     Code::G3,
@@ -74,10 +74,34 @@ pub fn explained(alloc: Global, code: Code) -> Result<String, AllocError> {
     format!(in alloc; "{name}: {title}\n\n{why}\n\n{body}\n")
 }
 
-/// Whether later faults of a unit are not looked for where it has an error of this code.
-pub fn hides_later(code: Code) -> bool {
-    !matches!(
-        code,
-        Code::U1 | Code::U2 | Code::U3 | Code::A1 | Code::A2 | Code::A3 | Code::A4 | Code::F1
-    )
+/// What of a unit is not looked at while it has an error of a code.
+#[derive(Clone, Copy, Debug, PartialEq, Eq)]
+pub enum Hiding {
+    /// Names, types and uses.
+    Lines,
+    /// Uses.
+    Types,
+    /// Nothing: it is about uses itself.
+    Nothing,
+}
+
+/// What of a unit is not looked at while it has an error of this code.
+pub fn hidden_by(code: Code) -> Hiding {
+    match code {
+        Code::U1 | Code::U2 | Code::U3 | Code::A1 | Code::A2 | Code::A3 | Code::A4 | Code::F1 => {
+            Hiding::Nothing
+        }
+        Code::N1 | Code::N2 | Code::R1 | Code::R2 => Hiding::Types,
+        Code::T1
+        | Code::T2
+        | Code::T3
+        | Code::T4
+        | Code::T5
+        | Code::T6
+        | Code::T7
+        | Code::T8
+        | Code::T9 => Hiding::Types,
+        Code::P1 | Code::P2 | Code::P3 | Code::P4 => Hiding::Types,
+        _ => Hiding::Lines,
+    }
 }

@@ -1,33 +1,24 @@
-//! Hints: what the line of a diagnostic tells more than its code does. They are chosen by looks, and promise nothing.
-use super::brackets::bracket_hint;
-use super::depth::{blanks, depth_hint};
-use super::specified::{abbreviation, fields, place_of_use, protocol, specifications};
-use super::spelling::{fixed_hint, name_hint, spelling_hint};
-use super::subscripts::range;
-use super::text::statement;
+//! What the line of a diagnostic tells more than its code does. It is chosen by looks, and promises nothing.
+use super::brackets::brackets;
+use super::clashes::{actuals, clash};
+use super::depth::{blanks, depth};
+use super::mismatch::{conditions, numbers, operands, wanted_type};
+use super::protocol::{message, no_channel};
+use super::scope::{not_in_scope, operand_lines};
+use super::specifics::{
+    abbreviation, effect, not_constant, replicated, sizes, sort, specification, twice, unchanged,
+    unfinished,
+};
+use super::spelling::written;
+use super::subscripts::outside;
+use super::text::{Lines, statement};
+use super::told::{Place, Told};
 use occ_base::{Code, Diag};
 use std::alloc::{AllocError, Global};
 
-/// What hints are made of: a diagnostic, its line and its text.
-#[derive(Clone, Copy)]
-pub struct Place<'a> {
-    pub code: Code,
-    /// The number of the line, from 1.
-    pub number: u32,
-    /// What the line says.
-    pub said: &'a [u8],
-    /// The name that is reported, or no byte.
-    pub name: &'a [u8],
-    pub text: &'a [u8],
-}
-
-/// What may help with a diagnostic at this line of a text.
-pub fn hints(
-    alloc: Global,
-    diag: &Diag,
-    line: &[u8],
-    text: &[u8],
-) -> Result<Vec<String>, AllocError> {
+/// What is told of a diagnostic beyond its code, from the lines of its text.
+pub fn told_of(alloc: Global, diag: &Diag, lines: Lines<'_>) -> Result<Told, AllocError> {
+    let line = lines.line(diag.line);
     let said = statement(alloc, line)?;
     let name = match &diag.name {
         Some(name) => name.as_bytes(),
@@ -35,96 +26,81 @@ pub fn hints(
     };
     let place = Place {
         code: diag.code,
+        grade: diag.grade,
         number: diag.line,
+        line,
         said: said.as_slice(),
         name,
-        text,
+        lines,
     };
-    let mut hints = Vec::new(alloc);
-    match diag.code {
-        Code::L1 | Code::S1 => form_hints(alloc, place, &mut hints)?,
-        Code::L2 => hints.push(blanks(alloc, line)?)?,
-        Code::S2 => shape_hints(alloc, place, &mut hints)?,
-        Code::N1 => name_hints(alloc, place, &mut hints)?,
-        Code::A1 | Code::A2 | Code::A3 => add(&mut hints, abbreviation(alloc, place)?)?,
-        Code::T6 => add(&mut hints, range(alloc, place)?)?,
-        Code::U1 | Code::U2 | Code::U3 => add(&mut hints, place_of_use(alloc, place)?)?,
-        Code::P1 | Code::P2 | Code::P3 => message_hints(alloc, place, &mut hints)?,
-        _ => {}
+    let mut told = Told::new(alloc);
+    tell(alloc, place, &mut told)?;
+    if !name.is_empty() {
+        told.mean(place, name);
     }
-    if are_specified(diag.code) {
-        specifications(alloc, place, &mut hints)?;
-    }
-    Ok(hints)
+    Ok(told)
 }
 
-/// Adds a hint, if there is one.
-pub fn add(hints: &mut Vec<String>, hint: Option<String>) -> Result<(), AllocError> {
-    if let Some(hint) = hint {
-        hints.push(hint)?;
+/// Tells what a line says more than a code.
+fn tell(alloc: Global, place: Place<'_>, told: &mut Told) -> Result<(), AllocError> {
+    match place.code {
+        Code::L1 | Code::S1 => form(alloc, place, told),
+        Code::L2 => blanks(alloc, place, told),
+        Code::L3 => unfinished(alloc, place, told),
+        Code::S2 => shape(alloc, place, told),
+        Code::N1 => not_in_scope(alloc, place, told),
+        Code::N2 => sort(alloc, place, told),
+        Code::T1 | Code::T2 | Code::T4 => types(alloc, place, told),
+        Code::T3 => unchanged(alloc, place, told),
+        Code::T5 => not_constant(alloc, place, told),
+        Code::T6 => outside(alloc, place, told),
+        Code::T7 => conditions(alloc, place, told),
+        Code::T8 => twice(alloc, place, told),
+        Code::T9 => sizes(alloc, place, told),
+        Code::P1 | Code::P2 | Code::P3 => message(alloc, place, told),
+        Code::P4 => channel(alloc, place, told),
+        Code::R1 => replicated(alloc, place, told),
+        Code::U1 | Code::U2 | Code::U3 => clash(alloc, place, told),
+        Code::A1 | Code::A2 | Code::A3 => abbreviation(alloc, place, told),
+        Code::A4 => actuals(alloc, place, told),
+        Code::F1 => effect(alloc, place, told),
+        _ => Ok(()),
     }
-    Ok(())
 }
 
-/// Whether it helps to see where the names of a line are specified.
-fn are_specified(code: Code) -> bool {
-    matches!(
-        code,
-        Code::N2
-            | Code::T1
-            | Code::T2
-            | Code::T3
-            | Code::T4
-            | Code::T7
-            | Code::P1
-            | Code::P4
-            | Code::A4
-    )
-}
-
-/// Hints at a line that has no form: the first that there is.
-fn form_hints(alloc: Global, place: Place<'_>, hints: &mut Vec<String>) -> Result<(), AllocError> {
-    if let Some(hint) = fixed_hint(place) {
-        hints.push(String::from_str(alloc, hint)?)?;
+/// Tells what is wrong with a line that has no form.
+fn form(alloc: Global, place: Place<'_>, told: &mut Told) -> Result<(), AllocError> {
+    written(alloc, place, told)?;
+    if told.is_said() {
         return Ok(());
     }
-    if let Some(hint) = spelling_hint(alloc, place.said)? {
-        hints.push(hint)?;
-        return Ok(());
-    }
-    add(hints, bracket_hint(alloc, place)?)
+    brackets(alloc, place, told)
 }
 
-/// Hints at a line that has no place: the first that there is.
-fn shape_hints(alloc: Global, place: Place<'_>, hints: &mut Vec<String>) -> Result<(), AllocError> {
-    if let Some(hint) = spelling_hint(alloc, place.said)? {
-        hints.push(hint)?;
+/// Tells what is wrong with a line that has no place.
+fn shape(alloc: Global, place: Place<'_>, told: &mut Told) -> Result<(), AllocError> {
+    written(alloc, place, told)?;
+    if told.is_said() {
         return Ok(());
     }
-    if let Some(hint) = fixed_hint(place) {
-        hints.push(String::from_str(alloc, hint)?)?;
+    depth(alloc, place, told)
+}
+
+/// Tells which types do not go together, or shows where the names of the line are specified.
+fn types(alloc: Global, place: Place<'_>, told: &mut Told) -> Result<(), AllocError> {
+    match place.code {
+        Code::T1 => operands(alloc, place, told)?,
+        Code::T2 => wanted_type(alloc, place, told)?,
+        _ => numbers(alloc, place, told)?,
+    }
+    if told.is_said() {
         return Ok(());
     }
-    add(hints, depth_hint(alloc, place)?)
+    operand_lines(alloc, place, told)
 }
 
-/// Hints at a name that is not known.
-fn name_hints(alloc: Global, place: Place<'_>, hints: &mut Vec<String>) -> Result<(), AllocError> {
-    match name_hint(alloc, place)? {
-        Some(hint) => hints.push(hint)?,
-        None => add(hints, fields(alloc, place)?)?,
-    }
-    Ok(())
-}
-
-/// Hints at a message.
-fn message_hints(
-    alloc: Global,
-    place: Place<'_>,
-    hints: &mut Vec<String>,
-) -> Result<(), AllocError> {
-    if let Some(hint) = fixed_hint(place) {
-        hints.push(String::from_str(alloc, hint)?)?;
-    }
-    add(hints, protocol(alloc, place)?)
+/// Tells what is no channel.
+fn channel(alloc: Global, place: Place<'_>, told: &mut Told) -> Result<(), AllocError> {
+    no_channel(alloc, place, told)?;
+    specification(alloc, place, told)
 }

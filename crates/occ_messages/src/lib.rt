@@ -2,18 +2,29 @@
 #![tactic(auto)]
 
 mod brackets;
+mod clashes;
+mod declared;
 mod depth;
 mod explaining;
 mod format;
 mod hinting;
 mod message;
-mod specified;
+mod mismatch;
+mod numbers;
+mod protocol;
+mod rounds;
+mod scope;
+mod similar;
+mod specifics;
 mod spelling;
 mod subscripts;
 mod table;
 mod text;
+mod told;
+mod uses;
 
-pub use explaining::{code_named, explained, hides_later};
+pub use explaining::{CODES, Hiding, code_named, explained, hidden_by};
 pub use format::Format;
-pub use message::{Message, message_of};
+pub use message::{Message, Page, message_of};
 pub use table::{Entry, entry_of};
+pub use told::{Mark, Quoted};

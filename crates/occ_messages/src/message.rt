@@ -2,12 +2,16 @@
 ghost use Rattle.occ_messages.specs.Located.{head_of, located};
 ghost use Rattle.std.specs.Prelude.{◌≡◌, IfOk};
 
-use super::hinting::hints;
+use super::hinting::told_of;
 use super::table::entry_of;
-use super::text::{has, line_at};
+use super::text::{Lines, lines_of};
+use super::told::{Mark, Quoted, Told};
 use occ_base::{Code, Diag, Grade, Name};
 use std::alloc::{AllocError, Global};
 use std::str;
+
+/// Of how many diagnostics of one file is told more than their code says. To look for that goes through the whole text.
+const TOLD_LIMIT: u32 = 200;
 
 /// What people are told of one diagnostic.
 #[derive(Drop)]
@@ -21,8 +25,39 @@ pub struct Message {
     pub words: String,
     /// That line of the text.
     pub source: String,
+    /// The part of it that is meant.
+    pub mark: Option<Mark>,
+    /// Other lines that matter.
+    pub others: Vec<Quoted>,
     /// What may help, where the line tells more than the code does.
     pub hints: Vec<String>,
+}
+
+/// The text of a file, as it is looked at for messages.
+#[derive(Drop)]
+pub struct Page<'a> {
+    lines: Vec<&'a [u8]>,
+    /// Of how many more diagnostics is told more than their code says.
+    left: u32,
+}
+
+impl<'a> Page<'a> {
+    /// The page of a text.
+    pub fn new(alloc: Global, text: &'a [u8]) -> Result<Page<'a>, AllocError> {
+        Ok(Page {
+            lines: lines_of(alloc, text)?,
+            left: TOLD_LIMIT,
+        })
+    }
+
+    /// What is told of a diagnostic beyond its code.
+    fn told(&mut self, alloc: Global, diag: &Diag) -> Result<Told, AllocError> {
+        if self.left == 0 {
+            return Ok(Told::new(alloc));
+        }
+        self.left = self.left.saturating_sub(1);
+        told_of(alloc, diag, Lines(self.lines.as_slice()))
+    }
 }
 
 /// What is told of a diagnostic in the text of a file at that path.
@@ -30,57 +65,62 @@ pub fn message_of(
     alloc: Global,
     diag: &Diag,
     path: &str,
-    text: &[u8],
+    page: &mut Page<'_>,
 ) -> Result<Message, AllocError>
     ensures { IfOk result (λ message. head_of message ≡ located path.now diag.now) }
 {
-    let line = line_at(text, diag.line);
-    let hints = hints(alloc, diag, line, text)?;
-    let words = words(alloc, diag, line)?;
+    let Told {
+        words,
+        mark,
+        mut others,
+        hints,
+    } = page.told(alloc, diag)?;
+    let words = match words {
+        Some(words) => words,
+        None => graded(alloc, diag.grade, general(alloc, diag)?)?,
+    };
+    others.sort_by_key(|other| other.number)?;
+    let source = String::from_utf8_lossy(alloc, Lines(page.lines.as_slice()).line(diag.line))?;
     Ok(Message {
         path: String::from_str(alloc, path)?,
         line: diag.line,
         code: diag.code,
         grade: diag.grade,
         words,
-        source: String::from_utf8_lossy(alloc, line)?,
+        source,
+        mark,
+        others,
         hints,
     })
 }
 
-/// What is wrong, with the name that is reported.
-fn words(alloc: Global, diag: &Diag, line: &[u8]) -> Result<String, AllocError> {
+/// Words with what they have of doubt.
+fn graded(alloc: Global, grade: Grade, words: String) -> Result<String, AllocError> {
+    match grade {
+        Grade::Error => Ok(words),
+        Grade::Check => format!(in alloc; "perhaps {words}"),
+    }
+}
+
+/// What is wrong by the code alone, with the name that is reported.
+fn general(alloc: Global, diag: &Diag) -> Result<String, AllocError> {
     let entry = entry_of(diag.code);
-    let predicate = match diag.code {
-        Code::U1 if has(line, b":=") => "is perhaps changed twice by this assignment",
-        _ => entry.named,
-    };
-    let perhaps = match diag.grade {
-        Grade::Error => "",
-        Grade::Check => "perhaps ",
-    };
     match &diag.name {
-        Some(name) => named(alloc, perhaps, text_of(name), predicate, entry.title),
-        None => format!(in alloc; "{perhaps}{}", entry.title),
+        Some(name) => named(alloc, text_of(name), entry.named, entry.title),
+        None => String::from_str(alloc, entry.title),
     }
 }
 
 /// A name as text.
-pub fn text_of(name: &Name) -> &str {
+fn text_of(name: &Name) -> &str {
     str::from_utf8(name.as_bytes()).unwrap_or("")
 }
 
 /// What is wrong with a name.
-fn named(
-    alloc: Global,
-    perhaps: &str,
-    name: &str,
-    named: &str,
-    title: &str,
-) -> Result<String, AllocError> {
+fn named(alloc: Global, name: &str, named: &str, title: &str) -> Result<String, AllocError> {
     if named.is_empty() {
-        format!(in alloc; "{perhaps}{title}: `{name}`")
+        format!(in alloc; "{title}: `{name}`")
     } else {
-        format!(in alloc; "{perhaps}`{name}` {named}")
+        format!(in alloc; "`{name}` {named}")
     }
 }

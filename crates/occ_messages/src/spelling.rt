@@ -1,6 +1,9 @@
-//! Hints at how a line is written: words and symbols of other languages, names, and what is missing.
-use super::hinting::Place;
-use super::text::{after_word, count, first_word, has, has_word, next_word, parent};
+//! What is wrong with how a line is written: words and symbols of other languages, names, and what is missing.
+use super::text::{
+    after_word, column, count, cut, first_word, has, has_word, is_skipped, line_after, next_word,
+    parent, word_count,
+};
+use super::told::{Mark, Place, Told, indent, shown};
 use occ_base::Code;
 use std::alloc::{AllocError, Global};
 use std::str;
@@ -41,25 +44,172 @@ const LEFT_OUT: [&str; 7] = [
 /// What `=` is.
 const EQUALS: &str = "`=` asks whether two are equal; `:=` assigns";
 
-/// A hint that names nothing of the line.
-pub fn fixed_hint(place: Place<'_>) -> Option<&'static str> {
-    match place.code {
-        Code::L1 => symbol_hint(place.said),
-        Code::S1 if is_equation(place) => Some(EQUALS),
-        Code::S1 => symbol_hint(place.said).or(form_hint(place.said)),
-        Code::S2 => shape_hint(place),
-        Code::P1 | Code::P2 | Code::P3 if has_two_words(place.said) => {
-            Some("items of a message are parted by `;`")
-        }
-        _ => None,
+/// Tells what is wrong with how a line is written, if looks say it: the first that is found.
+pub fn written(alloc: Global, place: Place<'_>, told: &mut Told) -> Result<(), AllocError> {
+    if place.code == Code::L1 {
+        literal(alloc, place, told)?;
     }
+    if !told.is_said()
+        && place.code != Code::S2
+        && let Some(words) = symbol_hint(place.said)
+    {
+        told.say(String::from_str(alloc, words)?);
+    }
+    if told.is_said() {
+        return Ok(());
+    }
+    words(alloc, place, told)?;
+    if told.is_said() {
+        return Ok(());
+    }
+    if place.code == Code::L1 {
+        return strange_byte(alloc, place, told);
+    }
+    if is_equation(place) {
+        told.say(String::from_str(alloc, EQUALS)?);
+        return Ok(());
+    }
+    if place.code == Code::S1 && is_option(place) {
+        told.say(String::from_str(alloc, "a condition, a guard or an option ends without `:`")?);
+    } else if place.code == Code::S1
+        && first_word(place.said) != b"FOR".as_slice()
+        && !is_counted_otherwise(place.said)
+    {
+        foreign_word(alloc, place, told)?;
+    }
+    if told.is_said() {
+        return Ok(());
+    }
+    let found = if place.code == Code::S2 {
+        shape_hint(place)
+    } else {
+        form_hint(place.said)
+    };
+    if let Some(words) = found {
+        told.say(String::from_str(alloc, words)?);
+    }
+    Ok(())
+}
+
+/// Whether a line under a choice ends in `:` and has lines under it.
+fn is_option(place: Place<'_>) -> bool {
+    let is_under = match parent(place.lines, place.number) {
+        Some(parent) => {
+            let said = parent.line.trim_ascii();
+            matches!(first_word(said), b"IF" | b"ALT" | b"CASE" | b"PRI")
+        }
+        None => false,
+    };
+    let has_lines = line_after(place.lines, place.number).is_some_and(|after| column(after.line)
+        > column(place.line));
+    is_under && has_lines && place.said.ends_with(b":")
+}
+
+/// Tells which word of a line opens or closes blocks in other languages, if there is one.
+fn foreign_word(alloc: Global, place: Place<'_>, told: &mut Told) -> Result<(), AllocError> {
+    let word = foreign(place.said);
+    if word.is_empty() || any_word(place.said, LEFT_OUT.as_slice()) {
+        return Ok(());
+    }
+    let text = shown(alloc, word)?;
+    told.say(format!(in alloc;
+        "occam has no `{text}`: no word opens or closes a block, depth says what belongs together"
+    )?);
+    told.mean(place, word);
+    Ok(())
+}
+
+/// The first word of a statement that opens or closes blocks in other languages.
+fn foreign(said: &[u8]) -> &[u8] {
+    let mut rest = said;
+    for _ in 0..said.len() {
+        let Some((word, more)) = next_word(rest) else {
+            break;
+        };
+        if is_one_of(word, FOREIGN.as_slice()) {
+            return word;
+        }
+        rest = more;
+    }
+    &[]
+}
+
+/// Whether a byte is one of occam's.
+fn is_known(b: u8) -> bool {
+    b.is_ascii_alphanumeric()
+        || matches!(
+            b,
+            b' ' | b'\t'
+                | b'.'
+                | b'"'
+                | b'\''
+                | b'('
+                | b')'
+                | b'['
+                | b']'
+                | b'+'
+                | b'-'
+                | b'*'
+                | b'/'
+                | b'\\'
+                | b'='
+                | b'<'
+                | b'>'
+                | b':'
+                | b';'
+                | b','
+                | b'!'
+                | b'?'
+                | b'&'
+                | b'~'
+                | b'#'
+        )
+}
+
+/// Tells what is wrong with the first character of a line, if it is none.
+fn literal(alloc: Global, place: Place<'_>, told: &mut Told) -> Result<(), AllocError> {
+    let Some(at) = place.line.iter().position(|b| *b == b'\'' || *b == b'"') else {
+        return Ok(());
+    };
+    let from = place.line.get(at..).unwrap_or(&[]);
+    let words = match from {
+        [b'\'', b'*', b'\'', ..] => "a star is written `**` in a character and in a string",
+        [b'\'', b'*', ..] | [b'\'', _, b'\'', ..] | [b'"', ..] => return Ok(()),
+        _ => "'x' is one character; a string stands in double quotes: \"abc\"",
+    };
+    told.say(String::from_str(alloc, words)?);
+    let rest = from.get(1..).unwrap_or(&[]);
+    let length = rest.iter().position(|b| *b == b'\'').unwrap_or(rest.len());
+    told.mark = Some(Mark {
+        from: at,
+        to: at.saturating_add(length).saturating_add(2),
+    });
+    Ok(())
+}
+
+/// Tells which byte of a line is none of occam's, in no string and no comment.
+fn strange_byte(alloc: Global, place: Place<'_>, told: &mut Told) -> Result<(), AllocError> {
+    let Some(found) = place.said.iter().position(|b| !is_known(*b)) else {
+        return Ok(());
+    };
+    let b = place.said.get(found).copied().unwrap_or(b' ');
+    let at = found.saturating_add(indent(place.line));
+    if b.is_ascii_graphic() {
+        let byte = char::from(b);
+        told.say(format!(in alloc; "there is no `{byte}` in occam")?);
+    } else {
+        told.say(format!(in alloc; "the byte #{b:02X} has no meaning in occam")?);
+    }
+    told.mark = Some(Mark {
+        from: at,
+        to: at.saturating_add(1),
+    });
+    Ok(())
 }
 
 /// A symbol or a spelling that there is not.
 fn symbol_hint(said: &[u8]) -> Option<&'static str> {
-    if has(said, b"''''") {
-        Some("'x' is one character; a string stands in double quotes: \"abc\"")
-    } else if has(said, b"==") {
+    if has(said, b"==") {
         Some("`=` asks whether two are equal")
     } else if has(said, b"!=") {
         Some("`<>` asks whether two are not equal")
@@ -83,22 +233,36 @@ fn form_hint(said: &[u8]) -> Option<&'static str> {
     let first = first_word(said);
     if any_word(said, LEFT_OUT.as_slice()) {
         Some("this is left out here: `occ` checks programs without reals, ports and placement")
-    } else if any_word(said, FOREIGN.as_slice()) {
-        Some(
-            "occam has no words that open or close a block (THEN, END, DO ..): depth says what belongs together",
-        )
     } else if first == b"IF".as_slice() || first == b"ALT".as_slice() {
         Some(
             "`IF` and `ALT` stand alone; each condition or guard is a line under them, two blanks in, and its process a line under that",
         )
     } else if first == b"ELSE".as_slice() {
         Some("`ELSE` stands alone, and its process a line under it, two blanks in")
+    } else if first == b"FOR".as_slice() || is_counted_otherwise(said) {
+        Some("a loop over numbers is `SEQ i = 0 FOR 10`: the first number, and how many")
     } else if has(said, b"&") && has(said, b"!") {
         Some("a guard is an input or SKIP, no output")
+    } else if said.ends_with(b"?") {
+        Some("behind `?` stand the variables that are input, or `CASE` for a variant protocol")
+    } else if first == b"PROC".as_slice() && !has(said, b"(") {
+        Some("the head of a PROC has brackets, also where it has no formals: `PROC p ()`")
+    } else if has(said, b":=") && has(said, b";") {
+        Some("each process has a line of its own: `;` parts items of a message and nothing else")
+    } else if is_list(said, b'!') {
+        Some("items of a message are parted by `;`")
+    } else if inputs_value(said) {
+        Some("behind `?` stands a variable, no expression")
+    } else if compares_bare(said) {
+        Some("what AND and OR join stands in brackets: `(a > 0) AND (b > 0)`")
+    } else if has_word(said, b"NOT") && (has_word(said, b"AND") || has_word(said, b"OR")) {
+        Some("what NOT denies stands in brackets with it: `(NOT a) AND b`")
+    } else if has_word(said, b"AND") && has_word(said, b"OR") {
+        Some("AND and OR beside one another want brackets: `(a AND b) OR c`")
     } else if said.ends_with(b"SKIP") && said.starts_with(b"(") && !has(said, b"&") {
-        Some("between the condition of a guard and what it guards stands `&`")
+        Some("no `&` stands between the condition of this guard and what it guards")
     } else if said.starts_with(b"(") && has(said, b"?") && !has(said, b"&") {
-        Some("between the condition of a guard and its input stands `&`")
+        Some("no `&` stands between the condition of this guard and its input")
     } else if has_word(said, b"FROM") && has(said, b",") && !has_word(said, b"FOR") {
         Some("a segment is `[a FROM start FOR count]`")
     } else if more_from(said) {
@@ -116,29 +280,83 @@ fn form_hint(said: &[u8]) -> Option<&'static str> {
     }
 }
 
+/// Whether a replicator says its last number or its step.
+fn is_counted_otherwise(said: &[u8]) -> bool {
+    has(said, b" = ") && (has_word(said, b"TO") || has_word(said, b"STEP"))
+}
+
+/// Whether items behind a sign are parted by a comma.
+fn is_list(said: &[u8], sign: u8) -> bool {
+    cut(said, sign).is_some_and(|(_, items)| cut(items, b',').is_some())
+}
+
+/// Whether something else than a variable is input.
+fn inputs_value(said: &[u8]) -> bool {
+    let Some((_, items)) = cut(said, b'?') else {
+        return false;
+    };
+    !is_reserved(first_word(items))
+        && (items.first().is_some_and(u8::is_ascii_digit)
+            || [b'+', b'-', b'*', b'/']
+                .iter()
+                .any(|b| cut(items, *b).is_some()))
+}
+
+/// Whether AND or OR joins comparisons that are in no brackets.
+fn compares_bare(said: &[u8]) -> bool {
+    let joins = has_word(said, b"AND") || has_word(said, b"OR");
+    let said = after_assignment(said);
+    joins && [b'<', b'>', b'='].iter().any(|b| cut(said, *b).is_some())
+}
+
+/// What is after `:=`, or all.
+pub fn after_assignment(said: &[u8]) -> &[u8] {
+    match said.windows(2).position(|two| two == b":=".as_slice()) {
+        Some(at) => said.get(at.saturating_add(2)..).unwrap_or(&[]),
+        None => said,
+    }
+}
+
 /// What a line lacks or is that may not be where it stands.
 fn shape_hint(place: Place<'_>) -> Option<&'static str> {
     let said = place.said;
     if said == b"ELSE".as_slice() {
         Some("an IF has no ELSE: its last condition is `TRUE`")
     } else if said == b"VALOF".as_slice() {
-        Some("under VALOF stand a process and then a `RESULT`, in one column")
+        Some(valof_hint(place))
     } else if said == b":".as_slice() {
         Some("a `:` closes a PROC, a FUNCTION, a PROTOCOL or a DATA TYPE, in the column of that")
     } else if is_equation(place) {
         Some(EQUALS)
     } else if !said.is_empty() && first_word(said) == said && !is_reserved(said) {
         Some("a call has brackets, also where it is given nothing: `p ()`")
-    } else if is_type(first_word(said)) && !said.ends_with(b":") && !has_word(said, b"FUNCTION") {
+    } else if is_type(first_word(said.rsplit(|b| *b == b']').next().unwrap_or(said)))
+        && !said.ends_with(b":")
+        && !has_word(said, b"FUNCTION")
+    {
         Some("a declaration ends in `:`")
     } else {
         None
     }
 }
 
+/// What is wrong with a VALOF.
+fn valof_hint(place: Place<'_>) -> &'static str {
+    let depth = column(place.line);
+    let under = place.lines.after(place.number);
+    let mut block = under
+        .iter()
+        .take_while(|line| is_skipped(line) || column(line) > depth);
+    if block.any(|line| first_word(line.trim_ascii()) == b"RESULT".as_slice()) {
+        "under VALOF stand a process and then a `RESULT`, in one column"
+    } else {
+        "the `RESULT` of this VALOF is missing: it stands behind the process, in its column"
+    }
+}
+
 /// Whether a line looks like an assignment by `=`.
 fn is_equation(place: Place<'_>) -> bool {
-    let parent = match parent(place.text, place.number) {
+    let parent = match parent(place.lines, place.number) {
         Some(parent) => parent.line.trim_ascii(),
         None => &[],
     };
@@ -186,134 +404,77 @@ fn more_from(said: &[u8]) -> bool {
     word_count(said, b"FROM") > word_count(said, b"FOR")
 }
 
-/// How often a word is in a statement.
-fn word_count(said: &[u8], wanted: &[u8]) -> usize {
-    let mut found = 0usize;
-    let mut rest = said;
-    for _ in 0..said.len() {
-        let Some((word, more)) = next_word(rest) else {
-            break;
-        };
-        if word == wanted {
-            found = found.saturating_add(1);
-        }
-        rest = more;
-    }
-    found
-}
-
-/// Whether two words are beside one another after `!` or `?`.
-fn has_two_words(said: &[u8]) -> bool {
-    let Some(at) = said.iter().position(|b| *b == b'!' || *b == b'?') else {
-        return false;
-    };
-    let (_, items) = said.split_at(at);
-    let Some((first, rest)) = next_word(items) else {
-        return false;
-    };
-    match rest {
-        [b' ', more @ ..] => {
-            !is_reserved(first) && !first_word(more).is_empty() && !is_reserved(first_word(more))
-        }
-        _ => false,
-    }
-}
-
-/// A hint that names a word of the line: one with an underscore, or one that is reserved in capitals.
-pub fn spelling_hint(alloc: Global, said: &[u8]) -> Result<Option<String>, AllocError> {
+/// Tells which word of a line is written otherwise: one with an underscore, or one that is reserved in capitals.
+fn words(alloc: Global, place: Place<'_>, told: &mut Told) -> Result<(), AllocError> {
+    let said = place.said;
     let first = first_word(said);
     let openers = if first == said {
         RESERVED.as_slice()
     } else {
         OPENERS.as_slice()
     };
-    if let Some(hint) = capital_hint(alloc, first, openers)? {
-        return Ok(Some(hint));
-    }
+    capital(alloc, place, told, first, openers)?;
     let mut rest = said;
     for _ in 0..said.len() {
         let Some((word, more)) = next_word(rest) else {
             break;
         };
-        if let Some(hint) = word_hint(alloc, word)? {
-            return Ok(Some(hint));
+        if told.is_said() {
+            break;
         }
+        word_hint(alloc, place, told, word)?;
         rest = more;
     }
-    Ok(None)
+    Ok(())
 }
 
-/// A hint at a word, wherever it stands.
-fn word_hint(alloc: Global, word: &[u8]) -> Result<Option<String>, AllocError> {
+/// Tells what is wrong with a word, wherever it stands.
+fn word_hint(
+    alloc: Global,
+    place: Place<'_>,
+    told: &mut Told,
+    word: &[u8],
+) -> Result<(), AllocError> {
     if word.contains(&b'_') && count(word, b'_') < word.len() {
-        let dotted = str::from_utf8(word).unwrap_or("").replace(alloc, "_", ".")?;
-        return Ok(Some(format!(in alloc; "names have dots and no underscores: `{dotted}`")?));
+        let text = shown(alloc, word)?;
+        let dotted = text.as_str().replace(alloc, "_", ".")?;
+        told.say(format!(in alloc; "`{text}` is no name: names have dots and no underscores")?);
+        told.mean(place, word);
+        return told.help(format!(in alloc; "write `{dotted}`")?);
     }
     if word.first().is_some_and(u8::is_ascii_digit) && word.contains(&b'.') {
-        return Ok(Some(String::from_str(alloc, "reals are left out here: no number has a dot")?));
+        told.say(String::from_str(alloc, "reals are left out here: no number has a dot")?);
+        told.mean(place, word);
+        return Ok(());
     }
-    capital_hint(alloc, word, JOINERS.as_slice())
+    capital(alloc, place, told, word, JOINERS.as_slice())
 }
 
-/// A hint at a word that is one of these in capitals.
-fn capital_hint(alloc: Global, word: &[u8], words: &[&str]) -> Result<Option<String>, AllocError> {
+/// Tells that a word is one of these in capitals, if so it is.
+fn capital(
+    alloc: Global,
+    place: Place<'_>,
+    told: &mut Told,
+    word: &[u8],
+    words: &[&str],
+) -> Result<(), AllocError> {
     let text = str::from_utf8(word).unwrap_or("");
     let capitals = text.to_ascii_uppercase(alloc)?;
     if capitals.as_str() != text && is_one_of(capitals.as_bytes(), words) {
-        return Ok(Some(format!(in alloc; "words of occam are in capitals: `{capitals}`")?));
+        told.say(format!(in alloc;
+            "`{text}` is written `{capitals}`: words of occam are in capitals"
+        )?);
+        told.mean(place, word);
     }
-    Ok(None)
+    Ok(())
 }
 
-/// A hint at a name that is not known.
-pub fn name_hint(alloc: Global, place: Place<'_>) -> Result<Option<String>, AllocError> {
-    if let Some(hint) = capital_hint(alloc, place.name, VALUES.as_slice())? {
-        return Ok(Some(hint));
-    }
-    if let Some(hint) = similar(alloc, place)? {
-        return Ok(Some(hint));
-    }
-    if is_called(place.said, place.name) && place.name.iter().all(u8::is_ascii_uppercase) {
-        return Ok(Some(String::from_str(
-            alloc,
-            "there are no predefined procedures and functions here: write your own",
-        )?));
-    }
-    Ok(None)
+/// Tells that a name which is not in scope is a word of occam in small letters, if so it is.
+pub fn is_value_word(alloc: Global, place: Place<'_>, told: &mut Told) -> Result<(), AllocError> {
+    capital(alloc, place, told, place.name, VALUES.as_slice())
 }
 
-/// A word of the text that is the name but for the case of its letters.
-fn similar(alloc: Global, place: Place<'_>) -> Result<Option<String>, AllocError> {
-    let mut rest = place.text;
-    for _ in 0..place.text.len() {
-        let Some((word, more)) = next_word(rest) else {
-            break;
-        };
-        if word != place.name && is_like(word, place.name) {
-            let text = str::from_utf8(word).unwrap_or("");
-            return Ok(Some(format!(in alloc; "there is `{text}` in this file")?));
-        }
-        rest = more;
-    }
-    Ok(None)
-}
-
-/// Whether two names differ in the case of letters alone, or in one letter.
-fn is_like(word: &[u8], name: &[u8]) -> bool {
-    if word.eq_ignore_ascii_case(name) {
-        return true;
-    }
-    name.len() >= 3 && is_one_off(word, name)
-}
-
-/// Whether two names are one but for one byte that is changed, left out or put in.
-fn is_one_off(word: &[u8], name: &[u8]) -> bool {
-    let front = word.iter().zip(name).take_while(|(a, b)| a == b).count();
-    let (rest, others) = (tail(word, front), tail(name, front));
-    tail(rest, 1) == tail(others, 1) || tail(rest, 1) == others || rest == tail(others, 1)
-}
-
-/// What is left of some bytes after so many.
-fn tail(bytes: &[u8], count: usize) -> &[u8] {
-    bytes.get(count..).unwrap_or(&[])
+/// Whether a name looks like that of a procedure which other compilers have.
+pub fn is_predefined(place: Place<'_>) -> bool {
+    is_called(place.said, place.name) && place.name.iter().all(u8::is_ascii_uppercase)
 }

@@ -1,68 +1,72 @@
-//! Hints at a constant subscript that is outside of its array.
-use super::hinting::Place;
-use super::text::{has_word, next_word, statement};
+//! Which constant subscript is outside of its array.
+use super::declared::type_of;
+use super::numbers::{Constant, Part, constants, parts, value};
+use super::spelling::is_reserved;
+use super::text::{Numbered, WORD_LIMIT, closed, next_word};
+use super::told::{Place, Told, shown};
 use std::alloc::{AllocError, Global};
-use std::str;
 
-/// The indices of the first array of a line whose declaration is found.
-pub fn range(alloc: Global, place: Place<'_>) -> Result<Option<String>, AllocError> {
+/// Tells which subscript is outside of its array: the first that is found.
+pub fn outside(alloc: Global, place: Place<'_>, told: &mut Told) -> Result<(), AllocError> {
+    let known = constants(alloc, place.lines, place.number)?;
     let mut rest = place.said;
-    for _ in 0..place.said.len() {
+    for _ in 0..place.said.len().min(WORD_LIMIT) {
         let Some((word, more)) = next_word(rest) else {
             break;
         };
-        if more.starts_with(b"[")
-            && let Some(size) = size_of(alloc, place.text, word)?
-        {
-            return Ok(Some(indices(alloc, word, size.as_slice())?));
-        }
         rest = more;
+        if !told.is_said() && !is_reserved(word) {
+            of_array(alloc, place, told, word, known.as_slice())?;
+        }
     }
-    Ok(None)
+    Ok(())
 }
 
-/// The first size of an array in its declaration, if that is found.
-fn size_of(alloc: Global, text: &[u8], name: &[u8]) -> Result<Option<Vec<u8>>, AllocError> {
-    for line in text.split(|b| *b == b'\n') {
-        let said = statement(alloc, line)?;
-        if said.starts_with(b"[") && said.ends_with(b":") && has_word(said.as_slice(), name) {
-            return Ok(Some(first_size(alloc, said.as_slice())?));
-        }
-    }
-    Ok(None)
+/// Tells that a part of an array is outside of it, if so it is.
+fn of_array(
+    alloc: Global,
+    place: Place<'_>,
+    told: &mut Told,
+    name: &[u8],
+    known: &[Constant<'_>],
+) -> Result<(), AllocError> {
+    let Some(typed) = type_of(alloc, place.lines, place.number, name)? else {
+        return Ok(());
+    };
+    let Some(inside) = typed.text.as_slice().strip_prefix(b"[") else {
+        return Ok(());
+    };
+    let (text, _) = closed(inside);
+    let Some(size) = value(alloc, text, known)? else {
+        return Ok(());
+    };
+    let found = parts(alloc, place.said, name, known)?;
+    let Some(part) = found
+        .as_slice()
+        .iter()
+        .find(|part| is_outside(**part, size))
+    else {
+        return Ok(());
+    };
+    let far = if part.from < 0 {
+        part.from
+    } else {
+        part.end().saturating_sub(1)
+    };
+    let (array, last) = (shown(alloc, name)?, size.saturating_sub(1));
+    let number = typed.number;
+    told.say(format!(in alloc;
+        "`{array}[{far}]` is outside of its array: `{array}` has the elements 0 to {last} (line {number})"
+    )?);
+    told.mean(place, name);
+    let line = Numbered {
+        number,
+        line: place.lines.line(number),
+    };
+    told.show(alloc, line, name, "")
 }
 
-/// What is in the first brackets of a declaration.
-fn first_size(alloc: Global, said: &[u8]) -> Result<Vec<u8>, AllocError> {
-    let mut size = Vec::new(alloc);
-    let mut open = 0usize;
-    for b in said {
-        match b {
-            b'[' if open == 0 => open = 1,
-            b']' if open == 1 => break,
-            b'[' => open = open.saturating_add(1),
-            b']' => open = open.saturating_sub(1),
-            _ => {}
-        }
-        if open > 1 || *b != b'[' {
-            size.push(*b)?;
-        }
-    }
-    Ok(size)
-}
-
-/// The indices of an array of that size.
-fn indices(alloc: Global, name: &[u8], size: &[u8]) -> Result<String, AllocError> {
-    let name = str::from_utf8(name).unwrap_or("");
-    let text = str::from_utf8(size.trim_ascii()).unwrap_or("");
-    match text.parse::<u32>() {
-        Ok(number) if number > 0 => {
-            let last = number - 1;
-            format!(in alloc; "the indices of `{name}` are 0 to {last}")
-        }
-        _ if text.contains(' ') => format!(in alloc;
-            "the indices of `{name}` are 0 to ({text}) - 1"
-        ),
-        _ => format!(in alloc; "the indices of `{name}` are 0 to {text} - 1"),
-    }
+/// Whether a part is not in an array of a size.
+fn is_outside(part: Part, size: i64) -> bool {
+    part.from < 0 || part.end() > size
 }

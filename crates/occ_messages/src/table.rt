@@ -318,7 +318,7 @@ PROC p ()
             code: Code::T1,
             title: "the operands of an operator do not go together",
             named: "",
-            why: "Nothing is converted by itself: `INT b` makes an INT of the BYTE b.",
+            why: "Nothing is converted by itself; a type before a value converts it: `INT b`.",
             body: r#"Nothing is converted by itself.
 
 Reported: `a.occ:4 T1 error -`
@@ -343,7 +343,7 @@ PROC p ()
             code: Code::T2,
             title: "not the type that is wanted",
             named: "is not of the type that is wanted",
-            why: "Nothing is converted by itself: `INT b` makes an INT of the BYTE b.",
+            why: "Nothing is converted by itself; a type before a value converts it: `INT b`.",
             body: r#"Reported: `a.occ:3 T2 error -`
 ```occam
 PROC p ()

@@ -1,6 +1,16 @@
 //! Lines of a text and words of a line, for hints. What a line means is not asked here.
 use std::alloc::{AllocError, Global};
 
+/// How many lines one statement may have, as far as hints go.
+const STATEMENT_LINES: usize = 16;
+
+/// How many words of a line are looked up in the text.
+pub const WORD_LIMIT: usize = 64;
+
+/// The lines of a text.
+#[derive(Clone, Copy)]
+pub struct Lines<'a>(pub &'a [&'a [u8]]);
+
 /// A line of a text with its number, from 1.
 #[derive(Clone, Copy)]
 pub struct Numbered<'a> {
@@ -8,14 +18,47 @@ pub struct Numbered<'a> {
     pub line: &'a [u8],
 }
 
-/// The bytes of a line of a text, the first of which is line 1, without what ends it; none where there is no such line.
-pub fn line_at(text: &[u8], number: u32) -> &[u8] {
-    match text
-        .split(|b| *b == b'\n')
-        .nth(number.saturating_sub(1) as usize)
-    {
-        Some(line) => line.strip_suffix(b"\r").unwrap_or(line),
-        None => &[],
+/// The lines of a text, without what ends them.
+pub fn lines_of<'a>(alloc: Global, text: &'a [u8]) -> Result<Vec<&'a [u8]>, AllocError> {
+    let mut lines = Vec::new(alloc);
+    for line in text.split(|b| *b == b'\n') {
+        lines.push(line.strip_suffix(b"\r").unwrap_or(line))?;
+    }
+    Ok(lines)
+}
+
+impl<'a> Lines<'a> {
+    /// The line of that number, the first of which is line 1; none where there is no such line.
+    pub fn line(self, number: u32) -> &'a [u8] {
+        match self.0.get((number as usize).saturating_sub(1)) {
+            Some(line) => line,
+            None => &[],
+        }
+    }
+
+    /// The lines before that one.
+    pub fn before(self, number: u32) -> &'a [&'a [u8]] {
+        let count = (number as usize).saturating_sub(1);
+        self.0.get(..count).unwrap_or(self.0)
+    }
+
+    /// The lines after one and before another.
+    pub fn between(self, first: u32, last: u32) -> &'a [&'a [u8]] {
+        let end = (last as usize).saturating_sub(1);
+        self.0.get(first as usize..end).unwrap_or(&[])
+    }
+
+    /// The lines after that one.
+    pub fn after(self, number: u32) -> &'a [&'a [u8]] {
+        self.0.get(number as usize..).unwrap_or(&[])
+    }
+}
+
+/// The number of the line that so many come before.
+pub fn number_of(index: usize) -> u32 {
+    match u32::try_from(index) {
+        Ok(number) => number.saturating_add(1),
+        Err(_) => u32::MAX,
     }
 }
 
@@ -54,6 +97,32 @@ fn quote_after(quote: u8, last: u8, b: u8) -> u8 {
     }
 }
 
+/// What the statement says that begins on that line, with the lines on which it goes on.
+pub fn whole_statement(
+    alloc: Global,
+    lines: Lines<'_>,
+    number: u32,
+) -> Result<Vec<u8>, AllocError> {
+    let mut said = statement(alloc, lines.line(number))?;
+    for line in lines.after(number).iter().take(STATEMENT_LINES) {
+        if !goes_on(said.as_slice()) {
+            break;
+        }
+        said.push(b' ')?;
+        let more = statement(alloc, line)?;
+        said.extend_from_slice(more.as_slice())?;
+    }
+    Ok(said)
+}
+
+/// Whether a statement goes on in the next line.
+fn goes_on(said: &[u8]) -> bool {
+    match said.last() {
+        Some(b) => matches!(b, b',' | b';' | b'=' | b'+' | b'*' | b'&') || said.ends_with(b" AND"),
+        None => false,
+    }
+}
+
 /// The column at which a line begins, with tabs at multiples of 8.
 pub fn column(line: &[u8]) -> usize {
     let mut column = 0usize;
@@ -74,7 +143,7 @@ pub fn is_skipped(line: &[u8]) -> bool {
 }
 
 /// Whether a byte goes on with a word.
-fn is_word_byte(b: u8) -> bool {
+pub fn is_word_byte(b: u8) -> bool {
     b.is_ascii_alphanumeric() || b == b'.' || b == b'_'
 }
 
@@ -96,6 +165,18 @@ pub fn first_word(statement: &[u8]) -> &[u8] {
     }
 }
 
+/// The last word of a statement.
+pub fn last_word(statement: &[u8]) -> &[u8] {
+    let front = match statement.iter().rposition(|b| is_word_byte(*b)) {
+        Some(end) => statement.get(..=end).unwrap_or(&[]),
+        None => return &[],
+    };
+    match front.iter().rposition(|b| !is_word_byte(*b)) {
+        Some(start) => front.get(start.saturating_add(1)..).unwrap_or(&[]),
+        None => front,
+    }
+}
+
 /// What is after the first of these words, if there is one.
 pub fn after_word<'a>(statement: &'a [u8], wanted: &[u8]) -> Option<&'a [u8]> {
     let mut rest = statement;
@@ -107,6 +188,30 @@ pub fn after_word<'a>(statement: &'a [u8], wanted: &[u8]) -> Option<&'a [u8]> {
         rest = more;
     }
     None
+}
+
+/// What is before the first of these words, and what is after it, if there is one.
+pub fn around_word<'a>(statement: &'a [u8], wanted: &[u8]) -> Option<(&'a [u8], &'a [u8])> {
+    let after = after_word(statement, wanted)?;
+    let end = statement.len().saturating_sub(after.len());
+    let front = statement.get(..end.saturating_sub(wanted.len()))?;
+    Some((front, after))
+}
+
+/// How often a word is in a statement.
+pub fn word_count(said: &[u8], wanted: &[u8]) -> usize {
+    let mut found = 0usize;
+    let mut rest = said;
+    for _ in 0..said.len() {
+        let Some((word, more)) = next_word(rest) else {
+            break;
+        };
+        if word == wanted {
+            found = found.saturating_add(1);
+        }
+        rest = more;
+    }
+    found
 }
 
 /// Whether a statement has that word.
@@ -125,59 +230,106 @@ pub fn count(statement: &[u8], wanted: u8) -> usize {
 }
 
 /// The nearest line above that one which is not skipped.
-pub fn line_before(text: &[u8], number: u32) -> Option<Numbered<'_>> {
-    let mut found = None;
-    let mut at = 0u32;
-    for line in text.split(|b| *b == b'\n') {
-        at = at.saturating_add(1);
-        if at >= number {
-            break;
-        }
+pub fn line_before(lines: Lines<'_>, number: u32) -> Option<Numbered<'_>> {
+    for (at, line) in lines.before(number).iter().enumerate().rev() {
         if !is_skipped(line) {
-            found = Some(Numbered { number: at, line });
+            let number = number_of(at);
+            return Some(Numbered { number, line });
         }
     }
-    found
+    None
 }
 
 /// The nearest line below that one which is not skipped.
-pub fn line_after(text: &[u8], number: u32) -> Option<Numbered<'_>> {
-    let mut at = 0u32;
-    for line in text.split(|b| *b == b'\n') {
-        at = at.saturating_add(1);
-        if at > number && !is_skipped(line) {
-            return Some(Numbered { number: at, line });
+pub fn line_after(lines: Lines<'_>, number: u32) -> Option<Numbered<'_>> {
+    for (at, line) in lines.after(number).iter().enumerate() {
+        if !is_skipped(line) {
+            let number = number_of(at).saturating_add(number);
+            return Some(Numbered { number, line });
         }
     }
     None
 }
 
 /// The nearest line above that one that begins in a lesser column.
-pub fn parent(text: &[u8], number: u32) -> Option<Numbered<'_>> {
-    let depth = column(line_at(text, number));
-    let mut found = None;
-    let mut at = 0u32;
-    for line in text.split(|b| *b == b'\n') {
-        at = at.saturating_add(1);
-        if at >= number {
-            break;
-        }
+pub fn parent(lines: Lines<'_>, number: u32) -> Option<Numbered<'_>> {
+    let depth = column(lines.line(number));
+    for (at, line) in lines.before(number).iter().enumerate().rev() {
         if !is_skipped(line) && column(line) < depth {
-            found = Some(Numbered { number: at, line });
+            let number = number_of(at);
+            return Some(Numbered { number, line });
         }
+    }
+    None
+}
+
+/// The first line below that one that is not skipped and begins in no greater column.
+pub fn line_behind(lines: Lines<'_>, number: u32) -> Option<Numbered<'_>> {
+    let depth = column(lines.line(number));
+    for (at, line) in lines.after(number).iter().enumerate() {
+        if !is_skipped(line) && column(line) <= depth {
+            let number = number_of(at).saturating_add(number);
+            return Some(Numbered { number, line });
+        }
+    }
+    None
+}
+
+/// What is before a separator that is in no brackets, and what is after it, if there is one.
+pub fn cut(bytes: &[u8], separator: u8) -> Option<(&[u8], &[u8])> {
+    let mut open = 0usize;
+    for (at, b) in bytes.iter().enumerate() {
+        match b {
+            b'(' | b'[' => open = open.saturating_add(1),
+            b')' | b']' => open = open.saturating_sub(1),
+            _ if *b == separator && open == 0 => {
+                let (front, from) = bytes.split_at(at);
+                return Some((
+                    front.trim_ascii(),
+                    from.get(1..).unwrap_or(&[]).trim_ascii(),
+                ));
+            }
+            _ => {}
+        }
+    }
+    None
+}
+
+/// The first item of a list, and the rest, if there is any item.
+pub fn next_item(list: &[u8], separator: u8) -> Option<(&[u8], &[u8])> {
+    if list.is_empty() {
+        return None;
+    }
+    Some(cut(list, separator).unwrap_or((list.trim_ascii(), &[])))
+}
+
+/// How many items a list has.
+pub fn item_count(list: &[u8], separator: u8) -> usize {
+    let mut found = 0usize;
+    let mut rest = list;
+    for _ in 0..list.len() {
+        let Some((_, more)) = next_item(rest, separator) else {
+            break;
+        };
+        found = found.saturating_add(1);
+        rest = more;
     }
     found
 }
 
-/// The first line below that one that is not skipped and begins in no greater column.
-pub fn line_behind(text: &[u8], number: u32) -> Option<Numbered<'_>> {
-    let depth = column(line_at(text, number));
-    let mut at = 0u32;
-    for line in text.split(|b| *b == b'\n') {
-        at = at.saturating_add(1);
-        if at > number && !is_skipped(line) && column(line) <= depth {
-            return Some(Numbered { number: at, line });
+/// What is before the bracket that closes, and what is after it.
+pub fn closed(inside: &[u8]) -> (&[u8], &[u8]) {
+    let mut open = 0usize;
+    for (at, b) in inside.iter().enumerate() {
+        match b {
+            b'(' | b'[' => open = open.saturating_add(1),
+            b')' | b']' if open == 0 => {
+                let (front, from) = inside.split_at(at);
+                return (front, from.get(1..).unwrap_or(&[]));
+            }
+            b')' | b']' => open = open.saturating_sub(1),
+            _ => {}
         }
     }
-    None
+    (inside, &[])
 }

@@ -1,11 +1,12 @@
 -- How messages are written.
-use Rattle.std.specs.Prelude.{◌≡◌, ℕ, zero, suc, length, List, ◌++◌, ◌∷◌, [], codes, map}
+use Rattle.std.specs.Prelude.{◌≡◌, ℕ, zero, suc, length, List, ◌++◌, ◌∷◌, [], codes, map, String}
+use Rattle.std.specs.declared.alloc.Global.{Global}
 use Rattle.std.specs.Fmt.{decimal}
 use Rattle.std.specs.String.{string_bytes}
 use Rattle.occ_base.specs.Diag.{code_text, grade_text}
 use Rattle.occ_messages.specs.declared.message.Message.{Message}
 use Rattle.serde_json.specs.View.{items_of}
-use Rattle.serde_json.specs.Data.{Data, Items, member, no_members, number, object, string, unsigned}
+use Rattle.serde_json.specs.Data.{Data, Items, array, member, no_members, number, object, string, unsigned}
 
 -- PATH:LINE: GRADE[CODE]: WORDS, and the end of the line
 abbrev pub short_line : Message → List ℕ
@@ -28,13 +29,20 @@ long_head m = grade_text m.grade ++ (codes "[" ++ (code_text m.code ++ (codes "]
 abbrev pub Begins : List ℕ → List ℕ → Type 0
 Begins text front = (rest : List ℕ) × (text ≡ front ++ rest)
 
+abbrev pub text_data : String Global → Data
+text_data t = string (string_bytes t)
+
+abbrev pub text_items : List (String Global) → Items
+text_items ts = items_of (map text_data ts)
+
 -- the members stand in the order of their keys
 abbrev pub message_data : Message → Data
 message_data m = object (member (codes "code") (string (code_text m.code))
     (member (codes "file") (string (string_bytes m.path))
     (member (codes "grade") (string (grade_text m.grade))
+    (member (codes "hints") (array (text_items m.hints.items))
     (member (codes "line") (number (unsigned m.line))
-    (member (codes "message") (string (string_bytes m.words)) no_members)))))
+    (member (codes "message") (string (string_bytes m.words)) no_members))))))
 
 abbrev pub message_items : List Message → Items
 message_items ms = items_of (map message_data ms)

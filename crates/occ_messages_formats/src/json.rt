@@ -1,5 +1,5 @@
 //! Messages as a JSON list.
-ghost use Rattle.occ_messages_formats.specs.Written.{message_data, message_items};
+ghost use Rattle.occ_messages_formats.specs.Written.{message_data, message_items, text_items};
 ghost use Rattle.serde_json.specs.Data.{array};
 ghost use Rattle.serde_json.specs.Read.{read};
 ghost use Rattle.serde_json.specs.View.{view};
@@ -10,6 +10,17 @@ use occ_messages::Message;
 use serde_json::{Value, json};
 use std::alloc::{AllocError, Global};
 
+/// Texts as a list.
+fn texts_json(alloc: Global, texts: &[String]) -> Result<Value, AllocError>
+    ensures { IfOk result (λ value. view value ≡ array (text_items texts.now)) }
+{
+    let mut list = Vec::new(alloc);
+    for text in texts {
+        list.push(Value::String(String::from_str(alloc, text.as_str())?))?;
+    }
+    Ok(Value::Array(list))
+}
+
 /// A message as an object.
 fn message_json(alloc: Global, message: &Message) -> Result<Value, AllocError>
     ensures { IfOk result (λ value. view value ≡ message_data message.now) }
@@ -19,7 +30,8 @@ fn message_json(alloc: Global, message: &Message) -> Result<Value, AllocError>
     let grade = message.grade.as_str();
     let line = message.line;
     let words = message.words.as_str();
-    json!(in alloc; {"code": code, "file": file, "grade": grade, "line": line, "message": words})
+    let hints = texts_json(alloc, message.hints.as_slice())?;
+    json!(in alloc; {"code": code, "file": file, "grade": grade, "hints": &hints, "line": line, "message": words})
 }
 
 /// Messages as a list of objects.

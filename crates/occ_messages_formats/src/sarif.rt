@@ -1,6 +1,6 @@
 //! Messages in the format SARIF 2.1.0, which code hosts and editors read.
-use occ_base::Grade;
-use occ_messages::Message;
+use occ_base::{Code, Grade};
+use occ_messages::{CODES, Message, entry_of};
 use serde_json::{Value, json};
 use std::alloc::{AllocError, Global};
 
@@ -15,7 +15,8 @@ pub fn sarif_text(alloc: Global, messages: &[Message]) -> Result<String, AllocEr
 
 /// The log of a run with these results.
 fn log(alloc: Global, results: Value) -> Result<String, AllocError> {
-    let driver = json!(in alloc; {"name": "occ", "rules": []})?;
+    let rules = rules(alloc)?;
+    let driver = json!(in alloc; {"name": "occ", "rules": &rules})?;
     let tool = json!(in alloc; {"driver": &driver})?;
     let run = json!(in alloc; {"tool": &tool, "results": &results})?;
     let log = json!(in alloc; {
@@ -24,6 +25,24 @@ fn log(alloc: Global, results: Value) -> Result<String, AllocError> {
         "runs": [&run]
     })?;
     log.to_string(alloc)
+}
+
+/// All codes as rules.
+fn rules(alloc: Global) -> Result<Value, AllocError> {
+    let mut rules = Vec::new(alloc);
+    for code in CODES {
+        rules.push(rule_json(alloc, code)?)?;
+    }
+    Ok(Value::Array(rules))
+}
+
+/// A code as a rule.
+fn rule_json(alloc: Global, code: Code) -> Result<Value, AllocError> {
+    let entry = entry_of(code);
+    let (id, title, why) = (code.as_str(), entry.title, entry.why);
+    let short = json!(in alloc; {"text": title})?;
+    let full = json!(in alloc; {"text": why})?;
+    json!(in alloc; {"id": id, "shortDescription": &short, "fullDescription": &full})
 }
 
 /// A message as a result.

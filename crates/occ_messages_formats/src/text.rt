@@ -4,7 +4,8 @@ ghost use Rattle.std.specs.List.{flat_map};
 ghost use Rattle.std.specs.Prelude.{◌≡◌, ◌++◌, IfOk};
 ghost use Rattle.std.specs.String.{string_bytes};
 
-use occ_messages::{Message, entry_of};
+use super::excerpt::{excerpt, margin_of};
+use occ_messages::{Message, Quoted, entry_of};
 use std::alloc::{AllocError, Global};
 
 /// Messages, each on one line.
@@ -30,13 +31,24 @@ fn short_line(alloc: Global, message: &Message) -> Result<String, AllocError>
     format!(in alloc; "{path}:{line}: {grade}[{code}]: {words}\n")
 }
 
-/// A message with its line of the text, the reason of its code if that is wanted, and hints.
-pub fn long_text(alloc: Global, message: &Message, with_reason: bool) -> Result<String, AllocError>
+/// How much of a message is told.
+#[derive(Clone, Copy, Debug, PartialEq, Eq)]
+pub enum Extent {
+    /// Also the reason of its code.
+    Reason,
+    /// All but that.
+    Whole,
+    /// Where it is, since the rest was told of another line.
+    Place,
+}
+
+/// A message with its line of the text, what may help, and the reason of its code, as far as that is wanted.
+pub fn long_text(alloc: Global, message: &Message, extent: Extent) -> Result<String, AllocError>
     ensures { IfOk result (λ text. Begins (string_bytes text) (long_head message.now)) }
 {
     let margin = margin(alloc, message.line)?;
     let head = head(alloc, message, margin.as_str())?;
-    let body = body(alloc, message, margin.as_str(), with_reason)?;
+    let body = body(alloc, message, extent)?;
     joined(alloc, head.as_str(), body.as_str())
 }
 
@@ -72,23 +84,36 @@ fn head(alloc: Global, message: &Message, margin: &str) -> Result<String, AllocE
     format!(in alloc; "{grade}[{code}]: {words}\n{margin}--> {path}:{line}\n")
 }
 
-/// What stands under that: the line of the text, the reason of the code if that is wanted, and hints.
-fn body(
-    alloc: Global,
-    message: &Message,
-    margin: &str,
-    with_reason: bool,
-) -> Result<String, AllocError> {
-    let line = message.line;
-    let source = message.source.as_str();
-    let mut text = format!(in alloc; "{margin} |\n{line} | {source}\n{margin} |\n")?;
-    if with_reason {
-        let why = entry_of(message.code).why;
-        text.push_str(format!(in alloc; "{margin} = note: {why}\n")?.as_str())?;
-    }
-    for hint in &message.hints {
-        text.push_str(format!(in alloc; "{margin} = help: {hint}\n")?.as_str())?;
+/// What stands under that: lines of the text, what may help, and the reason of the code.
+fn body(alloc: Global, message: &Message, extent: Extent) -> Result<String, AllocError> {
+    let mut text = String::new(alloc);
+    let others: &[Quoted] = match extent {
+        Extent::Place => &[],
+        Extent::Reason | Extent::Whole => message.others.as_slice(),
+    };
+    let width = excerpt(alloc, message, others, &mut text)?;
+    if extent != Extent::Place {
+        let blanks = margin_of(alloc, width)?;
+        remarks(alloc, message, blanks.as_str(), extent, &mut text)?;
     }
     text.push('\n')?;
     Ok(text)
+}
+
+/// What may help, and the reason of the code if that is wanted.
+fn remarks(
+    alloc: Global,
+    message: &Message,
+    margin: &str,
+    extent: Extent,
+    text: &mut String,
+) -> Result<(), AllocError> {
+    for hint in &message.hints {
+        text.push_str(format!(in alloc; "{margin} = help: {hint}\n")?.as_str())?;
+    }
+    if extent == Extent::Reason {
+        let why = entry_of(message.code).why;
+        text.push_str(format!(in alloc; "{margin} = note: {why}\n")?.as_str())?;
+    }
+    Ok(())
 }

@@ -1,0 +1,467 @@
+//! What clashes in a PAR: the lines of the components that use one name, and the elements that they share.
+use super::declared::{is_replicator_of, specified_by};
+use super::mismatch::call;
+use super::numbers::{Constant, Part, constants, meeting, parts};
+use super::rounds::{Rounds, common, elements, rounds_of};
+use super::spelling::is_reserved;
+use super::text::{
+    Lines, Numbered, after_word, closed, has, has_word, last_word, next_item, next_word, statement,
+    whole_statement,
+};
+use super::told::{Place, Told, shown};
+use super::uses::{Use, is_of, uses};
+use occ_base::{Code, Grade};
+use std::alloc::{AllocError, Global};
+
+/// How many lines are shown.
+const SHOWN_LIMIT: usize = 4;
+
+/// How many rounds of a replicator are looked at.
+const ROUND_LIMIT: i64 = 256;
+
+/// Tells what clashes in a PAR, and shows the lines that do.
+pub fn clash(alloc: Global, place: Place<'_>, told: &mut Told) -> Result<(), AllocError> {
+    if has(place.said, b":=") {
+        told.help(String::from_str(
+            alloc,
+            "all targets of one assignment are changed at once, so no two may be one",
+        )?)?;
+        return Ok(());
+    }
+    let all = uses(alloc, place, place.name)?;
+    let picked = picked(alloc, place.code, all.as_slice())?;
+    headline(alloc, place, picked.as_slice(), told)?;
+    for one in &picked {
+        let line = Numbered {
+            number: one.number,
+            line: place.lines.line(one.number),
+        };
+        told.show(alloc, line, place.name, label(place.code, *one))?;
+    }
+    shared(alloc, place, picked.as_slice(), told)?;
+    swapped(alloc, place, picked.as_slice(), told)
+}
+
+/// Whether a use is one of those that clash by a code.
+fn does_clash(code: Code, one: Use) -> bool {
+    match code {
+        Code::U2 => one.deeds.inputs,
+        Code::U3 => one.deeds.outputs,
+        _ => true,
+    }
+}
+
+/// What is said of a use.
+fn label(code: Code, one: Use) -> &'static str {
+    match code {
+        Code::U2 if one.deeds.inputs => "input from here",
+        Code::U3 if one.deeds.outputs => "output to here",
+        Code::U1 if one.deeds.changes => "changed here",
+        Code::U1 => "used here",
+        _ => "",
+    }
+}
+
+/// The uses that are shown: one that changes, and the first of each other component.
+fn picked(alloc: Global, code: Code, all: &[Use]) -> Result<Vec<Use>, AllocError> {
+    let mut picked: Vec<Use> = Vec::new(alloc);
+    if let Some(one) = all.iter().find(|one| code == Code::U1 && one.deeds.changes) {
+        picked.push(*one)?;
+    }
+    for one in all {
+        let is_new = !picked.iter().any(|other| other.component == one.component);
+        if is_new && does_clash(code, *one) && picked.len() < SHOWN_LIMIT {
+            picked.push(*one)?;
+        }
+    }
+    picked.sort_by_key(|one| one.number)?;
+    Ok(picked)
+}
+
+/// Tells what clashes.
+fn headline(
+    alloc: Global,
+    place: Place<'_>,
+    picked: &[Use],
+    told: &mut Told,
+) -> Result<(), AllocError> {
+    let name = shown(alloc, place.name)?;
+    let are_rounds = picked.len() == 1 && has_word(place.said, b"FOR");
+    let parts = if are_rounds { "rounds" } else { "components" };
+    let changed = picked.iter().filter(|one| one.deeds.changes).count();
+    match place.code {
+        Code::U2 => told.say(format!(in alloc;
+            "`{name}` is input from in two {parts} of this PAR"
+        )?),
+        Code::U3 => told.say(format!(in alloc;
+            "`{name}` is output to in two {parts} of this PAR"
+        )?),
+        _ if changed > 1 => told.say(format!(in alloc;
+            "`{name}` is changed in two {parts} of this PAR"
+        )?),
+        _ if are_rounds => told.say(format!(in alloc;
+            "`{name}` is changed in one round of this PAR and used in another"
+        )?),
+        _ => {}
+    }
+    Ok(())
+}
+
+/// Tells which element is shared, or why parts count as one.
+fn shared(
+    alloc: Global,
+    place: Place<'_>,
+    picked: &[Use],
+    told: &mut Told,
+) -> Result<(), AllocError> {
+    let mut known = constants(alloc, place.lines, place.number)?;
+    let hint = match index(place.said) {
+        Some(name) => rounds(alloc, place, picked, name, &mut known)?,
+        None => components(alloc, place, picked, known.as_slice())?,
+    };
+    match hint {
+        Some(hint) => told.help(hint),
+        None if has_unknown(alloc, place, picked)? => told.help(String::from_str(
+            alloc,
+            "parts of an array whose subscripts are not known count as one: only constants, and indices of replicators over constants, are known",
+        )?),
+        None => Ok(()),
+    }
+}
+
+/// The index of a replicator.
+fn index(said: &[u8]) -> Option<&[u8]> {
+    let at = said.iter().position(|b| *b == b'=')?;
+    let name = last_word(said.get(..at)?);
+    if is_replicator_of(said, name) {
+        Some(name)
+    } else {
+        None
+    }
+}
+
+/// Which element two rounds of a replicator share, if that is known.
+fn rounds<'a>(
+    alloc: Global,
+    place: Place<'a>,
+    picked: &[Use],
+    name: &'a [u8],
+    known: &mut Vec<Constant<'a>>,
+) -> Result<Option<String>, AllocError> {
+    let Some(Rounds { base, count, .. }) = rounds_of(alloc, place.said, known.as_slice())? else {
+        return Ok(None);
+    };
+    let mut last: Vec<Part> = Vec::new(alloc);
+    for round in 0..count.min(ROUND_LIMIT) {
+        let value = base.saturating_add(round);
+        known.push(Constant { name, value })?;
+        let parts = all_parts(alloc, place, picked, known.as_slice())?;
+        known.pop();
+        if let Some(element) = meeting(last.as_slice(), parts.as_slice()) {
+            let (array, index) = (shown(alloc, place.name)?, shown(alloc, name)?);
+            let before = value.saturating_sub(1);
+            return Ok(Some(format!(in alloc;
+                "`{array}[{element}]` is in the part of {index} = {before} and in that of {index} = {value}"
+            )?));
+        }
+        last = parts;
+    }
+    Ok(None)
+}
+
+/// The known parts that some lines use.
+fn all_parts(
+    alloc: Global,
+    place: Place<'_>,
+    picked: &[Use],
+    known: &[Constant<'_>],
+) -> Result<Vec<Part>, AllocError> {
+    let mut all = Vec::new(alloc);
+    for one in picked {
+        let found = parts_at(alloc, place, *one, known)?;
+        all.extend_from_slice(found.as_slice())?;
+    }
+    Ok(all)
+}
+
+/// The known parts that a line uses.
+fn parts_at(
+    alloc: Global,
+    place: Place<'_>,
+    one: Use,
+    known: &[Constant<'_>],
+) -> Result<Vec<Part>, AllocError> {
+    let said = whole_statement(alloc, place.lines, one.number)?;
+    parts(alloc, said.as_slice(), place.name, known)
+}
+
+/// Which element two components share, if that is known.
+fn components<'a>(
+    alloc: Global,
+    place: Place<'a>,
+    picked: &[Use],
+    known: &[Constant<'a>],
+) -> Result<Option<String>, AllocError> {
+    let [one, two, ..] = picked else {
+        return Ok(None);
+    };
+    let name = shown(alloc, place.name)?;
+    if let Some(element) = shared_part(alloc, place, *one, *two, known)? {
+        return Ok(Some(format!(in alloc; "both have `{name}[{element}]`")?));
+    }
+    let some = elements_at(alloc, place, *one, known)?;
+    let others = elements_at(alloc, place, *two, known)?;
+    if let Some(element) = common(some.as_slice(), others.as_slice()) {
+        return Ok(Some(format!(in alloc; "both have `{name}{element}`")?));
+    }
+    same_selectors(alloc, place, *one, *two)
+}
+
+/// The first element that two lines both use a part with, if these parts are known.
+fn shared_part(
+    alloc: Global,
+    place: Place<'_>,
+    one: Use,
+    two: Use,
+    known: &[Constant<'_>],
+) -> Result<Option<i64>, AllocError> {
+    let some = parts_at(alloc, place, one, known)?;
+    let others = parts_at(alloc, place, two, known)?;
+    Ok(meeting(some.as_slice(), others.as_slice()))
+}
+
+/// The elements that a line uses, in all rounds around it.
+fn elements_at<'a>(
+    alloc: Global,
+    place: Place<'a>,
+    one: Use,
+    known: &[Constant<'a>],
+) -> Result<Vec<String>, AllocError> {
+    elements(
+        alloc,
+        place.lines,
+        one.number,
+        place.number,
+        place.name,
+        known,
+    )
+}
+
+/// The selectors that two lines have both, as they are written.
+fn same_selectors(
+    alloc: Global,
+    place: Place<'_>,
+    one: Use,
+    two: Use,
+) -> Result<Option<String>, AllocError> {
+    let name = shown(alloc, place.name)?;
+    let said = whole_statement(alloc, place.lines, one.number)?;
+    let other = whole_statement(alloc, place.lines, two.number)?;
+    let (a, b) = (
+        selectors(said.as_slice(), place.name),
+        selectors(other.as_slice(), place.name),
+    );
+    if a.is_empty() || a != b {
+        return Ok(None);
+    }
+    let selectors = shown(alloc, a)?;
+    Ok(Some(format!(in alloc; "both have `{name}{selectors}`")?))
+}
+
+/// The selectors after the first mention of a name.
+fn selectors<'a>(said: &'a [u8], name: &[u8]) -> &'a [u8] {
+    let Some(after) = after_word(said, name) else {
+        return &[];
+    };
+    let mut rest = after;
+    for _ in 0..after.len() {
+        let Some(inside) = rest.strip_prefix(b"[") else {
+            break;
+        };
+        rest = closed(inside).1;
+    }
+    after
+        .get(..after.len().saturating_sub(rest.len()))
+        .unwrap_or(&[])
+}
+
+/// Whether one of some lines has a subscript that is not known.
+fn has_unknown(alloc: Global, place: Place<'_>, picked: &[Use]) -> Result<bool, AllocError> {
+    for one in picked {
+        let said = whole_statement(alloc, place.lines, one.number)?;
+        let found = selectors(said.as_slice(), place.name);
+        if is_unknown(alloc, place.lines, one.number, found)? {
+            return Ok(true);
+        }
+    }
+    Ok(false)
+}
+
+/// Whether a name among selectors is that of a variable.
+fn is_unknown(
+    alloc: Global,
+    lines: Lines<'_>,
+    number: u32,
+    selectors: &[u8],
+) -> Result<bool, AllocError> {
+    let mut rest = selectors;
+    for _ in 0..selectors.len() {
+        let Some((word, more)) = next_word(rest) else {
+            break;
+        };
+        rest = more;
+        if !is_reserved(word) && varies(alloc, lines, number, word)? {
+            return Ok(true);
+        }
+    }
+    Ok(false)
+}
+
+/// Whether a name is that of a variable or a formal.
+fn varies(alloc: Global, lines: Lines<'_>, number: u32, name: &[u8]) -> Result<bool, AllocError> {
+    let Some(found) = specified_by(alloc, lines, number, name)? else {
+        return Ok(false);
+    };
+    let said = statement(alloc, found.line)?;
+    Ok(!is_replicator_of(said.as_slice(), name) && !has_word(said.as_slice(), b"IS"))
+}
+
+/// Tells that two channels of a call are perhaps swapped: nothing else is at the other end of either.
+fn swapped(
+    alloc: Global,
+    place: Place<'_>,
+    picked: &[Use],
+    told: &mut Told,
+) -> Result<(), AllocError> {
+    if place.code == Code::U1 || has_end(alloc, place, place.name, place.code == Code::U3)? {
+        return Ok(());
+    }
+    for one in picked {
+        let said = whole_statement(alloc, place.lines, one.number)?;
+        if let Some((_, actuals)) = call(said.as_slice()) {
+            let name = other_end(alloc, place, actuals)?;
+            if !name.is_empty() {
+                return tell_swapped(alloc, place, *one, name, told);
+            }
+        }
+    }
+    Ok(())
+}
+
+/// Whether something in a PAR inputs from a channel, or else outputs to it.
+fn has_end(
+    alloc: Global,
+    place: Place<'_>,
+    name: &[u8],
+    is_input: bool,
+) -> Result<bool, AllocError> {
+    let all = uses(alloc, place, name)?;
+    Ok(
+        all.iter().any(|one| if is_input {
+            one.deeds.inputs
+        } else {
+            one.deeds.outputs
+        }),
+    )
+}
+
+/// Another actual of a call that has two of the ends that the reported channel lacks, and none of the others.
+fn other_end<'a>(
+    alloc: Global,
+    place: Place<'_>,
+    actuals: &'a [u8],
+) -> Result<&'a [u8], AllocError> {
+    let mut rest = actuals;
+    let is_input = place.code == Code::U3;
+    for _ in 0..actuals.len() {
+        let Some((actual, more)) = next_item(rest, b',') else {
+            break;
+        };
+        rest = more;
+        if is_of(actual, place.name) || last_word(actual) != actual {
+            continue;
+        }
+        let has_lacking = has_end(alloc, place, actual, is_input)?;
+        if has_lacking && !has_end(alloc, place, actual, !is_input)? {
+            return Ok(actual);
+        }
+    }
+    Ok(&[])
+}
+
+/// Tells that two channels are perhaps swapped.
+fn tell_swapped(
+    alloc: Global,
+    place: Place<'_>,
+    one: Use,
+    other: &[u8],
+    told: &mut Told,
+) -> Result<(), AllocError> {
+    let (name, other) = (shown(alloc, place.name)?, shown(alloc, other)?);
+    let number = one.number;
+    if place.code == Code::U2 {
+        told.help(format!(in alloc;
+            "nothing outputs to `{name}` and nothing inputs from `{other}`: perhaps they are swapped in line {number}"
+        )?)
+    } else {
+        told.help(format!(in alloc;
+            "nothing inputs from `{name}` and nothing outputs to `{other}`: perhaps they are swapped in line {number}"
+        )?)
+    }
+}
+
+/// Tells which element two actuals of a call share.
+pub fn actuals(alloc: Global, place: Place<'_>, told: &mut Told) -> Result<(), AllocError> {
+    let name = shown(alloc, place.name)?;
+    let Some((called, actuals)) = call(place.said) else {
+        return Ok(());
+    };
+    if let Some(head) = specified_by(alloc, place.lines, place.number, called)? {
+        told.show(alloc, head, called, "")?;
+    }
+    let count = mentions(actuals, place.name);
+    let called = shown(alloc, called)?;
+    if count < 2 {
+        let perhaps = match place.grade {
+            Grade::Error => "",
+            Grade::Check => "perhaps ",
+        };
+        told.say(format!(in alloc;
+            "`{name}` is given to `{called}`, whose body {perhaps}uses it too"
+        )?);
+        return Ok(());
+    }
+    let known = constants(alloc, place.lines, place.number)?;
+    let found = parts(alloc, actuals, place.name, known.as_slice())?;
+    let meet = match place.grade {
+        Grade::Error => "",
+        Grade::Check => ", and the two parts perhaps meet",
+    };
+    told.say(format!(in alloc; "`{name}` is given to this call twice{meet}")?);
+    if let [one, two, ..] = found.as_slice()
+        && let Some(element) = one.meets(*two)
+    {
+        let last = [one.end().saturating_sub(1), two.end().saturating_sub(1)];
+        let (from, then, [end, until]) = (one.from, two.from, last);
+        told.say(format!(in alloc;
+            "`{name}[{element}]` is given to this call twice: in {from} to {end}, and in {then} to {until}"
+        )?);
+    }
+    Ok(())
+}
+
+/// How many items of a list are of a name.
+fn mentions(list: &[u8], name: &[u8]) -> usize {
+    let mut found = 0usize;
+    let mut rest = list;
+    for _ in 0..list.len() {
+        let Some((item, more)) = next_item(rest, b',') else {
+            break;
+        };
+        if is_of(item, name) {
+            found = found.saturating_add(1);
+        }
+        rest = more;
+    }
+    found
+}

@@ -1,0 +1,415 @@
+//! What a channel carries, and what is wrong with a message.
+use super::declared::{
+    add_name, carried, definition, do_differ, is_channel, looks, specified_by, type_of,
+};
+use super::mismatch::{counted, said_of};
+use super::similar::is_like;
+use super::text::{
+    Lines, Numbered, after_word, column, cut, first_word, has, is_skipped, item_count, next_item,
+    number_of, parent, statement,
+};
+use super::told::{Place, Told, shown};
+use occ_base::Code;
+use std::alloc::{AllocError, Global};
+
+/// How many lines above are looked at for the input that an option belongs to.
+const PARENT_LIMIT: usize = 4;
+
+/// What items of a message are parted by.
+const PARTED: &str = "items of a message are parted by `;`";
+
+/// What a channel carries, and the line that says so.
+#[derive(Drop)]
+struct Carried {
+    text: Vec<u8>,
+    number: u32,
+}
+
+/// What is from the sign of an input or output on; nothing where there is none.
+fn from_sign(said: &[u8]) -> &[u8] {
+    match said.iter().position(|b| *b == b'!' || *b == b'?') {
+        Some(at) => said.get(at..).unwrap_or(&[]),
+        None => &[],
+    }
+}
+
+/// The items of a message that a line sends or receives.
+fn items(said: &[u8]) -> &[u8] {
+    let items = match from_sign(said) {
+        [] => said,
+        [_, items @ ..] => items.trim_ascii(),
+    };
+    match items.strip_prefix(b"CASE ") {
+        Some(items) => items.trim_ascii(),
+        None => items,
+    }
+}
+
+/// The channel of a line: its own, or that of the input to which an option belongs.
+fn channel_of<'a>(place: Place<'a>) -> &'a [u8] {
+    if !from_sign(place.said).is_empty() {
+        return channel_in(place.said);
+    }
+    let mut number = place.number;
+    for _ in 0..PARENT_LIMIT {
+        let Some(above) = parent(place.lines, number) else {
+            break;
+        };
+        if !from_sign(above.line).is_empty() {
+            return channel_in(above.line.trim_ascii());
+        }
+        number = above.number;
+    }
+    &[]
+}
+
+/// The channel of an input or an output.
+fn channel_in(said: &[u8]) -> &[u8] {
+    let said = match cut(said, b'&') {
+        Some((_, input)) => input,
+        None => said,
+    };
+    first_word(said)
+}
+
+/// What a channel carries, if its specification is found.
+fn carried_by(alloc: Global, place: Place<'_>, name: &[u8]) -> Result<Option<Carried>, AllocError> {
+    match type_of(alloc, place.lines, place.number, name)? {
+        Some(typed) if is_channel(typed.text.as_slice()) => Ok(Some(Carried {
+            text: Vec::from_slice(alloc, carried(typed.text.as_slice()))?,
+            number: typed.number,
+        })),
+        _ => Ok(None),
+    }
+}
+
+/// Tells what is wrong with a message.
+pub fn message(alloc: Global, place: Place<'_>, told: &mut Told) -> Result<(), AllocError> {
+    let channel = channel_of(place);
+    if let Some(found) = carried_by(alloc, place, channel)? {
+        match definition(place.lines, found.text.as_slice()) {
+            Some(head) => of_protocol(alloc, place, told, head)?,
+            None => of_items(alloc, place, told, found.text.as_slice(), found.number)?,
+        }
+    }
+    if told.hints.is_empty() && place.said.contains(&b'!') && has_two_words(items(place.said)) {
+        told.help(String::from_str(alloc, PARTED)?)?;
+    }
+    Ok(())
+}
+
+/// Whether the first two words of a message are beside one another.
+fn has_two_words(items: &[u8]) -> bool {
+    let first = first_word(items);
+    let rest = items.get(first.len()..).unwrap_or(&[]);
+    let second = first_word(rest.trim_ascii());
+    !first.is_empty()
+        && rest.starts_with(b" ")
+        && second.iter().any(u8::is_ascii_lowercase)
+        && first.iter().any(u8::is_ascii_lowercase)
+}
+
+/// Tells what is wrong with a message of a protocol that has a name.
+fn of_protocol(
+    alloc: Global,
+    place: Place<'_>,
+    told: &mut Told,
+    head: Numbered<'_>,
+) -> Result<(), AllocError> {
+    let said = statement(alloc, head.line)?;
+    if let Some(wanted) = after_word(said.as_slice(), b"IS") {
+        told.show(alloc, head, b"IS", "")?;
+        let wanted = wanted.strip_suffix(b":").unwrap_or(wanted).trim_ascii();
+        return of_items(alloc, place, told, wanted, head.number);
+    }
+    match place.code {
+        Code::P1 => of_tag(alloc, place, told, head),
+        Code::P2 => no_tag(alloc, place, told, head),
+        _ => no_variant(alloc, place, told, head),
+    }
+}
+
+/// Tells what is wrong with a message behind its tag.
+fn of_tag(
+    alloc: Global,
+    place: Place<'_>,
+    told: &mut Told,
+    head: Numbered<'_>,
+) -> Result<(), AllocError> {
+    let given = items(place.said);
+    let tag = first_word(given);
+    let Some(found) = tag_line(place.lines, head, tag) else {
+        return Ok(());
+    };
+    let wanted = statement(alloc, found.line)?;
+    told.show(alloc, found, tag, "")?;
+    of_items(alloc, place, told, wanted.as_slice(), found.number)
+}
+
+/// The line of a tag under the head of its protocol.
+fn tag_line<'a>(lines: Lines<'a>, head: Numbered<'a>, tag: &[u8]) -> Option<Numbered<'a>> {
+    for (at, line) in lines.after(head.number).iter().enumerate() {
+        if is_skipped(line) {
+            continue;
+        }
+        if column(line) <= column(head.line) {
+            break;
+        }
+        if first_word(line.trim_ascii()) == tag {
+            let number = number_of(at).saturating_add(head.number);
+            return Some(Numbered { number, line });
+        }
+    }
+    None
+}
+
+/// The tags of a protocol, as text.
+fn tags(alloc: Global, lines: Lines<'_>, head: Numbered<'_>) -> Result<String, AllocError> {
+    let mut names = String::new(alloc);
+    for line in lines.after(head.number) {
+        if is_skipped(line) {
+            continue;
+        }
+        if column(line) <= column(head.line) {
+            break;
+        }
+        let tag = first_word(line.trim_ascii());
+        if tag != b"CASE".as_slice() {
+            add_name(alloc, tag, &mut names)?;
+        }
+    }
+    Ok(names)
+}
+
+/// The tag of a protocol that is almost a name.
+fn like_tag<'a>(lines: Lines<'a>, head: Numbered<'a>, name: &[u8]) -> &'a [u8] {
+    for line in lines.after(head.number) {
+        if is_skipped(line) {
+            continue;
+        }
+        if column(line) <= column(head.line) {
+            break;
+        }
+        let tag = first_word(line.trim_ascii());
+        if is_like(tag, name) {
+            return tag;
+        }
+    }
+    &[]
+}
+
+/// Tells that a protocol has no such tag, and which it has.
+fn no_tag(
+    alloc: Global,
+    place: Place<'_>,
+    told: &mut Told,
+    head: Numbered<'_>,
+) -> Result<(), AllocError> {
+    let tags = tags(alloc, place.lines, head)?;
+    let name = shown(alloc, place.name)?;
+    let channel = shown(alloc, channel_of(place))?;
+    let (front, number) = (
+        super::declared::head_name(head.line.trim_ascii()),
+        head.number,
+    );
+    let protocol = shown(alloc, front)?;
+    told.say(format!(in alloc; "`{name}` is no tag of {protocol}, the protocol of `{channel}`")?);
+    told.help(format!(in alloc; "the tags of {protocol} are {tags} (line {number})")?)?;
+    let like = like_tag(place.lines, head, place.name);
+    if !like.is_empty() {
+        let like = shown(alloc, like)?;
+        return told.help(format!(in alloc; "perhaps `{like}` is meant")?);
+    }
+    if place.said.contains(&b'!')
+        && type_of(alloc, place.lines, place.number, place.name)?.is_some()
+    {
+        told.help(format!(in alloc; "a message begins with its tag: `{channel} ! TAG; {name}`")?)?;
+    }
+    Ok(())
+}
+
+/// Tells that a message of a variant protocol has no tag, or is input without CASE.
+fn no_variant(
+    alloc: Global,
+    place: Place<'_>,
+    told: &mut Told,
+    head: Numbered<'_>,
+) -> Result<(), AllocError> {
+    let tag = first_word(items(place.said));
+    if place.said.contains(&b'!')
+        && let Some(line) = tag_line(place.lines, head, tag)
+    {
+        return unparted(alloc, tag, line, told);
+    }
+    let tags = tags(alloc, place.lines, head)?;
+    let channel = shown(alloc, place.name)?;
+    let number = head.number;
+    if place.said.contains(&b'!') {
+        told.say(format!(in alloc;
+            "a message on `{channel}` begins with a tag, and none stands here"
+        )?);
+    } else {
+        told.say(format!(in alloc;
+            "`{channel}` has a variant protocol, and is input from by `{channel} ? CASE`"
+        )?);
+    }
+    told.help(format!(in alloc; "the tags of its protocol are {tags} (line {number})")?)
+}
+
+/// Tells which item of a message is not as it is wanted.
+fn of_items(
+    alloc: Global,
+    place: Place<'_>,
+    told: &mut Told,
+    wanted: &[u8],
+    number: u32,
+) -> Result<(), AllocError> {
+    let given = items(place.said);
+    let (many, some) = (item_count(wanted, b';'), item_count(given, b';'));
+    let channel = shown(alloc, channel_of(place))?;
+    let text = shown(alloc, wanted)?;
+    if some < many {
+        let missing = counted(alloc, many.saturating_sub(some), "item")?;
+        told.say(format!(in alloc;
+            "`{channel}` carries `{text}` (line {number}), and here {missing} of it is missing"
+        )?);
+    } else if some > many {
+        let more = counted(alloc, some.saturating_sub(many), "item")?;
+        told.say(format!(in alloc;
+            "`{channel}` carries `{text}` (line {number}), and here is {more} more"
+        )?);
+    } else {
+        each_item(alloc, place, told, wanted, given)?;
+        if !told.is_said() {
+            let message = place.shown(alloc, given)?;
+            told.say(format!(in alloc;
+                "`{channel}` carries `{text}` (line {number}), and `{message}` is not that"
+            )?);
+        }
+    }
+    Ok(())
+}
+
+/// Tells which item has another type than is wanted: the first that is found.
+fn each_item(
+    alloc: Global,
+    place: Place<'_>,
+    told: &mut Told,
+    wanted: &[u8],
+    given: &[u8],
+) -> Result<(), AllocError> {
+    let (mut texts, mut rest) = (wanted, given);
+    for _ in 0..given.len() {
+        let (Some((text, others)), Some((item, more))) = (
+            next_item(texts, b';'),
+            next_item(rest, b';'),
+        ) else {
+            break;
+        };
+        if !told.is_said() {
+            one_item(alloc, place, told, text, item)?;
+        }
+        (texts, rest) = (others, more);
+    }
+    Ok(())
+}
+
+/// Tells that an item has another type than is wanted, if so it is.
+fn one_item(
+    alloc: Global,
+    place: Place<'_>,
+    told: &mut Told,
+    wanted: &[u8],
+    item: &[u8],
+) -> Result<(), AllocError> {
+    let (what, text, given) = match (counts(wanted), counts(item)) {
+        (Some(text), Some(count)) => ("the count before `::` has to be", text, count),
+        (None, None) => ("carries", wanted, item),
+        _ => return Ok(()),
+    };
+    let Some(typed) = looks(alloc, place.lines, place.number, given)? else {
+        return Ok(());
+    };
+    if !do_differ(text, typed.text.as_slice()) {
+        return Ok(());
+    }
+    let text = shown(alloc, text)?;
+    let is = said_of(alloc, place, given, &typed)?;
+    told.mean_in(place, from_sign(place.said), first_word(given));
+    if what == "carries" {
+        let channel = shown(alloc, channel_of(place))?;
+        told.say(format!(in alloc; "`{channel}` carries {text}, and {is}")?);
+    } else {
+        told.say(format!(in alloc; "{what} {text}, and {is}")?);
+    }
+    show_channel(alloc, place, told)
+}
+
+/// Shows where the channel of a line is specified.
+fn show_channel(alloc: Global, place: Place<'_>, told: &mut Told) -> Result<(), AllocError> {
+    let channel = channel_of(place);
+    match specified_by(alloc, place.lines, place.number, channel)? {
+        Some(found) => told.show(alloc, found, channel, ""),
+        None => Ok(()),
+    }
+}
+
+/// What is before `::`, if there is one.
+fn counts(item: &[u8]) -> Option<&[u8]> {
+    let at = item.windows(2).position(|two| two == b"::".as_slice())?;
+    Some(item.get(..at)?.trim_ascii())
+}
+
+/// Tells that a name is no channel.
+pub fn no_channel(alloc: Global, place: Place<'_>, told: &mut Told) -> Result<(), AllocError> {
+    let Some(typed) = type_of(alloc, place.lines, place.number, place.name)? else {
+        return Ok(());
+    };
+    let name = shown(alloc, place.name)?;
+    let text = shown(alloc, typed.text.as_slice())?;
+    let number = typed.number;
+    if has(typed.text.as_slice(), b"TIMER") {
+        told.say(format!(in alloc;
+            "`{name}` is a TIMER (line {number}): one reads the time of it, and outputs nothing to it"
+        )?);
+        told.help(format!(in alloc;
+            "`{name} ? t` reads the time; `{name} ? AFTER t` waits for a time"
+        )?)
+    } else {
+        told.say(format!(in alloc; "`{name}` is {text} (line {number}), and no channel")?);
+        Ok(())
+    }
+}
+
+/// Tells that a name which is not in scope is a tag, if so it is.
+pub fn is_tag(alloc: Global, place: Place<'_>, told: &mut Told) -> Result<(), AllocError> {
+    if from_sign(place.said).is_empty() || first_word(items(place.said)) != place.name {
+        return Ok(());
+    }
+    let channel = channel_of(place);
+    let Some(found) = carried_by(alloc, place, channel)? else {
+        return Ok(());
+    };
+    let Some(head) = definition(place.lines, found.text.as_slice()) else {
+        return Ok(());
+    };
+    let Some(line) = tag_line(place.lines, head, place.name) else {
+        return Ok(());
+    };
+    unparted(alloc, place.name, line, told)
+}
+
+/// Tells that what follows a tag is not parted from it.
+fn unparted(
+    alloc: Global,
+    tag: &[u8],
+    line: Numbered<'_>,
+    told: &mut Told,
+) -> Result<(), AllocError> {
+    let name = shown(alloc, tag)?;
+    told.say(format!(in alloc;
+        "`{name}` is a tag, and no `;` stands between it and what follows"
+    )?);
+    told.show(alloc, line, tag, "")?;
+    told.help(String::from_str(alloc, PARTED)?)
+}

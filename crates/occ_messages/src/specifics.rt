@@ -1,0 +1,280 @@
+//! Better words for codes of which the line says which case it is.
+use super::declared::{abbreviated, head_name, is_replicator_of, specified_by, type_in};
+use super::mismatch::{actuals, assigned, call};
+use super::numbers::{constants, value};
+use super::spelling::is_reserved;
+use super::text::{
+    Numbered, WORD_LIMIT, around_word, closed, column, first_word, has, has_word, is_skipped,
+    last_word, line_after, next_word, number_of, statement, whole_statement,
+};
+use super::told::{Place, Told, shown};
+use std::alloc::{AllocError, Global};
+
+/// How many components a PAR may have at most.
+const PAR_LIMIT: i64 = 256;
+
+/// Shows where the reported name is specified.
+pub fn specification(alloc: Global, place: Place<'_>, told: &mut Told) -> Result<(), AllocError> {
+    match specified_by(alloc, place.lines, place.number, place.name)? {
+        Some(found) => told.show(alloc, found, place.name, "specified here"),
+        None => Ok(()),
+    }
+}
+
+/// Tells why a name may not be changed.
+pub fn unchanged(alloc: Global, place: Place<'_>, told: &mut Told) -> Result<(), AllocError> {
+    if place.name.is_empty() {
+        return actuals(alloc, place, told);
+    }
+    let Some(found) = specified_by(alloc, place.lines, place.number, place.name)? else {
+        return Ok(());
+    };
+    let said = whole_statement(alloc, place.lines, found.number)?;
+    let (name, number) = (shown(alloc, place.name)?, found.number);
+    let what = if call(place.said).is_some() {
+        "is given to a formal that is no VAL"
+    } else {
+        "may not be changed"
+    };
+    if is_replicator_of(said.as_slice(), place.name) {
+        told.say(format!(in alloc;
+            "`{name}` is the index of a replicator (line {number}), and {what}"
+        )?);
+    } else if is_value(said.as_slice(), place.name) {
+        told.say(format!(in alloc; "`{name}` is a VAL (line {number}), and {what}")?);
+    }
+    told.show(alloc, found, place.name, "specified here")
+}
+
+/// Whether a statement specifies a name as a VAL.
+fn is_value(said: &[u8], name: &[u8]) -> bool {
+    first_word(said) == b"VAL".as_slice() || type_in(said, name).starts_with(b"VAL")
+}
+
+/// Tells of what sort a name is.
+pub fn sort(alloc: Global, place: Place<'_>, told: &mut Told) -> Result<(), AllocError> {
+    let Some(found) = specified_by(alloc, place.lines, place.number, place.name)? else {
+        return Ok(());
+    };
+    let said = whole_statement(alloc, place.lines, found.number)?;
+    let (name, number) = (shown(alloc, place.name)?, found.number);
+    let kind = sort_in(said.as_slice(), place.name);
+    told.say(format!(in alloc;
+        "`{name}` is {kind} (line {number}), and something else is needed here"
+    )?);
+    told.show(alloc, found, place.name, "specified here")
+}
+
+/// Of what sort a name is that a statement specifies.
+fn sort_in(said: &[u8], name: &[u8]) -> &'static str {
+    let text = type_in(said, name);
+    match first_word(said) {
+        b"PROTOCOL" => "a protocol",
+        b"DATA" => "a type",
+        b"PROC" if text.is_empty() => "a PROC",
+        _ if head_name(said) == name => "a FUNCTION",
+        _ if has_word(text, b"CHAN") => "a channel",
+        _ if has_word(text, b"TIMER") => "a timer",
+        _ if is_value(said, name) => "a value",
+        _ => "a variable",
+    }
+}
+
+/// Tells which size or option is not constant.
+pub fn not_constant(alloc: Global, place: Place<'_>, told: &mut Told) -> Result<(), AllocError> {
+    let is_size = place.said.starts_with(b"[") || place.said.ends_with(b":");
+    let (what, text) = if is_size {
+        ("the size of an array", size_in(place.said))
+    } else {
+        ("an option", place.said)
+    };
+    match varying(alloc, place, text)? {
+        Some((name, found)) => {
+            let word = shown(alloc, name)?;
+            told.say(format!(in alloc; "{what} has to be constant, and `{word}` varies")?);
+            told.mean(place, name);
+            told.show(alloc, found, name, "specified here")
+        }
+        None => {
+            told.say(format!(in alloc; "{what} has to be constant")?);
+            Ok(())
+        }
+    }
+}
+
+/// What is in the first square brackets of a line.
+fn size_in(said: &[u8]) -> &[u8] {
+    match said.iter().position(|b| *b == b'[') {
+        Some(at) => closed(said.get(at.saturating_add(1)..).unwrap_or(&[])).0,
+        None => &[],
+    }
+}
+
+/// The first name of an expression that is no constant and no index, and the line that specifies it.
+fn varying<'a>(
+    alloc: Global,
+    place: Place<'a>,
+    text: &'a [u8],
+) -> Result<Option<(&'a [u8], Numbered<'a>)>, AllocError> {
+    let mut rest = text;
+    for _ in 0..text.len().min(WORD_LIMIT) {
+        let Some((word, more)) = next_word(rest) else {
+            break;
+        };
+        rest = more;
+        if word == b"SIZE".as_slice() {
+            return Ok(None);
+        }
+        if is_reserved(word) {
+            continue;
+        }
+        if let Some(found) = specified_by(alloc, place.lines, place.number, word)? {
+            let said = statement(alloc, found.line)?;
+            if abbreviated(said.as_slice()).is_none() {
+                return Ok(Some((word, found)));
+            }
+        }
+    }
+    Ok(None)
+}
+
+/// Tells what of the base and the count of a PAR may not be.
+pub fn replicated(alloc: Global, place: Place<'_>, told: &mut Told) -> Result<(), AllocError> {
+    let Some((front, count)) = around_word(place.said, b"FOR") else {
+        return Ok(());
+    };
+    let known = constants(alloc, place.lines, place.number)?;
+    if let Some(number) = value(alloc, count, known.as_slice())?
+        && (number < 0 || number > PAR_LIMIT)
+    {
+        told.say(format!(in alloc; "the count of this PAR is {number}, and may be from 0 to 256")?);
+        told.mean_in(place, count, first_word(count.trim_ascii()));
+        return Ok(());
+    }
+    let base = match front.iter().position(|b| *b == b'=') {
+        Some(at) => front.get(at.saturating_add(1)..).unwrap_or(&[]),
+        None => return Ok(()),
+    };
+    let found = match varying(alloc, place, count)? {
+        Some(found) => Some(found),
+        None => varying(alloc, place, base)?,
+    };
+    if let Some((name, line)) = found {
+        let word = shown(alloc, name)?;
+        told.say(format!(in alloc;
+            "base and count of a PAR have to be constant, and `{word}` varies"
+        )?);
+        told.mean(place, name);
+        told.show(alloc, line, name, "specified here")?;
+    }
+    Ok(())
+}
+
+/// Tells what of the rest of a line is missing.
+pub fn unfinished(alloc: Global, place: Place<'_>, told: &mut Told) -> Result<(), AllocError> {
+    let last = last_part(place.said);
+    let end = shown(alloc, last)?;
+    match line_after(place.lines, place.number) {
+        Some(next) => {
+            let number = next.number;
+            told.say(format!(in alloc;
+                "what comes after `{end}` is missing, or line {number} is not as far in as this line"
+            )?);
+            told.show(alloc, next, first_word(next.line.trim_ascii()), "")
+        }
+        None => {
+            told.say(format!(in alloc; "what comes after `{end}` is missing")?);
+            Ok(())
+        }
+    }
+}
+
+/// The word or the sign with which a line ends.
+fn last_part(said: &[u8]) -> &[u8] {
+    let word = last_word(said);
+    if said.ends_with(word) && !word.is_empty() {
+        return word;
+    }
+    match said.iter().rposition(|b| *b == b' ') {
+        Some(at) => said.get(at..).unwrap_or(said).trim_ascii(),
+        None => said,
+    }
+}
+
+/// Tells what effect a FUNCTION has.
+pub fn effect(alloc: Global, place: Place<'_>, told: &mut Told) -> Result<(), AllocError> {
+    let first = first_word(place.said);
+    if place.name.is_empty() {
+        if matches!(first, b"PAR" | b"ALT" | b"PRI") {
+            let word = shown(alloc, first)?;
+            told.say(format!(in alloc; "a FUNCTION has no {word}")?);
+        }
+        return Ok(());
+    }
+    let name = shown(alloc, place.name)?;
+    if assigned(place.said).is_some() {
+        told.say(format!(in alloc; "`{name}` is changed by a FUNCTION, and stands outside of it")?);
+    } else if place.said.contains(&b'!') || place.said.contains(&b'?') {
+        told.say(format!(in alloc; "a FUNCTION communicates by `{name}`")?);
+    }
+    specification(alloc, place, told)
+}
+
+/// Tells which sizes are meant.
+pub fn sizes(alloc: Global, place: Place<'_>, told: &mut Told) -> Result<(), AllocError> {
+    let words = if has_word(place.said, b"RETYPES") || has_word(place.said, b"RESHAPES") {
+        "the two have not the same number of bytes"
+    } else {
+        "this type is too large"
+    };
+    told.say(String::from_str(alloc, words)?);
+    Ok(())
+}
+
+/// Shows the line above in the same column that says the same.
+pub fn twice(alloc: Global, place: Place<'_>, told: &mut Told) -> Result<(), AllocError> {
+    for (at, line) in place.lines.before(place.number).iter().enumerate().rev() {
+        if is_skipped(line) || column(line) > column(place.line) {
+            continue;
+        }
+        if column(line) < column(place.line) {
+            break;
+        }
+        if line.trim_ascii() == place.line.trim_ascii() {
+            let (said, number) = (shown(alloc, line)?, number_of(at));
+            told.say(format!(in alloc; "`{said}` stands here and in line {number}, in one list")?);
+            return told.show(
+                alloc,
+                Numbered { number, line },
+                first_word(line.trim_ascii()),
+                "",
+            );
+        }
+    }
+    Ok(())
+}
+
+/// Shows the nearest abbreviation above that reads the name.
+pub fn abbreviation(alloc: Global, place: Place<'_>, told: &mut Told) -> Result<(), AllocError> {
+    let mut depth = column(place.line);
+    for (at, line) in place.lines.before(place.number).iter().enumerate().rev() {
+        if is_skipped(line) {
+            continue;
+        }
+        let here = column(line);
+        if here <= depth && has(line, b" IS ") {
+            let said = statement(alloc, line)?;
+            if abbreviated(said.as_slice()).is_some_and(|(_, rest)| has_word(rest, place.name)) {
+                let number = number_of(at);
+                return told.show(
+                    alloc,
+                    Numbered { number, line },
+                    place.name,
+                    "abbreviated here",
+                );
+            }
+        }
+        depth = depth.min(here);
+    }
+    Ok(())
+}
