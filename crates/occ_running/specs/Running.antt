@@ -163,6 +163,10 @@ pub data Does : Scope → Thread → Work → Run → Outcome → Type 0 where
   read : (d : Scope) (t : Thread) (el : TypedElement) (r s : Run) (at : Spot) (n : Option ℤ) (c : Cell) (x : Option Value)
       → Does d t (Find el) r (Gave (Element at n ∷ [])) → Touches kind.Read (Element at n ∷ []) s → Has at c → Tells (out-TypedElement el).known.value x
       → Does d t (Evaluate (TypedExpr-F.Element el)) (Then r (Then s (Touch (record { kind = kind.Read; cell = c; value = x })))) (Gave (Held x n ∷ []))
+  -- one without cells, as an empty segment, is read without touching any
+  read_nothing : (d : Scope) (t : Thread) (el : TypedElement) (r : Run) (at : Spot) (n : Option ℤ) (x : Option Value)
+      → Does d t (Find el) r (Gave (Element at n ∷ [])) → ((c : Cell) → Has at c → ⊥) → Tells (out-TypedElement el).known.value x
+      → Does d t (Evaluate (TypedExpr-F.Element el)) r (Gave (Held x n ∷ []))
   held : (d : Scope) (t : Thread) (el : TypedElement) (r : Run) (x : Option Value) (n : Option ℤ)
       → Does d t (Find el) r (Gave (Held x n ∷ [])) → Tells (out-TypedElement el).known.value x → Does d t (Evaluate (TypedExpr-F.Element el)) r (Gave (Held x n ∷ []))
   element_stops : (d : Scope) (t : Thread) (el : TypedElement) (r : Run) → Does d t (Find el) r Stopped → Does d t (Evaluate (TypedExpr-F.Element el)) r Stopped

@@ -336,6 +336,7 @@ here_if _ _ _ _ _ (Running.second_stops d t w u r s xs x y) env a = tt
 here_if _ _ _ _ _ (Running.operation d t f es r xs x h y i) env a = tt
 here_if _ _ _ _ _ (Running.operand_stops d t f es r h x) env a = tt
 here_if _ _ _ _ _ (Running.read d t el r s at n c x y touches has told) env a = tt
+here_if _ _ _ _ _ (Running.read_nothing d t el r at n x y bare told) env a = tt
 here_if _ _ _ _ _ (Running.held d t el r x n y told) env a = tt
 here_if _ _ _ _ _ (Running.element_stops d t el r x) env a = tt
 here_if _ _ _ _ _ (Running.size_of_element d t k e el r y n h x told) env a = tt
@@ -745,6 +746,7 @@ covers _ _ _ _ _ (Running.read d t el r s at n c w y touches has told) env a x (
 covers _ _ _ _ _ (Running.read d t el r s at n c w y touches has told) env a x (inr (inl i)) = read_touched env d t el at n s x (good d t (Find el) r (Gave (Element at n ∷ [])) y env a) touches i
 covers _ _ _ _ _ (Running.read d t el r s at n c w y touches has told) env a x (inr (inr i)) =
     read_covered env d t el at n x (good d t (Find el) r (Gave (Element at n ∷ [])) y env a) (ap (λ (f : Event). f.kind) i) (subst (λ (f : Event). Has at f.cell) (sym i) has)
+covers _ _ _ _ _ (Running.read_nothing d t el r at n w y bare told) env a x i = find_covered env d t el x (covers d t (Find el) r (Gave (Element at n ∷ [])) y env a x i)
 covers _ _ _ _ _ (Running.held d t el r w n y told) env a x i = find_covered env d t el x (covers d t (Find el) r (Gave (Held w n ∷ [])) y env a x i)
 covers _ _ _ _ _ (Running.element_stops d t el r y) env a x i = find_covered env d t el x (covers d t (Find el) r Stopped y env a x i)
 covers _ _ _ _ _ (Running.size_of_element d t k e el r y n h z told) env a x i = absurd i

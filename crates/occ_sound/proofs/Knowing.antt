@@ -434,6 +434,7 @@ good _ _ _ _ _ (Running.operation d t f es r xs x h y i) env a =
     (x, None, refl, operation_known env f es xs x h (evaluated env d es xs (good d t (evaluate es) r (Gave xs) y env a)) i, subst (λ (z : Option ℤ). Tells z None) (sym (operation_size env f es h)) tt)
 good _ _ _ _ _ (Running.operand_stops d t f es r h x) env a = tt
 good _ _ _ _ _ (Running.read d t el r s at n c x y touches has told) env a = read_good env d el at n x (good d t (Find el) r (Gave (Element at n ∷ [])) y env a) told
+good _ _ _ _ _ (Running.read_nothing d t el r at n x y bare told) env a = read_good env d el at n x (good d t (Find el) r (Gave (Element at n ∷ [])) y env a) told
 good _ _ _ _ _ (Running.held d t el r x n y told) env a = held_good env d el x n (good d t (Find el) r (Gave (Held x n ∷ [])) y env a) told
 good _ _ _ _ _ (Running.element_stops d t el r x) env a = tt
 good _ _ _ _ _ (Running.size_of_element d t k e el r y n h x told) env a = size_good env d k e el y n h (good d t (Find el) r (Gave (y ∷ [])) x env a) told

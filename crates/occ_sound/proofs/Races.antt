@@ -576,6 +576,7 @@ free _ _ _ _ _ (Running.second_stops d t w u r q xs y z) env line s h = (free d 
 free _ _ _ _ _ (Running.operation d t f es r xs x k y i) env line s h = free d t (evaluate es) r (Gave xs) y env line s (operands_ready d line env f es k h)
 free _ _ _ _ _ (Running.operand_stops d t f es r k y) env line s h = free d t (evaluate es) r Stopped y env line s (operands_ready d line env f es k h)
 free _ _ _ _ _ (Running.read d t el r q at n c x y touches has told) env line s h = (free d t (Find el) r (Gave (Element at n ∷ [])) y env line s (read_ready d line env el h), (touches_free kind.Read (Element at n ∷ []) q touches, tt))
+free _ _ _ _ _ (Running.read_nothing d t el r at n x y bare told) env line s h = free d t (Find el) r (Gave (Element at n ∷ [])) y env line s (read_ready d line env el h)
 free _ _ _ _ _ (Running.held d t el r x n y told) env line s h = free d t (Find el) r (Gave (Held x n ∷ [])) y env line s (read_ready d line env el h)
 free _ _ _ _ _ (Running.element_stops d t el r y) env line s h = free d t (Find el) r Stopped y env line s (read_ready d line env el h)
 free _ _ _ _ _ (Running.size_of_element d t k e el r y n g x told) env line s h = tt
