@@ -3,6 +3,7 @@
 use Rattle.std.specs.Prelude.{◌≡◌, ◌⊎◌, ℕ, suc, ℤ, pos, Bool, true, false, Option, Some, None, List, [], ◌∷◌, ◌++◌, slice_get, take}
 use Rattle.occ_scope.specs.declared.meaning.Referent.{Referent}
 use Rattle.occ_scope.specs.declared.meaning.ScopeEntry.{ScopeEntry}
+use Rattle.occ_types.specs.declared.constant.Operator.{Operator}
 use Rattle.occ_types.specs.declared.interface.Export.{Export}
 use Rattle.occ_types.specs.declared.interface.FormalUse.{FormalUse}
 use Rattle.occ_types.specs.declared.interface.Interface.{Interface}
@@ -12,6 +13,7 @@ use Rattle.occ_types.specs.declared.value.Value.{Value}
 use Rattle.occ_types.specs.declared.value.Value.TheVariants as v
 use Rattle.occ_typing.specs.declared.tree.TypedLine.{TypedLine, out-TypedLine}
 use Rattle.occ_typing_lines.specs.declared.tree.BlockKind.TheVariants as block
+use Rattle.occ_typing_lines.specs.declared.tree.TypedGuard.{TypedGuard}
 use Rattle.occ_typing_lines.specs.declared.tree.TypedForm.{TypedForm}
 use Rattle.occ_typing_lines.specs.declared.tree.TypedForm.TheVariants as form
 use Rattle.occ_typing_operands.specs.declared.kind.Known.{Known}
@@ -25,7 +27,7 @@ use Rattle.occ_running.specs.Exports.{IsShown}
 use Rattle.occ_running.specs.Memory.{Cell, Has, InCall, InComponent, IsOneOf, Recast, Spot, Step, Thread, Variable}
 use Rattle.occ_running.specs.Runs.{Beside, Event, Occurs, Quiet, RaceFree, Run, Then, Touch}
 use Rattle.occ_running.specs.Scopes.{AreDeclared, Body, Clock, Element, Formal, Formula, Held, Other, Scope, Shown, Stored, Suits, Thing, formals_of}
-use Rattle.occ_running.specs.Works.{Both, Call, Choice, EntersIndex, Evaluate, ExprForm, Find, Idle, InTurn, IsNoted, IsValue, Item, Main, Nothing, Piece, Pieces, Reach, Select, Selects, Specify, Taken, Tells, Together, Under, Waiting, Way, Work, bounds, count_in, count_value, evaluate, find, items_of, operands, or_else, pass, plan, replicator_of, rounds}
+use Rattle.occ_running.specs.Works.{Both, Call, Choice, Decides, EntersIndex, Evaluate, ExprForm, Find, Idle, InTurn, IsDeciding, IsNoted, IsValue, Item, Main, Nothing, Piece, Pieces, Reach, Select, Selects, Specify, Taken, Tells, Together, Under, Waiting, Way, Work, bounds, count_in, count_value, evaluate, find, items_of, operands, or_else, pass, plan, replicator_of, rounds}
 
 -- ---- touches
 
@@ -159,6 +161,10 @@ pub data Does : Scope → Thread → Work → Run → Outcome → Type 0 where
       → operands f ≡ Some es → Does d t (evaluate es) r (Gave xs) → IsValue f xs x → Does d t (Evaluate f) r (Gave (Held x None ∷ []))
   operand_stops : (d : Scope) (t : Thread) (f : ExprForm) (es : List TypedExpr) (r : Run)
       → operands f ≡ Some es → Does d t (evaluate es) r Stopped → Does d t (Evaluate f) r Stopped
+  -- AND and OR may leave out the operands behind one that decides
+  decided : (d : Scope) (t : Thread) (x : Known) (op : Operator) (b : Bool) (es fs : List TypedExpr) (r : Run) (xs : List Thing)
+      → IsDeciding op b → Does d t (evaluate es) r (Gave xs) → Decides b xs → Tells x.value (Some (v.Bool b))
+      → Does d t (Evaluate (TypedExpr-F.Operation x op (es ++ fs))) r (Gave (Held (Some (v.Bool b)) None ∷ []))
   -- an element is read: cells of it, and last the one whose value it has
   read : (d : Scope) (t : Thread) (el : TypedElement) (r s : Run) (at : Spot) (n : Option ℤ) (c : Cell) (x : Option Value)
       → Does d t (Find el) r (Gave (Element at n ∷ [])) → Touches kind.Read (Element at n ∷ []) s → Has at c → Tells (out-TypedElement el).known.value x
@@ -234,6 +240,9 @@ pub data Does : Scope → Thread → Work → Run → Outcome → Type 0 where
       → (out-TypedLine l).form ≡ form.Condition e → Does d t (Evaluate (out-TypedExpr e)) r (Gave (Held (Some (v.Bool false)) n ∷ [])) → Does d t (Main Choice l) r Passed
   -- an option or an alternative that is not taken, though what is specified before it was found
   left_out : (d : Scope) (t : Thread) (l : TypedLine) → Does d t (Main Taken l) Quiet Passed
+  -- an alternative whose condition is FALSE is not waited for
+  shut : (d : Scope) (t : Thread) (l : TypedLine) (e : TypedExpr) (g : TypedGuard) (r : Run) (n : Option ℤ)
+      → (out-TypedLine l).form ≡ form.Guard e g → Does d t (Evaluate (out-TypedExpr e)) r (Gave (Held (Some (v.Bool false)) n ∷ [])) → Does d t (Main Waiting l) r (Gave [])
   -- an ALT waits for all of its alternatives, and then takes one
   alternation : (d : Scope) (t : Thread) (way : Way) (l : TypedLine) (by : Option TypedReplicator) (r s : Run) (xs : List Thing) (o : Outcome)
       → (out-TypedLine l).form ≡ form.Block block.Alternation by → runs_processes way ≡ true → Does d t (Under Waiting l) r (Gave xs) → Does d t (Under Taken l) s o

@@ -40,7 +40,8 @@ use Rattle.occ_sound.proofs.Forms.{element_opened, expr_form, layer, selector_fo
 use Rattle.occ_sound.proofs.Lists.{length_last, one_same}
 use Rattle.occ_sound.proofs.Names.{FoundAs, agrees_then, declared_agree, name_found, agrees_same}
 use Rattle.occ_sound.proofs.Places.{component_lies, field_lies, named_lies, recast_lies, segment_lies}
-use Rattle.occ_sound.proofs.Values.{AreKnown, either_tells, int_known, known_first, known_tells, knows_tells, operation_known, operation_size, rest_known, size_tells}
+use Rattle.occ_sound.proofs.Values.{AreKnown, decided_known, either_tells, int_known, known_first, known_tells, knows_tells, operation_known, operation_size, rest_known, size_tells}
+use Rattle.occ_types.specs.declared.value.Value.TheVariants as v
 
 -- ---- selectors
 
@@ -432,6 +433,8 @@ good _ _ _ _ _ (Running.first_stops d t w u r x) env a = tt
 good _ _ _ _ _ (Running.second_stops d t w u r s xs x y) env a = tt
 good _ _ _ _ _ (Running.operation d t f es r xs x h y i) env a =
     (x, None, refl, operation_known env f es xs x h (evaluated env d es xs (good d t (evaluate es) r (Gave xs) y env a)) i, subst (λ (z : Option ℤ). Tells z None) (sym (operation_size env f es h)) tt)
+good _ _ _ _ _ (Running.decided d t k op b es fs r xs i x h told) env a =
+    (Some (v.Bool b), None, refl, decided_known env k op b es fs xs i (evaluated env d es xs (good d t (evaluate es) r (Gave xs) x env a)) h told, tt)
 good _ _ _ _ _ (Running.operand_stops d t f es r h x) env a = tt
 good _ _ _ _ _ (Running.read d t el r s at n c x y touches has told) env a = read_good env d el at n x (good d t (Find el) r (Gave (Element at n ∷ [])) y env a) told
 good _ _ _ _ _ (Running.read_nothing d t el r at n x y bare told) env a = read_good env d el at n x (good d t (Find el) r (Gave (Element at n ∷ [])) y env a) told
@@ -468,6 +471,7 @@ good _ _ _ _ _ (Running.condition_stops d t way l e r h x) env a = tt
 good _ _ _ _ _ (Running.chosen d t l e r s n o h x y) env a = main_good env d Choice l (of_process o)
 good _ _ _ _ _ (Running.passed_over d t l e r n h x) env a = tt
 good _ _ _ _ _ (Running.left_out d t l) env a = tt
+good _ _ _ _ _ (Running.shut d t l e g r n h x) env a = tt
 good _ _ _ _ _ (Running.alternation d t way l by r s xs o h k x y) env a = main_good env d way l (of_process o)
 good _ _ _ _ _ (Running.waiting_stops d t way l by r h k x) env a = tt
 good _ _ _ _ _ (Running.idle d t l) env a = tt

@@ -72,7 +72,7 @@ use Rattle.occ_sound.proofs.Knowing.{entered_as, good}
 use Rattle.occ_sound.proofs.Lists.{and_both, get_below, in_got, length_last, none_some, take_length}
 use Rattle.occ_sound.proofs.Cells.{own_number}
 use Rattle.occ_sound.proofs.Names.{agrees_length, formals_agree, stands}
-use Rattle.occ_sound.proofs.Readying.{AllReady, ClashFree, IsCleanLine, IsReady, Ready, ReadyOne, bounds_ready, called_ready, evaluate_ready, expression_ready, finds_ready, form_under, line_ready, operands_ready, passing_ready, plan_ready, planned_under, read_ready, rest_ready, select_ready, silent_left, silent_right, specifying_ready}
+use Rattle.occ_sound.proofs.Readying.{AllReady, ClashFree, IsCleanLine, IsReady, Ready, ReadyOne, bounds_ready, called_ready, decided_ready, evaluate_ready, expression_ready, finds_ready, form_under, line_ready, operands_ready, passing_ready, plan_ready, planned_under, read_ready, rest_ready, select_ready, silent_left, silent_right, specifying_ready}
 use Rattle.occ_usage_conflicts.proofs.Clashing.{any_given}
 use Rattle.occ_usage_conflicts.specs.Bodies.{body_uses}
 use Rattle.occ_usage_conflicts.specs.ParallelRule.{clash, clash_between, conflict, counts, uses_clash}
@@ -574,6 +574,7 @@ free _ _ _ _ _ (Running.both d t w u r q xs ys y z) env line s h = (free d t w r
 free _ _ _ _ _ (Running.first_stops d t w u r y) env line s h = free d t w r Stopped y env line s h.0
 free _ _ _ _ _ (Running.second_stops d t w u r q xs y z) env line s h = (free d t w r (Gave xs) y env line s h.0, free d t u q Stopped z env line s h.1)
 free _ _ _ _ _ (Running.operation d t f es r xs x k y i) env line s h = free d t (evaluate es) r (Gave xs) y env line s (operands_ready d line env f es k h)
+free _ _ _ _ _ (Running.decided d t k op b es fs r xs i y g told) env line s h = free d t (evaluate es) r (Gave xs) y env line s (decided_ready d line env k op es fs h)
 free _ _ _ _ _ (Running.operand_stops d t f es r k y) env line s h = free d t (evaluate es) r Stopped y env line s (operands_ready d line env f es k h)
 free _ _ _ _ _ (Running.read d t el r q at n c x y touches has told) env line s h = (free d t (Find el) r (Gave (Element at n ∷ [])) y env line s (read_ready d line env el h), (touches_free kind.Read (Element at n ∷ []) q touches, tt))
 free _ _ _ _ _ (Running.read_nothing d t el r at n x y bare told) env line s h = free d t (Find el) r (Gave (Element at n ∷ [])) y env line s (read_ready d line env el h)
@@ -635,6 +636,9 @@ free _ _ _ _ _ (Running.alternation d t way l by r q xs o k f y z) env line s h 
   free d t (Under Waiting l) r (Gave xs) y env line s (form_under env d Waiting l (form.Block block.Alternation by) line k refl (λ comps. tt) h.0 h.1),
   free d t (Under Taken l) q o z env line s (form_under env d Taken l (form.Block block.Alternation by) line k refl (λ comps. tt) h.0 h.1),
 )
+free _ _ _ _ _ (Running.shut d t l e g r n k y) env line s h =
+    free d t (Evaluate (out-TypedExpr e)) r (Gave (Held (Some (v.Bool false)) n ∷ [])) y env (head_of l).place s
+    (plan_ready env d (head_of l).place Waiting Idle (out-TypedLine l).form (Both (Evaluate (out-TypedExpr e)) (guard_waits g)) (ap waiting_plan k) (line_ready env d l h.0 h.1)).0
 free _ _ _ _ _ (Running.waiting_stops d t way l by r k f y) env line s h = free d t (Under Waiting l) r Stopped y env line s (form_under env d Waiting l (form.Block block.Alternation by) line k refl (λ comps. tt) h.0 h.1)
 free _ _ _ _ _ (Running.idle d t l) env line s h = tt
 free _ _ _ _ _ (Running.lines_under d t way l r o k none y) env line s h = free d t (Pieces way 0 (works.items_of (out-TypedLine l).under)) r o y env line s (under_ready env d way l line k none h)
