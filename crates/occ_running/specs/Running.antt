@@ -27,7 +27,7 @@ use Rattle.occ_running.specs.Exports.{IsShown}
 use Rattle.occ_running.specs.Memory.{Cell, Has, InCall, InComponent, IsOneOf, Recast, Spot, Step, Thread, Variable}
 use Rattle.occ_running.specs.Runs.{Beside, Event, Occurs, Quiet, RaceFree, Run, Then, Touch}
 use Rattle.occ_running.specs.Scopes.{AreDeclared, Body, Clock, Element, Formal, Formula, Held, Other, Scope, Shown, Stored, Suits, Thing, formals_of}
-use Rattle.occ_running.specs.Works.{Both, Call, Choice, Decides, EntersIndex, Evaluate, ExprForm, Find, Idle, InTurn, IsDeciding, IsNoted, IsValue, Item, Main, Nothing, Piece, Pieces, Reach, Select, Selects, Specify, Taken, Tells, Together, Under, Waiting, Way, Work, bounds, count_in, count_value, evaluate, find, items_of, operands, or_else, pass, plan, replicator_of, rounds}
+use Rattle.occ_running.specs.Works.{Both, Call, Choice, Decides, EntersIndex, Evaluate, ExprForm, Find, Idle, InTurn, IsDeciding, IsNoted, IsValue, Item, Main, Nothing, Piece, Pieces, Reach, Select, Selects, Specify, Taken, Tells, Together, Under, Waiting, Way, Work, bounds, count_in, count_value, evaluate, find, items_of, operands, or_else, pass, plan, replicator_of, rounds, rounds_in}
 
 -- ---- touches
 
@@ -176,10 +176,11 @@ pub data Does : Scope → Thread → Work → Run → Outcome → Type 0 where
   held : (d : Scope) (t : Thread) (el : TypedElement) (r : Run) (x : Option Value) (n : Option ℤ)
       → Does d t (Find el) r (Gave (Held x n ∷ [])) → Tells (out-TypedElement el).known.value x → Does d t (Evaluate (TypedExpr-F.Element el)) r (Gave (Held x n ∷ []))
   element_stops : (d : Scope) (t : Thread) (el : TypedElement) (r : Run) → Does d t (Find el) r Stopped → Does d t (Evaluate (TypedExpr-F.Element el)) r Stopped
-  -- SIZE touches nothing: it asks of its operand how many components it has
+  -- SIZE touches nothing: where typing has not noted it, it asks of its operand how many components it has
   size_of_element : (d : Scope) (t : Thread) (x : Known) (e : TypedExpr) (el : TypedElement) (r : Run) (y : Thing) (n : Option Value)
       → out-TypedExpr e ≡ TypedExpr-F.Element el → Does d t (Find el) r (Gave (y ∷ [])) → Tells (or_else x.value (count_value (count_in y))) n
       → Does d t (Evaluate (TypedExpr-F.Size x e)) Quiet (Gave (Held n None ∷ []))
+  size_noted : (d : Scope) (t : Thread) (x : Known) (e : TypedExpr) (n : Value) → x.value ≡ Some n → Does d t (Evaluate (TypedExpr-F.Size x e)) Quiet (Gave (Held (Some n) None ∷ []))
   size : (d : Scope) (t : Thread) (x : Known) (e : TypedExpr) (n : Option Value)
       → ((el : TypedElement) → out-TypedExpr e ≡ TypedExpr-F.Element el → ⊥) → Tells x.value n → Does d t (Evaluate (TypedExpr-F.Size x e)) Quiet (Gave (Held n None ∷ []))
   result : (d : Scope) (t : Thread) (x : Known) (callee : Referent) (xs : List TypedActual) (r : Run) (n : Option Value)
@@ -253,10 +254,10 @@ pub data Does : Scope → Thread → Work → Run → Outcome → Type 0 where
   idle : (d : Scope) (t : Thread) (l : TypedLine) → Does d t (Under Idle l) Quiet (Gave [])
   lines_under : (d : Scope) (t : Thread) (way : Way) (l : TypedLine) (r : Run) (o : Outcome)
       → replicator_of (out-TypedLine l).form ≡ None → (out-TypedLine l).enters ≡ [] → Does d t (Pieces way 0 (items_of (out-TypedLine l).under)) r o → Does d t (Under way l) r o
-  replicates : (d : Scope) (t : Thread) (way : Way) (l : TypedLine) (by : TypedReplicator) (r s : Run) (base : ℤ) (n : ℕ) (i j : Option ℤ) (o : Outcome)
+  replicates : (d : Scope) (t : Thread) (way : Way) (l : TypedLine) (by : TypedReplicator) (r s : Run) (base count : ℤ) (i j : Option ℤ) (o : Outcome)
       → replicator_of (out-TypedLine l).form ≡ Some by → EntersIndex (out-TypedLine l).enters
-      → Does d t (evaluate (by.base ∷ by.count ∷ [])) r (Gave (Held (Some (v.Int base)) i ∷ Held (Some (v.Int (pos n))) j ∷ [])) → IsNoted way by.known base n
-      → Does d t (Pieces way 0 (rounds n 0 base (out-TypedLine l).under)) s o → Does d t (Under way l) (Then r s) o
+      → Does d t (evaluate (by.base ∷ by.count ∷ [])) r (Gave (Held (Some (v.Int base)) i ∷ Held (Some (v.Int count)) j ∷ [])) → IsNoted way by.known base (rounds_in count)
+      → Does d t (Pieces way 0 (rounds (rounds_in count) 0 base (out-TypedLine l).under)) s o → Does d t (Under way l) (Then r s) o
   replicator_stops : (d : Scope) (t : Thread) (way : Way) (l : TypedLine) (by : TypedReplicator) (r : Run)
       → replicator_of (out-TypedLine l).form ≡ Some by → Does d t (evaluate (by.base ∷ by.count ∷ [])) r Stopped → Does d t (Under way l) r Stopped
   -- an item: specifications, and a main line in their scope

@@ -1,5 +1,5 @@
 -- What there is to run: expressions, elements, calls, lines and the lines under them; and what a line does before those.
-use Rattle.std.specs.Prelude.{◌≡◌, ◌⊎◌, ℕ, zero, suc, ℤ, pos, ◌+ℤ◌, Bool, true, false, Option, Some, None, List, [], ◌∷◌, Result, Ok, Err}
+use Rattle.std.specs.Prelude.{◌≡◌, ◌⊎◌, ℕ, zero, suc, ℤ, pos, negsuc, ◌+ℤ◌, Bool, true, false, Option, Some, None, List, [], ◌∷◌, Result, Ok, Err}
 use Rattle.occ_scope.specs.declared.meaning.Access.{Access}
 use Rattle.occ_scope.specs.declared.meaning.Access.TheVariants as access
 use Rattle.occ_scope.specs.declared.meaning.Meaning.{Meaning}
@@ -368,6 +368,11 @@ items_of ls = (record { index = []; lines = ls }) ∷ items_behind ls
 
 abbrev pub index_at : ℤ → ℕ → Thing
 index_at base i = Held (Some (v.Int (base +ℤ pos i))) None
+
+-- so many rounds does a count make: one below 0 makes none
+abbrev pub rounds_in : ℤ → ℕ
+rounds_in (pos n) = n
+rounds_in (negsuc n) = zero
 
 -- so many rounds, the first of which has number i
 abbrev pub rounds : ℕ → ℕ → ℤ → List TypedLine → List Piece

@@ -54,7 +54,7 @@ use Rattle.occ_running.specs.Running.{Brings, Does, EndsThere, Gave, GoesOn, Out
 use Rattle.occ_running.specs.Runs.{Event, Occurs, Run}
 use Rattle.occ_running.specs.Scopes.{AreDeclared, Body, Clock, Element, Formal, Formula, Held, IsDeclared, IsDeclaredBy, Other, Shown, Scope, Stored, Suits, Thing, formals_of}
 use Rattle.occ_running.specs.Works as works
-use Rattle.occ_running.specs.Works.{Both, Call, Choice, EntersIndex, Evaluate, Find, Idle, InTurn, IsNoted, Item, Main, Nothing, Piece, Pieces, Reach, Select, Specify, Taken, Tells, Together, Under, Waiting, Way, Work, bounds, evaluate, find, guard_waits, pass, plan, replicator_of, rounds, waiting_plan}
+use Rattle.occ_running.specs.Works.{Both, Call, Choice, EntersIndex, Evaluate, Find, Idle, InTurn, IsNoted, Item, Main, Nothing, Piece, Pieces, Reach, Select, Specify, Taken, Tells, Together, Under, Waiting, Way, Work, bounds, evaluate, find, guard_waits, pass, plan, replicator_of, rounds, rounds_in, waiting_plan}
 use Rattle.occ_sound.specs.Agreeing.{Agrees, Covered, Extends, InPart, Matches, one_more, origin, uses_of_body, step_of, steps_of}
 use Rattle.occ_sound.specs.Covering.{Allows, AllowsOne, AreIndices, ByOne, CoveredWork, component_thread, item_uses}
 use Rattle.occ_sound.proofs.Calls.{has_entry, mapped, seen}
@@ -341,6 +341,7 @@ here_if _ _ _ _ _ (Running.read_nothing d t el r at n x y bare told) env a = tt
 here_if _ _ _ _ _ (Running.held d t el r x n y told) env a = tt
 here_if _ _ _ _ _ (Running.element_stops d t el r x) env a = tt
 here_if _ _ _ _ _ (Running.size_of_element d t k e el r y n h x told) env a = tt
+here_if _ _ _ _ _ (Running.size_noted d t k e n h) env a = tt
 here_if _ _ _ _ _ (Running.size d t k e n h told) env a = tt
 here_if _ _ _ _ _ (Running.result d t k callee xs r n x) env a = tt
 here_if _ _ _ _ _ (Running.call_stops d t k callee xs r x) env a = tt
@@ -369,7 +370,7 @@ here_if _ _ _ _ _ (Running.shut d t l e g r n h x) env a = tt
 here_if _ _ _ _ _ (Running.waiting_stops d t way l by r h k x) env a = tt
 here_if _ _ _ _ _ (Running.idle d t l) env a = tt
 here_if _ _ _ _ _ (Running.lines_under d t way l r o h k x) env a = tt
-here_if _ _ _ _ _ (Running.replicates d t way l by r s base n i j o h k x noted y) env a = tt
+here_if _ _ _ _ _ (Running.replicates d t way l by r s base count i j o h k x noted y) env a = tt
 here_if _ _ _ _ _ (Running.replicator_stops d t way l by r h x) env a = tt
 here_if _ _ _ _ _ (Running.no_line d t way) env a = tt
 here_if _ _ _ _ _ (Running.with_specification d t way l ls names r s xs o h x y) env a = tt
@@ -753,6 +754,7 @@ covers _ _ _ _ _ (Running.read_nothing d t el r at n w y bare told) env a x i = 
 covers _ _ _ _ _ (Running.held d t el r w n y told) env a x i = find_covered env d t el x (covers d t (Find el) r (Gave (Held w n ∷ [])) y env a x i)
 covers _ _ _ _ _ (Running.element_stops d t el r y) env a x i = find_covered env d t el x (covers d t (Find el) r Stopped y env a x i)
 covers _ _ _ _ _ (Running.size_of_element d t k e el r y n h z told) env a x i = absurd i
+covers _ _ _ _ _ (Running.size_noted d t k e n h) env a x i = absurd i
 covers _ _ _ _ _ (Running.size d t k e n h told) env a x i = absurd i
 covers _ _ _ _ _ (Running.result d t k callee xs r n y) env a x i = covers d t (Call callee.spec xs) r (Gave []) y env a x i
 covers _ _ _ _ _ (Running.call_stops d t k callee xs r y) env a x i = covers d t (Call callee.spec xs) r Stopped y env a x i
@@ -816,10 +818,10 @@ covers _ _ _ _ _ (Running.lines_under d t way l r o h none y) env a x i =
     under_covered env d t way l (items_of (under l) env) x
     (λ k us g u j. subst (λ (cs : List (List Use)). IsOneOf (joined cs) u) (sym (plain_components env l h none)) (in_joined (items_of (under l) env) k us u g j))
     (covers d t (Pieces way 0 (works.items_of (out-TypedLine l).under)) r o y env a x i (items_of (under l) env) (items_allowed env (out-TypedLine l).under))
-covers _ _ _ _ _ (Running.replicates d t way l by r s base n f g o h enters y noted z) env a x (inl i) =
-    replicator_covered env d t way l by x h (covers d t (evaluate (by.base ∷ by.count ∷ [])) r (Gave (Held (Some (v.Int base)) f ∷ Held (Some (v.Int (pos n))) g ∷ [])) y env a x i)
-covers _ _ _ _ _ (Running.replicates d t way l by r s base n f g o h enters y noted z) env a x (inr i) =
-    rounds_covered env d t way l by base n x by.known h enters refl noted (covers d t (Pieces way 0 (rounds n 0 base (out-TypedLine l).under)) s o z env a x i)
+covers _ _ _ _ _ (Running.replicates d t way l by r s base count f g o h enters y noted z) env a x (inl i) =
+    replicator_covered env d t way l by x h (covers d t (evaluate (by.base ∷ by.count ∷ [])) r (Gave (Held (Some (v.Int base)) f ∷ Held (Some (v.Int count)) g ∷ [])) y env a x i)
+covers _ _ _ _ _ (Running.replicates d t way l by r s base count f g o h enters y noted z) env a x (inr i) =
+    rounds_covered env d t way l by base (rounds_in count) x by.known h enters refl noted (covers d t (Pieces way 0 (rounds (rounds_in count) 0 base (out-TypedLine l).under)) s o z env a x i)
 covers _ _ _ _ _ (Running.replicator_stops d t way l by r h y) env a x i = replicator_covered env d t way l by x h (covers d t (evaluate (by.base ∷ by.count ∷ [])) r Stopped y env a x i)
 covers _ _ _ _ _ (Running.no_line d t way) env a x i = absurd i
 covers _ _ _ _ _ (Running.with_specification d t way l ls names r s xs o h y z) env a x (inl i) = specified_covered env d t way l ls names x h (covers d t (Specify l) r (Gave xs) y env a x i)

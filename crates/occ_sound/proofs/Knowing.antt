@@ -314,6 +314,9 @@ plain_size_good env d k e n h t =
     let none : (expr_view e).size env ≡ None = ap (λ (w : ExprView). w.size env) (expr_form e) ∙ no_size env (out-TypedExpr e) h in
     (n, None, refl, either_tells k.value (size_value ((expr_view e).size env)) n t (subst (λ (z : Option ℤ). Tells (size_value z) n) (sym none) tt), tt)
 
+noted_size_good : (env : Env) (d : Scope) (k : Known) (e : TypedExpr) (n : Value) → k.value ≡ Some n → Good env d (Evaluate (TypedExpr-F.Size k e)) (Held (Some n) None ∷ [])
+noted_size_good env d k e n h = (Some n, None, refl, subst (λ (z : Option Value). Tells (known_or z (size_value ((expr_view e).size env))) (Some n)) (sym h) refl, tt)
+
 -- ---- specifications
 
 abbrev pub entered_as : Env → Head → List Use → Bool → List ScopeEntry → TypedForm → List Bound
@@ -441,6 +444,7 @@ good _ _ _ _ _ (Running.read_nothing d t el r at n x y bare told) env a = read_g
 good _ _ _ _ _ (Running.held d t el r x n y told) env a = held_good env d el x n (good d t (Find el) r (Gave (Held x n ∷ [])) y env a) told
 good _ _ _ _ _ (Running.element_stops d t el r x) env a = tt
 good _ _ _ _ _ (Running.size_of_element d t k e el r y n h x told) env a = size_good env d k e el y n h (good d t (Find el) r (Gave (y ∷ [])) x env a) told
+good _ _ _ _ _ (Running.size_noted d t k e n h) env a = noted_size_good env d k e n h
 good _ _ _ _ _ (Running.size d t k e n h told) env a = plain_size_good env d k e n h told
 good _ _ _ _ _ (Running.result d t k callee xs r n x) env a = (n, None, refl, tt, tt)
 good _ _ _ _ _ (Running.call_stops d t k callee xs r x) env a = tt
@@ -476,7 +480,7 @@ good _ _ _ _ _ (Running.alternation d t way l by r s xs o h k x y) env a = main_
 good _ _ _ _ _ (Running.waiting_stops d t way l by r h k x) env a = tt
 good _ _ _ _ _ (Running.idle d t l) env a = tt
 good _ _ _ _ _ (Running.lines_under d t way l r o h k x) env a = under_good env d way l o
-good _ _ _ _ _ (Running.replicates d t way l by r s base n i j o h k x noted y) env a = under_good env d way l o
+good _ _ _ _ _ (Running.replicates d t way l by r s base count i j o h k x noted y) env a = under_good env d way l o
 good _ _ _ _ _ (Running.replicator_stops d t way l by r h x) env a = tt
 good _ _ _ _ _ (Running.no_line d t way) env a = item_good env d way [] (at_end way)
 good _ _ _ _ _ (Running.with_specification d t way l ls names r s xs o h x y) env a = item_good env d way (l ∷ ls) o

@@ -50,7 +50,7 @@ use Rattle.occ_usage_values.specs.declared.bound.Bound.{Bound}
 use Rattle.occ_usage_values.specs.declared.bound.Bound.TheVariants as b
 use Rattle.occ_usage_values.specs.declared.call.Call.{Call as ACall}
 use Rattle.occ_running.specs.Works as works
-use Rattle.occ_running.specs.Works.{Piece, items_behind, behind_line, replicator_of, rounds}
+use Rattle.occ_running.specs.Works.{Piece, items_behind, behind_line, replicator_of, rounds, rounds_in}
 use Rattle.occ_sound.specs.Covering.{Allows, AllowsOne, AreIndices, item_uses}
 use Rattle.occ_sound.specs.Safe.{IsClean, IsCleanFormula, IsSilent, NoClash, Separate}
 use Rattle.occ_sound.proofs.Covers.{BroughtBodies, IsBrought}
@@ -581,6 +581,7 @@ free _ _ _ _ _ (Running.read_nothing d t el r at n x y bare told) env line s h =
 free _ _ _ _ _ (Running.held d t el r x n y told) env line s h = free d t (Find el) r (Gave (Held x n ∷ [])) y env line s (read_ready d line env el h)
 free _ _ _ _ _ (Running.element_stops d t el r y) env line s h = free d t (Find el) r Stopped y env line s (read_ready d line env el h)
 free _ _ _ _ _ (Running.size_of_element d t k e el r y n g x told) env line s h = tt
+free _ _ _ _ _ (Running.size_noted d t k e n g) env line s h = tt
 free _ _ _ _ _ (Running.size d t k e n g told) env line s h = tt
 free _ _ _ _ _ (Running.result d t k callee xs r n y) env line s h = free d t (Call callee.spec xs) r (Gave []) y env line s h
 free _ _ _ _ _ (Running.call_stops d t k callee xs r y) env line s h = free d t (Call callee.spec xs) r Stopped y env line s h
@@ -642,9 +643,9 @@ free _ _ _ _ _ (Running.shut d t l e g r n k y) env line s h =
 free _ _ _ _ _ (Running.waiting_stops d t way l by r k f y) env line s h = free d t (Under Waiting l) r Stopped y env line s (form_under env d Waiting l (form.Block block.Alternation by) line k refl (λ comps. tt) h.0 h.1)
 free _ _ _ _ _ (Running.idle d t l) env line s h = tt
 free _ _ _ _ _ (Running.lines_under d t way l r o k none y) env line s h = free d t (Pieces way 0 (works.items_of (out-TypedLine l).under)) r o y env line s (under_ready env d way l line k none h)
-free _ _ _ _ _ (Running.replicates d t way l by r q base n f g o k enters y noted z) env line s h = (
-  free d t (evaluate (by.base ∷ by.count ∷ [])) r (Gave (Held (Some (v.Int base)) f ∷ Held (Some (v.Int (pos n))) g ∷ [])) y env (head_of l).place s (bounds_of_ready env d way l by line k h),
-  free d t (Pieces way 0 (rounds n 0 base (out-TypedLine l).under)) q o z env line s (rounds_of_ready env d way l by base n line by.known k enters refl noted h),
+free _ _ _ _ _ (Running.replicates d t way l by r q base count f g o k enters y noted z) env line s h = (
+  free d t (evaluate (by.base ∷ by.count ∷ [])) r (Gave (Held (Some (v.Int base)) f ∷ Held (Some (v.Int count)) g ∷ [])) y env (head_of l).place s (bounds_of_ready env d way l by line k h),
+  free d t (Pieces way 0 (rounds (rounds_in count) 0 base (out-TypedLine l).under)) q o z env line s (rounds_of_ready env d way l by base (rounds_in count) line by.known k enters refl noted h),
 )
 free _ _ _ _ _ (Running.replicator_stops d t way l by r k y) env line s h = free d t (evaluate (by.base ∷ by.count ∷ [])) r Stopped y env (head_of l).place s (bounds_of_ready env d way l by line k h)
 free _ _ _ _ _ (Running.no_line d t way) env line s h = tt
