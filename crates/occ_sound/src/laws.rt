@@ -1,5 +1,5 @@
 //! Laws of runs: what the rules find in a line is all that it touches, and what they tell nothing of has no race.
-ghost use Rattle.std.specs.Prelude.{List, None, Some, [], slice_get, ◌≡◌, ◌∷◌, ℕ, ℤ};
+ghost use Rattle.std.specs.Prelude.{List, None, Some, [], slice_get, suc, ◌≡◌, ◌∷◌, ℕ, ℤ};
 ghost use Rattle.occ_running.specs.Memory.{Cell as ACell, Has, Spot as ASpot, Thread};
 ghost use Rattle.occ_running.specs.Running.{Does, Outcome};
 ghost use Rattle.occ_running.specs.Runs.{Event as AnEvent, Occurs, RaceFree, Run as ARun};
@@ -7,7 +7,7 @@ ghost use Rattle.occ_running.specs.Scopes.{Formal, Scope, Stored, Suits, Thing a
 ghost use Rattle.occ_running.specs.Works.{InTurn, Main, Pieces, Work as SomeWork, items_of as pieces_of};
 ghost use Rattle.occ_sound.specs.Agreeing.{Agrees, InPart};
 ghost use Rattle.occ_sound.specs.Covering.{CoveredWork};
-ghost use Rattle.occ_sound.specs.Racing.{Assigns, AssignsComponent, CanRace, IsName, IsNumeral, IsParallel, Loops, Passes};
+ghost use Rattle.occ_sound.specs.Racing.{Assigns, AssignsComponent, CanRace, Inputs, IsName, IsNumeral, IsParallel, IsReplicated, Loops, Outputs, Passes};
 ghost use Rattle.occ_sound.specs.Safe.{IsClean, IsSilent, Safe, Separate};
 ghost use Rattle.occ_sound.specs.Units.{ArePassedApart, HasNoVariable, IsHead, NeverRaces, Opens};
 ghost use Rattle.occ_typing.specs.declared.tree.TypedLine.{TypedLine as ATypedLine, out-TypedLine};
@@ -48,6 +48,21 @@ pub fn race_law()
 /// So the laws above are not about nothing.
 pub fn assigned_twice_law()
     ensures { (d : Scope) (t u : Thread) (n : ℕ) (l first other last : ATypedLine) → slice_get d n ≡ Some (Stored u) → IsParallel l (first ∷ other ∷ last ∷ []) → Assigns n first → (out-TypedLine other).adds ≡ None → Assigns n last → CanRace d t (Main InTurn l) }
+{}
+
+/// So can one of which two components output to one channel.
+pub fn output_law()
+    ensures { (d : Scope) (t u : Thread) (n : ℕ) (l first other last : ATypedLine) → slice_get d n ≡ Some (Stored u) → IsParallel l (first ∷ other ∷ last ∷ []) → Outputs n first → (out-TypedLine other).adds ≡ None → Outputs n last → CanRace d t (Main InTurn l) }
+{}
+
+/// So can one of which two components input from one channel.
+pub fn input_law()
+    ensures { (d : Scope) (t u : Thread) (n : ℕ) (l first other last : ATypedLine) → slice_get d n ≡ Some (Stored u) → IsParallel l (first ∷ other ∷ last ∷ []) → Inputs n first → (out-TypedLine other).adds ≡ None → Inputs n last → CanRace d t (Main InTurn l) }
+{}
+
+/// So can a replicated PAR of two rounds or more, each of which assigns to one variable.
+pub fn replicated_law()
+    ensures { (d : Scope) (t u : Thread) (n more : ℕ) (base : ℤ) (l line : ATypedLine) → slice_get d n ≡ Some (Stored u) → IsReplicated l base (suc (suc more)) (line ∷ []) → Assigns n line → CanRace d t (Main InTurn l) }
 {}
 
 /// So can one of which two components assign to two formals that stand for one element. U1 goes by names, and these are two.

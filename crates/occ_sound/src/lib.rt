@@ -4,6 +4,6 @@
 mod laws;
 
 pub use laws::{
-    actual_law, alias_law, assigned_twice_law, condition_law, lines_law, places_law, race_law,
-    subscript_law, uses_law,
+    actual_law, alias_law, assigned_twice_law, condition_law, input_law, lines_law, output_law,
+    places_law, race_law, replicated_law, subscript_law, uses_law,
 };
