@@ -1,6 +1,7 @@
 -- PARs that can race, each by a run that has a race.
-use Rattle.std.proofs.Common.{◌≡◌, ℕ, suc, ap, sym, subst, ◌∙◌, refl, List, [], ◌∷◌, ◌++◌, Option, Some, None, inl, inr}
-use Rattle.std.specs.Prelude.{ℤ, pos, slice_get}
+use Rattle.std.proofs.Common.{◌≡◌, ℕ, suc, true, arith, ap, sym, subst, ◌∙◌, refl, List, [], ◌∷◌, ◌++◌, Option, Some, None, inl, inr}
+use Rattle.std.specs.Prelude.{ℤ, pos, int_le, int_lt, slice_get}
+use Rattle.std.proofs.lemmas.Int.{ints}
 use Rattle.occ_scope.specs.declared.meaning.ScopeEntry.{ScopeEntry}
 use Rattle.occ_types.specs.declared.interface.UseKind.{UseKind}
 use Rattle.occ_types.specs.declared.interface.UseKind.TheVariants as kind
@@ -16,14 +17,14 @@ use Rattle.occ_typing_rules.specs.declared.expr.TypedExpr.{TypedExpr, out-TypedE
 use Rattle.occ_typing_statements.specs.declared.exchange_tree.TypedInput.TheVariants as input
 use Rattle.occ_typing_statements.specs.declared.exchange_tree.TypedOutput.TheVariants as output
 use Rattle.occ_typing_statements.specs.declared.replicator_tree.KnownReplicator.{KnownReplicator}
-use Rattle.occ_running.specs.Memory.{At, Cell, ComponentOf, Has, InComponent, Spot, Thread, Variable}
+use Rattle.occ_running.specs.Memory.{At, Cell, ComponentOf, Has, InComponent, SegmentOf, Spot, Thread, To, Variable}
 use Rattle.occ_running.specs.Running
 use Rattle.occ_running.specs.Running.{Does, Gave, Stopped, found_of}
 use Rattle.occ_running.specs.Runs.{Beside, Event, Occurs, Quiet, Race, Run, Then, Touch}
 use Rattle.occ_running.specs.Scopes.{Element, Formal, Held, Scope, Stored, Thing}
 use Rattle.occ_running.specs.Works.{Both, Call, Evaluate, ExprForm, Find, InTurn, IsNoted, Item, Main, Nothing, Piece, Pieces, Reach, Select, SelectorForm, Selects, Tells, Together, Under, actual_work, behind_line, bounds, evaluate, index_at, input_work, items_behind, items_of, or_else, process_plan, receive_all, replicator_of, rounds, send_all}
-use Rattle.occ_sound.specs.Racing.{Assigns, AssignsComponent, CanRace, Inputs, IsName, IsNumeral, IsParallel, IsReplicated, Loops, Outputs, Passes}
-use Rattle.occ_sound.proofs.Lists.{get_more}
+use Rattle.occ_sound.specs.Racing.{Assigns, AssignsComponent, CanRace, CopiesNothing, Inputs, IsEmptySegment, IsName, IsNumeral, IsParallel, IsReplicated, IsSequence, Loops, Outputs, Passes}
+use Rattle.occ_sound.proofs.Lists.{get_more, no_more}
 
 told_itself : (x : Option Value) → Tells (or_else x None) (or_else x None)
 told_itself None = tt
@@ -316,4 +317,86 @@ rounds_race d t u n m base l line at par h =
           (Running.beside d t 1 two (rounds m 2 base (line ∷ [])) (assign_run cell) Quiet Stopped Stopped
           (assign_runs (d ++ two.index) (t ++ InComponent 1 ∷ []) n cell line [] (stored_names (d ++ two.index) n u (get_more d two.index n (Stored u) at)) h) (Running.stops_before d t (Pieces Together 2 (rounds m 2 base (line ∷ []))))))));
       race = λ g. g.1.1.2 (write_of cell) (write_of cell) (assign_writes cell) (inl (assign_writes cell)) (refl, refl);
+    }
+
+-- ---- empty segments
+
+never_within : (k : ℤ) → int_le (pos 0) k ≡ true → int_lt k (pos 0) ≡ true → ⊥
+never_within k h l = absurd (grind (arith, ints, h, l))
+
+-- no cell is of it
+bare : (el : Spot) (b : ℤ) (c : Cell) → Has (SegmentOf el b (pos 0)) c → ⊥
+bare el b c ([], h) = h
+bare el b c (To name ∷ steps, h) = h
+bare el b c (At k ∷ steps, h) = never_within k h.0.0 h.0.1
+
+tells_itself : (x : Option Value) → Tells x x
+tells_itself None = tt
+tells_itself (Some x) = refl
+
+abbrev empty_part : ℕ → Thread → ℤ → Thing
+empty_part n u k = Element (SegmentOf (Variable n u) k (pos 0)) (Some (pos 0))
+
+abbrev found_run : Run
+found_run = Then (Then Quiet (Then Quiet Quiet)) Quiet
+
+empty_found : (d : Scope) (t u : Thread) (n : ℕ) (el : TypedElement) (h : IsEmptySegment n el) → slice_get d n ≡ Some (Stored u) → Does d t (Find el) found_run (Gave (empty_part n u h.k ∷ []))
+empty_found d t u n el h at =
+    let numbers = Held (Some (v.Int h.k)) None ∷ Held (Some (v.Int (pos 0))) None ∷ [] in
+    Running.named d t el (Stored u) (Element (Variable n u) None) found_run (Gave (empty_part n u h.k ∷ []))
+    (subst (λ (m : ℕ). slice_get d m ≡ Some (Stored u)) (sym h.name) at)
+    (subst (λ (m : ℕ). found_of m (Stored u) ≡ Some (Element (Variable n u) None)) (sym h.name) refl)
+    (subst (λ (ss : List Selector). Does d t (Select ss (Element (Variable n u) None)) found_run (Gave (empty_part n u h.k ∷ []))) (sym h.one)
+    (Running.selects d t h.s [] (Element (Variable n u) None) (empty_part n u h.k) (Then Quiet (Then Quiet Quiet)) Quiet numbers (Gave (empty_part n u h.k ∷ []))
+    (subst (λ (f : SelectorForm). Does d t (evaluate (bounds f)) (Then Quiet (Then Quiet Quiet)) (Gave numbers)) (sym h.is)
+    (Running.both d t (Evaluate (out-TypedExpr h.base)) (evaluate (h.count ∷ [])) Quiet (Then Quiet Quiet) (Held (Some (v.Int h.k)) None ∷ []) (Held (Some (v.Int (pos 0))) None ∷ []) (numeral_runs d t h.k h.base h.from)
+    (Running.both d t (Evaluate (out-TypedExpr h.count)) Nothing Quiet Quiet (Held (Some (v.Int (pos 0))) None ∷ []) [] (numeral_runs d t (pos 0) h.count h.none) (Running.nothing d t))))
+    (subst (λ (f : SelectorForm). Selects f numbers (Element (Variable n u) None) (empty_part n u h.k)) (sym h.is) (h.k, pos 0, refl, refl, refl))
+    (Running.all_selected d t (empty_part n u h.k))))
+
+empty_read : (d : Scope) (t u : Thread) (n : ℕ) (e : TypedExpr) (el : TypedElement) (h : IsEmptySegment n el) → out-TypedExpr e ≡ TypedExpr-F.Element el → slice_get d n ≡ Some (Stored u)
+    → Does d t (Evaluate (out-TypedExpr e)) found_run (Gave (Held (out-TypedElement el).known.value (Some (pos 0)) ∷ []))
+empty_read d t u n e el h is at =
+    let x = (out-TypedElement el).known.value in
+    subst (λ (f : ExprForm). Does d t (Evaluate f) found_run (Gave (Held x (Some (pos 0)) ∷ []))) (sym is)
+    (Running.read_nothing d t el found_run (SegmentOf (Variable n u) h.k (pos 0)) (Some (pos 0)) x (empty_found d t u n el h at) (bare (Variable n u) h.k) (tells_itself x))
+
+-- where no lines stand under a line
+nothing_under : (d : Scope) (t : Thread) (l : TypedLine) → replicator_of (out-TypedLine l).form ≡ None → (out-TypedLine l).enters ≡ [] → (out-TypedLine l).under ≡ [] → Does d t (Under InTurn l) (Then Quiet Quiet) (Gave [])
+nothing_under d t l by enters under =
+    Running.lines_under d t InTurn l (Then Quiet Quiet) (Gave []) by enters
+    (subst (λ (ls : List TypedLine). Does d t (Pieces InTurn 0 (items_of ls)) (Then Quiet Quiet) (Gave [])) (sym under)
+    (Running.goes_on d t InTurn 0 (record { index = []; lines = [] }) [] Quiet Quiet (Gave []) (Gave []) (Running.no_line (d ++ []) t InTurn) tt (Running.none_left d t InTurn 1)))
+
+abbrev copied_run : Run
+copied_run = Then (Then (Then found_run Quiet) (Then (Then found_run Quiet) Quiet)) (Then Quiet Quiet)
+
+copies : (d : Scope) (t u w : Thread) (n m : ℕ) (l : TypedLine) (ls : List TypedLine) (h : CopiesNothing n m l) → slice_get d n ≡ Some (Stored u) → slice_get d m ≡ Some (Stored w) → Does d t (Item InTurn (l ∷ ls)) copied_run (Gave [])
+copies d t u w n m l ls h to from =
+    let held = Held (out-TypedElement h.from).known.value (Some (pos 0)) in
+    let there = empty_part n u h.written.k in
+    Running.main_line d t InTurn l ls copied_run (Gave []) h.main
+    (Running.main d t InTurn InTurn l (Both (evaluate (h.e ∷ [])) (Reach kind.Write (h.to ∷ []))) (Then (Then found_run Quiet) (Then (Then found_run Quiet) Quiet)) (Then Quiet Quiet) (held ∷ []) (Gave []) (ap process_plan h.is)
+    (Running.both d t (evaluate (h.e ∷ [])) (Reach kind.Write (h.to ∷ [])) (Then found_run Quiet) (Then (Then found_run Quiet) Quiet) (held ∷ []) []
+    (Running.both d t (Evaluate (out-TypedExpr h.e)) Nothing found_run Quiet (held ∷ []) [] (empty_read d t w m h.e h.from h.read h.value from) (Running.nothing d t))
+    (Running.reaches d t kind.Write (h.to ∷ []) (Then found_run Quiet) Quiet (there ∷ []) (Running.both d t (Find h.to) Nothing found_run Quiet (there ∷ []) [] (empty_found d t u n h.to h.written to) (Running.nothing d t)) Running.none))
+    (nothing_under d t l (ap replicator_of h.is) h.enters h.under))
+
+pub empty_races : (d : Scope) (t u w : Thread) (n m : ℕ) (l a c : TypedLine) → slice_get d n ≡ Some (Stored u) → slice_get d m ≡ Some (Stored w) → IsSequence l (a ∷ c ∷ []) → CopiesNothing n m a → (out-TypedLine c).adds ≡ None → CanRace d t (Main InTurn c)
+    → CanRace d t (Main InTurn l)
+empty_races d t u w n m l a c to from seq first main last =
+    let p : Piece = record { index = []; lines = a ∷ c ∷ [] } in
+    let q : Piece = record { index = []; lines = c ∷ [] } in
+    let run = Then copied_run last.run in
+    let stopped : Does (d ++ []) t (Main InTurn c) last.run Stopped = subst (λ (e : Scope). Does e t (Main InTurn c) last.run Stopped) (sym (no_more d)) (Running.stops_after d t (Main InTurn c) last.run last.outcome last.runs) in
+    record {
+      run = Then Quiet run;
+      outcome = Stopped;
+      runs = Running.main d t InTurn InTurn l Nothing Quiet run [] Stopped (ap process_plan seq.is) (Running.nothing d t)
+          (Running.lines_under d t InTurn l run Stopped (ap replicator_of seq.is) seq.enters
+          (subst (λ (ls : List TypedLine). Does d t (Pieces InTurn 0 (items_of ls)) run Stopped) (sym seq.under)
+          (subst (λ (ps : List Piece). Does d t (Pieces InTurn 0 ps) run Stopped) (sym (two_pieces a c first.main))
+          (Running.goes_on d t InTurn 0 p (q ∷ items_behind (c ∷ [])) copied_run last.run (Gave []) Stopped (copies (d ++ []) t u w n m a (c ∷ []) first (get_more d [] n (Stored u) to) (get_more d [] m (Stored w) from)) tt
+          (Running.ends_there d t InTurn 1 q (items_behind (c ∷ [])) last.run Stopped (Running.main_line (d ++ []) t InTurn c [] last.run Stopped main stopped) tt)))));
+      race = λ h. last.race h.1.1;
     }

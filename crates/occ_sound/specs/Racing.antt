@@ -1,5 +1,5 @@
 -- Runs that have a race: so the laws are not about nothing.
-use Rattle.std.specs.Prelude.{◌≡◌, ℕ, ℤ, pos, None, Some, List, [], ◌∷◌}
+use Rattle.std.specs.Prelude.{◌≡◌, ℕ, ℤ, pos, Option, None, Some, List, [], ◌∷◌}
 use Rattle.occ_typing.specs.declared.tree.TypedLine.{TypedLine, out-TypedLine}
 use Rattle.occ_typing_lines.specs.declared.tree.BlockKind.TheVariants as block
 use Rattle.occ_typing_lines.specs.declared.tree.TypedForm.TheVariants as form
@@ -122,3 +122,35 @@ pub record IsReplicated (l : TypedLine) (base : ℤ) (count : ℕ) (lines : List
   pub known : by.known ≡ Some noted
   pub known_base : noted.base ≡ base
   pub known_count : noted.count ≡ count
+
+-- a SEQ without a replicator, over these lines
+pub record IsSequence (l : TypedLine) (lines : List TypedLine) : Type 0 where
+  pub is : (out-TypedLine l).form ≡ form.Block block.Sequence None
+  pub enters : (out-TypedLine l).enters ≡ []
+  pub under : (out-TypedLine l).under ≡ lines
+
+-- `[a FROM k FOR 0]`, for the specification a with this number and a numeral k
+pub record IsEmptySegment (n : ℕ) (el : TypedElement) : Type 0 where
+  pub s : Selector
+  pub whole : Option ℕ
+  pub base : TypedExpr
+  pub count : TypedExpr
+  pub k : ℤ
+  pub name : (out-TypedElement el).referent.spec ≡ n
+  pub one : (out-TypedElement el).selectors ≡ s ∷ []
+  pub is : out-Selector s ≡ Selector-F.FromFor whole base count
+  pub from : IsNumeral k base
+  pub none : IsNumeral (pos 0) count
+
+-- `[a FROM i FOR 0] := [b FROM j FOR 0]`, for the specifications a and b with these numbers
+pub record CopiesNothing (n m : ℕ) (l : TypedLine) : Type 0 where
+  pub main : (out-TypedLine l).adds ≡ None
+  pub enters : (out-TypedLine l).enters ≡ []
+  pub under : (out-TypedLine l).under ≡ []
+  pub to : TypedElement
+  pub from : TypedElement
+  pub e : TypedExpr
+  pub is : (out-TypedLine l).form ≡ form.Assignment (to ∷ []) (e ∷ [])
+  pub value : out-TypedExpr e ≡ TypedExpr-F.Element from
+  pub written : IsEmptySegment n to
+  pub read : IsEmptySegment m from
