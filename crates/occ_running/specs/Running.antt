@@ -3,6 +3,7 @@
 use Rattle.std.specs.Prelude.{◌≡◌, ◌⊎◌, ℕ, suc, ℤ, pos, Bool, true, false, Option, Some, None, List, [], ◌∷◌, ◌++◌, slice_get, take}
 use Rattle.occ_scope.specs.declared.meaning.Referent.{Referent}
 use Rattle.occ_scope.specs.declared.meaning.ScopeEntry.{ScopeEntry}
+use Rattle.occ_types.specs.declared.constant.Operator.{Operator}
 use Rattle.occ_types.specs.declared.interface.Export.{Export}
 use Rattle.occ_types.specs.declared.interface.FormalUse.{FormalUse}
 use Rattle.occ_types.specs.declared.interface.Interface.{Interface}
@@ -12,6 +13,7 @@ use Rattle.occ_types.specs.declared.value.Value.{Value}
 use Rattle.occ_types.specs.declared.value.Value.TheVariants as v
 use Rattle.occ_typing.specs.declared.tree.TypedLine.{TypedLine, out-TypedLine}
 use Rattle.occ_typing_lines.specs.declared.tree.BlockKind.TheVariants as block
+use Rattle.occ_typing_lines.specs.declared.tree.TypedGuard.{TypedGuard}
 use Rattle.occ_typing_lines.specs.declared.tree.TypedForm.{TypedForm}
 use Rattle.occ_typing_lines.specs.declared.tree.TypedForm.TheVariants as form
 use Rattle.occ_typing_operands.specs.declared.kind.Known.{Known}
@@ -25,7 +27,7 @@ use Rattle.occ_running.specs.Exports.{IsShown}
 use Rattle.occ_running.specs.Memory.{Cell, Has, InCall, InComponent, IsOneOf, Recast, Spot, Step, Thread, Variable}
 use Rattle.occ_running.specs.Runs.{Beside, Event, Occurs, Quiet, RaceFree, Run, Then, Touch}
 use Rattle.occ_running.specs.Scopes.{AreDeclared, Body, Clock, Element, Formal, Formula, Held, Other, Scope, Shown, Stored, Suits, Thing, formals_of}
-use Rattle.occ_running.specs.Works.{Both, Call, Choice, EntersIndex, Evaluate, ExprForm, Find, Idle, InTurn, IsNoted, IsValue, Item, Main, Nothing, Piece, Pieces, Reach, Select, Selects, Specify, Taken, Tells, Together, Under, Waiting, Way, Work, bounds, count_in, count_value, evaluate, find, items_of, operands, or_else, pass, plan, replicator_of, rounds}
+use Rattle.occ_running.specs.Works.{Both, Call, Choice, Decides, EntersIndex, Evaluate, ExprForm, Find, Idle, InTurn, IsDeciding, IsNoted, IsValue, Item, Main, Nothing, Piece, Pieces, Reach, Select, Selects, Specify, Taken, Tells, Together, Under, Waiting, Way, Work, bounds, count_in, count_value, evaluate, find, items_of, operands, or_else, pass, plan, replicator_of, rounds, rounds_in}
 
 -- ---- touches
 
@@ -159,17 +161,26 @@ pub data Does : Scope → Thread → Work → Run → Outcome → Type 0 where
       → operands f ≡ Some es → Does d t (evaluate es) r (Gave xs) → IsValue f xs x → Does d t (Evaluate f) r (Gave (Held x None ∷ []))
   operand_stops : (d : Scope) (t : Thread) (f : ExprForm) (es : List TypedExpr) (r : Run)
       → operands f ≡ Some es → Does d t (evaluate es) r Stopped → Does d t (Evaluate f) r Stopped
+  -- AND and OR may leave out the operands behind one that decides
+  decided : (d : Scope) (t : Thread) (x : Known) (op : Operator) (b : Bool) (es fs : List TypedExpr) (r : Run) (xs : List Thing)
+      → IsDeciding op b → Does d t (evaluate es) r (Gave xs) → Decides b xs → Tells x.value (Some (v.Bool b))
+      → Does d t (Evaluate (TypedExpr-F.Operation x op (es ++ fs))) r (Gave (Held (Some (v.Bool b)) None ∷ []))
   -- an element is read: cells of it, and last the one whose value it has
   read : (d : Scope) (t : Thread) (el : TypedElement) (r s : Run) (at : Spot) (n : Option ℤ) (c : Cell) (x : Option Value)
       → Does d t (Find el) r (Gave (Element at n ∷ [])) → Touches kind.Read (Element at n ∷ []) s → Has at c → Tells (out-TypedElement el).known.value x
       → Does d t (Evaluate (TypedExpr-F.Element el)) (Then r (Then s (Touch (record { kind = kind.Read; cell = c; value = x })))) (Gave (Held x n ∷ []))
+  -- one without cells, as an empty segment, is read without touching any
+  read_nothing : (d : Scope) (t : Thread) (el : TypedElement) (r : Run) (at : Spot) (n : Option ℤ) (x : Option Value)
+      → Does d t (Find el) r (Gave (Element at n ∷ [])) → ((c : Cell) → Has at c → ⊥) → Tells (out-TypedElement el).known.value x
+      → Does d t (Evaluate (TypedExpr-F.Element el)) r (Gave (Held x n ∷ []))
   held : (d : Scope) (t : Thread) (el : TypedElement) (r : Run) (x : Option Value) (n : Option ℤ)
       → Does d t (Find el) r (Gave (Held x n ∷ [])) → Tells (out-TypedElement el).known.value x → Does d t (Evaluate (TypedExpr-F.Element el)) r (Gave (Held x n ∷ []))
   element_stops : (d : Scope) (t : Thread) (el : TypedElement) (r : Run) → Does d t (Find el) r Stopped → Does d t (Evaluate (TypedExpr-F.Element el)) r Stopped
-  -- SIZE touches nothing: it asks of its operand how many components it has
+  -- SIZE touches nothing: where typing has not noted it, it asks of its operand how many components it has
   size_of_element : (d : Scope) (t : Thread) (x : Known) (e : TypedExpr) (el : TypedElement) (r : Run) (y : Thing) (n : Option Value)
       → out-TypedExpr e ≡ TypedExpr-F.Element el → Does d t (Find el) r (Gave (y ∷ [])) → Tells (or_else x.value (count_value (count_in y))) n
       → Does d t (Evaluate (TypedExpr-F.Size x e)) Quiet (Gave (Held n None ∷ []))
+  size_noted : (d : Scope) (t : Thread) (x : Known) (e : TypedExpr) (n : Value) → x.value ≡ Some n → Does d t (Evaluate (TypedExpr-F.Size x e)) Quiet (Gave (Held (Some n) None ∷ []))
   size : (d : Scope) (t : Thread) (x : Known) (e : TypedExpr) (n : Option Value)
       → ((el : TypedElement) → out-TypedExpr e ≡ TypedExpr-F.Element el → ⊥) → Tells x.value n → Does d t (Evaluate (TypedExpr-F.Size x e)) Quiet (Gave (Held n None ∷ []))
   result : (d : Scope) (t : Thread) (x : Known) (callee : Referent) (xs : List TypedActual) (r : Run) (n : Option Value)
@@ -230,6 +241,9 @@ pub data Does : Scope → Thread → Work → Run → Outcome → Type 0 where
       → (out-TypedLine l).form ≡ form.Condition e → Does d t (Evaluate (out-TypedExpr e)) r (Gave (Held (Some (v.Bool false)) n ∷ [])) → Does d t (Main Choice l) r Passed
   -- an option or an alternative that is not taken, though what is specified before it was found
   left_out : (d : Scope) (t : Thread) (l : TypedLine) → Does d t (Main Taken l) Quiet Passed
+  -- an alternative whose condition is FALSE is not waited for
+  shut : (d : Scope) (t : Thread) (l : TypedLine) (e : TypedExpr) (g : TypedGuard) (r : Run) (n : Option ℤ)
+      → (out-TypedLine l).form ≡ form.Guard e g → Does d t (Evaluate (out-TypedExpr e)) r (Gave (Held (Some (v.Bool false)) n ∷ [])) → Does d t (Main Waiting l) r (Gave [])
   -- an ALT waits for all of its alternatives, and then takes one
   alternation : (d : Scope) (t : Thread) (way : Way) (l : TypedLine) (by : Option TypedReplicator) (r s : Run) (xs : List Thing) (o : Outcome)
       → (out-TypedLine l).form ≡ form.Block block.Alternation by → runs_processes way ≡ true → Does d t (Under Waiting l) r (Gave xs) → Does d t (Under Taken l) s o
@@ -240,10 +254,10 @@ pub data Does : Scope → Thread → Work → Run → Outcome → Type 0 where
   idle : (d : Scope) (t : Thread) (l : TypedLine) → Does d t (Under Idle l) Quiet (Gave [])
   lines_under : (d : Scope) (t : Thread) (way : Way) (l : TypedLine) (r : Run) (o : Outcome)
       → replicator_of (out-TypedLine l).form ≡ None → (out-TypedLine l).enters ≡ [] → Does d t (Pieces way 0 (items_of (out-TypedLine l).under)) r o → Does d t (Under way l) r o
-  replicates : (d : Scope) (t : Thread) (way : Way) (l : TypedLine) (by : TypedReplicator) (r s : Run) (base : ℤ) (n : ℕ) (i j : Option ℤ) (o : Outcome)
+  replicates : (d : Scope) (t : Thread) (way : Way) (l : TypedLine) (by : TypedReplicator) (r s : Run) (base count : ℤ) (i j : Option ℤ) (o : Outcome)
       → replicator_of (out-TypedLine l).form ≡ Some by → EntersIndex (out-TypedLine l).enters
-      → Does d t (evaluate (by.base ∷ by.count ∷ [])) r (Gave (Held (Some (v.Int base)) i ∷ Held (Some (v.Int (pos n))) j ∷ [])) → IsNoted way by.known base n
-      → Does d t (Pieces way 0 (rounds n 0 base (out-TypedLine l).under)) s o → Does d t (Under way l) (Then r s) o
+      → Does d t (evaluate (by.base ∷ by.count ∷ [])) r (Gave (Held (Some (v.Int base)) i ∷ Held (Some (v.Int count)) j ∷ [])) → IsNoted way by.known base (rounds_in count)
+      → Does d t (Pieces way 0 (rounds (rounds_in count) 0 base (out-TypedLine l).under)) s o → Does d t (Under way l) (Then r s) o
   replicator_stops : (d : Scope) (t : Thread) (way : Way) (l : TypedLine) (by : TypedReplicator) (r : Run)
       → replicator_of (out-TypedLine l).form ≡ Some by → Does d t (evaluate (by.base ∷ by.count ∷ [])) r Stopped → Does d t (Under way l) r Stopped
   -- an item: specifications, and a main line in their scope

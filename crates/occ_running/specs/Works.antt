@@ -1,5 +1,5 @@
 -- What there is to run: expressions, elements, calls, lines and the lines under them; and what a line does before those.
-use Rattle.std.specs.Prelude.{◌≡◌, ℕ, zero, suc, ℤ, pos, ◌+ℤ◌, Option, Some, None, List, [], ◌∷◌, Result, Ok, Err}
+use Rattle.std.specs.Prelude.{◌≡◌, ◌⊎◌, ℕ, zero, suc, ℤ, pos, negsuc, ◌+ℤ◌, Bool, true, false, Option, Some, None, List, [], ◌∷◌, Result, Ok, Err}
 use Rattle.occ_scope.specs.declared.meaning.Access.{Access}
 use Rattle.occ_scope.specs.declared.meaning.Access.TheVariants as access
 use Rattle.occ_scope.specs.declared.meaning.Meaning.{Meaning}
@@ -10,6 +10,7 @@ use Rattle.occ_types.specs.Fits.{unnamed}
 use Rattle.occ_types.specs.View.{as_primitive}
 use Rattle.occ_types.specs.declared.constant.ConstFault.{ConstFault}
 use Rattle.occ_types.specs.declared.constant.Operator.{Operator}
+use Rattle.occ_types.specs.declared.constant.Operator.TheVariants as operator
 use Rattle.occ_types.specs.declared.interface.UseKind.{UseKind}
 use Rattle.occ_types.specs.declared.interface.UseKind.TheVariants as kind
 use Rattle.occ_types.specs.declared.value.Primitive.{Primitive}
@@ -128,6 +129,16 @@ computed _ xs = None
 -- The value is the one that typing has noted, or else what the operator gives. Where neither tells it, it is any.
 abbrev pub IsValue : ExprForm → List Thing → Option Value → Type 0
 IsValue f xs x = Tells (or_else (noted f) (computed f xs)) x
+
+-- the truth value of an operand by which the others do not matter
+pub data IsDeciding : Operator → Bool → Type 0 where
+  false_of_and : IsDeciding operator.And false
+  true_of_or : IsDeciding operator.Or true
+
+-- one of these has this truth value
+abbrev pub Decides : Bool → List Thing → Type 0
+Decides b [] = ⊥
+Decides b (x ∷ xs) = (value_in x ≡ Some (v.Bool b)) ⊎ Decides b xs
 
 -- ---- selectors
 
@@ -357,6 +368,11 @@ items_of ls = (record { index = []; lines = ls }) ∷ items_behind ls
 
 abbrev pub index_at : ℤ → ℕ → Thing
 index_at base i = Held (Some (v.Int (base +ℤ pos i))) None
+
+-- so many rounds does a count make: one below 0 makes none
+abbrev pub rounds_in : ℤ → ℕ
+rounds_in (pos n) = n
+rounds_in (negsuc n) = zero
 
 -- so many rounds, the first of which has number i
 abbrev pub rounds : ℕ → ℕ → ℤ → List TypedLine → List Piece

@@ -1,4 +1,5 @@
-//! What the typed tree of a unit does when it runs: definitions alone. They share nothing with the rules of uses.
+//! What the typed tree of a unit does when it runs: definitions alone. They cite nothing of the rules of uses. Of used units they
+//! take what their interfaces tell.
 #![tactic(auto)]
 
 pub mod rows;

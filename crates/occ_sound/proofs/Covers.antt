@@ -54,14 +54,14 @@ use Rattle.occ_running.specs.Running.{Brings, Does, EndsThere, Gave, GoesOn, Out
 use Rattle.occ_running.specs.Runs.{Event, Occurs, Run}
 use Rattle.occ_running.specs.Scopes.{AreDeclared, Body, Clock, Element, Formal, Formula, Held, IsDeclared, IsDeclaredBy, Other, Shown, Scope, Stored, Suits, Thing, formals_of}
 use Rattle.occ_running.specs.Works as works
-use Rattle.occ_running.specs.Works.{Both, Call, Choice, EntersIndex, Evaluate, Find, Idle, InTurn, IsNoted, Item, Main, Nothing, Piece, Pieces, Reach, Select, Specify, Taken, Tells, Together, Under, Waiting, Way, Work, bounds, evaluate, find, pass, plan, replicator_of, rounds}
+use Rattle.occ_running.specs.Works.{Both, Call, Choice, EntersIndex, Evaluate, Find, Idle, InTurn, IsNoted, Item, Main, Nothing, Piece, Pieces, Reach, Select, Specify, Taken, Tells, Together, Under, Waiting, Way, Work, bounds, evaluate, find, guard_waits, pass, plan, replicator_of, rounds, rounds_in, waiting_plan}
 use Rattle.occ_sound.specs.Agreeing.{Agrees, Covered, Extends, InPart, Matches, one_more, origin, uses_of_body, step_of, steps_of}
 use Rattle.occ_sound.specs.Covering.{Allows, AllowsOne, AreIndices, ByOne, CoveredWork, component_thread, item_uses}
 use Rattle.occ_sound.proofs.Calls.{has_entry, mapped, seen}
 use Rattle.occ_sound.proofs.Forms.{expr_form}
 use Rattle.occ_sound.proofs.Items.{copies, copies_same, in_joined, index_bounds, items_allowed, known_allowed, known_none, known_some, line_covered, main_item, own_uses, planned_no_body, replicated_uses, specified_item, unknown_allowed}
 use Rattle.occ_sound.proofs.Knowing.{Good, good, raw_value}
-use Rattle.occ_sound.proofs.Lines.{actuals_covered, bounds_covered, element_covered, evaluated_covered, find_covered, finds_covered, operands_covered, plan_covered, read_covered, selected_covered, specifying_covered, touch_covered}
+use Rattle.occ_sound.proofs.Lines.{actuals_covered, bounds_covered, decided_covered, element_covered, evaluated_covered, find_covered, finds_covered, operands_covered, plan_covered, read_covered, selected_covered, specifying_covered, touch_covered}
 use Rattle.occ_sound.proofs.Lists.{and_both, get_behind, get_below, get_cases, got_in, no_more, none_some, some_same, take_length}
 use Rattle.occ_sound.proofs.Names.{FoundAs, Kept, agrees_length, agrees_same, agrees_then, formals_agree, stands}
 use Rattle.occ_sound.proofs.Touching.{covered_in, covered_left, covered_right, touched}
@@ -334,11 +334,14 @@ here_if _ _ _ _ _ (Running.both d t w u r s xs ys x y) env a = tt
 here_if _ _ _ _ _ (Running.first_stops d t w u r x) env a = tt
 here_if _ _ _ _ _ (Running.second_stops d t w u r s xs x y) env a = tt
 here_if _ _ _ _ _ (Running.operation d t f es r xs x h y i) env a = tt
+here_if _ _ _ _ _ (Running.decided d t k op b es fs r xs i y h told) env a = tt
 here_if _ _ _ _ _ (Running.operand_stops d t f es r h x) env a = tt
 here_if _ _ _ _ _ (Running.read d t el r s at n c x y touches has told) env a = tt
+here_if _ _ _ _ _ (Running.read_nothing d t el r at n x y bare told) env a = tt
 here_if _ _ _ _ _ (Running.held d t el r x n y told) env a = tt
 here_if _ _ _ _ _ (Running.element_stops d t el r x) env a = tt
 here_if _ _ _ _ _ (Running.size_of_element d t k e el r y n h x told) env a = tt
+here_if _ _ _ _ _ (Running.size_noted d t k e n h) env a = tt
 here_if _ _ _ _ _ (Running.size d t k e n h told) env a = tt
 here_if _ _ _ _ _ (Running.result d t k callee xs r n x) env a = tt
 here_if _ _ _ _ _ (Running.call_stops d t k callee xs r x) env a = tt
@@ -363,10 +366,11 @@ here_if _ _ _ _ _ (Running.chosen d t l e r s n o h x y) env a = tt
 here_if _ _ _ _ _ (Running.passed_over d t l e r n h x) env a = tt
 here_if _ _ _ _ _ (Running.left_out d t l) env a = tt
 here_if _ _ _ _ _ (Running.alternation d t way l by r s xs o h k x y) env a = tt
+here_if _ _ _ _ _ (Running.shut d t l e g r n h x) env a = tt
 here_if _ _ _ _ _ (Running.waiting_stops d t way l by r h k x) env a = tt
 here_if _ _ _ _ _ (Running.idle d t l) env a = tt
 here_if _ _ _ _ _ (Running.lines_under d t way l r o h k x) env a = tt
-here_if _ _ _ _ _ (Running.replicates d t way l by r s base n i j o h k x noted y) env a = tt
+here_if _ _ _ _ _ (Running.replicates d t way l by r s base count i j o h k x noted y) env a = tt
 here_if _ _ _ _ _ (Running.replicator_stops d t way l by r h x) env a = tt
 here_if _ _ _ _ _ (Running.no_line d t way) env a = tt
 here_if _ _ _ _ _ (Running.with_specification d t way l ls names r s xs o h x y) env a = tt
@@ -740,14 +744,17 @@ covers _ _ _ _ _ (Running.first_stops d t w u r y) env a x i = inl (covers d t w
 covers _ _ _ _ _ (Running.second_stops d t w u r s xs y z) env a x (inl i) = inl (covers d t w r (Gave xs) y env a x i)
 covers _ _ _ _ _ (Running.second_stops d t w u r s xs y z) env a x (inr i) = inr (covers d t u s Stopped z env a x i)
 covers _ _ _ _ _ (Running.operation d t f es r xs n h y told) env a x i = operands_covered env d t f es x h (covers d t (evaluate es) r (Gave xs) y env a x i)
+covers _ _ _ _ _ (Running.decided d t k op b es fs r xs j y h told) env a x i = decided_covered env d t k op es fs x (covers d t (evaluate es) r (Gave xs) y env a x i)
 covers _ _ _ _ _ (Running.operand_stops d t f es r h y) env a x i = operands_covered env d t f es x h (covers d t (evaluate es) r Stopped y env a x i)
 covers _ _ _ _ _ (Running.read d t el r s at n c w y touches has told) env a x (inl i) = find_covered env d t el x (covers d t (Find el) r (Gave (Element at n ∷ [])) y env a x i)
 covers _ _ _ _ _ (Running.read d t el r s at n c w y touches has told) env a x (inr (inl i)) = read_touched env d t el at n s x (good d t (Find el) r (Gave (Element at n ∷ [])) y env a) touches i
 covers _ _ _ _ _ (Running.read d t el r s at n c w y touches has told) env a x (inr (inr i)) =
     read_covered env d t el at n x (good d t (Find el) r (Gave (Element at n ∷ [])) y env a) (ap (λ (f : Event). f.kind) i) (subst (λ (f : Event). Has at f.cell) (sym i) has)
+covers _ _ _ _ _ (Running.read_nothing d t el r at n w y bare told) env a x i = find_covered env d t el x (covers d t (Find el) r (Gave (Element at n ∷ [])) y env a x i)
 covers _ _ _ _ _ (Running.held d t el r w n y told) env a x i = find_covered env d t el x (covers d t (Find el) r (Gave (Held w n ∷ [])) y env a x i)
 covers _ _ _ _ _ (Running.element_stops d t el r y) env a x i = find_covered env d t el x (covers d t (Find el) r Stopped y env a x i)
 covers _ _ _ _ _ (Running.size_of_element d t k e el r y n h z told) env a x i = absurd i
+covers _ _ _ _ _ (Running.size_noted d t k e n h) env a x i = absurd i
 covers _ _ _ _ _ (Running.size d t k e n h told) env a x i = absurd i
 covers _ _ _ _ _ (Running.result d t k callee xs r n y) env a x i = covers d t (Call callee.spec xs) r (Gave []) y env a x i
 covers _ _ _ _ _ (Running.call_stops d t k callee xs r y) env a x i = covers d t (Call callee.spec xs) r Stopped y env a x i
@@ -800,16 +807,21 @@ covers _ _ _ _ _ (Running.passed_over d t l e r n h y) env a x i = λ line. cond
 covers _ _ _ _ _ (Running.left_out d t l) env a x i = absurd i
 covers _ _ _ _ _ (Running.alternation d t way l by r s xs o h k y z) env a x (inl i) = λ line. by_under env d t Waiting l (form.Block block.Alternation by) x h refl (covers d t (Under Waiting l) r (Gave xs) y env a x i)
 covers _ _ _ _ _ (Running.alternation d t way l by r s xs o h k y z) env a x (inr i) = λ line. by_under env d t Taken l (form.Block block.Alternation by) x h refl (covers d t (Under Taken l) s o z env a x i)
+covers _ _ _ _ _ (Running.shut d t l e g r n h y) env a x i = λ line.
+    let planned : plan Waiting (out-TypedLine l).form ≡ Some (Both (Evaluate (out-TypedExpr e)) (guard_waits g), Idle) = ap waiting_plan h in
+    line_covered env d t l x (planned_no_body Waiting (out-TypedLine l).form (Both (Evaluate (out-TypedExpr e)) (guard_waits g), Idle) planned)
+    (covered_left d t (form_uses (head_of l).form env (head_of l).place) (joined (components env (head_of l) (items_of (under l)))) x
+    (plan_covered env d t Waiting Idle (out-TypedLine l).form (Both (Evaluate (out-TypedExpr e)) (guard_waits g)) x planned (inl (covers d t (Evaluate (out-TypedExpr e)) r (Gave (Held (Some (v.Bool false)) n ∷ [])) y env a x i)) (head_of l).place))
 covers _ _ _ _ _ (Running.waiting_stops d t way l by r h k y) env a x i = λ line. by_under env d t Waiting l (form.Block block.Alternation by) x h refl (covers d t (Under Waiting l) r Stopped y env a x i)
 covers _ _ _ _ _ (Running.idle d t l) env a x i = absurd i
 covers _ _ _ _ _ (Running.lines_under d t way l r o h none y) env a x i =
     under_covered env d t way l (items_of (under l) env) x
     (λ k us g u j. subst (λ (cs : List (List Use)). IsOneOf (joined cs) u) (sym (plain_components env l h none)) (in_joined (items_of (under l) env) k us u g j))
     (covers d t (Pieces way 0 (works.items_of (out-TypedLine l).under)) r o y env a x i (items_of (under l) env) (items_allowed env (out-TypedLine l).under))
-covers _ _ _ _ _ (Running.replicates d t way l by r s base n f g o h enters y noted z) env a x (inl i) =
-    replicator_covered env d t way l by x h (covers d t (evaluate (by.base ∷ by.count ∷ [])) r (Gave (Held (Some (v.Int base)) f ∷ Held (Some (v.Int (pos n))) g ∷ [])) y env a x i)
-covers _ _ _ _ _ (Running.replicates d t way l by r s base n f g o h enters y noted z) env a x (inr i) =
-    rounds_covered env d t way l by base n x by.known h enters refl noted (covers d t (Pieces way 0 (rounds n 0 base (out-TypedLine l).under)) s o z env a x i)
+covers _ _ _ _ _ (Running.replicates d t way l by r s base count f g o h enters y noted z) env a x (inl i) =
+    replicator_covered env d t way l by x h (covers d t (evaluate (by.base ∷ by.count ∷ [])) r (Gave (Held (Some (v.Int base)) f ∷ Held (Some (v.Int count)) g ∷ [])) y env a x i)
+covers _ _ _ _ _ (Running.replicates d t way l by r s base count f g o h enters y noted z) env a x (inr i) =
+    rounds_covered env d t way l by base (rounds_in count) x by.known h enters refl noted (covers d t (Pieces way 0 (rounds (rounds_in count) 0 base (out-TypedLine l).under)) s o z env a x i)
 covers _ _ _ _ _ (Running.replicator_stops d t way l by r h y) env a x i = replicator_covered env d t way l by x h (covers d t (evaluate (by.base ∷ by.count ∷ [])) r Stopped y env a x i)
 covers _ _ _ _ _ (Running.no_line d t way) env a x i = absurd i
 covers _ _ _ _ _ (Running.with_specification d t way l ls names r s xs o h y z) env a x (inl i) = specified_covered env d t way l ls names x h (covers d t (Specify l) r (Gave xs) y env a x i)

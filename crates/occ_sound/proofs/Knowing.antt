@@ -40,7 +40,8 @@ use Rattle.occ_sound.proofs.Forms.{element_opened, expr_form, layer, selector_fo
 use Rattle.occ_sound.proofs.Lists.{length_last, one_same}
 use Rattle.occ_sound.proofs.Names.{FoundAs, agrees_then, declared_agree, name_found, agrees_same}
 use Rattle.occ_sound.proofs.Places.{component_lies, field_lies, named_lies, recast_lies, segment_lies}
-use Rattle.occ_sound.proofs.Values.{AreKnown, either_tells, int_known, known_first, known_tells, knows_tells, operation_known, operation_size, rest_known, size_tells}
+use Rattle.occ_sound.proofs.Values.{AreKnown, decided_known, either_tells, int_known, known_first, known_tells, knows_tells, operation_known, operation_size, rest_known, size_tells}
+use Rattle.occ_types.specs.declared.value.Value.TheVariants as v
 
 -- ---- selectors
 
@@ -313,6 +314,9 @@ plain_size_good env d k e n h t =
     let none : (expr_view e).size env ≡ None = ap (λ (w : ExprView). w.size env) (expr_form e) ∙ no_size env (out-TypedExpr e) h in
     (n, None, refl, either_tells k.value (size_value ((expr_view e).size env)) n t (subst (λ (z : Option ℤ). Tells (size_value z) n) (sym none) tt), tt)
 
+noted_size_good : (env : Env) (d : Scope) (k : Known) (e : TypedExpr) (n : Value) → k.value ≡ Some n → Good env d (Evaluate (TypedExpr-F.Size k e)) (Held (Some n) None ∷ [])
+noted_size_good env d k e n h = (Some n, None, refl, subst (λ (z : Option Value). Tells (known_or z (size_value ((expr_view e).size env))) (Some n)) (sym h) refl, tt)
+
 -- ---- specifications
 
 abbrev pub entered_as : Env → Head → List Use → Bool → List ScopeEntry → TypedForm → List Bound
@@ -432,11 +436,15 @@ good _ _ _ _ _ (Running.first_stops d t w u r x) env a = tt
 good _ _ _ _ _ (Running.second_stops d t w u r s xs x y) env a = tt
 good _ _ _ _ _ (Running.operation d t f es r xs x h y i) env a =
     (x, None, refl, operation_known env f es xs x h (evaluated env d es xs (good d t (evaluate es) r (Gave xs) y env a)) i, subst (λ (z : Option ℤ). Tells z None) (sym (operation_size env f es h)) tt)
+good _ _ _ _ _ (Running.decided d t k op b es fs r xs i x h told) env a =
+    (Some (v.Bool b), None, refl, decided_known env k op b es fs xs i (evaluated env d es xs (good d t (evaluate es) r (Gave xs) x env a)) h told, tt)
 good _ _ _ _ _ (Running.operand_stops d t f es r h x) env a = tt
 good _ _ _ _ _ (Running.read d t el r s at n c x y touches has told) env a = read_good env d el at n x (good d t (Find el) r (Gave (Element at n ∷ [])) y env a) told
+good _ _ _ _ _ (Running.read_nothing d t el r at n x y bare told) env a = read_good env d el at n x (good d t (Find el) r (Gave (Element at n ∷ [])) y env a) told
 good _ _ _ _ _ (Running.held d t el r x n y told) env a = held_good env d el x n (good d t (Find el) r (Gave (Held x n ∷ [])) y env a) told
 good _ _ _ _ _ (Running.element_stops d t el r x) env a = tt
 good _ _ _ _ _ (Running.size_of_element d t k e el r y n h x told) env a = size_good env d k e el y n h (good d t (Find el) r (Gave (y ∷ [])) x env a) told
+good _ _ _ _ _ (Running.size_noted d t k e n h) env a = noted_size_good env d k e n h
 good _ _ _ _ _ (Running.size d t k e n h told) env a = plain_size_good env d k e n h told
 good _ _ _ _ _ (Running.result d t k callee xs r n x) env a = (n, None, refl, tt, tt)
 good _ _ _ _ _ (Running.call_stops d t k callee xs r x) env a = tt
@@ -467,11 +475,12 @@ good _ _ _ _ _ (Running.condition_stops d t way l e r h x) env a = tt
 good _ _ _ _ _ (Running.chosen d t l e r s n o h x y) env a = main_good env d Choice l (of_process o)
 good _ _ _ _ _ (Running.passed_over d t l e r n h x) env a = tt
 good _ _ _ _ _ (Running.left_out d t l) env a = tt
+good _ _ _ _ _ (Running.shut d t l e g r n h x) env a = tt
 good _ _ _ _ _ (Running.alternation d t way l by r s xs o h k x y) env a = main_good env d way l (of_process o)
 good _ _ _ _ _ (Running.waiting_stops d t way l by r h k x) env a = tt
 good _ _ _ _ _ (Running.idle d t l) env a = tt
 good _ _ _ _ _ (Running.lines_under d t way l r o h k x) env a = under_good env d way l o
-good _ _ _ _ _ (Running.replicates d t way l by r s base n i j o h k x noted y) env a = under_good env d way l o
+good _ _ _ _ _ (Running.replicates d t way l by r s base count i j o h k x noted y) env a = under_good env d way l o
 good _ _ _ _ _ (Running.replicator_stops d t way l by r h x) env a = tt
 good _ _ _ _ _ (Running.no_line d t way) env a = item_good env d way [] (at_end way)
 good _ _ _ _ _ (Running.with_specification d t way l ls names r s xs o h x y) env a = item_good env d way (l ∷ ls) o

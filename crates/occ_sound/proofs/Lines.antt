@@ -39,6 +39,8 @@ use Rattle.occ_sound.proofs.Knowing.{Good, found_one, raw_value}
 use Rattle.occ_sound.proofs.Lists.{in_cases, no_more, some_same}
 use Rattle.occ_sound.proofs.Names.{FoundAs}
 use Rattle.occ_sound.proofs.Touching.{covered_left, covered_right, made_shared}
+use Rattle.occ_typing_operands.specs.declared.kind.Known.{Known}
+use Rattle.occ_types.specs.declared.constant.Operator.{Operator}
 
 -- ---- expressions, one after the other
 
@@ -67,6 +69,15 @@ operand_uses (TypedExpr-F.Call k callee actuals) es env line o = absurd cc
 
 pub operands_covered : (env : Env) (d : Scope) (t : Thread) (f : ExprForm) (es : List TypedExpr) (x : Event) → operands f ≡ Some es → CoveredWork (evaluate es) env d t x → CoveredWork (Evaluate f) env d t x
 operands_covered env d t f es x o h = λ line. subst (λ (us : List Use). Covered d t us x) (operand_uses f es env line o) (evaluated_covered env d t es x line h)
+
+-- the first of some operands
+first_covered : (env : Env) (d : Scope) (t : Thread) (es fs : List TypedExpr) (x : Event) → CoveredWork (evaluate es) env d t x → CoveredWork (evaluate (es ++ fs)) env d t x
+first_covered env d t [] fs x h = absurd h
+first_covered env d t (e ∷ es) fs x (inl h) = inl h
+first_covered env d t (e ∷ es) fs x (inr h) = inr (first_covered env d t es fs x h)
+
+pub decided_covered : (env : Env) (d : Scope) (t : Thread) (k : Known) (op : Operator) (es fs : List TypedExpr) (x : Event) → CoveredWork (evaluate es) env d t x → CoveredWork (Evaluate (TypedExpr-F.Operation k op (es ++ fs))) env d t x
+decided_covered env d t k op es fs x h = operands_covered env d t (TypedExpr-F.Operation k op (es ++ fs)) (es ++ fs) x refl (first_covered env d t es fs x h)
 
 -- ---- elements
 

@@ -50,7 +50,7 @@ use Rattle.occ_usage_values.specs.declared.bound.Bound.{Bound}
 use Rattle.occ_usage_values.specs.declared.bound.Bound.TheVariants as b
 use Rattle.occ_usage_values.specs.declared.call.Call.{Call as ACall}
 use Rattle.occ_running.specs.Works as works
-use Rattle.occ_running.specs.Works.{Piece, items_behind, behind_line, replicator_of, rounds}
+use Rattle.occ_running.specs.Works.{Piece, items_behind, behind_line, replicator_of, rounds, rounds_in}
 use Rattle.occ_sound.specs.Covering.{Allows, AllowsOne, AreIndices, item_uses}
 use Rattle.occ_sound.specs.Safe.{IsClean, IsCleanFormula, IsSilent, NoClash, Separate}
 use Rattle.occ_sound.proofs.Covers.{BroughtBodies, IsBrought}
@@ -72,7 +72,7 @@ use Rattle.occ_sound.proofs.Knowing.{entered_as, good}
 use Rattle.occ_sound.proofs.Lists.{and_both, get_below, in_got, length_last, none_some, take_length}
 use Rattle.occ_sound.proofs.Cells.{own_number}
 use Rattle.occ_sound.proofs.Names.{agrees_length, formals_agree, stands}
-use Rattle.occ_sound.proofs.Readying.{AllReady, ClashFree, IsCleanLine, IsReady, Ready, ReadyOne, bounds_ready, called_ready, evaluate_ready, expression_ready, finds_ready, form_under, line_ready, operands_ready, passing_ready, plan_ready, planned_under, read_ready, rest_ready, select_ready, silent_left, silent_right, specifying_ready}
+use Rattle.occ_sound.proofs.Readying.{AllReady, ClashFree, IsCleanLine, IsReady, Ready, ReadyOne, bounds_ready, called_ready, decided_ready, evaluate_ready, expression_ready, finds_ready, form_under, line_ready, operands_ready, passing_ready, plan_ready, planned_under, read_ready, rest_ready, select_ready, silent_left, silent_right, specifying_ready}
 use Rattle.occ_usage_conflicts.proofs.Clashing.{any_given}
 use Rattle.occ_usage_conflicts.specs.Bodies.{body_uses}
 use Rattle.occ_usage_conflicts.specs.ParallelRule.{clash, clash_between, conflict, counts, uses_clash}
@@ -574,11 +574,14 @@ free _ _ _ _ _ (Running.both d t w u r q xs ys y z) env line s h = (free d t w r
 free _ _ _ _ _ (Running.first_stops d t w u r y) env line s h = free d t w r Stopped y env line s h.0
 free _ _ _ _ _ (Running.second_stops d t w u r q xs y z) env line s h = (free d t w r (Gave xs) y env line s h.0, free d t u q Stopped z env line s h.1)
 free _ _ _ _ _ (Running.operation d t f es r xs x k y i) env line s h = free d t (evaluate es) r (Gave xs) y env line s (operands_ready d line env f es k h)
+free _ _ _ _ _ (Running.decided d t k op b es fs r xs i y g told) env line s h = free d t (evaluate es) r (Gave xs) y env line s (decided_ready d line env k op es fs h)
 free _ _ _ _ _ (Running.operand_stops d t f es r k y) env line s h = free d t (evaluate es) r Stopped y env line s (operands_ready d line env f es k h)
 free _ _ _ _ _ (Running.read d t el r q at n c x y touches has told) env line s h = (free d t (Find el) r (Gave (Element at n ∷ [])) y env line s (read_ready d line env el h), (touches_free kind.Read (Element at n ∷ []) q touches, tt))
+free _ _ _ _ _ (Running.read_nothing d t el r at n x y bare told) env line s h = free d t (Find el) r (Gave (Element at n ∷ [])) y env line s (read_ready d line env el h)
 free _ _ _ _ _ (Running.held d t el r x n y told) env line s h = free d t (Find el) r (Gave (Held x n ∷ [])) y env line s (read_ready d line env el h)
 free _ _ _ _ _ (Running.element_stops d t el r y) env line s h = free d t (Find el) r Stopped y env line s (read_ready d line env el h)
 free _ _ _ _ _ (Running.size_of_element d t k e el r y n g x told) env line s h = tt
+free _ _ _ _ _ (Running.size_noted d t k e n g) env line s h = tt
 free _ _ _ _ _ (Running.size d t k e n g told) env line s h = tt
 free _ _ _ _ _ (Running.result d t k callee xs r n y) env line s h = free d t (Call callee.spec xs) r (Gave []) y env line s h
 free _ _ _ _ _ (Running.call_stops d t k callee xs r y) env line s h = free d t (Call callee.spec xs) r Stopped y env line s h
@@ -634,12 +637,15 @@ free _ _ _ _ _ (Running.alternation d t way l by r q xs o k f y z) env line s h 
   free d t (Under Waiting l) r (Gave xs) y env line s (form_under env d Waiting l (form.Block block.Alternation by) line k refl (λ comps. tt) h.0 h.1),
   free d t (Under Taken l) q o z env line s (form_under env d Taken l (form.Block block.Alternation by) line k refl (λ comps. tt) h.0 h.1),
 )
+free _ _ _ _ _ (Running.shut d t l e g r n k y) env line s h =
+    free d t (Evaluate (out-TypedExpr e)) r (Gave (Held (Some (v.Bool false)) n ∷ [])) y env (head_of l).place s
+    (plan_ready env d (head_of l).place Waiting Idle (out-TypedLine l).form (Both (Evaluate (out-TypedExpr e)) (guard_waits g)) (ap waiting_plan k) (line_ready env d l h.0 h.1)).0
 free _ _ _ _ _ (Running.waiting_stops d t way l by r k f y) env line s h = free d t (Under Waiting l) r Stopped y env line s (form_under env d Waiting l (form.Block block.Alternation by) line k refl (λ comps. tt) h.0 h.1)
 free _ _ _ _ _ (Running.idle d t l) env line s h = tt
 free _ _ _ _ _ (Running.lines_under d t way l r o k none y) env line s h = free d t (Pieces way 0 (works.items_of (out-TypedLine l).under)) r o y env line s (under_ready env d way l line k none h)
-free _ _ _ _ _ (Running.replicates d t way l by r q base n f g o k enters y noted z) env line s h = (
-  free d t (evaluate (by.base ∷ by.count ∷ [])) r (Gave (Held (Some (v.Int base)) f ∷ Held (Some (v.Int (pos n))) g ∷ [])) y env (head_of l).place s (bounds_of_ready env d way l by line k h),
-  free d t (Pieces way 0 (rounds n 0 base (out-TypedLine l).under)) q o z env line s (rounds_of_ready env d way l by base n line by.known k enters refl noted h),
+free _ _ _ _ _ (Running.replicates d t way l by r q base count f g o k enters y noted z) env line s h = (
+  free d t (evaluate (by.base ∷ by.count ∷ [])) r (Gave (Held (Some (v.Int base)) f ∷ Held (Some (v.Int count)) g ∷ [])) y env (head_of l).place s (bounds_of_ready env d way l by line k h),
+  free d t (Pieces way 0 (rounds (rounds_in count) 0 base (out-TypedLine l).under)) q o z env line s (rounds_of_ready env d way l by base (rounds_in count) line by.known k enters refl noted h),
 )
 free _ _ _ _ _ (Running.replicator_stops d t way l by r k y) env line s h = free d t (evaluate (by.base ∷ by.count ∷ [])) r Stopped y env (head_of l).place s (bounds_of_ready env d way l by line k h)
 free _ _ _ _ _ (Running.no_line d t way) env line s h = tt

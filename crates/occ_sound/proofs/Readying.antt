@@ -66,6 +66,8 @@ use Rattle.occ_sound.specs.Covering.{AreIndices, item_uses}
 use Rattle.occ_sound.specs.Safe.{IsClean, IsSilent, NoClash, Separate}
 use Rattle.occ_sound.proofs.Items.{own_uses, planned_no_body, under_in_line}
 use Rattle.occ_sound.proofs.Keeping.{NoAlias, same_number, separate_in, separate_left, separate_right}
+use Rattle.occ_typing_operands.specs.declared.kind.Known.{Known}
+use Rattle.occ_types.specs.declared.constant.Operator.{Operator}
 
 -- ---- silence
 
@@ -258,6 +260,14 @@ operand_calls (TypedExpr-F.Call k callee actuals) es env line o = absurd cc
 pub operands_ready : (d : Scope) (line : Location) (env : Env) (f : ExprForm) (es : List TypedExpr) → operands f ≡ Some es → Ready (Evaluate f) env d line → Ready (evaluate es) env d line
 operands_ready d line env f es h r =
     evaluate_ready d line env es (ready_same d line env ((form_view f).uses env line) (each_uses es env line) ((form_view f).calls env line) (each_calls es env line) (sym (operand_uses f es env line h)) (sym (operand_calls f es env line h)) r)
+
+-- the first of some operands
+first_ready : (d : Scope) (line : Location) (env : Env) (es fs : List TypedExpr) → Ready (evaluate (es ++ fs)) env d line → Ready (evaluate es) env d line
+first_ready d line env [] fs h = tt
+first_ready d line env (e ∷ es) fs h = (h.0, first_ready d line env es fs h.1)
+
+pub decided_ready : (d : Scope) (line : Location) (env : Env) (k : Known) (op : Operator) (es fs : List TypedExpr) → Ready (Evaluate (TypedExpr-F.Operation k op (es ++ fs))) env d line → Ready (evaluate es) env d line
+decided_ready d line env k op es fs h = first_ready d line env es fs (operands_ready d line env (TypedExpr-F.Operation k op (es ++ fs)) (es ++ fs) refl h)
 
 -- an element that is read
 pub read_ready : (d : Scope) (line : Location) (env : Env) (el : TypedElement) → Ready (Evaluate (TypedExpr-F.Element el)) env d line → Ready (Find el) env d line

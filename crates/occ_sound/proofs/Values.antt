@@ -1,13 +1,15 @@
 -- Values of expressions, as far as the rules know them.
-use Rattle.std.proofs.Common.{inl, inr, ◌≡◌, ℕ, Bool, true, false, ap, sym, subst, ◌∙◌, refl, arith, List, [], ◌∷◌, Option, Some, None}
-use Rattle.std.specs.Prelude.{ℤ, pos, ◌+ℤ◌, ◌-ℤ◌, Result, Ok, Err, if◌then◌else◌}
+use Rattle.std.proofs.Common.{inl, inr, ◌≡◌, ℕ, Bool, true, false, ap, sym, subst, ◌∙◌, refl, arith, List, [], ◌∷◌, ◌++◌, Option, Some, None}
+use Rattle.std.specs.Prelude.{ℤ, pos, ◌&&◌, ◌||◌, ◌+ℤ◌, ◌-ℤ◌, Result, Ok, Err, if◌then◌else◌}
 use Rattle.std.proofs.lemmas.Int.{ints}
 use Rattle.occ_types.specs.Constant as constant
+use Rattle.occ_types.specs.Constant.{is_true, number_of}
 use Rattle.occ_types.specs.Fits.{unnamed}
 use Rattle.occ_types.specs.View.{as_primitive}
 use Rattle.occ_types.specs.declared.constant.ConstFault.{ConstFault}
 use Rattle.occ_types.specs.declared.constant.Monadic.{Monadic}
 use Rattle.occ_types.specs.declared.constant.Operator.{Operator}
+use Rattle.occ_types.specs.declared.constant.Operator.TheVariants as operator
 use Rattle.occ_types.specs.declared.value.Primitive.{Primitive}
 use Rattle.occ_types.specs.declared.value.Value.{Value}
 use Rattle.occ_types.specs.declared.value.Value.TheVariants as v
@@ -20,7 +22,7 @@ use Rattle.occ_usage_values.specs.Values.{both, converted_base, converted_to, fo
 use Rattle.occ_usage_values.specs.Views.{expr_view, expr_views, folded_all, values_of}
 use Rattle.occ_running.specs.Scopes.{Body, Clock, Element, Formal, Formula, Held, Other, Shown, Stored, Thing}
 use Rattle.occ_running.specs.Works as works
-use Rattle.occ_running.specs.Works.{ExprForm, IsNumber, IsRest, IsValue, Tells, computed, converted_by, count_value, folded, given_by, given_by_two, noted, operands, or_else, value_in, whole_count, without_fault}
+use Rattle.occ_running.specs.Works.{Decides, ExprForm, IsDeciding, IsNumber, IsRest, IsValue, Tells, computed, converted_by, count_value, folded, given_by, given_by_two, noted, operands, or_else, value_in, whole_count, without_fault}
 use Rattle.occ_sound.specs.Agreeing.{Knows}
 use Rattle.occ_sound.specs.Covering.{form_view}
 use Rattle.occ_sound.proofs.Lists.{some_same}
@@ -66,6 +68,35 @@ converted_tells None a a2 h = tt
 converted_tells (Some p) None a2 h = tt
 converted_tells (Some p) (Some x) a2 h = subst (λ (z : Option Value). Tells (if_good (constant.converted p x)) (given_by (constant.converted p) z)) (sym h) (good_tells (constant.converted p x))
 
+-- ---- operands that decide
+
+and_false : (t : Bool) → Some (v.Bool false) ≡ Some (v.Bool (t && false))
+and_false true = refl
+and_false false = refl
+
+or_true : (t : Bool) → Some (v.Bool true) ≡ Some (v.Bool (t || true))
+or_true true = refl
+or_true false = refl
+
+-- with a deciding operand on the left or on the right
+decides_left : (op : Operator) (b : Bool) (found y : Option Value) → IsDeciding op b → Tells found (Some (v.Bool b)) → Tells (both op found y) (Some (v.Bool b))
+decides_left op b None y k h = tt
+decides_left op b (Some x) None k h = tt
+decides_left _ _ (Some x) (Some y) works.false_of_and h = subst (λ (z : Value). Tells (both operator.And (Some z) (Some y)) (Some (v.Bool false))) (some_same (v.Bool false) x h) refl
+decides_left _ _ (Some x) (Some y) works.true_of_or h = subst (λ (z : Value). Tells (both operator.Or (Some z) (Some y)) (Some (v.Bool true))) (some_same (v.Bool true) x h) refl
+
+decides_right : (op : Operator) (b : Bool) (found y : Option Value) → IsDeciding op b → Tells y (Some (v.Bool b)) → Tells (both op found y) (Some (v.Bool b))
+decides_right op b None y k h = tt
+decides_right op b (Some x) None k h = tt
+decides_right _ _ (Some x) (Some y) works.false_of_and h =
+    subst (λ (z : Value). Tells (both operator.And (Some x) (Some z)) (Some (v.Bool false))) (some_same (v.Bool false) y h) (and_false (is_true (number_of x)))
+decides_right _ _ (Some x) (Some y) works.true_of_or h =
+    subst (λ (z : Value). Tells (both operator.Or (Some x) (Some z)) (Some (v.Bool true))) (some_same (v.Bool true) y h) (or_true (is_true (number_of x)))
+
+stays_decided : (env : Env) (op : Operator) (b : Bool) (found : Option Value) (es : List TypedExpr) → IsDeciding op b → Tells found (Some (v.Bool b)) → Tells (folded_after op found (values_of (expr_views es)) env) (Some (v.Bool b))
+stays_decided env op b found [] k h = h
+stays_decided env op b found (e ∷ es) k h = stays_decided env op b (both op found ((expr_view e).value env)) es k (decides_left op b found ((expr_view e).value env) k h)
+
 -- ---- expressions, one after the other
 
 abbrev pub AreKnown : Env → List TypedExpr → List Thing → Type 0
@@ -98,6 +129,30 @@ all_tell : (env : Env) (op : Operator) (es : List TypedExpr) (xs : List Thing) �
 all_tell env op [] xs k = tt
 all_tell env op (e ∷ es) [] k = absurd k
 all_tell env op (e ∷ es) (x ∷ xs) k = let first = known_first env e es x xs k in folded_tells env op ((expr_view e).value env) (value_in x) es xs first.0 first.1
+
+operand_decides : (a b c : Option Value) → Tells a b → b ≡ c → Tells a c
+operand_decides a b c h i = subst (λ (z : Option Value). Tells a z) i h
+
+decided_after : (env : Env) (op : Operator) (b : Bool) (found : Option Value) (es fs : List TypedExpr) (xs : List Thing) → IsDeciding op b → AreKnown env es xs → Decides b xs
+    → Tells (folded_after op found (values_of (expr_views (es ++ fs))) env) (Some (v.Bool b))
+decided_after env op b found es fs [] k a h = absurd h
+decided_after env op b found [] fs (x ∷ xs) k a h = absurd a
+decided_after env op b found (e ∷ es) fs (x ∷ xs) k a (inl h) =
+    stays_decided env op b (both op found ((expr_view e).value env)) (es ++ fs) k
+    (decides_right op b found ((expr_view e).value env) k (operand_decides ((expr_view e).value env) (value_in x) (Some (v.Bool b)) (known_first env e es x xs a).0 h))
+decided_after env op b found (e ∷ es) fs (x ∷ xs) k a (inr h) = decided_after env op b (both op found ((expr_view e).value env)) es fs xs k (known_first env e es x xs a).1 h
+
+all_decided : (env : Env) (op : Operator) (b : Bool) (es fs : List TypedExpr) (xs : List Thing) → IsDeciding op b → AreKnown env es xs → Decides b xs → Tells (folded_all op (expr_views (es ++ fs)) env) (Some (v.Bool b))
+all_decided env op b es fs [] k a h = absurd h
+all_decided env op b [] fs (x ∷ xs) k a h = absurd a
+all_decided env op b (e ∷ es) fs (x ∷ xs) k a (inl h) =
+    stays_decided env op b ((expr_view e).value env) (es ++ fs) k (operand_decides ((expr_view e).value env) (value_in x) (Some (v.Bool b)) (known_first env e es x xs a).0 h)
+all_decided env op b (e ∷ es) fs (x ∷ xs) k a (inr h) = decided_after env op b ((expr_view e).value env) es fs xs k (known_first env e es x xs a).1 h
+
+-- what a deciding operand gives is what the rules know of it
+pub decided_known : (env : Env) (k : Known) (op : Operator) (b : Bool) (es fs : List TypedExpr) (xs : List Thing) → IsDeciding op b → AreKnown env es xs → Decides b xs → Tells k.value (Some (v.Bool b))
+    → Tells ((form_view (TypedExpr-F.Operation k op (es ++ fs))).value env) (Some (v.Bool b))
+decided_known env k op b es fs xs i a h told = either_tells k.value (folded_all op (expr_views (es ++ fs)) env) (Some (v.Bool b)) told (all_decided env op b es fs xs i a h)
 
 applied_tells : (env : Env) (op : Monadic) (e : TypedExpr) (x : Known) (xs : List Thing) → AreKnown env (e ∷ []) xs → Tells (one op ((expr_view e).value env)) (computed (TypedExpr-F.Applied x op e) xs)
 applied_tells env op e x [] k = absurd k

@@ -16,7 +16,7 @@ pub data Opens : List TypedLine → Scope → Scope → TypedLine → Type 0 whe
   later : (l : TypedLine) (ls : List TypedLine) (names : List ScopeEntry) (d e : Scope) (m : TypedLine) (r : Run) (xs : List Thing)
       → (out-TypedLine l).adds ≡ Some names → Does d [] (Specify l) r (Gave xs) → Opens ls (d ++ xs) e m → Opens (l ∷ ls) d e m
 
--- the head of a PROC or a FUNCTION
+-- The head of a PROC or a FUNCTION, with the body under it. A FUNCTION of one line is none, nor is a VAL line.
 abbrev pub IsHead : TypedLine → Type 0
 IsHead l = ((out-TypedLine l).form ≡ form.ProcedureHead) ⊎ ((out-TypedLine l).form ≡ form.FunctionHead)
 
@@ -33,7 +33,7 @@ pub record ArePassedApart (xs : List Thing) : Type 0 where
 abbrev pub body_work : TypedLine → Work
 body_work l = Pieces InTurn 0 (items_of (out-TypedLine l).under)
 
--- It is called from outside with these, and has no race, however it runs and however far; so has none of its executions.
+-- It is called from outside with these, and has no race, however it runs and however far. So no execution has one, which follows.
 pub record NeverRaces (d : Scope) (l : TypedLine) (xs : List Thing) : Type 0 where
   pub runs : (r : Run) (o : Outcome) → Does (d ++ formals_of xs) (InCall ∷ []) (body_work l) r o → RaceFree r
   pub executions : (before : Store) (events : List Event) (x : Execution (d ++ formals_of xs) (InCall ∷ []) (body_work l) before events) → RaceFree x.run
