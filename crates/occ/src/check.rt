@@ -3,7 +3,7 @@ use super::disk::{Machine, read_text};
 use super::failing::{does_fail, status};
 use super::printing::print_all;
 use occ_base::Grade;
-use occ_files::{Gathered, Group, Refusal, gather, groups};
+use occ_files::{Disk, Gathered, Group, Refusal, gather, groups};
 use occ_files_check::{CheckFault, Checked, check_texts};
 use occ_files_words::Checking;
 use occ_messages::Message;
@@ -38,6 +38,12 @@ pub fn check(rt: &HostRuntime, asked: &Checking) -> io::Result<u8> {
         fails: false,
         is_trouble: refuse(rt, found.refusals.as_slice())?,
     };
+    for folder in &asked.folders {
+        findings.is_trouble |= lacks_folder(rt, &machine, folder.as_str())?;
+    }
+    for path in &paths {
+        findings.is_trouble |= lacks_files(rt, &machine, path.as_str(), &found.groups)?;
+    }
     for group in &found.groups {
         check_group(rt, &machine, asked, group, &mut findings)?;
     }
@@ -78,6 +84,41 @@ fn refuse(rt: &HostRuntime, refusals: &[Refusal]) -> io::Result<bool> {
         eprintln!(rt; "error: {path}: {why}")?;
     }
     Ok(!refusals.is_empty())
+}
+
+/// Tells that a folder in which files are looked for is none, if so it is; no text is the present folder.
+fn lacks_folder(rt: &HostRuntime, machine: &Machine<'_>, folder: &str) -> io::Result<bool> {
+    if folder.is_empty() || matches!(machine.list(rt.alloc(), folder), Ok(Some(_))) {
+        return Ok(false);
+    }
+    eprintln!(rt; "error: {folder}: there is no such folder")?;
+    Ok(true)
+}
+
+/// Tells that a path which is asked for is a folder without files, if so it is.
+fn lacks_files(
+    rt: &HostRuntime,
+    machine: &Machine<'_>,
+    path: &str,
+    groups: &[Group],
+) -> io::Result<bool> {
+    let has_files = groups.iter().any(|group| {
+        group
+            .paths
+            .iter()
+            .any(|file| is_inside(file.as_str(), path))
+    });
+    if has_files || !matches!(machine.list(rt.alloc(), path), Ok(Some(_))) {
+        return Ok(false);
+    }
+    eprintln!(rt; "error: {path}: no file in this folder or below it ends in .occ")?;
+    Ok(true)
+}
+
+/// Whether a file is in a folder or below it.
+fn is_inside(file: &str, folder: &str) -> bool {
+    file.strip_prefix(folder)
+        .is_some_and(|rest| rest.starts_with('/'))
 }
 
 /// Checks the files of a folder with all that they use and include.

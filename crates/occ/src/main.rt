@@ -10,7 +10,7 @@ use check::check;
 use failing::{CLEAN, ERRORS, TROUBLE};
 use occ_base::Code;
 use occ_files_words::{Asked, WordsFault, read_words};
-use occ_messages::{code_named, explained};
+use occ_messages::{CODES, code_named, explained};
 use std::alloc::AllocError;
 use std::env;
 use std::io::{self, ErrorKind};
@@ -59,18 +59,28 @@ fn unread(rt: &HostRuntime) -> Result<WordsFault, AllocError> {
     Ok(WordsFault::Refused(text))
 }
 
-/// Prints the entry of a code.
+/// Prints the entry of a code, which may be written in small letters.
 fn explain(rt: &HostRuntime, text: &str) -> io::Result<u8> {
-    match code_named(text) {
+    match code_named(text.to_ascii_uppercase(rt.alloc())?.as_str()) {
         Some(code) => tell(rt, code),
         None => {
-            let (first, last) = (Code::G1.as_str(), Code::F1.as_str());
+            let codes = all_codes(rt)?;
             eprint!(rt;
-                "error: there is no code '{text}'; the first is {first}, the last {last}\n\nUsage: occ explain <CODE>\n"
+                "error: there is no code '{text}'; the codes are{codes}\n\nUsage: occ explain <CODE>\n"
             )?;
             Ok(TROUBLE)
         }
     }
+}
+
+/// All codes, with a blank before each.
+fn all_codes(rt: &HostRuntime) -> Result<String, AllocError> {
+    let mut text = String::new(rt.alloc());
+    for code in CODES {
+        text.push(' ')?;
+        text.push_str(code.as_str())?;
+    }
+    Ok(text)
 }
 
 /// Prints the entry of a code.

@@ -85,8 +85,9 @@ fn with_values<'a>(alloc: Global, command: Command<'a>) -> Result<Command<'a>, A
     let name = Arg::new(alloc, "NAME")
         .long("stdin-filename")
         .action(ArgAction::Set)
-        .default_value("stdin.occ")
-        .help("the path that standard input has");
+        .help(
+            "the path that standard input has, for a FILE that is -; stdin.occ if it is left out",
+        );
     let files = Arg::new(alloc, "FILE")
         .required(true)
         .action(ArgAction::Append)
@@ -170,6 +171,14 @@ fn no_file(alloc: Global) -> Result<WordsFault, AllocError> {
     )?))
 }
 
+/// A path for standard input, which no file is.
+fn no_input(alloc: Global) -> Result<WordsFault, AllocError> {
+    Ok(WordsFault::Refused(String::from_str(
+        alloc,
+        "error: --stdin-filename is the path of a FILE that is -, and there is none\n\nUsage: occ check [OPTIONS] <FILE>...\n",
+    )?))
+}
+
 /// What the words after `check` ask for.
 fn check_of(alloc: Global, words: &ArgMatches<'_>) -> Result<Asked, WordsFault>
     ensures { IfOk result (λ asked. IsAllowed asked) }
@@ -179,7 +188,11 @@ fn check_of(alloc: Global, words: &ArgMatches<'_>) -> Result<Asked, WordsFault>
         return Err(no_file(alloc)?);
     }
     let folders = texts(alloc, words.get_strs("FOLDER").unwrap_or(&[]))?;
-    let stdin_path = String::from_str(alloc, words.get_str("NAME").unwrap_or("stdin.occ"))?;
+    let name = words.get_str("NAME");
+    if name.is_some() && !files.iter().any(|file| file.as_str() == "-") {
+        return Err(no_input(alloc)?);
+    }
+    let stdin_path = String::from_str(alloc, name.unwrap_or("stdin.occ"))?;
     Ok(Asked::Check(Checking {
         files,
         folders,

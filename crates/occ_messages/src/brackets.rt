@@ -1,9 +1,19 @@
 //! What is wrong with brackets: those that do not balance, and operators that want some.
-use super::spelling::after_assignment;
-use super::text::{closed, count};
+use super::spelling::is_reserved;
+use super::text::{closed, count, first_word, has_word, is_word_byte, next_word};
 use super::told::{Place, Told};
 use std::alloc::{AllocError, Global};
 use std::str;
+
+/// Words before or after which an expression stands.
+const ENDS: [&str; 9] = [
+    "FOR", "FROM", "IS", "RETYPES", "RESHAPES", "WHILE", "IF", "CASE", "RESULT",
+];
+
+/// Operators in words, beside those that `is_reserved` knows.
+const OPERATORS: [&str; 7] = [
+    "TIMES", "REM", "BITAND", "BITOR", "BITNOT", "MOSTPOS", "MOSTNEG",
+];
 
 /// Tells what is wrong with the brackets of a line.
 pub fn brackets(alloc: Global, place: Place<'_>, told: &mut Told) -> Result<(), AllocError> {
@@ -14,14 +24,7 @@ pub fn brackets(alloc: Global, place: Place<'_>, told: &mut Told) -> Result<(), 
     if told.is_said() {
         return Ok(());
     }
-    if let Some(hint) = mixed(alloc, place.said)? {
-        told.say(String::from_str(
-            alloc,
-            "two operators stand beside one another without brackets, and none comes before the other",
-        )?);
-        told.help(hint)?;
-    }
-    Ok(())
+    mixed(alloc, place.said, told)
 }
 
 /// Tells that not so many brackets of a kind are opened as are closed, if so it is.
@@ -81,44 +84,159 @@ fn first_cut(bytes: &[u8]) -> Option<Cut<'_>> {
     None
 }
 
-/// How the operands of two operators are put in brackets, in a line or within the brackets that it has.
-fn mixed(alloc: Global, said: &[u8]) -> Result<Option<String>, AllocError> {
-    if let Some(hint) = mixed_in(alloc, after_assignment(said))? {
-        return Ok(Some(hint));
-    }
+/// Tells which operators of a line want brackets: of the line itself, or else of what it has in brackets.
+fn mixed(alloc: Global, said: &[u8], told: &mut Told) -> Result<(), AllocError> {
+    mixed_among(alloc, said, is_replicated(said), told)?;
     let mut rest = said;
     for _ in 0..said.len() {
+        if told.is_said() {
+            break;
+        }
         let Some(at) = rest.iter().position(|b| *b == b'(' || *b == b'[') else {
             break;
         };
         let (_, from) = rest.split_at(at);
         let (_, inside) = from.split_at(1);
-        if let Some(hint) = mixed_in(alloc, closed(inside).0)? {
-            return Ok(Some(hint));
-        }
+        mixed_among(alloc, closed(inside).0, false, told)?;
         rest = inside;
     }
-    Ok(None)
+    Ok(())
 }
 
-/// How the operands of two operators that are in no brackets are put in some.
-fn mixed_in(alloc: Global, whole: &[u8]) -> Result<Option<String>, AllocError> {
-    let Some(first) = first_cut(whole) else {
-        return Ok(None);
+/// Whether a statement has a replicator.
+fn is_replicated(said: &[u8]) -> bool {
+    matches!(first_word(said), b"SEQ" | b"PAR" | b"PRI" | b"ALT" | b"IF") && has_word(said, b"FOR")
+}
+
+/// Tells which operators want brackets in the first of some expressions in which two do.
+fn mixed_among(
+    alloc: Global,
+    whole: &[u8],
+    is_replicated: bool,
+    told: &mut Told,
+) -> Result<(), AllocError> {
+    let mut rest = whole;
+    for _ in 0..whole.len() {
+        if told.is_said() {
+            break;
+        }
+        let (expression, more) = next_expression(rest, is_replicated);
+        mixed_in(alloc, expression, told)?;
+        rest = more;
+    }
+    Ok(())
+}
+
+/// What is before the first word or sign in no brackets that ends an expression, and what is after it.
+fn next_expression(bytes: &[u8], is_replicated: bool) -> (&[u8], &[u8]) {
+    let mut open = 0usize;
+    for (at, b) in bytes.iter().enumerate() {
+        match b {
+            b'(' | b'[' => open = open.saturating_add(1),
+            b')' | b']' => open = open.saturating_sub(1),
+            _ if open == 0 => {
+                let (front, from) = bytes.split_at(at);
+                let length = ending(front, from, is_replicated);
+                if length > 0 {
+                    return (front, from.get(length..).unwrap_or(&[]));
+                }
+            }
+            _ => {}
+        }
+    }
+    (bytes, &[])
+}
+
+/// How many bytes the word or the sign has that ends an expression there; 0 if none does.
+fn ending(front: &[u8], from: &[u8], is_replicated: bool) -> usize {
+    let is_inside = front.last().is_some_and(|b| is_word_byte(*b));
+    match from {
+        [b':', b'=', ..] => 2,
+        [b'!' | b'?' | b';' | b',' | b':' | b'&', ..] => 1,
+        [b'=', ..] if is_replicated => 1,
+        _ if !is_inside && ENDS.iter().any(|word| word.as_bytes() == first_word(from)) => {
+            first_word(from).len()
+        }
+        _ => 0,
+    }
+}
+
+/// Tells that two operators of an expression want brackets, if so it is, and which there may be.
+fn mixed_in(alloc: Global, expression: &[u8], told: &mut Told) -> Result<(), AllocError> {
+    let Some(first) = first_cut(expression) else {
+        return Ok(());
     };
     let Some(second) = first_cut(first.right) else {
-        return Ok(None);
+        return Ok(());
     };
-    let (left, one) = (trimmed(first.left), trimmed(first.operator));
-    let (middle, two) = (trimmed(second.left), trimmed(second.operator));
-    let right = trimmed(second.right);
-    let may_follow = one == two && (one == "+" || one == "*");
-    if may_follow || left.contains(',') || middle.contains(',') {
-        return Ok(None);
+    let (one, two) = (trimmed(first.operator), trimmed(second.operator));
+    if one == two && (one == "+" || one == "*") {
+        return Ok(());
     }
-    Ok(Some(format!(in alloc;
+    told.say(String::from_str(
+        alloc,
+        "two operators stand beside one another without brackets, and none comes before the other",
+    )?);
+    let operands = [first.left, second.left, second.right];
+    if !are_operands(alloc, operands)? {
+        return Ok(());
+    }
+    let [left, middle, right] = operands;
+    let (left, middle, right) = (trimmed(left), trimmed(middle), trimmed(right));
+    told.help(format!(in alloc;
         "brackets say which is meant: `{left} {one} ({middle} {two} {right})` or `({left} {one} {middle}) {two} {right}`"
-    )?))
+    )?)
+}
+
+/// Whether all of these are operands.
+fn are_operands(alloc: Global, all: [&[u8]; 3]) -> Result<bool, AllocError> {
+    for bytes in all {
+        if !is_operand(outside(alloc, bytes)?.as_slice()) {
+            return Ok(false);
+        }
+    }
+    Ok(true)
+}
+
+/// Whether what is in no brackets of some bytes is one operand: no operator and no word of occam is there.
+fn is_operand(outside: &[u8]) -> bool {
+    !outside.iter().any(|b| {
+        matches!(
+            b,
+            b'+' | b'-' | b'*' | b'/' | b'\\' | b'<' | b'>' | b'=' | b'~' | b'"' | b'\''
+        )
+    }) && !has_operator(outside)
+}
+
+/// Whether one of the words is an operator or another word of occam.
+fn has_operator(said: &[u8]) -> bool {
+    let mut rest = said;
+    for _ in 0..said.len() {
+        let Some((word, more)) = next_word(rest) else {
+            break;
+        };
+        let is_value = word == b"TRUE".as_slice() || word == b"FALSE".as_slice();
+        if is_reserved(word) && !is_value || OPERATORS.iter().any(|it| it.as_bytes() == word) {
+            return true;
+        }
+        rest = more;
+    }
+    false
+}
+
+/// The bytes that are in no brackets.
+fn outside(alloc: Global, bytes: &[u8]) -> Result<Vec<u8>, AllocError> {
+    let mut outside = Vec::new(alloc);
+    let mut open = 0usize;
+    for b in bytes {
+        match b {
+            b'(' | b'[' => open = open.saturating_add(1),
+            b')' | b']' => open = open.saturating_sub(1),
+            _ if open == 0 => outside.push(*b)?,
+            _ => {}
+        }
+    }
+    Ok(outside)
 }
 
 /// Bytes as text, without blanks around.

@@ -5,8 +5,8 @@ use super::numbers::{Constant, Part, constants, meeting, parts};
 use super::rounds::{Rounds, common, elements, rounds_of};
 use super::spelling::is_reserved;
 use super::text::{
-    Lines, Numbered, after_word, closed, has, has_word, last_word, next_item, next_word, statement,
-    whole_statement,
+    Lines, Numbered, after_word, closed, column, has, has_word, is_skipped, last_word, next_item,
+    next_word, statement, whole_statement,
 };
 use super::told::{Place, Told, shown};
 use super::uses::{Use, is_of, uses};
@@ -333,7 +333,10 @@ fn swapped(
     picked: &[Use],
     told: &mut Told,
 ) -> Result<(), AllocError> {
-    if place.code == Code::U1 || has_end(alloc, place, place.name, place.code == Code::U3)? {
+    if place.code == Code::U1
+        || has_end(alloc, place, place.name, place.code == Code::U3)?
+        || !is_within(alloc, place, place.name)?
+    {
         return Ok(());
     }
     for one in picked {
@@ -365,6 +368,57 @@ fn has_end(
     )
 }
 
+/// Whether a channel is declared before a PAR, and no line outside of that uses it.
+fn is_within(alloc: Global, place: Place<'_>, name: &[u8]) -> Result<bool, AllocError> {
+    let Some(found) = specified_by(alloc, place.lines, place.number, name)? else {
+        return Ok(false);
+    };
+    let said = statement(alloc, found.line)?;
+    if !is_declaration(said.as_slice()) {
+        return Ok(false);
+    }
+    let between = place.lines.between(found.number, place.number);
+    Ok(!any_has(alloc, between, name)? && !is_used_behind(alloc, place, found, name)?)
+}
+
+/// Whether a statement declares channels.
+fn is_declaration(said: &[u8]) -> bool {
+    has_word(said, b"CHAN") && said.ends_with(b":") && !has_word(said, b"IS")
+}
+
+/// Whether one of some lines has a name.
+fn any_has(alloc: Global, lines: &[&[u8]], name: &[u8]) -> Result<bool, AllocError> {
+    for line in lines {
+        if has_word(statement(alloc, line)?.as_slice(), name) {
+            return Ok(true);
+        }
+    }
+    Ok(false)
+}
+
+/// Whether a line behind a PAR has a name that a line before it declares.
+fn is_used_behind(
+    alloc: Global,
+    place: Place<'_>,
+    declared: Numbered<'_>,
+    name: &[u8],
+) -> Result<bool, AllocError> {
+    let mut is_behind = false;
+    for line in place.lines.after(place.number) {
+        if is_skipped(line) {
+            continue;
+        }
+        if column(line) < column(declared.line) {
+            break;
+        }
+        is_behind = is_behind || column(line) <= column(place.line);
+        if is_behind && has_word(statement(alloc, line)?.as_slice(), name) {
+            return Ok(true);
+        }
+    }
+    Ok(false)
+}
+
 /// Another actual of a call that has two of the ends that the reported channel lacks, and none of the others.
 fn other_end<'a>(
     alloc: Global,
@@ -382,7 +436,10 @@ fn other_end<'a>(
             continue;
         }
         let has_lacking = has_end(alloc, place, actual, is_input)?;
-        if has_lacking && !has_end(alloc, place, actual, !is_input)? {
+        if has_lacking
+            && !has_end(alloc, place, actual, !is_input)?
+            && is_within(alloc, place, actual)?
+        {
             return Ok(actual);
         }
     }

@@ -2,7 +2,7 @@
 use super::declared::add_number;
 use super::text::{
     Lines, Numbered, column, first_word, has, has_word, is_skipped, line_after, line_before,
-    line_behind, number_of, parent,
+    line_behind, number_of, parent, statement,
 };
 use super::told::{Place, Told};
 use std::alloc::{AllocError, Global};
@@ -41,8 +41,8 @@ pub fn depth(alloc: Global, place: Place<'_>, told: &mut Told) -> Result<(), All
                 "this line is too deep: what is under line {number} begins two blanks further in than that"
             )?);
         }
-        before => {
-            if let Some(words) = around(place, depth, before) {
+        _ => {
+            if let Some(words) = around(alloc, place, depth)? {
                 told.say(String::from_str(alloc, words)?);
             }
         }
@@ -51,7 +51,26 @@ pub fn depth(alloc: Global, place: Place<'_>, told: &mut Told) -> Result<(), All
 }
 
 /// What is wrong with the lines around one that is not too deep.
-fn around(place: Place<'_>, depth: usize, before: Option<Numbered<'_>>) -> Option<&'static str> {
+fn around(
+    alloc: Global,
+    place: Place<'_>,
+    depth: usize,
+) -> Result<Option<&'static str>, AllocError> {
+    Ok(if let Some(words) = under_head(place) {
+        Some(words)
+    } else if takes_lines(place.said) && !is_deeper(line_after(place.lines, place.number), depth) {
+        Some("what belongs to this line stands under it, two blanks further in, and is missing")
+    } else if is_under_choice(place) {
+        Some(choice(place))
+    } else if lacks_sequence(alloc, place, depth)? {
+        Some("no `SEQ` stands over this line and the process before it")
+    } else {
+        None
+    })
+}
+
+/// What is wrong with a tab, or with what stands under a head.
+fn under_head(place: Place<'_>) -> Option<&'static str> {
     if place.line.starts_with(b"\t") {
         Some("a tab goes to the next multiple of 8 columns, and each level is two columns")
     } else if has_word(place.said, b"FUNCTION") {
@@ -60,27 +79,53 @@ fn around(place: Place<'_>, depth: usize, before: Option<Numbered<'_>>) -> Optio
         )
     } else if is_head(place.said) {
         Some("under this head stand declarations, each ended by `:`, and then one process")
-    } else if takes_lines(place.said) && !is_deeper(line_after(place.lines, place.number), depth) {
-        Some("what belongs to this line stands under it, two blanks further in, and is missing")
-    } else if is_under_choice(place) {
-        Some(choice(place))
-    } else if before.is_some_and(|before| column(before.line) >= depth) {
-        Some("no `SEQ` stands over this line and the process before it")
     } else {
         None
     }
 }
 
+/// Whether a process stands before a line in its column, and nothing over them takes several.
+fn lacks_sequence(alloc: Global, place: Place<'_>, depth: usize) -> Result<bool, AllocError> {
+    if let Some(parent) = parent(place.lines, place.number)
+        && matches!(
+            first_word(parent.line.trim_ascii()),
+            b"SEQ" | b"PAR" | b"PRI"
+        )
+    {
+        return Ok(false);
+    }
+    match last_in(place.lines, place.number, depth) {
+        Some(before) => Ok(!statement(alloc, before.line)?.as_slice().ends_with(b":")),
+        None => Ok(false),
+    }
+}
+
+/// The nearest line above in a column, with no line between that is less far in.
+fn last_in(lines: Lines<'_>, number: u32, depth: usize) -> Option<Numbered<'_>> {
+    for (at, line) in lines.before(number).iter().enumerate().rev() {
+        if is_skipped(line) || column(line) > depth {
+            continue;
+        }
+        if column(line) < depth {
+            break;
+        }
+        let number = number_of(at);
+        return Some(Numbered { number, line });
+    }
+    None
+}
+
 /// What stands under the choice that a line is under.
 fn choice(place: Place<'_>) -> &'static str {
-    if !is_deeper(line_after(place.lines, place.number), column(place.line)) {
-        return "the process of this line is missing: it stands under it, two blanks further in";
-    }
     let said = match parent(place.lines, place.number) {
         Some(parent) => parent.line.trim_ascii(),
         None => &[],
     };
-    if said.starts_with(b"IF") {
+    if said.starts_with(b"IF") && is_process(place.said) {
+        "a condition stands here, with its process under it, two blanks further in"
+    } else if !is_deeper(line_after(place.lines, place.number), column(place.line)) {
+        "the process of this line is missing: it stands under it, two blanks further in"
+    } else if said.starts_with(b"IF") {
         "under `IF` stand conditions, each with its process under it, two blanks further in"
     } else if has(said, b"CASE") {
         "under `CASE` stand options, each with its process under it, two blanks further in"
@@ -89,6 +134,15 @@ fn choice(place: Place<'_>) -> &'static str {
     } else {
         "under `ALT` stand guards, each with its process under it, two blanks further in"
     }
+}
+
+/// Whether a statement is surely a process and no condition.
+fn is_process(said: &[u8]) -> bool {
+    said == b"SKIP".as_slice()
+        || said == b"STOP".as_slice()
+        || has(said, b":=")
+        || said.contains(&b'!')
+        || said.contains(&b'?')
 }
 
 /// Whether a line is under one that takes conditions, guards or options.

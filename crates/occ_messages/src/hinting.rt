@@ -6,8 +6,8 @@ use super::mismatch::{conditions, numbers, operands, wanted_type};
 use super::protocol::{message, no_channel};
 use super::scope::{not_in_scope, operand_lines};
 use super::specifics::{
-    abbreviation, effect, not_constant, replicated, sizes, sort, specification, twice, unchanged,
-    unfinished,
+    abbreviation, effect, library, not_constant, replicated, sizes, sort, specification, twice,
+    unchanged, unfinished,
 };
 use super::spelling::written;
 use super::subscripts::outside;
@@ -44,6 +44,7 @@ pub fn told_of(alloc: Global, diag: &Diag, lines: Lines<'_>) -> Result<Told, All
 /// Tells what a line says more than a code.
 fn tell(alloc: Global, place: Place<'_>, told: &mut Told) -> Result<(), AllocError> {
     match place.code {
+        Code::G1 => library(alloc, place, told),
         Code::L1 | Code::S1 => form(alloc, place, told),
         Code::L2 => blanks(alloc, place, told),
         Code::L3 => unfinished(alloc, place, told),

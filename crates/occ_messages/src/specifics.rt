@@ -13,6 +13,35 @@ use std::alloc::{AllocError, Global};
 /// How many components a PAR may have at most.
 const PAR_LIMIT: i64 = 256;
 
+/// Tells that a library has neither a list nor a unit.
+pub fn library(alloc: Global, place: Place<'_>, told: &mut Told) -> Result<(), AllocError> {
+    let name = shown(alloc, place.name)?;
+    let stem = name.as_str().strip_suffix(".occ").unwrap_or("");
+    if !is_library(place.line, stem.as_bytes()) {
+        return Ok(());
+    }
+    told.say(format!(in alloc; "neither `{stem}.lbb` nor `{stem}.occ` is there")?);
+    Ok(())
+}
+
+/// Whether a line names the library of that stem.
+fn is_library(line: &[u8], stem: &[u8]) -> bool {
+    let mut rest = line;
+    for _ in 0..line.len() {
+        let Some((word, more)) = next_word(rest) else {
+            break;
+        };
+        if word
+            .strip_suffix(b".lib")
+            .is_some_and(|front| front == stem)
+        {
+            return true;
+        }
+        rest = more;
+    }
+    false
+}
+
 /// Shows where the reported name is specified.
 pub fn specification(alloc: Global, place: Place<'_>, told: &mut Told) -> Result<(), AllocError> {
     match specified_by(alloc, place.lines, place.number, place.name)? {

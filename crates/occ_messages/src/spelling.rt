@@ -324,6 +324,8 @@ fn shape_hint(place: Place<'_>) -> Option<&'static str> {
         Some("an IF has no ELSE: its last condition is `TRUE`")
     } else if said == b"VALOF".as_slice() {
         Some(valof_hint(place))
+    } else if said == b"CASE".as_slice() && !is_under_protocol(place) {
+        Some("a `CASE` has in its line what it chooses by: `CASE x`")
     } else if said == b":".as_slice() {
         Some("a `:` closes a PROC, a FUNCTION, a PROTOCOL or a DATA TYPE, in the column of that")
     } else if is_equation(place) {
@@ -338,6 +340,12 @@ fn shape_hint(place: Place<'_>) -> Option<&'static str> {
     } else {
         None
     }
+}
+
+/// Whether a line is under the head of a PROTOCOL.
+fn is_under_protocol(place: Place<'_>) -> bool {
+    parent(place.lines, place.number).is_some_and(|parent| first_word(parent.line.trim_ascii())
+        == b"PROTOCOL".as_slice())
 }
 
 /// What is wrong with a VALOF.

@@ -258,14 +258,14 @@ PROC p ()
             code: Code::S3,
             title: "over 64 open brackets or dimensions",
             named: "",
-            why: "64 is the limit.",
+            why: "Brackets may be open 64 deep, and a type has 64 dimensions at most.",
             body: r#""#,
         },
         Code::S4 => Entry {
             code: Code::S4,
             title: "over 64 levels",
             named: "",
-            why: "64 is the limit.",
+            why: "Lines may stand 64 levels deep.",
             body: r#""#,
         },
         Code::N1 => Entry {
