@@ -1,5 +1,5 @@
 -- The number that a checkpoint tells.
-use Rattle.std.proofs.Common.{◌≡◌, ◌∙◌, ℕ, ap}
+use Rattle.std.proofs.Common.{◌≡◌, ap}
 use Rattle.occ_board.specs.Machine.{Answer, Event, State, answer, checkpoint_answer, number_of}
 use Rattle.occ_board.specs.declared.base.Cut.{Cut}
 

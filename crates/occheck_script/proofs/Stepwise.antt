@@ -1,7 +1,6 @@
 -- The board job by job.
 use Rattle.std.proofs.Common.{◌≡◌, ◌∙◌, ℕ, zero, suc, Bool, true, false, Option, Some, None, refl, ap, sym, subst}
-use Rattle.occ_board.specs.Machine.{State, after, take_answer}
-use Rattle.occ_board.specs.Machine.Event.{Finish, Take}
+use Rattle.occ_board.specs.Machine.{State, take_answer}
 use Rattle.occ_board.specs.Rules.{Input}
 use Rattle.occheck_script.specs.Settling.{settled_in, with_next}
 use Rattle.occheck_script.specs.inside.Seen.{IsNext}

@@ -1,4 +1,4 @@
-use Rattle.std.proofs.Common.{◌≡◌, ◌∙◌, Option, ap, sym}
+use Rattle.std.proofs.Common.{◌∙◌, Option, ap, sym}
 use Rattle.occ_board.specs.Rules.{Input}
 use Rattle.occheck_script.specs.Machine.{after_drop}
 use Rattle.occheck_script.proofs.Holding.{always, none_held, same_desk}
