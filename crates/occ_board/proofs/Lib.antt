@@ -10,7 +10,6 @@ pub mod Settled
 pub mod Rests
 pub mod Stands
 pub mod Zipped
-pub mod Spelled
 pub mod Nexts
 pub mod Shows
 pub mod Edits

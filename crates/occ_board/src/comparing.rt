@@ -4,10 +4,9 @@ ghost use Rattle.std.specs.Option.{option_copied};
 ghost use Rattle.std.specs.Str.{bytes_eq};
 ghost use Rattle.std.specs.Prelude.{◌≡◌, ◌↔◌, IsTrue};
 
-use super::sources::source_law;
 use occ_base::Shared;
 use occ_check::{Job, Used, UsedUnit};
-use occ_forms::Source;
+use occ_forms::{Source, source_law};
 use occ_project::Read;
 use occ_types::{Export, Formal, FormalUse, Interface, OccType, PartSelector, same_type};
 

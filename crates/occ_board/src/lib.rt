@@ -17,7 +17,6 @@ pub mod laws;
 mod present;
 mod report;
 pub mod rows;
-mod sources;
 mod taking;
 mod touched;
 mod touching;

@@ -5,6 +5,7 @@ pub mod NoForm
 pub mod Once
 pub mod OneTree
 pub mod Results
+pub mod OneSource
 pub mod Starts
 pub mod Types
 pub mod Classes

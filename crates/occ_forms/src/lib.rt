@@ -35,7 +35,7 @@ mod tree;
 mod typed;
 mod value;
 
-pub use laws::one_form_law;
+pub use laws::{one_form_law, source_law};
 pub use parse::{LineFault, form};
 pub use preparation::prepare;
 pub use rows::{action_rows, body_rows, construct_rows, part_rows, tagged_rows};

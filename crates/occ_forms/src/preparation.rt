@@ -75,7 +75,7 @@ fn source(alloc: Global, text: &[u8], logicals: &[Logical]) -> Result<Source, Al
     ensures lines { IfOk result (λ source. IsPrepared text.now source.lines) }
     ensures only { IfOk result (λ source. (lines : List ASourceLine) → IsPrepared text.now lines → lines ≡ source.lines) }
 {
-    let lines = formed_lines(alloc, logicals)?;
+    let lines = Shared::new(alloc, formed_lines(alloc, logicals)?)?;
     let listed = shared_list(alloc, text)?;
     let text = Items::from_slice(alloc, text)?;
     Ok(Source::of(text, lines, listed))

@@ -2,10 +2,13 @@
 ghost use Rattle.occ_forms.specs.Prepared.{IsPrepared};
 ghost use Rattle.occ_lines.specs.Listing.{listed as spec_listed};
 ghost use Rattle.std.specs.Option.{option_copied};
-ghost use Rattle.std.specs.Prelude.{◌≡◌};
+ghost use Rattle.std.specs.Prelude.{◌≡◌, IfOk, IfSome, IsTrue};
 
+use super::laws::source_law;
 use super::tree::Form;
 use occ_base::{Code, FileName, Items, Shared};
+use occ_lines::are_alike;
+use std::alloc::{AllocError, Global};
 use std::marker::Model;
 
 /// What a line of a prepared text holds.
@@ -36,7 +39,8 @@ pub struct SourceLine {
 /// them, if it is a list.
 pub struct Source {
     text: Items<u8>,
-    lines: Items<SourceLine>,
+    /// Shared, since texts that differ in skipped lines alone have the same.
+    lines: Shared<Items<SourceLine>>,
     listed: Option<Shared<Items<FileName>>>,
 }
 
@@ -75,7 +79,7 @@ impl Source {
     /// The source of a text, its lines and what it lists.
     pub(crate) fn of(
         text: Items<u8>,
-        lines: Items<SourceLine>,
+        lines: Shared<Items<SourceLine>>,
         listed: Option<Shared<Items<FileName>>>,
     ) -> Source
         requires lines { IsPrepared text lines }
@@ -102,7 +106,7 @@ impl Source {
         ensures value { result.now ≡ self.now.lines }
         ensures prepared { IsPrepared self.now.text self.now.lines }
     {
-        self.lines.as_slice()
+        self.lines.get().as_slice()
     }
 
     /// The units that the text lists, each at its first place; nothing, if a line of it names no file.
@@ -117,5 +121,33 @@ impl Source {
         ensures { option_copied result ≡ spec_listed self.now.text }
     {
         self.listed.as_ref()
+    }
+
+    /// Whether this text and that of another source differ in skipped lines alone, so that both have the same lines and list the
+    /// same units. Of texts that differ otherwise it says nothing.
+    pub fn is_alike(&self, other: &Source) -> bool
+        ensures lines { IsTrue result → self.now.lines ≡ other.now.lines }
+        ensures listed { IsTrue result → spec_listed self.now.text ≡ spec_listed other.now.text }
+    {
+        source_law();
+        are_alike(self.text.as_slice(), other.text.as_slice())
+    }
+
+    /// The source of a text that differs from this one's in skipped lines alone. It shares the lines and what they list. Of texts that
+    /// differ otherwise it makes none.
+    pub fn again(&self, alloc: Global, text: &[u8]) -> Result<Option<Source>, AllocError>
+        ensures text { IfOk result (λ found. IfSome found (λ source. source.text ≡ text.now)) }
+        ensures lines { IfOk result (λ found. IfSome found (λ source. source.lines ≡ self.now.lines)) }
+    {
+        if !are_alike(self.text.as_slice(), text) {
+            return Ok(None);
+        }
+        let lines = self.lines.share()?;
+        let listed = match &self.listed {
+            Some(units) => Some(units.share()?),
+            None => None,
+        };
+        let text = Items::from_slice(alloc, text)?;
+        Ok(Some(Source::of(text, lines, listed)))
     }
 }

@@ -170,7 +170,7 @@ pieces_read number (piece ∷ pieces) xs h =
     let more = pieces_read (number + length piece) pieces h.1 h.3 in
     subst (λ (ys : List Logical). AreLogical None number (piece ++ joined pieces) ys) (sym h.4) (piece_read number piece (joined pieces) h.0 h.1 h.2 more)
 
-cut_read : (text : List ℕ) (xs : List Logical) → IsLines text xs → AreRead text xs
+pub cut_read : (text : List ℕ) (xs : List Logical) → IsLines text xs → AreRead text xs
 unfolding IsLines
 cut_read text xs h = subst (λ (lines : List (List ℕ)). AreLogical None 1 lines xs) (sym h.1) (pieces_read 1 h.0 xs h.2)
 

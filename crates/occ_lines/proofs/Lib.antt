@@ -9,3 +9,4 @@ pub mod Spelled
 pub mod Begun
 pub mod Cut
 pub mod Lists
+pub mod SameLines

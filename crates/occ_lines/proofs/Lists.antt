@@ -1,5 +1,5 @@
 -- The names of lists of libraries, and what such lists have.
-use Rattle.std.proofs.Common.{◌≡◌, ◌≤◌, ◌<◌, ◌∙◌, ◌+◌, ◌-◌, ◌&&◌, ◌||◌, ℕ, Bool, true, false, cond, not, codes, List, [], ◌∷◌, ◌++◌, get_or, length, map, take, Option, Some, None, nat_eq, nat_le, refl, sym, ap, append-nil, arith}
+use Rattle.std.proofs.Common.{◌≡◌, ◌≤◌, ◌<◌, ◌∙◌, ◌+◌, ◌-◌, ◌&&◌, ◌||◌, ℕ, Bool, true, false, cond, not, codes, List, [], ◌∷◌, ◌++◌, get_or, length, map, take, Option, Some, None, nat_eq, nat_le, refl, sym, ap, append-nil, append_assoc, arith}
 use Rattle.std.specs.List.{AllByRecursion, ends_with, filter, list_all, suffix_len}
 use Rattle.std.specs.Option.{is_none, unwrap_or}
 use Rattle.std.specs.Str.{bytes_eq}
@@ -15,7 +15,7 @@ use Rattle.occ_base.specs.declared.file_name.NameFault.TheVariants as fault
 use Rattle.occ_lines.specs.Directive.{unit_name, without_suffix}
 use Rattle.occ_lines.specs.Lexeme.{is_blank}
 use Rattle.occ_lines.specs.Lines.{is_skipped}
-use Rattle.occ_lines.specs.Listing.{list_of, listed, name_on, trimmed, units_on}
+use Rattle.occ_lines.specs.Listing.{listed, name_on, names_on, names_unit, trimmed}
 
 -- what is left of a name that has no fault
 named_by : (a b c : Bool) → cond a (cond b (cond c None (Some fault.Suffix)) (Some fault.Byte)) (Some fault.Length) ≡ None → (a ≡ true) × (b ≡ true)
@@ -61,59 +61,55 @@ trimmed_at text n within blanks stops =
     let is : n ≡ length text - suffix_len is_blank text = omega (arith, tail, within) in
     ap (λ (k : ℕ). take k text) is
 
--- the units on lines, line by line
-pub skips : (line : List ℕ) (lines : List (List ℕ)) → is_skipped line ≡ true → units_on (line ∷ lines) ≡ units_on lines
-skips line lines h = ap (λ (b : Bool). map (λ x. unit_name (name_on x)) (cond (not b) (line ∷ filter (λ x. not (is_skipped x)) lines) (filter (λ x. not (is_skipped x)) lines))) h
-
-pub names : (line : List ℕ) (lines : List (List ℕ)) → is_skipped line ≡ false → units_on (line ∷ lines) ≡ unit_name (name_on line) ∷ units_on lines
-names line lines h = ap (λ (b : Bool). map (λ x. unit_name (name_on x)) (cond (not b) (line ∷ filter (λ x. not (is_skipped x)) lines) (filter (λ x. not (is_skipped x)) lines))) h
-
-abbrev pub AreNamed : List (List ℕ) → Type 0
-AreNamed units = list_all (λ unit. is_none (name_fault unit)) units ≡ true
-
-second_none : (a b c : Bool) → b ≡ false → (a && (b && c)) ≡ false
-second_none true true c h = absurd cc
-second_none true false c h = refl
-second_none false b c h = refl
-
--- one that is no file name makes lines none
-pub no_list : (units : List (List ℕ)) (unit : List ℕ) (more : List (List ℕ)) → is_none (name_fault unit) ≡ false → list_of (units ++ unit ∷ more) ≡ None
-no_list units unit more h =
-    let p : List ℕ → Bool = λ u. is_none (name_fault u) in
-    let none : list_all p (units ++ unit ∷ more) ≡ false = list_all-append p units (unit ∷ more) ∙ second_none (list_all p units) (p unit) (list_all p more) h in
-    ap (λ (b : Bool). cond b (Some (first_indices (units ++ unit ∷ more))) None) none
-
-pub whole_list : (units : List (List ℕ)) → AreNamed units → list_of units ≡ Some (first_indices units)
-whole_list units h = ap (λ (b : Bool). cond b (Some (first_indices units)) None) h
-
-both_true : (a b c : Bool) → a ≡ true → b ≡ true → (a && (b && true)) ≡ true
-both_true true true c h k = refl
-both_true true false c h k = absurd cc
-both_true false b c h k = absurd cc
-
-pub one_more_named : (units : List (List ℕ)) (unit : List ℕ) → AreNamed units → is_none (name_fault unit) ≡ true → AreNamed (units ++ unit ∷ [])
-one_more_named units unit h k =
-    let p : List ℕ → Bool = λ u. is_none (name_fault u) in
-    list_all-append p units (unit ∷ []) ∙ both_true (list_all p units) (p unit) true h k
-
 -- the lines of a text
 abbrev pub lines_in : List ℕ → List (List ℕ)
 lines_in text = map without_terminator (lines_of text)
 
--- a line that names no file is met
-pub broken : (text : List ℕ) (lines rest units : List (List ℕ)) (line : List ℕ) → lines ≡ line ∷ rest → is_skipped line ≡ false → units ++ units_on lines ≡ units_on (lines_in text) → is_none (name_fault (unit_name (name_on line))) ≡ false
-    → None ≡ listed text
+-- the names on lines, line by line
+pub skips : (line : List ℕ) (lines : List (List ℕ)) → is_skipped line ≡ true → names_on (line ∷ lines) ≡ names_on lines
+skips line lines h = ap (λ (b : Bool). map name_on (cond (not b) (line ∷ filter (λ x. not (is_skipped x)) lines) (filter (λ x. not (is_skipped x)) lines))) h
+
+pub names : (line : List ℕ) (lines : List (List ℕ)) → is_skipped line ≡ false → names_on (line ∷ lines) ≡ name_on line ∷ names_on lines
+names line lines h = ap (λ (b : Bool). map name_on (cond (not b) (line ∷ filter (λ x. not (is_skipped x)) lines) (filter (λ x. not (is_skipped x)) lines))) h
+
+-- what lines list behind these units
+abbrev pub rest_listed : List (List ℕ) → List (List ℕ) → Option (List (List ℕ))
+rest_listed units names = cond (list_all names_unit names) (Some (first_indices (units ++ map unit_name names))) None
+
+-- what a text lists, of which these units stand on lines before and the others on these lines
+abbrev pub Goes : List ℕ → List (List ℕ) → List (List ℕ) → Type 0
+Goes text units lines = listed text ≡ rest_listed units (names_on lines)
+
+pub goes_begins : (text : List ℕ) (units : List (List ℕ)) (lines : List (List ℕ)) → units ≡ [] → lines ≡ lines_in text → Goes text units lines
 unfolding listed
-broken text lines rest units line l s e n =
-    let stands : units ++ unit_name (name_on line) ∷ units_on rest ≡ units_on (lines_in text) = ap (λ (us : List (List ℕ)). units ++ us) (sym (ap units_on l ∙ names line rest s)) ∙ e in
-    sym (no_list units (unit_name (name_on line)) (units_on rest) n) ∙ ap list_of stands
+goes_begins text units lines h k = rw h (rw k refl)
+
+-- a skipped line is passed
+pub goes_skips : (text : List ℕ) (units : List (List ℕ)) (line : List ℕ) (lines rest : List (List ℕ)) → lines ≡ line ∷ rest → is_skipped line ≡ true → Goes text units lines → Goes text units rest
+goes_skips text units line lines rest l s e = e ∙ ap (λ (ls : List (List ℕ)). rest_listed units (names_on ls)) l ∙ ap (rest_listed units) (skips line rest s)
+
+at_named : (units : List (List ℕ)) (line : List ℕ) (lines rest : List (List ℕ)) → lines ≡ line ∷ rest → is_skipped line ≡ false → rest_listed units (names_on lines) ≡ rest_listed units (name_on line ∷ names_on rest)
+at_named units line lines rest l s = ap (λ (ls : List (List ℕ)). rest_listed units (names_on ls)) l ∙ ap (rest_listed units) (names line rest s)
+
+-- a line that names a unit is passed
+pub goes_on : (text : List ℕ) (units more : List (List ℕ)) (line unit : List ℕ) (lines rest : List (List ℕ)) → lines ≡ line ∷ rest → is_skipped line ≡ false → unit ≡ unit_name (name_on line) → names_unit (name_on line) ≡ true
+    → more ≡ units ++ unit ∷ [] → Goes text units lines → Goes text more rest
+goes_on text units more line unit lines rest l s u n m e =
+    let all = names_on rest in
+    let so : rest_listed units (name_on line ∷ all) ≡ rest_listed more all =
+    ap (λ (b : Bool). cond (b && list_all names_unit all) (Some (first_indices (units ++ unit_name (name_on line) ∷ map unit_name all))) None) n
+    ∙ ap (λ (us : List (List ℕ)). cond (list_all names_unit all) (Some (first_indices us)) None) (ap (λ (x : List ℕ). units ++ x ∷ map unit_name all) (sym u) ∙ sym (append_assoc units (unit ∷ []) (map unit_name all)) ∙ ap (λ (us : List (List ℕ)). us ++ map unit_name all) (sym m)) in
+    e ∙ at_named units line lines rest l s ∙ so
+
+-- a line that names no unit is met
+pub broken : (text : List ℕ) (units : List (List ℕ)) (line : List ℕ) (lines rest : List (List ℕ)) → lines ≡ line ∷ rest → is_skipped line ≡ false → names_unit (name_on line) ≡ false → Goes text units lines → None ≡ listed text
+broken text units line lines rest l s n e =
+    let all = names_on rest in
+    sym (e ∙ at_named units line lines rest l s ∙ ap (λ (b : Bool). cond (b && list_all names_unit all) (Some (first_indices (units ++ unit_name (name_on line) ∷ map unit_name all))) None) n)
 
 -- no line is left
-pub finished : (text : List ℕ) (lines units : List (List ℕ)) → lines ≡ [] → AreNamed units → units ++ units_on lines ≡ units_on (lines_in text) → Some (first_indices units) ≡ listed text
-unfolding listed
-finished text lines units l n e =
-    let stands : units ≡ units_on (lines_in text) = sym (append-nil units) ∙ ap (λ (ls : List (List ℕ)). units ++ units_on ls) (sym l) ∙ e in
-    sym (whole_list units n) ∙ ap list_of stands
+pub finished : (text : List ℕ) (units lines : List (List ℕ)) → lines ≡ [] → Goes text units lines → Some (first_indices units) ≡ listed text
+finished text units lines l e = sym (e ∙ ap (λ (ls : List (List ℕ)). rest_listed units (names_on ls)) l ∙ ap (λ (us : List (List ℕ)). Some (first_indices us)) (append-nil units))
 
 -- ---- what is listed are units
 
@@ -127,12 +123,9 @@ unit_ends_so front =
 abbrev IsName : List ℕ → Type 0
 IsName name = is_unit name ≡ true
 
-units_named : (lines : List (List ℕ)) → AllByRecursion IsName (units_on lines)
+units_named : (names : List (List ℕ)) → AllByRecursion IsName (map unit_name names)
 units_named [] = tt
-units_named (line ∷ lines) = by (is_skipped line) (units_named lines) where
-  by : (b : Bool) → AllByRecursion IsName (units_on lines) → AllByRecursion IsName (map (λ x. unit_name (name_on x)) (cond (not b) (line ∷ filter (λ x. not (is_skipped x)) lines) (filter (λ x. not (is_skipped x)) lines)))
-  by true more = more
-  by false more = (unit_ends_so (without_suffix (name_on line)), more)
+units_named (name ∷ names) = (unit_ends_so (without_suffix name), units_named names)
 
 all_filtered : {X : Type 0} (P : X → Type 0) (f : X → Bool) (xs : List X) → AllByRecursion P xs → AllByRecursion P (filter f xs)
 all_filtered P f [] h = tt
@@ -147,7 +140,7 @@ firsts_named (name ∷ names) h = (h.0, all_filtered IsName (λ other. not (byte
 
 pub listed_named : (text : List ℕ) → AllByRecursion (λ unit. is_unit unit ≡ true) (unwrap_or (listed text) [])
 unfolding listed
-listed_named text = by (list_all (λ unit. is_none (name_fault unit)) (units_on (lines_in text))) where
-  by : (b : Bool) → AllByRecursion IsName (unwrap_or (cond b (Some (first_indices (units_on (lines_in text)))) None) [])
-  by true = firsts_named (units_on (lines_in text)) (units_named (lines_in text))
+listed_named text = by (list_all names_unit (names_on (lines_in text))) where
+  by : (b : Bool) → AllByRecursion IsName (unwrap_or (cond b (Some (first_indices (map unit_name (names_on (lines_in text))))) None) [])
+  by true = firsts_named (map unit_name (names_on (lines_in text))) (units_named (names_on (lines_in text)))
   by false = tt

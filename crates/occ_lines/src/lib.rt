@@ -2,6 +2,7 @@
 //! `specs/Lines.antt` says what a text spells; `logical` reads it. A text may also be a list of units: `listed` reads that.
 #![tactic(auto)]
 
+mod alike;
 mod blanks;
 mod directive;
 mod ending;
@@ -17,6 +18,7 @@ mod text;
 mod token;
 mod tokens;
 
+pub use alike::are_alike;
 pub use listing::listed;
 pub use reader::{logical, text_fault};
 pub use rows::{

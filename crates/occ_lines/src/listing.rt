@@ -1,9 +1,8 @@
 //! The units that a text lists, one on each line. `docs/LANGUAGE.md, Lists of units`.
-ghost use Rattle.std.specs.Option.{is_none};
+ghost use Rattle.std.specs.List.{list_any};
 ghost use Rattle.std.specs.Prelude.{◌≡◌, IfOk, MatchOption, false, true};
-ghost use Rattle.occ_base.specs.FileName.{name_fault};
 ghost use Rattle.occ_lines.specs.Directive.{unit_name as spec_unit_name};
-ghost use Rattle.occ_lines.specs.Listing.{before_comment as spec_before_comment, listed as spec_listed, name_on as spec_name_on, trimmed as spec_trimmed};
+ghost use Rattle.occ_lines.specs.Listing.{before_comment as spec_before_comment, is_broken_by, listed as spec_listed, name_on as spec_name_on, names_unit, trimmed as spec_trimmed};
 
 use super::blanks::{after_blanks, is_blank, is_end};
 use super::directive::unit_name;
@@ -42,11 +41,22 @@ fn name_on(line: &[u8]) -> &[u8]
     trimmed(before_comment(after_blanks(line)))
 }
 
-/// The unit on a line that is not skipped, if its name is a file name.
-fn unit_on(alloc: Global, line: &[u8]) -> Result<Option<FileName>, AllocError>
-    ensures { IfOk result (λ found. MatchOption found (is_none (name_fault (spec_unit_name (spec_name_on line.now))) ≡ false) (λ unit. (unit ≡ spec_unit_name (spec_name_on line.now)) × (is_none (name_fault unit) ≡ true))) }
+/// Whether a name has a blank or a CR inside.
+fn is_broken(name: &[u8]) -> bool
+    ensures { result ≡ list_any is_broken_by name.now }
 {
-    let unit = unit_name(alloc, name_on(line))?;
+    name.iter().any(|b| is_blank(*b) || *b == b'\r')
+}
+
+/// The unit on a line that is not skipped, if it names one.
+fn unit_on(alloc: Global, line: &[u8]) -> Result<Option<FileName>, AllocError>
+    ensures { IfOk result (λ found. MatchOption found (names_unit (spec_name_on line.now) ≡ false) (λ unit. (unit ≡ spec_unit_name (spec_name_on line.now)) × (names_unit (spec_name_on line.now) ≡ true))) }
+{
+    let name = name_on(line);
+    if is_broken(name) {
+        return Ok(None);
+    }
+    let unit = unit_name(alloc, name)?;
     Ok(FileName::read(unit.as_slice()).ok())
 }
 

@@ -160,6 +160,8 @@ pub fn listing_rows()
     ensures empty { listed [] ≡ Some [] }
     ensures bad { listed (codes "s" ++ 10 ∷ codes "q!") ≡ None }
     ensures two { listed (codes "q s") ≡ None }
+    ensures blank_behind { listed (codes "q.o s") ≡ None }
+    ensures carriage_behind { listed (codes "q.occ" ++ 13 ∷ []) ≡ None }
 {}
 
 /// After which tokens a statement goes on.

@@ -6,6 +6,7 @@ use Rattle.std.specs.Cmp.Lexicographic.{slice_cmp}
 use Rattle.std.specs.declared.cmp.Ordering.{Ordering}
 use Rattle.std.specs.Option.{option_and_then, option_map}
 use Rattle.std.specs.Str.{bytes_eq}
+use Rattle.occ_lines.specs.Listing.{listed}
 use Rattle.occ_forms.specs.Prepared.{Prepared}
 use Rattle.occ_forms.specs.declared.source.SourceLine.{SourceLine}
 use Rattle.occ_project.specs.declared.reads.Read.{Read}
@@ -29,6 +30,13 @@ open_lines reads name = option_map (λ source. source.lines) (open_source reads 
 -- its text
 abbrev pub open_text : List Read → List ℕ → Option (List ℕ)
 open_text reads name = option_map (λ source. source.text) (open_source reads name)
+
+-- the lines of a file, if it is open, and what its text lists
+abbrev pub lines_in : Read → Option (List SourceLine)
+lines_in read = option_map (λ source. source.lines) read.source
+
+abbrev pub listed_in : Read → Option (Option (List (List ℕ)))
+listed_in read = option_map (λ source. listed source.text) read.source
 
 -- the place of the first member of that name
 abbrev pub index : List ℕ → List Read → Option ℕ

@@ -4,10 +4,9 @@ ghost use Rattle.occ_server.specs.Receipts.{IsLeastOff, ascends as spec_ascends,
 ghost use Rattle.std.specs.Option.{option_copied};
 ghost use Rattle.std.specs.Prelude.{◌≡◌, ◌<◌, ◌^◌, ◌↔◌, IfNone, IfSome, IsTrue, Some, true};
 
-use super::laws::source_law;
 use super::receipt::Receipt;
 use occ_board::{Base, Edit, Entry};
-use occ_forms::Source;
+use occ_forms::{Source, source_law};
 
 /// Whether two sources are one, which they are if their texts are.
 fn is_same_source(a: &Source, b: &Source) -> bool

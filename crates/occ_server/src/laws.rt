@@ -1,13 +1,8 @@
-//! Laws of receipts, journals and texts.
+//! Laws of receipts and journals.
 ghost use Rattle.occ_board.specs.declared.base.Base.{Base as ABase};
 ghost use Rattle.occ_board.specs.declared.entry.Entry.{Entry as AnEntry};
-ghost use Rattle.occ_forms.specs.Prepared.{IsPrepared};
-ghost use Rattle.occ_forms.specs.declared.source.SourceLine.{SourceLine as ASourceLine};
 ghost use Rattle.occ_server.specs.Receipts.{IsLeastOff, Numbered, ascends, entry_at, receipts_of, reported_at};
 ghost use Rattle.std.specs.Prelude.{◌≡◌, ℕ, List, true};
-
-use occ_forms::one_form_law;
-use occ_lines::lines_law;
 
 /// The receipts of all edits of a journal have at each number what the journal has, and only they have among those whose
 /// numbers go up; theirs do. There is one least number at which receipts and journal do not have the same, if there is any.
@@ -17,11 +12,3 @@ pub fn receipts_law()
     ensures only { (ts : List Numbered) (base : ABase) (es : List AnEntry) → ascends ts ≡ true → ((n : ℕ) → reported_at ts n ≡ entry_at base es n) → ts ≡ receipts_of base es }
     ensures least { (ts : List Numbered) (base : ABase) (es : List AnEntry) (m n : ℕ) → IsLeastOff ts base es m → IsLeastOff ts base es n → m ≡ n }
 {}
-
-/// A text has one list of lines, and no other.
-pub fn source_law()
-    ensures { (text : List ℕ) (lines others : List ASourceLine) → IsPrepared text lines → IsPrepared text others → lines ≡ others }
-{
-    lines_law();
-    one_form_law();
-}

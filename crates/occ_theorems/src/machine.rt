@@ -18,8 +18,8 @@ ghost use Rattle.std.specs.Prelude.{List, [], true, ℕ, ◌+◌, ◌<◌, ◌�
 
 use occ_board::laws::{base_law, done_law, height_law, ready_law, taking_law};
 use occ_check::Checked;
+use occ_forms::source_law;
 use occ_project_units::laws::{along_law, circle_law, put_law, reads_law};
-use occ_server::laws::source_law;
 
 /// The bytes of a script say the commands and the fault that are found in them, and nothing else.
 /// So no script can be read in two ways.

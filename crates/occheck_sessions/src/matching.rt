@@ -9,9 +9,8 @@ ghost use Rattle.std.specs.Prelude.{◌≡◌, ◌≤◌, ◌++◌, ◌∷◌, [
 use occ_base::FileName;
 use occ_board::laws::base_law;
 use occ_board::{Base, Edit, EditFault, Entry};
-use occ_forms::Source;
+use occ_forms::{Source, source_law};
 use occ_server::is_same_entry;
-use occ_server::laws::source_law;
 
 /// The number of the next edit of a session after a number, and the edit, if there is one.
 pub fn next_edit(entries: &[Entry], session: u32, last: usize) -> Option<(usize, &Edit)>
