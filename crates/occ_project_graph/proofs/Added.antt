@@ -356,6 +356,20 @@ module _ (g : Graph) (p : ℕ) (ws : List ℕ) (h : p ≤ length g) where
       ∙ from_kept (λ u. not (nat_lt u p)) p (drop p g) v (λ u a b. ap not (le-ltb u p a)))
       ∙ sym (from_next p (drop p g) v)
 
+  -- those before the index stand in front of the others
+  pub parted : (v : ℕ) → sources g v ≡ before p (sources g v) ++ filter (λ u. not (nat_lt u p)) (sources g v)
+  parted v =
+      split v
+      ∙ ap (λ (us : List ℕ). us ++ sources_from p (drop p g) v) (sym (before_is v))
+      ∙ ap (λ (us : List ℕ). before p (sources g v) ++ us) (sym behind)
+    where
+      behind : filter (λ u. not (nat_lt u p)) (sources g v) ≡ sources_from p (drop p g) v
+      behind =
+          ap (filter (λ u. not (nat_lt u p))) (split v)
+          ∙ filter-append (λ u. not (nat_lt u p)) (sources_from 0 (take p g) v) (sources_from p (drop p g) v)
+          ∙ ap (λ (us : List ℕ). us ++ filter (λ u. not (nat_lt u p)) (sources_from p (drop p g) v)) (from_left (λ u. not (nat_lt u p)) 0 (take p g) v (λ u a b. ap not (lt-ltb u p (omega (arith, b, first_long)))))
+          ∙ from_kept (λ u. not (nat_lt u p)) p (drop p g) v (λ u a b. ap not (le-ltb u p a))
+
   parts_then : (v : ℕ) → sources (with_node g p ws) v ≡ sources_from 0 (map (map (raised p)) (take p g)) v ++ (once_each p ws v ++ sources_from (p + 1) (map (map (raised p)) (drop p g)) v)
   parts_then v =
       sources_parts 0 (take p (map (map (raised p)) g)) (ws ∷ drop p (map (map (raised p)) g)) v
@@ -383,18 +397,3 @@ module _ (g : Graph) (p : ℕ) (ws : List ℕ) (h : p ≤ length g) where
       ∙ ap (λ (us : List ℕ). map (raised p) (sources_from 0 (take p g) v) ++ us) (after_is v ∙ from_next p (drop p g) v ∙ from_mapped (λ u. u + 1) (raised p) p (drop p g) v (λ u a b. sym (raised_above p u a)))
       ∙ sym (map-append (raised p) (sources_from 0 (take p g) v) (sources_from p (drop p g) v))
       ∙ ap (map (raised p)) (sym (split v))
-
--- after the last node one comes without moving any
-stay : (p : ℕ) (ws : List ℕ) → ((v : ℕ) → is_among ws v ≡ true → v < p) → map (raised p) ws ≡ ws
-stay p [] few = refl
-stay p (w ∷ ws) few =
-    ap (λ (v : ℕ). v ∷ map (raised p) ws) (raised_below p w (few w (ap (λ (b : Bool). b || is_among ws w) (eq-eqb w w refl))))
-    ∙ ap (λ (vs : List ℕ). w ∷ vs) (stay p ws (λ v h. few v (later (w == v) (is_among ws v) h)))
-  where
-    later : (b c : Bool) → c ≡ true → (b || c) ≡ true
-    later true c h = refl
-    later false c h = h
-
-pub all_stay : (p : ℕ) (g : Graph) → ((u v : ℕ) → has_edge g u v ≡ true → v < p) → map (map (raised p)) g ≡ g
-all_stay p [] few = refl
-all_stay p (ws ∷ g) few = ap (λ (vs : List ℕ). vs ∷ map (map (raised p)) g) (stay p ws (few 0)) ∙ ap (λ (h : Graph). ws ∷ h) (all_stay p g (λ u. few (suc u)))

@@ -7,5 +7,7 @@ pub mod Circled
 pub mod Turned
 pub mod Added
 pub mod Replaced
+pub mod Numbered
+pub mod Renumbered
 pub mod Free
 pub mod Mates

@@ -7,7 +7,7 @@ use Rattle.std.proofs.lemmas.List.Edits.{map_over_more}
 use Rattle.occ_project_graph.specs.Adding.{raised, with_node}
 use Rattle.occ_project_graph.specs.Graph.{Graph, IsWhole, all_rests, is_among, is_circular, rests, targets}
 use Rattle.occ_project_graph.specs.Sources.{once_each, sources}
-use Rattle.occ_project_graph.specs.inside.Linking.{AreBefore, IsLinked, before, following, others, sources_then, sources_till, top_then, with_rows}
+use Rattle.occ_project_graph.specs.inside.Linking.{before, following, sources_then, sources_till, with_rows}
 use Rattle.occ_project_graph.proofs.Added.{all_rests_then, among_raised, here_or, long_then, none_by, not_among, not_both, once_none, passed, raised_above, raised_apart, raised_below, rests_there, row_new, row_then, sources_moved, sources_new, sources_raised}
 use Rattle.occ_project_graph.proofs.Turned.{only}
 use Rattle.occ_project_graph.proofs.Ways.{edge_below, first_holds, second_holds}
@@ -40,35 +40,6 @@ replaced_more {X} f xs ys next i d lt y n =
     let long : length ys ≡ length xs = ap (length {A = X}) y ∙ parts_long f xs i in
     n ∙ map_over_more f xs ys i (get_or ys i d) lt y (same_default ys i d (get_or ys i d) (omega (arith, lt, long)))
 
--- the next of the nodes that are replaced
-pub got : (xs : List ℕ) (i x : ℕ) → Some x ≡ slice_get xs i → get_or xs i 0 ≡ x
-got [] i x e = absurd cc
-got (y ∷ xs) zero x e = cc
-got (y ∷ xs) (suc i) x e = got xs i x e
-
-pub next_node : (f : ℕ → ℕ) (xs ys : List ℕ) (i x : ℕ) → ys ≡ map f (take i xs) ++ drop i xs → Some x ≡ slice_get ys i → i < length ys → (i < length xs) × (get_or xs i 0 ≡ x)
-next_node f xs ys i x y e lt =
-    let long : length ys ≡ length xs = ap (length {A = ℕ}) y ∙ parts_long f xs i in
-    let within : i < length xs = omega (arith, lt, long) in
-    (within, sym (left_at f xs i 0 within) ∙ sym (ap (λ (zs : List ℕ). get_or zs i 0) y) ∙ got ys i x e)
-
--- where none is left all are replaced
-pub none_left : (f : ℕ → ℕ) (xs ys : List ℕ) (i : ℕ) → ys ≡ map f (take i xs) ++ drop i xs → i ≤ length xs → None ≡ slice_get ys i → ys ≡ map f xs
-none_left f xs ys i y le e = y ∙ all_there f xs i (omega (arith, le, over ys i e, long)) where
-  long : length ys ≡ length xs
-  long = ap (length {A = ℕ}) y ∙ parts_long f xs i
-
-  over : (zs : List ℕ) (k : ℕ) → None ≡ slice_get zs k → length zs ≤ k
-  over [] k h = omega arith
-  over (z ∷ zs) zero h = absurd cc
-  over (z ∷ zs) (suc k) h = let more = over zs k h in omega (arith, more)
-
-  all_there : (g : ℕ → ℕ) (zs : List ℕ) (k : ℕ) → k ≡ length zs → map g (take k zs) ++ drop k zs ≡ map g zs
-  all_there g [] zero h = refl
-  all_there g [] (suc k) h = refl
-  all_there g (z ∷ zs) zero h = absurd (omega (arith, h))
-  all_there g (z ∷ zs) (suc k) h = ap (λ (ws : List ℕ). g z ∷ ws) (all_there g zs k (omega (arith, h)))
-
 -- the last of the rows is put first
 pub rows_last : (g : Graph) (ws : List ℕ) (rows : List (List ℕ)) (w : ℕ) (row : List ℕ) → length ws ≡ length rows → with_rows g (ws ++ w ∷ []) (rows ++ row ∷ []) ≡ with_rows (slice_set g w row) ws rows
 rows_last g [] [] w row e = refl
@@ -76,7 +47,7 @@ rows_last g [] (x ∷ rows) w row e = cc
 rows_last g (v ∷ ws) [] w row e = cc
 rows_last g (v ∷ ws) (x ∷ rows) w row e = ap (λ (h : Graph). slice_set h v x) (rows_last g ws rows w row (omega (arith, e)))
 
-last_long : {X : Type 0} (xs : List X) (x : X) → length (xs ++ x ∷ []) ≡ length xs + 1
+pub last_long : {X : Type 0} (xs : List X) (x : X) → length (xs ++ x ∷ []) ≡ length xs + 1
 last_long [] x = refl
 last_long (y ∷ xs) x = let more = last_long xs x in omega (arith, more)
 
@@ -118,17 +89,22 @@ putting_over ws all g h = by ws h.rows where
   by [] e = e
   by (v ∷ vs) e = e
 
-set_long : (g : Graph) (p : ℕ) (row : List ℕ) → length (slice_set g p row) ≡ length g
+pub set_long : (g : Graph) (p : ℕ) (row : List ℕ) → length (slice_set g p row) ≡ length g
 set_long [] p row = refl
 set_long (x ∷ g) zero row = refl
 set_long (x ∷ g) (suc p) row = ap suc (set_long g p row)
 
-set_here : (g : Graph) (p : ℕ) (row : List ℕ) → p < length g → get_or (slice_set g p row) p [] ≡ row
+pub set_past : (g : Graph) (p : ℕ) (row : List ℕ) → length g ≤ p → slice_set g p row ≡ g
+set_past [] p row le = refl
+set_past (x ∷ g) zero row le = absurd (omega (arith, le))
+set_past (x ∷ g) (suc p) row le = ap (λ (h : Graph). x ∷ h) (set_past g p row (omega (arith, le)))
+
+pub set_here : (g : Graph) (p : ℕ) (row : List ℕ) → p < length g → get_or (slice_set g p row) p [] ≡ row
 set_here [] p row lt = absurd (omega (arith, lt))
 set_here (x ∷ g) zero row lt = refl
 set_here (x ∷ g) (suc p) row lt = set_here g p row (omega (arith, lt))
 
-set_apart : (g : Graph) (p q : ℕ) (row : List ℕ) → (p ≡ q → ⊥) → get_or (slice_set g p row) q [] ≡ get_or g q []
+pub set_apart : (g : Graph) (p q : ℕ) (row : List ℕ) → (p ≡ q → ⊥) → get_or (slice_set g p row) q [] ≡ get_or g q []
 set_apart [] p q row n = refl
 set_apart (x ∷ g) zero zero row n = absurd (n refl)
 set_apart (x ∷ g) zero (suc q) row n = refl
@@ -152,73 +128,17 @@ rows_at f g (w ∷ ws) q lt = by (w == q) refl (rows_at f g ws q lt) where
       ap (λ (x : ℕ). get_or (slice_set (with_rows g ws (map f ws)) x (f x)) q []) same ∙ set_here (with_rows g ws (map f ws)) q (f q) (omega (arith, lt, long))
   by false e rest = set_apart (with_rows g ws (map f ws)) w q (f w) (eqb-false w q e) ∙ rest
 
--- what a graph rests on and the graph turned round stay within it
-pub rests_before : (g : Graph) (top : ℕ) → AreBefore g top → AreBefore (all_rests g) top
-rests_before g top before u v h =
-    let there : is_among (rests g u) v ≡ true = ap (λ (ws : List ℕ). is_among ws v) (sym (rests_there g u)) ∙ h in
-    before u v (passed (λ w. not (is_circular g u w)) (targets g u) v there)
+-- a graph and its edges turned round
+pub record IsTurned (g turned : Graph) : Type 0 where
+  pub len : length turned ≡ length g
+  pub sources_are : (v : ℕ) → v < length g → get_or turned v [] ≡ sources g v
 
-pub turned_whole : (g turned : Graph) → length turned ≡ length g → ((v : ℕ) → v < length g → get_or turned v [] ≡ sources g v) → IsWhole turned
-turned_whole g turned len are v u e =
-    let row = edge_below turned v u e in
-    let there : is_among (sources g v) u ≡ true = ap (λ (ws : List ℕ). is_among ws u) (sym (are v (omega (arith, row, len)))) ∙ e in
-    let edge = edge_below g u v (only g u v there) in
-    omega (arith, edge, len)
-
-among_lowered : (p : ℕ) (xs : List ℕ) (v : ℕ) → is_among (map (raised p) xs) v ≡ true → (u : ℕ) × ((raised p u ≡ v) × (is_among xs u ≡ true))
-among_lowered p xs v h = elim (here_or p v) [
-  | inl e ↦ absurd (not_both (is_among (map (raised p) xs) p) (ap (is_among (map (raised p) xs)) (sym e) ∙ h) (not_among p xs))
-  | inr there ↦ (there.0, (there.1, sym (among_raised p xs there.0) ∙ ap (is_among (map (raised p) xs)) there.1 ∙ h))
-]
-
-raised_within : (p v n : ℕ) → v < n → raised p v < n + 1
-raised_within p v n lt = elim (cases_lt v p) [
-  | inl below ↦ let e = raised_below p v below in omega (arith, lt, e)
-  | inr above ↦ let e = raised_above p v above in omega (arith, lt, e)
-]
-
-pub whole_then : (g : Graph) (p : ℕ) (ws : List ℕ) → p ≤ length g → IsWhole g → ((v : ℕ) → is_among ws v ≡ true → v ≤ length g) → IsWhole (with_node g p ws)
-whole_then g p ws h whole within u v e = elim (here_or p u) [
-  | inl k ↦
-      let le = within v (ap (λ (xs : List ℕ). is_among xs v) (sym (row_new g p ws h) ∙ ap (λ (x : ℕ). get_or (with_node g p ws) x []) (sym k)) ∙ e) in
-      let long = long_then g p ws h in
-      omega (arith, le, long)
-  | inr there ↦
-      let edge : is_among (map (raised p) (targets g there.0)) v ≡ true = ap (λ (xs : List ℕ). is_among xs v) (sym (row_then g p ws h there.0) ∙ ap (λ (x : ℕ). get_or (with_node g p ws) x []) there.1) ∙ e in
-      let from = among_lowered p (targets g there.0) v edge in
-      let lt = raised_within p from.0 (length g) (whole there.0 from.0 from.1.1) in
-      let same = from.1.0 in
-      let long = long_then g p ws h in
-      omega (arith, lt, same, long)
-]
-
--- a node comes alone: what stood before an index does then
-before_then : (g : Graph) (p top : ℕ) → p ≤ length g → AreBefore g top → AreBefore (with_node g p []) (cond (nat_lt p top) (top + 1) top)
-before_then g p top h before u v e = elim (here_or p u) [
-  | inl k ↦
-      let none : is_among [] v ≡ true = ap (λ (xs : List ℕ). is_among xs v) (sym (row_new g p [] h) ∙ ap (λ (x : ℕ). get_or (with_node g p []) x []) (sym k)) ∙ e in
-      absurd (not_both (is_among [] v) none refl)
-  | inr there ↦
-      let edge : is_among (map (raised p) (targets g there.0)) v ≡ true = ap (λ (xs : List ℕ). is_among xs v) (sym (row_then g p [] h there.0) ∙ ap (λ (x : ℕ). get_or (with_node g p []) x []) there.1) ∙ e in
-      let from = among_lowered p (targets g there.0) v edge in
-      let lt = before there.0 from.0 from.1.1 in
-      let same = from.1.0 in
-      elim (cases_lt p top) [
-        | inl below ↦
-            let within = raised_within p from.0 top lt in
-            subst (λ (b : Bool). v < cond b (top + 1) top) (sym (lt-ltb p top below)) (omega (arith, within, same))
-        | inr above ↦
-            let stays = raised_below p from.0 (omega (arith, lt, above)) in
-            subst (λ (b : Bool). v < cond b (top + 1) top) (sym (le-ltb p top above)) (omega (arith, lt, same, stays))
-      ]
-]
-
--- all that is kept
-module _ (g kept turned : Graph) (top p : ℕ) (ws : List ℕ) (is : IsLinked g kept turned top) (h : p ≤ length g) where
+-- where edges lead from then
+module _ (g turned : Graph) (p : ℕ) (ws : List ℕ) (is : IsTurned g turned) (h : p ≤ length g) where
   index : p ≤ length turned
   index = let len = is.len in omega (arith, h, len)
 
-  till_raised : (v : ℕ) → sources_till turned p (raised p v) ≡ get_or turned v []
+  pub till_raised : (v : ℕ) → sources_till turned p (raised p v) ≡ get_or turned v []
   till_raised v = ap (λ (b : Bool). cond b [] (get_or turned (cond (nat_lt (raised p v) p) (raised p v) (raised p v - 1)) [])) (none_by (raised p v == p) (λ e. raised_apart p v (eqb-true (raised p v) p e))) ∙ ap (λ (x : ℕ). get_or turned x []) back where
     back : cond (nat_lt (raised p v) p) (raised p v) (raised p v - 1) ≡ v
     back = elim (cases_lt v p) [
@@ -230,7 +150,7 @@ module _ (g kept turned : Graph) (top p : ℕ) (ws : List ℕ) (is : IsLinked g 
           ap (λ (b : Bool). cond b (raised p v) (raised p v - 1)) (le-ltb (raised p v) p (omega (arith, above, e))) ∙ omega (arith, e)
     ]
 
-  till_new : sources_till turned p p ≡ []
+  pub till_new : sources_till turned p p ≡ []
   till_new = ap (λ (b : Bool). cond b [] (get_or turned (cond (nat_lt p p) p (p - 1)) [])) (eq-eqb p p refl)
 
   then_raised : (v : ℕ) → v < length g → sources_then turned p ws (raised p v) ≡ sources (with_node g p ws) (raised p v)
@@ -255,13 +175,13 @@ module _ (g kept turned : Graph) (top p : ℕ) (ws : List ℕ) (is : IsLinked g 
   by_test q true e f k = f
   by_test q false e f k = k e
 
-  within_then : (v : ℕ) → raised p v < length g + 1 → v < length g
+  pub within_then : (v : ℕ) → raised p v < length g + 1 → v < length g
   within_then v lt = elim (cases_lt v p) [
     | inl below ↦ omega (arith, below, h)
     | inr above ↦ let e = raised_above p v above in omega (arith, lt, e)
   ]
 
-  sources_kept : (q : ℕ) → q < length (with_node g p ws) → get_or (with_rows (with_node turned p []) ws (map (sources_then turned p ws) ws)) q [] ≡ sources (with_node g p ws) q
+  pub sources_kept : (q : ℕ) → q < length (with_node g p ws) → get_or (with_rows (with_node turned p []) ws (map (sources_then turned p ws) ws)) q [] ≡ sources (with_node g p ws) q
   sources_kept q lt =
       let long = long_then g p ws h in
       let wide = long_then turned p [] index in
@@ -273,67 +193,3 @@ module _ (g kept turned : Graph) (top p : ℕ) (ws : List ℕ) (is : IsLinked g 
             let below : there.0 < length g = within_then there.0 (omega (arith, lt, long, same)) in
             subst (λ (x : ℕ). cond (is_among ws x) (sources_then turned p ws x) (get_or (with_node turned p []) x []) ≡ sources (with_node g p ws) x) there.1 (by_test (raised p there.0) (is_among ws (raised p there.0)) refl (then_raised there.0 below) (moved there.0 below))
       ]
-
-  pub linked_then : ((v : ℕ) → is_among ws v ≡ true → v ≤ length g) → (edges rests_new turned_new : Graph) (alone : List ℕ) (found : List (List ℕ)) (is_alone : Bool) (top_new : ℕ) → edges ≡ with_node g p ws → alone ≡ others p ws → found ≡ map (sources_then turned p ws) ws
-      → rests_new ≡ with_node kept p alone → turned_new ≡ with_rows (with_node turned p []) ws found → (is_alone ≡ true → ws ≡ []) → top_new ≡ top_then top p is_alone (length edges) → IsLinked edges rests_new turned_new top_new
-  linked_then within edges rests_new turned_new alone found is_alone top_new e a f r t none k =
-      subst (λ (x : Graph). IsLinked x rests_new turned_new top_new) (sym e) (subst (λ (x : Graph). IsLinked (with_node g p ws) x turned_new top_new) (sym rests_is) (subst (λ (x : Graph). IsLinked (with_node g p ws) (all_rests (with_node g p ws)) x top_new) (sym turned_is) are))
-    where
-      rests_is : rests_new ≡ all_rests (with_node g p ws)
-      rests_is = r ∙ ap (λ (x : Graph). with_node x p alone) is.rests_are ∙ ap (with_node (all_rests g) p) a ∙ all_rests_then g p ws h
-
-      turned_is : turned_new ≡ with_rows (with_node turned p []) ws (map (sources_then turned p ws) ws)
-      turned_is = t ∙ ap (with_rows (with_node turned p []) ws) f
-
-      top_is : top_new ≡ top_then top p is_alone (length (with_node g p ws))
-      top_is = k ∙ ap (λ (x : Graph). top_then top p is_alone (length x)) e
-
-      long : length (with_node g p ws) ≡ length g + 1
-      long = long_then g p ws h
-
-      whole : IsWhole (with_node g p ws)
-      whole = whole_then g p ws h is.whole within
-
-      len : length (with_rows (with_node turned p []) ws (map (sources_then turned p ws) ws)) ≡ length (with_node g p ws)
-      len = rows_long (with_node turned p []) ws (map (sources_then turned p ws) ws) ∙ long_then turned p [] index ∙ ap (λ (n : ℕ). n + 1) is.len ∙ sym long
-
-      turned_is_whole : IsWhole (with_rows (with_node turned p []) ws (map (sources_then turned p ws) ws))
-      turned_is_whole = turned_whole (with_node g p ws) (with_rows (with_node turned p []) ws (map (sources_then turned p ws) ws)) len sources_kept
-
-      top_within : (b : Bool) → top_then top p b (length (with_node g p ws)) ≤ length (with_node g p ws)
-      top_within true = by (nat_lt p top) where
-        by : (c : Bool) → cond c (top + 1) top ≤ length (with_node g p ws)
-        by true = let le = is.within in omega (arith, le, long)
-        by false = let le = is.within in omega (arith, le, long)
-      top_within false = omega arith
-
-      targets_by : (b : Bool) → (b ≡ true → ws ≡ []) → AreBefore (with_node g p ws) (top_then top p b (length (with_node g p ws)))
-      targets_by true n = subst (λ (xs : List ℕ). AreBefore (with_node g p xs) (cond (nat_lt p top) (top + 1) top)) (sym (n refl)) (before_then g p top h is.targets_before)
-      targets_by false n = whole
-
-      sources_by : (b : Bool) → (b ≡ true → ws ≡ []) → AreBefore (with_rows (with_node turned p []) ws (map (sources_then turned p ws) ws)) (top_then top p b (length (with_node g p ws)))
-      sources_by true n = subst (λ (xs : List ℕ). AreBefore (with_rows (with_node turned p []) xs (map (sources_then turned p ws) xs)) (cond (nat_lt p top) (top + 1) top)) (sym (n refl)) (before_then turned p top index is.sources_before)
-      sources_by false n = λ u v x. let lt = turned_is_whole u v x in omega (arith, lt, len)
-
-      are : IsLinked (with_node g p ws) (all_rests (with_node g p ws)) (with_rows (with_node turned p []) ws (map (sources_then turned p ws) ws)) top_new
-      are = record {
-        whole = whole;
-        within = subst (λ (n : ℕ). n ≤ length (with_node g p ws)) (sym top_is) (top_within is_alone);
-        targets_before = subst (AreBefore (with_node g p ws)) (sym top_is) (targets_by is_alone none);
-        sources_before = subst (AreBefore (with_rows (with_node turned p []) ws (map (sources_then turned p ws) ws))) (sym top_is) (sources_by is_alone none);
-        rests_are = refl;
-        len = len;
-        sources_are = sources_kept;
-      }
-
--- a graph that is made anew: its top is where its nodes end
-pub made : (g kept turned : Graph) (top : ℕ) → IsWhole g → top ≡ length g → kept ≡ all_rests g → length turned ≡ length g → ((v : ℕ) → v < length g → get_or turned v [] ≡ sources g v) → IsLinked g kept turned top
-made g kept turned top whole t r len are = record {
-  whole = whole;
-  within = omega (arith, t);
-  targets_before = subst (AreBefore g) (sym t) whole;
-  sources_before = λ u v h. let lt = turned_whole g turned len are u v h in omega (arith, lt, len, t);
-  rests_are = r;
-  len = len;
-  sources_are = are;
-}

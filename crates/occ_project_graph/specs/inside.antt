@@ -2,4 +2,5 @@
 pub mod Searching
 pub mod Ranking
 pub mod Circling
+pub mod Numbering
 pub mod Linking

@@ -5,6 +5,8 @@ mod adding;
 mod circles;
 pub mod laws;
 mod linked;
+mod nodes;
+mod numbering;
 mod order;
 mod ranks;
 mod reaching;
@@ -14,4 +16,5 @@ mod search;
 mod sources;
 
 pub use linked::Linked;
+pub use nodes::Nodes;
 pub use sources::find_sources;

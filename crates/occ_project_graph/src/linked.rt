@@ -1,44 +1,53 @@
 //! A graph with what its nodes rest on and with its edges turned around, cached. Contracts see the edges alone.
 ghost use Rattle.occ_project_graph.specs.Adding.{with_node};
-ghost use Rattle.occ_project_graph.specs.Graph.{IsWhole, all_rests, is_among, rests as spec_rests};
+ghost use Rattle.occ_project_graph.specs.Graph.{IsWhole, has_edge as spec_has_edge, is_among, rests as spec_rests, targets as spec_targets};
 ghost use Rattle.occ_project_graph.specs.Sources.{sources as spec_sources};
+ghost use Rattle.occ_project_graph.specs.inside.Linking.{rests_kept};
+ghost use Rattle.occ_project_graph.specs.inside.Numbering.{IsNumbered, indexed, row_by};
 ghost use Rattle.std.specs.Prelude.{◌≡◌, ◌<◌, ◌≤◌, [], ℕ, IfOk, OnErr, OnOk, length, true};
 
-use super::adding::{add_row, put_rows, source_rows, top_then};
+use super::adding::{put_rows, source_rows};
 use super::circles::find_rests;
-use super::resting::add_rests;
+use super::nodes::Nodes;
+use super::numbering::{first_numbers, insert_node, numbers_then, push_within};
+use super::resting::{add_rests, is_one};
 use super::search::targets as row;
 use super::sources::find_sources;
 use sqlite_items::Items;
 use std::alloc::{AllocError, Global};
 use std::marker::Model;
 
-/// A graph, with what its nodes rest on and from where edges lead to them. In contracts it is the graph.
+/// A graph, with what its nodes rest on and from where edges lead to them. In contracts it is the graph. Each node has a number
+/// that stays, so that a node that comes before others moves none of their rows.
 pub struct Linked {
-    /// Of each node those to which edges lead from it.
+    /// Of each index the number of its node.
+    numbers: Vec<usize>,
+    /// Of each number the index of its node.
+    indices: Vec<usize>,
+    /// Of each node those to which edges lead from it, all by numbers.
     edges: Vec<Items<usize>>,
     /// Of each node those that it rests on; nothing says that these are all to which edges lead from it.
     rests: Option<Vec<Items<usize>>>,
-    /// Of each node those from which edges lead to it, in order.
+    /// Of each node those from which edges lead to it, in the order of their indices.
     sources: Vec<Items<usize>>,
-    /// All nodes from or to which an edge leads stand before this index: after it a node comes without moving any.
-    top: usize,
 }
 
 /// Written out: crates above call it, where each would prove a derived one anew.
 impl Drop for Linked {
     fn drop(self) {
         let Linked {
+            numbers: _,
+            indices: _,
             edges: _,
             rests: _,
             sources: _,
-            top: _,
         } = self;
     }
 }
 
 impl Model for Linked {
     ghost use Rattle.occ_project_graph.specs.inside.Linking.{IsLinked, rests_kept};
+    ghost use Rattle.occ_project_graph.specs.inside.Numbering.{graph_by};
     ghost use Rattle.std.specs.Coded.{coded_list, coded_ℕ};
     ghost use Rattle.std.specs.Prelude.{List, ℕ};
 
@@ -46,9 +55,43 @@ impl Model for Linked {
 
     ghost coded = { coded_list (coded_list coded_ℕ) };
 
-    ghost view = { λ linked. linked.edges.items };
+    ghost view = { λ linked. graph_by linked.numbers.items linked.indices.items linked.edges.items };
 
-    ghost invariant = { λ linked. IsLinked linked.edges.items (rests_kept linked.edges.items linked.rests) linked.sources.items linked.top };
+    ghost invariant = { λ linked. IsLinked linked.numbers.items linked.indices.items linked.edges.items (rests_kept linked.edges.items linked.rests) linked.sources.items };
+}
+
+/// The row of the node of an index, in rows by number.
+fn row_of<'a>(numbers: &[usize], rows: &'a [Items<usize>], index: usize) -> &'a [usize]
+    ensures { result.now ≡ row_by numbers.now rows.now index }
+{
+    match numbers.get(index) {
+        Some(number) => row(rows, *number),
+        None => &[],
+    }
+}
+
+/// The row of the node of an index among those that are kept of what nodes rest on.
+fn rests_of<'a>(
+    numbers: &[usize],
+    edges: &'a [Items<usize>],
+    rests: &'a Option<Vec<Items<usize>>>,
+    index: usize,
+) -> &'a [usize]
+    ensures { result.now ≡ row_by numbers.now (rests_kept edges.now rests.now) index }
+{
+    match rests {
+        Some(rests) => row_of(numbers, rests.as_slice(), index),
+        None => row_of(numbers, edges, index),
+    }
+}
+
+/// Whether the node of an index is one of those of these numbers.
+fn has_node(numbers: &[usize], indices: &[usize], nodes: &[usize], index: usize) -> bool
+    requires numbered { IsNumbered numbers.now indices.now }
+    requires within { (n : ℕ) → is_among nodes.now n ≡ true → n < length numbers.now }
+    ensures { result ≡ is_among (indexed indices.now nodes.now) index }
+{
+    index < numbers.len() && is_one(nodes, numbers[index])
 }
 
 impl Linked {
@@ -57,10 +100,11 @@ impl Linked {
         ensures { result ≡ [] }
     {
         Linked {
+            numbers: Vec::new(alloc),
+            indices: Vec::new(alloc),
             edges: Vec::new(alloc),
             rests: None,
             sources: Vec::new(alloc),
-            top: 0,
         }
     }
 
@@ -71,64 +115,106 @@ impl Linked {
     {
         let sources = find_sources(alloc, edges.as_slice())?;
         let rests = find_rests(alloc, edges.as_slice(), sources.as_slice())?;
-        let top = edges.len();
+        let numbers = first_numbers(alloc, edges.len())?;
+        let indices = first_numbers(alloc, edges.len())?;
         Ok(Linked {
+            numbers,
+            indices,
             edges,
             rests,
             sources,
-            top,
         })
     }
 
-    /// For each node those to which edges lead from it.
-    pub fn edges(&self) -> &[Items<usize>]
-        ensures { result.now ≡ self.now }
+    /// Those to which edges lead from a node.
+    pub fn targets(&self, node: usize) -> Nodes<'_>
+        ensures { result ≡ spec_targets self.now node }
     {
-        self.edges.as_slice()
+        let targets = row_of(self.numbers.as_slice(), self.edges.as_slice(), node);
+        Nodes::of(targets, self.indices.as_slice())
+    }
+
+    /// Whether an edge leads from the one node to the other.
+    pub fn has_edge(&self, from: usize, to: usize) -> bool
+        ensures { result ≡ spec_has_edge self.now from to }
+    {
+        let targets = row_of(self.numbers.as_slice(), self.edges.as_slice(), from);
+        has_node(
+            self.numbers.as_slice(),
+            self.indices.as_slice(),
+            targets,
+            to,
+        )
     }
 
     /// Those that a node rests on.
-    pub fn rests(&self, node: usize) -> &[usize]
-        ensures { result.now ≡ spec_rests self.now node }
+    pub fn rests(&self, node: usize) -> Nodes<'_>
+        ensures { result ≡ spec_rests self.now node }
     {
-        match &self.rests {
-            Some(rests) => row(rests.as_slice(), node),
-            None => row(self.edges.as_slice(), node),
-        }
+        let rests = rests_of(
+            self.numbers.as_slice(),
+            self.edges.as_slice(),
+            &self.rests,
+            node,
+        );
+        Nodes::of(rests, self.indices.as_slice())
+    }
+
+    /// Whether the one node rests on the other.
+    pub fn rests_on(&self, from: usize, to: usize) -> bool
+        ensures { result ≡ is_among (spec_rests self.now from) to }
+    {
+        let rests = rests_of(
+            self.numbers.as_slice(),
+            self.edges.as_slice(),
+            &self.rests,
+            from,
+        );
+        has_node(self.numbers.as_slice(), self.indices.as_slice(), rests, to)
     }
 
     /// Those from which edges lead to a node, in order, once for each edge.
-    pub fn sources(&self, node: usize) -> &[usize]
+    pub fn sources(&self, node: usize) -> Nodes<'_>
         requires { node < length self.now }
-        ensures { result.now ≡ spec_sources self.now node }
+        ensures { result ≡ spec_sources self.now node }
     {
-        row(self.sources.as_slice(), node)
+        let sources = row_of(self.numbers.as_slice(), self.sources.as_slice(), node);
+        Nodes::of(sources, self.indices.as_slice())
     }
 
     /// One node more comes to an index, from which edges lead to these, and to which none leads but its own. What the others
-    /// rest on and from where edges lead to them stays, but for their indices. All memory is taken before the first change.
+    /// rest on and from where edges lead to them stays. All memory is taken before the first change.
     pub fn add(&mut self, alloc: Global, at: usize, targets: Items<usize>) -> Result<(), AllocError>
         requires index { at ≤ length self.old }
         requires within { (v : ℕ) → is_among targets v ≡ true → v ≤ length self.old }
         ensures ok { OnOk result (self.new ≡ with_node self.old at targets) }
         ensures err { OnErr result (self.new ≡ self.old) }
     {
-        let found = source_rows(alloc, self.sources.as_slice(), at, targets.as_slice())?;
+        let number = self.numbers.len();
+        let row = numbers_then(alloc, self.numbers.as_slice(), at, targets.as_slice())?;
+        let found = source_rows(
+            alloc,
+            self.indices.as_slice(),
+            self.sources.as_slice(),
+            at,
+            number,
+            row.as_slice(),
+        )?;
+        self.numbers.reserve(1)?;
+        self.indices.reserve(1)?;
         self.edges.reserve(1)?;
         self.sources.reserve(1)?;
         add_rests(
             alloc,
             &mut self.rests,
             self.edges.as_slice(),
-            at,
-            targets.as_slice(),
-            self.top,
+            number,
+            row.as_slice(),
         )?;
-        add_row(&mut self.sources, at, Items::new(alloc), self.top);
-        put_rows(&mut self.sources, targets.as_slice(), found);
-        let alone = targets.is_empty();
-        add_row(&mut self.edges, at, targets, self.top);
-        self.top = top_then(self.top, at, alone, self.edges.len());
+        insert_node(&mut self.numbers, &mut self.indices, at);
+        push_within(&mut self.sources, Items::new(alloc));
+        put_rows(&mut self.sources, row.as_slice(), found);
+        push_within(&mut self.edges, row);
         Ok(())
     }
 }

@@ -1,11 +1,9 @@
 //! What nodes rest on after a node was inserted. Where every node has a rank, that is its targets and is not stored
 //! again.
-ghost use Rattle.occ_project_graph.specs.Adding.{with_node};
-ghost use Rattle.occ_project_graph.specs.Graph.{all_rests, is_among};
-ghost use Rattle.occ_project_graph.specs.inside.Linking.{AreBefore, others as spec_others, rests_kept};
-ghost use Rattle.std.specs.Prelude.{◌≡◌, ◌≤◌, ◌++◌, ◌∷◌, [], IfOk, OnErr, OnOk, length, vec_len};
+ghost use Rattle.occ_project_graph.specs.Graph.{is_among};
+ghost use Rattle.occ_project_graph.specs.inside.Linking.{others as spec_others, rests_kept};
+ghost use Rattle.std.specs.Prelude.{◌≡◌, ◌++◌, ◌∷◌, [], IfOk, OnErr, OnOk};
 
-use super::adding::add_row;
 use sqlite_items::Items;
 use std::alloc::{AllocError, Global};
 
@@ -31,7 +29,7 @@ fn add_other(others: &mut Items<usize>, at: usize, node: usize) -> Result<(), Al
 }
 
 /// Whether the node is one of these.
-fn is_one(nodes: &[usize], node: usize) -> bool
+pub fn is_one(nodes: &[usize], node: usize) -> bool
     ensures { result ≡ is_among nodes.now node }
 {
     nodes.iter().any(|other| *other == node)
@@ -48,63 +46,51 @@ fn copied(alloc: Global, rows: &[Items<usize>]) -> Result<Vec<Items<usize>>, All
     Ok(copy)
 }
 
-/// One node more comes to an index, which rests on all that its edges lead to but itself.
+/// One node more comes behind the others, which rests on all that its edges lead to but itself.
 fn add_rest_row(
     alloc: Global,
     rows: &mut Vec<Items<usize>>,
-    at: usize,
+    number: usize,
     targets: &[usize],
-    top: usize,
 ) -> Result<(), AllocError>
-    requires index { at ≤ vec_len rows.old }
-    requires top { AreBefore rows.old.items top }
-    ensures ok { OnOk result (rows.new.items ≡ with_node rows.old.items at (spec_others at targets.now)) }
+    ensures ok { OnOk result (rows.new.items ≡ rows.old.items ++ spec_others number targets.now ∷ []) }
     ensures err { OnErr result (rows.new.items ≡ rows.old.items) }
 {
-    let row = others(alloc, at, targets)?;
-    rows.reserve(1)?;
-    add_row(rows, at, row, top);
-    Ok(())
+    let row = others(alloc, number, targets)?;
+    Ok(rows.push(row)?)
 }
 
-/// What the nodes of a graph without circles rest on, where one comes to an index from which an edge leads to itself.
+/// What the nodes of a graph without circles rest on, where one comes behind them from which an edge leads to itself.
 fn first_rests(
     alloc: Global,
     edges: &[Items<usize>],
-    at: usize,
+    number: usize,
     targets: &[usize],
-    top: usize,
 ) -> Result<Vec<Items<usize>>, AllocError>
-    requires index { at ≤ length edges.now }
-    requires top { AreBefore edges.now top }
-    ensures { IfOk result (λ rows. rows.items ≡ with_node edges.now at (spec_others at targets.now)) }
+    ensures { IfOk result (λ rows. rows.items ≡ edges.now ++ spec_others number targets.now ∷ []) }
 {
     let mut rows = copied(alloc, edges)?;
-    add_rest_row(alloc, &mut rows, at, targets, top)?;
+    add_rest_row(alloc, &mut rows, number, targets)?;
     Ok(rows)
 }
 
-/// One node more comes to an index, which rests on all that its edges lead to but itself. Where no edge stands in a circle
+/// One node more comes behind the others, which rests on all that its edges lead to but itself. Where no edge stands in a circle
 /// nothing is kept of that, and nothing is kept then if none leads from the new node to itself.
 pub fn add_rests(
     alloc: Global,
     rests: &mut Option<Vec<Items<usize>>>,
     edges: &[Items<usize>],
-    at: usize,
+    number: usize,
     targets: &[usize],
-    top: usize,
 ) -> Result<(), AllocError>
-    requires index { at ≤ length edges.now }
-    requires top { AreBefore edges.now top }
-    requires rests { rests_kept edges.now rests.old ≡ all_rests edges.now }
-    ensures ok { OnOk result (rests_kept (with_node edges.now at targets.now) rests.new ≡ with_node (rests_kept edges.now rests.old) at (spec_others at targets.now)) }
+    ensures ok { OnOk result (rests_kept (edges.now ++ targets.now ∷ []) rests.new ≡ rests_kept edges.now rests.old ++ spec_others number targets.now ∷ []) }
     ensures err { OnErr result (rests_kept edges.now rests.new ≡ rests_kept edges.now rests.old) }
 {
     if let Some(rows) = rests {
-        return add_rest_row(alloc, rows, at, targets, top);
+        return add_rest_row(alloc, rows, number, targets);
     }
-    if is_one(targets, at) {
-        *rests = Some(first_rests(alloc, edges, at, targets, top)?);
+    if is_one(targets, number) {
+        *rests = Some(first_rests(alloc, edges, number, targets)?);
     }
     Ok(())
 }

@@ -2,31 +2,23 @@
 use Rattle.std.specs.Global.{Global}
 use Rattle.std.specs.Prelude.{◌≡◌, ◌<◌, ◌≤◌, ◌+◌, ◌-◌, ◌++◌, ◌==◌, ℕ, Bool, true, List, [], ◌∷◌, None, Option, Some, Vec, cond, get_or, length, map, nat_lt, not, slice_set}
 use Rattle.std.specs.List.{filter}
-use Rattle.occ_project_graph.specs.Graph.{Graph, IsWhole, all_rests, has_edge}
+use Rattle.occ_project_graph.specs.Graph.{Graph, all_rests}
 use Rattle.occ_project_graph.specs.Sources.{once_each, sources}
+use Rattle.occ_project_graph.specs.inside.Numbering.{IsNumbered, IsOver, graph_by}
 
 -- what the nodes of a graph rest on: what is kept, or, if nothing is, all to which edges lead
 abbrev pub rests_kept : Graph → Option (Vec (List ℕ) Global) → Graph
 rests_kept g None = g
 rests_kept g (Some rows) = rows.items
 
--- what stands in these rows stands before an index
-abbrev pub AreBefore : Graph → ℕ → Type 0
-AreBefore g top = (u v : ℕ) → has_edge g u v ≡ true → v < top
-
--- of each node those that it rests on, and those from which edges lead to it, where each edge is between nodes before an index
-pub record IsLinked (g : Graph) (rests turned : Graph) (top : ℕ) : Type 0 where
-  pub whole : IsWhole g
-  pub within : top ≤ length g
-  pub targets_before : AreBefore g top
-  pub sources_before : AreBefore turned top
-  pub rests_are : rests ≡ all_rests g
-  pub len : length turned ≡ length g
-  pub sources_are : (v : ℕ) → v < length g → get_or turned v [] ≡ sources g v
-
--- such an index where one more node comes to an index, by whether it is alone, so that no edge leads from it, and how many there are then
-abbrev pub top_then : ℕ → ℕ → Bool → ℕ → ℕ
-top_then top at alone count = cond alone (cond (nat_lt at top) (top + 1) top) count
+-- of each node those that it rests on, and those from which edges lead to it, all by numbers
+pub record IsLinked (numbers indices : List ℕ) (edges rests turned : Graph) : Type 0 where
+  pub numbered : IsNumbered numbers indices
+  pub edges_over : IsOver (length numbers) edges
+  pub rests_over : IsOver (length numbers) rests
+  pub turned_over : IsOver (length numbers) turned
+  pub rests_are : graph_by numbers indices rests ≡ all_rests (graph_by numbers indices edges)
+  pub turned_are : (p : ℕ) → p < length numbers → get_or (graph_by numbers indices turned) p [] ≡ sources (graph_by numbers indices edges) p
 
 -- those of these that are not this one
 abbrev pub others : ℕ → List ℕ → List ℕ

@@ -1,46 +1,83 @@
-use Rattle.std.proofs.Common.{◌≡◌, ◌∙◌, ℕ, List, ap, arith, length, map, refl, subst, sym}
-use Rattle.occ_project_graph.specs.Adding.{with_node}
-use Rattle.occ_project_graph.specs.Graph.{Graph, IsWhole, all_rests}
-use Rattle.occ_project_graph.specs.inside.Linking.{AreBefore, others, rests_kept, sources_then, top_then, with_rows}
-use Rattle.occ_project_graph.proofs.Replaced.{linked_then, turned_whole}
+use Rattle.std.proofs.Common.{◌≡◌, ◌∙◌, ◌+◌, ◌≤◌, ◌<◌, ◌++◌, ◌∷◌, ℕ, List, [], ap, arith, get_or, length, map, subst, sym, true}
+use Rattle.std.specs.List.{insert}
+use Rattle.occ_project_graph.specs.Adding.{raised}
+use Rattle.occ_project_graph.specs.Graph.{Graph, is_among}
+use Rattle.occ_project_graph.specs.inside.Linking.{others, rests_kept, with_rows}
+use Rattle.occ_project_graph.specs.inside.Numbering.{AreSourceRows}
+use Rattle.occ_project_graph.proofs.Numbered.{by_long, indices_few, rows_many}
+use Rattle.occ_project_graph.proofs.Renumbered.{add_few, add_linked, add_view}
 use Rattle.occ_project_graph.proofs.linked.Linked.add.Goals as goal
 
-pub source_rows-requires : goal.source_rows-requires
-source_rows-requires c = subst IsWhole (sym c.as_slice.ensures.value) (turned_whole c.self.inside.edges.items c.self.inside.sources.items c.self.invariant.len c.self.invariant.sources_are)
+pub insert_node-requires-clause-within : goal.insert_node-requires-clause-within
+insert_node-requires-clause-within c = λ v h.
+    let few = indices_few c.self.inside.numbers.items c.self.inside.indices.items c.self.invariant.numbered v (ap (λ (ns : List ℕ). is_among ns v) (sym c.reserve-2.ensures.items) ∙ h) in
+    let long = ap (length {A = ℕ}) c.reserve.ensures.items in
+    let len = c.reserve.new.self.ok.0 in
+    omega (arith, few, long, len)
 
-pub add_rests-requires-clause-rests : goal.add_rests-requires-clause-rests
-add_rests-requires-clause-rests c =
-    let edges = c.as_slice-3.ensures.value ∙ c.reserve.ensures.items in
-    subst (λ (g : Graph). rests_kept g c.self.inside.rests ≡ all_rests g) (sym edges) c.self.invariant.rests_are
-
-pub add_row-requires-clause-top : goal.add_row-requires-clause-top
-add_row-requires-clause-top c = subst (λ (g : Graph). AreBefore g c.self.inside.top) (sym c.reserve-2.ensures.items) c.self.invariant.sources_before
-
-pub add_row-requires-2-clause-top : goal.add_row-requires-2-clause-top
-add_row-requires-2-clause-top c = subst (λ (g : Graph). AreBefore g c.self.inside.top) (sym c.reserve.ensures.items) c.self.invariant.targets_before
+pub put_rows-requires : goal.put_rows-requires
+put_rows-requires c =
+    rows_many c.as_slice-3.result.now c.as_slice-4.result.now c.args.at c.len-number.result c.as_slice-5.result.now c.as_slice-5.result.now c.in_ok-found.found c.in_ok-found.ensures
+    ∙ ap (length {A = ℕ}) (c.as_slice-5.ensures ∙ sym c.as_slice-8.ensures)
 
 pub invariant_of-self-2 : goal.invariant_of-self-2
 invariant_of-self-2 c =
-    let nodes = ap (length {A = List ℕ}) c.self.view_is in
-    let before = c.as_slice-3.ensures.value ∙ c.reserve.ensures.items in
-    let edges = c.add_row-2.ensures ∙ ap (λ (g : Graph). with_node g c.args.at c.args.targets) c.reserve.ensures.items in
-    let kept : List (List ℕ) = rests_kept c.self.inside.edges.items c.self.inside.rests in
-    let then_with = λ (g : Graph) (ws : List ℕ). with_node (rests_kept g c.self.inside.rests) c.args.at (others c.args.at ws) in
-    linked_then c.self.inside.edges.items kept c.self.inside.sources.items c.self.inside.top c.args.at c.args.targets c.self.invariant (omega (arith, c.requires.index, nodes)) (λ v k. let le = c.requires.within v k in omega (arith, le, nodes))
-    c.add_row-2.new.rows.items (rests_kept c.add_row-2.new.rows.items c.add_rests.new.rests) c.put_rows.new.rows.items (others c.args.at c.args.targets) c.in_ok-found.found c.is_empty-alone.result c.top_then-self-inside.result
-    edges
-    refl
-    (c.in_ok-found.ensures
-    ∙ ap (λ (g : Graph). map (sources_then g c.args.at c.as_slice-2.result.now) c.as_slice-2.result.now) c.as_slice.ensures.value
-    ∙ ap (λ (ws : List ℕ). map (sources_then c.self.inside.sources.items c.args.at ws) ws) c.as_slice-2.ensures)
-    (ap (λ (g : Graph). rests_kept g c.add_rests.new.rests) (edges ∙ ap (λ (g : Graph). with_node g c.args.at c.args.targets) (sym before) ∙ ap (with_node c.as_slice-3.result.now c.args.at) (sym c.as_slice-4.ensures))
+    let numbers : List ℕ = c.self.inside.numbers.items in
+    let indices : List ℕ = c.self.inside.indices.items in
+    let edges : Graph = c.self.inside.edges.items in
+    let turned : Graph = c.self.inside.sources.items in
+    let kept : Graph = rests_kept edges c.self.inside.rests in
+    let at : ℕ = c.args.at in
+    let row : List ℕ = c.in_ok-row.row in
+    let targets : List ℕ = c.args.targets in
+    let long : length c.args.self.now ≡ length numbers = ap (length {A = List ℕ}) (sym c.self.view_is) ∙ by_long numbers indices edges in
+    let index = c.requires.index in
+    let h : at ≤ length numbers = omega (arith, index, long) in
+    let within : (v : ℕ) → is_among targets v ≡ true → v ≤ length numbers = λ v k. let le = c.requires.within v k in omega (arith, le, long) in
+    let number : c.len-number.result ≡ length numbers = c.len-number.ensures ∙ c.self.inside.numbers.ok.0 in
+    let row_is : row ≡ map (λ (p : ℕ). get_or (insert numbers at (length numbers)) p 0) targets =
+    c.in_ok-row.ensures
+    ∙ ap (λ (ns : List ℕ). map (λ (p : ℕ). get_or (insert ns at (length ns)) p 0) c.as_slice-2.result.now) c.as_slice.ensures.value
+    ∙ ap (map (λ (p : ℕ). get_or (insert numbers at (length numbers)) p 0)) c.as_slice-2.ensures in
+    let found = subst (λ (ws : List ℕ). AreSourceRows indices turned at (length numbers) ws ws c.in_ok-found.found) c.as_slice-5.ensures
+    (subst (λ (n : ℕ). AreSourceRows indices turned at n c.as_slice-5.result.now c.as_slice-5.result.now c.in_ok-found.found) number
+    (subst (λ (g : Graph). AreSourceRows indices g at c.len-number.result c.as_slice-5.result.now c.as_slice-5.result.now c.in_ok-found.found) c.as_slice-4.ensures.value
+    (subst (λ (is : List ℕ). AreSourceRows is c.as_slice-4.result.now at c.len-number.result c.as_slice-5.result.now c.as_slice-5.result.now c.in_ok-found.found) c.as_slice-3.ensures.value c.in_ok-found.ensures))) in
+    let e_is : c.push_within-2.new.items.items ≡ edges ++ row ∷ [] = c.push_within-2.ensures ∙ ap (λ (g : Graph). g ++ row ∷ []) c.reserve-3.ensures.items in
+    let before : c.as_slice-6.result.now ≡ edges = c.as_slice-6.ensures.value ∙ c.reserve-3.ensures.items in
+    let k_is : rests_kept c.push_within-2.new.items.items c.add_rests.new.rests ≡ kept ++ others (length numbers) row ∷ [] =
+    ap (λ (g : Graph). rests_kept g c.add_rests.new.rests) (e_is ∙ ap (λ (g : Graph). g ++ row ∷ []) (sym before) ∙ ap (λ (ws : List ℕ). c.as_slice-6.result.now ++ ws ∷ []) (sym c.as_slice-7.ensures))
     ∙ c.in_ok-add_rests.ensures.ok
-    ∙ ap (λ (g : Graph). then_with g c.as_slice-4.result.now) before
-    ∙ ap (then_with c.self.inside.edges.items) c.as_slice-4.ensures)
-    (c.put_rows.ensures
-    ∙ ap (λ (ws : List ℕ). with_rows c.add_row.new.rows.items ws c.in_ok-found.found) c.as_slice-5.ensures
-    ∙ ap (λ (g : Graph). with_rows g c.args.targets c.in_ok-found.found) (c.add_row.ensures
-    ∙ ap (λ (g : Graph). with_node g c.args.at c.new.result) c.reserve-2.ensures.items
-    ∙ ap (with_node c.self.inside.sources.items c.args.at) c.new.ensures))
-    (λ h. c.is_empty-alone.ensures.0 h)
-    (c.top_then-self-inside.ensures ∙ ap (top_then c.self.inside.top c.args.at c.is_empty-alone.result) (c.len.ensures ∙ c.add_row-2.new.rows.ok.0))
+    ∙ ap (λ (g : Graph). rests_kept g c.self.inside.rests ++ others c.len-number.result c.as_slice-7.result.now ∷ []) before
+    ∙ ap (λ (ws : List ℕ). kept ++ others c.len-number.result ws ∷ []) c.as_slice-7.ensures
+    ∙ ap (λ (n : ℕ). kept ++ others n row ∷ []) number in
+    let t_is : c.put_rows.new.rows.items ≡ with_rows (turned ++ [] ∷ []) row c.in_ok-found.found =
+    c.put_rows.ensures
+    ∙ ap (λ (ws : List ℕ). with_rows c.push_within.new.items.items ws c.in_ok-found.found) c.as_slice-8.ensures
+    ∙ ap (λ (g : Graph). with_rows g row c.in_ok-found.found) (c.push_within.ensures ∙ ap (λ (ws : List ℕ). c.reserve-4.new.self.items ++ ws ∷ []) c.new.ensures ∙ ap (λ (g : Graph). g ++ [] ∷ []) c.reserve-4.ensures.items) in
+    add_linked numbers indices edges kept turned c.self.invariant at h row (add_few numbers indices c.self.invariant.numbered at h row targets row_is within) c.in_ok-found.found found
+    c.insert_node.new.numbers.items c.insert_node.new.indices.items c.push_within-2.new.items.items (rests_kept c.push_within-2.new.items.items c.add_rests.new.rests) c.put_rows.new.rows.items
+    (c.insert_node.ensures.numbers ∙ ap (λ (ns : List ℕ). insert ns at (length ns)) c.reserve.ensures.items)
+    (c.insert_node.ensures.indices ∙ ap (λ (is : List ℕ). map (raised at) is ++ at ∷ []) c.reserve-2.ensures.items)
+    e_is k_is t_is
+
+pub returns-clause-ok : goal.returns-clause-ok
+returns-clause-ok c =
+    let numbers : List ℕ = c.self.inside.numbers.items in
+    let indices : List ℕ = c.self.inside.indices.items in
+    let edges : Graph = c.self.inside.edges.items in
+    let at : ℕ = c.args.at in
+    let row : List ℕ = c.in_ok-row.row in
+    let targets : List ℕ = c.args.targets in
+    let long : length c.args.self.now ≡ length numbers = ap (length {A = List ℕ}) (sym c.self.view_is) ∙ by_long numbers indices edges in
+    let index = c.requires.index in
+    let h : at ≤ length numbers = omega (arith, index, long) in
+    let row_is : row ≡ map (λ (p : ℕ). get_or (insert numbers at (length numbers)) p 0) targets =
+    c.in_ok-row.ensures
+    ∙ ap (λ (ns : List ℕ). map (λ (p : ℕ). get_or (insert ns at (length ns)) p 0) c.as_slice-2.result.now) c.as_slice.ensures.value
+    ∙ ap (map (λ (p : ℕ). get_or (insert numbers at (length numbers)) p 0)) c.as_slice-2.ensures in
+    add_view numbers indices edges (rests_kept edges c.self.inside.rests) c.self.inside.sources.items c.args.self.now c.self.invariant at h row targets c.self.view_is row_is (λ v k. let le = c.requires.within v k in omega (arith, le, long))
+    c.insert_node.new.numbers.items c.insert_node.new.indices.items c.push_within-2.new.items.items
+    (c.insert_node.ensures.numbers ∙ ap (λ (ns : List ℕ). insert ns at (length ns)) c.reserve.ensures.items)
+    (c.insert_node.ensures.indices ∙ ap (λ (is : List ℕ). map (raised at) is ++ at ∷ []) c.reserve-2.ensures.items)
+    (c.push_within-2.ensures ∙ ap (λ (g : Graph). g ++ row ∷ []) c.reserve-3.ensures.items)

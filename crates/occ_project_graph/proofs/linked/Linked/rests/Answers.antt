@@ -1,19 +1,19 @@
-use Rattle.std.proofs.Common.{◌∙◌, [], ap, get_or, sym}
-use Rattle.occ_project_graph.specs.Graph.{Graph, rests}
+use Rattle.std.proofs.Common.{◌≡◌, ◌∙◌, ◌<◌, List, [], ap, get_or, length, subst, sym, ℕ}
+use Rattle.occ_project_graph.specs.Graph.{Graph, is_among, rests}
 use Rattle.occ_project_graph.specs.inside.Linking.{rests_kept}
+use Rattle.occ_project_graph.specs.inside.Numbering.{indexed, row_by}
 use Rattle.occ_project_graph.proofs.Added.{rests_there}
+use Rattle.occ_project_graph.proofs.Numbered.{by_long, row_few, row_is}
 use Rattle.occ_project_graph.proofs.linked.Linked.rests.Goals as goal
 
-pub returns-in-Some : goal.returns-in-Some
-returns-in-Some c =
-    c.targets.ensures
-    ∙ ap (λ (rows : Graph). get_or rows c.args.node []) (c.as_slice.ensures.value ∙ sym (ap (rests_kept c.self.inside.edges.items) c.in-Some.is) ∙ c.self.invariant.rests_are)
-    ∙ rests_there c.self.inside.edges.items c.args.node
-    ∙ ap (λ (g : Graph). rests g c.args.node) c.self.view_is
-
-pub returns-in-None : goal.returns-in-None
-returns-in-None c =
-    c.targets-in-None.ensures
-    ∙ ap (λ (rows : Graph). get_or rows c.args.node []) (c.as_slice-in-None.ensures.value ∙ sym (ap (rests_kept c.self.inside.edges.items) c.in-None.is) ∙ c.self.invariant.rests_are)
-    ∙ rests_there c.self.inside.edges.items c.args.node
-    ∙ ap (λ (g : Graph). rests g c.args.node) c.self.view_is
+pub returns : goal.returns
+returns c =
+    let row : c.rests_of-rests.result.now ≡ row_by c.self.inside.numbers.items (rests_kept c.self.inside.edges.items c.self.inside.rests) c.args.node =
+    c.rests_of-rests.ensures
+    ∙ ap (λ (ns : List ℕ). row_by ns (rests_kept c.as_slice-2.result.now c.self.inside.rests) c.args.node) c.as_slice.ensures.value
+    ∙ ap (λ (g : Graph). row_by c.self.inside.numbers.items (rests_kept g c.self.inside.rests) c.args.node) c.as_slice-2.ensures.value in
+    c.of.ensures
+    ∙ ap (λ (is : List ℕ). indexed is c.rests_of-rests.result.now) c.as_slice-3.ensures.value
+    ∙ ap (indexed c.self.inside.indices.items) row
+    ∙ row_is c.self.inside.numbers.items c.self.inside.indices.items (rests_kept c.self.inside.edges.items c.self.inside.rests) c.args.node
+    ∙ ap (λ (g : Graph). get_or g c.args.node []) c.self.invariant.rests_are ∙ rests_there _ c.args.node ∙ ap (λ (g : Graph). rests g c.args.node) c.self.view_is

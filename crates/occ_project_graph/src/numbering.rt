@@ -1,0 +1,98 @@
+//! The numbers of nodes stay. Their indices rise where a node comes before them.
+ghost use Rattle.occ_project_graph.specs.Adding.{raised as spec_raised};
+ghost use Rattle.occ_project_graph.specs.Graph.{is_among};
+ghost use Rattle.std.specs.List.{insert, range_with_len};
+ghost use Rattle.std.specs.Prelude.{◌≡◌, ◌<◌, ◌≤◌, ◌++◌, ◌∷◌, [], ℕ, IfOk, get_or, length, map, true, vec_len, vec_capacity};
+
+use sqlite_items::Items;
+use std::alloc::{AllocError, Global};
+
+/// The numbers of so many nodes, each of which has its index for it.
+pub fn first_numbers(alloc: Global, count: usize) -> Result<Vec<usize>, AllocError>
+    ensures { IfOk result (λ numbers. numbers.items ≡ range_with_len 0 count) }
+{
+    let mut numbers = Vec::with_capacity(alloc, count)?;
+    for number in 0..count {
+        numbers.push(number)?;
+    }
+    Ok(numbers)
+}
+
+/// The number of the node that then has an index, where the node of the next number comes to an index.
+fn number_then(numbers: &[usize], at: usize, index: usize) -> usize
+    requires at { at ≤ length numbers.now }
+    requires index { index ≤ length numbers.now }
+    ensures { result ≡ get_or (insert numbers.now at (length numbers.now)) index 0 }
+{
+    if index == at {
+        numbers.len()
+    } else if index < at {
+        numbers[index]
+    } else {
+        numbers[index - 1]
+    }
+}
+
+/// The numbers of the nodes that then have these indices.
+pub fn numbers_then(
+    alloc: Global,
+    numbers: &[usize],
+    at: usize,
+    indices: &[usize],
+) -> Result<Items<usize>, AllocError>
+    requires at { at ≤ length numbers.now }
+    requires within { (p : ℕ) → is_among indices.now p ≡ true → p ≤ length numbers.now }
+    ensures { IfOk result (λ found. found ≡ map (λ p. get_or (insert numbers.now at (length numbers.now)) p 0) indices.now) }
+{
+    let mut found = Items::new(alloc);
+    for index in indices {
+        found.push(number_then(numbers, at, *index))?;
+    }
+    Ok(found)
+}
+
+/// The index of a node behind an index rises by one.
+fn raise(index: &mut usize, at: usize, count: usize)
+    requires { index.old < count }
+    ensures { index.new ≡ spec_raised at index.old }
+{
+    if *index >= at {
+        *index += 1;
+    }
+}
+
+/// The same of each. Behind the last node none rises.
+fn raise_each(indices: &mut [usize], at: usize, count: usize)
+    requires { (v : ℕ) → is_among indices.old v ≡ true → v < count }
+    ensures { indices.new ≡ map (spec_raised at) indices.old }
+{
+    if at >= count {
+        return;
+    }
+    for index in indices.iter_mut() {
+        raise(index, at, count);
+    }
+}
+
+/// Adds an item for which there is room.
+pub fn push_within<T: Drop>(items: &mut Vec<T>, item: T)
+    requires { vec_len items.old < vec_capacity items.old }
+    ensures { items.new.items ≡ items.old.items ++ item ∷ [] }
+{
+    let _ = items.push(item);
+}
+
+/// The node of the next number comes to an index.
+pub fn insert_node(numbers: &mut Vec<usize>, indices: &mut Vec<usize>, at: usize)
+    requires at { at ≤ vec_len numbers.old }
+    requires room { vec_len numbers.old < vec_capacity numbers.old }
+    requires more_room { vec_len indices.old < vec_capacity indices.old }
+    requires within { (v : ℕ) → is_among indices.old.items v ≡ true → v < vec_len numbers.old }
+    ensures numbers { numbers.new.items ≡ insert numbers.old.items at (length numbers.old.items) }
+    ensures indices { indices.new.items ≡ map (spec_raised at) indices.old.items ++ at ∷ [] }
+{
+    let number = numbers.len();
+    raise_each(indices.as_mut_slice(), at, number);
+    let _ = numbers.insert(at, number);
+    push_within(indices, at);
+}
