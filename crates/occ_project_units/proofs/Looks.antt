@@ -1,5 +1,5 @@
 -- An expansion looks at nothing but its reads.
-use Rattle.std.proofs.Common.{◌≡◌, ℕ, zero, suc, ◌+◌, true, false, Bool, cond, not, ◌||◌, List, [], ◌∷◌, ◌++◌, take, drop, Option, Some, None, Result, Err, refl, sym, ap, subst, ◌∙◌, append_assoc, append-nil, nat_eq}
+use Rattle.std.proofs.Common.{◌≡◌, ℕ, zero, suc, ◌+◌, true, false, Bool, cond, not, ◌||◌, List, [], ◌∷◌, ◌++◌, take, drop, Option, Some, None, Result, Ok, Err, refl, sym, ap, subst, ◌∙◌, append_assoc, append-nil, nat_eq}
 use Rattle.std.specs.List.{filter, flat_map}
 use Rattle.std.specs.Option.{ok_or, option_map}
 use Rattle.std.specs.Result.{result_err, result_ok}
@@ -8,7 +8,7 @@ use Rattle.std.proofs.lemmas.Slice.Eq.{bytes_eq-Decides}
 use Rattle.std.specs.Cmp.Lexicographic.{same_text}
 use Rattle.occ_base.specs.Firsts.{first_indices}
 use Rattle.occ_base.specs.declared.code.Code.{Code}
-use Rattle.occ_base.specs.declared.code.Code.TheVariants.{G4, G5, G6}
+use Rattle.occ_base.specs.declared.code.Code.TheVariants.{G4, G5, G6, G7}
 use Rattle.occ_base.specs.declared.diag.Diag.{Diag}
 use Rattle.occ_forms.specs.Prepared.{Prepared}
 use Rattle.occ_forms.specs.declared.source.LineBody.{LineBody}
@@ -20,7 +20,8 @@ use Rattle.occ_project.specs.declared.entry.Held.TheVariants.{Include}
 use Rattle.occ_project.specs.declared.reads.Read.{Read}
 use Rattle.occ_project.specs.Entries.{FileEntries, entries, entry_of, file_entries, held, included, inner_entries, is_among, library_line, listing, put_in}
 use Rattle.occ_project.specs.Expansion.{entry_faults, entry_lines, entry_names, expansion, expansion_of, fault_names, held_names, limit_faults, unit_entries}
-use Rattle.occ_project.specs.Reads.{open_lines, open_source}
+use Rattle.occ_lines.specs.Listing.{listed}
+use Rattle.occ_project.specs.Reads.{open_lines, open_source, open_text}
 
 -- the name stands in the front, or after it
 or_front : (b c : Bool) → b ≡ true → (b || c) ≡ true
@@ -80,10 +81,34 @@ looked_up false true name o p h = refl
 looked_up false false name None p h = ap (stands false false) (h (or_front (bytes_eq name name) false (same_bytes name)))
 looked_up false false name (Some lines) p h = ap (stands false false) (h (or_front (bytes_eq name name) false (same_bytes name)))
 
+-- the units that the text of a file lists, if it is open
+abbrev pub open_listed : List Read → List ℕ → Option (Option (List (List ℕ)))
+open_listed reads name = option_map listed (open_text reads name)
+
+-- the file of that name has the same lines in both, and lists the same units
+pub record IsAlike (files others : List Read) (name : List ℕ) : Type 0 where
+  pub lines : open_lines others name ≡ open_lines files name
+  pub units : open_listed others name ≡ open_listed files name
+
+pub same_alike : (files others : List Read) (name : List ℕ) → open_source others name ≡ open_source files name → IsAlike files others name
+same_alike files others name e = record {
+  lines = ap (option_map (λ (s : Prepared). s.lines)) e;
+  units = ap (λ (o : Option Prepared). option_map listed (option_map (λ (s : Prepared). s.text) o)) e;
+}
+
+-- a library stands for what its list has
+abbrev listing_by : List ℕ → Option (Option (List (List ℕ))) → Result (List (List ℕ)) Code
+listing_by unit None = Ok (unit ∷ [])
+listing_by unit (Some units) = ok_or units G7
+
+listing_is : (unit : List ℕ) (text : Option (List ℕ)) → listing unit text ≡ listing_by unit (option_map listed text)
+listing_is unit None = refl
+listing_is unit (Some text) = refl
+
 module _ (files others : List Read) where
-  -- the files of these names are the same in both
+  -- the files of these names are alike in both
   abbrev pub Agree : List (List ℕ) → Type 0
-  Agree names = (name : List ℕ) → is_among names name ≡ true → open_source others name ≡ open_source files name
+  Agree names = (name : List ℕ) → is_among names name ≡ true → IsAlike files others name
 
   agree_front : (xs ys : List (List ℕ)) → Agree (xs ++ ys) → Agree xs
   agree_front xs ys h name a = h name (among_front xs ys name a)
@@ -116,8 +141,8 @@ module _ (files others : List Read) where
       (subst (λ (es : List ExpansionEntry). Alike es ((front' ++ more) ++ ys)) (sym (append_assoc front rest xs))
       (subst (λ (es : List ExpansionEntry). Alike (front ++ (rest ++ xs)) es) (sym (append_assoc front' more ys)) a))
 
-  lines_alike : (name : List ℕ) → open_source others name ≡ open_source files name → open_lines others name ≡ open_lines files name
-  lines_alike name e = ap (option_map (λ (s : Prepared). s.lines)) e
+  listing_alike : (unit list : List ℕ) → IsAlike files others list → listing unit (open_text others list) ≡ listing unit (open_text files list)
+  listing_alike unit list h = listing_is unit (open_text others list) ∙ ap (listing_by unit) h.units ∙ sym (listing_is unit (open_text files list))
 
   -- so are what a line holds, and the file that it puts in
   body_alike : (way : List (List ℕ)) (left depth : ℕ) (line : LineBody) → Agree (held_names (held files (included files way left) depth line))
@@ -125,11 +150,11 @@ module _ (files others : List Read) where
   body_alike way left depth (body.Form form) a = (refl, refl)
   body_alike way left depth (body.Uses unit None) a = (refl, refl)
   body_alike way left depth (body.Uses unit (Some list)) a =
-      let same : open_source others list ≡ open_source files list = a list (or_front (bytes_eq list list) false (same_bytes list)) in
-      (ap (λ (o : Option Prepared). library_line depth list (listing unit (option_map (λ (s : Prepared). s.text) o))) same, refl)
+      let alike : IsAlike files others list = a list (or_front (bytes_eq list list) false (same_bytes list)) in
+      (ap (library_line depth list) (listing_alike unit list alike), refl)
   body_alike way left depth (body.Fault fault) a = (refl, refl)
   body_alike way left depth (body.Include name) a =
-      let same : included others way left name ≡ included files way left name = looked_up (is_among way name) (nat_eq left 0) name (open_lines files name) (open_lines others name) (λ h. lines_alike name (a name h)) in (
+      let same : included others way left name ≡ included files way left name = looked_up (is_among way name) (nat_eq left 0) name (open_lines files name) (open_lines others name) (λ h. (a name h).lines) in (
         ap (λ (r : Result (List SourceLine) Code). Include name (result_err r)) same,
         ap (λ (r : Result (List SourceLine) Code). option_map {T = List SourceLine} {U = List ℕ × List SourceLine} (λ lines. (name, lines)) (result_ok r)) same,
       )
@@ -190,16 +215,20 @@ module _ (files others : List Read) where
       → expansion_of limit unit (unit_entries others unit (open_lines others unit)) ≡ expansion_of limit unit (unit_entries files unit (open_lines files unit))
   limited_alike limit unit a =
       let names = flat_map entry_names (take limit (unit_entries files unit (open_lines files unit))) in
-      let itself : open_lines others unit ≡ open_lines files unit = lines_alike unit (a unit (among_first (unit ∷ names) unit (or_front (bytes_eq unit unit) (is_among names unit) (same_bytes unit)))) in
+      let itself : open_lines others unit ≡ open_lines files unit = (a unit (among_first (unit ∷ names) unit (or_front (bytes_eq unit unit) (is_among names unit) (same_bytes unit)))).lines in
       let known : Agree names = λ name h. a name (among_first (unit ∷ names) name (or_back (bytes_eq unit name) (is_among names name) h)) in
       ap (λ (o : Option (List SourceLine)). expansion_of limit unit (unit_entries others unit o)) itself
       ∙ of_same limit unit (unit_entries files unit (open_lines files unit)) (unit_entries others unit (open_lines files unit)) (unit_alike unit (open_lines files unit) limit known)
 
--- the law
-pub looks_at_reads : (files others : List Read) (unit : List ℕ) → ((name : List ℕ) → is_among (expansion files unit).reads name ≡ true → open_source others name ≡ open_source files name)
+-- the law: where these are alike, the expansion is the same
+pub looks_alike : (files others : List Read) (unit : List ℕ) → ((name : List ℕ) → is_among (expansion files unit).reads name ≡ true → IsAlike files others name)
     → expansion others unit ≡ expansion files unit
 unfolding expansion
-looks_at_reads files others unit = limited_alike files others 65535 unit
+looks_alike files others unit = limited_alike files others 65535 unit
+
+pub looks_at_reads : (files others : List Read) (unit : List ℕ) → ((name : List ℕ) → is_among (expansion files unit).reads name ≡ true → open_source others name ≡ open_source files name)
+    → expansion others unit ≡ expansion files unit
+looks_at_reads files others unit h = looks_alike files others unit (λ name k. same_alike files others name (h name k))
 
 pub reads_itself : (files : List Read) (unit : List ℕ) → is_among (expansion files unit).reads unit ≡ true
 unfolding expansion

@@ -10,12 +10,17 @@ use Rattle.occ_base.specs.FileName.{is_unit}
 use Rattle.occ_project_graph.specs.Graph.{Graph, has_edge, is_among as is_index}
 use Rattle.occ_project_graph.specs.Sources.{sources}
 use Rattle.occ_project.specs.Entries.{is_among}
-use Rattle.occ_project.specs.Expansion.{expansion}
-use Rattle.occ_project.specs.Reads.{index}
+use Rattle.occ_forms.specs.Prepared.{Prepared}
+use Rattle.occ_lines.specs.Listing.{listed}
+use Rattle.occ_project.specs.Expansion.{Expansion, expansion}
+use Rattle.occ_project.specs.Reads.{index, lines_in, listed_in}
+use Rattle.occ_project.specs.Uses.{used_in}
 use Rattle.occ_project.specs.declared.reads.Read.{Read}
 use Rattle.occ_project_units.proofs.Below.{named_at, placed_name}
 use Rattle.occ_project_units.proofs.Edges.{among_indices, file_at, file_there, get_map, graph_long, named_index, same_index, slice_some}
 use Rattle.occ_project_units.proofs.Kept.{map_at}
+use Rattle.occ_project_units.proofs.Looks.{IsAlike, looks_alike}
+use Rattle.occ_project_units.proofs.Narrowed.{file_source}
 use Rattle.occ_project_units.proofs.Putting.{file_put, put_at, put_rises}
 use Rattle.occ_project_units.proofs.Reading.{read_by}
 use Rattle.occ_project_units.proofs.Sharing.{facts_stay, index_stays, put_others}
@@ -396,6 +401,68 @@ module _ (law : (g : Graph) (u v : ℕ) → (is_index (sources g v) u ≡ true) 
 
     pub after_renewed : AreAsBefore facts readers (map (λ p. facts_of later (name_at later p)) readers) → IsRenewed files later
     after_renewed same = renewed files later file at project put_is e law facts (map (λ p. facts_of later (name_at later p)) readers) readers f r refl same
+
+-- a file with the same lines, which lists the same units
+module _ (files later : List Read) (file : Read) (at : ℕ) (project : IsProject files) (put_is : later ≡ put files file) (e : index file.name files ≡ Some at)
+    (lines : lines_in (file_of files file.name) ≡ lines_in file) (units : listed_in (file_of files file.name) ≡ listed_in file) where
+  found_then : (name : List ℕ) → file_of later name ≡ cond (bytes_eq file.name name) file (file_of files name)
+  found_then name = ap (λ (fs : List Read). file_of fs name) put_is ∙ file_put files file name
+
+  -- all files are alike then
+  stays_in : {X : Type 0} (f : Read → X) → f (file_of files file.name) ≡ f file → (name : List ℕ) → f (file_of later name) ≡ f (file_of files name)
+  stays_in {X} f h name = by (bytes_eq file.name name) refl where
+    by : (b : Bool) → bytes_eq file.name name ≡ b → f (file_of later name) ≡ f (file_of files name)
+    by true k =
+        let same : file.name ≡ name = (bytes_eq-Decides file.name name).0 k in
+        ap f (found_then name ∙ ap (λ (b : Bool). cond b file (file_of files name)) k) ∙ sym h ∙ ap (λ (n : List ℕ). f (file_of files n)) same
+    by false k = ap f (found_then name ∙ ap (λ (b : Bool). cond b file (file_of files name)) k)
+
+  alike_then : (name : List ℕ) → IsAlike files later name
+  alike_then name = record {
+    lines = sym (ap (option_map (λ (s : Prepared). s.lines)) (file_source later name)) ∙ stays_in lines_in lines name ∙ ap (option_map (λ (s : Prepared). s.lines)) (file_source files name);
+    units = sym (ap listed_of (file_source later name)) ∙ listed_is (file_of later name) ∙ stays_in listed_in units name ∙ sym (listed_is (file_of files name)) ∙ ap listed_of (file_source files name);
+  } where
+    listed_of : Option Prepared → Option (Option (List (List ℕ)))
+    listed_of o = option_map listed (option_map (λ (s : Prepared). s.text) o)
+
+    listed_is : (read : Read) → listed_of read.source ≡ listed_in read
+    listed_is read = by read.source where
+      by : (o : Option Prepared) → option_map listed (option_map (λ (s : Prepared). s.text) o) ≡ option_map (λ (s : Prepared). listed s.text) o
+      by None = refl
+      by (Some s) = refl
+
+  -- and all that is known of them stays
+  known_then : (name : List ℕ) → facts_of later name ≡ facts_of files name
+  known_then name =
+      ap (λ (x : Expansion). record { expanded = cond (is_unit name) (Some x) None; uses = cond (is_unit name) (used_in x.lines) [] })
+      (looks_alike files later name (λ other _. alike_then other))
+
+  known_at : (p : ℕ) → p < length files → facts_of later (name_at later p) ≡ facts_of files (name_at files p)
+  known_at p lt = ap (facts_of later) (still_named files later file at project put_is e p lt) ∙ known_then (name_at files p)
+
+  pub all_known : (facts : List Facts) → facts ≡ all_facts files → facts ≡ all_facts later
+  all_known facts f =
+      let long = still_long files later file at project put_is e in
+      let few : length facts ≡ length files = ap (length {A = Facts}) f ∙ map_long (λ (x : Read). facts_of files x.name) files in
+      all_same later facts (all_facts later) (few ∙ sym long ∙ sym (map_long (λ (x : Read). facts_of later x.name) later)) (λ p lt.
+      let within : p < length files = omega (arith, lt, few) in
+      ap (λ (fs : List Facts). slice_get fs p) f ∙ facts_at files p within ∙ ap (λ (x : Facts). Some x) (sym (known_at p within)) ∙ sym (facts_at later p (omega (arith, within, long))))
+
+  module _ (law : (g : Graph) (u v : ℕ) → (is_index (sources g v) u ≡ true) ↔ (has_edge g u v ≡ true)) where
+    row_at : (readers : List ℕ) (i : ℕ) → i < length readers → slice_get (map (λ p. facts_of later (name_at later p)) readers) i ≡ Some (facts_of later (name_at later (get_or readers i 0)))
+    row_at [] i lt = absurd (omega (arith, lt))
+    row_at (p ∷ readers) zero lt = refl
+    row_at (p ∷ readers) (suc i) lt = row_at readers i (omega (arith, lt))
+
+    as_known : (a b : Facts) (x y : Option Facts) → x ≡ Some a → y ≡ Some b → b ≡ a → IsAsBefore x y
+    as_known a b x y h k same = rw h (rw k (rw same (refl, refl)))
+
+    pub alike_renewed : IsRenewed files later
+    alike_renewed = after_renewed law files later file at project put_is e (readers_at files at) refl (all_facts files) refl (λ i lt.
+        let p : ℕ = get_or (readers_at files at) i 0 in
+        let within : p < length files = reader_within law files p at (among_there (readers_at files at) i lt) in
+        as_known (facts_of files (name_at files p)) (facts_of later (name_at later p)) (slice_get (all_facts files) p) (slice_get (map (λ q. facts_of later (name_at later q)) (readers_at files at)) i)
+        (facts_at files p within) (row_at (readers_at files at) i lt) (known_at p within))
 
 -- so the links and the readers stay
 module _ (files later : List Read) (same : IsRenewed files later) where

@@ -25,11 +25,11 @@ pub fn may_read(facts: &Facts, name: FileName) -> bool
     names.len() > 1 && is_name_among(names, name)
 }
 
-/// Whether a file from which edges lead to these may use one of that name that is not there: only one that uses more does.
-pub fn may_use(facts: &Facts, edges: &[usize], name: FileName) -> bool
-    ensures { IsFalse result → length edges.now ≡ length facts.now.uses ⊎ is_among facts.now.uses name ≡ false }
+/// Whether a file from which so many edges lead may use one of that name that is not there: only one that uses more does.
+pub fn may_use(facts: &Facts, edges: usize, name: FileName) -> bool
+    ensures { IsFalse result → edges ≡ length facts.now.uses ⊎ is_among facts.now.uses name ≡ false }
 {
-    edges.len() != facts.uses.len() && is_name_among(facts.uses.as_slice(), name)
+    edges != facts.uses.len() && is_name_among(facts.uses.as_slice(), name)
 }
 
 /// Whether it was known before that no file looks for one that is not there, and a file from which edges lead to these does not
@@ -60,7 +60,7 @@ fn add_known(
 {
     let _files = project.files();
     let known = facts_of(alloc, project, at, project.name_at(at))?;
-    let targets = indices_of(alloc, project, &[], known.uses.as_slice())?;
+    let targets = indices_of(alloc, project, 0, None, known.uses.as_slice())?;
     let still = is_still_settled(settled, &known, targets.as_slice());
     let shared = Shared::new(alloc, known)?;
     facts.reserve(1)?;

@@ -9,6 +9,7 @@ use super::expansion::expansion;
 use super::project::Project;
 use occ_base::{FileName, Items, Shared};
 use occ_project::{Expanded, used_units};
+use occ_project_graph::{Linked, Nodes};
 use std::alloc::{AllocError, Global};
 
 /// Whether the name is one of these.
@@ -110,11 +111,20 @@ fn add_index(
     }
 }
 
-/// What stands at a place of these, 0 if nothing does.
-fn hint_at(hints: &[usize], index: usize) -> usize {
-    match hints.get(index) {
-        Some(hint) => *hint,
-        None => 0,
+/// What stands at a place of these, or this one if nothing does.
+pub fn place_or(hints: &Nodes<'_>, place: usize, otherwise: usize) -> usize {
+    if place < hints.count() {
+        hints.at(place)
+    } else {
+        otherwise
+    }
+}
+
+/// Where the file of a name at a place is looked for first.
+fn hint_at(hint: usize, hints: Option<&Nodes<'_>>, place: usize) -> usize {
+    match hints {
+        Some(hints) => place_or(hints, place, hint),
+        None => hint,
     }
 }
 
@@ -122,25 +132,23 @@ fn hint_at(hints: &[usize], index: usize) -> usize {
 pub fn indices_of(
     alloc: Global,
     project: &Project,
-    hints: &[usize],
+    hint: usize,
+    hints: Option<&Nodes<'_>>,
     names: &[FileName],
 ) -> Result<Items<usize>, AllocError>
     ensures { IfOk result (λ indices. indices ≡ spec_indices_of project.now names.now) }
 {
     let mut indices = Items::new(alloc);
     for (i, name) in names.iter().enumerate() {
-        add_index(project, hint_at(hints, i), *name, &mut indices)?;
+        add_index(project, hint_at(hint, hints, i), *name, &mut indices)?;
     }
     Ok(indices)
 }
 
 /// The edges that before led from the file at an index, where none was new but that at this one.
-fn hints_at(before: &[Items<usize>], new: usize, index: usize) -> &[usize] {
-    let row = if index > new { index - 1 } else { index };
-    match before.get(row) {
-        Some(hints) => hints.as_slice(),
-        None => &[],
-    }
+fn hints_at(before: Option<&Linked>, new: usize, index: usize) -> Option<Nodes<'_>> {
+    let node = if index > new { index - 1 } else { index };
+    before.map(|links| links.targets(node))
 }
 
 /// An edge from each unit to each that it uses and that is in the project. What an edge leads to is looked for first near the
@@ -149,7 +157,7 @@ pub fn edges(
     alloc: Global,
     project: &Project,
     all: &[Shared<Facts>],
-    before: &[Items<usize>],
+    before: Option<&Linked>,
     new: usize,
 ) -> Result<Vec<Items<usize>>, AllocError>
     ensures { IfOk result (λ edges. edges.items ≡ map (λ facts. spec_indices_of project.now facts.uses) all.now) }
@@ -157,7 +165,8 @@ pub fn edges(
     let mut edges = Vec::new(alloc);
     for (index, facts) in all.iter().enumerate() {
         let hints = hints_at(before, new, index);
-        edges.push(indices_of(alloc, project, hints, facts.get().uses.as_slice())?)?;
+        let uses = facts.get().uses.as_slice();
+        edges.push(indices_of(alloc, project, 0, hints.as_ref(), uses)?)?;
     }
     Ok(edges)
 }
@@ -172,7 +181,7 @@ pub fn read_edges(
 {
     let mut edges = Items::new(alloc);
     for (index, facts) in all.iter().enumerate() {
-        edges.push(indices_of(alloc, project, &[index], reads(facts.get()))?)?;
+        edges.push(indices_of(alloc, project, index, None, reads(facts.get()))?)?;
     }
     Ok(edges)
 }

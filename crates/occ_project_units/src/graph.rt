@@ -15,7 +15,7 @@ ghost use Rattle.std.specs.Option.{is_some, option_and_then, option_copied, opti
 ghost use Rattle.std.specs.Prelude.{[], ◌∷◌, cond, false, get_or, IfOk, IfSome, IsFalse, MatchOption, None, OnErr, OnOk, Some, length, List, not, slice_get, true, ℕ, ◌&&◌, ◌≡◌, ◌<◌};
 
 use super::adding::{add_file, may_read, may_use};
-use super::facts::{Facts, all_facts, does_read};
+use super::facts::{Facts, all_facts, does_read, place_or};
 use super::following::{all_facts_after, use_same};
 use super::links::links_of;
 use super::project::{Project, share};
@@ -24,7 +24,7 @@ use super::standing::Standing;
 use occ_base::{FileName, Items, Shared};
 use occ_forms::Source;
 use occ_project::{Expanded, Read};
-use occ_project_graph::Linked;
+use occ_project_graph::{Linked, Nodes};
 use std::alloc::{AllocError, Global};
 use std::marker::Model;
 use std::slice;
@@ -55,13 +55,6 @@ fn own_name(unit: &FileName) -> &[FileName]
     } else {
         &[]
     }
-}
-
-/// Whether the index is one of these.
-fn is_index_among(indices: &[usize], index: usize) -> bool
-    ensures { result ≡ spec_is_among indices.now index }
-{
-    indices.iter().any(|other| *other == index)
 }
 
 /// What the units of a project read and use, and which of them in circles. In contracts it is the project: all that it
@@ -117,7 +110,7 @@ fn keep(alloc: Global, project: Project) -> Result<Graph, AllocError>
     ensures { IfOk result (λ graph. graph ≡ project) }
 {
     let facts = all_facts(alloc, &project)?;
-    let links = links_of(alloc, &project, facts.as_slice(), &[], 0)?;
+    let links = links_of(alloc, &project, facts.as_slice(), None, 0)?;
     Ok(Graph {
         project,
         facts,
@@ -200,7 +193,7 @@ impl Graph {
         if may_read(facts, name) {
             return true;
         }
-        may_use(facts, row(self.links.edges(), index), name)
+        may_use(facts, self.links.targets(index).count(), name)
     }
 
     /// Whether any file may do so.
@@ -360,17 +353,14 @@ impl Graph {
         requires { facts.now ≡ spec_all_facts project.now }
         ensures { IfOk result (λ found. MatchOption found (graph_of self.now ≡ graph_of project.now) (λ links. links ≡ graph_of project.now)) }
     {
-        let links = links_of(alloc, project, facts, self.links.edges(), new)?;
+        let links = links_of(alloc, project, facts, Some(&self.links), new)?;
         Ok(Some(links))
     }
 
     /// Where the file that the one at an index uses under this number, from 0, is looked for first. It promises nothing: an index
     /// that is wrong costs time.
     pub fn used_hint(&self, index: usize, number: usize) -> usize {
-        match row(self.links.edges(), index).get(number) {
-            Some(to) => *to,
-            None => 0,
-        }
+        place_or(&self.links.targets(index), number, 0)
     }
 
     /// The project that it is of.
@@ -444,16 +434,16 @@ impl Graph {
     }
 
     /// The indices of the units that the unit at an index rests on.
-    pub fn rests(&self, index: usize) -> &[usize]
-        ensures { result.now ≡ spec_rests (graph_of self.now) index }
+    pub fn rests(&self, index: usize) -> Nodes<'_>
+        ensures { result ≡ spec_rests (graph_of self.now) index }
     {
         self.links.rests(index)
     }
 
     /// The indices of the units that use the one at an index, in order.
-    pub fn users(&self, index: usize) -> &[usize]
+    pub fn users(&self, index: usize) -> Nodes<'_>
         requires { index < length self.now }
-        ensures { result.now ≡ users_at self.now index }
+        ensures { result ≡ users_at self.now index }
     {
         self.links.sources(index)
     }
@@ -483,14 +473,7 @@ impl Graph {
     fn is_in_circle(&self, from: usize, to: usize) -> bool
         ensures { result ≡ (not (spec_is_among (spec_rests (graph_of self.now) from) to) && spec_is_among (targets (graph_of self.now) from) to) }
     {
-        !is_index_among(self.rests(from), to) && self.does_use(from, to)
-    }
-
-    /// Whether an edge leads from the one index to the other.
-    fn does_use(&self, from: usize, to: usize) -> bool
-        ensures { result ≡ spec_is_among (targets (graph_of self.now) from) to }
-    {
-        is_index_among(row(self.links.edges(), from), to)
+        !self.links.rests_on(from, to) && self.links.has_edge(from, to)
     }
 
     /// How a unit stands to one that uses it.

@@ -5,7 +5,7 @@ ghost use Rattle.std.specs.Prelude.{IfOk, ◌≡◌};
 
 use super::facts::{Facts, edges};
 use super::project::Project;
-use occ_base::{Items, Shared};
+use occ_base::Shared;
 use occ_project_graph::Linked;
 use std::alloc::{AllocError, Global};
 
@@ -15,7 +15,7 @@ pub fn links_of(
     alloc: Global,
     project: &Project,
     facts: &[Shared<Facts>],
-    before: &[Items<usize>],
+    before: Option<&Linked>,
     new: usize,
 ) -> Result<Linked, AllocError>
     requires { facts.now ≡ spec_all_facts project.now }

@@ -126,7 +126,7 @@ fn renew_facts(
 }
 
 /// Puts a file in the place of the one of its name, which the files at these indices read, with what is then known of them, if
-/// all these read and use the same as before. Else nothing is changed.
+/// all these read and use the same as before. Else nothing is changed. Where it has the lines that it had, that is known.
 pub fn renew(
     alloc: Global,
     project: &mut Project,
@@ -145,6 +145,10 @@ pub fn renew(
 {
     sources_law();
     let before = project.read_near(index, file.name)?;
+    if before.is_alike(&file) {
+        project.replace(index, file);
+        return Ok(true);
+    }
     project.replace(index, file);
     match renew_facts(alloc, project, facts, readers) {
         Ok(true) => Ok(true),

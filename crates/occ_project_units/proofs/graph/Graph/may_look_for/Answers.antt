@@ -1,4 +1,4 @@
-use Rattle.std.proofs.Common.{◌∙◌, ◌<◌, List, [], ap, get_or, length, subst, sym}
+use Rattle.std.proofs.Common.{◌∙◌, ◌<◌, List, [], ap, get_or, inl, inr, length, subst, sym}
 use Rattle.std.specs.List.{slice_get}
 use Rattle.occ_project_graph.specs.Graph.{Graph}
 use Rattle.occ_project.specs.declared.reads.Read.{Read}
@@ -21,8 +21,11 @@ returns-clause-unread c = λ _.
 
 pub returns-clause-unused : goal.returns-clause-unused
 returns-clause-unused c = λ none.
-    unused_there c.args.self.now (subst IsProject c.self.view_is c.files-files.ensures.in_order) c.args.name c.requires.absent c.args.index c.requires.within c.in-Some.facts.now.uses c.row.result.now
+    unused_there c.args.self.now (subst IsProject c.self.view_is c.files-files.ensures.in_order) c.args.name c.requires.absent c.args.index c.requires.within c.in-Some.facts.now.uses c.targets.result
     (uses_at c.self.inside.project c.self.inside.facts.items c.args.index c.in-Some.facts.now c.self.invariant.facts_are (c.in-Some.ensures ∙ ap (λ (fs : List Facts). slice_get fs c.args.index) c.as_slice.ensures.value) (subst (λ (files : List Read). c.args.index < length files) (sym c.self.view_is) c.requires.within)
     ∙ ap (λ (files : List Read). used_units files (name_at files c.args.index)) c.self.view_is)
-    (c.row.ensures ∙ ap (λ (rows : Graph). get_or rows c.args.index []) (c.edges.ensures ∙ c.self.invariant.links_are ∙ ap graph_of c.self.view_is))
-    (c.may_use.ensures none)
+    (c.targets.ensures ∙ ap (λ (rows : Graph). get_or rows c.args.index []) (c.self.invariant.links_are ∙ ap graph_of c.self.view_is))
+    (elim (c.may_use.ensures none) [
+      | inl e ↦ inl (sym c.count.ensures ∙ e)
+      | inr k ↦ inr k
+    ])
