@@ -31,3 +31,4 @@ pub mod Opened
 pub mod Counted
 pub mod Revisions
 pub mod Waits
+pub mod Likeness

@@ -5,3 +5,4 @@ pub mod Holding
 pub mod Ready
 pub mod Revisions
 pub mod Touched
+pub mod Likeness

@@ -9,13 +9,17 @@ ghost use Rattle.occ_board.specs.declared.entry.EditFault.{EditFault as AFault};
 ghost use Rattle.occ_board.specs.declared.verdict.Verdict.TheVariants as verdicts;
 ghost use Rattle.occ_board.specs.inside.Ready.{HasJob, IsAcceptable};
 ghost use Rattle.occ_check.specs.Checks.{input};
+ghost use Rattle.occ_forms.specs.Prepared.{IsPrepared};
+ghost use Rattle.occ_forms.specs.declared.source.SourceLine.{SourceLine as ASourceLine};
+ghost use Rattle.occ_lines.specs.Lines.{limit_fault, line_count};
 ghost use Rattle.occ_project_units.specs.Spelled.{AreSpelled};
 ghost use Rattle.std.specs.Option.{is_some, option_map};
-ghost use Rattle.std.specs.Prelude.{◌≡◌, ◌<◌, ◌^◌, ◌⊎◌, Err, IfErr, IfOk, IfSome, None, OnErr, OnOk, length, true};
+ghost use Rattle.std.specs.Prelude.{◌≡◌, ◌<◌, ◌≤◌, ◌^◌, ◌↔◌, ◌⊎◌, Err, IfErr, IfOk, IfSome, IsErrOf, List, None, OnErr, OnOk, length, true};
 
 use super::base::{Base, Cut};
 use super::cached::Cached;
 use super::caching::unhand;
+use super::comparing::is_alike_job;
 use super::copying::{copied_job, copied_reads};
 use super::entry::{Edit, EditFault, Entry};
 use super::expanding::count_expanded;
@@ -29,8 +33,9 @@ use super::touching::renew;
 use super::verdict::Verdict;
 use super::verified::{forget_users, verified_law};
 use occ_base::{FileName, Items, Shared};
-use occ_check::{Job, Outcome};
-use occ_forms::Source;
+use occ_check::{Job, Outcome, check};
+use occ_forms::{Source, prepare, source_law};
+use occ_lines::{TextFault, text_fault};
 use occ_project_units::Graph;
 use occ_project_units::laws::put_law;
 use std::alloc::{AllocError, Global};
@@ -291,6 +296,51 @@ impl Board {
             _ => unhand(&mut self.handed, outcome.job()),
         }
         Ok(verdict)
+    }
+
+    /// Checks a job. Where an outcome of its unit is cached that looked at the same lines and used units, its diagnostics and its
+    /// interface are those. Where memory is refused the job comes back.
+    pub fn check(&self, alloc: Global, job: Job) -> Result<Outcome, (Job, AllocError)>
+        ensures ok { IfOk result (λ outcome. outcome ≡ job) }
+        ensures err { IfErr result (λ refused. refused.0 ≡ job) }
+    {
+        match self.cached.get_near(self.hint(job.unit()), job.unit()) {
+            Some(before) if is_alike_job(before.job(), &job) => before.again(job),
+            _ => check(alloc, job),
+        }
+    }
+
+    /// A text with its lines, for an edit of a file. Where that is open with a text that differs in skipped lines alone, the lines
+    /// are those.
+    pub fn prepare(&self, alloc: Global, name: FileName, text: &[u8]) -> Result<Source, TextFault>
+        ensures text { IfOk result (λ source. source.text ≡ text.now) }
+        ensures lines { IfOk result (λ source. IsPrepared text.now source.lines) }
+        ensures only { IfOk result (λ source. (lines : List ASourceLine) → IsPrepared text.now lines → lines ≡ source.lines) }
+        ensures large { IsErrOf result TextFault.TooLarge ↔ (262144 < length text.now) }
+        ensures many { IsErrOf result TextFault.TooManyLines ↔ ((length text.now ≤ 262144) × (16384 < line_count text.now)) }
+    {
+        source_law();
+        if let Some(source) = self.prepared_again(alloc, name, text)? {
+            let _lines = source.lines();
+            return Ok(source);
+        }
+        prepare(alloc, text)
+    }
+
+    /// The text with the lines of the file, if it is within the limits and differs from that in skipped lines alone.
+    fn prepared_again(
+        &self,
+        alloc: Global,
+        name: FileName,
+        text: &[u8],
+    ) -> Result<Option<Source>, AllocError>
+        ensures limit { IfOk result (λ found. IfSome found (λ source. limit_fault text.now ≡ None)) }
+        ensures text { IfOk result (λ found. IfSome found (λ source. source.text ≡ text.now)) }
+    {
+        match self.graph.project().get(name) {
+            Some(known) if text_fault(text).is_none() => known.get().again(alloc, text),
+            _ => Ok(None),
+        }
     }
 
     /// Where a unit is looked for first. It promises nothing: an index that is wrong costs time.

@@ -1,5 +1,7 @@
 //! Whether two jobs, or parts of them, are one, item by item. A text has one list of lines, so texts decide.
 ghost use Rattle.occ_board.specs.Verdicts.{same_text};
+ghost use Rattle.occ_board.specs.inside.Likeness.{AreAlikeReads, IsAlikeRead};
+ghost use Rattle.occ_check.specs.Input.{expansion_in};
 ghost use Rattle.std.specs.Option.{option_copied};
 ghost use Rattle.std.specs.Str.{bytes_eq};
 ghost use Rattle.std.specs.Prelude.{◌≡◌, ◌↔◌, IsTrue};
@@ -97,6 +99,38 @@ impl Same for Job {
             && are_same(self.reads().as_slice(), other.reads().as_slice())
             && are_same(self.used(), other.used())
     }
+}
+
+/// Whether two reads are of files of one name that have the same lines and list the same units, as far as their texts show it.
+fn is_alike_read(a: &Read, b: &Read) -> bool
+    ensures { IsTrue result → IsAlikeRead a.now b.now }
+{
+    a.name == b.name && a.is_alike(b)
+}
+
+/// The same read by read.
+fn are_alike_reads(a: &[Read], b: &[Read]) -> bool
+    ensures { IsTrue result → AreAlikeReads a.now b.now }
+{
+    if a.len() != b.len() {
+        return false;
+    }
+    for i in 0..a.len() {
+        if !is_alike_read(&a[i], &b[i]) {
+            return false;
+        }
+    }
+    true
+}
+
+/// Whether two jobs look at the same lines and used units, as far as their texts show it.
+pub fn is_alike_job(a: &Job, b: &Job) -> bool
+    ensures expansion { IsTrue result → expansion_in b.now ≡ expansion_in a.now }
+    ensures used { IsTrue result → b.now.used ≡ a.now.used }
+{
+    a.unit() == b.unit()
+        && are_alike_reads(a.reads().as_slice(), b.reads().as_slice())
+        && are_same(a.used(), b.used())
 }
 
 impl Same for Interface {

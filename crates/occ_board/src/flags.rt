@@ -18,6 +18,7 @@ use super::laws::{done_law, height_law};
 use super::verified::{is_current, verified_law};
 use occ_base::{FileName, Items};
 use occ_project::Read;
+use occ_project_graph::Nodes;
 use occ_project_units::Graph;
 use occ_project_units::laws::users_law;
 use sqlite_items::at;
@@ -122,12 +123,12 @@ impl Flags {
 }
 
 /// Takes the flags of these indices.
-pub fn unflag(flags: &mut Flags, indices: &[usize])
+pub fn unflag(flags: &mut Flags, indices: &Nodes<'_>)
     ensures len { length flags.new ≡ length flags.old }
     ensures flags { (p : ℕ) → get_or flags.new p false ≡ (get_or flags.old p false && not (spec_is_among indices.now p)) }
 {
-    for index in indices {
-        flags.unset(*index);
+    for place in 0..indices.count() {
+        flags.unset(indices.at(place));
     }
 }
 
@@ -162,11 +163,11 @@ fn is_rest_flagged(files: &[Read], flags: &[bool], index: usize) -> bool
 }
 
 /// Whether the files at these indices are absent, or have their flags.
-fn are_flagged(files: &[Read], flags: &[bool], indices: &[usize]) -> bool
+fn are_flagged(files: &[Read], flags: &[bool], indices: &Nodes<'_>) -> bool
     ensures { result ≡ list_all (rest_flag files.now flags.now) indices.now }
 {
-    for index in indices {
-        if !is_rest_flagged(files, flags, *index) {
+    for place in 0..indices.count() {
+        if !is_rest_flagged(files, flags, indices.at(place)) {
             return false;
         }
     }
@@ -178,7 +179,7 @@ pub fn are_rests_flagged(graph: &Graph, flags: &[bool], index: usize) -> bool
     requires { index < length graph.now }
     ensures { result ≡ list_all (flag_of graph.now flags.now) (rest_units graph.now (name_at graph.now index)) }
 {
-    are_flagged(graph.project().files(), flags, graph.rests(index))
+    are_flagged(graph.project().files(), flags, &graph.rests(index))
 }
 
 /// Whether the file at an index is done, as far as the flags report.
@@ -319,8 +320,8 @@ fn spread(graph: &Graph, cached: &Cached, flags: &mut Flags, verified: &mut Flag
         return;
     }
     let users = graph.users(index);
-    for user in users {
-        spread(graph, cached, flags, verified, *user);
+    for place in 0..users.count() {
+        spread(graph, cached, flags, verified, users.at(place));
     }
 }
 
@@ -331,7 +332,7 @@ pub fn settle_among(
     cached: &Cached,
     flags: &mut Flags,
     verified: &mut Flags,
-    indices: &[usize],
+    indices: &Nodes<'_>,
 )
     requires within { (p : ℕ) → spec_is_among indices.now p ≡ true → p < length graph.now }
     requires len { length flags.old ≡ length graph.now }
@@ -346,8 +347,8 @@ pub fn settle_among(
     let _files = graph.project().files();
     done_law();
     height_law();
-    for index in indices {
-        spread(graph, cached, flags, verified, *index);
+    for place in 0..indices.count() {
+        spread(graph, cached, flags, verified, indices.at(place));
     }
 }
 
@@ -378,7 +379,7 @@ fn settle_done(
     flags.set(index);
     verified.set(index);
     let count = flags.count();
-    settle_among(graph, cached, flags, verified, graph.users(index));
+    settle_among(graph, cached, flags, verified, &graph.users(index));
     flags.count() == count
 }
 
@@ -391,13 +392,13 @@ fn lower(a: usize, b: usize) -> usize
 }
 
 /// The least of these indices, or this one, if it is less.
-fn least_of(indices: &[usize], least: usize) -> usize
+fn least_of(indices: &Nodes<'_>, least: usize) -> usize
     ensures most { result ≤ least }
     ensures each { (p : ℕ) → spec_is_among indices.now p ≡ true → result ≤ p }
 {
     let mut found = least;
-    for index in indices {
-        found = lower(*index, found);
+    for place in 0..indices.count() {
+        found = lower(indices.at(place), found);
     }
     found
 }
@@ -434,7 +435,7 @@ pub fn settle_cached(
         return 0;
     };
     if settle_done(graph, cached, flags, verified, index) {
-        least_of(graph.users(index), from)
+        least_of(&graph.users(index), from)
     } else {
         0
     }

@@ -25,6 +25,7 @@ use super::verified::{forget_readers, verified_with_index};
 use occ_base::{FileName, Shared};
 use occ_check::Checked;
 use occ_forms::Source;
+use occ_project_graph::Nodes;
 use occ_project_units::Graph;
 use occ_project_units::laws::{
     along_law, circle_law, names_law, put_law, readers_law, reads_law, users_law,
@@ -62,8 +63,8 @@ fn touch(graph: &Graph, touched: &mut Touched, index: usize) -> Result<(), Alloc
     }
     touched.mark(index)?;
     let users = graph.users(index);
-    for user in users {
-        touch(graph, touched, *user)?;
+    for place in 0..users.count() {
+        touch(graph, touched, users.at(place))?;
     }
     Ok(())
 }
@@ -124,7 +125,13 @@ fn resettle(
     ensures flags { AreFlags graph.now cached.now flags.new }
     ensures verified { AreVerified graph.now cached.now verified.new }
 {
-    settle_among(graph, cached, flags, verified, touched.indices());
+    settle_among(
+        graph,
+        cached,
+        flags,
+        verified,
+        &Nodes::of_indices(touched.indices()),
+    );
 }
 
 /// The graph, the flags and what is verified after the edit of a file that was not there, and that no file looks for. What there
@@ -235,7 +242,7 @@ fn renew_at(
     let touched = touched_by(alloc, graph, index, readers.as_slice())?;
     let alike = graph.set(alloc, index, readers.as_slice(), name, revision, source)?;
     forget_readers(verified, readers.as_slice(), &touched, alike);
-    unflag(flags, touched.indices());
+    unflag(flags, &Nodes::of_indices(touched.indices()));
     resettle(graph, cached, flags, verified, &touched);
     Ok(())
 }

@@ -24,6 +24,7 @@ use super::present::is_cached_now;
 use super::touched::Touched;
 use occ_base::FileName;
 use occ_check::laws::input_law;
+use occ_project_graph::Nodes;
 use occ_project_units::Graph;
 use occ_project_units::laws::users_law;
 use std::alloc::{AllocError, Global};
@@ -68,10 +69,10 @@ pub fn forget_readers(verified: &mut Flags, readers: &[usize], touched: &Touched
     ensures { (p : ℕ) → get_or verified.new p false ≡ true → (get_or verified.old p false ≡ true) × (((alike ≡ true) × (spec_is_among readers.now p ≡ false)) ⊎ (get_or touched.now p false ≡ false)) }
 {
     if alike {
-        unflag(verified, readers);
+        unflag(verified, &Nodes::of_indices(readers));
         return;
     }
-    unflag(verified, touched.indices());
+    unflag(verified, &Nodes::of_indices(touched.indices()));
 }
 
 /// What is known to be verified where an index is new. Nothing is, if there is no such index yet.
@@ -101,5 +102,5 @@ pub fn forget_users(graph: &Graph, verified: &mut Flags, hint: usize, unit: File
     let Some(index) = graph.project().index_near(hint, unit) else {
         return;
     };
-    unflag(verified, graph.users(index));
+    unflag(verified, &graph.users(index));
 }

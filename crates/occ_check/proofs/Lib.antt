@@ -4,3 +4,5 @@ pub mod Names
 pub mod Firsts
 pub mod Local
 pub mod Inputs
+pub mod Again
+pub mod Sorted

@@ -9,3 +9,4 @@ pub mod Diagnostics
 pub mod Samples
 pub mod Checks
 pub mod Report
+pub mod inside

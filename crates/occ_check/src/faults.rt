@@ -1,6 +1,7 @@
 //! Faults of lines (L1 to L4, S1, S3), and of used units (G1 to G3). `docs/LANGUAGE.md, Codes`.
 ghost use Rattle.std.specs.List.{flat_map};
 ghost use Rattle.std.specs.Prelude.{◌≡◌, ◌++◌, OnOk};
+ghost use Rattle.occ_check.specs.inside.Sorted.{AreSorted};
 ghost use Rattle.occ_check.specs.Faults.{line_faults, own_faults, standing, use_code as spec_use_code, use_faults};
 
 use super::used::{Used, UsedUnit};
@@ -8,21 +9,27 @@ use occ_base::{Code, Diag, FileName, Items, Name};
 use occ_project::{ExpandedBody, ExpandedLine};
 use std::alloc::{AllocError, Global};
 
+/// What is wrong with a use of a unit that stands so.
+fn code_of(used: &Used) -> Option<Code>
+    ensures { result ≡ spec_use_code used.now }
+{
+    match used {
+        Used::Absent => Some(Code::G1),
+        Used::Circular => Some(Code::G2),
+        Used::Faulty => Some(Code::G3),
+        Used::Clean(_) => None,
+    }
+}
+
 /// What is wrong with a use of the unit, as it stands among these: one that is not among them is absent.
 fn use_code(used: &[UsedUnit], unit: FileName) -> Option<Code>
+    requires { AreSorted used.now }
     ensures { result ≡ spec_use_code (standing used.now unit) }
 {
-    for one in used {
-        if one.unit == unit {
-            return match one.used {
-                Used::Absent => Some(Code::G1),
-                Used::Circular => Some(Code::G2),
-                Used::Faulty => Some(Code::G3),
-                Used::Clean(_) => None,
-            };
-        }
+    match used.binary_search_by_key(&unit, |one| one.unit) {
+        Ok(at) => code_of(&used[at].used),
+        Err(_at) => Some(Code::G1),
     }
-    Some(Code::G1)
 }
 
 /// Adds the fault of a use of the unit at the line, if it has one.
@@ -33,6 +40,7 @@ fn add_use_fault(
     unit: FileName,
     found: &mut Items<Diag>,
 ) -> Result<(), AllocError>
+    requires { AreSorted used.now }
     ensures { OnOk result (found.new ≡ found.old ++ use_faults used.now line.now unit) }
 {
     let Some(code) = use_code(used, unit) else {
@@ -50,6 +58,7 @@ fn add_use_faults(
     units: &[FileName],
     found: &mut Items<Diag>,
 ) -> Result<(), AllocError>
+    requires { AreSorted used.now }
     ensures { OnOk result (found.new ≡ found.old ++ flat_map (use_faults used.now line.now) units.now) }
 {
     for unit in units {
@@ -65,6 +74,7 @@ fn add_own_faults(
     line: &ExpandedLine,
     found: &mut Items<Diag>,
 ) -> Result<(), AllocError>
+    requires { AreSorted used.now }
     ensures { OnOk result (found.new ≡ found.old ++ own_faults used.now line.now) }
 {
     match &line.body {
@@ -83,6 +93,7 @@ pub fn find_line_faults(
     lines: &[ExpandedLine],
     found: &mut Items<Diag>,
 ) -> Result<(), AllocError>
+    requires { AreSorted used.now }
     ensures { OnOk result (found.new ≡ found.old ++ line_faults used.now lines.now) }
 {
     for line in lines {

@@ -3,6 +3,7 @@ ghost use Rattle.std.specs.Option.{option_copied};
 ghost use Rattle.std.specs.Prelude.{◌≡◌, if◌then◌else◌, IfErr, IfOk, None};
 ghost use Rattle.occ_base.specs.Errors.{has_error as spec_has_error};
 ghost use Rattle.occ_check.specs.Diagnostics.{diags_of, interface_of, judged as spec_judged};
+ghost use Rattle.occ_check.specs.Input.{expansion_in};
 
 use super::faults::find_line_faults;
 use super::job::Job;
@@ -17,7 +18,8 @@ use std::marker::Model;
 /// What the check of a job gave: in contracts what the job looks at, which decides all the rest.
 pub struct Outcome {
     job: Job,
-    diags: Items<Diag>,
+    /// Shared, since a job with the same lines has the same.
+    diags: Shared<Items<Diag>>,
     interface: Option<Shared<Interface>>,
 }
 
@@ -67,7 +69,7 @@ impl Outcome {
     pub fn diags(&self) -> &[Diag]
         ensures { result.now ≡ diags_of self.now }
     {
-        self.diags.as_slice()
+        self.diags.get().as_slice()
     }
 
     /// What the unit shows to those that use it, if it has no diagnostic of the grade error.
@@ -76,7 +78,42 @@ impl Outcome {
     {
         self.interface.as_ref()
     }
+
+    /// What the rules give for its job, to be shared.
+    fn share_parts(&self) -> Result<OutcomeParts, AllocError>
+        ensures diags { IfOk result (λ parts. parts.0 ≡ diags_of self.now) }
+        ensures interface { IfOk result (λ parts. parts.1 ≡ interface_of self.now) }
+    {
+        let diags = self.diags.share()?;
+        let interface = match &self.interface {
+            Some(interface) => Some(interface.share()?),
+            None => None,
+        };
+        Ok((diags, interface))
+    }
+
+    /// The outcome of a job that has the same expansion as the one of this outcome, and uses the same units. Where the count of
+    /// owners is full the job comes back.
+    #[tactic(auto, using(crate::proofs::Again::same_diags, crate::proofs::Again::same_interface))]
+    pub fn again(&self, job: Job) -> Result<Outcome, (Job, AllocError)>
+        requires expansion { expansion_in job ≡ expansion_in self.now }
+        requires used { job.used ≡ self.now.used }
+        ensures ok { IfOk result (λ outcome. outcome ≡ job) }
+        ensures err { IfErr result (λ refused. refused.0 ≡ job) }
+    {
+        match self.share_parts() {
+            Ok((diags, interface)) => Ok(Outcome {
+                job,
+                diags,
+                interface,
+            }),
+            Err(refused) => Err((job, refused)),
+        }
+    }
 }
+
+/// Diagnostics and an interface.
+type OutcomeParts = (Shared<Items<Diag>>, Option<Shared<Interface>>);
 
 /// What is reported of the files of the unit, of its lines and of the units that it uses, if anything is; else what the
 /// language says.
@@ -110,17 +147,14 @@ fn shown(
 
 /// What the rules give for a job.
 #[tactic(auto, unfolding(crate::specs::Diagnostics::diags_of, crate::specs::Diagnostics::interface_of))]
-fn outcome_parts(
-    alloc: Global,
-    job: &Job,
-) -> Result<(Items<Diag>, Option<Shared<Interface>>), AllocError>
+fn outcome_parts(alloc: Global, job: &Job) -> Result<OutcomeParts, AllocError>
     ensures diags { IfOk result (λ parts. parts.0 ≡ diags_of job.now) }
     ensures interface { IfOk result (λ parts. parts.1 ≡ interface_of job.now) }
 {
     let Judgement { faults, interface } = judged(alloc, job)?;
     let diags = in_order(alloc, faults)?;
     let interface = shown(alloc, diags.as_slice(), interface)?;
-    Ok((diags, interface))
+    Ok((Shared::new(alloc, diags)?, interface))
 }
 
 /// Checks a job. Where memory is refused the job comes back.

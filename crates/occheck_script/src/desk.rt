@@ -68,7 +68,7 @@ impl Desk {
         ensures answered { (read : Reading) → AreLines text.now (read text.now) → IfOk result (λ bytes. bytes.items ≡ spec_answer read self.old (Open name.now text.now)) }
         ensures after { (read : Reading) → AreLines text.now (read text.now) → OnOk result (self.new ≡ after read self.old (Open name.now text.now)) }
     {
-        let given = read_edit(alloc, name, text)?;
+        let given = read_edit(alloc, Some(&self.board), name, text)?;
         match given {
             RequestedEdit::File(file, source) => {
                 edited(alloc, self.board.open(alloc, SESSION, file, source))
@@ -81,7 +81,7 @@ impl Desk {
         ensures answered { (read : Reading) → AreLines text.now (read text.now) → IfOk result (λ bytes. bytes.items ≡ spec_answer read self.old (Change name.now text.now)) }
         ensures after { (read : Reading) → AreLines text.now (read text.now) → OnOk result (self.new ≡ after read self.old (Change name.now text.now)) }
     {
-        let given = read_edit(alloc, name, text)?;
+        let given = read_edit(alloc, Some(&self.board), name, text)?;
         match given {
             RequestedEdit::File(file, source) => {
                 edited(alloc, self.board.change(alloc, SESSION, file, source))
@@ -123,7 +123,7 @@ impl Desk {
             return line(alloc, "idle");
         };
         let unit = job.unit();
-        let outcome = checked(alloc, job)?;
+        let outcome = checked(alloc, &self.board, job)?;
         match self.board.finish(outcome) {
             Ok(verdict) => verdict_line(alloc, unit, verdict),
             Err(_refused) => Err(AllocError),

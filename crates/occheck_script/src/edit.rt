@@ -1,15 +1,17 @@
 //! The file and the text of an `open`, `change` or `remove`, or the word that refuses it, the first that holds.
 ghost use Rattle.occ_base.specs.FileName.{name_fault};
 ghost use Rattle.occ_board.specs.declared.entry.EditFault.TheVariants as fault;
-ghost use Rattle.occ_lines.specs.Lines.{limit_fault};
+ghost use Rattle.occ_forms.specs.Prepared.{IsPrepared};
+ghost use Rattle.occ_forms.specs.declared.source.SourceLine.{SourceLine as ASourceLine};
+ghost use Rattle.occ_lines.specs.Lines.{limit_fault, line_count};
 ghost use Rattle.occheck_script.specs.Machine.{AreLines, Reading, board_word as spec_board_word, edited_text, name_word as spec_name_word, text_read, text_word as spec_text_word, with_line_end, wrong_word};
 ghost use Rattle.occheck_script.specs.inside.Seen.{IsFile, refused_by, refused_edit, unnamed_by};
 ghost use Rattle.std.specs.Option.{option_copied, option_map};
-ghost use Rattle.std.specs.Prelude.{◌≡◌, ◌++◌, Err, IfOk, IsErr, None, codes};
+ghost use Rattle.std.specs.Prelude.{◌≡◌, ◌<◌, ◌≤◌, ◌↔◌, ◌++◌, Err, IfOk, IsErr, IsErrOf, List, None, codes, length};
 
 use super::answer::{line, line_naming};
 use occ_base::{FileName, NameFault, Shared};
-use occ_board::EditFault;
+use occ_board::{Board, EditFault};
 use occ_forms::{Source, prepare};
 use occ_lines::{TextFault, text_fault};
 use std::alloc::{AllocError, Global};
@@ -87,8 +89,33 @@ pub fn wrong_edit(name: &[u8], text: &[u8]) -> Option<&'static str>
     text_fault(text).map(text_word)
 }
 
-/// The file and the text, if neither is refused; a wrong name comes before a wrong text. Refusals take no memory.
-pub fn read_edit(alloc: Global, name: &[u8], text: &[u8]) -> Result<RequestedEdit, AllocError>
+/// The text with its lines. A board that has the file may know them.
+fn prepared(
+    alloc: Global,
+    board: Option<&Board>,
+    file: FileName,
+    text: &[u8],
+) -> Result<Source, TextFault>
+    ensures text { IfOk result (λ source. source.text ≡ text.now) }
+    ensures lines { IfOk result (λ source. IsPrepared text.now source.lines) }
+    ensures only { IfOk result (λ source. (lines : List ASourceLine) → IsPrepared text.now lines → lines ≡ source.lines) }
+    ensures large { IsErrOf result TextFault.TooLarge ↔ (262144 < length text.now) }
+    ensures many { IsErrOf result TextFault.TooManyLines ↔ ((length text.now ≤ 262144) × (16384 < line_count text.now)) }
+{
+    match board {
+        Some(board) => board.prepare(alloc, file, text),
+        None => prepare(alloc, text),
+    }
+}
+
+/// The file and the text, if neither is refused; a wrong name comes before a wrong text. Refusals take no memory. A board that has
+/// the file may know its lines.
+pub fn read_edit(
+    alloc: Global,
+    board: Option<&Board>,
+    name: &[u8],
+    text: &[u8],
+) -> Result<RequestedEdit, AllocError>
     ensures refused { IfOk result (λ it. refused_by it ≡ wrong_word name.now (limit_fault text.now)) }
     ensures file { (read : Reading) → AreLines text.now (read text.now) → IfOk result (λ it. IsFile it name.now (text_read read text.now)) }
 {
@@ -96,7 +123,7 @@ pub fn read_edit(alloc: Global, name: &[u8], text: &[u8]) -> Result<RequestedEdi
         Ok(file) => file,
         Err(word) => return Ok(RequestedEdit::Refused(word)),
     };
-    match prepare(alloc, text) {
+    match prepared(alloc, board, file, text) {
         Ok(source) => Ok(RequestedEdit::File(file, Shared::new(alloc, source)?)),
         Err(TextFault::Memory) => Err(AllocError),
         Err(fault) => Ok(RequestedEdit::Refused(text_word(fault))),

@@ -4,14 +4,14 @@ ghost use Rattle.std.specs.Prelude.{◌≡◌, IfOk};
 
 use super::answer::line_naming;
 use occ_base::FileName;
-use occ_board::{Job, Outcome, Verdict, check};
+use occ_board::{Board, Job, Outcome, Verdict};
 use std::alloc::{AllocError, Global};
 
 /// The outcome of a job.
-pub fn checked(alloc: Global, job: Job) -> Result<Outcome, AllocError>
+pub fn checked(alloc: Global, board: &Board, job: Job) -> Result<Outcome, AllocError>
     ensures { IfOk result (λ outcome. outcome ≡ job) }
 {
-    match check(alloc, job) {
+    match board.check(alloc, job) {
         Ok(outcome) => Ok(outcome),
         Err(_refused) => Err(AllocError),
     }

@@ -37,7 +37,7 @@ fn work_once(alloc: Global, board: &mut Board) -> Result<bool, AllocError>
     let Some(job) = board.take(alloc)? else {
         return Ok(false);
     };
-    let outcome = checked(alloc, job)?;
+    let outcome = checked(alloc, board, job)?;
     match board.finish(outcome) {
         Ok(_verdict) => Ok(true),
         Err(_refused) => Err(AllocError),

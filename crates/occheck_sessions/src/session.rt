@@ -54,11 +54,11 @@ impl<'a, R: Wait> Session<'a, R> {
     /// Asks for what a command asks for.
     fn ask(&self, command: Command<'_>, talk: &mut Talk) -> Result<Said, Broken> {
         match command {
-            Command::Open(name, text) => match read_edit(self.alloc, name, text)? {
+            Command::Open(name, text) => match read_edit(self.alloc, None, name, text)? {
                 RequestedEdit::File(file, source) => self.edit(Edit::Added(file, source), talk),
                 RequestedEdit::Refused(_word) => Ok(Said::Wrong),
             },
-            Command::Change(name, text) => match read_edit(self.alloc, name, text)? {
+            Command::Change(name, text) => match read_edit(self.alloc, None, name, text)? {
                 RequestedEdit::File(file, source) => self.edit(Edit::Changed(file, source), talk),
                 RequestedEdit::Refused(_word) => Ok(Said::Wrong),
             },

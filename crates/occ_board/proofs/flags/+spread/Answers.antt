@@ -1,4 +1,4 @@
-use Rattle.std.proofs.Common.{arith, ℕ, List, get_or, rules, subst, ◌≡◌, true}
+use Rattle.std.proofs.Common.{arith, ◌<◌, ◌+◌, ◌∙◌, ◌∷◌, ap, drop, ℕ, List, rules, subst, sym, ◌≡◌, true}
 use Rattle.std.proofs.lemmas.List.{drop_more}
 use Rattle.occ_board.proofs.Spread.{among_there, spread_begun, spread_more, spread_none, spread_over}
 use Rattle.occ_board.proofs.flags.+spread.Goals as goal
@@ -9,32 +9,33 @@ pub returns-then-not-advance-clause-full : goal.returns-then-not-advance-clause-
 returns-then-not-advance-clause-full t c =
     spread_none c.args.graph.now c.args.cached.now (subst IsProject c.project.ensures c.files-files.ensures.in_order) c.args.flags.now c.advance.new.flags c.args.index (c.advance.ensures.same c.if-not-advance.true) (c.advance.ensures.full c.if-not-advance.true)
 
-pub loop-user-init : goal.loop-user-init
-loop-user-init t c = (
-  spread_begun c.args.graph.now c.args.cached.now (subst IsProject c.project.ensures c.files-files.ensures.in_order) (c.users_law.ensures.rests c.args.graph.now) c.users-users.result.now c.args.flags.now c.advance.new.flags c.args.index c.users-users.ensures
+pub loop-place-init : goal.loop-place-init
+loop-place-init t c = (
+  spread_begun c.args.graph.now c.args.cached.now (subst IsProject c.project.ensures c.files-files.ensures.in_order) (c.users_law.ensures.rests c.args.graph.now) c.users-users.result c.args.flags.now c.advance.new.flags c.args.index c.users-users.ensures
       (c.advance.ensures.set c.if-not-advance.false) c.requires.len c.requires.within c.advance.ensures.len c.advance.ensures.sound (c.advance.ensures.fewer c.if-not-advance.false),
   c.advance.ensures.verified,
 )
 
 pub spread-requires : goal.spread-requires
 spread-requires t c =
-    let users : List ℕ = c.users-users.result.now in
-    let i : ℕ = c.loop-user.user-index in
-    let among = subst (λ (ws : List ℕ). is_among ws (get_or users i 0) ≡ true) c.users-users.ensures (among_there users i c.loop-user-test.true) in
-    let fewer = c.loop-user.invariant.0.fewer in
+    let users : List ℕ = c.users-users.result in
+    let i : ℕ = c.loop-place.place in
+    let there = subst (λ (p : ℕ). is_among users p ≡ true) (sym c.at.ensures) (among_there users i (subst (λ (n : ℕ). c.loop-place.place < n) c.count.ensures c.loop-place-test.true)) in
+    let among = subst (λ (ws : List ℕ). is_among ws c.at.result ≡ true) c.users-users.ensures there in
+    let fewer = c.loop-place.invariant.0.fewer in
     let least = c.decreases in
-    (omega (arith, fewer, least), (c.users_law.ensures.within c.args.graph.now (get_or users i 0) c.args.index among, (c.loop-user.invariant.0.len, (c.loop-user.invariant.0.sound, (c.requires.reported, c.loop-user.invariant.1)))))
+    (omega (arith, fewer, least), (c.users_law.ensures.within c.args.graph.now c.at.result c.args.index among, (c.loop-place.invariant.0.len, (c.loop-place.invariant.0.sound, (c.requires.reported, c.loop-place.invariant.1)))))
 
-pub loop-user-preserved : goal.loop-user-preserved
-loop-user-preserved t c =
-    let users : List ℕ = c.users-users.result.now in
-    let i : ℕ = c.loop-user.user-index in (
-      spread_more c.args.graph.now c.args.cached.now (subst IsProject c.project.ensures c.files-files.ensures.in_order) users c.args.flags.now c.loop-user.flags c.spread.new.flags c.args.index i (get_or users i 0) c.loop-user.invariant.0
-          (drop_more users i 0 c.loop-user-test.true)
+pub loop-place-preserved : goal.loop-place-preserved
+loop-place-preserved t c =
+    let users : List ℕ = c.users-users.result in
+    let i : ℕ = c.loop-place.place in (
+      spread_more c.args.graph.now c.args.cached.now (subst IsProject c.project.ensures c.files-files.ensures.in_order) users c.args.flags.now c.loop-place.flags c.spread.new.flags c.args.index i c.at.result c.loop-place.invariant.0
+          (drop_more users i 0 (subst (λ (n : ℕ). c.loop-place.place < n) c.count.ensures c.loop-place-test.true) ∙ ap (λ (p : ℕ). p ∷ drop (i + 1) users) (sym c.at.ensures))
           c.spread.ensures.len c.spread.ensures.sound c.spread.ensures.least c.spread.ensures.full,
       c.spread.ensures.verified,
     )
 
 pub returns-clause-full : goal.returns-clause-full
 returns-clause-full t c =
-    spread_over c.args.graph.now c.args.cached.now (subst IsProject c.project.ensures c.files-files.ensures.in_order) c.users-users.result.now c.args.flags.now c.loop-user.flags c.args.index c.loop-user.user-index c.loop-user.invariant.0 (search rules) (search rules)
+    spread_over c.args.graph.now c.args.cached.now (subst IsProject c.project.ensures c.files-files.ensures.in_order) c.users-users.result c.args.flags.now c.loop-place.flags c.args.index c.loop-place.place c.loop-place.invariant.0 (search rules) (search rules)

@@ -6,5 +6,5 @@ use Rattle.occ_board.specs.inside.Flagged.{unflagged}
 abbrev pub decreases-spread : goal.decreases-spread
 decreases-spread l = unflagged l.flags.now
 
-abbrev pub invariant-loop-user : goal.invariant-loop-user
-invariant-loop-user l = IsSpread l.graph l.cached l.users l.fn.flags l.flags l.fn.index l.user-index × AreVerified l.graph l.cached l.verified
+abbrev pub invariant-loop-place : goal.invariant-loop-place
+invariant-loop-place l = IsSpread l.graph l.cached l.users l.fn.flags l.flags l.fn.index l.place × AreVerified l.graph l.cached l.verified

@@ -1,4 +1,4 @@
-use Rattle.std.proofs.Common.{ℕ, List, get_or, rules, subst}
+use Rattle.std.proofs.Common.{◌<◌, ◌+◌, ◌∙◌, ◌∷◌, ap, drop, length, ℕ, List, rules, subst, sym}
 use Rattle.std.proofs.lemmas.List.{drop_more}
 use Rattle.occ_board.proofs.Marked.{all_resettled, resettled_more}
 use Rattle.occ_board.proofs.Settled.{are_flags}
@@ -6,19 +6,19 @@ use Rattle.occ_board.proofs.Spread.{among_there}
 use Rattle.occ_board.proofs.flags.settle_among.Goals as goal
 use Rattle.occ_project_units.specs.Project.{IsProject}
 
-pub loop-index-init : goal.loop-index-init
-loop-index-init c = (c.requires.len, c.requires.sound, c.requires.full, c.requires.verified)
+pub loop-place-init : goal.loop-place-init
+loop-place-init c = (c.requires.len, c.requires.sound, c.requires.full, c.requires.verified)
 
 pub spread-requires-clause-within : goal.spread-requires-clause-within
-spread-requires-clause-within c = c.requires.within _ (among_there c.args.indices.now c.loop-index.index-index c.loop-index-test.true)
+spread-requires-clause-within c = subst (λ (p : ℕ). p < length c.args.graph.now) (sym c.at.ensures) (c.requires.within _ (among_there c.args.indices.now c.loop-place.place (subst (λ (n : ℕ). c.loop-place.place < n) c.count.ensures c.loop-place-test.true)))
 
-pub loop-index-preserved : goal.loop-index-preserved
-loop-index-preserved c =
+pub loop-place-preserved : goal.loop-place-preserved
+loop-place-preserved c =
     let indices : List ℕ = c.args.indices.now in
-    let i : ℕ = c.loop-index.index-index in (
+    let i : ℕ = c.loop-place.place in (
       c.spread.ensures.len,
       c.spread.ensures.sound,
-      resettled_more c.args.graph.now c.args.cached.now indices c.loop-index.flags c.spread.new.flags i (get_or indices i 0) c.loop-index.invariant.2 (drop_more indices i 0 c.loop-index-test.true) c.spread.ensures.full,
+      resettled_more c.args.graph.now c.args.cached.now indices c.loop-place.flags c.spread.new.flags i c.at.result c.loop-place.invariant.2 (drop_more indices i 0 (subst (λ (n : ℕ). c.loop-place.place < n) c.count.ensures c.loop-place-test.true) ∙ ap (λ (p : ℕ). p ∷ drop (i + 1) indices) (sym c.at.ensures)) c.spread.ensures.full,
       c.spread.ensures.verified,
     )
 
@@ -26,5 +26,5 @@ pub returns-clause-flags : goal.returns-clause-flags
 returns-clause-flags c =
     let project : IsProject c.args.graph.now = subst IsProject c.project.ensures c.files-files.ensures.in_order in
     let high = c.height_law.ensures c.args.graph.now project in
-    are_flags c.args.graph.now c.args.cached.now (λ u. c.done_law.ensures.done c.args.graph.now c.args.cached.now u project) c.loop-index.flags high.0 high.1 c.loop-index.invariant.1
-    (all_resettled c.args.graph.now c.args.cached.now c.args.indices.now c.loop-index.flags c.loop-index.index-index (search rules) c.loop-index.invariant.2)
+    are_flags c.args.graph.now c.args.cached.now (λ u. c.done_law.ensures.done c.args.graph.now c.args.cached.now u project) c.loop-place.flags high.0 high.1 c.loop-place.invariant.1
+    (all_resettled c.args.graph.now c.args.cached.now c.args.indices.now c.loop-place.flags c.loop-place.place (search rules) c.loop-place.invariant.2)

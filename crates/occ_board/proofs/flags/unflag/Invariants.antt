@@ -1,5 +1,5 @@
 use Rattle.occ_board.proofs.Marked.{IsUnflagged}
 use Rattle.occ_board.proofs.flags.unflag.Given as goal
 
-abbrev pub invariant-loop-index : goal.invariant-loop-index
-invariant-loop-index l = IsUnflagged l.fn.flags l.indices l.flags l.index-index
+abbrev pub invariant-loop-place : goal.invariant-loop-place
+invariant-loop-place l = IsUnflagged l.fn.flags l.indices l.flags l.place

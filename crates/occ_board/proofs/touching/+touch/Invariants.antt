@@ -5,5 +5,5 @@ use Rattle.occ_board.specs.inside.Flagged.{unflagged}
 abbrev pub decreases-touch : goal.decreases-touch
 decreases-touch l = unflagged l.touched.now
 
-abbrev pub invariant-loop-user : goal.invariant-loop-user
-invariant-loop-user l = IsTouch l.graph l.users l.fn.touched l.touched l.fn.index l.user-index
+abbrev pub invariant-loop-place : goal.invariant-loop-place
+invariant-loop-place l = IsTouch l.graph l.users l.fn.touched l.touched l.fn.index l.place
