@@ -1,13 +1,12 @@
 -- What is said of the lock: that a state stands after it whose journal is legal over its base. Which state it was when a call had
 -- the lock no contract can say, since other threads have it before and after. So a refusal is said of some such state.
-use Rattle.std.specs.Prelude.{◌≡◌, ◌<◌, ◌⊎◌, true, false, List, None}
+use Rattle.std.specs.Prelude.{◌≡◌, ◌<◌, ◌⊎◌, ℕ, true, false, List, None, Option}
 use Rattle.occ_board.specs.Journal.{IsBase, IsLegal, last_number}
 use Rattle.occ_board.specs.Machine.{Answer, Event, State, answer, edit_answer, edit_number, pending_answer}
 use Rattle.occ_board.specs.declared.base.Cut.{Cut}
 use Rattle.occ_board.specs.declared.entry.Edit.{Edit}
 use Rattle.occ_board.specs.declared.entry.EditFault.{EditFault}
 use Rattle.occ_board.specs.declared.entry.EditFault.TheVariants as edit_fault
-use Rattle.std.specs.Prelude.{ℕ, Option}
 use Rattle.occ_server.specs.Receipts.{IsLeastOff, Numbered, ascends, receipts_of}
 use Rattle.occ_server.specs.Snapshots.{IsFound}
 use Rattle.occ_server.specs.declared.fault.CloseFault.{CloseFault}
