@@ -2,6 +2,7 @@ pub mod Codes
 pub mod FormalUses
 pub mod Exports
 pub mod Order
+pub mod Ordered
 pub mod Input
 pub mod Faults
 pub mod Language

@@ -45,7 +45,7 @@ fn formal_uses(alloc: Global, number: usize, body: &[Use]) -> Result<Items<Forma
 
 /// The uses in the order of their codes, each once.
 #[tactic(auto, using(crate::proofs::Coded::coded_last))]
-fn in_order(alloc: Global, mut uses: Items<FormalUse>) -> Result<Items<FormalUse>, AllocError>
+pub fn in_order(alloc: Global, mut uses: Items<FormalUse>) -> Result<Items<FormalUse>, AllocError>
     ensures { IfOk result (λ ordered. ordered ≡ spec_in_order uses) }
 {
     let mut coded = BTreeMap::new(alloc);

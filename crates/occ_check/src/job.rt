@@ -2,9 +2,11 @@
 ghost use Rattle.std.specs.Option.{is_some};
 ghost use Rattle.std.specs.Prelude.{◌≡◌, ◌↔◌, Err, false, IfOk, IsErrOf, IsTrue, map};
 ghost use Rattle.occ_check.specs.Input.{HasReads, HasUsed, IsInput, is_present};
+ghost use Rattle.occ_check.specs.Ordered.{ordered};
 ghost use Rattle.occ_check.specs.declared.job.JobFault.TheVariants as fault;
 ghost use Rattle.occ_project.specs.Reads.{open_lines};
 
+use super::ordered::ordered as in_order;
 use super::used::UsedUnit;
 use occ_base::{FileName, Items};
 use occ_project::{Read, Reads, expand_over, used_units};
@@ -115,14 +117,15 @@ fn is_open(reads: &[Read], name: FileName) -> bool
 }
 
 impl Job {
-    /// The job that looks at these, which stand in its input as they are given.
+    /// The job that looks at these, which stand in its input as they are given; but of each export of a used unit the uses stand in
+    /// the order of their codes, each once, so that it does not matter how they are given.
     pub fn new(
         alloc: Global,
         unit: FileName,
         reads: Reads,
         used: Items<UsedUnit>,
     ) -> Result<Job, JobFault>
-        ensures given { IfOk result (λ job. job ≡ record { unit = unit; reads = reads; used = used }) }
+        ensures given { IfOk result (λ job. job ≡ record { unit = unit; reads = reads; used = map ordered used }) }
         ensures accepted { IfOk result (λ job. IsInput job) }
         ensures closed { is_present (record { unit = unit; reads = reads; used = used }) ≡ false → result ≡ Err fault.Reads }
         ensures reads { IsErrOf result fault.Reads → HasReads (record { unit = unit; reads = reads; used = used }) → ⊥ }
@@ -139,6 +142,7 @@ impl Job {
         if !are_units(used.as_slice(), units.as_slice()) {
             return Err(JobFault::Used);
         }
+        let used = in_order(alloc, used.as_slice())?;
         Ok(Job { unit, reads, used })
     }
 

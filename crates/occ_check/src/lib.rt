@@ -11,6 +11,7 @@ mod job;
 mod language;
 pub mod laws;
 mod order;
+mod ordered;
 mod outcome;
 mod rows;
 mod used;

@@ -1,16 +1,17 @@
 //! What is locked: a board and a stop flag. Each method is one critical section, with its whole contract.
 ghost use Rattle.occ_board.specs.Journal.{base_after};
-ghost use Rattle.occ_board.specs.Machine.{Answer, Event, after, answer, edit_number, files_of, finish_answer, pending_answer, report_answer, start};
+ghost use Rattle.occ_board.specs.Machine.{Answer, Event, after, answer, edit_answer, edit_number, files_of, finish_answer, pending_answer, report_answer, start};
 ghost use Rattle.occ_board.specs.declared.entry.EditFault.TheVariants as fault;
 ghost use Rattle.occ_board.specs.declared.entry.EditFault.{EditFault as AFault};
 ghost use Rattle.occ_board.specs.declared.verdict.Verdict.TheVariants as verdicts;
+ghost use Rattle.occ_server.specs.Held.{IsHeld, IsUnended};
 ghost use Rattle.occ_server.specs.Receipts.{IsLeastOff, Numbered, ascends as spec_ascends, entry_at, receipts_of};
 ghost use Rattle.occ_server.specs.Snapshots.{IsBehind, IsFound, Stands};
 ghost use Rattle.occ_server.specs.declared.fault.CloseFault.TheVariants as refusal;
 ghost use Rattle.occ_server.specs.declared.fault.ReportFault.TheVariants as report_refusal;
 ghost use Rattle.occ_server.specs.declared.work.Settled.TheVariants as ends;
 ghost use Rattle.std.specs.Option.{option_copied};
-ghost use Rattle.std.specs.Prelude.{◌≡◌, ◌≤◌, ◌<◌, ◌⊎◌, ℕ, ◌&&◌, not, Err, IfErr, IfOk, OnErr, OnOk, Some, false, nat_lt, true};
+ghost use Rattle.std.specs.Prelude.{◌≡◌, ◌≤◌, ◌<◌, ◌⊎◌, ℕ, ◌&&◌, not, Err, IfErr, IfOk, None, OnErr, OnOk, Some, false, nat_lt, true};
 
 use super::comparing::{ascends, entry_of, first_off, is_found};
 use super::copying::{all_copied, copied};
@@ -52,6 +53,8 @@ impl Locked {
         copy: Edit,
     ) -> Result<Receipt, EditFault>
         requires { copy ≡ edit }
+        ensures held { IsHeld self.old.board }
+        ensures accepted { OnOk result (edit_answer self.old.board edit ≡ None) }
         ensures receipt { IfOk result (λ r. r ≡ record { number = edit_number self.old.board; entry = record { session = session; edit = edit } }) }
         ensures after { OnOk result (self.new.board ≡ after self.old.board (Event.Edited session edit)) }
         ensures fault { IfErr result (λ f. (f ≡ fault.Memory) ⊎ (Answer.Refused f ≡ answer self.old.board (Event.Edited session edit))) }
@@ -59,6 +62,8 @@ impl Locked {
         ensures err { OnErr result (self.new.board ≡ self.old.board) }
         ensures stopped { self.new.stopped ≡ self.old.stopped }
     {
+        let _base = self.board.base();
+        let _entries = self.board.entries();
         let number = self.accept(alloc, session, edit)?;
         let entry = Entry {
             session,
@@ -68,8 +73,9 @@ impl Locked {
     }
 
     /// The number of the edit.
-    #[tactic(auto, using(crate::proofs::Numbers::number_is))]
+    #[tactic(auto, using(crate::proofs::Numbers::number_is, crate::proofs::Numbers::is_accepted))]
     fn accept(&mut self, alloc: Global, session: u32, edit: Edit) -> Result<u32, EditFault>
+        ensures accepted { OnOk result (edit_answer self.old.board edit ≡ None) }
         ensures number { IfOk result (λ number. number ≡ edit_number self.old.board) }
         ensures after { OnOk result (self.new.board ≡ after self.old.board (Event.Edited session edit)) }
         ensures fault { IfErr result (λ f. (f ≡ fault.Memory) ⊎ (Answer.Refused f ≡ answer self.old.board (Event.Edited session edit))) }
@@ -143,18 +149,22 @@ impl Locked {
 
     /// Makes the present project the base, and hands out the edits that the journal had.
     pub fn checkpoint(&mut self, alloc: Global) -> Result<Cut, AllocError>
+        ensures held { IsHeld self.old.board }
         ensures answered { IfOk result (λ cut. Answer.Gives cut ≡ answer self.old.board Event.Checkpoint) }
         ensures after { OnOk result (self.new.board ≡ after self.old.board Event.Checkpoint) }
         ensures replayed { IfOk result (λ cut. self.new.board.base ≡ base_after self.old.board.base cut.entries) }
         ensures err { OnErr result (self.new.board ≡ self.old.board) }
         ensures stopped { self.new.stopped ≡ self.old.stopped }
     {
+        let _base = self.board.base();
+        let _entries = self.board.entries();
         let cut = self.board.checkpoint(alloc)?;
         Ok(cut)
     }
 
     /// The report, with a copy of the base and the journal, if that has the receipt.
     pub fn report(&self, alloc: Global, seen: Option<&Receipt>) -> Result<Snapshot, ReportFault>
+        ensures held { IsHeld self.now.board }
         ensures base { IfOk result (λ s. s.base ≡ self.now.board.base) }
         ensures entries { IfOk result (λ s. s.entries ≡ self.now.board.journal) }
         ensures rows { IfOk result (λ s. s.rows ≡ report_answer self.now.board) }
@@ -172,6 +182,8 @@ impl Locked {
 
     /// The end: all edits since the base have their receipts, in order, and nothing is pending.
     pub fn end(&self, alloc: Global, receipts: &[Receipt]) -> Result<Ended, CloseFault>
+        ensures held { IsHeld self.now.board }
+        ensures unended { IfErr result (λ f. IsUnended receipts.now f self.now.board) }
         ensures base { IfOk result (λ e. e.base ≡ self.now.board.base) }
         ensures entries { IfOk result (λ e. e.entries ≡ self.now.board.journal) }
         ensures agree { IfOk result (λ e. receipts.now ≡ receipts_of self.now.board.base self.now.board.journal) }
@@ -180,6 +192,8 @@ impl Locked {
         ensures pending { receipts.now ≡ receipts_of self.now.board.base self.now.board.journal → 0 < pending_answer self.now.board → result ≡ Err refusal.Pending }
         ensures memory { receipts.now ≡ receipts_of self.now.board.base self.now.board.journal → pending_answer self.now.board ≡ 0 → IfErr result (λ f. f ≡ refusal.Memory) }
     {
+        let _base = self.board.base();
+        let _entries = self.board.entries();
         self.agree(receipts)?;
         if self.board.pending() > 0 {
             return Err(CloseFault::Pending);
@@ -193,6 +207,7 @@ impl Locked {
         ensures agree { OnOk result (receipts.now ≡ receipts_of self.now.board.base self.now.board.journal) }
         ensures order { spec_ascends receipts.now ≡ false → result ≡ Err refusal.OutOfOrder }
         ensures mismatch { (n : ℕ) → spec_ascends receipts.now ≡ true → IsLeastOff receipts.now self.now.board.base self.now.board.journal n → result ≡ Err (refusal.Mismatch n) }
+        ensures unended { IfErr result (λ f. IsUnended receipts.now f self.now.board) }
         ensures same { receipts.now ≡ receipts_of self.now.board.base self.now.board.journal → OnErr result ⊥ }
     {
         receipts_law();

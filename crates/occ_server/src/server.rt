@@ -1,9 +1,11 @@
 //! The calls that threads make. They lock, wait and wake; what is known of a result is in its type. `docs/MACHINE.md, The
 //! server`.
-ghost use Rattle.occ_server.specs.Receipts.{receipts_of};
+ghost use Rattle.occ_server.specs.Held.{IsCutOf, IsNumberOf, IsRefusalOf, IsUnended, IsUnreported, OfOne};
+ghost use Rattle.occ_server.specs.Receipts.{ascends, receipts_of};
 ghost use Rattle.occ_server.specs.Snapshots.{IsBehind, Stands};
 ghost use Rattle.std.specs.Option.{option_copied};
-ghost use Rattle.std.specs.Prelude.{◌≡◌, IfErr, IfOk};
+ghost use Rattle.occ_server.specs.declared.fault.CloseFault.TheVariants as close_fault;
+ghost use Rattle.std.specs.Prelude.{◌≡◌, IfErr, IfOk, IsErrAnd, false};
 
 use super::copying::copied_edit;
 use super::fault::{CloseFault, ReportFault};
@@ -49,7 +51,9 @@ impl Server {
         session: u32,
         edit: Edit,
     ) -> Result<Receipt, EditFault>
-        ensures { IfOk result (λ r. r.entry ≡ record { session = session; edit = edit }) }
+        ensures entry { IfOk result (λ r. r.entry ≡ record { session = session; edit = edit }) }
+        ensures number { IfOk result (λ r. OfOne (IsNumberOf edit r.number)) }
+        ensures refused { IfErr result (λ f. IsRefusalOf session edit f) }
     {
         let copy = copied_edit(&edit)?;
         let receipt = self.locked.lock(rt).edit(alloc, session, edit, copy)?;
@@ -143,7 +147,9 @@ impl Server {
 
     /// Makes the present project the base, and hands out the edits since the base before. From then on receipts of these have no
     /// report.
-    pub fn checkpoint<R: Wait>(&self, rt: &R, alloc: Global) -> Result<Cut, AllocError> {
+    pub fn checkpoint<R: Wait>(&self, rt: &R, alloc: Global) -> Result<Cut, AllocError>
+        ensures { IfOk result (λ cut. OfOne (IsCutOf cut)) }
+    {
         self.locked.lock(rt).checkpoint(alloc)
     }
 
@@ -156,6 +162,7 @@ impl Server {
     ) -> Result<Snapshot, ReportFault>
         ensures stands { IfOk result (λ s. Stands (option_copied seen.entry) s.base s.entries) }
         ensures behind { IfErr result (λ f. IsBehind (option_copied seen.entry) f) }
+        ensures found { IfErr result (λ f. IsUnreported (option_copied seen.entry) f) }
     {
         let snapshot = self.locked.lock(rt).report(alloc, seen)?;
         Ok(snapshot)
@@ -170,7 +177,9 @@ impl Server {
     /// Ends with the report from nothing, if these are the receipts of all edits since the base, in order, and no unit is
     /// pending. Else the server comes back.
     pub fn close(self, alloc: Global, receipts: &[Receipt]) -> Result<Ended, (Server, CloseFault)>
-        ensures { IfOk result (λ e. receipts.now ≡ receipts_of e.base e.entries) }
+        ensures receipts { IfOk result (λ e. receipts.now ≡ receipts_of e.base e.entries) }
+        ensures order { ascends receipts.now ≡ false → IsErrAnd result (λ refused. refused.1 ≡ close_fault.OutOfOrder) }
+        ensures unended { IfErr result (λ refused. OfOne (IsUnended receipts.now refused.1)) }
     {
         let Server { locked, changed } = self;
         let inner = locked.into_inner();

@@ -2,6 +2,7 @@
 use Rattle.std.proofs.Common.{◌≡◌, ◌↔◌, ◌∙◌, ◌⊎◌, ◌||◌, ◌++◌, ◌+◌, ℕ, zero, suc, nat_eq, Bool, true, false, cond, List, [], ◌∷◌, map, take, drop, Option, Some, None, Result, Ok, Err, refl, sym, ap, subst, inl, inr}
 use Rattle.std.proofs.lemmas.Slice.Eq.{bytes_eq-Decides}
 use Rattle.std.specs.BTreeSet.{insert_key}
+use Rattle.std.specs.Cmp.{ranked}
 use Rattle.std.specs.Cmp.Lexicographic.{slice_cmp}
 use Rattle.std.specs.List.{AllByRecursion, flat_map}
 use Rattle.std.specs.Option.{is_some, ok_or, option_cmp, option_map}
@@ -16,6 +17,8 @@ use Rattle.occ_base.specs.contracts.code.CodeOrd.TheImpl as code_ord
 use Rattle.occ_base.specs.contracts.code.GradeOrd.TheImpl as grade_ord
 use Rattle.occ_base.specs.declared.code.Code.{Code}
 use Rattle.occ_base.specs.declared.code.Code.TheVariants as code
+use Rattle.occ_base.specs.declared.code.Grade.{Grade}
+use Rattle.occ_base.specs.declared.code.Grade.TheVariants as grade
 use Rattle.occ_base.specs.declared.diag.Diag.{Diag}
 use Rattle.occ_check.specs.Diagnostics.{diags_of, judged, unit_faults}
 use Rattle.occ_check.specs.Faults.{body_faults, line_faults, own_faults, standing as stands, reported_use, use_code, use_faults}
@@ -73,6 +76,9 @@ same_name None (Some b) h = absurd cc
 same_name (Some a) None h = absurd cc
 same_name (Some a) (Some b) h = ap Some (equal_names a b h)
 
+same_line : (m n : ℕ) → nat_cmp m n ≡ Equal → m ≡ n
+same_line m n h = ranked m n Equal (sym h)
+
 exact : (name : List ℕ) (d e : Diag) → diag_order d e ≡ Equal → Is code.G2 name d → Is code.G2 name e
 exact name d e h is =
     let by_line = (then_equal (slice_cmp nat_cmp d.file e.file) _ h).1 in
@@ -80,6 +86,29 @@ exact name d e h is =
     let codes = then_equal ((code_ord.ghosts).cmp d.code e.code) _ by_code in
     let names = then_equal ((grade_ord.ghosts).cmp d.grade e.grade) _ codes.1 in
     (only_circle e.code (ap (λ (c : Code). (code_ord.ghosts).cmp c e.code) (sym is.0) ∙ codes.0), sym (same_name d.name e.name names.1) ∙ is.1)
+
+only_error : (g : Grade) → (grade_ord.ghosts).cmp grade.Error g ≡ Equal → g ≡ grade.Error
+only_error grade.Error h = refl
+only_error grade.Check h = absurd cc
+
+diag_of : List ℕ → ℕ → Code → Grade → Option (List ℕ) → Diag
+diag_of file line c g name = record { file = file; line = line; code = c; grade = g; name = name }
+
+-- an error of a circle is alone at its place
+pub circle_diag : (d e : Diag) → d.code ≡ code.G2 → d.grade ≡ grade.Error → diag_order d e ≡ Equal → d ≡ e
+unfolding diag_of
+circle_diag d e is error h =
+    let by_file = then_equal (slice_cmp nat_cmp d.file e.file) _ h in
+    let by_line = then_equal (nat_cmp d.line e.line) _ by_file.1 in
+    let codes = then_equal ((code_ord.ghosts).cmp d.code e.code) _ by_line.1 in
+    let names = then_equal ((grade_ord.ghosts).cmp d.grade e.grade) _ codes.1 in
+    let f : d.file ≡ e.file = equal_names d.file e.file by_file.0 in
+    let l : d.line ≡ e.line = same_line d.line e.line by_line.0 in
+    let c : d.code ≡ e.code = is ∙ sym (only_circle e.code (ap (λ (x : Code). (code_ord.ghosts).cmp x e.code) (sym is) ∙ codes.0)) in
+    let g : d.grade ≡ e.grade = error ∙ sym (only_error e.grade (ap (λ (x : Grade). (grade_ord.ghosts).cmp x e.grade) (sym error) ∙ names.0)) in
+    let n : d.name ≡ e.name = same_name d.name e.name names.1 in
+    ap (λ x. diag_of x d.line d.code d.grade d.name) f ∙ ap (λ x. diag_of e.file x d.code d.grade d.name) l ∙ ap (λ x. diag_of e.file e.line x d.grade d.name) c
+    ∙ ap (λ x. diag_of e.file e.line e.code x d.name) g ∙ ap (λ x. diag_of e.file e.line e.code e.grade x) n
 
 -- ---- lists of diagnostics
 
@@ -373,7 +402,7 @@ module _ (files : List Read) where
   limit_silent name (e ∷ es) (inl k) = let n = k.1 in absurd cc
   limit_silent name (e ∷ es) (inr k) = k
 
-  expansion_silent : (unit name : List ℕ) → AreReporting (expansion files unit).faults code.G2 name → ⊥
+  pub expansion_silent : (unit name : List ℕ) → AreReporting (expansion files unit).faults code.G2 name → ⊥
   unfolding expansion
   expansion_silent unit name h =
       let all = unit_entries files unit (open_lines files unit) in
@@ -435,6 +464,14 @@ module _ (files : List Read) (circles : (u v : List ℕ) → (is_circular files 
       let now : stands (input files u).used v ≡ how.Circular = standing_now files u (checked files) (used_units files u) v h.0 ∙ ap (λ (s : Standing). used_as s (checked files v).interface) circular in
       reports_back code.G2 v (expansion_in (input files u)).faults (line_faults (input files u).used (expansion_in (input files u)).lines)
       (lines_report (input files u).used v (expansion_in (input files u)).lines now (ap (λ (e : Expansion). is_among (flat_map units_of e.lines) v) same ∙ among.1))
+
+  pub own_circle : IsCircular files u v → is_unit u ≡ true
+  own_circle h = (used_among files u v h.0).0
+
+  pub now_circular : IsCircular files u v → stands (input files u).used v ≡ how.Circular
+  now_circular h =
+      let circular : standing_of files u v ≡ standing.Circular = by_circle (is_some (file_of files v).source) (is_circular files u v) (circle_open files u v h.0 h.1) ((circles u v).1 h) in
+      standing_now files u (checked files) (used_units files u) v h.0 ∙ ap (λ (s : Standing). used_as s (checked files v).interface) circular
 
   pub faults_reported : AreReporting (unit_faults (input files u)) code.G2 v → IsCircular files u v
   faults_reported h = elim (reports_split code.G2 v (expansion_in (input files u)).faults (line_faults (input files u).used (expansion_in (input files u)).lines) h) [

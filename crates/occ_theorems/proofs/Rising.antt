@@ -37,7 +37,7 @@ module _ {X : Type 0} (cmp : X → X → Ordering) (total : IsTotalOrder cmp) wh
   rising_by k x xs Equal e h i = h
   rising_by k x xs Greater e h i = (all_insert (λ y. cmp x y ≡ Less) xs k (total.antisymm x k ∙ ap ordering_reverse e) h.0, i)
 
-  insert_rising : (xs : List X) (k : X) → IsStrictlySortedBy cmp xs → IsStrictlySortedBy cmp (insert_key cmp xs k)
+  pub insert_rising : (xs : List X) (k : X) → IsStrictlySortedBy cmp xs → IsStrictlySortedBy cmp (insert_key cmp xs k)
   unfolding IsStrictlySortedBy
   insert_rising [] k h = (tt, tt)
   insert_rising (x ∷ xs) k h = rising_by k x xs (cmp k x) refl h (insert_rising xs k h.1)

@@ -1,2 +1,5 @@
+pub mod Anew
 pub mod Edits
+pub mod Exports
+pub mod Reached
 pub mod Reports

@@ -30,19 +30,20 @@ pub use board::{
     right_report_law, take_theorem,
 };
 pub use machine::{
-    edit_apart_law, pending_number_law, same_input_law, script_law, settling_law, work_law,
+    edit_apart_law, pending_number_law, same_input_law, script_law, settling_law, sound_law,
+    work_law,
 };
 pub use parts::{interval_law, joined_law, overlap_law, segment_law};
 pub use program::{script_theorem, sessions_theorem};
-pub use projects::{circular_use_law, done_law, input_law, order_law};
-pub use server::{end_theorem, receipt_theorem, snapshot_theorem};
+pub use projects::{anew_law, circular_use_law, done_law, input_law, order_law};
+pub use server::{cut_theorem, end_theorem, receipt_theorem, snapshot_theorem};
 pub use texts::{
     expression_reading_law, expression_tree_law, extreme_end_law, form_law, lines_law, mark_law,
     shape_law, specification_tree_law,
 };
 pub use types::{
-    equality_law, interface_law, measure_law, message_law, nearest_law, type_report_law,
-    type_scope_law, typed_tree_law, wrapping_law,
+    equality_law, export_law, export_uses_law, interface_law, measure_law, message_law,
+    nearest_law, type_report_law, type_scope_law, typed_tree_law, wrapping_law,
 };
 pub use uses::{
     abbreviation_law, call_law, distinct_law, element_read_law, parallel_law, use_report_law,

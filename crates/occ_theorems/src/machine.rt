@@ -2,7 +2,7 @@
 ghost use Rattle.occ_board.specs.Done.{done};
 ghost use Rattle.occ_board.specs.Edits.{IsApart};
 ghost use Rattle.occ_board.specs.Journal.{IsBase, edited};
-ghost use Rattle.occ_board.specs.Machine.{Event, IsWork, State, accepted_number, after, after_all, files_of, finish_answer, pending_answer};
+ghost use Rattle.occ_board.specs.Machine.{Event, IsWork, State, accepted_number, after, after_all, files_of, finish_answer, pending_answer, start};
 ghost use Rattle.occ_board.specs.Same.{same_input, same_used};
 ghost use Rattle.occ_board.specs.declared.entry.Edit.{Edit as AnEdit};
 ghost use Rattle.occ_board.specs.declared.verdict.Verdict.TheVariants as verdict;
@@ -13,6 +13,7 @@ ghost use Rattle.occ_check.specs.Input.{Input};
 ghost use Rattle.occ_check.specs.declared.used.UsedUnit.{UsedUnit};
 ghost use Rattle.occheck_script.specs.Settling.{Settles, settled};
 ghost use Rattle.occ_project_units.specs.Spelled.{AreSpelled};
+ghost use Rattle.occ_theorems.specs.Reached.{IsSound};
 ghost use Rattle.std.specs.List.{AllByRecursion};
 ghost use Rattle.std.specs.Prelude.{List, [], true, ℕ, ◌+◌, ◌<◌, ◌↔◌, ◌≡◌, ◌≤◌};
 
@@ -26,6 +27,12 @@ use occ_project_units::laws::{along_law, circle_law, put_law, reads_law};
 pub fn script_law()
     ensures found { (bytes : List ℕ) → ScriptSays bytes (script_of bytes) }
     ensures only { (bytes : List ℕ) (script : Script) → ScriptSays bytes script → script ≡ script_of bytes }
+{}
+
+/// Whatever the events are, the base is what legal journals made of nothing, one after the other, and the journal is legal over it.
+/// So no edit stands in a journal, present or cut off, that should have been refused.
+pub fn sound_law()
+    ensures { (es : List Event) → IsSound (after_all start es) }
 {}
 
 /// The tests for inputs and for used units answer exactly whether two are one.

@@ -13,8 +13,13 @@ ghost use Rattle.occ_check.specs.Checks.{diags, input, interface};
 ghost use Rattle.occ_check.specs.Report.{AreReporting};
 ghost use Rattle.occ_project_units.specs.Project.{IsProject};
 ghost use Rattle.occ_project_units.specs.Units.{IsCircular};
+ghost use Rattle.occ_base.specs.FileName.{is_unit};
+ghost use Rattle.occ_project.specs.Expansion.{expansion};
+ghost use Rattle.occ_project.specs.declared.expanded.ExpandedLine.{ExpandedLine};
+ghost use Rattle.occ_theorems.specs.Anew.{IsOfCircle, IsUseOf, circle_at, diags_anew, interface_anew};
+ghost use Rattle.std.specs.List.{Contains};
 ghost use Rattle.std.specs.List.Sorted.{IsStrictlySortedBy};
-ghost use Rattle.std.specs.Prelude.{Bool, List, [], true, ℕ, ◌≡◌};
+ghost use Rattle.std.specs.Prelude.{Bool, List, Some, [], true, ℕ, ◌≡◌};
 
 use occ_check::laws;
 use occ_project_units::laws::{circle_law, reads_law};
@@ -28,11 +33,24 @@ pub fn input_law()
     laws::input_law();
 }
 
-/// A unit that uses another in a circle has a G2 with its name; beside faults of files, lines or uses each G2 names such a unit.
-/// So a circle of `#USE` is never passed over, and beside such faults none is made up.
+/// The diagnostics and the interface of a unit are said by its own expansion, by how the units stand there that it uses, and by what
+/// these show. Its input has enough of the project to say the same.
+pub fn anew_law()
+    ensures diags { (files : List Read) (u : List ℕ) → IsProject files → is_unit u ≡ true → diags files u ≡ diags_anew files u }
+    ensures interface { (files : List Read) (u : List ℕ) → IsProject files → is_unit u ≡ true → interface files u ≡ interface_anew files u }
+    ensures input { (files : List Read) (u : List ℕ) → is_unit u ≡ true → diags_of (input files u) ≡ diags_anew files u }
+{
+    reads_law();
+    input_law();
+}
+
+/// A unit that uses another in a circle has a G2 with its name at each line that uses it, and beside faults of files, lines or uses
+/// no other G2. So a circle of `#USE` is never passed over, and beside such faults none is made up.
 pub fn circular_use_law()
     ensures named { (files : List Read) (u v : List ℕ) → IsProject files → IsCircular files u v → AreReporting (diags files u) G2 v }
+    ensures placed { (files : List Read) (u v : List ℕ) (line : ExpandedLine) → IsProject files → IsCircular files u v → Contains (expansion files u).lines line → IsUseOf line v → Contains (diags files u) (circle_at line v) }
     ensures only { (files : List Read) (u v : List ℕ) → IsProject files → (unit_faults (input files u) ≡ [] → ⊥) → AreReporting (diags files u) G2 v → IsCircular files u v }
+    ensures at_lines { (files : List Read) (u v : List ℕ) (d : Diag) → IsProject files → (unit_faults (input files u) ≡ [] → ⊥) → Contains (diags files u) d → d.code ≡ G2 → d.name ≡ Some v → IsOfCircle files u v d }
 {
     circle_law();
     reads_law();

@@ -1,7 +1,12 @@
 //! Laws of names and types: what is in scope, what is reported of a line, what a typed tree has.
 ghost use Rattle.occ_base.specs.declared.diag.Diag.{Diag as ADiag};
 ghost use Rattle.occ_usage_values.specs.Bounds.{Env as AnEnv};
-ghost use Rattle.occ_check.specs.Exports.{interface_in};
+ghost use Rattle.occ_check.specs.Codes.{use_code};
+ghost use Rattle.occ_check.specs.Exports.{interface_in, lines_exports};
+ghost use Rattle.occ_check.specs.FormalUses.{in_order};
+ghost use Rattle.occ_theorems.specs.Exports.{IsLastOfName, use_order};
+ghost use Rattle.occ_types.specs.declared.interface.Export.{Export as AnExport};
+ghost use Rattle.occ_types.specs.declared.interface.FormalUse.{FormalUse as AFormalUse};
 ghost use Rattle.occ_scope.specs.Visible.{nothing};
 ghost use Rattle.occ_protocol.specs.Carrying.{Carrier};
 ghost use Rattle.occ_protocol.specs.Lines.{exchanged};
@@ -15,7 +20,8 @@ ghost use Rattle.occ_typing_lines.specs.Lines.{body_of};
 ghost use Rattle.occ_typing_lines.specs.declared.parent.Role.TheVariants as role;
 ghost use Rattle.occ_typing_lines.specs.declared.using.Import.{Import as AnImport};
 ghost use Rattle.occ_types.specs.Constant.{IsCongruent, is_in_range, settled_wrapped, value_of, wrapped};
-ghost use Rattle.occ_types.specs.Interface.{IsEquivalence, IsSameInterface};
+ghost use Rattle.occ_types.specs.Interface.{IsEquivalence, IsSameInterface, IsSameSet};
+ghost use Rattle.std.specs.List.Sorted.{IsStrictlySortedBy};
 ghost use Rattle.occ_types.specs.Measure.{above, all_of, beside, field_measures, held, item_measure, item_measures, measure_of, one, protocol_measure, tag_measures};
 ghost use Rattle.occ_types.specs.declared.measure.Measure.{Measure as AMeasure};
 ghost use Rattle.occ_types.specs.declared.types.Field.{Field as AField};
@@ -36,7 +42,7 @@ ghost use Rattle.occ_typing.specs.Units.{type_faults};
 ghost use Rattle.occ_typing.specs.Whole.{AreKnownImports, AreWhole, IsKnownInterface};
 ghost use Rattle.occ_typing.specs.declared.tree.TypedLine.{TypedLine as ATypedLine};
 ghost use Rattle.occ_typing.specs.declared.unit.Typed.{Typed as ATyped};
-ghost use Rattle.std.specs.List.{list_any, slice_get};
+ghost use Rattle.std.specs.List.{Contains, list_any, slice_get};
 ghost use Rattle.std.specs.Prelude.{IsTrue, List, None, Option, Some, [], false, ℕ, ℤ, ◌↔◌, ◌≡◌, ◌≢◌};
 
 /// The nearest specification of a name is the last one with that name; there is none where the name is nowhere.
@@ -69,6 +75,24 @@ pub fn typed_tree_law()
 /// So the units that use it have whole typed trees too, where they have no diagnostics.
 pub fn interface_law()
     ensures { (env : AnEnv) → (lines : List ATypedLine) → AreWhole lines → IsKnownInterface (interface_in env lines) }
+{}
+
+/// No two uses of formals have one code. So the uses of an export are those that its body has, each once, in the order of their codes.
+/// Two lists of the same uses become one list, however often each stands in them and in whatever order.
+#[tactic(auto, using(crate::proofs::UseCodes::same_code, crate::proofs::Ordered::in_order_rises, crate::proofs::Ordered::one_order))]
+pub fn export_uses_law()
+    ensures code { (a b : AFormalUse) → use_code a ≡ use_code b → a ≡ b }
+    ensures among { (us : List AFormalUse) (u : AFormalUse) → Contains (in_order us) u ↔ Contains us u }
+    ensures rises { (us : List AFormalUse) → IsStrictlySortedBy use_order (in_order us) }
+    ensures one { (us vs : List AFormalUse) → IsSameSet us vs → in_order us ≡ in_order vs }
+{}
+
+/// A unit exports exactly the PROCs and FUNCTIONs that its outermost lines specify last of their names, with their uses in order.
+/// So two interfaces of units that are the same, uses as sets, are equal: inputs can be compared part by part.
+pub fn export_law()
+    ensures last { (env : AnEnv) (lines : List ATypedLine) (e : AnExport) → Contains (interface_in env lines).exports e ↔ IsLastOfName (lines_exports env 0 lines) e }
+    ensures ordered { (env : AnEnv) (lines : List ATypedLine) (e : AnExport) → Contains (interface_in env lines).exports e → in_order e.uses ≡ e.uses }
+    ensures one { (env other : AnEnv) (lines others : List ATypedLine) → IsSameInterface (interface_in env lines) (interface_in other others) → interface_in env lines ≡ interface_in other others }
 {}
 
 /// Of items without a fault nothing is reported exactly where they are a message that the channel carries.

@@ -1,8 +1,12 @@
 //! The words of the command line, read by `clap`: one script step by step, or sessions with workers. `docs/MACHINE.md,
 //! Command line`.
-ghost use Rattle.std.specs.Prelude.{◌≡◌, ◌≤◌, IfOk, map, true};
+ghost use Rattle.clap.specs.Words.{app_of, fault_of, found_of, kind_of, matches_of, rows_of, rule_of};
+ghost use Rattle.clap.specs.declared.error.kind.ErrorKind.TheVariants as kinds;
+ghost use Rattle.occheck_words.specs.Line.{IsRefusal, asked, asked_in, asked_of, either_of, has_steps, is_few as spec_few, line as spec_line, scripts_in, scripts_rule, sessions_of, steps_of, steps_rule, view, workers_in, workers_rule};
+ghost use Rattle.occheck_words.specs.Modes.{IsAllowed, inputs};
+ghost use Rattle.occheck_words.specs.declared.words.WordsFault.TheVariants as words_fault;
+ghost use Rattle.std.specs.Prelude.{◌≡◌, ◌∷◌, ◌⊎◌, ◌≤◌, [], IfErr, IfOk, List, Some, codes, false, map};
 ghost use Rattle.std.specs.String.{string_bytes};
-ghost use Rattle.occheck_words.specs.Modes.{IsAllowed, IsFew, inputs};
 
 use clap::error::ErrorKind;
 use clap::{Arg, ArgAction, ArgMatches, Command, Error};
@@ -27,12 +31,16 @@ pub enum WordsFault {
 }
 
 impl From<AllocError> for WordsFault {
+    ghost from_gives = { λ _ e. e ≡ words_fault.Memory };
+
     fn from(_error: AllocError) -> WordsFault {
         WordsFault::Memory
     }
 }
 
 impl<T: Drop> From<AllocFailed<T>> for WordsFault {
+    ghost from_gives = { λ _ e. e ≡ words_fault.Memory };
+
     fn from(_error: AllocFailed<T>) -> WordsFault {
         WordsFault::Memory
     }
@@ -40,20 +48,33 @@ impl<T: Drop> From<AllocFailed<T>> for WordsFault {
 
 /// What the words after the program's name ask for. No words are `--steps -`.
 pub fn read_words(alloc: Global, words: &[&str]) -> Result<Mode, WordsFault>
-    ensures { IfOk result (λ mode. IsAllowed mode) }
+    ensures allowed { IfOk result (λ mode. IsAllowed mode) }
+    ensures asked { IfOk result (λ mode. asked (map (λ word. word.now) words.now) ≡ Some (view mode)) }
+    ensures refused { IfErr result (λ fault. IsRefusal (asked (map (λ word. word.now) words.now)) fault) }
 {
     if words.is_empty() {
         return Ok(Mode::Steps(String::from_str(alloc, "-")?));
     }
     let line = with_name(alloc, words)?;
-    match matched(alloc, line.as_slice()) {
+    mode_in(alloc, line.as_slice())
+}
+
+/// What a line asks for, which begins with the program's name.
+fn mode_in(alloc: Global, line: &[&str]) -> Result<Mode, WordsFault>
+    ensures allowed { IfOk result (λ mode. IsAllowed mode) }
+    ensures asked { IfOk result (λ mode. asked_in (map (λ word. word.now) line.now) ≡ Some (view mode)) }
+    ensures refused { IfErr result (λ fault. IsRefusal (asked_in (map (λ word. word.now) line.now)) fault) }
+{
+    match matched(alloc, line) {
         Ok(matches) => mode_of(alloc, &matches),
         Err(error) => Err(refused(alloc, &error)?),
     }
 }
 
 /// The words after the program's name.
-fn with_name<'a>(alloc: Global, words: &[&'a str]) -> Result<Vec<&'a str>, AllocError> {
+fn with_name<'a>(alloc: Global, words: &[&'a str]) -> Result<Vec<&'a str>, AllocError>
+    ensures { IfOk result (λ line. map (λ word. word.now) line.items ≡ codes "occheck" ∷ map (λ word. word.now) words.now) }
+{
     let mut line = Vec::new(alloc);
     line.push("occheck")?;
     for word in words {
@@ -62,32 +83,65 @@ fn with_name<'a>(alloc: Global, words: &[&'a str]) -> Result<Vec<&'a str>, Alloc
     Ok(line)
 }
 
-/// What stands in a line, which begins with the program's name.
-fn matched<'a>(alloc: Global, line: &'a [&'a str]) -> Result<ArgMatches<'a>, Error> {
-    let steps = Arg::new(alloc, "steps")
+/// The flag `--steps`.
+fn steps_flag<'a>(alloc: Global) -> Arg<'a>
+    ensures rule { rule_of result ≡ steps_rule }
+    ensures local { result.global ≡ false }
+{
+    Arg::new(alloc, "steps")
         .long("steps")
         .action(ArgAction::SetTrue)
-        .help("answer the commands of one SCRIPT, step by step");
-    let workers = Arg::new(alloc, "workers")
+        .help("answer the commands of one SCRIPT, step by step")
+}
+
+/// The option `--workers N`.
+fn workers_option<'a>(alloc: Global) -> Arg<'a>
+    ensures rule { rule_of result ≡ workers_rule }
+    ensures local { result.global ≡ false }
+{
+    Arg::new(alloc, "workers")
         .long("workers")
         .value_name("N")
         .action(ArgAction::Set)
         .value_parser(clap::value_parser!(u8))
-        .help("run SCRIPTs as sessions, with N workers beside them");
-    let scripts = Arg::new(alloc, "SCRIPT")
+        .help("run SCRIPTs as sessions, with N workers beside them")
+}
+
+/// Any number of SCRIPT.
+fn scripts_argument<'a>(alloc: Global) -> Arg<'a>
+    ensures rule { rule_of result ≡ scripts_rule }
+    ensures local { result.global ≡ false }
+{
+    Arg::new(alloc, "SCRIPT")
         .action(ArgAction::Append)
         .num_args(1..)
-        .help("a file of commands; - is standard input");
+        .help("a file of commands; - is standard input")
+}
+
+/// The line that the program takes.
+fn line<'a>(alloc: Global) -> Result<Command<'a>, AllocError>
+    ensures { IfOk result (λ command. app_of command ≡ spec_line) }
+{
     Command::new(alloc, "occheck")
         .about("Answers scripts of commands; `occ check FILE..` checks files")
-        .arg(steps)?
-        .arg(workers)?
-        .arg(scripts)?
-        .try_get_matches_from(line)
+        .arg(steps_flag(alloc))?
+        .arg(workers_option(alloc))?
+        .arg(scripts_argument(alloc))
+}
+
+/// What stands in a line, which begins with the program's name.
+fn matched<'a>(alloc: Global, words: &'a [&'a str]) -> Result<ArgMatches<'a>, Error>
+    ensures taken { IfOk result (λ _. fault_of spec_line (map (λ word. word.now) words.now) ≡ []) }
+    ensures rows { IfOk result (λ matches. rows_of (found_of matches) ≡ matches_of spec_line (map (λ word. word.now) words.now)) }
+    ensures refused { IfErr result (λ error. (kind_of error ≡ kinds.OutOfMemory) ⊎ (fault_of spec_line (map (λ word. word.now) words.now) ≡ [] → ⊥)) }
+{
+    line(alloc)?.try_get_matches_from(words)
 }
 
 /// A line that clap refuses, with its text.
-fn refused(alloc: Global, error: &Error) -> Result<WordsFault, AllocError> {
+fn refused(alloc: Global, error: &Error) -> Result<WordsFault, AllocError>
+    ensures { IfOk result (λ fault. kind_of error.now ≡ kinds.OutOfMemory → fault ≡ words_fault.Memory) }
+{
     if error.kind() == ErrorKind::OutOfMemory {
         return Ok(WordsFault::Memory);
     }
@@ -103,22 +157,66 @@ fn refusal(alloc: Global, why: &str) -> Result<WordsFault, AllocError> {
 
 /// What the arguments ask for.
 fn mode_of(alloc: Global, matches: &ArgMatches<'_>) -> Result<Mode, WordsFault>
-    ensures { IfOk result (λ mode. IsAllowed mode) }
+    ensures allowed { IfOk result (λ mode. IsAllowed mode) }
+    ensures asked { IfOk result (λ mode. asked_of (rows_of (found_of matches.now)) ≡ Some (view mode)) }
+    ensures refused { IfErr result (λ fault. IsRefusal (asked_of (rows_of (found_of matches.now))) fault) }
 {
-    let scripts = matches.get_strs("SCRIPT").unwrap_or(&[]);
-    match (matches.get_flag("steps"), matches.get_one::<u8>("workers")) {
+    either(
+        alloc,
+        is_stepped(matches),
+        workers_of(matches),
+        scripts_of(matches),
+    )
+}
+
+/// What a line asks for that has both the flag and the option, or neither.
+const BOTH_OR_NEITHER: &str = "exactly one of '--steps' and '--workers <N>' is required";
+
+/// What the flag, the number of workers and the scripts ask for.
+fn either(
+    alloc: Global,
+    stepped: bool,
+    workers: Option<u8>,
+    scripts: &[&str],
+) -> Result<Mode, WordsFault>
+    ensures allowed { IfOk result (λ mode. IsAllowed mode) }
+    ensures asked { IfOk result (λ mode. either_of stepped workers (map (λ script. script.now) scripts.now) ≡ Some (view mode)) }
+    ensures refused { IfErr result (λ fault. IsRefusal (either_of stepped workers (map (λ script. script.now) scripts.now)) fault) }
+{
+    match (stepped, workers) {
         (true, None) => steps(alloc, scripts),
         (false, Some(workers)) => sessions(alloc, workers, scripts),
-        (true, Some(_)) | (false, None) => Err(refusal(
-            alloc,
-            "exactly one of '--steps' and '--workers <N>' is required",
-        )?),
+        (true, Some(_)) => Err(refusal(alloc, BOTH_OR_NEITHER)?),
+        (false, None) => Err(refusal(alloc, BOTH_OR_NEITHER)?),
     }
+}
+
+/// Whether the flag is there.
+fn is_stepped(matches: &ArgMatches<'_>) -> bool
+    ensures { result ≡ has_steps (rows_of (found_of matches.now)) }
+{
+    matches.get_one::<bool>("steps").unwrap_or(false)
+}
+
+/// The number of workers, if there is one.
+fn workers_of(matches: &ArgMatches<'_>) -> Option<u8>
+    ensures { result ≡ workers_in (rows_of (found_of matches.now)) }
+{
+    matches.get_one::<u8>("workers")
+}
+
+/// The scripts, in order.
+fn scripts_of<'m>(matches: &'m ArgMatches<'_>) -> &'m [&'m str]
+    ensures { map (λ script. script.now) result.now ≡ scripts_in (rows_of (found_of matches.now)) }
+{
+    matches.get_strs("SCRIPT").unwrap_or(&[])
 }
 
 /// One script, step by step.
 fn steps(alloc: Global, scripts: &[&str]) -> Result<Mode, WordsFault>
-    ensures { IfOk result (λ mode. IsAllowed mode) }
+    ensures allowed { IfOk result (λ mode. IsAllowed mode) }
+    ensures asked { IfOk result (λ mode. steps_of (map (λ script. script.now) scripts.now) ≡ Some (view mode)) }
+    ensures refused { IfErr result (λ fault. IsRefusal (steps_of (map (λ script. script.now) scripts.now)) fault) }
 {
     match scripts {
         [script] => Ok(Mode::Steps(String::from_str(alloc, script)?)),
@@ -128,7 +226,7 @@ fn steps(alloc: Global, scripts: &[&str]) -> Result<Mode, WordsFault>
 
 /// Whether there are 1 to 16 of something.
 fn is_few(number: usize) -> bool
-    ensures { result ≡ true → IsFew number }
+    ensures { result ≡ spec_few number }
 {
     1 <= number && number <= 16
 }
@@ -148,7 +246,9 @@ fn inputs_among(scripts: &[String]) -> usize
 
 /// So many workers, and sessions of these scripts.
 fn sessions(alloc: Global, workers: u8, scripts: &[&str]) -> Result<Mode, WordsFault>
-    ensures { IfOk result (λ mode. IsAllowed mode) }
+    ensures allowed { IfOk result (λ mode. IsAllowed mode) }
+    ensures asked { IfOk result (λ mode. sessions_of workers (map (λ script. script.now) scripts.now) ≡ Some (view mode)) }
+    ensures refused { IfErr result (λ fault. IsRefusal (sessions_of workers (map (λ script. script.now) scripts.now)) fault) }
 {
     let mut names = Vec::new(alloc);
     for script in scripts {

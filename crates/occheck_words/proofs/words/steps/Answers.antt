@@ -1,4 +1,4 @@
 use Rattle.occheck_words.proofs.words.steps.Goals as goal
 
-pub returns-in_ok-from_str-in-len1 : goal.returns-in_ok-from_str-in-len1
-returns-in_ok-from_str-in-len1 c = tt
+pub returns-in_ok-from_str-in-len1-clause-allowed : goal.returns-in_ok-from_str-in-len1-clause-allowed
+returns-in_ok-from_str-in-len1-clause-allowed c = tt
