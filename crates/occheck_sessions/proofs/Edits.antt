@@ -1,14 +1,11 @@
 -- The edits of a session in a journal.
 use Rattle.std.proofs.Common.{◌≡◌, ◌≤◌, ◌<◌, ◌+◌, ◌-◌, ◌==◌, ◌∙◌, ℕ, zero, suc, Bool, true, false, List, [], ◌∷◌, ◌++◌, Option, Some, None, if◌then◌else◌, refl, ap, sym, subst, inl, inr, append-nil, take, drop, length, slice_get, arith}
 use Rattle.std.proofs.lemmas.Bool.Decides.{nat_tests}
-use Rattle.occ_board.specs.Journal.{nothing}
 use Rattle.occ_board.specs.declared.entry.Edit.{Edit}
 use Rattle.occ_board.specs.declared.entry.EditFault.{EditFault}
 use Rattle.occ_board.specs.declared.entry.Entry.{Entry}
-use Rattle.occ_board.specs.declared.report.Row.{Row}
-use Rattle.occheck_script.specs.Machine.{board_word, edited_text, report_text}
-use Rattle.occ_server.specs.Snapshots.{IsSnapshot}
-use Rattle.occheck_sessions.specs.Sessions.{HasMade, IsEditAnswer, IsReportAnswer, edits_of, refuses}
+use Rattle.occheck_script.specs.Machine.{board_word, edited_text}
+use Rattle.occheck_sessions.specs.Sessions.{HasMade, IsEditAnswer, edits_of, refuses}
 
 abbrev with_edit : Bool → Entry → List Edit → List Edit
 with_edit b e edits = if b then e.edit ∷ edits else edits
@@ -64,8 +61,3 @@ answer_made w e made next text h t n = subst (λ (o : Option (List ℕ)). IsEdit
 
 pub answer_refused : (w : Option (List ℕ)) (f : EditFault) (e : Edit) (made next : List Edit) (text : List ℕ) → w ≡ None → refuses e f ≡ true → text ≡ edited_text (Some (board_word f)) → next ≡ made → IsEditAnswer w e made text next
 answer_refused w f e made next text h r t n = subst (λ (o : Option (List ℕ)). IsEditAnswer o e made text next) (sym h) (inr ((f, r, t), n))
-
-pub report_is : (es seen : List Entry) (rows : List Row) (k last : ℕ) (text : List ℕ) → last ≤ length seen → length seen ≤ length es → take (length seen) es ≡ seen → IsSnapshot nothing seen rows → text ≡ report_text rows
-    → IsReportAnswer es k (edits_of k (take last es)) text
-report_is es seen rows k last text h w f s t =
-    (length seen, rows, w, made_before k last (length seen) es h, subst (λ (xs : List Entry). IsSnapshot nothing xs rows) (sym f) s, t)

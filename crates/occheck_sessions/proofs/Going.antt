@@ -37,3 +37,18 @@ pub at_end : (read : Reading) (es : List Entry) (k : ℕ) (script left : Script)
 at_end read es k script left made text g e m =
     let all : AreAnswers read es k [] script.commands (text ++ []) = g.1 [] (subst (λ (s : Script). AreAnswers read es k made s.commands []) (sym e) (refl, m)) in
     subst (λ (x : List ℕ). AreAnswers read es k [] script.commands x) (append-nil text) all
+
+-- the same, where something was written before
+abbrev pub GoesOnAfter : Reading → List Entry → ℕ → Script → List Edit → List ℕ → List ℕ → Script → Type 0
+GoesOnAfter read es k script made before text left = (answers : List ℕ) × (text ≡ before ++ answers) × GoesOn read es k script made answers left
+
+pub begun_after : (read : Reading) (es : List Entry) (k : ℕ) (script left : Script) (before : List ℕ) → left ≡ script → IsReading read script.commands → GoesOnAfter read es k script [] before before left
+begun_after read es k script left before e r = ([], sym (append-nil before), begun read es k script left e r)
+
+pub one_more_after : (read : Reading) (es : List Entry) (k : ℕ) (script left rest : Script) (n : ℕ) (c : Command) (made next : List Edit) (before text answer after : List ℕ)
+    → GoesOnAfter read es k script made before text left → left ≡ then n c rest → IsAnswer read es k made c answer next → after ≡ text ++ answer → GoesOnAfter read es k script next before after rest
+one_more_after read es k script left rest n c made next before text answer after g e a t = (
+  g.0 ++ answer,
+  t ∙ ap (λ (x : List ℕ). x ++ answer) g.1 ∙ append_assoc before g.0 answer,
+  one_more read es k script left rest n c made next g.0 answer (g.0 ++ answer) g.2 e a refl,
+)

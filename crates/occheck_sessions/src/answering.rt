@@ -2,15 +2,14 @@
 ghost use Rattle.occheck_commands.specs.Left.{meant};
 ghost use Rattle.occheck_script.specs.Machine.{Reading, ReadsCommand, with_line_end};
 ghost use Rattle.occheck_sessions.specs.Sessions.{IsAnswer, IsReportAnswer, edits_of};
+ghost use Rattle.occheck_sessions.specs.inside.Told.{IsTold};
 ghost use Rattle.std.specs.Prelude.{◌≡◌, ◌≤◌, IfOk, codes, length, take, true};
 
 use super::editing::{Answer, changed, opened, removed};
-use super::matching::{is_first, is_front};
 use super::talk::{Broken, Said};
 use occ_board::Entry;
-use occ_server::Snapshot;
 use occheck_commands::Command;
-use occheck_script::{line, report_lines};
+use occheck_script::line;
 use std::alloc::Global;
 
 /// The answer to a command of a session, if what it was told agrees with the edits that were made. The session's last edit
@@ -23,7 +22,8 @@ pub fn answered(
     entries: &[Entry],
     last: usize,
 ) -> Result<Answer, Broken>
-    requires { last ≤ length entries.now }
+    requires last { last ≤ length entries.now }
+    requires told { IsTold entries.now said.now }
     ensures within { IfOk result (λ answer. answer.last ≤ length entries.now) }
     ensures announced { (read : Reading) → ReadsCommand read (meant command.entry) → IfOk result (λ answer. IsAnswer read entries.now session (edits_of session (take last entries.now)) (meant command.entry) answer.text.items (edits_of session (take answer.last entries.now))) }
 {
@@ -52,6 +52,7 @@ fn settled(alloc: Global, said: &Said, last: usize) -> Result<Answer, Broken>
     }
 }
 
+/// A report that has seen the session's last edit.
 fn reported(
     alloc: Global,
     session: u32,
@@ -59,37 +60,18 @@ fn reported(
     entries: &[Entry],
     last: usize,
 ) -> Result<Answer, Broken>
-    requires { last ≤ length entries.now }
+    requires told { IsTold entries.now said.now }
     ensures text { IfOk result (λ answer. IsReportAnswer entries.now session (edits_of session (take last entries.now)) answer.text.items) }
     ensures last { IfOk result (λ answer. answer.last ≡ last) }
 {
     match said {
-        Said::Reported(snapshot) => {
-            let text = report_text(alloc, session, snapshot, entries, last)?;
+        Said::Reported(told) => {
+            if told.seen < last {
+                return Err(Broken::Disagree);
+            }
+            let text = Vec::from_slice(alloc, told.text.as_slice())?;
             Ok(Answer { text, last })
         }
         _ => Err(Broken::Disagree),
     }
-}
-
-/// The text of a report that has seen the first edits of these, the last one of the session among them. None of them was cut
-/// off.
-fn report_text(
-    alloc: Global,
-    session: u32,
-    snapshot: &Snapshot,
-    entries: &[Entry],
-    last: usize,
-) -> Result<Vec<u8>, Broken>
-    requires { last ≤ length entries.now }
-    ensures { IfOk result (λ text. IsReportAnswer entries.now session (edits_of session (take last entries.now)) text.items) }
-{
-    if !is_first(snapshot.base()) {
-        return Err(Broken::Disagree);
-    }
-    let seen = snapshot.entries();
-    if seen.len() < last || !is_front(seen, entries) {
-        return Err(Broken::Disagree);
-    }
-    Ok(report_lines(alloc, snapshot.report())?)
 }

@@ -10,6 +10,7 @@
 mod announcing;
 mod answering;
 mod editing;
+mod heard;
 mod judging;
 mod matching;
 mod output;

@@ -3,12 +3,13 @@ ghost use Rattle.occ_board.specs.Journal.{nothing};
 ghost use Rattle.occheck_sessions.specs.Output.{AreReading, AreReported, IsRun, fault_lines, first_fault, is_of_one, session_line};
 ghost use Rattle.occheck_script.specs.Machine.{Reading};
 ghost use Rattle.std.specs.List.{list_all};
-ghost use Rattle.std.specs.Prelude.{◌≡◌, ◌+◌, ◌<◌, ◌^◌, IfOk, None, OnOk, length};
+ghost use Rattle.std.specs.Prelude.{◌≡◌, ◌+◌, ◌++◌, ◌<◌, ◌^◌, IfOk, List, None, OnOk, length, ℕ};
 
 use super::announcing::announce;
+use super::heard::Heard;
 use super::matching::is_first;
 use super::script::SessionScript;
-use super::talk::{Broken, Said};
+use super::talk::Broken;
 use occ_board::Entry;
 use occ_server::Ended;
 use occheck_script::{line_naming, report_lines};
@@ -38,7 +39,7 @@ pub fn fault_text(alloc: Global, session: usize, line: usize) -> Result<Vec<u8>,
 pub fn whole_text(
     alloc: Global,
     scripts: &[SessionScript],
-    said: &[Vec<Said>],
+    heard: &[Heard],
     ended: &Ended,
 ) -> Result<Vec<u8>, Broken>
     requires fine { first_fault 1 scripts.now ≡ None }
@@ -50,7 +51,7 @@ pub fn whole_text(
     if !is_first(ended.base()) || !are_within(entries, scripts.len() as u32) {
         return Err(Broken::Disagree);
     }
-    let mut text = reported_from(alloc, 1, scripts, said, entries)?;
+    let mut text = reported_from(alloc, 1, scripts, heard, entries, Vec::new(alloc))?;
     let report = report_lines(alloc, ended.report())?;
     text.extend_from_slice(report.as_slice())?;
     Ok(text)
@@ -69,26 +70,26 @@ fn is_within(entry: &Entry, sessions: u32) -> bool
     1 <= entry.session && entry.session <= sessions
 }
 
-/// The answers of the sessions from a number on.
+/// Appends the answers of the sessions from a number on.
 fn reported_from(
     alloc: Global,
     session: u32,
     scripts: &[SessionScript],
-    said: &[Vec<Said>],
+    heard: &[Heard],
     entries: &[Entry],
+    before: Vec<u8>,
 ) -> Result<Vec<u8>, Broken>
     requires { session + length scripts.now < 2 ^ 32 }
-    ensures { (read : Reading) → AreReading read scripts.now → IfOk result (λ text. AreReported read entries.now session scripts.now text.items) }
+    ensures { (read : Reading) → AreReading read scripts.now → IfOk result (λ text. (answers : List ℕ) × (text.items ≡ before.items ++ answers) × AreReported read entries.now session scripts.now answers) }
 {
-    match (scripts.split_first(), said.split_first()) {
-        (None, None) => Ok(Vec::new(alloc)),
-        (Some((script, scripts)), Some((one, said))) => {
-            let mut text = head(alloc, session as usize)?;
-            let answers = announce(alloc, session, script, one.as_slice(), entries)?;
-            text.extend_from_slice(answers.as_slice())?;
-            let rest = reported_from(alloc, session + 1, scripts, said, entries)?;
-            text.extend_from_slice(rest.as_slice())?;
-            Ok(text)
+    match (scripts.split_first(), heard.split_first()) {
+        (None, None) => Ok(before),
+        (Some((script, scripts)), Some((one, heard))) => {
+            let mut text = before;
+            let head = head(alloc, session as usize)?;
+            text.extend_from_slice(head.as_slice())?;
+            let text = announce(alloc, session, script, one, entries, text)?;
+            reported_from(alloc, session + 1, scripts, heard, entries, text)
         }
         _ => Err(Broken::Disagree),
     }

@@ -10,11 +10,12 @@ ghost use Rattle.std.specs.List.{list_any};
 ghost use Rattle.std.specs.Prelude.{◌≡◌, ◌≤◌, ◌<◌, ◌||◌, IfOk, List, None, Some, false, length, map, true, ℕ};
 ghost use Rattle.std.specs.Thread.{IsSync};
 
+use super::heard::Heard;
 use super::output::{fault_text, whole_text};
 use super::reading::{Unread, read_all};
 use super::script::SessionScript;
 use super::session::Session;
-use super::talk::{Broken, Said, Talk};
+use super::talk::{Broken, Talk};
 use occ_server::{CloseFault, Ended, Gate, Receipt, Server, Settled, WorkEnd};
 use occheck_script::{ByteIn, ByteOut, Status, reports_errors, write_all};
 use std::alloc::Global;
@@ -124,9 +125,9 @@ fn whole_output<G: Gate + Sync, T: Threads + Wait + Sync>(
 {
     let server = Server::new(alloc);
     let talks = all_talks(rt, alloc, &server, scripts, workers, gate)?;
-    let (said, receipts) = parted(alloc, talks)?;
+    let (heard, receipts) = parted(alloc, talks)?;
     let ended = closed(alloc, server, receipts.as_slice())?;
-    let text = whole_text(alloc, scripts, said.as_slice(), &ended)?;
+    let text = whole_text(alloc, scripts, heard.as_slice(), &ended)?;
     Ok(Output {
         text,
         errors: reports_errors(ended.report()),
@@ -145,18 +146,18 @@ fn closed(alloc: Global, server: Server, receipts: &[Receipt]) -> Result<Ended, 
 }
 
 /// What the sessions were told, and the receipts of all their edits by number.
-fn parted(alloc: Global, talks: Vec<Talk>) -> Result<(Vec<Vec<Said>>, Vec<Receipt>), Broken> {
-    let mut announced = Vec::new(alloc);
+fn parted(alloc: Global, talks: Vec<Talk>) -> Result<(Vec<Heard>, Vec<Receipt>), Broken> {
+    let mut told = Vec::new(alloc);
     let mut all = Vec::new(alloc);
     for talk in talks {
-        let Talk { said, receipts } = talk;
-        announced.push(said)?;
+        let Talk { heard, receipts } = talk;
+        told.push(heard)?;
         for receipt in receipts {
             all.push(receipt)?;
         }
     }
     all.sort_by_key(|receipt| receipt.number())?;
-    Ok((announced, all))
+    Ok((told, all))
 }
 
 /// Runs each script in a thread of its own, with workers beside them. All threads have ended when it returns.

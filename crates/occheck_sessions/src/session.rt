@@ -1,4 +1,5 @@
 //! A session: it asks the server for what its commands ask for, and stores what it hears.
+use super::heard::Heard;
 use super::script::SessionScript;
 use super::talk::{Broken, Said, Talk};
 use occ_board::EditFault;
@@ -32,7 +33,7 @@ impl<'a, R: Wait> Session<'a, R> {
     /// Asks the server for what the commands of a script ask for, one after the other.
     pub fn run(&self, script: &SessionScript) -> Result<Talk, Broken> {
         let mut talk = Talk {
-            said: Vec::new(self.alloc),
+            heard: Heard::new(self.alloc),
             receipts: Vec::new(self.alloc),
         };
         let mut rest = script.begin();
@@ -42,8 +43,7 @@ impl<'a, R: Wait> Session<'a, R> {
                 Next::End => return Ok(talk),
                 Next::Fault(_) => return Err(Broken::Disagree),
                 Next::Command(_line, command, left) => {
-                    let said = self.ask(command, &mut talk)?;
-                    talk.said.push(said)?;
+                    self.ask(command, &mut talk)?;
                     rest = left;
                 }
             }
@@ -51,22 +51,22 @@ impl<'a, R: Wait> Session<'a, R> {
         unreachable!()
     }
 
-    /// Asks for what a command asks for.
-    fn ask(&self, command: Command<'_>, talk: &mut Talk) -> Result<Said, Broken> {
+    /// Asks for what a command asks for, and stores what it hears.
+    fn ask(&self, command: Command<'_>, talk: &mut Talk) -> Result<(), Broken> {
         match command {
             Command::Open(name, text) => match read_edit(self.alloc, None, name, text)? {
                 RequestedEdit::File(file, source) => self.edit(Edit::Added(file, source), talk),
-                RequestedEdit::Refused(_word) => Ok(Said::Wrong),
+                RequestedEdit::Refused(_word) => talk.heard.hear(Said::Wrong),
             },
             Command::Change(name, text) => match read_edit(self.alloc, None, name, text)? {
                 RequestedEdit::File(file, source) => self.edit(Edit::Changed(file, source), talk),
-                RequestedEdit::Refused(_word) => Ok(Said::Wrong),
+                RequestedEdit::Refused(_word) => talk.heard.hear(Said::Wrong),
             },
             Command::Remove(name) => match named(name) {
                 Ok(file) => self.edit(Edit::Removed(file), talk),
-                Err(_word) => Ok(Said::Wrong),
+                Err(_word) => talk.heard.hear(Said::Wrong),
             },
-            Command::Settle => self.settle(),
+            Command::Settle => self.settle(talk),
             Command::Report => self.report(talk),
             Command::Take(_) | Command::Finish(_) | Command::Drop(_) | Command::Checkpoint => {
                 Err(Broken::Disagree)
@@ -74,29 +74,29 @@ impl<'a, R: Wait> Session<'a, R> {
         }
     }
 
-    fn edit(&self, edit: Edit, talk: &mut Talk) -> Result<Said, Broken> {
+    fn edit(&self, edit: Edit, talk: &mut Talk) -> Result<(), Broken> {
         match self.server.edit(self.rt, self.alloc, self.number, edit) {
             Ok(receipt) => {
                 talk.receipts.push(receipt)?;
-                Ok(Said::Edited)
+                talk.heard.hear(Said::Edited)
             }
             Err(EditFault::Memory) => Err(Broken::Memory),
-            Err(fault) => Ok(Said::Refused(fault)),
+            Err(fault) => talk.heard.hear(Said::Refused(fault)),
         }
     }
 
-    fn settle(&self) -> Result<Said, Broken> {
+    fn settle(&self, talk: &mut Talk) -> Result<(), Broken> {
         match self.server.settle(self.rt) {
-            Settled::Clear => Ok(Said::Settled),
+            Settled::Clear => talk.heard.hear(Said::Settled),
             Settled::Stopped => Err(Broken::Memory),
         }
     }
 
     /// Asks for a report that has seen the session's last edit.
-    fn report(&self, talk: &Talk) -> Result<Said, Broken> {
+    fn report(&self, talk: &mut Talk) -> Result<(), Broken> {
         let seen = talk.receipts.as_slice().last();
         match self.server.report(self.rt, self.alloc, seen) {
-            Ok(snapshot) => Ok(Said::Reported(snapshot)),
+            Ok(snapshot) => talk.heard.hear_report(self.alloc, snapshot),
             Err(ReportFault::Cut(_) | ReportFault::Behind(_)) => Err(Broken::Disagree),
             Err(ReportFault::Memory) => Err(Broken::Memory),
         }

@@ -1,10 +1,18 @@
-//! What a session heard, command by command, and the receipts of its edits.
+//! What a session is told of a command, and what a whole session is told, with the receipts of its edits.
 ghost use Rattle.occheck_sessions.specs.declared.talk.Broken.TheVariants as broken;
 ghost use Rattle.std.specs.Prelude.{◌≡◌};
 
+use super::heard::Heard;
 use occ_board::EditFault;
-use occ_server::{Receipt, Snapshot};
+use occ_server::Receipt;
 use std::alloc::{AllocError, AllocFailed};
+
+/// A report as bytes, and how many edits it has seen.
+#[derive(Drop)]
+pub struct Told {
+    pub seen: usize,
+    pub text: Vec<u8>,
+}
 
 /// What a session was told by the server.
 #[derive(Drop)]
@@ -18,13 +26,13 @@ pub enum Said {
     /// No unit was pending.
     Settled,
     /// The report.
-    Reported(Snapshot),
+    Reported(Told),
 }
 
 /// What a session was told, command by command, and the receipts of its edits.
 #[derive(Drop)]
 pub struct Talk {
-    pub said: Vec<Said>,
+    pub heard: Heard,
     pub receipts: Vec<Receipt>,
 }
 
