@@ -1,3 +1,4 @@
+pub mod Alone
 pub mod Anew
 pub mod AtLines
 pub mod Bases

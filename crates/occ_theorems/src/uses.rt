@@ -1,6 +1,8 @@
 //! Laws of uses: the parallel rule, the abbreviation rule, and the uses that they judge.
 ghost use Rattle.occ_alias.specs.AbbreviationRule.{evaluated_faults};
+ghost use Rattle.occ_alias.specs.Grades.{graded_as, graver};
 ghost use Rattle.occ_alias.specs.Reporting.{IsReportedOf};
+ghost use Rattle.occ_base.specs.declared.code.Grade.TheVariants as grade;
 ghost use Rattle.occ_base.specs.declared.diag.Diag.{Diag as ADiag};
 ghost use Rattle.occ_usage_values.specs.Bounds.{Env};
 ghost use Rattle.occ_usage_values.specs.Making.{CallUses};
@@ -52,6 +54,13 @@ pub fn parallel_law()
 /// So the abbreviation rule is read use by use and call by call.
 pub fn abbreviation_law()
     ensures { (line : ALine) (env : Env) (us : List AUse) (cs : List ACall) (d : ADiag) → Contains (evaluated_faults line env us cs) d ↔ IsReportedOf line env us cs d }
+{}
+
+/// Of what the abbreviation rule finds, each error is told, and each check of which the same is not found as an error.
+/// So one thing is told in one grade, and the graver one.
+pub fn grade_law()
+    ensures errors { (ds : List ADiag) (d : ADiag) → d.grade ≡ grade.Error → Contains (graver ds) d ↔ Contains ds d }
+    ensures checks { (ds : List ADiag) (d : ADiag) → d.grade ≡ grade.Check → Contains (graver ds) d ↔ (Contains ds d × (Contains ds (graded_as grade.Error d) → ⊥)) }
 {}
 
 /// A call uses exactly what is evaluated for its actuals, and what it makes by one of the uses of its body.
