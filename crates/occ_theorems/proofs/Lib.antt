@@ -30,6 +30,7 @@ pub mod Reporting
 pub mod Turns
 pub mod Unaccepted
 pub mod UseCodes
+pub mod Using
 pub mod Working
 pub mod Wraps
 pub mod shape

@@ -4,3 +4,4 @@ pub mod Exports
 pub mod Orders
 pub mod Reached
 pub mod Reports
+pub mod Using

@@ -47,5 +47,5 @@ pub use types::{
 };
 pub use uses::{
     abbreviation_law, call_law, distinct_law, element_read_law, grade_law, parallel_law,
-    use_report_law, use_scope_law,
+    process_use_law, use_report_law, use_scope_law,
 };

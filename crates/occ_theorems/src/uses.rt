@@ -26,7 +26,9 @@ ghost use Rattle.occ_types.specs.declared.interface.UseKind.TheVariants as kind;
 ghost use Rattle.occ_typing.specs.declared.tree.TypedLine.{TypedLine as ATypedLine};
 ghost use Rattle.occ_usage.specs.Anew.{AllBroughtIn};
 ghost use Rattle.occ_usage.specs.Standing.{IsReportedIn, Stands};
-ghost use Rattle.occ_usage.specs.Trees.{trees_of};
+ghost use Rattle.occ_theorems.specs.Using.{IsUsedBy};
+ghost use Rattle.occ_usage.specs.Lines.{items_of, line_uses};
+ghost use Rattle.occ_usage.specs.Trees.{Head as AHead, Trees as SomeTrees, trees_of};
 ghost use Rattle.occ_usage.specs.Walk.{At, Rule, unit_reported};
 ghost use Rattle.std.specs.List.{Contains};
 ghost use Rattle.std.specs.Prelude.{List, None, Some, [], false, slice_get, true, ℕ, ◌++◌, ◌↔◌, ◌∷◌, ◌≡◌};
@@ -35,6 +37,12 @@ ghost use Rattle.std.specs.Prelude.{List, None, Some, [], false, slice_get, true
 /// So what a PROC or FUNCTION uses at its call is what its lines use where it is specified.
 pub fn use_scope_law()
     ensures { (lines : List ATypedLine) (a : At) → Stands (trees_of lines) [] [] a → AllBroughtIn (trees_of lines) a.env }
+{}
+
+/// A use is among those of a process exactly if a line that stands in it, outside inner bodies of PROCs and FUNCTIONs, has it.
+/// Under a known replicator a line stands once in each round.
+pub fn process_use_law()
+    ensures { (env : Env) (h : AHead) (t : SomeTrees) (u : AUse) → Contains (line_uses env h (items_of t)) u ↔ IsUsedBy env h t u }
 {}
 
 /// A rule of uses reports a diagnostic of a unit exactly if it reports it of some line, by what is in scope there.
