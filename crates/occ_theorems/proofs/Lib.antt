@@ -8,6 +8,7 @@ pub mod Elements
 pub mod Clashing
 pub mod Equivalences
 pub mod Exporting
+pub mod Functions
 pub mod Interfaces
 pub mod Marks
 pub mod Members

@@ -1,6 +1,7 @@
 pub mod Anew
 pub mod Edits
 pub mod Exports
+pub mod Functions
 pub mod Orders
 pub mod Reached
 pub mod Reports

@@ -25,6 +25,8 @@ ghost use Rattle.occ_typing_rules.specs.declared.expr.TypedExpr.{TypedExpr as An
 ghost use Rattle.occ_types.specs.declared.interface.UseKind.TheVariants as kind;
 ghost use Rattle.occ_typing.specs.declared.tree.TypedLine.{TypedLine as ATypedLine};
 ghost use Rattle.occ_usage.specs.Anew.{AllBroughtIn};
+ghost use Rattle.occ_theorems.specs.Functions.{IsFunctionFault};
+ghost use Rattle.occ_usage.specs.FunctionRule.{function_faults};
 ghost use Rattle.occ_usage.specs.Standing.{IsReportedIn, Stands};
 ghost use Rattle.occ_theorems.specs.Using.{IsUsedBy};
 ghost use Rattle.occ_usage.specs.Lines.{items_of, line_uses};
@@ -69,6 +71,12 @@ pub fn abbreviation_law()
 pub fn grade_law()
     ensures errors { (ds : List ADiag) (d : ADiag) → d.grade ≡ grade.Error → Contains (graver ds) d ↔ Contains ds d }
     ensures checks { (ds : List ADiag) (d : ADiag) → d.grade ≡ grade.Check → Contains (graver ds) d ↔ (Contains ds d × (Contains ds (graded_as grade.Error d) → ⊥)) }
+{}
+
+/// F1 is told of a line in a FUNCTION that has an effect, and at each write there of what stands outside it; of no other line.
+/// A FUNCTION of one line is judged by its results. So the function rule is read line by line.
+pub fn function_law()
+    ensures { (lines : List ATypedLine) (d : ADiag) → Contains (function_faults lines) d ↔ IsFunctionFault lines d }
 {}
 
 /// A call uses exactly what is evaluated for its actuals, and what it makes by one of the uses of its body.
