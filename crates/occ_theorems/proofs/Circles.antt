@@ -61,7 +61,7 @@ abbrev Is : Code → List ℕ → Diag → Type 0
 Is c name d = (d.code ≡ c) × (d.name ≡ Some name)
 
 -- diagnostics that the order does not distinguishes report the same
-then_equal : (a b : Ordering) → ordering_then a b ≡ Equal → (a ≡ Equal) × (b ≡ Equal)
+pub then_equal : (a b : Ordering) → ordering_then a b ≡ Equal → (a ≡ Equal) × (b ≡ Equal)
 then_equal Less b h = absurd cc
 then_equal Equal b h = (refl, h)
 then_equal Greater b h = absurd cc
@@ -70,13 +70,13 @@ only_circle : (x : Code) → (code_ord.ghosts).cmp code.G2 x ≡ Equal → x ≡
 only_circle code.G2 h = refl
 only_circle other h = absurd cc
 
-same_name : (a b : Option (List ℕ)) → option_cmp (slice_cmp nat_cmp) a b ≡ Equal → a ≡ b
+pub same_name : (a b : Option (List ℕ)) → option_cmp (slice_cmp nat_cmp) a b ≡ Equal → a ≡ b
 same_name None None h = refl
 same_name None (Some b) h = absurd cc
 same_name (Some a) None h = absurd cc
 same_name (Some a) (Some b) h = ap Some (equal_names a b h)
 
-same_line : (m n : ℕ) → nat_cmp m n ≡ Equal → m ≡ n
+pub same_line : (m n : ℕ) → nat_cmp m n ≡ Equal → m ≡ n
 same_line m n h = ranked m n Equal (sym h)
 
 exact : (name : List ℕ) (d e : Diag) → diag_order d e ≡ Equal → Is code.G2 name d → Is code.G2 name e
@@ -91,7 +91,7 @@ only_error : (g : Grade) → (grade_ord.ghosts).cmp grade.Error g ≡ Equal → 
 only_error grade.Error h = refl
 only_error grade.Check h = absurd cc
 
-diag_of : List ℕ → ℕ → Code → Grade → Option (List ℕ) → Diag
+unfoldable pub diag_of : List ℕ → ℕ → Code → Grade → Option (List ℕ) → Diag
 diag_of file line c g name = record { file = file; line = line; code = c; grade = g; name = name }
 
 -- an error of a circle is alone at its place

@@ -1,3 +1,4 @@
+pub mod Alone
 pub mod Anew
 pub mod AtLines
 pub mod Bases
@@ -7,6 +8,7 @@ pub mod Elements
 pub mod Clashing
 pub mod Equivalences
 pub mod Exporting
+pub mod Functions
 pub mod Interfaces
 pub mod Marks
 pub mod Members
@@ -29,6 +31,7 @@ pub mod Reporting
 pub mod Turns
 pub mod Unaccepted
 pub mod UseCodes
+pub mod Using
 pub mod Working
 pub mod Wraps
 pub mod shape

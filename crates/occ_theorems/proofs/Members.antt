@@ -41,7 +41,7 @@ module _ {X : Type 0} (cmp : X → X → Ordering) where
   from_by k x xs Greater z f (inl e) = inr (inl e)
   from_by k x xs Greater z f (inr h) = elim (f h) [ inl e ↦ inl e | inr g ↦ inr (inr g) ]
 
-  from_insert : (xs : List X) (k z : X) → Among z (insert_key cmp xs k) → (k ≡ z) ⊎ Among z xs
+  pub from_insert : (xs : List X) (k z : X) → Among z (insert_key cmp xs k) → (k ≡ z) ⊎ Among z xs
   from_insert [] k z h = h
   from_insert (x ∷ xs) k z h = from_by k x xs (cmp k x) z (from_insert xs k z) h
 
@@ -51,7 +51,7 @@ module _ {X : Type 0} (cmp : X → X → Ordering) where
   new_by k x xs Equal alone e h = inl (sym (alone x e))
   new_by k x xs Greater alone e h = inr h
 
-  new_insert : (xs : List X) (k : X) → IsAlone k → Among k (insert_key cmp xs k)
+  pub new_insert : (xs : List X) (k : X) → IsAlone k → Among k (insert_key cmp xs k)
   new_insert [] k alone = inl refl
   new_insert (x ∷ xs) k alone = new_by k x xs (cmp k x) alone refl (new_insert xs k alone)
 
@@ -62,7 +62,7 @@ module _ {X : Type 0} (cmp : X → X → Ordering) where
   old_by k x xs Greater z f (inl e) = inl e
   old_by k x xs Greater z f (inr h) = inr (f h)
 
-  old_insert : (xs : List X) (k z : X) → Among z xs → Among z (insert_key cmp xs k)
+  pub old_insert : (xs : List X) (k z : X) → Among z xs → Among z (insert_key cmp xs k)
   old_insert [] k z h = absurd h
   old_insert (x ∷ xs) k z h = old_by k x xs (cmp k x) z (old_insert xs k z) h
 

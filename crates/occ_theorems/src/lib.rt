@@ -46,6 +46,6 @@ pub use types::{
     nearest_law, type_report_law, type_scope_law, typed_tree_law, wrapping_law,
 };
 pub use uses::{
-    abbreviation_law, call_law, distinct_law, element_read_law, parallel_law, use_report_law,
-    use_scope_law,
+    abbreviation_law, call_law, distinct_law, element_read_law, function_law, grade_law,
+    parallel_law, process_use_law, use_report_law, use_scope_law,
 };

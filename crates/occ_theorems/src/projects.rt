@@ -19,7 +19,9 @@ ghost use Rattle.occ_project.specs.declared.expanded.ExpandedLine.{ExpandedLine}
 ghost use Rattle.occ_theorems.specs.Anew.{IsOfCircle, IsUseOf, circle_at, diags_anew, interface_anew};
 ghost use Rattle.std.specs.List.{Contains};
 ghost use Rattle.std.specs.List.Sorted.{IsStrictlySortedBy};
-ghost use Rattle.std.specs.Prelude.{Bool, List, Some, [], true, ℕ, ◌≡◌};
+ghost use Rattle.occ_theorems.specs.Orders.{by_parts};
+ghost use Rattle.std.specs.declared.cmp.Ordering.TheVariants.{Equal};
+ghost use Rattle.std.specs.Prelude.{Bool, List, Some, [], true, ◌↔◌, ℕ, ◌≡◌};
 
 use occ_check::laws;
 use occ_project_units::laws::{circle_law, reads_law};
@@ -65,10 +67,13 @@ pub fn done_law()
     ensures more { (g : Graph) (good better : ℕ → Bool) → ((u : ℕ) → good u ≡ true → better u ≡ true) → (u : ℕ) → done g good u ≡ true → done g better u ≡ true }
 {}
 
-/// Diagnostics and names that were put in order rise strictly, whatever was found.
-/// So each stands once, and two lists of the same items are one.
-#[tactic(auto, using(crate::proofs::Rising::diags_rise, crate::proofs::Rising::names_rise))]
+/// Diagnostics and names that were put in order rise strictly, whatever was found, and of diagnostics none is lost. They are ordered
+/// by file, line, code, grade and name. So each stands once, and two lists of the same items are one.
+#[tactic(auto, using(crate::proofs::Rising::diags_rise, crate::proofs::Rising::names_rise, crate::proofs::Alone::parts))]
 pub fn order_law()
+    ensures parts { (d e : Diag) → diag_order d e ≡ by_parts d e }
+    ensures alone { (d e : Diag) → diag_order d e ≡ Equal → d ≡ e }
+    ensures kept { (ds : List Diag) (d : Diag) → Contains (in_order ds) d ↔ Contains ds d }
     ensures diags { (ds : List Diag) → IsStrictlySortedBy diag_order (in_order ds) }
     ensures names { (ns : List (List ℕ)) → IsStrictlySortedBy name_cmp (names_in_order ns) }
 {}

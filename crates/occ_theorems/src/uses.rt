@@ -1,6 +1,8 @@
 //! Laws of uses: the parallel rule, the abbreviation rule, and the uses that they judge.
 ghost use Rattle.occ_alias.specs.AbbreviationRule.{evaluated_faults};
+ghost use Rattle.occ_alias.specs.Grades.{graded_as, graver};
 ghost use Rattle.occ_alias.specs.Reporting.{IsReportedOf};
+ghost use Rattle.occ_base.specs.declared.code.Grade.TheVariants as grade;
 ghost use Rattle.occ_base.specs.declared.diag.Diag.{Diag as ADiag};
 ghost use Rattle.occ_usage_values.specs.Bounds.{Env};
 ghost use Rattle.occ_usage_values.specs.Making.{CallUses};
@@ -23,8 +25,12 @@ ghost use Rattle.occ_typing_rules.specs.declared.expr.TypedExpr.{TypedExpr as An
 ghost use Rattle.occ_types.specs.declared.interface.UseKind.TheVariants as kind;
 ghost use Rattle.occ_typing.specs.declared.tree.TypedLine.{TypedLine as ATypedLine};
 ghost use Rattle.occ_usage.specs.Anew.{AllBroughtIn};
+ghost use Rattle.occ_theorems.specs.Functions.{IsFunctionFault};
+ghost use Rattle.occ_usage.specs.FunctionRule.{function_faults};
 ghost use Rattle.occ_usage.specs.Standing.{IsReportedIn, Stands};
-ghost use Rattle.occ_usage.specs.Trees.{trees_of};
+ghost use Rattle.occ_theorems.specs.Using.{IsUsedBy};
+ghost use Rattle.occ_usage.specs.Lines.{items_of, line_uses};
+ghost use Rattle.occ_usage.specs.Trees.{Head as AHead, Trees as SomeTrees, trees_of};
 ghost use Rattle.occ_usage.specs.Walk.{At, Rule, unit_reported};
 ghost use Rattle.std.specs.List.{Contains};
 ghost use Rattle.std.specs.Prelude.{List, None, Some, [], false, slice_get, true, ℕ, ◌++◌, ◌↔◌, ◌∷◌, ◌≡◌};
@@ -33,6 +39,12 @@ ghost use Rattle.std.specs.Prelude.{List, None, Some, [], false, slice_get, true
 /// So what a PROC or FUNCTION uses at its call is what its lines use where it is specified.
 pub fn use_scope_law()
     ensures { (lines : List ATypedLine) (a : At) → Stands (trees_of lines) [] [] a → AllBroughtIn (trees_of lines) a.env }
+{}
+
+/// A use is among those of a process exactly if a line that stands in it, outside inner bodies of PROCs and FUNCTIONs, has it.
+/// Under a known replicator a line stands once in each round.
+pub fn process_use_law()
+    ensures { (env : Env) (h : AHead) (t : SomeTrees) (u : AUse) → Contains (line_uses env h (items_of t)) u ↔ IsUsedBy env h t u }
 {}
 
 /// A rule of uses reports a diagnostic of a unit exactly if it reports it of some line, by what is in scope there.
@@ -52,6 +64,19 @@ pub fn parallel_law()
 /// So the abbreviation rule is read use by use and call by call.
 pub fn abbreviation_law()
     ensures { (line : ALine) (env : Env) (us : List AUse) (cs : List ACall) (d : ADiag) → Contains (evaluated_faults line env us cs) d ↔ IsReportedOf line env us cs d }
+{}
+
+/// Of what the abbreviation rule finds, each error is told, and each check of which the same is not found as an error.
+/// So one thing is told in one grade, and the graver one.
+pub fn grade_law()
+    ensures errors { (ds : List ADiag) (d : ADiag) → d.grade ≡ grade.Error → Contains (graver ds) d ↔ Contains ds d }
+    ensures checks { (ds : List ADiag) (d : ADiag) → d.grade ≡ grade.Check → Contains (graver ds) d ↔ (Contains ds d × (Contains ds (graded_as grade.Error d) → ⊥)) }
+{}
+
+/// F1 is told of a line in a FUNCTION that has an effect, and at each write there of what stands outside it; of no other line.
+/// A FUNCTION of one line is judged by its results. So the function rule is read line by line.
+pub fn function_law()
+    ensures { (lines : List ATypedLine) (d : ADiag) → Contains (function_faults lines) d ↔ IsFunctionFault lines d }
 {}
 
 /// A call uses exactly what is evaluated for its actuals, and what it makes by one of the uses of its body.

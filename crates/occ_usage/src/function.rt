@@ -23,7 +23,7 @@ use std::alloc::{AllocError, Global};
 
 /// Where a line stands.
 #[derive(Clone, Copy)]
-pub(crate) enum Within {
+pub enum Within {
     /// In no FUNCTION.
     Nothing,
     /// In the body of a FUNCTION round which so many specifications stand, and whether it is ever executed there.

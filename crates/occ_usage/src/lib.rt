@@ -10,7 +10,7 @@ mod process;
 mod rounds;
 mod walk;
 
-pub use function::function_faults;
+pub use function::{Within, function_faults};
 pub use occ_alias::number_after;
 pub use occ_typing::{
     Import, TypeFault, Typed, TypedForm, TypedLine, shared_formals, shared_types, type_unit,
