@@ -13,7 +13,7 @@ use occheck_script::report_lines;
 use std::alloc::Global;
 use std::marker::Model;
 
-/// What a session was told, command by command, and the last report among it. Contracts see the edits of that report.
+/// What a session was told, command by command, and the last report among it, as contracts see it too.
 #[derive(Drop)]
 pub struct Heard {
     said: Vec<Said>,

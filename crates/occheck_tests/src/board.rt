@@ -20,7 +20,8 @@ fn board(alloc: Global) -> Result<Board, Fail> {
     }
 }
 
-fn outcome(alloc: Global, job: Job) -> Result<Outcome, Fail> {
+/// The outcome of a job.
+pub fn outcome(alloc: Global, job: Job) -> Result<Outcome, Fail> {
     match check(alloc, job) {
         Ok(outcome) => Ok(outcome),
         Err((_job, refused)) => Err(refused)?,

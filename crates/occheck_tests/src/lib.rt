@@ -11,7 +11,11 @@ mod expanded;
 #[cfg(test)]
 mod expansion;
 #[cfg(test)]
+mod forged;
+#[cfg(test)]
 mod form;
+#[cfg(test)]
+mod receipts;
 #[cfg(test)]
 mod scope;
 #[cfg(test)]

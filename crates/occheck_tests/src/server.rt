@@ -30,7 +30,7 @@ pub fn added<R: Wait>(
 }
 
 /// A session gives an open file another text.
-fn changed<R: Wait>(
+pub fn changed<R: Wait>(
     rt: &R,
     alloc: Global,
     server: &Server,
@@ -83,7 +83,7 @@ impl Gate for Last<'_> {
 }
 
 /// Works at so many units, and stops the server. Whether all were accepted, and none is pending.
-fn works<R: Wait>(rt: &R, alloc: Global, server: &Server, units: usize) -> bool {
+pub fn works<R: Wait>(rt: &R, alloc: Global, server: &Server, units: usize) -> bool {
     let gate = Last {
         server,
         left: AtomicUsize::new(units),
@@ -126,7 +126,7 @@ fn a_report_after_an_edit_has_seen_it(rt: HostRuntime) -> Result<(), Fail> {
 }
 
 /// The server that comes back where it is not closed, and why it is not.
-fn refused(
+pub fn refused(
     alloc: Global,
     server: Server,
     receipts: &[Receipt],
