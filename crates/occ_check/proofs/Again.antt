@@ -13,7 +13,7 @@ use Rattle.occ_project.specs.Expansion.{Expansion}
 use Rattle.occ_types.specs.declared.interface.Interface.{Interface}
 use Rattle.std.specs.Prelude.{None, if◌then◌else◌}
 
-judged_by : Expansion → List UsedUnit → Judgement
+abbrev judged_by : Expansion → List UsedUnit → Judgement
 judged_by expansion used = following (expansion.faults ++ line_faults used expansion.lines) (lines_judged expansion.lines used)
 
 same_judged : (i j : Input) → expansion_in i ≡ expansion_in j → i.used ≡ j.used → judged i ≡ judged j

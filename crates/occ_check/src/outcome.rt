@@ -94,7 +94,6 @@ impl Outcome {
 
     /// The outcome of a job that has the same expansion as the one of this outcome, and uses the same units. Where the count of
     /// owners is full the job comes back.
-    #[tactic(auto, using(crate::proofs::Again::same_diags, crate::proofs::Again::same_interface))]
     pub fn again(&self, job: Job) -> Result<Outcome, (Job, AllocError)>
         requires expansion { expansion_in job ≡ expansion_in self.now }
         requires used { job.used ≡ self.now.used }
