@@ -1,13 +1,15 @@
-//! The program for people: it checks files on disk, and explains codes.
+//! The program for people: it checks files on disk, explains codes, and serves editors.
 #![tactic(auto)]
 
 mod check;
 mod disk;
 mod failing;
+mod lsp;
 mod printing;
 
 use check::check;
 use failing::{CLEAN, ERRORS, TROUBLE};
+use lsp::lsp;
 use occ_base::Code;
 use occ_files_words::{Asked, WordsFault, read_words};
 use occ_messages::{CODES, code_named, explained};
@@ -19,6 +21,7 @@ use std::process::ExitCode;
 fn main(rt: HostRuntime) -> ExitCode {
     let done = match asked(&rt) {
         Ok(Asked::Check(asked)) => check(&rt, &asked),
+        Ok(Asked::Serve(folders)) => lsp(&rt, folders.as_slice()),
         Ok(Asked::Explain(code)) => explain(&rt, code.as_str()),
         Err(WordsFault::Told(text)) => print!(rt; "{text}").map(|_| CLEAN),
         Err(WordsFault::Refused(text)) => eprint!(rt; "{text}").map(|_| TROUBLE),

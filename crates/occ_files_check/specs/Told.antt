@@ -1,6 +1,6 @@
 -- What people are told of texts: the diagnostics of the report from nothing, in order, each once, at their paths and lines.
 use Rattle.std.specs.Prelude.{◌≡◌, ℕ, List, [], ◌∷◌, map, if◌then◌else◌, cond}
-use Rattle.std.specs.List.{flat_map}
+use Rattle.std.specs.List.{filter, flat_map}
 use Rattle.std.specs.Str.{bytes_eq}
 use Rattle.std.specs.String.{string_bytes}
 use Rattle.occ_base.specs.declared.diag.Diag.{Diag}
@@ -40,6 +40,10 @@ row_diags units row = if is_among units row.unit then shown_diags row.shown else
 -- what is told of these units: all their diagnostics, in order, each once
 abbrev pub told_diags : List (List ℕ) → List Row → List Diag
 told_diags units rows = in_order (flat_map (row_diags units) rows)
+
+-- those that are in a file
+abbrev pub diags_in : List ℕ → List Diag → List Diag
+diags_in file diags = filter (λ diag. bytes_eq diag.file file) diags
 
 -- the path of the first text of that name
 abbrev pub path_of : List Text → List ℕ → List ℕ

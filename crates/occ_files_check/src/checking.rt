@@ -11,7 +11,7 @@ use occ_board::{Board, EditFault, Row};
 use occ_files::Text;
 use occ_messages::Message;
 use occheck_script::settle;
-use std::alloc::{AllocError, Global};
+use std::alloc::{AllocError, AllocFailed, Global};
 
 /// Why texts are not checked.
 #[derive(Clone, Copy)]
@@ -26,6 +26,12 @@ pub enum CheckFault {
 
 impl From<AllocError> for CheckFault {
     fn from(_error: AllocError) -> CheckFault {
+        CheckFault::Memory
+    }
+}
+
+impl<T: Drop> From<AllocFailed<T>> for CheckFault {
+    fn from(_error: AllocFailed<T>) -> CheckFault {
         CheckFault::Memory
     }
 }

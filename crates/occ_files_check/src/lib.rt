@@ -5,3 +5,4 @@ mod checking;
 mod telling;
 
 pub use checking::{CheckFault, Checked, check_texts};
+pub use telling::{add_shown, diags_in, messages};

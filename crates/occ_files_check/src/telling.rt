@@ -1,5 +1,5 @@
 //! What people are told of a report.
-ghost use Rattle.occ_files_check.specs.Told.{heads, path_of, row_diags, shown_diags, told_diags as spec_told_diags};
+ghost use Rattle.occ_files_check.specs.Told.{diags_in as spec_diags_in, heads, path_of, row_diags, shown_diags, told_diags as spec_told_diags};
 ghost use Rattle.occ_messages.specs.Located.{head_of, located};
 ghost use Rattle.occ_project.specs.Entries.{is_among as spec_is_among};
 ghost use Rattle.std.specs.Prelude.{◌≡◌, ◌++◌, IfOk, OnOk, map};
@@ -49,7 +49,7 @@ fn add_row(
 }
 
 /// Adds the diagnostics that are shown of a unit.
-fn add_shown(alloc: Global, shown: &Shown, diags: &mut Items<Diag>) -> Result<(), AllocError>
+pub fn add_shown(alloc: Global, shown: &Shown, diags: &mut Items<Diag>) -> Result<(), AllocError>
     ensures { OnOk result (diags.new ≡ diags.old ++ shown_diags shown.now) }
 {
     match shown {
@@ -66,6 +66,19 @@ fn add_all(alloc: Global, found: &[Diag], diags: &mut Items<Diag>) -> Result<(),
         diags.push(copied(alloc, diag)?)?;
     }
     Ok(())
+}
+
+/// The diagnostics that are in a file.
+pub fn diags_in(alloc: Global, diags: &[Diag], file: FileName) -> Result<Items<Diag>, AllocError>
+    ensures { IfOk result (λ found. found ≡ spec_diags_in file diags.now) }
+{
+    let mut found = Items::new(alloc);
+    for diag in diags {
+        if diag.file == file {
+            found.push(copied(alloc, diag)?)?;
+        }
+    }
+    Ok(found)
 }
 
 /// The same diagnostic.

@@ -7,7 +7,7 @@ use std::test::Fail;
 
 /// Files by their paths.
 #[derive(Drop)]
-struct List<'a>(&'a [(&'a str, &'a str)]);
+pub struct List<'a>(pub &'a [(&'a str, &'a str)]);
 
 /// What a path has below a folder.
 fn below<'a>(path: &'a str, folder: &str) -> Option<&'a str> {

@@ -7,3 +7,4 @@ use Rattle.occ_files_words.specs.declared.words.Asked.TheVariants as asked
 abbrev pub IsAllowed : Asked → Type 0
 IsAllowed (asked.Check checking) = 0 < length checking.files.items
 IsAllowed (asked.Explain code) = Unit {0}
+IsAllowed (asked.Serve folders) = Unit {0}

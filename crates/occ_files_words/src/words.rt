@@ -1,4 +1,4 @@
-//! The words of the command line of `occ`: a check of files, or the entry of a code.
+//! The words of the command line of `occ`: a check of files, the entry of a code, or a server for an editor.
 ghost use Rattle.occ_files_words.specs.Words.{IsAllowed};
 ghost use Rattle.std.specs.Prelude.{◌≡◌, ◌<◌, IfOk, length};
 
@@ -33,6 +33,8 @@ pub enum Asked {
     Check(Checking),
     /// To explain a code.
     Explain(String),
+    /// To serve an editor, with the folders in which used and included files are looked for, too.
+    Serve(Vec<String>),
 }
 
 /// Why the words ask for nothing.
@@ -70,12 +72,17 @@ pub fn read_words(alloc: Global, line: &[&str]) -> Result<Asked, WordsFault>
     }
 }
 
-/// The words of a check that have a value.
-fn with_values<'a>(alloc: Global, command: Command<'a>) -> Result<Command<'a>, AllocError> {
+/// The folders in which files are looked for.
+fn with_folders<'a>(alloc: Global, command: Command<'a>) -> Result<Command<'a>, AllocError> {
     let folders = Arg::new(alloc, "FOLDER")
         .short('I')
         .action(ArgAction::Append)
         .help("a folder in which used and included files are looked for, too");
+    command.arg(folders)
+}
+
+/// The words of a check that have a value.
+fn with_values<'a>(alloc: Global, command: Command<'a>) -> Result<Command<'a>, AllocError> {
     let format = Arg::new(alloc, "FORMAT")
         .long("format")
         .action(ArgAction::Set)
@@ -93,7 +100,10 @@ fn with_values<'a>(alloc: Global, command: Command<'a>) -> Result<Command<'a>, A
         .action(ArgAction::Append)
         .num_args(1..)
         .help("a file, a folder of .occ files, or - for standard input");
-    command.arg(folders)?.arg(format)?.arg(name)?.arg(files)
+    with_folders(alloc, command)?
+        .arg(format)?
+        .arg(name)?
+        .arg(files)
 }
 
 /// The words of a check that are there or not.
@@ -127,12 +137,16 @@ fn matched<'a>(alloc: Global, line: &'a [&'a str]) -> Result<ArgMatches<'a>, Err
         .action(ArgAction::Set)
         .help("a code, as U1");
     let explain = Command::new(alloc, "explain").about("Explains a code");
+    let serve = Command::new(alloc, "lsp").about(
+        "Serves an editor over standard input and output, by the language server protocol",
+    );
     Command::new(alloc, "occ")
         .about("Checks occam 2.1")
         .version("0.1.0")
         .subcommand_required(true)
         .subcommand(with_flags(alloc, check)?)?
         .subcommand(explain.arg(code)?)?
+        .subcommand(with_folders(alloc, serve)?)?
         .try_get_matches_from(line)
 }
 
@@ -157,6 +171,10 @@ fn asked_of(alloc: Global, matches: &ArgMatches<'_>) -> Result<Asked, WordsFault
         Some(("explain", words)) => {
             let code = words.get_str("CODE").unwrap_or("");
             Ok(Asked::Explain(String::from_str(alloc, code)?))
+        }
+        Some(("lsp", words)) => {
+            let folders = texts(alloc, words.get_strs("FOLDER").unwrap_or(&[]))?;
+            Ok(Asked::Serve(folders))
         }
         Some((_, words)) => check_of(alloc, words),
         None => Err(no_file(alloc)?),

@@ -1,0 +1,14 @@
+//! What an editor sends, as bytes: frames of messages, and what an edit of a range makes of a text. A place is a line and a
+//! column, which counts UTF-16 units.
+#![tactic(auto)]
+
+mod changes;
+mod head;
+mod ranges;
+mod reading;
+mod writing;
+
+pub use changes::{Change, changed_all};
+pub use ranges::{Place, byte_at, edited};
+pub use reading::{FrameFault, read_frame};
+pub use writing::frame;

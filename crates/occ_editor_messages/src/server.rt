@@ -1,0 +1,242 @@
+//! The server: messages are taken one by one, and what is told of files is published when it is asked for.
+use super::calls::{Call, call_of};
+use super::diagnostics::published;
+use super::sending::{NO_JSON, NO_MEMBERS, NO_METHOD, NO_REQUEST, NOT_BEGUN, Sending};
+use occ_editor::Editor;
+use occ_files::Disk;
+use occ_files_check::CheckFault;
+use occ_messages::explained;
+use serde_json::{Value, json};
+use std::alloc::{AllocError, Global};
+
+/// Whether the server goes on.
+#[derive(Clone, Copy, Debug, PartialEq, Eq)]
+pub enum Next {
+    Goes,
+    /// It ends with this status.
+    Ends(u8),
+}
+
+/// What the client has asked for.
+#[derive(Clone, Copy, PartialEq, Eq)]
+enum Phase {
+    /// Nothing yet.
+    New,
+    /// To serve it.
+    Begun,
+    /// To answer no more.
+    Shut,
+}
+
+/// A server of one client.
+#[derive(Drop)]
+pub struct Server<D: Disk> {
+    alloc: Global,
+    disk: D,
+    editor: Editor,
+    phase: Phase,
+    /// Whether the client watches files if it is asked to.
+    watches: bool,
+    /// Whether what came last was no message.
+    is_lost: bool,
+    sending: Sending,
+}
+
+impl<D: Disk + Drop> Server<D> {
+    /// A server that nothing was asked for. Used and included files are looked for in these folders, too.
+    pub fn new(alloc: Global, disk: D, folders: Vec<String>) -> Server<D> {
+        Server {
+            alloc,
+            disk,
+            editor: Editor::new(alloc, folders),
+            phase: Phase::New,
+            watches: false,
+            is_lost: false,
+            sending: Sending::new(alloc),
+        }
+    }
+
+    /// What is to be sent.
+    pub fn sent(&self) -> &[u8] {
+        self.sending.as_slice()
+    }
+
+    /// It was sent.
+    pub fn clear(&mut self) {
+        self.sending.clear();
+    }
+
+    /// What came is no message: so much is answered, once until a message comes.
+    pub fn lose(&mut self) -> Result<(), AllocError> {
+        if self.is_lost {
+            return Ok(());
+        }
+        self.is_lost = true;
+        self.sending.refuse(
+            None,
+            NO_JSON,
+            "no head of a message: `Content-Length: N` and an empty line",
+        )
+    }
+
+    /// Takes a message.
+    pub fn take(&mut self, message: &[u8]) -> Result<Next, CheckFault> {
+        self.is_lost = false;
+        match Value::from_slice(self.alloc, message) {
+            Ok(value) => self.take_value(&value),
+            Err(error) if error.is_memory() => Err(CheckFault::Memory),
+            Err(_) => {
+                self.sending
+                    .refuse(None, NO_JSON, "the message is no JSON")?;
+                Ok(Next::Goes)
+            }
+        }
+    }
+
+    /// Takes a message that is JSON.
+    fn take_value(&mut self, message: &Value) -> Result<Next, CheckFault> {
+        let call = call_of(self.alloc, message)?;
+        if matches!(&call, Call::Exit) {
+            return Ok(Next::Ends(if self.phase == Phase::Shut { 0 } else { 1 }));
+        }
+        match message.get("id") {
+            Some(id) if matches!(id, Value::Number(_) | Value::String(_)) => {
+                self.answer(id, call)?
+            }
+            _ => self.note(call)?,
+        }
+        Ok(Next::Goes)
+    }
+
+    /// Answers a request.
+    fn answer(&mut self, id: &Value, call: Call) -> Result<(), CheckFault> {
+        match (call, self.phase) {
+            (Call::Hover(path, line), Phase::Begun) => {
+                self.publish()?;
+                let told = self.explained(path.as_str(), line)?;
+                Ok(self.sending.answer(id, &told)?)
+            }
+            (call, _) => Ok(self.answer_plain(id, call)?),
+        }
+    }
+
+    /// Answers a request for which nothing is checked.
+    fn answer_plain(&mut self, id: &Value, call: Call) -> Result<(), AllocError> {
+        match (call, self.phase) {
+            (Call::Nothing, _) => Ok(()),
+            (Call::Initialize(watches), Phase::New) => {
+                self.watches = watches;
+                self.phase = Phase::Begun;
+                let abilities = abilities(self.alloc)?;
+                self.sending.answer(id, &abilities)
+            }
+            (_, Phase::New) => self
+                .sending
+                .refuse(Some(id), NOT_BEGUN, "`initialize` comes first"),
+            (_, Phase::Shut) => {
+                self.sending.refuse(
+                    Some(id),
+                    NO_REQUEST,
+                    "nothing but `exit` comes after `shutdown`",
+                )
+            }
+            (Call::Initialize(_), Phase::Begun) => {
+                self.sending
+                    .refuse(Some(id), NO_REQUEST, "`initialize` comes once")
+            }
+            (call, Phase::Begun) => self.answer_begun(id, call),
+        }
+    }
+
+    /// Answers a request that may come now.
+    fn answer_begun(&mut self, id: &Value, call: Call) -> Result<(), AllocError> {
+        match call {
+            Call::Shutdown => {
+                self.phase = Phase::Shut;
+                self.sending.answer(id, &Value::Null)
+            }
+            Call::Garbled => {
+                self.sending
+                    .refuse(Some(id), NO_MEMBERS, "the method has not these members")
+            }
+            _ => self
+                .sending
+                .refuse(Some(id), NO_METHOD, "there is no such request"),
+        }
+    }
+
+    /// The entries of the codes that are told of a line of a file, from 0.
+    fn explained(&self, path: &str, line: u32) -> Result<Value, AllocError> {
+        let codes = self
+            .editor
+            .codes_at(self.alloc, path, line.saturating_add(1))?;
+        if codes.is_empty() {
+            return Ok(Value::Null);
+        }
+        let mut text = String::new(self.alloc);
+        for code in &codes {
+            if !text.is_empty() {
+                text.push('\n')?;
+            }
+            text.push_str(explained(self.alloc, *code)?.as_str())?;
+        }
+        let text = text.as_str();
+        let contents = json!(in self.alloc; {"kind": "plaintext", "value": text})?;
+        json!(in self.alloc; {"contents": &contents})
+    }
+
+    /// Takes a note, which is not answered.
+    fn note(&mut self, call: Call) -> Result<(), CheckFault> {
+        match (call, self.phase) {
+            (Call::Initialized, Phase::Begun) if self.watches => Ok(self.watch()?),
+            (Call::Noted(note), Phase::Begun) => self.editor.take(self.alloc, note),
+            (Call::Read, Phase::Begun) => {
+                self.editor.look_again();
+                Ok(())
+            }
+            (Call::Garbled, _) => {
+                Ok(
+                    self.sending
+                        .refuse(None, NO_REQUEST, "the message is none of the protocol")?,
+                )
+            }
+            _ => Ok(()),
+        }
+    }
+
+    /// Asks the client to watch files.
+    fn watch(&mut self) -> Result<(), AllocError> {
+        let watcher = json!(in self.alloc; {"globPattern": "**/*.{occ,inc,lbb}"})?;
+        let options = json!(in self.alloc; {"watchers": [&watcher]})?;
+        let registration = json!(in self.alloc; {
+            "id": "watch",
+            "method": "workspace/didChangeWatchedFiles",
+            "registerOptions": &options
+        })?;
+        let params = json!(in self.alloc; {"registrations": [&registration]})?;
+        self.sending.request("client/registerCapability", &params)
+    }
+
+    /// Publishes what is told of each file of which perhaps something else is told than before.
+    pub fn publish(&mut self) -> Result<(), CheckFault> {
+        let all = self.editor.publish(self.alloc, &self.disk)?;
+        for told in &all {
+            let params = published(self.alloc, told)?;
+            self.sending
+                .note("textDocument/publishDiagnostics", &params)?;
+        }
+        Ok(())
+    }
+}
+
+/// What the server can do.
+fn abilities(alloc: Global) -> Result<Value, AllocError> {
+    let sync = json!(in alloc; {"openClose": true, "change": 2, "save": true})?;
+    let can = json!(in alloc; {
+        "positionEncoding": "utf-16",
+        "textDocumentSync": &sync,
+        "hoverProvider": true
+    })?;
+    let name = json!(in alloc; {"name": "occ", "version": "0.1.0"})?;
+    json!(in alloc; {"capabilities": &can, "serverInfo": &name})
+}
