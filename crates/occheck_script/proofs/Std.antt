@@ -25,3 +25,26 @@ ends (Some x) (Some y) buffer bytes n z h a e =
     let i : x ≡ bytes = cc in
     let k : x ≡ take 0 buffer ++ y = subst (λ (m : ℕ). x ≡ take m buffer ++ y) z h in
     sym i ∙ k ∙ a
+
+-- what an interrupted call kept, the next one finds
+pub keeps_on : (a b c : Option (List ℕ)) → Keeps a b → Keeps b c → Keeps a c
+keeps_on None b c h k = tt
+keeps_on (Some x) None c h k = absurd h
+keeps_on (Some x) (Some y) None h k = absurd k
+keeps_on (Some x) (Some y) (Some z) h k = k ∙ h
+
+pub consumes_on : (a b c : Option (List ℕ)) (got : List ℕ) → Keeps a b → Consumes b c got → Consumes a c got
+consumes_on None b c got h k = tt
+consumes_on (Some x) None c got h k = absurd h
+consumes_on (Some x) (Some y) None got h k = absurd k
+consumes_on (Some x) (Some y) (Some z) got h k = sym h ∙ k
+
+pub appends_on : (a b c : Option (List ℕ)) (more : List ℕ) → Keeps a b → StdAppends b c more → StdAppends a c more
+appends_on None b c more h k = tt
+appends_on (Some x) None c more h k = absurd h
+appends_on (Some x) (Some y) None more h k = absurd k
+appends_on (Some x) (Some y) (Some z) more h k = k ∙ ap (λ (v : List ℕ). v ++ more) h
+
+pub keeps_self : (a : Option (List ℕ)) → Keeps a a
+keeps_self None = tt
+keeps_self (Some x) = refl

@@ -2,6 +2,7 @@
 ghost use Rattle.std.specs.Prelude.{◌≡◌, ◌≤◌, ◌<◌, ◌&&◌, ◌||◌, ◌==◌, ℕ, Bool, false, true, List, [], IfOk, OnErr, OnOk, Option, Some, length, nat_lt, take};
 ghost use Rattle.occheck_script.specs.Devices.{Appends, Gives, counted};
 
+use super::again::{read_again, write_again};
 use std::io::{Read, Write};
 
 /// A read or a write that was refused.
@@ -87,7 +88,7 @@ impl<R: Read> ByteIn for StdIn<R> {
 
     #[tactic(auto, using(crate::proofs::Std::gives, crate::proofs::Std::ends))]
     fn read(&mut self, buffer: &mut [u8]) -> Result<usize, Failed> {
-        match self.reader.read(buffer) {
+        match read_again(&mut self.reader, buffer) {
             Ok(count) => {
                 self.taken = self.taken.saturating_add(count as u64);
                 Ok(count)
@@ -131,7 +132,7 @@ impl<W: Write> ByteOut for StdOut<W> {
 
     #[tactic(auto, using(crate::proofs::Std::appends, crate::proofs::Std::stays))]
     fn write(&mut self, buffer: &[u8]) -> Result<usize, Failed> {
-        match self.writer.write(buffer) {
+        match write_again(&mut self.writer, buffer) {
             Ok(count) => {
                 if count == 0 && !buffer.is_empty() {
                     self.failed = true;

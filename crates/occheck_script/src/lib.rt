@@ -5,6 +5,7 @@
 //! what a whole run writes; `run_script` carries that.
 #![tactic(auto)]
 
+mod again;
 mod answer;
 mod answering;
 mod begun;
