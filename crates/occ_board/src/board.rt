@@ -104,6 +104,17 @@ impl Model for Board {
     ghost invariant = { λ b. IsBoard b.base b.journal.items b.cached b.graph b.flags b.opened b.units × NoneIsReady b.graph b.flags b.waiting × AreVerified b.graph b.cached b.verified };
 }
 
+/// The source of a text, of which there is no other.
+fn only_source(source: Source) -> Source
+    ensures same { result ≡ source }
+    ensures lines { IsPrepared source.text source.lines }
+    ensures only { (lines : List ASourceLine) → IsPrepared source.text lines → lines ≡ source.lines }
+{
+    source_law();
+    let _lines = source.lines();
+    source
+}
+
 impl Board {
     /// A board without files.
     pub fn new(alloc: Global) -> Board
@@ -319,12 +330,11 @@ impl Board {
         ensures large { IsErrOf result TextFault.TooLarge ↔ (262144 < length text.now) }
         ensures many { IsErrOf result TextFault.TooManyLines ↔ ((length text.now ≤ 262144) × (16384 < line_count text.now)) }
     {
-        source_law();
-        if let Some(source) = self.prepared_again(alloc, name, text)? {
-            let _lines = source.lines();
-            return Ok(source);
+        match self.prepared_again(alloc, name, text) {
+            Ok(Some(source)) => Ok(only_source(source)),
+            Ok(None) => prepare(alloc, text),
+            Err(_refused) => Err(TextFault::Memory),
         }
-        prepare(alloc, text)
     }
 
     /// The text with the lines of the file, if it is within the limits and differs from that in skipped lines alone.

@@ -79,6 +79,7 @@ use Rattle.occ_project_units.specs.contracts.project.Project as project
 use Rattle.occ_project_units.specs.contracts.facts.Facts as facts
 use Rattle.occ_project_graph.specs.contracts.linked.Linked as links
 use Rattle.sqlite_items.specs.contracts.items.Items as items_of
+use Rattle.occ_base.specs.contracts.diag.Diag as diag_of
 use Rattle.occ_base.specs.contracts.file_name.FileName as file_name_of
 use Rattle.occ_base.specs.contracts.shared.Shared as shared_of
 use denote.Builtin.{u8, usize}
@@ -456,23 +457,39 @@ shared_names_send = shared.the_send (items_of.the_row file_name_of.the_row) name
 shared_names_sync : IsSync (shared_of.the_row (items_of.the_row file_name_of.the_row))
 shared_names_sync = shared.the_sync (items_of.the_row file_name_of.the_row) names_send names_sync
 
-source_field_send : IsSend source.the_field.row
-source_field_send = search (sendable, items.the_send, shared_names_send, source_line_send) depth 30
-
-source_send : IsSend source.the_row
-source_send = search (sendable, source_field_send) depth 10
+byte_send : IsSend u8
+byte_send = search sendable depth 10
 
 byte_sync : IsSync u8
 byte_sync = search sendable depth 10
 
+bytes_send : IsSend (items_of.the_row u8)
+bytes_send = items.the_send u8 byte_send
+
 bytes_sync : IsSync (items_of.the_row u8)
 bytes_sync = items.the_sync u8 byte_sync
+
+-- the lines of a text, which texts share that differ in skipped lines alone
+source_lines_send : IsSend (items_of.the_row source_line.the_row)
+source_lines_send = items.the_send source_line.the_row source_line_send
 
 source_lines_sync : IsSync (items_of.the_row source_line.the_row)
 source_lines_sync = items.the_sync source_line.the_row source_line_sync
 
+shared_lines_send : IsSend (shared_of.the_row (items_of.the_row source_line.the_row))
+shared_lines_send = shared.the_send (items_of.the_row source_line.the_row) source_lines_send source_lines_sync
+
+shared_lines_sync : IsSync (shared_of.the_row (items_of.the_row source_line.the_row))
+shared_lines_sync = shared.the_sync (items_of.the_row source_line.the_row) source_lines_send source_lines_sync
+
+source_field_send : IsSend source.the_field.row
+source_field_send = search (sendable, bytes_send, shared_lines_send, shared_names_send) depth 30
+
+source_send : IsSend source.the_row
+source_send = search (sendable, source_field_send) depth 10
+
 source_field_sync : IsSync source.the_field.row
-source_field_sync = search (sendable, bytes_sync, source_lines_sync, shared_names_sync) depth 30
+source_field_sync = search (sendable, bytes_sync, shared_lines_sync, shared_names_sync) depth 30
 
 source_sync : IsSync source.the_row
 source_sync = search (sendable, source_field_sync) depth 10
@@ -609,8 +626,17 @@ job_field_sync = search (sendable, items.the_sync, file_name_cross.the_sync, rea
 job_sync : IsSync job.the_row
 job_sync = search (sendable, job_field_sync) depth 10
 
+diags_send : IsSend (items_of.the_row diag_of.the_row)
+diags_send = items.the_send diag_of.the_row diag_cross.the_send
+
+diags_sync : IsSync (items_of.the_row diag_of.the_row)
+diags_sync = items.the_sync diag_of.the_row diag_cross.the_sync
+
+shared_diags_send : IsSend (shared_of.the_row (items_of.the_row diag_of.the_row))
+shared_diags_send = shared.the_send (items_of.the_row diag_of.the_row) diags_send diags_sync
+
 outcome_field_send : IsSend outcome.the_field.row
-outcome_field_send = search (sendable, items.the_send, shared.the_send, Vec-send, job_field_send, diag_cross.the_send, interface_send, interface_sync) depth 30
+outcome_field_send = search (sendable, shared.the_send, job_field_send, shared_diags_send, interface_send, interface_sync) depth 30
 
 outcome_send : IsSend outcome.the_row
 outcome_send = search (sendable, outcome_field_send) depth 10
@@ -688,10 +714,10 @@ numbers_sync : IsSync (items_of.the_row (items_of.the_row usize))
 numbers_sync = items.the_sync (items_of.the_row usize) row_sync
 
 links_field_send : IsSend links.the_field.row
-links_field_send = search (sendable, Vec-send, row_send) depth 30
+links_field_send = search (sendable, Vec-send, row_send, number_send) depth 30
 
 links_field_sync : IsSync links.the_field.row
-links_field_sync = search (sendable, Vec-sync, row_sync) depth 30
+links_field_sync = search (sendable, Vec-sync, row_sync, number_sync) depth 30
 
 graph_field_send : IsSend graph.the_field.row
 graph_field_send = search (sendable, Vec-send, project_field_send, shared_facts_send, links_field_send, numbers_send) depth 30

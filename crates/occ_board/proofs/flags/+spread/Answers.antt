@@ -20,7 +20,7 @@ pub spread-requires : goal.spread-requires
 spread-requires t c =
     let users : List ℕ = c.users-users.result in
     let i : ℕ = c.loop-place.place in
-    let there = subst (λ (p : ℕ). is_among users p ≡ true) (sym c.at.ensures) (among_there users i (subst (λ (n : ℕ). c.loop-place.place < n) c.count.ensures c.loop-place-test.true)) in
+    let there = subst (λ (p : ℕ). is_among users p ≡ true) (sym c.at.ensures) (among_there users i (subst (λ (n : ℕ). c.loop-place.place < n) c.count-place-end.ensures c.loop-place-test.true)) in
     let among = subst (λ (ws : List ℕ). is_among ws c.at.result ≡ true) c.users-users.ensures there in
     let fewer = c.loop-place.invariant.0.fewer in
     let least = c.decreases in
@@ -31,7 +31,7 @@ loop-place-preserved t c =
     let users : List ℕ = c.users-users.result in
     let i : ℕ = c.loop-place.place in (
       spread_more c.args.graph.now c.args.cached.now (subst IsProject c.project.ensures c.files-files.ensures.in_order) users c.args.flags.now c.loop-place.flags c.spread.new.flags c.args.index i c.at.result c.loop-place.invariant.0
-          (drop_more users i 0 (subst (λ (n : ℕ). c.loop-place.place < n) c.count.ensures c.loop-place-test.true) ∙ ap (λ (p : ℕ). p ∷ drop (i + 1) users) (sym c.at.ensures))
+          (drop_more users i 0 (subst (λ (n : ℕ). c.loop-place.place < n) c.count-place-end.ensures c.loop-place-test.true) ∙ ap (λ (p : ℕ). p ∷ drop (i + 1) users) (sym c.at.ensures))
           c.spread.ensures.len c.spread.ensures.sound c.spread.ensures.least c.spread.ensures.full,
       c.spread.ensures.verified,
     )

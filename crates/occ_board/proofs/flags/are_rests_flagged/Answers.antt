@@ -9,6 +9,6 @@ use Rattle.occ_project_units.specs.Project.{IsProject}
 pub returns : goal.returns
 returns c =
     c.are_flagged.ensures
-    ∙ ap (λ (fs : List Read). list_all (rest_flag fs c.args.flags.now) c.rests.result.now) (c.files.ensures.files ∙ c.project.ensures)
+    ∙ ap (λ (fs : List Read). list_all (rest_flag fs c.args.flags.now) c.rests.result) (c.files.ensures.files ∙ c.project.ensures)
     ∙ ap (λ (ps : List ℕ). list_all (rest_flag c.args.graph.now c.args.flags.now) ps) c.rests.ensures
     ∙ rests_flagged c.args.graph.now c.args.flags.now c.args.index (subst IsProject c.project.ensures c.files.ensures.in_order) c.requires

@@ -11,7 +11,7 @@ loop-place-preserved c =
     let here = c.lower-found.ensures.first in
     let less = c.lower-found.ensures.second in (
       omega (arith, most, less),
-      λ p h. least_more (drop i indices) (drop (i + 1) indices) c.at.result p c.loop-place.found c.lower-found.result (drop_more indices i 0 (subst (λ (n : ℕ). c.loop-place.place < n) c.count.ensures c.loop-place-test.true) ∙ ap (λ (q : ℕ). q ∷ drop (i + 1) indices) (sym c.at.ensures)) less here (c.loop-place.invariant.1 p h),
+      λ p h. least_more (drop i indices) (drop (i + 1) indices) c.at.result p c.loop-place.found c.lower-found.result (drop_more indices i 0 (subst (λ (n : ℕ). c.loop-place.place < n) c.count-place-end.ensures c.loop-place-test.true) ∙ ap (λ (q : ℕ). q ∷ drop (i + 1) indices) (sym c.at.ensures)) less here (c.loop-place.invariant.1 p h),
     )
 
 pub returns-clause-each : goal.returns-clause-each

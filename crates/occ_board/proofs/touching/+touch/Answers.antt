@@ -13,7 +13,7 @@ pub touch-requires : goal.touch-requires
 touch-requires t c =
     let users : List ℕ = c.users-users.result in
     let i : ℕ = c.loop-place.place in
-    let there = subst (λ (p : ℕ). is_among users p ≡ true) (sym c.at.ensures) (among_there users i (subst (λ (n : ℕ). c.loop-place.place < n) c.count.ensures c.loop-place-test.true)) in
+    let there = subst (λ (p : ℕ). is_among users p ≡ true) (sym c.at.ensures) (among_there users i (subst (λ (n : ℕ). c.loop-place.place < n) c.count-place-end.ensures c.loop-place-test.true)) in
     let among = subst (λ (ws : List ℕ). is_among ws c.at.result ≡ true) c.users-users.ensures there in
     let fewer = c.loop-place.invariant.fewer in
     let least = c.decreases in
@@ -24,5 +24,5 @@ loop-place-preserved t c =
     let users : List ℕ = c.users-users.result in
     let i : ℕ = c.loop-place.place in
     touch_more c.args.graph.now users c.args.touched.now c.loop-place.touched c.touch.new.touched c.args.index i c.at.result c.loop-place.invariant
-    (drop_more users i 0 (subst (λ (n : ℕ). c.loop-place.place < n) c.count.ensures c.loop-place-test.true) ∙ ap (λ (p : ℕ). p ∷ drop (i + 1) users) (sym c.at.ensures))
+    (drop_more users i 0 (subst (λ (n : ℕ). c.loop-place.place < n) c.count-place-end.ensures c.loop-place-test.true) ∙ ap (λ (p : ℕ). p ∷ drop (i + 1) users) (sym c.at.ensures))
     c.in_ok-touch.ensures.len c.in_ok-touch.ensures.least c.in_ok-touch.ensures.more c.in_ok-touch.ensures.here c.in_ok-touch.ensures.closed

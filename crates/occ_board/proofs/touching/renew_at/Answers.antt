@@ -1,9 +1,10 @@
-use Rattle.std.proofs.Common.{◌∙◌, ◌&&◌, ◌<◌, Bool, List, ap, false, get_or, length, not, subst, sym}
+use Rattle.std.proofs.Common.{◌∙◌, ◌&&◌, ◌<◌, Bool, List, ap, false, get_or, length, not, subst, sym, ℕ}
 use Rattle.occ_board.proofs.Looked.{verified_after}
 use Rattle.occ_board.proofs.Marked.{full_at, long_at, looked_at, sound_at}
 use Rattle.occ_board.proofs.Revisions.{reported_then}
 use Rattle.occ_board.proofs.touching.renew_at.Goals as goal
 use Rattle.occ_board.specs.inside.Revisions.{AllGivenByRevision}
+use Rattle.occ_project_graph.specs.Graph.{is_among}
 use Rattle.occ_project.specs.declared.reads.Read.{Read}
 use Rattle.occ_project_units.proofs.Finding.{index_within}
 use Rattle.occ_project_units.specs.Project.{IsProject}
@@ -33,7 +34,7 @@ resettle-requires-clause-sound c =
     let project : IsProject c.args.graph.now = subst IsProject c.project.ensures c.files-files.ensures.in_order in
     sound_at c.args.graph.now c.readers.new.self c.set.new.self file c.args.index project c.in_ok-readers.ensures.same c.in_ok-alike.ensures.ok c.requires.index
     c.args.cached.now c.in_ok-readers.readers c.as_slice.result.now c.in_ok-touched.touched c.args.flags.now c.unflag.new.flags
-    c.in_ok-readers.ensures.readers c.as_slice.ensures c.requires.flags c.in_ok-touched.ensures.here c.in_ok-touched.ensures.readers c.in_ok-touched.ensures.closed (λ p. c.unflag.ensures.flags p ∙ ap (λ (b : Bool). get_or c.args.flags.now p false && not b) (c.indices.ensures p))
+    c.in_ok-readers.ensures.readers c.as_slice.ensures c.requires.flags c.in_ok-touched.ensures.here c.in_ok-touched.ensures.readers c.in_ok-touched.ensures.closed (λ p. c.unflag.ensures.flags p ∙ ap (λ (b : Bool). get_or c.args.flags.now p false && not b) (ap (λ (ws : List ℕ). is_among ws p) c.of_indices.ensures ∙ c.indices.ensures p))
     c.readers_law.ensures.readers c.requires.spelled c.names_law.ensures c.apart_law.ensures.done c.put_law.ensures.files c.put_law.ensures.in_order c.done_law.ensures.done
 
 pub resettle-requires-clause-full : goal.resettle-requires-clause-full
@@ -42,7 +43,7 @@ resettle-requires-clause-full c =
     let project : IsProject c.args.graph.now = subst IsProject c.project.ensures c.files-files.ensures.in_order in
     full_at c.args.graph.now c.readers.new.self c.set.new.self file c.args.index project c.in_ok-readers.ensures.same c.in_ok-alike.ensures.ok c.requires.index
     c.args.cached.now c.in_ok-readers.readers c.as_slice.result.now c.in_ok-touched.touched c.args.flags.now c.unflag.new.flags
-    c.in_ok-readers.ensures.readers c.as_slice.ensures c.requires.flags c.in_ok-touched.ensures.here c.in_ok-touched.ensures.readers c.in_ok-touched.ensures.closed (λ p. c.unflag.ensures.flags p ∙ ap (λ (b : Bool). get_or c.args.flags.now p false && not b) (c.indices.ensures p))
+    c.in_ok-readers.ensures.readers c.as_slice.ensures c.requires.flags c.in_ok-touched.ensures.here c.in_ok-touched.ensures.readers c.in_ok-touched.ensures.closed (λ p. c.unflag.ensures.flags p ∙ ap (λ (b : Bool). get_or c.args.flags.now p false && not b) (ap (λ (ws : List ℕ). is_among ws p) c.of_indices.ensures ∙ c.indices.ensures p))
     c.readers_law.ensures.readers c.requires.spelled c.names_law.ensures c.apart_law.ensures.done c.put_law.ensures.files c.put_law.ensures.in_order c.done_law.ensures.done
 
 pub resettle-requires-clause-reported : goal.resettle-requires-clause-reported
@@ -58,6 +59,6 @@ resettle-requires-clause-verified c =
     c.in_ok-readers.ensures.readers c.as_slice-3.ensures c.requires.verified c.in_ok-alike.ensures.alike c.forget_readers.ensures
     (looked_at c.args.graph.now c.readers.new.self c.set.new.self file c.args.index project c.in_ok-readers.ensures.same c.in_ok-alike.ensures.ok c.requires.index
     c.args.cached.now c.in_ok-readers.readers c.as_slice.result.now c.in_ok-touched.touched c.args.flags.now c.unflag.new.flags
-    c.in_ok-readers.ensures.readers c.as_slice.ensures c.requires.flags c.in_ok-touched.ensures.here c.in_ok-touched.ensures.readers c.in_ok-touched.ensures.closed (λ p. c.unflag.ensures.flags p ∙ ap (λ (b : Bool). get_or c.args.flags.now p false && not b) (c.indices.ensures p))
+    c.in_ok-readers.ensures.readers c.as_slice.ensures c.requires.flags c.in_ok-touched.ensures.here c.in_ok-touched.ensures.readers c.in_ok-touched.ensures.closed (λ p. c.unflag.ensures.flags p ∙ ap (λ (b : Bool). get_or c.args.flags.now p false && not b) (ap (λ (ws : List ℕ). is_among ws p) c.of_indices.ensures ∙ c.indices.ensures p))
     c.readers_law.ensures.readers c.requires.spelled c.names_law.ensures c.apart_law.ensures.done c.put_law.ensures.files c.put_law.ensures.in_order c.done_law.ensures.done c.apart_law.ensures.looked)
     c.put_law.ensures.files c.reads_law.ensures.alone c.readers_law.ensures.readers

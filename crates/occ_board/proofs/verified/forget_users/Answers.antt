@@ -21,5 +21,5 @@ users-requires c = index_within c.args.unit c.args.graph.now c.in-Some.index (sy
 pub returns : goal.returns
 returns c = λ u h.
     let at : index c.args.unit c.args.graph.now ≡ Some c.in-Some.index = sym (c.in-Some.ensures ∙ ap (index c.args.unit) c.project.ensures) in
-    let left = users_forgotten c.args.graph.now c.args.verified.now c.unflag.new.flags c.users.result.now c.args.unit c.in-Some.index (λ p. c.users_law.ensures.users c.args.graph.now p c.in-Some.index) at c.users.ensures c.unflag.ensures.flags u h in
+    let left = users_forgotten c.args.graph.now c.args.verified.now c.unflag.new.flags c.users.result c.args.unit c.in-Some.index (λ p. c.users_law.ensures.users c.args.graph.now p c.in-Some.index) at c.users.ensures c.unflag.ensures.flags u h in
     (left.0, inr left.1)
