@@ -345,6 +345,7 @@ impl Board {
         text: &[u8],
     ) -> Result<Option<Source>, AllocError>
         ensures limit { IfOk result (λ found. IfSome found (λ source. limit_fault text.now ≡ None)) }
+        ensures within { IfErr result (λ refused. limit_fault text.now ≡ None) }
         ensures text { IfOk result (λ found. IfSome found (λ source. source.text ≡ text.now)) }
     {
         match self.graph.project().get(name) {
