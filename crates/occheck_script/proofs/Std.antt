@@ -1,6 +1,6 @@
 -- What std's readers and writers do to known bytes, in the words of this crate.
-use Rattle.std.proofs.Common.{◌≡◌, ℕ, List, [], ◌++◌, Option, Some, None, refl, ap, sym, ◌∙◌, append-nil, take, subst}
-use Rattle.std.specs.Io.KnownBytes.{Appends as StdAppends, Consumes, IsAtEnd, Keeps}
+use Rattle.std.proofs.Common.{◌≡◌, ℕ, List, [], ◌++◌, Option, Some, None, Result, Ok, Err, refl, ap, sym, ◌∙◌, append-nil, take, subst}
+use Rattle.std.specs.Io.KnownBytes.{Appends as StdAppends, Consumes, IsAtEnd, Keeps, ReadConsumes, WriteAppends}
 use Rattle.occheck_script.specs.Devices.{Appends, Gives}
 
 pub appends : (old new : Option (List ℕ)) (more : List ℕ) → StdAppends old new more → Appends old new more
@@ -48,3 +48,11 @@ appends_on (Some x) (Some y) (Some z) more h k = k ∙ ap (λ (v : List ℕ). v 
 pub keeps_self : (a : Option (List ℕ)) → Keeps a a
 keeps_self None = tt
 keeps_self (Some x) = refl
+
+pub read_on : {E : Type 0} (a b c : Option (List ℕ)) (r : Result ℕ E) (buffer : List ℕ) → Keeps a b → ReadConsumes b c r buffer → ReadConsumes a c r buffer
+read_on a b c (Ok n) buffer h k = (consumes_on a b c (take n buffer) h k.0, k.1)
+read_on a b c (Err e) buffer h k = keeps_on a b c h k
+
+pub write_on : {E : Type 0} (a b c : Option (List ℕ)) (r : Result ℕ E) (buffer : List ℕ) → Keeps a b → WriteAppends b c r buffer → WriteAppends a c r buffer
+write_on a b c (Ok n) buffer h k = appends_on a b c (take n buffer) h k
+write_on a b c (Err e) buffer h k = keeps_on a b c h k
