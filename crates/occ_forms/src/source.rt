@@ -1,13 +1,14 @@
 //! A `Source`, which is a text with its lines, and with the units that it lists. Its type says that they are those of the text.
 ghost use Rattle.occ_forms.specs.Prepared.{IsPrepared};
+ghost use Rattle.occ_lines.specs.Lines.{limit_fault};
 ghost use Rattle.occ_lines.specs.Listing.{listed as spec_listed};
 ghost use Rattle.std.specs.Option.{option_copied};
-ghost use Rattle.std.specs.Prelude.{◌≡◌, IfOk, IfSome, IsTrue};
+ghost use Rattle.std.specs.Prelude.{◌≡◌, IfOk, IfSome, IsTrue, None};
 
 use super::laws::source_law;
 use super::tree::Form;
 use occ_base::{Code, FileName, Items, Shared};
-use occ_lines::are_alike;
+use occ_lines::{are_alike, text_fault};
 use std::alloc::{AllocError, Global};
 use std::marker::Model;
 
@@ -133,13 +134,14 @@ impl Source {
         are_alike(self.text.as_slice(), other.text.as_slice())
     }
 
-    /// The source of a text that differs from this one's in skipped lines alone. It shares the lines and what they list. Of texts that
-    /// differ otherwise it makes none.
+    /// The source of a text within the limits that differs from this one's in skipped lines alone. It shares the lines and what they
+    /// list. Of other texts it makes none.
     pub fn again(&self, alloc: Global, text: &[u8]) -> Result<Option<Source>, AllocError>
         ensures text { IfOk result (λ found. IfSome found (λ source. source.text ≡ text.now)) }
         ensures lines { IfOk result (λ found. IfSome found (λ source. source.lines ≡ self.now.lines)) }
+        ensures limit { IfOk result (λ found. IfSome found (λ source. limit_fault text.now ≡ None)) }
     {
-        if !are_alike(self.text.as_slice(), text) {
+        if text_fault(text).is_some() || !are_alike(self.text.as_slice(), text) {
             return Ok(None);
         }
         let lines = self.lines.share()?;

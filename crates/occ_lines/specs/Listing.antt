@@ -30,7 +30,7 @@ names_on lines = map name_on (filter (λ line. not (is_skipped line)) lines)
 abbrev pub is_broken_by : ℕ → Bool
 is_broken_by b = is_blank b || b == 13
 
--- the name is that of a unit, as it stands in a `#USE`
+-- the name on a line gives that of a unit
 abbrev pub names_unit : List ℕ → Bool
 names_unit name = not (list_any is_broken_by name) && is_none (name_fault (unit_name name))
 

@@ -1,5 +1,5 @@
 -- What the rules give for a unit, said over the whole project: by its expansion there, by how the units stand there that its lines use,
--- and by what these show. No input of a check is in it.
+-- and by what these show. The step of this unit takes no input of a check.
 use Rattle.std.specs.Prelude.{◌≡◌, ◌++◌, ℕ, List, map, Option, Some, None, if◌then◌else◌}
 use Rattle.std.specs.List.{Contains}
 use Rattle.occ_base.specs.Errors.{error_at, has_error}

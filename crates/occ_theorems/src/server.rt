@@ -10,8 +10,8 @@ use occ_server::{CloseFault, Ended, Receipt, ReportFault, Server, Snapshot};
 use std::alloc::{AllocError, Global};
 use std::sync::Wait;
 
-/// The receipt of an edit has that edit, the session that made it and the next number; a refusal is the one that the machine gives.
-/// So an editor can ask for a report that has seen it. The state that it met is some state with a legal journal.
+/// The receipt of an edit has that edit, the session that made it, and a number that comes next in some legal journal; a refusal is
+/// one that the machine gives in some such state. So an editor can ask for a report that has seen it.
 pub fn receipt_theorem<R: Wait>(
     rt: &R,
     alloc: Global,
@@ -60,8 +60,8 @@ pub fn end_theorem(
     Ok(ended)
 }
 
-/// A checkpoint of a server hands out the edits of a journal that is legal over its base, with the number of the last one.
-/// So whoever keeps what was cut off can make the files again.
+/// A checkpoint of a server hands out the edits of some journal that is legal over its base, with the number of the last one.
+/// That it is the server's own is said of what stands after the lock.
 pub fn cut_theorem<R: Wait>(rt: &R, alloc: Global, server: &Server) -> Result<Cut, AllocError>
     ensures { IfOk result (λ cut. OfOne (IsCutOf cut)) }
 {

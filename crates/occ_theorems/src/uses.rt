@@ -41,8 +41,8 @@ pub fn use_scope_law()
     ensures { (lines : List ATypedLine) (a : At) → Stands (trees_of lines) [] [] a → AllBroughtIn (trees_of lines) a.env }
 {}
 
-/// A use is among those of a process exactly if a line that stands in it, outside inner bodies of PROCs and FUNCTIONs, has it.
-/// Under a known replicator a line stands once in each round.
+/// A use is among all that the lines of a process have exactly if a line that stands in it has it, outside inner bodies of PROCs and
+/// FUNCTIONs. Uses of what is declared inside are among them. Under a known replicator a line stands once in each round.
 pub fn process_use_law()
     ensures { (env : Env) (h : AHead) (t : SomeTrees) (u : AUse) → Contains (line_uses env h (items_of t)) u ↔ IsUsedBy env h t u }
 {}

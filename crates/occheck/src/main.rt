@@ -14,7 +14,7 @@ use occheck_words::{Mode, WordsFault, read_words};
 use std::alloc::AllocError;
 use std::env::{self, Env};
 use std::fs;
-use std::io::{self, ErrorKind};
+use std::io::{self, ErrorKind, Read};
 use std::process::ExitCode;
 use std::sync::Wait;
 
@@ -55,6 +55,9 @@ fn opened(rt: &HostRuntime, scripts: &[String]) -> Result<Vec<StdIn<Input>>, Sta
     ensures count { IfOk result (λ readers. length readers.items ≡ length scripts.now) }
     ensures fresh { IfOk result (λ readers. list_any (λ reader. reader.failed) readers.items ≡ false) }
 {
+    if scripts.iter().any(|script| script.as_str() == "-") && !has_input(rt) {
+        return Err(Status::DeviceFault);
+    }
     let mut readers = Vec::new(rt.alloc());
     for script in scripts {
         let Ok(input) = open(rt, script.as_str()) else {
@@ -65,6 +68,11 @@ fn opened(rt: &HostRuntime, scripts: &[String]) -> Result<Vec<StdIn<Input>>, Sta
         }
     }
     Ok(readers)
+}
+
+/// Whether standard input is open. Where it is closed, the first file that is opened would be taken for it.
+fn has_input(rt: &HostRuntime) -> bool {
+    rt.stdin().read(&mut []).is_ok()
 }
 
 /// A script, `-` from standard input.

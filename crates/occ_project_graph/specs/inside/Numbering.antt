@@ -36,7 +36,7 @@ pub record IsOver (count : ℕ) (rows : Graph) : Type 0 where
   pub len : length rows ≡ count
   pub within : (u v : ℕ) → has_edge rows u v ≡ true → v < count
 
--- so many nodes in front have an index before this one, and the others have not
+-- the last of so many nodes in front has an index before this one, and those behind it have not
 pub record IsFrontBefore (indices : List ℕ) (at : ℕ) (nodes : List ℕ) (front : ℕ) : Type 0 where
   pub within : front ≤ length nodes
   pub behind : (i : ℕ) → front ≤ i → i < length nodes → at ≤ index_at indices (get_or nodes i 0)
