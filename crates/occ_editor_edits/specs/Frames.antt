@@ -1,6 +1,7 @@
 -- Frames of messages.
-use Rattle.std.specs.Prelude.{ℕ, Bool, ◌≡◌, ◌+◌, ◌-◌, ◌*◌, ◌&&◌, nat_le, nat_lt, List, [], ◌∷◌, ◌++◌, codes, if◌then◌else◌, take, drop, length, Option, Some, None}
+use Rattle.std.specs.Prelude.{ℕ, Bool, true, false, not, ◌==◌, ◌≡◌, ◌+◌, ◌-◌, ◌*◌, ◌&&◌, nat_le, nat_lt, List, [], ◌∷◌, ◌++◌, codes, if◌then◌else◌, take, drop, length, Option, Some, None}
 use Rattle.std.specs.Fmt.{decimal}
+use Rattle.std.specs.List.{list_all}
 use Rattle.std.specs.Io.KnownBytes.{Consumes}
 use Rattle.std.specs.Str.{bytes_eq}
 
@@ -37,18 +38,33 @@ abbrev pub told_by_all : Option ℕ → List (List ℕ) → Option ℕ
 told_by_all so_far [] = so_far
 told_by_all so_far (line ∷ lines) = told_by_all (kept so_far (told_by line)) lines
 
--- lines that tell this length were read between two states of a reader, whose bytes were these where they are known
-abbrev pub IsRead : Option (List ℕ) → Option (List ℕ) → Option ℕ → Type 0
-IsRead before now size = (lines : List (List ℕ)) × (told_by_all None lines ≡ size) × Consumes before now (joined lines)
+-- a line has its one line feed (10) at its end
+abbrev pub ends_line : List ℕ → Bool
+ends_line [] = false
+ends_line (b ∷ []) = b == 10
+ends_line (b ∷ c ∷ more) = not (b == 10) && ends_line (c ∷ more)
 
--- the same, with the empty line that ends a head
+-- a line of a head, which is not the empty one
+abbrev pub is_head_line : List ℕ → Bool
+is_head_line line = ends_line line && not (bytes_eq line (13 ∷ 10 ∷ []))
+
+-- so many lines of a head that tell this length were read between two states of a reader, whose bytes were these where they are known
+pub record IsRead (before now : Option (List ℕ)) (count : ℕ) (size : Option ℕ) : Type 0 where
+  pub lines : List (List ℕ)
+  pub many : length lines ≡ count
+  pub are_lines : list_all is_head_line lines ≡ true
+  pub tells : told_by_all None lines ≡ size
+  pub reads : Consumes before now (joined lines)
+
+-- a head was read, whose lines tell this length, with the empty line that ends it
 abbrev pub IsHeadRead : Option (List ℕ) → Option (List ℕ) → ℕ → Type 0
-IsHeadRead before now size = (lines : List (List ℕ)) × (told_by_all None lines ≡ Some size) × Consumes before now (joined lines ++ (13 ∷ 10 ∷ []))
+IsHeadRead before now size =
+    (lines : List (List ℕ)) × (list_all is_head_line lines ≡ true) × (told_by_all None lines ≡ Some size) × Consumes before now (joined lines ++ (13 ∷ 10 ∷ []))
 
--- the bytes are lines that tell a length, an empty line, and a message of that length
+-- the bytes are the lines of a head that tell a length, an empty line, and a message of that length
 abbrev pub IsFrame : List ℕ → List ℕ → Type 0
 IsFrame message bytes =
-    (lines : List (List ℕ)) × (told_by_all None lines ≡ Some (length message)) × (bytes ≡ joined lines ++ (13 ∷ 10 ∷ []) ++ message)
+    (lines : List (List ℕ)) × (list_all is_head_line lines ≡ true) × (told_by_all None lines ≡ Some (length message)) × (bytes ≡ joined lines ++ (13 ∷ 10 ∷ []) ++ message)
 
 -- lines, the empty line and a message were read
 abbrev pub IsFrameRead : Option (List ℕ) → Option (List ℕ) → List ℕ → Type 0

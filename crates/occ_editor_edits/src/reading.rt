@@ -1,8 +1,9 @@
 //! Frames are read a line of the head at a time, and then so many bytes.
-ghost use Rattle.occ_editor_edits.specs.Frames.{IsFrameRead, IsHeadRead, kept};
+ghost use Rattle.occ_editor_edits.specs.Frames.{IsFrameRead, IsHeadRead, ends_line, kept};
 ghost use Rattle.occ_editor_edits.specs.declared.reading.FrameFault.TheVariants as a_fault;
 ghost use Rattle.std.specs.Io.KnownBytes.{Consumes, IsAtEnd};
-ghost use Rattle.std.specs.Prelude.{◌≡◌, ◌≤◌, [], ◌∷◌, IfOk, IfSome, IfNone, length, true};
+ghost use Rattle.std.specs.Prelude.{◌≡◌, ◌≤◌, [], ◌∷◌, IfOk, IfSome, IfNone, false, length, true};
+ghost use Rattle.std.specs.Str.{bytes_eq};
 
 use super::head::told;
 use std::alloc::{AllocError, AllocFailed, Global};
@@ -64,20 +65,21 @@ fn read_byte<R: Read>(reader: &mut R) -> Result<Option<u8>, FrameFault>
     Err(FrameFault::Device)
 }
 
-/// A line with the line feed that ends it; fewer bytes where the input ends.
-fn read_line<R: Read>(alloc: Global, reader: &mut R) -> Result<Vec<u8>, FrameFault>
-    ensures says { IfOk result (λ line. Consumes (R.remaining reader.old) (R.remaining reader.new) line.items) }
-    ensures end { IfOk result (λ line. line.items ≡ [] → IsAtEnd (R.remaining reader.new)) }
+/// The bytes up to a line feed, with it, and whether one ends them. If none does the input has ended.
+fn read_line<R: Read>(alloc: Global, reader: &mut R) -> Result<(Vec<u8>, bool), FrameFault>
+    ensures says { IfOk result (λ read. Consumes (R.remaining reader.old) (R.remaining reader.new) read.0.items) }
+    ensures line { IfOk result (λ read. read.1 ≡ true → ends_line read.0.items ≡ true) }
+    ensures end { IfOk result (λ read. read.1 ≡ false → IsAtEnd (R.remaining reader.new)) }
 {
     let mut line = Vec::new(alloc);
     for _ in 0..MOST_LINE {
         let mut one = [0u8; 1];
         match reader.read(&mut one) {
-            Ok(0) => return Ok(line),
+            Ok(0) => return Ok((line, false)),
             Ok(_) => {
                 line.push(one[0])?;
                 if one[0] == b'\n' {
-                    return Ok(line);
+                    return Ok((line, true));
                 }
             }
             Err(error) if error.kind() == ErrorKind::Interrupted => {}
@@ -89,7 +91,7 @@ fn read_line<R: Read>(alloc: Global, reader: &mut R) -> Result<Vec<u8>, FrameFau
 
 /// Whether a line is the empty one, which ends a head.
 fn ends_head(line: &[u8]) -> bool
-    ensures { result ≡ true → line.now ≡ 13 ∷ 10 ∷ [] }
+    ensures { result ≡ bytes_eq line.now (13 ∷ 10 ∷ []) }
 {
     line == b"\r\n".as_slice()
 }
@@ -107,22 +109,22 @@ fn later(old: Option<u32>, new: Option<u32>) -> Option<u32>
 /// The lines of a head, up to the empty one, and the length that they tell; nothing at the end of the input.
 fn read_head<R: Read>(alloc: Global, reader: &mut R) -> Result<Option<u32>, FrameFault>
     ensures says { IfOk result (λ told. IfSome told (λ size. IsHeadRead (R.remaining reader.old) (R.remaining reader.new) size)) }
-    ensures end { IfOk result (λ told. IfNone told (IsAtEnd (R.remaining reader.new))) }
+    ensures end { IfOk result (λ told. IfNone told (Consumes (R.remaining reader.old) (R.remaining reader.new) [] × IsAtEnd (R.remaining reader.new))) }
 {
     let mut size = None;
     for count in 0..MOST_LINES {
-        let line = read_line(alloc, reader)?;
-        if line.is_empty() && count == 0 {
-            return Ok(None);
+        let (line, ended) = read_line(alloc, reader)?;
+        if !ended {
+            if count == 0 && line.is_empty() {
+                return Ok(None);
+            }
+            return Err(FrameFault::Cut);
         }
         if ends_head(line.as_slice()) {
             let Some(size) = size else {
                 return Err(FrameFault::NoLength);
             };
             return Ok(Some(size));
-        }
-        if line.last() != Some(&b'\n') {
-            return Err(FrameFault::Cut);
         }
         size = later(size, told(line.as_slice()));
     }
@@ -152,7 +154,7 @@ pub fn read_frame<R: Read>(
 ) -> Result<Option<Vec<u8>>, FrameFault>
     ensures says { IfOk result (λ read. IfSome read (λ message. IsFrameRead (R.remaining reader.old) (R.remaining reader.new) message.items)) }
     ensures few { IfOk result (λ read. IfSome read (λ message. length message.items ≤ most)) }
-    ensures end { IfOk result (λ read. IfNone read (IsAtEnd (R.remaining reader.new))) }
+    ensures end { IfOk result (λ read. IfNone read (Consumes (R.remaining reader.old) (R.remaining reader.new) [] × IsAtEnd (R.remaining reader.new))) }
 {
     let Some(size) = read_head(alloc, reader)? else {
         return Ok(None);
