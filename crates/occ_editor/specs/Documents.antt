@@ -9,6 +9,12 @@ use Rattle.occ_editor.specs.declared.documents.Note.TheVariants as note
 use Rattle.occ_editor_edits.specs.Changes.{all_changed}
 use Rattle.occ_editor_edits.specs.declared.changes.Change.{Change}
 
+-- the path of the file that a note is of
+abbrev pub path_of : Note → List ℕ
+path_of (note.Opened path text) = string_bytes path
+path_of (note.Changed path changes) = string_bytes path
+path_of (note.Closed path) = string_bytes path
+
 -- the text of the file at a path, if it is open
 abbrev pub text_in : List Document → List ℕ → Option (List ℕ)
 text_in [] path = None

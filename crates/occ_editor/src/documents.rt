@@ -1,5 +1,5 @@
 //! The files that are open in an editor: their paths and texts, as its notes leave them.
-ghost use Rattle.occ_editor.specs.Documents.{IsAfter, IsTextOf, text_in, without};
+ghost use Rattle.occ_editor.specs.Documents.{IsAfter, IsTextOf, path_of, text_in, without};
 ghost use Rattle.std.specs.Prelude.{◌≡◌, ◌++◌, ◌∷◌, [], OnOk, option_map};
 ghost use Rattle.std.specs.String.{string_bytes};
 
@@ -32,7 +32,9 @@ pub struct Documents {
 
 impl Note {
     /// The file that it is of.
-    pub fn path(&self) -> &str {
+    pub fn path(&self) -> &str
+        ensures { result.now ≡ path_of self.now }
+    {
         match self {
             Note::Opened(path, _) | Note::Changed(path, _) | Note::Closed(path) => path.as_str(),
         }

@@ -1,4 +1,7 @@
 //! The open files with their boards, one for each folder: notes are taken, and what is told of files is published where it changed.
+ghost use Rattle.occ_editor.specs.Documents.{IsAfter};
+ghost use Rattle.std.specs.Prelude.{◌≡◌, [], OnOk};
+
 use super::documents::{Documents, Note};
 use super::overlay::Overlay;
 use super::room::{Room, is_of};
@@ -21,7 +24,7 @@ pub struct Published {
 /// What is open in an editor, and the boards on which it is checked.
 #[derive(Drop)]
 pub struct Editor {
-    documents: Documents,
+    pub documents: Documents,
     rooms: Vec<Room>,
     /// Where used and included files are looked for, after the folder of the file that names them.
     folders: Vec<String>,
@@ -31,7 +34,9 @@ pub struct Editor {
 
 impl Editor {
     /// Nothing is open.
-    pub fn new(alloc: Global, folders: Vec<String>) -> Editor {
+    pub fn new(alloc: Global, folders: Vec<String>) -> Editor
+        ensures { result.documents.all.items ≡ [] }
+    {
         Editor {
             documents: Documents::new(alloc),
             rooms: Vec::new(alloc),
@@ -40,8 +45,10 @@ impl Editor {
         }
     }
 
-    /// Takes a note.
-    pub fn take(&mut self, alloc: Global, note: Note) -> Result<(), CheckFault> {
+    /// Takes a note. The open files have the texts then that it gives them.
+    pub fn take(&mut self, alloc: Global, note: Note) -> Result<(), CheckFault>
+        ensures { OnOk result (IsAfter self.old.documents.all.items note self.new.documents.all.items) }
+    {
         let path = String::from_str(alloc, note.path())?;
         let is_change = matches!(&note, Note::Changed(_, _));
         self.documents.take(alloc, note)?;
@@ -58,7 +65,9 @@ impl Editor {
     }
 
     /// Adds the room of a unit that is open, unless there is one.
-    fn add_room(&mut self, alloc: Global, path: &str) -> Result<(), AllocError> {
+    fn add_room(&mut self, alloc: Global, path: &str) -> Result<(), AllocError>
+        ensures { self.new.documents ≡ self.old.documents }
+    {
         let is_unit = path.ends_with(".occ") && self.documents.text_of(path).is_some();
         if is_unit && !self.rooms.iter().any(|room| is_of(room, path)) {
             self.rooms.push(Room::new(alloc, folder_of(path))?)?;
@@ -67,7 +76,9 @@ impl Editor {
     }
 
     /// Files that are not open may have changed: all are found again.
-    pub fn look_again(&mut self) {
+    pub fn look_again(&mut self)
+        ensures { self.new.documents ≡ self.old.documents }
+    {
         for room in self.rooms.as_mut_slice().iter_mut() {
             room.is_loose = true;
         }
@@ -78,7 +89,9 @@ impl Editor {
         &mut self,
         alloc: Global,
         disk: &D,
-    ) -> Result<Vec<Published>, CheckFault> {
+    ) -> Result<Vec<Published>, CheckFault>
+        ensures { self.new.documents ≡ self.old.documents }
+    {
         for index in 0..self.rooms.len() {
             self.renew(alloc, disk, index)?;
         }
@@ -92,7 +105,9 @@ impl Editor {
     }
 
     /// Renews the room of that number.
-    fn renew<D: Disk>(&mut self, alloc: Global, disk: &D, index: usize) -> Result<(), CheckFault> {
+    fn renew<D: Disk>(&mut self, alloc: Global, disk: &D, index: usize) -> Result<(), CheckFault>
+        ensures { self.new.documents ≡ self.old.documents }
+    {
         let overlay = Overlay {
             documents: &self.documents,
             disk,
