@@ -54,7 +54,7 @@ fn read_folder(rt: &HostRuntime, path: &str) -> io::Result<Vec<Seen>> {
 }
 
 impl<'a> Disk for Machine<'a> {
-    ghost known = { λ _. None };
+    ghost known = { λ _ _. None };
 
     fn read(&self, alloc: Global, path: &str) -> Result<Option<Vec<u8>>, DiskFault> {
         if let Some((name, bytes)) = &self.input

@@ -1,3 +1,6 @@
+pub mod Brought
 pub mod Noted
+pub mod Placed
 pub mod Replayed
+pub mod Rooms
 pub mod Settled

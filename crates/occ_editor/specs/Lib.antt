@@ -1,2 +1,4 @@
 pub mod Documents
 pub mod Placing
+pub mod Rooms
+pub mod inside

@@ -1,6 +1,9 @@
 //! The open files with their boards, one for each folder: notes are taken, and what is told of files is published where it changed.
-ghost use Rattle.occ_editor.specs.Documents.{IsAfter};
-ghost use Rattle.std.specs.Prelude.{◌≡◌, [], OnOk};
+ghost use Rattle.occ_editor.specs.Documents.{IsAfter, text_in};
+ghost use Rattle.occ_editor.specs.Rooms.{AllSettled, AllStand, ChangesAt, Stands};
+ghost use Rattle.occ_editor.specs.declared.documents.Document.{Document as ADocument};
+ghost use Rattle.occ_editor.specs.inside.Followed.{AreSettled, HaveFollowed};
+ghost use Rattle.std.specs.Prelude.{◌≡◌, ◌+◌, [], List, OnOk, length, option_map, ℕ};
 
 use super::documents::{Documents, Note};
 use super::overlay::Overlay;
@@ -35,7 +38,8 @@ pub struct Editor {
 impl Editor {
     /// Nothing is open.
     pub fn new(alloc: Global, folders: Vec<String>) -> Editor
-        ensures { result.documents.all.items ≡ [] }
+        ensures documents { result.documents.all.items ≡ [] }
+        ensures boards { AllStand result.documents.all.items result.rooms.items }
     {
         Editor {
             documents: Documents::new(alloc),
@@ -45,28 +49,54 @@ impl Editor {
         }
     }
 
-    /// Takes a note. The open files have the texts then that it gives them.
+    /// Takes a note. The open files have the texts then that it gives them, and the boards follow.
     pub fn take(&mut self, alloc: Global, note: Note) -> Result<(), CheckFault>
-        ensures { OnOk result (IsAfter self.old.documents.all.items note self.new.documents.all.items) }
+        ensures documents { OnOk result (IsAfter self.old.documents.all.items note self.new.documents.all.items) }
+        ensures boards { OnOk result (AllStand self.old.documents.all.items self.old.rooms.items → AllStand self.new.documents.all.items self.new.rooms.items) }
     {
         let path = String::from_str(alloc, note.path())?;
         let is_change = matches!(&note, Note::Changed(_, _));
         self.documents.take(alloc, note)?;
+        self.tell_all(alloc, path.as_str(), is_change)?;
         self.add_room(alloc, path.as_str())?;
-        let text = self.documents.text_of(path.as_str());
-        for room in self.rooms.as_mut_slice().iter_mut() {
-            match text {
-                Some(bytes) if is_change => room.follow(alloc, path.as_str(), bytes)?,
-                _ => room.meet(path.as_str(), text),
-            }
-        }
         self.stale.insert(path)?;
+        Ok(())
+    }
+
+    /// All boards follow the file at a path, of which alone the text may have changed.
+    fn tell_all(&mut self, alloc: Global, path: &str, is_change: bool) -> Result<(), CheckFault>
+        ensures documents { self.new.documents ≡ self.old.documents }
+        ensures boards { OnOk result ((before : List ADocument) → ChangesAt before self.old.documents.all.items path.now (text_in self.old.documents.all.items path.now) → AllStand before self.old.rooms.items → AllStand self.old.documents.all.items self.new.rooms.items) }
+    {
+        for index in 0..self.rooms.len() {
+            self.tell(alloc, index, path, is_change)?;
+        }
+        Ok(())
+    }
+
+    /// The board of that number follows the file at a path.
+    fn tell(
+        &mut self,
+        alloc: Global,
+        index: usize,
+        path: &str,
+        is_change: bool,
+    ) -> Result<(), CheckFault>
+        ensures documents { self.new.documents ≡ self.old.documents }
+        ensures count { length self.new.rooms.items ≡ length self.old.rooms.items }
+        ensures boards { OnOk result ((before : List ADocument) → ChangesAt before self.old.documents.all.items path.now (text_in self.old.documents.all.items path.now) → HaveFollowed before self.old.documents.all.items index self.old.rooms.items → HaveFollowed before self.old.documents.all.items (index + 1) self.new.rooms.items) }
+    {
+        let text = self.documents.text_of(path);
+        if let Some(room) = self.rooms.get_mut(index) {
+            told(alloc, room, path, text, is_change)?;
+        }
         Ok(())
     }
 
     /// Adds the room of a unit that is open, unless there is one.
     fn add_room(&mut self, alloc: Global, path: &str) -> Result<(), AllocError>
-        ensures { self.new.documents ≡ self.old.documents }
+        ensures documents { self.new.documents ≡ self.old.documents }
+        ensures boards { OnOk result ((documents : List ADocument) → AllStand documents self.old.rooms.items → AllStand documents self.new.rooms.items) }
     {
         let is_unit = path.ends_with(".occ") && self.documents.text_of(path).is_some();
         if is_unit && !self.rooms.iter().any(|room| is_of(room, path)) {
@@ -77,36 +107,60 @@ impl Editor {
 
     /// Files that are not open may have changed: all are found again.
     pub fn look_again(&mut self)
-        ensures { self.new.documents ≡ self.old.documents }
+        ensures documents { self.new.documents ≡ self.old.documents }
+        ensures boards { (documents : List ADocument) → AllStand documents self.old.rooms.items → AllStand documents self.new.rooms.items }
     {
-        for room in self.rooms.as_mut_slice().iter_mut() {
+        for index in 0..self.rooms.len() {
+            self.loosen(index);
+        }
+    }
+
+    /// The files of the room of that number are found again.
+    fn loosen(&mut self, index: usize)
+        ensures documents { self.new.documents ≡ self.old.documents }
+        ensures boards { (documents : List ADocument) → AllStand documents self.old.rooms.items → AllStand documents self.new.rooms.items }
+    {
+        if let Some(room) = self.rooms.get_mut(index) {
             room.is_loose = true;
         }
     }
 
-    /// Checks what is pending, and gives what is told of each file of which perhaps something else is told than before.
+    /// Checks what is pending, and gives what is told of each file of which perhaps something else is told than before. All boards
+    /// are up to date then.
     pub fn publish<D: Disk>(
         &mut self,
         alloc: Global,
         disk: &D,
     ) -> Result<Vec<Published>, CheckFault>
-        ensures { self.new.documents ≡ self.old.documents }
+        ensures documents { self.new.documents ≡ self.old.documents }
+        ensures boards { OnOk result (AllStand self.old.documents.all.items self.old.rooms.items → AllSettled self.old.documents.all.items self.new.rooms.items) }
     {
-        for index in 0..self.rooms.len() {
-            self.renew(alloc, disk, index)?;
-        }
+        self.renew_all(alloc, disk)?;
+        self.leave_empty();
         let mut published = Vec::new(alloc);
         for path in &self.stale {
             published.push(told_of(alloc, self.rooms.as_slice(), path.as_str())?)?;
         }
         self.stale.clear();
-        self.rooms.retain(|room| !room.is_empty());
         Ok(published)
+    }
+
+    /// Renews all rooms.
+    fn renew_all<D: Disk>(&mut self, alloc: Global, disk: &D) -> Result<(), CheckFault>
+        ensures documents { self.new.documents ≡ self.old.documents }
+        ensures boards { OnOk result (AllStand self.old.documents.all.items self.old.rooms.items → AllSettled self.old.documents.all.items self.new.rooms.items) }
+    {
+        for index in 0..self.rooms.len() {
+            self.renew(alloc, disk, index)?;
+        }
+        Ok(())
     }
 
     /// Renews the room of that number.
     fn renew<D: Disk>(&mut self, alloc: Global, disk: &D, index: usize) -> Result<(), CheckFault>
-        ensures { self.new.documents ≡ self.old.documents }
+        ensures documents { self.new.documents ≡ self.old.documents }
+        ensures count { length self.new.rooms.items ≡ length self.old.rooms.items }
+        ensures boards { OnOk result (AreSettled self.old.documents.all.items index self.old.rooms.items → AreSettled self.old.documents.all.items (index + 1) self.new.rooms.items) }
     {
         let overlay = Overlay {
             documents: &self.documents,
@@ -118,6 +172,14 @@ impl Editor {
             room.renew(alloc, &overlay, folders, paths.as_slice(), &mut self.stale)?;
         }
         Ok(())
+    }
+
+    /// Rooms without files are left.
+    fn leave_empty(&mut self)
+        ensures documents { self.new.documents ≡ self.old.documents }
+        ensures boards { (documents : List ADocument) → AllSettled documents self.old.rooms.items → AllSettled documents self.new.rooms.items }
+    {
+        self.rooms.retain(|room| !room.is_empty());
     }
 
     /// The codes that are told of a line of a file, from 1.
@@ -133,6 +195,23 @@ impl Editor {
         }
         Ok(codes)
     }
+}
+
+/// A room follows the file at a path, which is open with this text or no more.
+fn told(
+    alloc: Global,
+    room: &mut Room,
+    path: &str,
+    text: Option<&[u8]>,
+    is_change: bool,
+) -> Result<(), CheckFault>
+    ensures { OnOk result ((before now : List ADocument) → ChangesAt before now path.now (option_map (λ text. text.now) text.entry) → Stands before room.old → Stands now room.new) }
+{
+    match text {
+        Some(bytes) if is_change => room.follow(alloc, path, bytes)?,
+        _ => room.meet(path, text),
+    }
+    Ok(())
 }
 
 /// The open units of a room, by their paths.

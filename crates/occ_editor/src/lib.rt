@@ -2,6 +2,7 @@
 //! that they use and include. One board stays between notes, so an edit costs what it concerns.
 #![tactic(auto)]
 
+mod bringing;
 mod documents;
 mod editor;
 mod found;

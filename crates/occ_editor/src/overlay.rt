@@ -1,5 +1,6 @@
 //! The files of a disk, with those that are open in the editor in place of what is there.
-ghost use Rattle.std.specs.Prelude.{None};
+ghost use Rattle.occ_editor.specs.Rooms.{over};
+ghost use Rattle.occ_editor.specs.Documents.{text_in};
 
 use super::documents::Documents;
 use occ_files::{Disk, DiskFault, Seen};
@@ -13,7 +14,7 @@ pub struct Overlay<'a, D: Disk> {
 }
 
 impl<'a, D: Disk> Disk for Overlay<'a, D> {
-    ghost known = { λ _. None };
+    ghost known = { λ overlay path. over (text_in overlay.documents.now.all.items path) (D.known overlay.disk.now path) };
 
     fn read(&self, alloc: Global, path: &str) -> Result<Option<Vec<u8>>, DiskFault> {
         match self.documents.text_of(path) {

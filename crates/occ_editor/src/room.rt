@@ -1,15 +1,23 @@
 //! The files of one folder that are open, with all that they use and include, on a board of their own.
+ghost use Rattle.occ_editor.specs.Rooms.{ChangesAt, IsSettled, Knows, Stands};
+ghost use Rattle.occ_editor.specs.declared.documents.Document.{Document as ADocument};
+ghost use Rattle.occ_editor.specs.inside.Placed.{AreFound, HasAt, place_at};
+ghost use Rattle.occ_files.specs.declared.gathering.Text.{Text as AText};
+ghost use Rattle.std.specs.List.{slice_get};
+ghost use Rattle.std.specs.Prelude.{◌≡◌, IfOk, IsTrue, List, OnOk, Some, option_map, slice_set, ℕ};
+
+use super::bringing::{brought, put_one};
 use super::found::name_alike;
-use super::placing::{put, remove, told};
+use super::placing::told;
 use occ_base::{Code, Diag, FileName, Items, Shared};
-use occ_board::{Board, EditFault};
+use occ_board::Board;
 use occ_files::{Disk, Gathered, Refusal, Text, Why, folder_of, gather};
 use occ_files_check::{CheckFault, diags_in, messages};
-use occ_forms::prepare;
+use occ_forms::{Source, prepare};
 use occ_lines::TextFault;
 use occ_messages::Message;
 use std::alloc::{AllocError, Global};
-use std::collections::{BTreeMap, BTreeSet};
+use std::collections::BTreeSet;
 use std::mem;
 
 /// A board with its files.
@@ -31,7 +39,9 @@ pub struct Room {
 
 impl Room {
     /// A room without files, which have to be found.
-    pub fn new(alloc: Global, folder: &str) -> Result<Room, AllocError> {
+    pub fn new(alloc: Global, folder: &str) -> Result<Room, AllocError>
+        ensures { IfOk result (λ room. (documents : List ADocument) → Stands documents room) }
+    {
         Ok(Room {
             folder: String::from_str(alloc, folder)?,
             board: Board::new(alloc),
@@ -44,48 +54,83 @@ impl Room {
     }
 
     /// Where the file at a path stands among its texts.
-    fn place_of(&self, path: &str) -> Option<usize> {
-        self.texts
-            .iter()
-            .position(|text| text.path.as_str() == path)
+    fn place_of(&self, path: &str) -> Option<usize>
+        ensures { result ≡ place_at self.now.texts.items path.now }
+    {
+        for (place, text) in self.texts.iter().enumerate() {
+            if text.path.as_str() == path {
+                return Some(place);
+            }
+        }
+        None
     }
 
     /// The file at a path has this text now. If its text names other files, or is or was refused, all files have to be found
     /// again.
-    pub fn follow(&mut self, alloc: Global, path: &str, bytes: &[u8]) -> Result<(), CheckFault> {
+    pub fn follow(&mut self, alloc: Global, path: &str, bytes: &[u8]) -> Result<(), CheckFault>
+        ensures { OnOk result ((before now : List ADocument) → ChangesAt before now path.now (Some bytes.now) → Stands before self.old → Stands now self.new) }
+    {
         let Some(place) = self.place_of(path) else {
             self.is_loose |= self.refusal_of(path).is_some();
             return Ok(());
         };
-        let source = match prepare(alloc, bytes) {
-            Ok(source) => Shared::new(alloc, source)?,
-            Err(TextFault::Memory) => return Err(CheckFault::Memory),
+        match prepare(alloc, bytes) {
+            Ok(source) => {
+                self.change(alloc, place, Shared::new(alloc, source)?)?;
+                Ok(())
+            }
+            Err(TextFault::Memory) => Err(CheckFault::Memory),
             Err(_) => {
                 self.is_loose = true;
-                return Ok(());
+                Ok(())
             }
-        };
-        let Some(text) = self.texts.get_mut(place) else {
+        }
+    }
+
+    /// The file at a place has this text now.
+    fn change(
+        &mut self,
+        alloc: Global,
+        place: usize,
+        source: Shared<Source>,
+    ) -> Result<(), CheckFault>
+        ensures { OnOk result ((before now : List ADocument) (path : List ℕ) → place_at self.old.texts.items path ≡ Some place → ChangesAt before now path (Some source.text) → Stands before self.old → Stands now self.new) }
+    {
+        let Some(text) = self.texts.get(place) else {
             return Ok(());
         };
-        if !name_alike(text.source.get(), source.get()) {
-            self.is_loose = true;
-        }
-        placed(put(alloc, &mut self.board, text.name, source.share()?))?;
-        text.source = source;
+        let name = text.name;
+        let is_alike = name_alike(text.source.get(), source.get());
+        put_one(alloc, &mut self.board, name, source.share()?)?;
+        put_source(&mut self.texts, place, source);
+        self.is_loose |= !is_alike;
         self.is_changed = true;
         Ok(())
     }
 
     /// The file at a path is open with this text now, or no more. If it had another one, or may be one that was not there, all
     /// files have to be found again.
-    pub fn meet(&mut self, path: &str, bytes: Option<&[u8]>) {
-        let is_same = match self.place_of(path).and_then(|place| self.texts.get(place)) {
-            Some(text) => bytes == Some(text.source.get().text()),
-            None => false,
-        };
-        if !is_same {
+    pub fn meet(&mut self, path: &str, bytes: Option<&[u8]>)
+        ensures { (before now : List ADocument) → ChangesAt before now path.now (option_map (λ text. text.now) bytes.entry) → Stands before self.old → Stands now self.new }
+    {
+        if !self.has(path, bytes) {
             self.is_loose = true;
+        }
+    }
+
+    /// Whether the file at a path is there with this text.
+    fn has(&self, path: &str, bytes: Option<&[u8]>) -> bool
+        ensures { IsTrue result → HasAt self.now.texts.items path.now (option_map (λ text. text.now) bytes.entry) }
+    {
+        let Some(bytes) = bytes else {
+            return false;
+        };
+        let Some(place) = self.place_of(path) else {
+            return false;
+        };
+        match self.texts.get(place) {
+            Some(text) => text.source.get().text() == bytes,
+            None => false,
         }
     }
 
@@ -97,16 +142,12 @@ impl Room {
         folders: &[String],
         paths: &[String],
         stale: &mut BTreeSet<String>,
-    ) -> Result<(), CheckFault> {
+    ) -> Result<(), CheckFault>
+        ensures { OnOk result ((documents : List ADocument) → Knows (D.known disk.now) documents → Stands documents self.old → IsSettled documents self.new) }
+    {
         if self.is_loose {
             self.add_shown(alloc, stale)?;
-            let Gathered {
-                texts,
-                refusals,
-                ..
-            } = gather(alloc, disk, folders, paths)?;
-            self.bring(alloc, texts)?;
-            self.refusals = refusals;
+            self.find(alloc, disk, folders, paths)?;
             self.told = told(alloc, &mut self.board)?;
             self.add_shown(alloc, stale)?;
         } else if self.is_changed {
@@ -119,30 +160,24 @@ impl Room {
         Ok(())
     }
 
-    /// Brings these files on the board, in place of those that are there.
-    fn bring(&mut self, alloc: Global, texts: Vec<Text>) -> Result<(), CheckFault> {
-        let before = mem::replace(&mut self.texts, texts);
-        let mut places = BTreeMap::new(alloc);
-        for (place, text) in self.texts.iter().enumerate() {
-            places.insert(text.name, place)?;
-        }
-        for old in &before {
-            match places
-                .remove(&old.name)
-                .and_then(|place| self.texts.get_mut(place))
-            {
-                Some(text) if text.source.get().text() == old.source.get().text() => {
-                    text.source = old.source.share()?;
-                }
-                Some(text) => placed(put(alloc, &mut self.board, text.name, text.source.share()?))?,
-                None => placed(remove(alloc, &mut self.board, old.name))?,
-            }
-        }
-        for text in &self.texts {
-            if places.contains_key(&text.name) {
-                placed(put(alloc, &mut self.board, text.name, text.source.share()?))?;
-            }
-        }
+    /// Finds its files again.
+    fn find<D: Disk>(
+        &mut self,
+        alloc: Global,
+        disk: &D,
+        folders: &[String],
+        paths: &[String],
+    ) -> Result<(), CheckFault>
+        ensures { OnOk result ((documents : List ADocument) → Knows (D.known disk.now) documents → Stands documents self.old → AreFound documents self.new.board self.new.texts.items) }
+    {
+        let Gathered {
+            texts,
+            refusals,
+            ..
+        } = gather(alloc, disk, folders, paths)?;
+        let before = mem::replace(&mut self.texts, Vec::new(alloc));
+        self.texts = brought(alloc, &mut self.board, before.as_slice(), texts)?;
+        self.refusals = refusals;
         Ok(())
     }
 
@@ -249,20 +284,20 @@ impl Room {
     }
 }
 
+/// The text at a place is this one.
+fn put_source(texts: &mut Vec<Text>, place: usize, source: Shared<Source>)
+    ensures { (text : AText) → slice_get texts.old.items place ≡ Some text → texts.new.items ≡ slice_set texts.old.items place (record { path = text.path; name = text.name; source = source }) }
+{
+    if let Some(text) = texts.get_mut(place) {
+        text.source = source;
+    }
+}
+
 /// The diagnostics of a file, among those that stand in order.
 fn of_file(diags: &[Diag], name: FileName) -> &[Diag] {
     let from = diags.partition_point(|diag| diag.file < name);
     let to = diags.partition_point(|diag| diag.file <= name);
     diags.get(from..to).unwrap_or(&[])
-}
-
-/// What came of an edit.
-fn placed(done: Result<(), EditFault>) -> Result<(), CheckFault> {
-    match done {
-        Ok(()) => Ok(()),
-        Err(EditFault::Memory) => Err(CheckFault::Memory),
-        Err(fault) => Err(CheckFault::Refused(fault)),
-    }
 }
 
 /// The folder of a file.

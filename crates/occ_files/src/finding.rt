@@ -1,8 +1,8 @@
 //! Files by their paths, and the search for a file that another one names.
-ghost use Rattle.occ_files.specs.Paths.{At, first_in, path_in};
+ghost use Rattle.occ_files.specs.Paths.{Gives, IsFirst, Known, path_in};
 ghost use Rattle.occ_files.specs.declared.finding.DiskFault.TheVariants as a_fault;
 ghost use Rattle.std.specs.Option.{option_map};
-ghost use Rattle.std.specs.Prelude.{◌≡◌, ◌++◌, codes, IfOk, IfSome, Option, map};
+ghost use Rattle.std.specs.Prelude.{◌≡◌, ◌++◌, codes, IfOk, map};
 ghost use Rattle.std.specs.String.{string_bytes};
 
 use std::alloc::{AllocError, AllocFailed, Global};
@@ -44,12 +44,12 @@ pub struct Seen {
 
 /// Files by their paths.
 pub trait Disk {
-    /// What stands at each path, where it is known; that it is known says too that it stays as it is.
-    ghost known: { Self → Option At };
+    /// What is known of the file at each path; that it is known says too that it stays as it is.
+    ghost known: { Self → Known };
 
     /// The bytes of the file at a path, nothing where there is none.
     fn read(&self, alloc: Global, path: &str) -> Result<Option<Vec<u8>>, DiskFault>
-        ensures { IfOk result (λ read. IfSome (known self.now) (λ at. option_map (λ bytes. bytes.items) read ≡ at path.now)) };
+        ensures { IfOk result (λ read. Gives (known self.now) path.now (option_map (λ bytes. bytes.items) read)) };
 
     /// What is in a folder, in order of name; nothing where there is no folder.
     fn list(&self, alloc: Global, path: &str) -> Result<Option<Vec<Seen>>, DiskFault>;
@@ -87,7 +87,7 @@ pub fn find<D: Disk>(
     folders: &[String],
     name: &str,
 ) -> Result<Option<Found>, DiskFault>
-    ensures { IfOk result (λ found. IfSome (D.known disk.now) (λ at. option_map (λ f. (string_bytes f.path, f.bytes.items)) found ≡ first_in at (map string_bytes folders.now) name.now)) }
+    ensures { IfOk result (λ found. IsFirst (D.known disk.now) (map string_bytes folders.now) name.now (option_map (λ f. (string_bytes f.path, f.bytes.items)) found)) }
 {
     for folder in folders {
         let path = path_of(alloc, folder.as_str(), name)?;

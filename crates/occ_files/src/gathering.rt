@@ -1,5 +1,11 @@
 //! The files that are checked together: those that are asked for, and all that they use and include. A name is one file there:
 //! that which is found first.
+ghost use Rattle.occ_files.specs.Gathering.{AreGiven, are_apart, has_name};
+ghost use Rattle.occ_files.specs.Paths.{Gives};
+ghost use Rattle.occ_files.specs.inside.Found.{AreFound};
+ghost use Rattle.std.specs.Prelude.{◌≡◌, IfOk, OnOk, Some, false, is_some, true};
+ghost use Rattle.std.specs.String.{string_bytes};
+
 use super::finding::{Disk, Found, find, folder_of, name_of};
 use super::refusal::{Refusal, Why};
 use occ_base::{FileName, Items, Shared};
@@ -48,8 +54,8 @@ struct Gathering<'a, D: Disk> {
     disk: &'a D,
     folders: &'a [String],
     found: Gathered,
-    /// Of each name that was looked for the place of its text, if there is one.
-    places: BTreeMap<FileName, Option<usize>>,
+    /// The place of the text of each name.
+    places: BTreeMap<FileName, usize>,
 }
 
 /// The files at these paths that are units, and all that they use and include.
@@ -58,7 +64,10 @@ pub fn gather<D: Disk>(
     disk: &D,
     folders: &[String],
     paths: &[String],
-) -> Result<Gathered, AllocError> {
+) -> Result<Gathered, AllocError>
+    ensures given { IfOk result (λ found. AreGiven (D.known disk.now) found.texts.items) }
+    ensures apart { IfOk result (λ found. are_apart found.texts.items ≡ true) }
+{
     let mut gathering = Gathering {
         disk,
         folders,
@@ -84,7 +93,9 @@ pub fn gather<D: Disk>(
 }
 
 /// The text of a file, or why there is none.
-fn prepared(alloc: Global, bytes: &[u8]) -> Result<Result<Shared<Source>, Why>, AllocError> {
+fn prepared(alloc: Global, bytes: &[u8]) -> Result<Result<Shared<Source>, Why>, AllocError>
+    ensures { IfOk result (λ made. IfOk made (λ source. source.text ≡ bytes.now)) }
+{
     match prepare(alloc, bytes) {
         Ok(source) => Ok(Ok(Shared::new(alloc, source)?)),
         Err(TextFault::Memory) => Err(AllocError),
@@ -151,24 +162,35 @@ impl<'a, D: Disk> Gathering<'a, D> {
     }
 
     /// The text of that name, if there is one.
-    fn text(&self, name: FileName) -> Option<&Text> {
+    fn text(&self, name: FileName) -> Option<&Text>
+        requires { AreFound (D.known self.now.disk.now) self.now.found.texts.items self.now.places }
+        ensures { is_some result ≡ has_name self.now.found.texts.items name }
+    {
         let place = self.places.get(&name)?;
-        self.found.texts.get((*place)?)
+        self.found.texts.get(*place)
     }
 
     /// The file at that path is not checked.
-    fn refuse(&mut self, alloc: Global, path: &str, why: Why) -> Result<(), AllocError> {
+    fn refuse(&mut self, alloc: Global, path: &str, why: Why) -> Result<(), AllocError>
+        ensures texts { self.new.found.texts ≡ self.old.found.texts }
+        ensures places { self.new.places ≡ self.old.places }
+        ensures disk { self.new.disk ≡ self.old.disk }
+    {
         self.found.refusals.push(Refusal::of(alloc, path, why)?)?;
         Ok(())
     }
 
     /// Adds a unit that is asked for.
-    fn add_asked(&mut self, alloc: Global, path: &str) -> Result<(), AllocError> {
+    fn add_asked(&mut self, alloc: Global, path: &str) -> Result<(), AllocError>
+        requires found { AreFound (D.known self.old.disk.now) self.old.found.texts.items self.old.places }
+        ensures found { OnOk result (AreFound (D.known self.new.disk.now) self.new.found.texts.items self.new.places) }
+        ensures disk { self.new.disk ≡ self.old.disk }
+    {
         let name = match unit_named(path) {
             Ok(name) => name,
             Err(why) => return self.refuse(alloc, path, why),
         };
-        if self.places.contains_key(&name) {
+        if self.text(name).is_some() {
             return Ok(());
         }
         match self.disk.read(alloc, path) {
@@ -183,14 +205,20 @@ impl<'a, D: Disk> Gathering<'a, D> {
     }
 
     /// Adds a file that was found, unless its text is refused.
-    fn add(&mut self, alloc: Global, name: FileName, found: Found) -> Result<(), AllocError> {
+    fn add(&mut self, alloc: Global, name: FileName, found: Found) -> Result<(), AllocError>
+        requires found { AreFound (D.known self.old.disk.now) self.old.found.texts.items self.old.places }
+        requires new { has_name self.old.found.texts.items name ≡ false }
+        requires given { Gives (D.known self.old.disk.now) (string_bytes found.path) (Some found.bytes.items) }
+        ensures found { OnOk result (AreFound (D.known self.new.disk.now) self.new.found.texts.items self.new.places) }
+        ensures disk { self.new.disk ≡ self.old.disk }
+    {
         let Found { path, bytes } = found;
         if self.found.texts.len() >= FILE_LIMIT {
             return self.refuse(alloc, path.as_str(), Why::TooMany);
         }
         match prepared(alloc, bytes.as_slice())? {
             Ok(source) => {
-                self.places.insert(name, Some(self.found.texts.len()))?;
+                self.places.insert(name, self.found.texts.len())?;
                 self.found.texts.push(Text { path, name, source })?;
                 Ok(())
             }
@@ -199,7 +227,12 @@ impl<'a, D: Disk> Gathering<'a, D> {
     }
 
     /// Adds a unit of which there is a text, once.
-    fn add_unit(&mut self, unit: FileName) -> Result<(), AllocError> {
+    fn add_unit(&mut self, unit: FileName) -> Result<(), AllocError>
+        requires found { AreFound (D.known self.old.disk.now) self.old.found.texts.items self.old.places }
+        ensures texts { self.new.found.texts ≡ self.old.found.texts }
+        ensures places { self.new.places ≡ self.old.places }
+        ensures disk { self.new.disk ≡ self.old.disk }
+    {
         if self.text(unit).is_some() && !self.found.units.contains(&unit) {
             self.found.units.push(unit)?;
         }
@@ -207,7 +240,9 @@ impl<'a, D: Disk> Gathering<'a, D> {
     }
 
     /// Where a file is looked for that another one names: beside that, then in the other folders.
-    fn folders_from(&self, alloc: Global, file: FileName) -> Result<Vec<String>, AllocError> {
+    fn folders_from(&self, alloc: Global, file: FileName) -> Result<Vec<String>, AllocError>
+        requires { AreFound (D.known self.now.disk.now) self.now.found.texts.items self.now.places }
+    {
         let mut folders = Vec::new(alloc);
         if let Some(text) = self.text(file) {
             folders.push(String::from_str(alloc, folder_of(text.path.as_str()))?)?;
@@ -219,11 +254,14 @@ impl<'a, D: Disk> Gathering<'a, D> {
     }
 
     /// Looks the file up that a directive names, unless its name was found before.
-    fn look_up(&mut self, alloc: Global, mention: Mention) -> Result<(), AllocError> {
+    fn look_up(&mut self, alloc: Global, mention: Mention) -> Result<(), AllocError>
+        requires found { AreFound (D.known self.old.disk.now) self.old.found.texts.items self.old.places }
+        ensures found { OnOk result (AreFound (D.known self.new.disk.now) self.new.found.texts.items self.new.places) }
+        ensures disk { self.new.disk ≡ self.old.disk }
+    {
         if self.text(mention.name).is_some() {
             return Ok(());
         }
-        self.places.insert(mention.name, None)?;
         let folders = self.folders_from(alloc, mention.file)?;
         let Ok(name) = str::from_utf8(mention.name.as_bytes()) else {
             return Ok(());
@@ -236,7 +274,9 @@ impl<'a, D: Disk> Gathering<'a, D> {
     }
 
     /// A file as an expansion reads it.
-    fn read_of(&self, name: FileName) -> Result<Read, AllocError> {
+    fn read_of(&self, name: FileName) -> Result<Read, AllocError>
+        requires { AreFound (D.known self.now.disk.now) self.now.found.texts.items self.now.places }
+    {
         let source = match self.text(name) {
             Some(text) => Some(text.source.share()?),
             None => None,
@@ -249,7 +289,11 @@ impl<'a, D: Disk> Gathering<'a, D> {
     }
 
     /// Looks up all that the expansion of a unit looks up, and then the units that it uses.
-    fn follow(&mut self, alloc: Global, unit: FileName) -> Result<(), AllocError> {
+    fn follow(&mut self, alloc: Global, unit: FileName) -> Result<(), AllocError>
+        requires found { AreFound (D.known self.old.disk.now) self.old.found.texts.items self.old.places }
+        ensures found { OnOk result (AreFound (D.known self.new.disk.now) self.new.found.texts.items self.new.places) }
+        ensures disk { self.new.disk ≡ self.old.disk }
+    {
         let mut reads = Items::new(alloc);
         reads.push(self.read_of(unit)?)?;
         for _ in 0..ROUND_LIMIT {
@@ -267,7 +311,11 @@ impl<'a, D: Disk> Gathering<'a, D> {
     }
 
     /// Looks up the units that the lines of an expansion use.
-    fn add_uses(&mut self, alloc: Global, expanded: &Expanded) -> Result<(), AllocError> {
+    fn add_uses(&mut self, alloc: Global, expanded: &Expanded) -> Result<(), AllocError>
+        requires found { AreFound (D.known self.old.disk.now) self.old.found.texts.items self.old.places }
+        ensures found { OnOk result (AreFound (D.known self.new.disk.now) self.new.found.texts.items self.new.places) }
+        ensures disk { self.new.disk ≡ self.old.disk }
+    {
         for line in expanded.lines() {
             self.add_used(alloc, line.file, line.used_units())?;
         }
@@ -280,7 +328,11 @@ impl<'a, D: Disk> Gathering<'a, D> {
         alloc: Global,
         file: FileName,
         units: &[FileName],
-    ) -> Result<(), AllocError> {
+    ) -> Result<(), AllocError>
+        requires found { AreFound (D.known self.old.disk.now) self.old.found.texts.items self.old.places }
+        ensures found { OnOk result (AreFound (D.known self.new.disk.now) self.new.found.texts.items self.new.places) }
+        ensures disk { self.new.disk ≡ self.old.disk }
+    {
         for name in units {
             self.look_up(alloc, Mention { file, name: *name })?;
             self.add_unit(*name)?;

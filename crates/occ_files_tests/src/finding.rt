@@ -27,7 +27,7 @@ fn seen(alloc: Global, path: &str) -> Result<Seen, AllocError> {
 }
 
 impl<'a> Disk for List<'a> {
-    ghost known = { λ _. None };
+    ghost known = { λ _ _. None };
 
     fn read(&self, alloc: Global, path: &str) -> Result<Option<Vec<u8>>, DiskFault> {
         for (name, text) in self.0 {

@@ -1,0 +1,10 @@
+use Rattle.std.proofs.Common.{◌≡◌, length}
+use Rattle.occ_editor.proofs.editor.Editor.renew_all.Given as goal
+use Rattle.occ_editor.specs.Rooms.{AllStand}
+use Rattle.occ_editor.specs.inside.Followed.{AreSettled}
+
+abbrev pub invariant-loop-index : goal.invariant-loop-index
+invariant-loop-index g l =
+    (l.self.documents ≡ l.fn.self.documents)
+    × (length l.self.rooms.items ≡ length l.fn.self.rooms.items)
+    × (AllStand l.fn.self.documents.all.items l.fn.self.rooms.items → AreSettled l.fn.self.documents.all.items l.index l.self.rooms.items)

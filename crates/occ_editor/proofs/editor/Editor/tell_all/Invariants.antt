@@ -1,0 +1,12 @@
+use Rattle.std.proofs.Common.{◌≡◌, List, length}
+use Rattle.occ_editor.proofs.editor.Editor.tell_all.Given as goal
+use Rattle.occ_editor.specs.Documents.{text_in}
+use Rattle.occ_editor.specs.Rooms.{AllStand, ChangesAt}
+use Rattle.occ_editor.specs.declared.documents.Document.{Document}
+use Rattle.occ_editor.specs.inside.Followed.{HaveFollowed}
+
+abbrev pub invariant-loop-index : goal.invariant-loop-index
+invariant-loop-index l =
+    (l.self.documents ≡ l.fn.self.documents)
+    × (length l.self.rooms.items ≡ length l.fn.self.rooms.items)
+    × ((before : List Document) → ChangesAt before l.fn.self.documents.all.items l.path (text_in l.fn.self.documents.all.items l.path) → AllStand before l.fn.self.rooms.items → HaveFollowed before l.fn.self.documents.all.items l.index l.self.rooms.items)

@@ -1,0 +1,21 @@
+use Rattle.std.proofs.Common.{◌≡◌, ◌++◌, ◌∷◌, ℕ, List, [], Some, length, rules, subst, sym}
+use Rattle.std.specs.BTreeMap.{Updates}
+use Rattle.std.specs.String.{string_bytes}
+use Rattle.occ_files.proofs.Named.{found_more}
+use Rattle.occ_files.proofs.gathering.Gathering.add.Goals as goal
+use Rattle.occ_files.specs.Paths.{Gives}
+use Rattle.occ_files.specs.declared.gathering.Text.{Text}
+use Rattle.occ_files.specs.inside.Found.{AreFound}
+use Rattle.occ_project.specs.Reads.{name_cmp}
+
+pub returns-in_ok-push-in-Ok-clause-found : goal.returns-in_ok-push-in-Ok-clause-found
+returns-in_ok-push-in-Ok-clause-found g c =
+    let texts : List Text = c.args.self.now.found.texts.items in
+    let text : Text = record { path = c.args.found.path; name = c.args.name; source = c.in-Ok.source } in
+    let more : c.push.new.self.items ≡ texts ++ text ∷ [] = search rules in
+    let len : c.len-in-Ok.result ≡ length texts = search rules in
+    let made : c.in-Ok.source.text ≡ c.args.found.bytes.items = search rules in
+    let updates : Updates name_cmp c.args.self.now.places c.insert.new.self c.args.name (Some c.len-in-Ok.result) = search rules in
+    let given : Gives (g.D.Disk.known c.args.self.now.disk.now) (string_bytes c.args.found.path) (Some c.in-Ok.source.text) = subst (λ (bytes : List ℕ). Gives (g.D.Disk.known c.args.self.now.disk.now) (string_bytes c.args.found.path) (Some bytes)) (sym made) c.requires.given in
+    subst (λ (ts : List Text). AreFound (g.D.Disk.known c.args.self.now.disk.now) ts c.insert.new.self) (sym more)
+    (found_more (g.D.Disk.known c.args.self.now.disk.now) texts c.args.self.now.places c.insert.new.self text c.len-in-Ok.result c.requires.found c.requires.new given len updates.0)

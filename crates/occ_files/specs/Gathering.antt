@@ -1,0 +1,21 @@
+-- The files that were found.
+use Rattle.std.specs.Prelude.{◌≡◌, ℕ, Bool, true, not, ◌&&◌, List, [], ◌∷◌, Some}
+use Rattle.std.specs.List.{list_any}
+use Rattle.std.specs.Str.{bytes_eq}
+use Rattle.std.specs.String.{string_bytes}
+use Rattle.occ_files.specs.Paths.{Gives, Known}
+use Rattle.occ_files.specs.declared.gathering.Text.{Text}
+
+-- each is what a read of its path may give
+abbrev pub AreGiven : Known → List Text → Type 0
+AreGiven known [] = Unit {0}
+AreGiven known (text ∷ texts) = Gives known (string_bytes text.path) (Some text.source.text) × AreGiven known texts
+
+-- one of them has the name
+abbrev pub has_name : List Text → List ℕ → Bool
+has_name texts name = list_any (λ text. bytes_eq text.name name) texts
+
+-- no two have one name
+abbrev pub are_apart : List Text → Bool
+are_apart [] = true
+are_apart (text ∷ texts) = not (has_name texts text.name) && are_apart texts
