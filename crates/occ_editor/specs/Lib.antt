@@ -1,4 +1,5 @@
 pub mod Documents
 pub mod Placing
+pub mod Publishing
 pub mod Rooms
 pub mod inside

@@ -3,7 +3,10 @@ ghost use Rattle.occ_editor.specs.Documents.{IsAfter, text_in};
 ghost use Rattle.occ_editor.specs.Rooms.{AllSettled, AllStand, ChangesAt, Stands};
 ghost use Rattle.occ_editor.specs.declared.documents.Document.{Document as ADocument};
 ghost use Rattle.occ_editor.specs.inside.Followed.{AreSettled, HaveFollowed};
-ghost use Rattle.std.specs.Prelude.{◌≡◌, ◌+◌, [], List, OnOk, length, option_map, ℕ};
+ghost use Rattle.occ_editor.specs.Publishing.{IsPublished};
+ghost use Rattle.occ_messages.specs.Located.{Head, head_of};
+ghost use Rattle.std.specs.List.{All, Contains};
+ghost use Rattle.std.specs.Prelude.{◌≡◌, ◌⊎◌, ◌↔◌, ◌+◌, [], IfOk, IsTrue, List, OnOk, length, map, option_map, ℕ};
 
 use super::documents::{Documents, Note};
 use super::overlay::Overlay;
@@ -134,13 +137,11 @@ impl Editor {
     ) -> Result<Vec<Published>, CheckFault>
         ensures documents { self.new.documents ≡ self.old.documents }
         ensures boards { OnOk result (AllStand self.old.documents.all.items self.old.rooms.items → AllSettled self.old.documents.all.items self.new.rooms.items) }
+        ensures told { IfOk result (λ all. All (IsPublished self.new.rooms.items) all.items) }
     {
         self.renew_all(alloc, disk)?;
         self.leave_empty();
-        let mut published = Vec::new(alloc);
-        for path in &self.stale {
-            published.push(told_of(alloc, self.rooms.as_slice(), path.as_str())?)?;
-        }
+        let published = told_all(alloc, self.rooms.as_slice(), &self.stale)?;
         self.stale.clear();
         Ok(published)
     }
@@ -226,43 +227,95 @@ fn paths_in(alloc: Global, documents: &Documents, room: &Room) -> Result<Vec<Str
     Ok(paths)
 }
 
+/// What is told of the files at these paths.
+fn told_all(
+    alloc: Global,
+    rooms: &[Room],
+    paths: &BTreeSet<String>,
+) -> Result<Vec<Published>, AllocError>
+    ensures { IfOk result (λ all. All (IsPublished rooms.now) all.items) }
+{
+    let mut published = Vec::new(alloc);
+    for path in paths {
+        published.push(told_of(alloc, rooms, path.as_str())?)?;
+    }
+    Ok(published)
+}
+
 /// What is told of the file at a path.
-fn told_of(alloc: Global, rooms: &[Room], path: &str) -> Result<Published, AllocError> {
+fn told_of(alloc: Global, rooms: &[Room], path: &str) -> Result<Published, AllocError>
+    ensures { IfOk result (IsPublished rooms.now) }
+{
     let mut published = Published {
         path: String::from_str(alloc, path)?,
         messages: Vec::new(alloc),
         refusal: None,
     };
     for room in rooms {
-        let mut messages = room.messages_of(alloc, path)?;
-        published.add(&mut messages)?;
-        if let Some(why) = room.refusal_of(path) {
-            published.refusal = Some(why);
-        }
+        published.add_all(room.messages_of(alloc, path)?)?;
+        published.refuse(room.refusal_of(path));
     }
     Ok(published)
 }
 
 impl Published {
     /// Adds messages, but for those that are there.
-    fn add(&mut self, messages: &mut Vec<Message>) -> Result<(), AllocError> {
+    fn add_all(&mut self, mut messages: Vec<Message>) -> Result<(), AllocError>
+        ensures path { self.new.path ≡ self.old.path }
+        ensures messages { OnOk result ((head : Head) → Contains (map head_of self.new.messages.items) head ↔ (Contains (map head_of self.old.messages.items) head ⊎ Contains (map head_of messages.items) head)) }
+    {
         if self.messages.is_empty() {
-            return self.messages.append(messages);
+            self.messages = messages;
+            return Ok(());
         }
-        for _ in 0..messages.len() {
-            match messages.pop() {
-                Some(message) if self.has(&message) => {}
-                Some(message) => self.messages.push(message)?,
-                None => break,
-            }
+        while let Some(message) = messages.pop() {
+            self.add(message)?;
         }
         Ok(())
     }
 
-    /// Whether a message is there.
-    fn has(&self, message: &Message) -> bool {
-        self.messages.iter().any(|other| {
-            other.line == message.line && other.code == message.code && other.words == message.words
-        })
+    /// Adds a message, unless it is there.
+    fn add(&mut self, message: Message) -> Result<(), AllocError>
+        ensures path { self.new.path ≡ self.old.path }
+        ensures messages { OnOk result ((head : Head) → Contains (map head_of self.new.messages.items) head ↔ (Contains (map head_of self.old.messages.items) head ⊎ (head_of message ≡ head))) }
+    {
+        if self.has(&message) {
+            return Ok(());
+        }
+        self.messages.push(message)?;
+        Ok(())
     }
+
+    /// Whether a message is there.
+    fn has(&self, message: &Message) -> bool
+        ensures { IsTrue result → Contains (map head_of self.now.messages.items) (head_of message.now) }
+    {
+        for other in &self.messages {
+            if is_same(other, message) {
+                return true;
+            }
+        }
+        false
+    }
+
+    /// The file is not checked, if there is a reason.
+    fn refuse(&mut self, why: Option<Why>)
+        ensures path { self.new.path ≡ self.old.path }
+        ensures messages { self.new.messages ≡ self.old.messages }
+    {
+        if why.is_some() {
+            self.refusal = why;
+        }
+    }
+}
+
+/// Whether two messages tell the same at one place.
+fn is_same(one: &Message, other: &Message) -> bool
+    ensures { IsTrue result → head_of one.now ≡ head_of other.now }
+{
+    one.path.as_str() == other.path.as_str()
+        && one.line == other.line
+        && one.code == other.code
+        && one.grade == other.grade
+        && one.words == other.words
 }

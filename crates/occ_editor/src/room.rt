@@ -1,10 +1,13 @@
 //! The files of one folder that are open, with all that they use and include, on a board of their own.
+ghost use Rattle.occ_editor.specs.Publishing.{text_at as spec_text_at, told_at};
+ghost use Rattle.occ_messages.specs.Located.{head_of};
 ghost use Rattle.occ_editor.specs.Rooms.{ChangesAt, IsSettled, Knows, Stands};
 ghost use Rattle.occ_editor.specs.declared.documents.Document.{Document as ADocument};
 ghost use Rattle.occ_editor.specs.inside.Placed.{AreFound, HasAt, place_at};
 ghost use Rattle.occ_files.specs.declared.gathering.Text.{Text as AText};
 ghost use Rattle.std.specs.List.{slice_get};
-ghost use Rattle.std.specs.Prelude.{◌≡◌, IfOk, IsTrue, List, OnOk, Some, option_map, slice_set, ℕ};
+ghost use Rattle.std.specs.Option.{option_copied};
+ghost use Rattle.std.specs.Prelude.{◌≡◌, IfOk, IsTrue, List, OnOk, Some, map, option_map, slice_set, ℕ};
 
 use super::bringing::{brought, put_one};
 use super::found::name_alike;
@@ -60,6 +63,18 @@ impl Room {
         for (place, text) in self.texts.iter().enumerate() {
             if text.path.as_str() == path {
                 return Some(place);
+            }
+        }
+        None
+    }
+
+    /// The file at a path.
+    fn text_at(&self, path: &str) -> Option<&Text>
+        ensures { option_copied result ≡ spec_text_at self.now.texts.items path.now }
+    {
+        for text in &self.texts {
+            if text.path.as_str() == path {
+                return Some(text);
             }
         }
         None
@@ -263,7 +278,7 @@ impl Room {
         line: u32,
         codes: &mut BTreeSet<Code>,
     ) -> Result<(), AllocError> {
-        let Some(text) = self.place_of(path).and_then(|place| self.texts.get(place)) else {
+        let Some(text) = self.text_at(path) else {
             return Ok(());
         };
         for diag in of_file(self.told.as_slice(), text.name) {
@@ -275,8 +290,10 @@ impl Room {
     }
 
     /// What is told of the file at a path.
-    pub fn messages_of(&self, alloc: Global, path: &str) -> Result<Vec<Message>, AllocError> {
-        let Some(text) = self.place_of(path).and_then(|place| self.texts.get(place)) else {
+    pub fn messages_of(&self, alloc: Global, path: &str) -> Result<Vec<Message>, AllocError>
+        ensures { IfOk result (λ messages. map head_of messages.items ≡ told_at self.now path.now) }
+    {
+        let Some(text) = self.text_at(path) else {
             return Ok(Vec::new(alloc));
         };
         let diags = diags_in(alloc, self.told.as_slice(), text.name)?;
