@@ -2,4 +2,5 @@ pub mod Documents
 pub mod Placing
 pub mod Publishing
 pub mod Rooms
+pub mod Standing
 pub mod inside

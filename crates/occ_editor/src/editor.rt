@@ -1,6 +1,7 @@
 //! The open files with their boards, one for each folder: notes are taken, and what is told of files is published where it changed.
 ghost use Rattle.occ_editor.specs.Documents.{IsAfter, text_in};
 ghost use Rattle.occ_editor.specs.Rooms.{AllSettled, AllStand, ChangesAt, Stands};
+ghost use Rattle.occ_editor.specs.Standing.{IsStanding, IsUpToDate};
 ghost use Rattle.occ_editor.specs.declared.documents.Document.{Document as ADocument};
 ghost use Rattle.occ_editor.specs.inside.Followed.{AreSettled, HaveFollowed};
 ghost use Rattle.occ_editor.specs.Publishing.{IsPublished};
@@ -42,7 +43,7 @@ impl Editor {
     /// Nothing is open.
     pub fn new(alloc: Global, folders: Vec<String>) -> Editor
         ensures documents { result.documents.all.items ≡ [] }
-        ensures boards { AllStand result.documents.all.items result.rooms.items }
+        ensures boards { IsStanding result }
     {
         Editor {
             documents: Documents::new(alloc),
@@ -55,7 +56,7 @@ impl Editor {
     /// Takes a note. The open files have the texts then that it gives them, and the boards follow.
     pub fn take(&mut self, alloc: Global, note: Note) -> Result<(), CheckFault>
         ensures documents { OnOk result (IsAfter self.old.documents.all.items note self.new.documents.all.items) }
-        ensures boards { OnOk result (AllStand self.old.documents.all.items self.old.rooms.items → AllStand self.new.documents.all.items self.new.rooms.items) }
+        ensures boards { OnOk result (IsStanding self.old → IsStanding self.new) }
     {
         let path = String::from_str(alloc, note.path())?;
         let is_change = matches!(&note, Note::Changed(_, _));
@@ -111,7 +112,7 @@ impl Editor {
     /// Files that are not open may have changed: all are found again.
     pub fn look_again(&mut self)
         ensures documents { self.new.documents ≡ self.old.documents }
-        ensures boards { (documents : List ADocument) → AllStand documents self.old.rooms.items → AllStand documents self.new.rooms.items }
+        ensures boards { IsStanding self.old → IsStanding self.new }
     {
         for index in 0..self.rooms.len() {
             self.loosen(index);
@@ -136,7 +137,8 @@ impl Editor {
         disk: &D,
     ) -> Result<Vec<Published>, CheckFault>
         ensures documents { self.new.documents ≡ self.old.documents }
-        ensures boards { OnOk result (AllStand self.old.documents.all.items self.old.rooms.items → AllSettled self.old.documents.all.items self.new.rooms.items) }
+        ensures boards { OnOk result (IsStanding self.old → IsUpToDate self.new) }
+        ensures stands { OnOk result (IsStanding self.old → IsStanding self.new) }
         ensures told { IfOk result (λ all. All (IsPublished self.new.rooms.items) all.items) }
     {
         self.renew_all(alloc, disk)?;

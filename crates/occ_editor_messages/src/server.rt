@@ -1,8 +1,11 @@
 //! The server: messages are taken one by one, and what is told of files is published when it is asked for.
+ghost use Rattle.occ_editor.specs.Standing.{IsStanding, IsUpToDate};
+ghost use Rattle.std.specs.Prelude.{◌≡◌, OnOk};
+
 use super::calls::{Call, call_of};
 use super::diagnostics::published;
 use super::sending::{NO_JSON, NO_MEMBERS, NO_METHOD, NO_REQUEST, NOT_BEGUN, Sending};
-use occ_editor::Editor;
+use occ_editor::{Editor, Published};
 use occ_files::Disk;
 use occ_files_check::CheckFault;
 use occ_messages::explained;
@@ -44,7 +47,9 @@ pub struct Server<D: Disk> {
 
 impl<D: Disk + Drop> Server<D> {
     /// A server that nothing was asked for. Used and included files are looked for in these folders, too.
-    pub fn new(alloc: Global, disk: D, folders: Vec<String>) -> Server<D> {
+    pub fn new(alloc: Global, disk: D, folders: Vec<String>) -> Server<D>
+        ensures { IsStanding result.editor }
+    {
         Server {
             alloc,
             disk,
@@ -62,12 +67,16 @@ impl<D: Disk + Drop> Server<D> {
     }
 
     /// It was sent.
-    pub fn clear(&mut self) {
+    pub fn clear(&mut self)
+        ensures { self.new.editor ≡ self.old.editor }
+    {
         self.sending.clear();
     }
 
     /// What came is no message: so much is answered, once until a message comes.
-    pub fn lose(&mut self) -> Result<(), AllocError> {
+    pub fn lose(&mut self) -> Result<(), AllocError>
+        ensures { self.new.editor ≡ self.old.editor }
+    {
         if self.is_lost {
             return Ok(());
         }
@@ -79,8 +88,10 @@ impl<D: Disk + Drop> Server<D> {
         )
     }
 
-    /// Takes a message.
-    pub fn take(&mut self, message: &[u8]) -> Result<Next, CheckFault> {
+    /// Takes a message. Whatever it is, the boards stand after it.
+    pub fn take(&mut self, message: &[u8]) -> Result<Next, CheckFault>
+        ensures { OnOk result (IsStanding self.old.editor → IsStanding self.new.editor) }
+    {
         self.is_lost = false;
         match Value::from_slice(self.alloc, message) {
             Ok(value) => self.take_value(&value),
@@ -94,7 +105,9 @@ impl<D: Disk + Drop> Server<D> {
     }
 
     /// Takes a message that is JSON.
-    fn take_value(&mut self, message: &Value) -> Result<Next, CheckFault> {
+    fn take_value(&mut self, message: &Value) -> Result<Next, CheckFault>
+        ensures { OnOk result (IsStanding self.old.editor → IsStanding self.new.editor) }
+    {
         let call = call_of(self.alloc, message)?;
         if matches!(&call, Call::Exit) {
             return Ok(Next::Ends(if self.phase == Phase::Shut { 0 } else { 1 }));
@@ -109,7 +122,9 @@ impl<D: Disk + Drop> Server<D> {
     }
 
     /// Answers a request.
-    fn answer(&mut self, id: &Value, call: Call) -> Result<(), CheckFault> {
+    fn answer(&mut self, id: &Value, call: Call) -> Result<(), CheckFault>
+        ensures { OnOk result (IsStanding self.old.editor → IsStanding self.new.editor) }
+    {
         match (call, self.phase) {
             (Call::Hover(path, line), Phase::Begun) => {
                 self.publish()?;
@@ -121,7 +136,9 @@ impl<D: Disk + Drop> Server<D> {
     }
 
     /// Answers a request for which nothing is checked.
-    fn answer_plain(&mut self, id: &Value, call: Call) -> Result<(), AllocError> {
+    fn answer_plain(&mut self, id: &Value, call: Call) -> Result<(), AllocError>
+        ensures { self.new.editor ≡ self.old.editor }
+    {
         match (call, self.phase) {
             (Call::Nothing, _) => Ok(()),
             (Call::Initialize(watches), Phase::New) => {
@@ -149,7 +166,9 @@ impl<D: Disk + Drop> Server<D> {
     }
 
     /// Answers a request that may come now.
-    fn answer_begun(&mut self, id: &Value, call: Call) -> Result<(), AllocError> {
+    fn answer_begun(&mut self, id: &Value, call: Call) -> Result<(), AllocError>
+        ensures { self.new.editor ≡ self.old.editor }
+    {
         match call {
             Call::Shutdown => {
                 self.phase = Phase::Shut;
@@ -186,7 +205,9 @@ impl<D: Disk + Drop> Server<D> {
     }
 
     /// Takes a note, which is not answered.
-    fn note(&mut self, call: Call) -> Result<(), CheckFault> {
+    fn note(&mut self, call: Call) -> Result<(), CheckFault>
+        ensures { OnOk result (IsStanding self.old.editor → IsStanding self.new.editor) }
+    {
         match (call, self.phase) {
             (Call::Initialized, Phase::Begun) if self.watches => Ok(self.watch()?),
             (Call::Noted(note), Phase::Begun) => self.editor.take(self.alloc, note),
@@ -205,7 +226,9 @@ impl<D: Disk + Drop> Server<D> {
     }
 
     /// Asks the client to watch files.
-    fn watch(&mut self) -> Result<(), AllocError> {
+    fn watch(&mut self) -> Result<(), AllocError>
+        ensures { self.new.editor ≡ self.old.editor }
+    {
         let watcher = json!(in self.alloc; {"globPattern": "**/*.{occ,inc,lbb}"})?;
         let options = json!(in self.alloc; {"watchers": [&watcher]})?;
         let registration = json!(in self.alloc; {
@@ -217,10 +240,21 @@ impl<D: Disk + Drop> Server<D> {
         self.sending.request("client/registerCapability", &params)
     }
 
-    /// Publishes what is told of each file of which perhaps something else is told than before.
-    pub fn publish(&mut self) -> Result<(), CheckFault> {
+    /// Publishes what is told of each file of which perhaps something else is told than before. All boards are up to date then.
+    pub fn publish(&mut self) -> Result<(), CheckFault>
+        ensures boards { OnOk result (IsStanding self.old.editor → IsUpToDate self.new.editor) }
+        ensures stands { OnOk result (IsStanding self.old.editor → IsStanding self.new.editor) }
+    {
         let all = self.editor.publish(self.alloc, &self.disk)?;
-        for told in &all {
+        self.send_all(all.as_slice())?;
+        Ok(())
+    }
+
+    /// Sends what is told of files.
+    fn send_all(&mut self, all: &[Published]) -> Result<(), AllocError>
+        ensures { self.new.editor ≡ self.old.editor }
+    {
+        for told in all {
             let params = published(self.alloc, told)?;
             self.sending
                 .note("textDocument/publishDiagnostics", &params)?;
