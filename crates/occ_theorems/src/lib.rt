@@ -38,8 +38,8 @@ pub use program::{script_theorem, sessions_theorem};
 pub use projects::{anew_law, circular_use_law, done_law, input_law, order_law};
 pub use server::{cut_theorem, end_theorem, receipt_theorem, snapshot_theorem};
 pub use texts::{
-    expression_reading_law, expression_tree_law, extreme_end_law, form_law, lines_law, mark_law,
-    shape_law, specification_tree_law,
+    expression_reading_law, expression_tree_law, extreme_end_law, form_law, line_law, lines_law,
+    mark_law, shape_law, specification_tree_law,
 };
 pub use types::{
     equality_law, export_law, export_uses_law, interface_law, measure_law, message_law,

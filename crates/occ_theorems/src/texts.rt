@@ -12,6 +12,7 @@ ghost use Rattle.occ_forms_expressions.specs.declared.tree.Expr.{Expr as AnExpr}
 ghost use Rattle.occ_forms_expressions.specs.declared.tree.Extreme.{Extreme as AnExtreme};
 ghost use Rattle.occ_forms_expressions.specs.declared.tree.Operand.{Operand as AnOperand};
 ghost use Rattle.occ_forms_expressions.specs.declared.tree.TypeForm.{TypeForm as AType};
+ghost use Rattle.occ_forms.specs.Depth.{HasForm, HasNoForm, IsTooDeep};
 ghost use Rattle.occ_forms.specs.Spelling.{form_tokens};
 ghost use Rattle.occ_forms.specs.declared.tree.Form.{Form as AForm};
 ghost use Rattle.occ_lines.specs.Lines.{IsLines};
@@ -91,6 +92,17 @@ pub fn specification_tree_law()
 /// So each line has one form, or none.
 pub fn form_law()
     ensures { (a b : AForm) → form_tokens a ≡ form_tokens b → a ≡ b }
+{
+    occ_forms::one_form_law();
+}
+
+/// No two of these are so of a line: it has a form, it is too deep, it has none. Where neither of the first two is, the third is.
+/// So each line has its one form or its one fault, and `prepare` finds which.
+pub fn line_law()
+    ensures deep { (tokens : List AToken) (form : AForm) → HasForm tokens form → IsTooDeep tokens → ⊥ }
+    ensures none { (tokens : List AToken) (form : AForm) → HasForm tokens form → HasNoForm tokens → ⊥ }
+    ensures fault { (tokens : List AToken) → IsTooDeep tokens → HasNoForm tokens → ⊥ }
+    ensures some { (tokens : List AToken) → ((form : AForm) → HasForm tokens form → ⊥) → (IsTooDeep tokens → ⊥) → HasNoForm tokens }
 {
     occ_forms::one_form_law();
 }
