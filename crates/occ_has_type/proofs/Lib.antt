@@ -1,0 +1,3 @@
+mod Gives
+mod Literals
+mod Forms
