@@ -6,3 +6,4 @@ mod Means
 mod Outcomes
 mod Fitting
 mod Operating
+mod Reading

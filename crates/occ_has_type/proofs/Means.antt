@@ -35,10 +35,10 @@ IsGood (o.Faulty w) = ⊥
 IsGood o.Varying = Unit {0}
 IsGood (o.Constant u) = Unit {0}
 
--- what holds of what is known
+-- what holds of what is settled: it is known, or faulty
 abbrev pub Knows : (Known → Type 0) → Kind → Type 0
 Knows Q k.Faulty = Unit {0}
-Knows Q (k.Untyped f) = Unit {0}
+Knows Q (k.Untyped f) = ⊥
 Knows Q (k.Known x) = Q x
 
 -- a free one has each number's type in which it comes to something
@@ -52,7 +52,7 @@ Means free H (k.Known x) = (free ≡ false) × H x.of x.value
 
 pub knows_as : (Q R : Known → Type 0) (kind : Kind) → ((x : Known) → Q x → R x) → Knows Q kind → Knows R kind
 knows_as Q R k.Faulty make h = tt
-knows_as Q R (k.Untyped f) make h = tt
+knows_as Q R (k.Untyped f) make h = h
 knows_as Q R (k.Known x) make h = make x h
 
 pub knows_found : (Q : Known → Type 0) (kind : Kind) (x : Known) → Knows Q kind → kind ≡ k.Known x → Q x
