@@ -7,3 +7,6 @@ mod Outcomes
 mod Fitting
 mod Operating
 mod Reading
+mod Calling
+mod Written
+mod Selecting

@@ -164,7 +164,7 @@ decorated_tells (Some to) lit = kind_tells lit to (literal lit).kind (goes lit)
 abbrev IsEnd : Extreme → Known → Type 0
 IsEnd e x = x.value ≡ end_in e (number (base_of x.of))
 
-ends : (e : Extreme) (base : Primitive) → value_of base (measuring.limit_of (limit_of e) base) ≡ value_of base (end_of e base)
+pub ends : (e : Extreme) (base : Primitive) → value_of base (measuring.limit_of (limit_of e) base) ≡ value_of base (end_of e base)
 ends extreme.Greatest base = refl
 ends extreme.Least base = refl
 

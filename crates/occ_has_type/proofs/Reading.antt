@@ -193,7 +193,7 @@ settled_known s e es js (Some parts) h = joined_known s e es parts.1 (each_under
 abbrev pub TableHas : Scope → List Expr → Has
 TableHas s es of value = IsTable s es of × (value ≡ None)
 
-typed_means : (H : Has) (kind : Kind) → Knows (λ x. H x.of x.value) kind → Means false H kind
+pub typed_means : (H : Has) (kind : Kind) → Knows (λ x. H x.of x.value) kind → Means false H kind
 typed_means H k.Faulty h = tt
 typed_means H (k.Untyped f) h = absurd h
 typed_means H (k.Known x) h = (refl, h)
@@ -278,7 +278,7 @@ fit_length s (e ∷ es) of (x ∷ ks) h = ap suc (fit_length s es of ks h.1)
 abbrev pub Decorates : Scope → List Expr → OccType → Known → Type 0
 Decorates s es to x = (x.of ≡ to) × (x.value ≡ None) × IsTableOf s es to
 
-array_known : (s : Scope) (es : List Expr) (js : List Judged) (to : OccType) (parts : Option ℕ × OccType) → as_array (unnamed to) ≡ Some parts → AllRead s es js → Knows (Decorates s es to) (of_array to parts.0 parts.1 js).kind
+pub array_known : (s : Scope) (es : List Expr) (js : List Judged) (to : OccType) (parts : Option ℕ × OccType) → as_array (unnamed to) ≡ Some parts → AllRead s es js → Knows (Decorates s es to) (of_array to parts.0 parts.1 js).kind
 array_known s es js to parts is h =
     let ys = each_under true parts.1 js in
     let ks = kinds ys in
@@ -293,7 +293,7 @@ field_if : (s : Scope) (e : Expr) (f : Field) (j : Judged) (b : Bool) (x y : Fin
 field_if s e f j true x y is at h = subst (Knows (λ z. (is_unknown f.of ≡ false) × Fits f.of (HasType s e) z)) (sym at) tt
 field_if s e f j false x y is at h = knows_as (Fits f.of (HasType s e)) (λ z. (is_unknown f.of ≡ false) × Fits f.of (HasType s e) z) y.kind (λ z g. (is, g)) (h refl)
 
-fields_of : (s : Scope) (es : List Expr) (js : List Judged) (fs : List Field) → length fs ≡ length js → AllRead s es js → list_any is_faulty (kinds (field_values fs js)) ≡ false → AreFields s es fs
+pub fields_of : (s : Scope) (es : List Expr) (js : List Judged) (fs : List Field) → length fs ≡ length js → AllRead s es js → list_any is_faulty (kinds (field_values fs js)) ≡ false → AreFields s es fs
 fields_of s [] [] [] at h sound = has.no_field
 fields_of s [] [] (f ∷ fs) at h sound = absurd cc
 fields_of s [] (j ∷ js) fs at h sound = absurd h
