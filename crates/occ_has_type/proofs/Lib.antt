@@ -10,3 +10,4 @@ mod Reading
 mod Calling
 mod Written
 mod Selecting
+mod Typing

@@ -1,0 +1,379 @@
+-- What is known of each form, the relation says of it: form by form.
+use Rattle.std.proofs.Common.{◌≡◌, ◌∙◌, ◌++◌, ◌&&◌, ℕ, Bool, true, false, List, [], ◌∷◌, map, Option, Some, None, refl, ap, sym, subst}
+use Rattle.std.specs.Prelude.{pos, ◌-ℤ◌, not}
+use Rattle.occ_expr_operations.specs.Literals.{decorated_literal, literal, truth}
+use Rattle.occ_expr_operations.specs.Operations.{among, another_has_fault, applied, converted, each_among, extreme_of, in_front, negated, number_of_faulty, operation, pair, pair_operator, plain, run_operator, shift, together}
+use Rattle.occ_expr_operations.specs.Parts.{ExprView, Said, call, call_of, call_of_type, element_of_type, in_scope, named_element, no_call, only, segment_element, single, table, table_as, terms, whole_element, whole_element_of}
+use Rattle.occ_expr_operations.specs.Views.{BoundsView, BuiltinView, DimensionView, ElementView, NamedOperandView, OperandView, TypeFormView, bounds_view, builtin_view, decorated, decorated_table, digits_of, dimension_view, dimension_views, each, element_view, expr_view, expr_views, name_alone as alone_in, named_operand_view, operand_view, operand_views, operands, type_form_view}
+use Rattle.occ_expr_operations.specs.Written.{Written, array_over, array_over_more, count_type, counted_channel, data_form, primitive_of}
+use Rattle.occ_expr_operations.specs.declared.written.Opening.TheVariants as opening
+use Rattle.occ_expr_operations.proofs.Views as views
+use Rattle.occ_forms_expressions.proofs.Induction.{Every, Steps, every_element, every_expr}
+use Rattle.occ_forms_expressions.specs.declared.tree.Bounds.{Bounds}
+use Rattle.occ_forms_expressions.specs.declared.tree.Bounds.TheVariants as bv
+use Rattle.occ_forms_expressions.specs.declared.tree.Builtin.{Builtin}
+use Rattle.occ_forms_expressions.specs.declared.tree.Builtin.TheVariants as uv
+use Rattle.occ_forms_expressions.specs.declared.tree.Dimension.{Dimension}
+use Rattle.occ_forms_expressions.specs.declared.tree.Dimension.TheVariants as dv
+use Rattle.occ_forms_expressions.specs.declared.tree.Element.{Element}
+use Rattle.occ_forms_expressions.specs.declared.tree.Element.TheVariants as ev
+use Rattle.occ_forms_expressions.specs.declared.tree.Expr.{Expr}
+use Rattle.occ_forms_expressions.specs.declared.tree.Expr.TheVariants as xv
+use Rattle.occ_forms_expressions.specs.declared.tree.Extreme.{Extreme}
+use Rattle.occ_forms_expressions.specs.declared.tree.Literal.{Literal}
+use Rattle.occ_forms_expressions.specs.declared.tree.Literal.TheVariants as l
+use Rattle.occ_forms_expressions.specs.declared.tree.MonadicOperator.{MonadicOperator}
+use Rattle.occ_forms_expressions.specs.declared.tree.MonadicOperator.TheVariants as mo
+use Rattle.occ_forms_expressions.specs.declared.tree.NamedOperand.{NamedOperand}
+use Rattle.occ_forms_expressions.specs.declared.tree.NamedOperand.TheVariants as nv
+use Rattle.occ_forms_expressions.specs.declared.tree.Operand.{Operand}
+use Rattle.occ_forms_expressions.specs.declared.tree.Operand.TheVariants as ov
+use Rattle.occ_forms_expressions.specs.declared.tree.PairOperator.{PairOperator}
+use Rattle.occ_forms_expressions.specs.declared.tree.PairOperator.TheVariants as po
+use Rattle.occ_forms_expressions.specs.declared.tree.RunOperator.{RunOperator}
+use Rattle.occ_forms_expressions.specs.declared.tree.TypeForm.{TypeForm}
+use Rattle.occ_forms_expressions.specs.declared.tree.TypeForm.TheVariants as tv
+use Rattle.occ_scope.specs.Lookup.{data_type}
+use Rattle.occ_scope.specs.Visible.{visible}
+use Rattle.occ_scope.specs.declared.meaning.Meaning.{Meaning}
+use Rattle.occ_scope.specs.declared.meaning.Meaning.TheVariants as meaning
+use Rattle.occ_scope.specs.declared.scope.Scope.{Scope}
+use Rattle.occ_typing_operands.specs.Operators.{class_of, is_arithmetic, is_not, kinds}
+use Rattle.occ_typing_operands.specs.Outcomes.{decimal, fitting}
+use Rattle.occ_typing_operands.specs.Settling.{Finding, base_of, int, known}
+use Rattle.occ_typing_operands.specs.Wanting.{converts}
+use Rattle.occ_typing_operands.specs.declared.kind.Kind.{Kind}
+use Rattle.occ_typing_operands.specs.declared.kind.Kind.TheVariants as k
+use Rattle.occ_typing_operands.specs.declared.kind.Known.{Known}
+use Rattle.occ_typing_operands.specs.declared.kind.TypedValue.{TypedValue}
+use Rattle.occ_typing_operands.specs.declared.kind.TypedValue.TheVariants as o
+use Rattle.occ_typing_rules.specs.Placing.{constant_in}
+use Rattle.occ_typing_tables.specs.Measuring.{size_of_array, size_outcome, sized}
+use Rattle.occ_typing_tables.specs.Terms.{Judged, judged, judged_all}
+use Rattle.occ_typing_tables.specs.declared.term.Term.{Term}
+use Rattle.occ_typing_tables.specs.declared.term.Term.TheVariants as v
+use Rattle.occ_types.specs.Constant.{number_value}
+use Rattle.occ_types.specs.Fits.{unnamed}
+use Rattle.occ_types.specs.View.{as_array}
+use Rattle.occ_types.specs.declared.constant.Monadic.{Monadic}
+use Rattle.occ_types.specs.declared.constant.Monadic.TheVariants as m
+use Rattle.occ_types.specs.declared.constant.Operator.{Operator}
+use Rattle.occ_types.specs.declared.constant.Operator.TheVariants as op
+use Rattle.occ_types.specs.declared.interface.Formal.{Formal}
+use Rattle.occ_types.specs.declared.types.OccType.{OccType}
+use Rattle.occ_types.specs.declared.types.OccType.TheVariants as t
+use Rattle.occ_types.specs.declared.types.Protocol.TheVariants as protocol
+use Rattle.occ_types.specs.declared.value.Primitive.{Primitive}
+use Rattle.occ_types.specs.declared.value.Primitive.TheVariants as p
+use Rattle.occ_types.specs.declared.value.Value.{Value}
+use Rattle.occ_has_type.specs.Free.{are_free, is_free, is_free_named, is_free_operand, is_integer, pair_is_free, stays_free}
+use Rattle.occ_has_type.specs.Trees.{end_of, front_operator, name_alone}
+use Rattle.occ_has_type.specs.Types.{CallHasType, DecoratedHasType, ElementHasType, HasType, IsArrayOf, IsBuiltin, IsData, IsTable, IsTableOf, IsWritten, LiteralHasType, NamedHasType, OperandHasType}
+use Rattle.occ_has_type.specs.Types as has
+use Rattle.occ_has_type.specs.Values.{IsCast, IsCount}
+use Rattle.occ_has_type.proofs.Calling.{CallKnown, DecoratedKnown, MostKnown, converted_known, decorated_known, decorated_literal_known, extreme_known, function_known, literal_means, unknown_type}
+use Rattle.occ_has_type.proofs.Frees as frees
+use Rattle.occ_has_type.proofs.Gives.{Any}
+use Rattle.occ_has_type.proofs.Means.{Alone, Converts, Fits, Has, IsGood, Knows, Means, knows_as, knows_landed, means_as}
+use Rattle.occ_has_type.proofs.Operating.{AllMean, Fronts, Runs, front_means, integer_means, operated_means, shift_means}
+use Rattle.occ_has_type.proofs.Outcomes.{each_good, fitting_good}
+use Rattle.occ_has_type.proofs.Reading.{AllRead, Decorates, Reads, TableHas, single_reads, table_reads, typed_means}
+use Rattle.occ_has_type.proofs.Selecting.{BoundsRead, Element_of, ExprReads, IsNamed, OfExpr, for_reads, from_for_reads, from_reads, named_known, segment_known}
+use Rattle.occ_has_type.proofs.Written.{AllSpan, Names, Over, Spans, array_any, array_more_any, channel_any, counted_any, data_any, named_any, sized_spans}
+
+-- ---- what is shown of each form
+
+abbrev OfBounds : Bounds → Type 0
+OfBounds b = (s : Scope) → BoundsRead s b ((bounds_view b).said s).bounds
+
+abbrev OfBuiltin : Builtin → Type 0
+OfBuiltin b = (s : Scope) → Any (IsBuiltin s b) (builtin_view b s).found
+
+abbrev OfDimension : Dimension → Type 0
+OfDimension d = (s : Scope) → Spans s d (dimension_view d opening.Refused s).extent
+
+record ElementReads (e : Element) (v : ElementView) : Type 0 where
+  name : IsNamed e (λ name. ev.Named name []) v.name
+  reported : (s : Scope) → Knows (Element_of s e) (v.reported s).kind
+  whole : (s : Scope) → Knows (λ x. HasType s (xv.Alone (ov.Element e)) x.of x.value) (v.whole s).kind
+
+abbrev OfElement : Element → Type 0
+OfElement e = ElementReads e (element_view e)
+
+-- an operand that is an integer in decimal digits
+abbrev IsDigits : Operand → Option ℕ → Type 0
+IsDigits e None = Unit {0}
+IsDigits e (Some i) = e ≡ ov.Literal (l.Decimal i)
+
+record OperandReads (e : Operand) (v : OperandView) : Type 0 where
+  name : IsNamed e (λ name. ov.Element (ev.Named name [])) v.name
+  digits : IsDigits e v.digits
+  part : (s : Scope) → Reads (is_free_operand e) (OperandHasType s e) (judged (v.said s).term)
+  whole : (s : Scope) → Reads (is_free_operand e) (HasType s (xv.Alone e)) (judged (v.whole s).term)
+
+abbrev OfOperand : Operand → Type 0
+OfOperand e = OperandReads e (operand_view e)
+
+abbrev NamedReads : NamedOperand → NamedOperandView → Type 0
+NamedReads e v = (s : Scope) → Reads (is_free_named e) (NamedHasType s e) (judged (v.said s).term)
+
+abbrev OfNamed : NamedOperand → Type 0
+OfNamed e = NamedReads e (named_operand_view e)
+
+abbrev OfType : TypeForm → Type 0
+OfType ty = (s : Scope) → Any (IsWritten s ty) (type_form_view ty opening.Refused s).found
+
+-- ---- under another name
+
+reads_as : (free : Bool) (H J : Has) (j : Judged) → ((of : OccType) (value : Option Value) → H of value → J of value) → Reads free H j → Reads free J j
+reads_as free H J j make h = record {
+  by_itself = knows_as (Alone free H) (Alone free J) j.alone.kind (λ x g. (make x.of x.value g.0, g.1)) h.by_itself;
+  settles = λ to. knows_as (λ x. H x.of x.value) (λ x. J x.of x.value) (j.settled to).kind (λ x g. make x.of x.value g) (h.settles to);
+  wanted = λ to. knows_as (Fits to H) (Fits to J) (j.under to).kind (λ x g. (make x.of x.value g.0, g.1)) (h.wanted to);
+  beside = λ other. means_as free H J (j.beside other).kind make (h.beside other);
+}
+
+reads_free : (a b : Bool) (H : Has) (j : Judged) → a ≡ b → Reads b H j → Reads a H j
+reads_free a b H j is h = subst (λ (c : Bool). Reads c H j) (sym is) h
+
+-- what is no free operand
+typed_reads : (free : Bool) (J : Has) (kind : Kind) → free ≡ false → Knows (λ x. J x.of x.value) kind → Reads free J (judged (v.Single kind))
+typed_reads free J kind is h = reads_free free false J (judged (v.Single kind)) is (single_reads false J kind (typed_means J kind h))
+
+means_reads : (free other : Bool) (J : Has) (kind : Kind) → free ≡ other → Means other J kind → Reads free J (judged (v.Single kind))
+means_reads free other J kind is h = reads_free free other J (judged (v.Single kind)) is (single_reads other J kind h)
+
+alone_reads : (s : Scope) (e : Operand) (j : Judged) → Reads (is_free_operand e) (OperandHasType s e) j → Reads (is_free_operand e) (HasType s (xv.Alone e)) j
+alone_reads s e j h = reads_as (is_free_operand e) (OperandHasType s e) (HasType s (xv.Alone e)) j (λ of value g. has.operand e of value g) h
+
+any_as : {X : Type 0} (P Q : X → Type 0) (x : Option X) → ((y : X) → P y → Q y) → Any P x → Any Q x
+any_as P Q None make h = tt
+any_as P Q (Some y) make h = make y h
+
+-- ---- lists
+
+all_spans : (s : Scope) (ds : List Dimension) → Every OfDimension ds → AllSpan s ds (each opening.Refused s (dimension_views ds))
+all_spans s [] h = tt
+all_spans s (d ∷ ds) h = (h.0 s, all_spans s ds h.1)
+
+all_read : (s : Scope) (es : List Expr) → Every OfExpr es → AllRead s es (judged_all (terms (in_scope s (expr_views es))))
+all_read s [] h = tt
+all_read s (e ∷ es) h = (h.0.reads s, all_read s es h.1)
+
+all_mean : (s : Scope) (n : ℕ) (es : List Operand) → Every OfOperand es → AllMean s es (kinds (each_among n (judged_all (terms (operands s (operand_views es))))))
+all_mean s n [] h = tt
+all_mean s n (e ∷ es) h = ((h.0.part s).beside (another_has_fault n (judged ((operand_view e).said s).term)), all_mean s n es h.1)
+
+-- ---- conversions
+
+conversion_known : (to : Option OccType) (P : OccType → Type 0) (free : Bool) (H J : Has) (j : Judged) → Any P to → Reads free H j
+    → ((of : OccType) (from : OccType) (inner value : Option Value) → P of → H from inner → has.IsAlone free from → converts of from ≡ true → IsCast (base_of of) inner value → J of value)
+    → Knows (λ x. J x.of x.value) (converted to j).kind
+conversion_known None P free H J j h g make = unknown_type (λ x. J x.of x.value) j
+conversion_known (Some to) P free H J j h g make =
+    knows_as (Converts to free H) (λ x. J x.of x.value) (converted (Some to) j).kind
+    (λ x c. subst (λ (of : OccType). J of x.value) (sym c.0) (make to c.1 c.2 x.value h c.3 c.4 c.5 c.6)) (converted_known to free H j g)
+
+-- ---- `n [e]`, of a data type
+
+one_converted : (s : Scope) (name : List ℕ) (e : Expr) (to : Option OccType) → visible s name ≡ Some (meaning.Type to) → OfExpr e
+    → Knows (λ x. HasType s (xv.Alone (ov.Element (ev.Named name (e ∷ [])))) x.of x.value) (converted to (judged (table ((expr_view e).said s ∷ [])).term)).kind
+one_converted s name e to is h =
+    conversion_known to (λ of. to ≡ Some of) false (TableHas s (e ∷ [])) (HasType s (xv.Alone (ov.Element (ev.Named name (e ∷ []))))) (judged (table ((expr_view e).said s ∷ [])).term)
+    (itself to) (table_reads s e [] (((expr_view e).said s).term ∷ []) (h.reads s, tt))
+    (λ of from inner value at g a c i. has.table_converted name e of from value (is ∙ ap (λ (z : Option OccType). Some (meaning.Type z)) at) g.0 c (subst (λ (z : Option Value). IsCast (base_of of) z value) g.1 i))
+  where
+    itself : (o : Option OccType) → Any (λ of. o ≡ Some of) o
+    itself None = tt
+    itself (Some of) = refl
+
+as_element : (s : Scope) (e : Element) (kind : Kind) → Knows (Element_of s e) kind → Knows (λ x. HasType s (xv.Alone (ov.Element e)) x.of x.value) kind
+as_element s e kind h = knows_as (Element_of s e) (λ x. HasType s (xv.Alone (ov.Element e)) x.of x.value) kind (λ x g. has.operand (ov.Element e) x.of x.value (has.element e x.of x.value g)) h
+
+type_known : (s : Scope) (name : List ℕ) (es : List Expr) (to : Option OccType) → visible s name ≡ Some (meaning.Type to) → Every OfExpr es
+    → Knows (λ x. HasType s (xv.Alone (ov.Element (ev.Named name es))) x.of x.value) (element_of_type s name (expr_views es) to (only (expr_views es))).kind
+type_known s name [] to is h = as_element s (ev.Named name []) (named_element s name []).kind (named_known s name [] h)
+type_known s name (e ∷ []) to is h = one_converted s name e to is h.0
+type_known s name (e ∷ f ∷ es) to is h = as_element s (ev.Named name (e ∷ f ∷ es)) (named_element s name (expr_views (e ∷ f ∷ es))).kind (named_known s name (e ∷ f ∷ es) h)
+
+whole_known : (s : Scope) (name : List ℕ) (es : List Expr) (found : Option Meaning) → visible s name ≡ found → Every OfExpr es
+    → Knows (λ x. HasType s (xv.Alone (ov.Element (ev.Named name es))) x.of x.value) (whole_element_of s name (expr_views es) found).kind
+whole_known s name es None is h = as_element s (ev.Named name es) (named_element s name (expr_views es)).kind (named_known s name es h)
+whole_known s name es (Some meaning.Faulty) is h = as_element s (ev.Named name es) (named_element s name (expr_views es)).kind (named_known s name es h)
+whole_known s name es (Some (meaning.Type to)) is h = type_known s name es to is h
+whole_known s name es (Some (meaning.Protocol c)) is h = as_element s (ev.Named name es) (named_element s name (expr_views es)).kind (named_known s name es h)
+whole_known s name es (Some (meaning.Procedure fs)) is h = as_element s (ev.Named name es) (named_element s name (expr_views es)).kind (named_known s name es h)
+whole_known s name es (Some (meaning.Function fs results)) is h = as_element s (ev.Named name es) (named_element s name (expr_views es)).kind (named_known s name es h)
+whole_known s name es (Some (meaning.Element w)) is h = as_element s (ev.Named name es) (named_element s name (expr_views es)).kind (named_known s name es h)
+
+whole_element_known : (s : Scope) (name : List ℕ) (es : List Expr) → Every OfExpr es → Knows (λ x. HasType s (xv.Alone (ov.Element (ev.Named name es))) x.of x.value) (whole_element s name (expr_views es)).kind
+unfolding whole_element
+whole_element_known s name es h = whole_known s name es (visible s name) refl h
+
+name_if_alone : (name : List ℕ) (es : List Expr) → IsNamed (ev.Named name es) (λ name. ev.Named name []) (alone_in name (expr_views es))
+name_if_alone name [] = refl
+name_if_alone name (e ∷ es) = tt
+
+name_through : (e : Operand) (name : Option (List ℕ)) → IsNamed e (λ name. ov.Element (ev.Named name [])) name → IsNamed (xv.Alone e) name_alone name
+name_through e None h = tt
+name_through e (Some name) h = ap xv.Alone h
+
+element_through : (e : Element) (name : Option (List ℕ)) → IsNamed e (λ name. ev.Named name []) name → IsNamed (ov.Element e) (λ name. ov.Element (ev.Named name [])) name
+element_through e None h = tt
+element_through e (Some name) h = ap ov.Element h
+
+digits_is : (lit : Literal) → IsDigits (ov.Literal lit) (digits_of lit)
+digits_is (l.Decimal i) = refl
+digits_is (l.Hexadecimal i) = tt
+digits_is (l.Character b) = tt
+digits_is (l.String bytes) = tt
+
+-- ---- calls
+
+none_called : (s : Scope) (name : List ℕ) (es : List ExprView) (Q : Known → Type 0) → Knows Q (no_call s name es).kind
+unfolding no_call
+none_called s name es Q = tt
+
+type_call : (s : Scope) (name : List ℕ) (es : List Expr) (to : Option OccType) → visible s name ≡ Some (meaning.Type to) → Every OfExpr es
+    → Knows (λ x. CallHasType s name es x.of x.value) (call_of_type s name (expr_views es) to (only (expr_views es))).kind
+type_call s name [] to is h = none_called s name [] (λ x. CallHasType s name [] x.of x.value)
+type_call s name (e ∷ []) to is h =
+    conversion_known to (λ of. to ≡ Some of) (is_free e) (HasType s e) (CallHasType s name (e ∷ [])) (judged ((expr_view e).said s).term) (itself to) (h.0.reads s)
+    (λ of from inner value at g a c i. has.conversion name e of from inner value (is ∙ ap (λ (z : Option OccType). Some (meaning.Type z)) at) g a c i)
+  where
+    itself : (o : Option OccType) → Any (λ of. o ≡ Some of) o
+    itself None = tt
+    itself (Some of) = refl
+type_call s name (e ∷ f ∷ es) to is h = none_called s name (expr_views (e ∷ f ∷ es)) (λ x. CallHasType s name (e ∷ f ∷ es) x.of x.value)
+
+call_known_of : (s : Scope) (name : List ℕ) (es : List Expr) (found : Option Meaning) → visible s name ≡ found → Every OfExpr es
+    → Knows (λ x. CallHasType s name es x.of x.value) (call_of s name (expr_views es) found).kind
+call_known_of s name es None is h = none_called s name (expr_views es) (λ x. CallHasType s name es x.of x.value)
+call_known_of s name es (Some meaning.Faulty) is h = none_called s name (expr_views es) (λ x. CallHasType s name es x.of x.value)
+call_known_of s name es (Some (meaning.Type to)) is h = type_call s name es to is h
+call_known_of s name es (Some (meaning.Protocol c)) is h = none_called s name (expr_views es) (λ x. CallHasType s name es x.of x.value)
+call_known_of s name es (Some (meaning.Procedure fs)) is h = none_called s name (expr_views es) (λ x. CallHasType s name es x.of x.value)
+call_known_of s name es (Some (meaning.Function formals results)) is h =
+    let kind = (call_of s name (expr_views es) (Some (meaning.Function formals results))).kind in
+    knows_as (CallKnown s es formals results) (λ x. CallHasType s name es x.of x.value) kind
+    (λ x c. subst (CallHasType s name es x.of) (sym c.1) (has.function name es formals x.of (is ∙ ap (λ (z : List OccType). Some (meaning.Function formals z)) c.0) c.2))
+    (function_known s es formals results (in_scope s (expr_views es)) (all_read s es h))
+call_known_of s name es (Some (meaning.Element w)) is h = none_called s name (expr_views es) (λ x. CallHasType s name es x.of x.value)
+
+call_known : (s : Scope) (name : List ℕ) (es : List Expr) → Every OfExpr es → Knows (λ x. CallHasType s name es x.of x.value) (call s name (expr_views es)).kind
+unfolding call
+call_known s name es h = call_known_of s name es (visible s name) refl h
+
+-- ---- operators
+
+true_last : (b : Bool) → (b && true) ≡ b
+true_last true = refl
+true_last false = refl
+
+run_means : (s : Scope) (operator : RunOperator) (a b : Operand) (es : List Operand) → Every OfOperand (a ∷ b ∷ es)
+    → Means (is_arithmetic (class_of (run_operator operator)) && are_free (a ∷ b ∷ es)) (HasType s (xv.Run operator a b es)) (operation (run_operator operator) (judged_all (terms (operands s (operand_views (a ∷ b ∷ es)))))).kind
+unfolding operation
+run_means s operator a b es h =
+    let js = judged_all (terms (operands s (operand_views (a ∷ b ∷ es)))) in
+    operated_means s (run_operator operator) a (b ∷ es) (kinds (each_among (number_of_faulty js) js)) (HasType s (xv.Run operator a b es))
+    (λ of values value g al c r. has.run operator a b es of values value g al c r) (all_mean s (number_of_faulty js) (a ∷ b ∷ es) h)
+
+pair_means : (s : Scope) (a b : Operand) (operator : PairOperator) → OfOperand a → OfOperand b
+    → Means (pair_is_free operator (is_free_operand a) (is_free_operand b)) (HasType s (xv.Pair a operator b)) (pair operator (judged ((operand_view a).said s).term) (judged ((operand_view b).said s).term)).kind
+unfolding pair operation plain
+pair_means s a b po.ShiftLeft h g =
+    shift_means op.ShiftLeft (is_free_operand a) (is_free_operand b) (OperandHasType s a) (OperandHasType s b) (HasType s (xv.Pair a po.ShiftLeft b)) ((judged ((operand_view a).said s).term).beside false).kind ((judged ((operand_view b).said s).term).beside false).kind
+    (λ of by left count value x n y i z. has.shift a po.ShiftLeft b op.ShiftLeft of by left count value refl x n y i z) ((h.part s).beside false) ((g.part s).beside false)
+pair_means s a b po.ShiftRight h g =
+    shift_means op.ShiftRight (is_free_operand a) (is_free_operand b) (OperandHasType s a) (OperandHasType s b) (HasType s (xv.Pair a po.ShiftRight b)) ((judged ((operand_view a).said s).term).beside false).kind ((judged ((operand_view b).said s).term).beside false).kind
+    (λ of by left count value x n y i z. has.shift a po.ShiftRight b op.ShiftRight of by left count value refl x n y i z) ((h.part s).beside false) ((g.part s).beside false)
+pair_means s a b operator h g =
+    let js = judged_all (terms (operands s (operand_views (a ∷ b ∷ [])))) in
+    let J = HasType s (xv.Pair a operator b) in
+    let kind = (operation (pair_operator operator) js).kind in
+    subst (λ (z : Bool). Means (is_arithmetic (class_of (pair_operator operator)) && (is_free_operand a && z)) J kind) (true_last (is_free_operand b))
+    (operated_means s (pair_operator operator) a (b ∷ []) (kinds (each_among (number_of_faulty js) js)) J (λ of values value i al c r. has.pair a operator b of values value refl i al c r)
+    (all_mean s (number_of_faulty js) (a ∷ b ∷ []) (h, (g, tt))))
+
+front_of : (s : Scope) (e : Operand) (operator : MonadicOperator) (means : Monadic) (j : Judged) → front_operator operator ≡ Some means → Reads (is_free_operand e) (OperandHasType s e) j
+    → Means (not (is_not means) && is_free_operand e) (HasType s (xv.Applied operator e)) (in_front means j).kind
+unfolding plain
+front_of s e operator means j is h =
+    front_means means (is_free_operand e) (OperandHasType s e) (HasType s (xv.Applied operator e)) (j.beside false).kind (λ of a value g tk i. has.front operator means e of a value is g tk i) (h.beside false)
+
+negated_means : (s : Scope) (e : Operand) (digits : Option ℕ) (j : Judged) → IsDigits e digits → Reads (is_free_operand e) (OperandHasType s e) j
+    → Means (is_free_operand e) (HasType s (xv.Applied mo.Negate e)) (negated digits j).kind
+negated_means s e None j is h = front_of s e mo.Negate m.Negate j refl h
+negated_means s e (Some i) j is h = (
+  ap is_free_operand is ∙ frees.literal (l.Decimal i),
+  integer_means (HasType s (xv.Applied mo.Negate e)) (decimal (pos 0 -ℤ pos i)) (λ base. number_value base (pos 0 -ℤ pos i)) (λ base good. each_good false (λ x. fitting (number_value x (pos 0 -ℤ pos i))) base good)
+      (λ of base value n at. subst (λ (z : Operand). HasType s (xv.Applied mo.Negate z) of (Some value)) (sym is) (has.negative i of base value n at)),
+)
+
+count_good : (n : Option ℕ) → IsGood (size_outcome n) → IsCount n (constant_in (size_outcome n))
+count_good None h = refl
+count_good (Some n) h = let x = fitting_good (number_value p.Int (pos n)) h in (x.value, x.is, x.shown)
+
+size_known : (s : Scope) (e : Operand) (kind : Kind) → Knows (λ x. OperandHasType s e x.of x.value) kind → Knows (λ x. HasType s (xv.Applied mo.Size e) x.of x.value) (sized kind).kind
+size_known s e k.Faulty h = tt
+size_known s e (k.Untyped f) h = absurd h
+size_known s e (k.Known x) h = by (as_array (unnamed x.of)) refl where
+  by : (parts : Option (Option ℕ × OccType)) → as_array (unnamed x.of) ≡ parts → Knows (λ y. HasType s (xv.Applied mo.Size e) y.of y.value) (size_of_array parts).kind
+  by None is = tt
+  by (Some parts) is = knows_landed (λ y. HasType s (xv.Applied mo.Size e) y.of y.value) int (size_outcome parts.0) (λ good. has.size e x.of x.value (constant_in (size_outcome parts.0)) parts h is (count_good parts.0 good))
+
+applied_means : (s : Scope) (e : Operand) (operator : MonadicOperator) (digits : Option ℕ) (j : Judged) → IsDigits e digits → Reads (is_free_operand e) (OperandHasType s e) j
+    → Means (stays_free operator && is_free_operand e) (HasType s (xv.Applied operator e)) (applied operator digits j).kind
+unfolding applied
+applied_means s e mo.Negate digits j is h = negated_means s e digits j is h
+applied_means s e mo.Minus digits j is h = front_of s e mo.Minus m.Minus j refl h
+applied_means s e mo.BitNot digits j is h = front_of s e mo.BitNot m.BitNot j refl h
+applied_means s e mo.BitNotWord digits j is h = front_of s e mo.BitNotWord m.BitNot j refl h
+applied_means s e mo.Not digits j is h = front_of s e mo.Not m.Not j refl h
+applied_means s e mo.Size digits j is h =
+    typed_means (HasType s (xv.Applied mo.Size e)) (sized j.alone.kind).kind
+    (size_known s e j.alone.kind (knows_as (Alone (is_free_operand e) (OperandHasType s e)) (λ x. OperandHasType s e x.of x.value) j.alone.kind (λ x g. g.0) h.by_itself))
+
+-- ---- what has a type after it
+
+typed_table : (s : Scope) (e : Expr) (es : List Expr) (ty : TypeForm) (J : Has) → OfType ty → Every OfExpr (e ∷ es) → ((to : OccType) → IsWritten s ty to → IsTableOf s (e ∷ es) to → J to None)
+    → Knows (λ x. J x.of x.value) (decorated_table s (expr_views (e ∷ es)) (type_form_view ty)).kind
+unfolding table_as
+typed_table s e es ty J h g make = by (type_form_view ty opening.Refused s).found (h s) where
+  by : (to : Option OccType) → Any (IsWritten s ty) to → Knows (λ x. J x.of x.value) (table_as to (terms (in_scope s (expr_views (e ∷ es))))).kind
+  by None i = tt
+  by (Some to) i =
+      knows_as (Decorates s (e ∷ es) to) (λ x. J x.of x.value) (table_as (Some to) (terms (in_scope s (expr_views (e ∷ es))))).kind
+      (λ x c. subst (λ (of : OccType). J of x.value) (sym c.0) (subst (J to) (sym c.1) (make to i c.2))) (decorated_known s (e ∷ es) (terms (in_scope s (expr_views (e ∷ es)))) to (all_read s (e ∷ es) g))
+
+typed_literal : (s : Scope) (lit : Literal) (ty : TypeForm) (J : Has) → OfType ty → ((to of : OccType) (value : Option Value) → IsWritten s ty to → DecoratedHasType lit to of value → J of value)
+    → Knows (λ x. J x.of x.value) (decorated (type_form_view ty opening.Refused s) lit).kind
+unfolding decorated_literal
+typed_literal s lit ty J h make = by (type_form_view ty opening.Refused s).found (h s) where
+  by : (to : Option OccType) → Any (IsWritten s ty) to → Knows (λ x. J x.of x.value) (decorated_literal to lit).kind
+  by None i = tt
+  by (Some to) i = knows_as (DecoratedKnown lit to) (λ x. J x.of x.value) (decorated_literal (Some to) lit).kind (λ x c. make to x.of x.value i c) (decorated_literal_known lit to)
+
+most_reads : (s : Scope) (end : Extreme) (ty : TypeForm) → OfType ty → Knows (λ x. HasType s (xv.Most end ty) x.of x.value) (extreme_of end (type_form_view ty opening.Refused s).found).kind
+unfolding extreme_of
+most_reads s end ty h = by (type_form_view ty opening.Refused s).found (h s) where
+  by : (to : Option OccType) → Any (IsWritten s ty) to → Knows (λ x. HasType s (xv.Most end ty) x.of x.value) (extreme_of end to).kind
+  by None i = tt
+  by (Some to) i =
+      knows_as (MostKnown end to) (λ x. HasType s (xv.Most end ty) x.of x.value) (extreme_of end (Some to)).kind
+      (λ x c. subst (λ (of : OccType). HasType s (xv.Most end ty) of x.value) (sym c.0) (subst (HasType s (xv.Most end ty) to) (sym c.3) (has.most end ty to c.1 i c.2))) (extreme_known end to)
+
+-- an operand that is the same as a whole expression
+either : (e : Operand) (w : OperandView) → w.name ≡ None → IsDigits e w.digits → ((s : Scope) → w.whole s ≡ w.said s) → ((s : Scope) → Reads (is_free_operand e) (OperandHasType s e) (judged (w.said s).term)) → OperandReads e w
+either e w is at same h = record {
+  name = subst (IsNamed e (λ name. ov.Element (ev.Named name []))) (sym is) tt;
+  digits = at;
+  part = h;
+  whole = λ s. subst (λ (x : Said). Reads (is_free_operand e) (HasType s (xv.Alone e)) (judged x.term)) (sym (same s)) (alone_reads s e (judged (w.said s).term) (h s));
+}
+
+table_item : (s : Scope) (e : Expr) (es : List Expr) (free : Bool) (J : Has) → free ≡ false → Every OfExpr (e ∷ es) → ((of : OccType) → IsTable s (e ∷ es) of → J of None)
+    → Reads free J (judged (table (in_scope s (expr_views (e ∷ es)))).term)
+table_item s e es free J is h make =
+    let j = judged (table (in_scope s (expr_views (e ∷ es)))).term in
+    reads_free free false J j is (reads_as false (TableHas s (e ∷ es)) J j (λ of value g. subst (J of) (sym g.1) (make of g.0)) (table_reads s e es (terms (in_scope s (expr_views (e ∷ es)))) (all_read s (e ∷ es) h)))
