@@ -92,12 +92,12 @@ OfBuiltin b = (s : Scope) → Any (IsBuiltin s b) (builtin_view b s).found
 abbrev OfDimension : Dimension → Type 0
 OfDimension d = (s : Scope) → Spans s d (dimension_view d opening.Refused s).extent
 
-record ElementReads (e : Element) (v : ElementView) : Type 0 where
-  name : IsNamed e (λ name. ev.Named name []) v.name
-  reported : (s : Scope) → Knows (Element_of s e) (v.reported s).kind
-  whole : (s : Scope) → Knows (λ x. HasType s (xv.Alone (ov.Element e)) x.of x.value) (v.whole s).kind
+pub record ElementReads (e : Element) (v : ElementView) : Type 0 where
+  pub name : IsNamed e (λ name. ev.Named name []) v.name
+  pub reported : (s : Scope) → Knows (Element_of s e) (v.reported s).kind
+  pub whole : (s : Scope) → Knows (λ x. HasType s (xv.Alone (ov.Element e)) x.of x.value) (v.whole s).kind
 
-abbrev OfElement : Element → Type 0
+abbrev pub OfElement : Element → Type 0
 OfElement e = ElementReads e (element_view e)
 
 -- an operand that is an integer in decimal digits
@@ -377,3 +377,132 @@ table_item : (s : Scope) (e : Expr) (es : List Expr) (free : Bool) (J : Has) →
 table_item s e es free J is h make =
     let j = judged (table (in_scope s (expr_views (e ∷ es)))).term in
     reads_free free false J j is (reads_as false (TableHas s (e ∷ es)) J j (λ of value g. subst (J of) (sym g.1) (make of g.0)) (table_reads s e es (terms (in_scope s (expr_views (e ∷ es)))) (all_read s (e ∷ es) h)))
+
+-- ---- all forms
+
+steps : Steps OfBounds OfBuiltin OfDimension OfElement OfExpr OfNamed OfOperand OfType
+steps = record {
+  bounds_from = λ e h s. subst (λ (w : BoundsView). BoundsRead s (bv.From e) (w.said s).bounds) (sym (views.bounds_from e)) (from_reads s e ((expr_view e).said s) (h.reads s));
+  bounds_for = λ e h s. subst (λ (w : BoundsView). BoundsRead s (bv.For e) (w.said s).bounds) (sym (views.bounds_for e)) (for_reads s e ((expr_view e).said s) (h.reads s));
+  bounds_from_for = λ e f h g s. subst (λ (w : BoundsView). BoundsRead s (bv.FromFor e f) (w.said s).bounds) (sym (views.bounds_from_for e f))
+      (from_for_reads s e f ((expr_view e).said s) ((expr_view f).said s) (h.reads s) (g.reads s));
+  builtin_primitive = λ w s. subst (λ (u : BuiltinView). Any (IsBuiltin s (uv.Primitive w)) (u s).found) (sym (views.builtin_primitive w)) (has.primitive w);
+  builtin_timer = λ s. subst (λ (u : BuiltinView). Any (IsBuiltin s uv.Timer) (u s).found) (sym views.builtin_timer) has.timer;
+  builtin_any_channel = λ w s. subst (λ (u : BuiltinView). Any (IsBuiltin s (uv.AnyChannel w)) (u s).found) (sym (views.builtin_any_channel w)) (has.any_channel w);
+  builtin_channel = λ w ds b h s. subst (λ (u : BuiltinView). Any (IsBuiltin s (uv.Channel w ds b)) (u s).found) (sym (views.builtin_channel w ds b))
+      (channel_any s w ds (each opening.Refused s (dimension_views ds)) b (all_spans s ds h));
+  builtin_counted = λ w ds b es other h g s. subst (λ (u : BuiltinView). Any (IsBuiltin s (uv.Counted w ds b es other)) (u s).found) (sym (views.builtin_counted w ds b es other))
+      (counted_any s w ds es b other (data_form s (each opening.Refused s (dimension_views ds)) b).found (data_form s (each opening.Refused s (dimension_views es)) other).found
+      (data_any s ds (each opening.Refused s (dimension_views ds)) b (all_spans s ds h)) (data_any s es (each opening.Refused s (dimension_views es)) other (all_spans s es g)));
+  dimension_open = λ s. subst (λ (w : DimensionView). Spans s dv.Open (w opening.Refused s).extent) (sym views.dimension_open) tt;
+  dimension_sized = λ e h s. subst (λ (w : DimensionView). Spans s (dv.Sized e) (w opening.Refused s).extent) (sym (views.dimension_sized e)) (sized_spans s e ((expr_view e).said s) (h.reads s));
+  element_named = λ n es h. subst (ElementReads (ev.Named n es)) (sym (views.element_named n es))
+      (record { name = name_if_alone n es; reported = λ s. named_known s n es h; whole = λ s. whole_element_known s n es h });
+  element_segment = λ e b es h g i. subst (ElementReads (ev.Segment e b es)) (sym (views.element_segment e b es))
+      (record {
+        name = tt;
+        reported = λ s. segment_known s e b es ((element_view e).reported s) ((bounds_view b).said s) (h.reported s) (g s) i;
+        whole = λ s. as_element s (ev.Segment e b es) _ (segment_known s e b es ((element_view e).reported s) ((bounds_view b).said s) (h.reported s) (g s) i);
+      });
+  expr_alone = λ e h. subst (ExprReads (xv.Alone e)) (sym (views.expr_alone e))
+      (record { name = name_through e (operand_view e).name h.name; reads = λ s. reads_free (is_free (xv.Alone e)) (is_free_operand e) (HasType s (xv.Alone e)) (judged ((operand_view e).whole s).term) (frees.alone e) (h.whole s) });
+  expr_run = λ operator a b es h g i. subst (ExprReads (xv.Run operator a b es)) (sym (views.expr_run operator a b es))
+      (record { name = tt; reads = λ s. means_reads (is_free (xv.Run operator a b es)) _ (HasType s (xv.Run operator a b es)) _ (frees.run operator a b es) (run_means s operator a b es (h, (g, i))) });
+  expr_pair = λ a operator b h g. subst (ExprReads (xv.Pair a operator b)) (sym (views.expr_pair a operator b))
+      (record { name = tt; reads = λ s. means_reads (is_free (xv.Pair a operator b)) _ (HasType s (xv.Pair a operator b)) _ (frees.pair a operator b) (pair_means s a b operator h g) });
+  expr_applied = λ operator e h. subst (ExprReads (xv.Applied operator e)) (sym (views.expr_applied operator e))
+      (record {
+        name = tt;
+        reads = λ s. means_reads (is_free (xv.Applied operator e)) _ (HasType s (xv.Applied operator e)) _ (frees.applied operator e) (applied_means s e operator (operand_view e).digits (judged ((operand_view e).said s).term) h.digits (h.part s));
+      });
+  expr_converted = λ ds b e h g i. subst (ExprReads (xv.Converted ds b e)) (sym (views.expr_converted ds b e))
+      (record {
+        name = tt;
+        reads = λ s. typed_reads (is_free (xv.Converted ds b e)) (HasType s (xv.Converted ds b e)) _ (frees.converted ds b e)
+            (conversion_known (array_over (each opening.Refused s (dimension_views ds)) (builtin_view b s)).found (Over s ds (IsBuiltin s b)) (is_free_operand e) (OperandHasType s e) (HasType s (xv.Converted ds b e)) (judged ((operand_view e).said s).term)
+            (array_any s ds (each opening.Refused s (dimension_views ds)) (IsBuiltin s b) (builtin_view b s) (all_spans s ds h) (g s)) (i.part s)
+            (λ of from inner value w j a c k. has.converted ds b e w.0 of from inner value w.1 w.2 j a c k));
+      });
+  expr_array_converted = λ d ds n e h g i. subst (ExprReads (xv.ArrayConverted d ds n e)) (sym (views.expr_array_converted d ds n e))
+      (record {
+        name = tt;
+        reads = λ s. typed_reads (is_free (xv.ArrayConverted d ds n e)) (HasType s (xv.ArrayConverted d ds n e)) _ (frees.array_converted d ds n e)
+            (conversion_known (array_over_more (dimension_view d opening.Refused s) (each opening.Refused s (dimension_views ds)) (data_type n (visible s n))).found (Over s (d ∷ ds) (Names s n)) (is_free_operand e) (OperandHasType s e)
+            (HasType s (xv.ArrayConverted d ds n e)) (judged ((operand_view e).said s).term)
+            (array_more_any s d ds (dimension_view d opening.Refused s) (each opening.Refused s (dimension_views ds)) (Names s n) (data_type n (visible s n)) (h s) (all_spans s ds g) (named_any s n)) (i.part s)
+            (λ of from inner value w j a c k. has.array_converted d ds n e w.0 of from inner value w.1 w.2 j a c k));
+      });
+  expr_named = λ n e h. subst (ExprReads (xv.Named n e)) (sym (views.expr_named n e))
+      (record {
+        name = tt;
+        reads = λ s. typed_reads (is_free (xv.Named n e)) (HasType s (xv.Named n e)) _ (frees.named_converted n e)
+            (conversion_known (array_over [] (data_type n (visible s n))).found (Over s [] (Names s n)) (is_free_named e) (NamedHasType s e) (HasType s (xv.Named n e)) (judged ((named_operand_view e).said s).term)
+            (array_any s [] [] (Names s n) (data_type n (visible s n)) tt (named_any s n)) (h s) (λ of from inner value w j a c k. has.named_converted n e w.0 of from inner value w.1 w.2 j a c k));
+      });
+  expr_most = λ end ty h. subst (ExprReads (xv.Most end ty)) (sym (views.expr_most end ty))
+      (record { name = tt; reads = λ s. typed_reads (is_free (xv.Most end ty)) (HasType s (xv.Most end ty)) _ (frees.most end ty) (most_reads s end ty h) });
+  named_operand_element = λ e h. subst (NamedReads (nv.Element e)) (sym (views.named_operand_element e))
+      (λ s. typed_reads (is_free_named (nv.Element e)) (NamedHasType s (nv.Element e)) _ (frees.named_element e)
+      (knows_as (Element_of s e) (λ x. NamedHasType s (nv.Element e) x.of x.value) ((element_view e).reported s).kind (λ x g. has.named_element e x.of x.value g) (h.reported s)));
+  named_operand_literal = λ lit. subst (NamedReads (nv.Literal lit)) (sym (views.named_operand_literal lit))
+      (λ s. means_reads (is_free_named (nv.Literal lit)) (is_integer lit) (NamedHasType s (nv.Literal lit)) (literal lit).kind (frees.named_literal lit)
+      (means_as (is_integer lit) (LiteralHasType lit) (NamedHasType s (nv.Literal lit)) (literal lit).kind (λ of value g. has.named_literal lit of value g) (literal_means lit)));
+  named_operand_decorated = λ lit ty h. subst (NamedReads (nv.Decorated lit ty)) (sym (views.named_operand_decorated lit ty))
+      (λ s. typed_reads (is_free_named (nv.Decorated lit ty)) (NamedHasType s (nv.Decorated lit ty)) _ (frees.named_decorated lit ty)
+      (typed_literal s lit ty (NamedHasType s (nv.Decorated lit ty)) h (λ to of value w g. has.named_decorated lit ty to of value w g)));
+  named_operand_truth = λ b. subst (NamedReads (nv.Truth b)) (sym (views.named_operand_truth b))
+      (λ s. typed_reads (is_free_named (nv.Truth b)) (NamedHasType s (nv.Truth b)) _ (frees.named_truth b) (has.named_truth b));
+  named_operand_table = λ e f es h g i. subst (NamedReads (nv.Table e f es)) (sym (views.named_operand_table e f es))
+      (λ s. table_item s e (f ∷ es) (is_free_named (nv.Table e f es)) (NamedHasType s (nv.Table e f es)) (frees.named_table e f es) (h, (g, i)) (λ of w. has.named_table e f es of w));
+  named_operand_decorated_table = λ e es ty h g i. subst (NamedReads (nv.DecoratedTable e es ty)) (sym (views.named_operand_decorated_table e es ty))
+      (λ s. typed_reads (is_free_named (nv.DecoratedTable e es ty)) (NamedHasType s (nv.DecoratedTable e es ty)) _ (frees.named_decorated_table e es ty)
+      (typed_table s e es ty (NamedHasType s (nv.DecoratedTable e es ty)) i (h, g) (λ to w j. has.named_decorated_table e es ty to w j)));
+  named_operand_call = λ n es h. subst (NamedReads (nv.Call n es)) (sym (views.named_operand_call n es))
+      (λ s. typed_reads (is_free_named (nv.Call n es)) (NamedHasType s (nv.Call n es)) _ (frees.named_call n es)
+      (knows_as (λ x. CallHasType s n es x.of x.value) (λ x. NamedHasType s (nv.Call n es) x.of x.value) (call s n (expr_views es)).kind (λ x g. has.named_call n es x.of x.value g) (call_known s n es h)));
+  operand_element = λ e h. subst (OperandReads (ov.Element e)) (sym (views.operand_element e))
+      (record {
+        name = element_through e (element_view e).name h.name;
+        digits = tt;
+        part = λ s. typed_reads (is_free_operand (ov.Element e)) (OperandHasType s (ov.Element e)) _ (frees.element e)
+            (knows_as (Element_of s e) (λ x. OperandHasType s (ov.Element e) x.of x.value) ((element_view e).reported s).kind (λ x g. has.element e x.of x.value g) (h.reported s));
+        whole = λ s. typed_reads (is_free_operand (ov.Element e)) (HasType s (xv.Alone (ov.Element e))) _ (frees.element e) (h.whole s);
+      });
+  operand_literal = λ lit. subst (OperandReads (ov.Literal lit)) (sym (views.operand_literal lit))
+      (either (ov.Literal lit) _ refl (digits_is lit) (λ s. refl)
+      (λ s. means_reads (is_free_operand (ov.Literal lit)) (is_integer lit) (OperandHasType s (ov.Literal lit)) (literal lit).kind (frees.literal lit)
+      (means_as (is_integer lit) (LiteralHasType lit) (OperandHasType s (ov.Literal lit)) (literal lit).kind (λ of value g. has.literal lit of value g) (literal_means lit))));
+  operand_decorated = λ lit ty h. subst (OperandReads (ov.Decorated lit ty)) (sym (views.operand_decorated lit ty))
+      (either (ov.Decorated lit ty) _ refl tt (λ s. refl)
+      (λ s. typed_reads (is_free_operand (ov.Decorated lit ty)) (OperandHasType s (ov.Decorated lit ty)) _ (frees.decorated lit ty)
+      (typed_literal s lit ty (OperandHasType s (ov.Decorated lit ty)) h (λ to of value w g. has.decorated lit ty to of value w g))));
+  operand_truth = λ b. subst (OperandReads (ov.Truth b)) (sym (views.operand_truth b))
+      (either (ov.Truth b) _ refl tt (λ s. refl) (λ s. typed_reads (is_free_operand (ov.Truth b)) (OperandHasType s (ov.Truth b)) _ (frees.truth b) (has.truth b)));
+  operand_parens = λ e h. subst (OperandReads (ov.Parens e)) (sym (views.operand_parens e))
+      (either (ov.Parens e) _ refl tt (λ s. refl)
+      (λ s. reads_free (is_free_operand (ov.Parens e)) (is_free e) (OperandHasType s (ov.Parens e)) (judged ((expr_view e).said s).term) (frees.parens e)
+      (reads_as (is_free e) (HasType s e) (OperandHasType s (ov.Parens e)) (judged ((expr_view e).said s).term) (λ of value g. has.parens e of value g) (h.reads s))));
+  operand_table = λ e es h g. subst (OperandReads (ov.Table e es)) (sym (views.operand_table e es))
+      (either (ov.Table e es) _ refl tt (λ s. refl)
+      (λ s. table_item s e es (is_free_operand (ov.Table e es)) (OperandHasType s (ov.Table e es)) (frees.table e es) (h, g) (λ of w. has.table e es of w)));
+  operand_decorated_table = λ e es ty h g i. subst (OperandReads (ov.DecoratedTable e es ty)) (sym (views.operand_decorated_table e es ty))
+      (either (ov.DecoratedTable e es ty) _ refl tt (λ s. refl)
+      (λ s. typed_reads (is_free_operand (ov.DecoratedTable e es ty)) (OperandHasType s (ov.DecoratedTable e es ty)) _ (frees.decorated_table e es ty)
+      (typed_table s e es ty (OperandHasType s (ov.DecoratedTable e es ty)) i (h, g) (λ to w j. has.decorated_table e es ty to w j))));
+  operand_call = λ n es h. subst (OperandReads (ov.Call n es)) (sym (views.operand_call n es))
+      (either (ov.Call n es) _ refl tt (λ s. refl)
+      (λ s. typed_reads (is_free_operand (ov.Call n es)) (OperandHasType s (ov.Call n es)) _ (frees.call n es)
+      (knows_as (λ x. CallHasType s n es x.of x.value) (λ x. OperandHasType s (ov.Call n es) x.of x.value) (call s n (expr_views es)).kind (λ x g. has.call n es x.of x.value g) (call_known s n es h))));
+  type_form_named = λ ds n h s. subst (λ (w : TypeFormView). Any (IsWritten s (tv.Named ds n)) (w opening.Refused s).found) (sym (views.type_form_named ds n))
+      (any_as (Over s ds (Names s n)) (IsWritten s (tv.Named ds n)) (array_over (each opening.Refused s (dimension_views ds)) (data_type n (visible s n))).found (λ to w. has.named_type ds n w.0 to w.1 w.2)
+      (array_any s ds (each opening.Refused s (dimension_views ds)) (Names s n) (data_type n (visible s n)) (all_spans s ds h) (named_any s n)));
+  type_form_builtin = λ ds b h g s. subst (λ (w : TypeFormView). Any (IsWritten s (tv.Builtin ds b)) (w opening.Refused s).found) (sym (views.type_form_builtin ds b))
+      (any_as (Over s ds (IsBuiltin s b)) (IsWritten s (tv.Builtin ds b)) (array_over (each opening.Refused s (dimension_views ds)) (builtin_view b s)).found (λ to w. has.builtin_type ds b w.0 to w.1 w.2)
+      (array_any s ds (each opening.Refused s (dimension_views ds)) (IsBuiltin s b) (builtin_view b s) (all_spans s ds h) (g s)));
+}
+
+pub expr_reads : (e : Expr) → OfExpr e
+expr_reads = every_expr steps
+
+pub element_reads : (e : Element) → OfElement e
+element_reads = every_element steps
