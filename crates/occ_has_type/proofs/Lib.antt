@@ -11,3 +11,4 @@ mod Calling
 mod Written
 mod Selecting
 mod Typing
+mod Known

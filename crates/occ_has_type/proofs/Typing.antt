@@ -8,7 +8,7 @@ use Rattle.occ_expr_operations.specs.Views.{BoundsView, BuiltinView, DimensionVi
 use Rattle.occ_expr_operations.specs.Written.{Written, array_over, array_over_more, count_type, counted_channel, data_form, primitive_of}
 use Rattle.occ_expr_operations.specs.declared.written.Opening.TheVariants as opening
 use Rattle.occ_expr_operations.proofs.Views as views
-use Rattle.occ_forms_expressions.proofs.Induction.{Every, Steps, every_element, every_expr}
+use Rattle.occ_forms_expressions.proofs.Induction.{Every, Steps, every_element, every_expr, every_type_form}
 use Rattle.occ_forms_expressions.specs.declared.tree.Bounds.{Bounds}
 use Rattle.occ_forms_expressions.specs.declared.tree.Bounds.TheVariants as bv
 use Rattle.occ_forms_expressions.specs.declared.tree.Builtin.{Builtin}
@@ -120,7 +120,7 @@ NamedReads e v = (s : Scope) → Reads (is_free_named e) (NamedHasType s e) (jud
 abbrev OfNamed : NamedOperand → Type 0
 OfNamed e = NamedReads e (named_operand_view e)
 
-abbrev OfType : TypeForm → Type 0
+abbrev pub OfType : TypeForm → Type 0
 OfType ty = (s : Scope) → Any (IsWritten s ty) (type_form_view ty opening.Refused s).found
 
 -- ---- under another name
@@ -506,3 +506,6 @@ expr_reads = every_expr steps
 
 pub element_reads : (e : Element) → OfElement e
 element_reads = every_element steps
+
+pub type_reads : (ty : TypeForm) → OfType ty
+type_reads = every_type_form steps
