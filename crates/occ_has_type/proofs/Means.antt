@@ -157,20 +157,21 @@ knows_wanted to free H kind h = knows_fitted to H (settled to kind).kind (knows_
 
 -- ---- conversions
 
-abbrev pub Converts : OccType → Bool → Has → Known → Type 0
-Converts to free H y = (y.of ≡ to) × (from : OccType) × (inner : Option Value) × H from inner × IsAlone free from × (converts to from ≡ true) × IsCast (base_of to) inner y.value
+-- of what stands alone so
+abbrev pub Converts : OccType → Has → Known → Type 0
+Converts to A y = (y.of ≡ to) × (from : OccType) × (inner : Option Value) × A from inner × (converts to from ≡ true) × IsCast (base_of to) inner y.value
 
 cast_made : (base : Option Primitive) (value : Option Value) → IsGood (cast base value) → IsCast base value (constant_in (cast base value))
 cast_made None value good = refl
 cast_made (Some base) None good = refl
 cast_made (Some base) (Some v) good = good_outcome (converted base v) good
 
-from_converts : (to : OccType) (free : Bool) (H : Has) (kind : Kind) → Knows (Alone free H) kind → Knows (Converts to free H) (converted_from to kind).kind
-from_converts to free H k.Faulty h = tt
-from_converts to free H (k.Untyped f) h = tt
-from_converts to free H (k.Known x) h =
-    knows_chosen (Converts to free H) (converts to x.of) (landed to (cast (base_of to) x.value)) code.T2
-    (λ is. knows_landed (Converts to free H) to (cast (base_of to) x.value) (λ good. (refl, x.of, x.value, h.0, h.1, is, cast_made (base_of to) x.value good)))
+from_converts : (to : OccType) (A : Has) (kind : Kind) → Knows (λ x. A x.of x.value) kind → Knows (Converts to A) (converted_from to kind).kind
+from_converts to A k.Faulty h = tt
+from_converts to A (k.Untyped f) h = tt
+from_converts to A (k.Known x) h =
+    knows_chosen (Converts to A) (converts to x.of) (landed to (cast (base_of to) x.value)) code.T2
+    (λ is. knows_landed (Converts to A) to (cast (base_of to) x.value) (λ good. (refl, x.of, x.value, h, is, cast_made (base_of to) x.value good)))
 
-pub knows_conversion : (to : OccType) (free : Bool) (H : Has) (kind : Kind) → Means free H kind → Knows (Converts to free H) (conversion to kind).kind
-knows_conversion to free H kind h = from_converts to free H (settled int kind).kind (settles_alone free H kind h)
+pub knows_conversion : (to : OccType) (A : Has) (kind : Kind) → Knows (λ x. A x.of x.value) (settled int kind).kind → Knows (Converts to A) (conversion to kind).kind
+knows_conversion to A kind h = from_converts to A (settled int kind).kind h

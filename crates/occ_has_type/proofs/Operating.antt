@@ -28,11 +28,12 @@ use Rattle.occ_types.specs.declared.types.OccType.{OccType}
 use Rattle.occ_types.specs.declared.value.Primitive.{Primitive}
 use Rattle.occ_types.specs.declared.value.Primitive.TheVariants as p
 use Rattle.occ_types.specs.declared.value.Value.{Value}
+use Rattle.occ_types.proofs.Agreeing.{as_primitive_at_primitive, unnamed_of_primitive}
 use Rattle.occ_has_type.specs.Free.{are_free, is_free_operand}
 use Rattle.occ_has_type.specs.Types.{AreOperands, IsChosen, IsNumber, OperandHasType}
 use Rattle.occ_has_type.specs.Types as has
 use Rattle.occ_has_type.specs.Values.{IsMade, IsRun, IsShifted}
-use Rattle.occ_has_type.proofs.Fitting.{number_fits}
+use Rattle.occ_has_type.proofs.Fitting.{first_same, number_fits, primitive_is}
 use Rattle.occ_has_type.proofs.Means.{FreeMeans, Has, IsGood, Knows, Means, Settles, chosen, knows_as, knows_chosen, knows_found, knows_landed, knows_unless, settles, value_back, value_good}
 use Rattle.occ_has_type.proofs.Outcomes.{AllGood, Fit, applied_good, each_good, fitting_good, run_all_good, run_good, shifted_good}
 
@@ -102,6 +103,17 @@ front_if : (op : Monadic) (free : Bool) (H J : Has) (f : Untyped) (b : Bool) →
 front_if op free H J f true is make at h = faulty_means false J (not_untyped f.is_faulty f.int).kind (untyped_faulty f.is_faulty f.int)
 front_if op free H J f false is make at h = (at, front_free op H J f is make h)
 
+-- a type that is none of a primitive one is taken by no operator
+not_taken : (op : Monadic) (o : Option Primitive) → o ≡ None → takes op o ≡ true → ⊥
+not_taken m.Negate o is e = cc (is, e)
+not_taken m.Minus o is e = cc (is, e)
+not_taken m.BitNot o is e = cc (is, e)
+not_taken m.Not o is e = cc (is, e)
+
+pub fronts_beside : (op : Monadic) (H J : Has) → Fronts op H J → Fronts op (λ of value. H of value ⊎ (base_of of ≡ None)) J
+fronts_beside op H J make of operand value (inl h) is i = make of operand value h is i
+fronts_beside op H J make of operand value (inr none) is i = absurd (not_taken op (base_of of) none is)
+
 pub front_means : (op : Monadic) (free : Bool) (H J : Has) (kind : Kind) → Fronts op H J → Means free H kind → Means (not (is_not op) && free) J (front_operated op kind).kind
 front_means op free H J k.Faulty make h = tt
 front_means op free H J (k.Untyped f) make h = front_if op free H J f (is_not op) refl make h.0 h.1
@@ -125,6 +137,17 @@ integer_means J f report each make sound to base is good =
 
 abbrev pub Shifts : Operator → Has → Has → Has → Type 0
 Shifts op H K J = (of by : OccType) (left count value : Option Value) → H of left → is_there (number (base_of of)) ≡ true → K by count → as_primitive by ≡ Some p.Int → IsShifted op left count value → J of value
+
+no_number : (o : Option Primitive) → o ≡ None → is_there (number o) ≡ true → ⊥
+no_number o is e = cc (is, e)
+
+primitive_base : (of : OccType) (x : Primitive) → as_primitive of ≡ Some x → base_of of ≡ Some x
+primitive_base of x is = ap base_of (primitive_is of x is) ∙ ap as_primitive (unnamed_of_primitive x) ∙ as_primitive_at_primitive x
+
+pub shifts_beside : (op : Operator) (H K J : Has) → Shifts op H K J → Shifts op (λ of value. H of value ⊎ (base_of of ≡ None)) (λ of value. K of value ⊎ (base_of of ≡ None)) J
+shifts_beside op H K J make of by left count value (inl h) n (inl g) is i = make of by left count value h n g is i
+shifts_beside op H K J make of by left count value (inl h) n (inr none) is i = let bad : None ≡ Some p.Int = sym none ∙ primitive_base by p.Int is in absurd cc
+shifts_beside op H K J make of by left count value (inr none) n g is i = absurd (no_number (base_of of) none n)
 
 int_there : (o : Option Primitive) → is_int o ≡ true → o ≡ Some p.Int
 int_there None e = absurd cc
@@ -179,11 +202,15 @@ shift_means op free other H K J a count make h g =
 
 -- ---- operands with one operator between each two
 
+-- an operand has the type, or it is a table
+abbrev pub Beside : Has → Has
+Beside H of value = H of value ⊎ (base_of of ≡ None)
+
 abbrev pub AllMean : Scope → List Operand → List Kind → Type 0
 AllMean s [] [] = Unit {0}
 AllMean s [] (x ∷ xs) = ⊥
 AllMean s (e ∷ es) [] = ⊥
-AllMean s (e ∷ es) (x ∷ xs) = Means (is_free_operand e) (OperandHasType s e) x × AllMean s es xs
+AllMean s (e ∷ es) (x ∷ xs) = Means (is_free_operand e) (Beside (OperandHasType s e)) x × AllMean s es xs
 
 abbrev pub Runs : Scope → Operator → List Operand → Has → Type 0
 Runs s op es J = (of : OccType) (values : List (Option Value)) (value : Option Value) → AreOperands s es of values → allows (class_of op) (base_of of) ≡ true → IsChosen (are_free es) op of
@@ -194,22 +221,35 @@ value_of_kind k.Faulty = None
 value_of_kind (k.Untyped f) = None
 value_of_kind (k.Known x) = x.value
 
-one_of_type : (s : Scope) (e : Operand) (es : List Operand) (of : OccType) (values : List (Option Value)) (kind : Kind) → Knows (λ x. OperandHasType s e x.of x.value) kind → is_of of kind ≡ true
-    → AreOperands s es of values → AreOperands s (e ∷ es) of (value_of_kind kind ∷ values)
-one_of_type s e es of values k.Faulty h is g = absurd cc
-one_of_type s e es of values (k.Untyped f) h is g = absurd cc
-one_of_type s e es of values (k.Known x) h is g = has.one_operand e es of x.of x.value values h is g
+-- what an operator allows is named over a primitive type
+allowed_base : (class : Class) (o : Option Primitive) → allows class o ≡ true → (base : Primitive) × (o ≡ Some base)
+allowed_base c.Arithmetic None e = absurd cc
+allowed_base c.Equality None e = absurd cc
+allowed_base c.Order None e = absurd cc
+allowed_base c.Cyclic None e = absurd cc
+allowed_base c.Logic None e = absurd cc
+allowed_base class (Some x) e = (x, refl)
 
-operands_of : (s : Scope) (es : List Operand) (ks : List Kind) (of : OccType) → AllMean s es ks → list_all (is_of of) (kinds (map (settled of) ks)) ≡ true
+typed_beside : (H : Has) (of own : OccType) (value : Option Value) (base : Primitive) → base_of of ≡ Some base → fits of own ≡ true → Beside H own value → H own value
+typed_beside H of own value base is e (inl h) = h
+typed_beside H of own value base is e (inr none) = let bad : None ≡ Some base = sym none ∙ sym (ap base_of (first_same of own base is e)) ∙ is in absurd cc
+
+one_of_type : (s : Scope) (e : Operand) (es : List Operand) (of : OccType) (base : Primitive) (values : List (Option Value)) (kind : Kind) → base_of of ≡ Some base → Knows (λ x. Beside (OperandHasType s e) x.of x.value) kind → is_of of kind ≡ true
+    → AreOperands s es of values → AreOperands s (e ∷ es) of (value_of_kind kind ∷ values)
+one_of_type s e es of base values k.Faulty n h is g = absurd cc
+one_of_type s e es of base values (k.Untyped f) n h is g = absurd cc
+one_of_type s e es of base values (k.Known x) n h is g = has.one_operand e es of x.of x.value values (typed_beside (OperandHasType s e) of x.of x.value base n is h) is g
+
+operands_of : (s : Scope) (es : List Operand) (ks : List Kind) (of : OccType) (base : Primitive) → base_of of ≡ Some base → AllMean s es ks → list_all (is_of of) (kinds (map (settled of) ks)) ≡ true
     → AreOperands s es of (map value_of_kind (kinds (map (settled of) ks)))
-operands_of s [] [] of h is = has.no_operand of
-operands_of s [] (x ∷ ks) of h is = absurd h
-operands_of s (e ∷ es) [] of h is = absurd h
-operands_of s (e ∷ es) (x ∷ ks) of h is =
+operands_of s [] [] of base n h is = has.no_operand of
+operands_of s [] (x ∷ ks) of base n h is = absurd h
+operands_of s (e ∷ es) [] of base n h is = absurd h
+operands_of s (e ∷ es) (x ∷ ks) of base n h is =
     let both = both_true (is_of of (settled of x).kind) (list_all (is_of of) (kinds (map (settled of) ks))) is in
-    one_of_type s e es of (map value_of_kind (kinds (map (settled of) ks))) (settled of x).kind
-    (knows_as (Settles of (is_free_operand e) (OperandHasType s e)) (λ y. OperandHasType s e y.of y.value) (settled of x).kind (λ y i. i.0) (settles of (is_free_operand e) (OperandHasType s e) x h.0))
-    both.0 (operands_of s es ks of h.1 both.1)
+    one_of_type s e es of base (map value_of_kind (kinds (map (settled of) ks))) (settled of x).kind n
+    (knows_as (Settles of (is_free_operand e) (Beside (OperandHasType s e))) (λ y. Beside (OperandHasType s e) y.of y.value) (settled of x).kind (λ y i. i.0) (settles of (is_free_operand e) (Beside (OperandHasType s e)) x h.0))
+    both.0 (operands_of s es ks of base n h.1 both.1)
 
 -- the values of what is known
 outcome_value : (of : OccType) (base : Primitive) (kind : Kind) → is_of of kind ≡ true → constant_in (outcome_in base kind) ≡ value_of_kind kind
@@ -237,8 +277,9 @@ decided_means s op free e es x ks of J make h not_free choice =
     (λ _. means_chosen free J tested (landed (given (class_of op) of) value) code.T1
     (λ is.
     let both = both_true (allows (class_of op) (base_of of)) (list_all (is_of of) ys) is in
+    let named = allowed_base (class_of op) (base_of of) both.0 in
     means_landed free J (given (class_of op) of) value not_free
-    (λ good. make of (map value_of_kind ys) (constant_in value) (operands_of s (e ∷ es) (x ∷ ks) of h both.1) both.0 choice (run_of op of p.Int (settled of x).kind (kinds (map (settled of) ks)) both.1 good))))
+    (λ good. make of (map value_of_kind ys) (constant_in value) (operands_of s (e ∷ es) (x ∷ ks) of named.0 named.1 h both.1) both.0 choice (run_of op of p.Int (settled of x).kind (kinds (map (settled of) ks)) both.1 good))))
 
 -- ---- where all are free
 
@@ -262,6 +303,10 @@ bound_not s (e ∷ es) (k.Faulty ∷ ks) x h is = absurd cc
 bound_not s (e ∷ es) (k.Untyped f ∷ ks) x h is = back_false (is_free_operand e) (are_free es) (bound_not s es ks x h.1 is)
 bound_not s (e ∷ es) (k.Known y ∷ ks) x h is = ap (λ (b : Bool). b && are_free es) h.0.0
 
+number_beside : (H : Has) (to : OccType) (value : Option Value) (base : Primitive) → IsNumber to base → Beside H to value → H to value
+number_beside H to value base n (inl h) = h
+number_beside H to value base n (inr none) = let bad : None ≡ Some base = sym (ap number none) ∙ n in absurd cc
+
 free_operands : (s : Scope) (es : List Operand) (ks : List Kind) (to : OccType) (base : Primitive) → AllMean s es ks → first_bound ks ≡ None → list_any needs_faulty ks ≡ false → IsNumber to base
     → AllGood (map (outcome_in base) ks) → AreOperands s es to (map constant_in (map (outcome_in base) ks))
 free_operands s [] [] to base h is sound n good = has.no_operand to
@@ -270,7 +315,7 @@ free_operands s (e ∷ es) [] to base h is sound n good = absurd h
 free_operands s (e ∷ es) (k.Faulty ∷ ks) to base h is sound n good = absurd cc
 free_operands s (e ∷ es) (k.Untyped f ∷ ks) to base h is sound n good =
     let each = neither_true f.is_faulty (list_any needs_faulty ks) sound in
-    has.one_operand e es to to (constant_in (in_type f base)) (map constant_in (map (outcome_in base) ks)) (h.0.1 each.0 to base n good.0) (number_fits to base n)
+    has.one_operand e es to to (constant_in (in_type f base)) (map constant_in (map (outcome_in base) ks)) (number_beside (OperandHasType s e) to (constant_in (in_type f base)) base n (h.0.1 each.0 to base n good.0)) (number_fits to base n)
     (free_operands s es ks to base h.1 is each.1 n good.1)
 free_operands s (e ∷ es) (k.Known x ∷ ks) to base h is sound n good = absurd cc
 

@@ -39,12 +39,12 @@ use Rattle.occ_types.specs.declared.types.OccType.TheVariants as t
 use Rattle.occ_types.specs.declared.value.Value.{Value}
 use Rattle.occ_has_type.specs.Free.{is_free}
 use Rattle.occ_has_type.specs.Trees.{name_alone}
-use Rattle.occ_has_type.specs.Types.{ElementHasType, HasBounds, HasType, Selects}
+use Rattle.occ_has_type.specs.Types.{ElementHasType, HasBounds, HasType, Selects, StandsAlone, Takes}
 use Rattle.occ_has_type.specs.Types as has
 use Rattle.occ_has_type.proofs.Calling.{mismatched_faulty}
 use Rattle.occ_has_type.proofs.Means.{Fits, Has, Knows, Means, chosen, knows_as, knows_otherwise, knows_unless, knows_wanted}
-use Rattle.occ_has_type.proofs.Operating.{neither_true}
-use Rattle.occ_has_type.proofs.Reading.{Reads}
+use Rattle.occ_has_type.proofs.Operating.{Beside, neither_true}
+use Rattle.occ_has_type.proofs.Reading.{ItemReads, int_place, takes_int, under_reads}
 
 -- a form that is a name alone, and what it is then
 abbrev pub IsNamed : {X : Type 0} → X → (List ℕ → X) → Option (List ℕ) → Type 0
@@ -53,7 +53,7 @@ IsNamed x as_name (Some name) = x ≡ as_name name
 
 pub record ExprReads (e : Expr) (v : ExprView) : Type 0 where
   pub name : IsNamed e name_alone v.name
-  pub reads : (s : Scope) → Reads (is_free e) (HasType s e) (judged (v.said s).term)
+  pub reads : (s : Scope) → ItemReads s e (judged (v.said s).term)
 
 abbrev pub OfExpr : Expr → Type 0
 OfExpr e = ExprReads e (expr_view e)
@@ -64,19 +64,19 @@ OfExpr e = ExprReads e (expr_view e)
 abbrev Step : Scope → Expr → Known → Known → Type 0
 Step s e x y = (es : List Expr) (of : OccType) (value : Option Value) → Selects s es y.of y.value of value → Selects s (e ∷ es) x.of x.value of value
 
-place_known : (s : Scope) (e : Expr) (x : Known) (parts : Option ℕ × OccType) (kind : Kind) → as_array (unnamed x.of) ≡ Some parts → Knows (Fits int (HasType s e)) kind → Knows (Step s e x) (component_at parts.0 parts.1 kind).kind
+place_known : (s : Scope) (e : Expr) (x : Known) (parts : Option ℕ × OccType) (kind : Kind) → as_array (unnamed x.of) ≡ Some parts → Knows (Fits int (Beside (HasType s e))) kind → Knows (Step s e x) (component_at parts.0 parts.1 kind).kind
 place_known s e x parts k.Faulty is h = tt
 place_known s e x parts (k.Untyped f) is h = absurd h
 place_known s e x parts (k.Known y) is h =
     knows_otherwise (Step s e x) (is_constant_outside parts.0 y.value) (record { faults = []; kind = known parts.1 None }) code.T6
-    (λ inside es of value g. has.component e es x.of y.of of x.value y.value value parts is h.0 h.1 inside g)
+    (λ inside es of value g. has.component e es x.of of x.value y.value value parts is (int_place s e y h) inside g)
 
 knows_none : (Q : Known → Type 0) (kind : Kind) → kind ≡ k.Faulty → Knows Q kind
 knows_none Q kind is = subst (Knows Q) (sym is) tt
 
-array_step : (s : Scope) (e : Expr) (x : Known) (parts : Option (Option ℕ × OccType)) (index : Kind) → as_array (unnamed x.of) ≡ parts → Means (is_free e) (HasType s e) index → Knows (Step s e x) (subscripted_array parts index).kind
+array_step : (s : Scope) (e : Expr) (x : Known) (parts : Option (Option ℕ × OccType)) (index : Kind) → as_array (unnamed x.of) ≡ parts → Means (is_free e) (Beside (HasType s e)) index → Knows (Step s e x) (subscripted_array parts index).kind
 array_step s e x None index is h = knows_none (Step s e x) (subscripted_array None index).kind (mismatched_faulty (settled int index).kind)
-array_step s e x (Some parts) index is h = place_known s e x parts (wanted int index).kind is (knows_wanted int (is_free e) (HasType s e) index h)
+array_step s e x (Some parts) index is h = place_known s e x parts (wanted int index).kind is (knows_wanted int (is_free e) (Beside (HasType s e)) index h)
 
 component_step : (s : Scope) (e : Expr) (x : Known) → OfExpr e → Knows (Step s e x) (component s x.of (expr_view e)).kind
 unfolding component plain
@@ -162,14 +162,14 @@ taken_known s n of b from count h =
 
 -- the bounds, each an INT
 abbrev IsBound : Scope → Expr → Kind → Type 0
-IsBound s e kind = Knows (Fits int (HasType s e)) kind
+IsBound s e kind = Knows (λ x. Takes s e int x.of x.value) kind
 
 one_bound : (s : Scope) (n : Option ℕ) (of : OccType) (b : Bounds) (e : Expr) (kind : Kind) (from count : Option ℤ → Option ℤ) → IsBound s e kind
-    → ((of : OccType) (value : Option Value) → HasType s e of value → fits int of ≡ true → HasBounds s n b (from (number_in value)) (count (number_in value)))
+    → ((value : Option Value) → HasType s e int value → HasBounds s n b (from (number_in value)) (count (number_in value)))
     → Knows (Segment s n of b) (unless_faulty (kind ∷ []) (taken n of (from (constant_of kind)) (count (constant_of kind)))).kind
 one_bound s n of b e k.Faulty from count h make = tt
 one_bound s n of b e (k.Untyped f) from count h make = absurd h
-one_bound s n of b e (k.Known x) from count h make = taken_known s n of b (from (number_in x.value)) (count (number_in x.value)) (make x.of x.value h.0 h.1)
+one_bound s n of b e (k.Known x) from count h make = taken_known s n of b (from (number_in x.value)) (count (number_in x.value)) (make x.value (takes_int s e x.of x.value h))
 
 two_bounds : (s : Scope) (n : Option ℕ) (of : OccType) (e f : Expr) (base count : Kind) → IsBound s e base → IsBound s f count
     → Knows (Segment s n of (bv.FromFor e f)) (unless_faulty (base ∷ count ∷ []) (taken n of (constant_of base) (constant_of count))).kind
@@ -177,20 +177,23 @@ two_bounds s n of e f k.Faulty count h g = tt
 two_bounds s n of e f (k.Untyped u) count h g = absurd h
 two_bounds s n of e f (k.Known x) k.Faulty h g = tt
 two_bounds s n of e f (k.Known x) (k.Untyped u) h g = absurd g
-two_bounds s n of e f (k.Known x) (k.Known y) h g = taken_known s n of (bv.FromFor e f) (number_in x.value) (number_in y.value) (has.from_so_many n e f x.of y.of x.value y.value h.0 h.1 g.0 g.1)
+two_bounds s n of e f (k.Known x) (k.Known y) h g = taken_known s n of (bv.FromFor e f) (number_in x.value) (number_in y.value) (has.from_so_many n e f x.value y.value (takes_int s e x.of x.value h) (takes_int s f y.of y.value g))
+
+bound_of : (s : Scope) (e : Expr) (x : Said) → ItemReads s e (judged x.term) → IsBound s e (bound (judged x.term)).kind
+bound_of s e x h = under_reads (is_free e) (StandsAlone s e) (Takes s e) (Beside (HasType s e)) x.term int h
 
 -- these bounds, in any array
 abbrev pub BoundsRead : Scope → Bounds → BoundTerms → Type 0
 BoundsRead s b terms = (n : Option ℕ) (of : OccType) → Knows (Segment s n of b) (segments.segment_within n of terms).kind
 
-pub from_reads : (s : Scope) (e : Expr) (x : Said) → Reads (is_free e) (HasType s e) (judged x.term) → BoundsRead s (bv.From e) (bounds.From x.term)
-from_reads s e x h n of = one_bound s n of (bv.From e) e (bound (judged x.term)).kind (λ i. i) (to_the_end n) (h.wanted int) (λ to value g is. has.from n e to value g is)
+pub from_reads : (s : Scope) (e : Expr) (x : Said) → ItemReads s e (judged x.term) → BoundsRead s (bv.From e) (bounds.From x.term)
+from_reads s e x h n of = one_bound s n of (bv.From e) e (bound (judged x.term)).kind (λ i. i) (to_the_end n) (bound_of s e x h) (λ value g. has.from n e value g)
 
-pub for_reads : (s : Scope) (e : Expr) (x : Said) → Reads (is_free e) (HasType s e) (judged x.term) → BoundsRead s (bv.For e) (bounds.For x.term)
-for_reads s e x h n of = one_bound s n of (bv.For e) e (bound (judged x.term)).kind (λ i. Some (pos 0)) (λ i. i) (h.wanted int) (λ to value g is. has.so_many n e to value g is)
+pub for_reads : (s : Scope) (e : Expr) (x : Said) → ItemReads s e (judged x.term) → BoundsRead s (bv.For e) (bounds.For x.term)
+for_reads s e x h n of = one_bound s n of (bv.For e) e (bound (judged x.term)).kind (λ i. Some (pos 0)) (λ i. i) (bound_of s e x h) (λ value g. has.so_many n e value g)
 
-pub from_for_reads : (s : Scope) (e f : Expr) (x y : Said) → Reads (is_free e) (HasType s e) (judged x.term) → Reads (is_free f) (HasType s f) (judged y.term) → BoundsRead s (bv.FromFor e f) (bounds.FromFor x.term y.term)
-from_for_reads s e f x y h g n of = two_bounds s n of e f (bound (judged x.term)).kind (bound (judged y.term)).kind (h.wanted int) (g.wanted int)
+pub from_for_reads : (s : Scope) (e f : Expr) (x y : Said) → ItemReads s e (judged x.term) → ItemReads s f (judged y.term) → BoundsRead s (bv.FromFor e f) (bounds.FromFor x.term y.term)
+from_for_reads s e f x y h g n of = two_bounds s n of e f (bound (judged x.term)).kind (bound (judged y.term)).kind (bound_of s e x h) (bound_of s f y g)
 
 -- of what is an array, and of nothing else
 abbrev SegmentOf : Scope → OccType → Bounds → Known → Type 0

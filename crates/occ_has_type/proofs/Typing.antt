@@ -1,5 +1,5 @@
 -- What is known of each form, the relation says of it: form by form.
-use Rattle.std.proofs.Common.{◌≡◌, ◌∙◌, ◌++◌, ◌&&◌, ℕ, Bool, true, false, List, [], ◌∷◌, map, Option, Some, None, refl, ap, sym, subst}
+use Rattle.std.proofs.Common.{◌≡◌, ◌∙◌, ◌++◌, ◌&&◌, ◌⊎◌, inl, inr, ℕ, Bool, true, false, List, [], ◌∷◌, map, Option, Some, None, refl, ap, sym, subst}
 use Rattle.std.specs.Prelude.{pos, ◌-ℤ◌, not}
 use Rattle.occ_expr_operations.specs.Literals.{decorated_literal, literal, truth}
 use Rattle.occ_expr_operations.specs.Operations.{among, another_has_fault, applied, converted, each_among, extreme_of, in_front, negated, number_of_faulty, operation, pair, pair_operator, plain, run_operator, shift, together}
@@ -7,10 +7,13 @@ use Rattle.occ_expr_operations.specs.Parts.{ExprView, Said, call, call_of, call_
 use Rattle.occ_expr_operations.specs.Views.{BoundsView, BuiltinView, DimensionView, ElementView, NamedOperandView, OperandView, TypeFormView, bounds_view, builtin_view, decorated, decorated_table, digits_of, dimension_view, dimension_views, each, element_view, expr_view, expr_views, name_alone as alone_in, named_operand_view, operand_view, operand_views, operands, type_form_view}
 use Rattle.occ_expr_operations.specs.Written.{Written, array_over, array_over_more, count_type, counted_channel, data_form, primitive_of}
 use Rattle.occ_expr_operations.specs.declared.written.Opening.TheVariants as opening
+use Rattle.occ_expr_operations.proofs.Layers as layers
 use Rattle.occ_expr_operations.proofs.Views as views
 use Rattle.occ_forms_expressions.proofs.Induction.{Every, Steps, every_element, every_expr, every_type_form}
 use Rattle.occ_forms_expressions.specs.declared.tree.Bounds.{Bounds}
+use Rattle.occ_forms_expressions.specs.declared.tree.Bounds.TheOpen.{Operand-F}
 use Rattle.occ_forms_expressions.specs.declared.tree.Bounds.TheVariants as bv
+use Rattle.occ_forms_expressions.specs.declared.tree.Bounds.TheViews.{roll-out-Operand}
 use Rattle.occ_forms_expressions.specs.declared.tree.Builtin.{Builtin}
 use Rattle.occ_forms_expressions.specs.declared.tree.Builtin.TheVariants as uv
 use Rattle.occ_forms_expressions.specs.declared.tree.Dimension.{Dimension}
@@ -26,7 +29,7 @@ use Rattle.occ_forms_expressions.specs.declared.tree.MonadicOperator.{MonadicOpe
 use Rattle.occ_forms_expressions.specs.declared.tree.MonadicOperator.TheVariants as mo
 use Rattle.occ_forms_expressions.specs.declared.tree.NamedOperand.{NamedOperand}
 use Rattle.occ_forms_expressions.specs.declared.tree.NamedOperand.TheVariants as nv
-use Rattle.occ_forms_expressions.specs.declared.tree.Operand.{Operand}
+use Rattle.occ_forms_expressions.specs.declared.tree.Operand.{Operand, out-Operand, roll-Operand}
 use Rattle.occ_forms_expressions.specs.declared.tree.Operand.TheVariants as ov
 use Rattle.occ_forms_expressions.specs.declared.tree.PairOperator.{PairOperator}
 use Rattle.occ_forms_expressions.specs.declared.tree.PairOperator.TheVariants as po
@@ -53,7 +56,7 @@ use Rattle.occ_typing_tables.specs.Terms.{Judged, judged, judged_all}
 use Rattle.occ_typing_tables.specs.declared.term.Term.{Term}
 use Rattle.occ_typing_tables.specs.declared.term.Term.TheVariants as v
 use Rattle.occ_types.specs.Constant.{number_value}
-use Rattle.occ_types.specs.Fits.{unnamed}
+use Rattle.occ_types.specs.Fits.{fits, unnamed}
 use Rattle.occ_types.specs.View.{as_array}
 use Rattle.occ_types.specs.declared.constant.Monadic.{Monadic}
 use Rattle.occ_types.specs.declared.constant.Monadic.TheVariants as m
@@ -67,17 +70,17 @@ use Rattle.occ_types.specs.declared.value.Primitive.{Primitive}
 use Rattle.occ_types.specs.declared.value.Primitive.TheVariants as p
 use Rattle.occ_types.specs.declared.value.Value.{Value}
 use Rattle.occ_has_type.specs.Free.{are_free, is_free, is_free_named, is_free_operand, is_integer, pair_is_free, stays_free}
-use Rattle.occ_has_type.specs.Trees.{end_of, front_operator, name_alone}
-use Rattle.occ_has_type.specs.Types.{CallHasType, DecoratedHasType, ElementHasType, HasType, IsArrayOf, IsBuiltin, IsData, IsTable, IsTableOf, IsWritten, LiteralHasType, NamedHasType, OperandHasType}
+use Rattle.occ_has_type.specs.Trees.{digits_in, digits_layer, end_of, front_operator, name_alone}
+use Rattle.occ_has_type.specs.Types.{CallHasType, DecoratedHasType, ElementHasType, HasType, IsArrayOf, IsBuiltin, IsData, IsNoNegative, IsTable, IsTableAlone, IsTableOf, IsWritten, LiteralHasType, NamedAlone, NamedHasType, OperandAlone, OperandHasType, StandsAlone, Takes}
 use Rattle.occ_has_type.specs.Types as has
 use Rattle.occ_has_type.specs.Values.{IsCast, IsCount}
 use Rattle.occ_has_type.proofs.Calling.{CallKnown, DecoratedKnown, MostKnown, converted_known, decorated_known, decorated_literal_known, extreme_known, function_known, literal_means, unknown_type}
 use Rattle.occ_has_type.proofs.Frees as frees
 use Rattle.occ_has_type.proofs.Gives.{Any}
-use Rattle.occ_has_type.proofs.Means.{Alone, Converts, Fits, Has, IsGood, Knows, Means, knows_as, knows_landed, means_as}
-use Rattle.occ_has_type.proofs.Operating.{AllMean, Fronts, Runs, front_means, integer_means, operated_means, shift_means}
+use Rattle.occ_has_type.proofs.Means.{Converts, Has, IsGood, Knows, Means, knows_as, knows_landed, means_as}
+use Rattle.occ_has_type.proofs.Operating.{AllMean, Beside, Fronts, Runs, front_means, fronts_beside, integer_means, operated_means, shift_means, shifts_beside}
 use Rattle.occ_has_type.proofs.Outcomes.{each_good, fitting_good}
-use Rattle.occ_has_type.proofs.Reading.{AllRead, Decorates, Reads, TableHas, single_reads, table_reads, typed_means}
+use Rattle.occ_has_type.proofs.Reading.{AllRead, Alone_of, Decorates, ItemReads, NoPrimitive, Reads, TableAlone, TableTaken, Taken, reads_as, reads_free, single_reads, table_reads, typed_means}
 use Rattle.occ_has_type.proofs.Selecting.{BoundsRead, Element_of, ExprReads, IsNamed, OfExpr, for_reads, from_for_reads, from_reads, named_known, segment_known}
 use Rattle.occ_has_type.proofs.Written.{AllSpan, Names, Over, Spans, array_any, array_more_any, channel_any, counted_any, data_any, named_any, sized_spans}
 
@@ -100,22 +103,25 @@ pub record ElementReads (e : Element) (v : ElementView) : Type 0 where
 abbrev pub OfElement : Element → Type 0
 OfElement e = ElementReads e (element_view e)
 
--- an operand that is an integer in decimal digits
-abbrev IsDigits : Operand → Option ℕ → Type 0
-IsDigits e None = Unit {0}
-IsDigits e (Some i) = e ≡ ov.Literal (l.Decimal i)
+-- one of a whole, where no type is wanted of it or where it stands beside others
+abbrev PartReads : Scope → Operand → Judged → Type 0
+PartReads s e j = Reads (is_free_operand e) (OperandAlone s e) (Takes s (xv.Alone e)) (Beside (OperandHasType s e)) j
+
+-- nothing is asked where a type is wanted
+abbrev AnyType : OccType → Has
+AnyType to of value = Unit {0}
 
 record OperandReads (e : Operand) (v : OperandView) : Type 0 where
   name : IsNamed e (λ name. ov.Element (ev.Named name [])) v.name
-  digits : IsDigits e v.digits
-  part : (s : Scope) → Reads (is_free_operand e) (OperandHasType s e) (judged (v.said s).term)
-  whole : (s : Scope) → Reads (is_free_operand e) (HasType s (xv.Alone e)) (judged (v.whole s).term)
+  digits : v.digits ≡ digits_in e
+  part : (s : Scope) → PartReads s e (judged (v.said s).term)
+  whole : (s : Scope) → ItemReads s (xv.Alone e) (judged (v.whole s).term)
 
 abbrev OfOperand : Operand → Type 0
 OfOperand e = OperandReads e (operand_view e)
 
 abbrev NamedReads : NamedOperand → NamedOperandView → Type 0
-NamedReads e v = (s : Scope) → Reads (is_free_named e) (NamedHasType s e) (judged (v.said s).term)
+NamedReads e v = (s : Scope) → Reads (is_free_named e) (NamedAlone s e) AnyType (Beside (NamedHasType s e)) (judged (v.said s).term)
 
 abbrev OfNamed : NamedOperand → Type 0
 OfNamed e = NamedReads e (named_operand_view e)
@@ -125,26 +131,48 @@ OfType ty = (s : Scope) → Any (IsWritten s ty) (type_form_view ty opening.Refu
 
 -- ---- under another name
 
-reads_as : (free : Bool) (H J : Has) (j : Judged) → ((of : OccType) (value : Option Value) → H of value → J of value) → Reads free H j → Reads free J j
-reads_as free H J j make h = record {
-  by_itself = knows_as (Alone free H) (Alone free J) j.alone.kind (λ x g. (make x.of x.value g.0, g.1)) h.by_itself;
-  settles = λ to. knows_as (λ x. H x.of x.value) (λ x. J x.of x.value) (j.settled to).kind (λ x g. make x.of x.value g) (h.settles to);
-  wanted = λ to. knows_as (Fits to H) (Fits to J) (j.under to).kind (λ x g. (make x.of x.value g.0, g.1)) (h.wanted to);
-  beside = λ other. means_as free H J (j.beside other).kind make (h.beside other);
-}
+beside_as : (H J : Has) → ((of : OccType) (value : Option Value) → H of value → J of value) → (of : OccType) (value : Option Value) → Beside H of value → Beside J of value
+beside_as H J make of value (inl h) = inl (make of value h)
+beside_as H J make of value (inr none) = inr none
 
-reads_free : (a b : Bool) (H : Has) (j : Judged) → a ≡ b → Reads b H j → Reads a H j
-reads_free a b H j is h = subst (λ (c : Bool). Reads c H j) (sym is) h
+-- an expression that is no table
+expr_single : (s : Scope) (e : Expr) (kind : Kind) (free : Bool) → is_free e ≡ free → Means free (HasType s e) kind → ItemReads s e (judged (v.Single kind))
+expr_single s e kind free is h =
+    let g : Means (is_free e) (HasType s e) kind = subst (λ (b : Bool). Means b (HasType s e) kind) (sym is) h in
+    reads_as (is_free e) (Alone_of (is_free e) (HasType s e)) (StandsAlone s e) (Taken (HasType s e)) (Takes s e) (Beside (HasType s e)) (Beside (HasType s e)) (judged (v.Single kind))
+    (λ of value i. has.by_itself e of value i.0 i.1) (λ to of value i. has.fitting e to of value i.0 i.1) (λ of value i. i) (single_reads (is_free e) (HasType s e) kind g)
 
--- what is no free operand
-typed_reads : (free : Bool) (J : Has) (kind : Kind) → free ≡ false → Knows (λ x. J x.of x.value) kind → Reads free J (judged (v.Single kind))
-typed_reads free J kind is h = reads_free free false J (judged (v.Single kind)) is (single_reads false J kind (typed_means J kind h))
+operand_single : (s : Scope) (e : Operand) (kind : Kind) (free : Bool) → is_free_operand e ≡ free → Means free (OperandHasType s e) kind → PartReads s e (judged (v.Single kind))
+operand_single s e kind free is h =
+    let g : Means (is_free_operand e) (OperandHasType s e) kind = subst (λ (b : Bool). Means b (OperandHasType s e) kind) (sym is) h in
+    reads_as (is_free_operand e) (Alone_of (is_free_operand e) (OperandHasType s e)) (OperandAlone s e) (Taken (OperandHasType s e)) (Takes s (xv.Alone e)) (Beside (OperandHasType s e)) (Beside (OperandHasType s e)) (judged (v.Single kind))
+    (λ of value i. has.operand_by_itself e of value i.0 i.1) (λ to of value i. has.fitting (xv.Alone e) to of value (has.operand e of value i.0) i.1) (λ of value i. i) (single_reads (is_free_operand e) (OperandHasType s e) kind g)
 
-means_reads : (free other : Bool) (J : Has) (kind : Kind) → free ≡ other → Means other J kind → Reads free J (judged (v.Single kind))
-means_reads free other J kind is h = reads_free free other J (judged (v.Single kind)) is (single_reads other J kind h)
+named_single : (s : Scope) (e : NamedOperand) (kind : Kind) (free : Bool) → is_free_named e ≡ free → Means free (NamedHasType s e) kind → Reads (is_free_named e) (NamedAlone s e) AnyType (Beside (NamedHasType s e)) (judged (v.Single kind))
+named_single s e kind free is h =
+    let g : Means (is_free_named e) (NamedHasType s e) kind = subst (λ (b : Bool). Means b (NamedHasType s e) kind) (sym is) h in
+    reads_as (is_free_named e) (Alone_of (is_free_named e) (NamedHasType s e)) (NamedAlone s e) (Taken (NamedHasType s e)) AnyType (Beside (NamedHasType s e)) (Beside (NamedHasType s e)) (judged (v.Single kind))
+    (λ of value i. has.named_by_itself e of value i.0 i.1) (λ to of value i. tt) (λ of value i. i) (single_reads (is_free_named e) (NamedHasType s e) kind g)
 
-alone_reads : (s : Scope) (e : Operand) (j : Judged) → Reads (is_free_operand e) (OperandHasType s e) j → Reads (is_free_operand e) (HasType s (xv.Alone e)) j
-alone_reads s e j h = reads_as (is_free_operand e) (OperandHasType s e) (HasType s (xv.Alone e)) j (λ of value g. has.operand e of value g) h
+expr_typed : (s : Scope) (e : Expr) (kind : Kind) → is_free e ≡ false → Knows (λ x. HasType s e x.of x.value) kind → ItemReads s e (judged (v.Single kind))
+expr_typed s e kind is h = expr_single s e kind false is (typed_means (HasType s e) kind h)
+
+operand_typed : (s : Scope) (e : Operand) (kind : Kind) → is_free_operand e ≡ false → Knows (λ x. OperandHasType s e x.of x.value) kind → PartReads s e (judged (v.Single kind))
+operand_typed s e kind is h = operand_single s e kind false is (typed_means (OperandHasType s e) kind h)
+
+named_typed : (s : Scope) (e : NamedOperand) (kind : Kind) → is_free_named e ≡ false → Knows (λ x. NamedHasType s e x.of x.value) kind → Reads (is_free_named e) (NamedAlone s e) AnyType (Beside (NamedHasType s e)) (judged (v.Single kind))
+named_typed s e kind is h = named_single s e kind false is (typed_means (NamedHasType s e) kind h)
+
+-- an operand that stands alone is a whole expression
+operand_stands : (s : Scope) (e : Operand) (of : OccType) (value : Option Value) → OperandAlone s e of value → StandsAlone s (xv.Alone e) of value
+operand_stands s _ _ _ (has.operand_by_itself e of value h a) = has.by_itself (xv.Alone e) of value (has.operand e of value h) (λ free. a (sym (frees.alone e) ∙ free))
+operand_stands s _ _ _ (has.operand_table e es of is h) = has.table_by_itself (xv.Alone e) es of (has.table_alone e es is) h
+
+alone_reads : (s : Scope) (e : Operand) (j : Judged) → PartReads s e j → ItemReads s (xv.Alone e) j
+alone_reads s e j h =
+    reads_free (is_free (xv.Alone e)) (is_free_operand e) (StandsAlone s (xv.Alone e)) (Takes s (xv.Alone e)) (Beside (HasType s (xv.Alone e))) j (frees.alone e)
+    (reads_as (is_free_operand e) (OperandAlone s e) (StandsAlone s (xv.Alone e)) (Takes s (xv.Alone e)) (Takes s (xv.Alone e)) (Beside (OperandHasType s e)) (Beside (HasType s (xv.Alone e))) j
+    (operand_stands s e) (λ to of value g. g) (beside_as (OperandHasType s e) (HasType s (xv.Alone e)) (λ of value g. has.operand e of value g)) h)
 
 any_as : {X : Type 0} (P Q : X → Type 0) (x : Option X) → ((y : X) → P y → Q y) → Any P x → Any Q x
 any_as P Q None make h = tt
@@ -166,22 +194,22 @@ all_mean s n (e ∷ es) h = ((h.0.part s).beside (another_has_fault n (judged ((
 
 -- ---- conversions
 
-conversion_known : (to : Option OccType) (P : OccType → Type 0) (free : Bool) (H J : Has) (j : Judged) → Any P to → Reads free H j
-    → ((of : OccType) (from : OccType) (inner value : Option Value) → P of → H from inner → has.IsAlone free from → converts of from ≡ true → IsCast (base_of of) inner value → J of value)
+conversion_known : (to : Option OccType) (P : OccType → Type 0) (free : Bool) (A : Has) (T : OccType → Has) (B J : Has) (j : Judged) → Any P to → Reads free A T B j
+    → ((of : OccType) (from : OccType) (inner value : Option Value) → P of → A from inner → converts of from ≡ true → IsCast (base_of of) inner value → J of value)
     → Knows (λ x. J x.of x.value) (converted to j).kind
-conversion_known None P free H J j h g make = unknown_type (λ x. J x.of x.value) j
-conversion_known (Some to) P free H J j h g make =
-    knows_as (Converts to free H) (λ x. J x.of x.value) (converted (Some to) j).kind
-    (λ x c. subst (λ (of : OccType). J of x.value) (sym c.0) (make to c.1 c.2 x.value h c.3 c.4 c.5 c.6)) (converted_known to free H j g)
+conversion_known None P free A T B J j h g make = unknown_type (λ x. J x.of x.value) j
+conversion_known (Some to) P free A T B J j h g make =
+    knows_as (Converts to A) (λ x. J x.of x.value) (converted (Some to) j).kind
+    (λ x c. subst (λ (of : OccType). J of x.value) (sym c.0) (make to c.1 c.2 x.value h c.3 c.4 c.5)) (converted_known to free A T B j g)
 
 -- ---- `n [e]`, of a data type
 
 one_converted : (s : Scope) (name : List ℕ) (e : Expr) (to : Option OccType) → visible s name ≡ Some (meaning.Type to) → OfExpr e
     → Knows (λ x. HasType s (xv.Alone (ov.Element (ev.Named name (e ∷ [])))) x.of x.value) (converted to (judged (table ((expr_view e).said s ∷ [])).term)).kind
 one_converted s name e to is h =
-    conversion_known to (λ of. to ≡ Some of) false (TableHas s (e ∷ [])) (HasType s (xv.Alone (ov.Element (ev.Named name (e ∷ []))))) (judged (table ((expr_view e).said s ∷ [])).term)
+    conversion_known to (λ of. to ≡ Some of) false (TableAlone s (e ∷ [])) (TableTaken s (e ∷ [])) NoPrimitive (HasType s (xv.Alone (ov.Element (ev.Named name (e ∷ []))))) (judged (table ((expr_view e).said s ∷ [])).term)
     (itself to) (table_reads s e [] (((expr_view e).said s).term ∷ []) (h.reads s, tt))
-    (λ of from inner value at g a c i. has.table_converted name e of from value (is ∙ ap (λ (z : Option OccType). Some (meaning.Type z)) at) g.0 c (subst (λ (z : Option Value). IsCast (base_of of) z value) g.1 i))
+    (λ of from inner value at g c i. has.table_converted name e of from value (is ∙ ap (λ (z : Option OccType). Some (meaning.Type z)) at) g.0 c (subst (λ (z : Option Value). IsCast (base_of of) z value) g.1 i))
   where
     itself : (o : Option OccType) → Any (λ of. o ≡ Some of) o
     itself None = tt
@@ -222,11 +250,15 @@ element_through : (e : Element) (name : Option (List ℕ)) → IsNamed e (λ nam
 element_through e None h = tt
 element_through e (Some name) h = ap ov.Element h
 
-digits_is : (lit : Literal) → IsDigits (ov.Literal lit) (digits_of lit)
-digits_is (l.Decimal i) = refl
-digits_is (l.Hexadecimal i) = tt
-digits_is (l.Character b) = tt
-digits_is (l.String bytes) = tt
+digits_at : (e : Operand) (y : Operand-F Bounds Builtin Dimension Element Expr NamedOperand Operand TypeForm) → out-Operand e ≡ y → digits_layer y ≡ digits_in e
+unfolding digits_in
+digits_at e y is = ap digits_layer (sym is)
+
+literal_digits : (lit : Literal) → digits_of lit ≡ digits_layer (Operand-F.Operand::Literal lit)
+literal_digits (l.Decimal i) = refl
+literal_digits (l.Hexadecimal i) = refl
+literal_digits (l.Character b) = refl
+literal_digits (l.String bytes) = refl
 
 -- ---- calls
 
@@ -238,8 +270,8 @@ type_call : (s : Scope) (name : List ℕ) (es : List Expr) (to : Option OccType)
     → Knows (λ x. CallHasType s name es x.of x.value) (call_of_type s name (expr_views es) to (only (expr_views es))).kind
 type_call s name [] to is h = none_called s name [] (λ x. CallHasType s name [] x.of x.value)
 type_call s name (e ∷ []) to is h =
-    conversion_known to (λ of. to ≡ Some of) (is_free e) (HasType s e) (CallHasType s name (e ∷ [])) (judged ((expr_view e).said s).term) (itself to) (h.0.reads s)
-    (λ of from inner value at g a c i. has.conversion name e of from inner value (is ∙ ap (λ (z : Option OccType). Some (meaning.Type z)) at) g a c i)
+    conversion_known to (λ of. to ≡ Some of) (is_free e) (StandsAlone s e) (Takes s e) (Beside (HasType s e)) (CallHasType s name (e ∷ [])) (judged ((expr_view e).said s).term) (itself to) (h.0.reads s)
+    (λ of from inner value at g c i. has.conversion name e of from inner value (is ∙ ap (λ (z : Option OccType). Some (meaning.Type z)) at) g c i)
   where
     itself : (o : Option OccType) → Any (λ of. o ≡ Some of) o
     itself None = tt
@@ -282,11 +314,11 @@ pair_means : (s : Scope) (a b : Operand) (operator : PairOperator) → OfOperand
     → Means (pair_is_free operator (is_free_operand a) (is_free_operand b)) (HasType s (xv.Pair a operator b)) (pair operator (judged ((operand_view a).said s).term) (judged ((operand_view b).said s).term)).kind
 unfolding pair operation plain
 pair_means s a b po.ShiftLeft h g =
-    shift_means op.ShiftLeft (is_free_operand a) (is_free_operand b) (OperandHasType s a) (OperandHasType s b) (HasType s (xv.Pair a po.ShiftLeft b)) ((judged ((operand_view a).said s).term).beside false).kind ((judged ((operand_view b).said s).term).beside false).kind
-    (λ of by left count value x n y i z. has.shift a po.ShiftLeft b op.ShiftLeft of by left count value refl x n y i z) ((h.part s).beside false) ((g.part s).beside false)
+    shift_means op.ShiftLeft (is_free_operand a) (is_free_operand b) (Beside (OperandHasType s a)) (Beside (OperandHasType s b)) (HasType s (xv.Pair a po.ShiftLeft b)) ((judged ((operand_view a).said s).term).beside false).kind ((judged ((operand_view b).said s).term).beside false).kind
+    (shifts_beside op.ShiftLeft (OperandHasType s a) (OperandHasType s b) (HasType s (xv.Pair a po.ShiftLeft b)) (λ of by left count value x n y i z. has.shift a po.ShiftLeft b op.ShiftLeft of by left count value refl x n y i z)) ((h.part s).beside false) ((g.part s).beside false)
 pair_means s a b po.ShiftRight h g =
-    shift_means op.ShiftRight (is_free_operand a) (is_free_operand b) (OperandHasType s a) (OperandHasType s b) (HasType s (xv.Pair a po.ShiftRight b)) ((judged ((operand_view a).said s).term).beside false).kind ((judged ((operand_view b).said s).term).beside false).kind
-    (λ of by left count value x n y i z. has.shift a po.ShiftRight b op.ShiftRight of by left count value refl x n y i z) ((h.part s).beside false) ((g.part s).beside false)
+    shift_means op.ShiftRight (is_free_operand a) (is_free_operand b) (Beside (OperandHasType s a)) (Beside (OperandHasType s b)) (HasType s (xv.Pair a po.ShiftRight b)) ((judged ((operand_view a).said s).term).beside false).kind ((judged ((operand_view b).said s).term).beside false).kind
+    (shifts_beside op.ShiftRight (OperandHasType s a) (OperandHasType s b) (HasType s (xv.Pair a po.ShiftRight b)) (λ of by left count value x n y i z. has.shift a po.ShiftRight b op.ShiftRight of by left count value refl x n y i z)) ((h.part s).beside false) ((g.part s).beside false)
 pair_means s a b operator h g =
     let js = judged_all (terms (operands s (operand_views (a ∷ b ∷ [])))) in
     let J = HasType s (xv.Pair a operator b) in
@@ -295,26 +327,60 @@ pair_means s a b operator h g =
     (operated_means s (pair_operator operator) a (b ∷ []) (kinds (each_among (number_of_faulty js) js)) J (λ of values value i al c r. has.pair a operator b of values value refl i al c r)
     (all_mean s (number_of_faulty js) (a ∷ b ∷ []) (h, (g, tt))))
 
-front_of : (s : Scope) (e : Operand) (operator : MonadicOperator) (means : Monadic) (j : Judged) → front_operator operator ≡ Some means → Reads (is_free_operand e) (OperandHasType s e) j
+-- an operator that is not `-`
+abbrev IsOther : MonadicOperator → Type 0
+IsOther mo.Negate = ⊥
+IsOther mo.Minus = Unit {0}
+IsOther mo.BitNot = Unit {0}
+IsOther mo.BitNotWord = Unit {0}
+IsOther mo.Not = Unit {0}
+IsOther mo.Size = Unit {0}
+
+no_negate : (operator : MonadicOperator) → operator ≡ mo.Negate → IsOther operator → ⊥
+no_negate operator is h = subst IsOther is h
+
+abbrev literal_or : Option ℕ → Operand → Operand
+literal_or None e = e
+literal_or (Some i) e = ov.Literal (l.Decimal i)
+
+literal_layer : (y : Operand-F Bounds Builtin Dimension Element Expr NamedOperand Operand TypeForm) (i : ℕ) → digits_layer y ≡ Some i → roll-Operand y ≡ ov.Literal (l.Decimal i)
+literal_layer (Operand-F.Operand::Literal (l.Decimal n)) i is = ov.rolls-Literal (l.Decimal n) ∙ ap (λ (z : Option ℕ). literal_or z (ov.Literal (l.Decimal n))) is
+literal_layer (Operand-F.Operand::Literal (l.Hexadecimal n)) i is = absurd cc
+literal_layer (Operand-F.Operand::Literal (l.Character b)) i is = absurd cc
+literal_layer (Operand-F.Operand::Literal (l.String bytes)) i is = absurd cc
+literal_layer (Operand-F.Operand::Element el) i is = absurd cc
+literal_layer (Operand-F.Operand::Decorated lit of) i is = absurd cc
+literal_layer (Operand-F.Operand::Truth b) i is = absurd cc
+literal_layer (Operand-F.Parens e) i is = absurd cc
+literal_layer (Operand-F.Operand::Table e es) i is = absurd cc
+literal_layer (Operand-F.Operand::DecoratedTable e es of) i is = absurd cc
+literal_layer (Operand-F.Operand::Call name es) i is = absurd cc
+
+literal_of : (e : Operand) (i : ℕ) → digits_in e ≡ Some i → e ≡ ov.Literal (l.Decimal i)
+unfolding digits_in
+literal_of e i is = sym (roll-out-Operand e) ∙ literal_layer (out-Operand e) i is
+
+front_of : (s : Scope) (e : Operand) (operator : MonadicOperator) (means : Monadic) (j : Judged) → front_operator operator ≡ Some means → IsNoNegative operator e → PartReads s e j
     → Means (not (is_not means) && is_free_operand e) (HasType s (xv.Applied operator e)) (in_front means j).kind
 unfolding plain
-front_of s e operator means j is h =
-    front_means means (is_free_operand e) (OperandHasType s e) (HasType s (xv.Applied operator e)) (j.beside false).kind (λ of a value g tk i. has.front operator means e of a value is g tk i) (h.beside false)
+front_of s e operator means j is never h =
+    front_means means (is_free_operand e) (Beside (OperandHasType s e)) (HasType s (xv.Applied operator e)) (j.beside false).kind
+    (fronts_beside means (OperandHasType s e) (HasType s (xv.Applied operator e)) (λ of a value g tk i. has.front operator means e of a value is never g tk i)) (h.beside false)
 
-negated_means : (s : Scope) (e : Operand) (digits : Option ℕ) (j : Judged) → IsDigits e digits → Reads (is_free_operand e) (OperandHasType s e) j
+negated_means : (s : Scope) (e : Operand) (digits : Option ℕ) (j : Judged) → digits ≡ digits_in e → PartReads s e j
     → Means (is_free_operand e) (HasType s (xv.Applied mo.Negate e)) (negated digits j).kind
-negated_means s e None j is h = front_of s e mo.Negate m.Negate j refl h
+negated_means s e None j is h = front_of s e mo.Negate m.Negate j refl (λ _. sym is) h
 negated_means s e (Some i) j is h = (
-  ap is_free_operand is ∙ frees.literal (l.Decimal i),
+  ap is_free_operand (literal_of e i (sym is)) ∙ frees.literal (l.Decimal i),
   integer_means (HasType s (xv.Applied mo.Negate e)) (decimal (pos 0 -ℤ pos i)) (λ base. number_value base (pos 0 -ℤ pos i)) (λ base good. each_good false (λ x. fitting (number_value x (pos 0 -ℤ pos i))) base good)
-      (λ of base value n at. subst (λ (z : Operand). HasType s (xv.Applied mo.Negate z) of (Some value)) (sym is) (has.negative i of base value n at)),
+      (λ of base value n at. subst (λ (z : Operand). HasType s (xv.Applied mo.Negate z) of (Some value)) (sym (literal_of e i (sym is))) (has.negative i of base value n at)),
 )
 
 count_good : (n : Option ℕ) → IsGood (size_outcome n) → IsCount n (constant_in (size_outcome n))
 count_good None h = refl
 count_good (Some n) h = let x = fitting_good (number_value p.Int (pos n)) h in (x.value, x.is, x.shown)
 
-size_known : (s : Scope) (e : Operand) (kind : Kind) → Knows (λ x. OperandHasType s e x.of x.value) kind → Knows (λ x. HasType s (xv.Applied mo.Size e) x.of x.value) (sized kind).kind
+size_known : (s : Scope) (e : Operand) (kind : Kind) → Knows (λ x. OperandAlone s e x.of x.value) kind → Knows (λ x. HasType s (xv.Applied mo.Size e) x.of x.value) (sized kind).kind
 size_known s e k.Faulty h = tt
 size_known s e (k.Untyped f) h = absurd h
 size_known s e (k.Known x) h = by (as_array (unnamed x.of)) refl where
@@ -322,17 +388,17 @@ size_known s e (k.Known x) h = by (as_array (unnamed x.of)) refl where
   by None is = tt
   by (Some parts) is = knows_landed (λ y. HasType s (xv.Applied mo.Size e) y.of y.value) int (size_outcome parts.0) (λ good. has.size e x.of x.value (constant_in (size_outcome parts.0)) parts h is (count_good parts.0 good))
 
-applied_means : (s : Scope) (e : Operand) (operator : MonadicOperator) (digits : Option ℕ) (j : Judged) → IsDigits e digits → Reads (is_free_operand e) (OperandHasType s e) j
+applied_means : (s : Scope) (e : Operand) (operator : MonadicOperator) (digits : Option ℕ) (j : Judged) → digits ≡ digits_in e → PartReads s e j
     → Means (stays_free operator && is_free_operand e) (HasType s (xv.Applied operator e)) (applied operator digits j).kind
 unfolding applied
 applied_means s e mo.Negate digits j is h = negated_means s e digits j is h
-applied_means s e mo.Minus digits j is h = front_of s e mo.Minus m.Minus j refl h
-applied_means s e mo.BitNot digits j is h = front_of s e mo.BitNot m.BitNot j refl h
-applied_means s e mo.BitNotWord digits j is h = front_of s e mo.BitNotWord m.BitNot j refl h
-applied_means s e mo.Not digits j is h = front_of s e mo.Not m.Not j refl h
+applied_means s e mo.Minus digits j is h = front_of s e mo.Minus m.Minus j refl (λ other. absurd (no_negate mo.Minus other tt)) h
+applied_means s e mo.BitNot digits j is h = front_of s e mo.BitNot m.BitNot j refl (λ other. absurd (no_negate mo.BitNot other tt)) h
+applied_means s e mo.BitNotWord digits j is h = front_of s e mo.BitNotWord m.BitNot j refl (λ other. absurd (no_negate mo.BitNotWord other tt)) h
+applied_means s e mo.Not digits j is h = front_of s e mo.Not m.Not j refl (λ other. absurd (no_negate mo.Not other tt)) h
 applied_means s e mo.Size digits j is h =
     typed_means (HasType s (xv.Applied mo.Size e)) (sized j.alone.kind).kind
-    (size_known s e j.alone.kind (knows_as (Alone (is_free_operand e) (OperandHasType s e)) (λ x. OperandHasType s e x.of x.value) j.alone.kind (λ x g. g.0) h.by_itself))
+    (size_known s e j.alone.kind h.by_itself)
 
 -- ---- what has a type after it
 
@@ -346,13 +412,13 @@ typed_table s e es ty J h g make = by (type_form_view ty opening.Refused s).foun
       knows_as (Decorates s (e ∷ es) to) (λ x. J x.of x.value) (table_as (Some to) (terms (in_scope s (expr_views (e ∷ es))))).kind
       (λ x c. subst (λ (of : OccType). J of x.value) (sym c.0) (subst (J to) (sym c.1) (make to i c.2))) (decorated_known s (e ∷ es) (terms (in_scope s (expr_views (e ∷ es)))) to (all_read s (e ∷ es) g))
 
-typed_literal : (s : Scope) (lit : Literal) (ty : TypeForm) (J : Has) → OfType ty → ((to of : OccType) (value : Option Value) → IsWritten s ty to → DecoratedHasType lit to of value → J of value)
+typed_literal : (s : Scope) (lit : Literal) (ty : TypeForm) (J : Has) → OfType ty → ((to : OccType) (value : Option Value) → IsWritten s ty to → DecoratedHasType lit to value → J to value)
     → Knows (λ x. J x.of x.value) (decorated (type_form_view ty opening.Refused s) lit).kind
 unfolding decorated_literal
 typed_literal s lit ty J h make = by (type_form_view ty opening.Refused s).found (h s) where
   by : (to : Option OccType) → Any (IsWritten s ty) to → Knows (λ x. J x.of x.value) (decorated_literal to lit).kind
   by None i = tt
-  by (Some to) i = knows_as (DecoratedKnown lit to) (λ x. J x.of x.value) (decorated_literal (Some to) lit).kind (λ x c. make to x.of x.value i c) (decorated_literal_known lit to)
+  by (Some to) i = knows_as (DecoratedKnown lit to) (λ x. J x.of x.value) (decorated_literal (Some to) lit).kind (λ x c. subst (λ (of : OccType). J of x.value) (sym c.0) (make to x.value i c.1)) (decorated_literal_known lit to)
 
 most_reads : (s : Scope) (end : Extreme) (ty : TypeForm) → OfType ty → Knows (λ x. HasType s (xv.Most end ty) x.of x.value) (extreme_of end (type_form_view ty opening.Refused s).found).kind
 unfolding extreme_of
@@ -364,19 +430,32 @@ most_reads s end ty h = by (type_form_view ty opening.Refused s).found (h s) whe
       (λ x c. subst (λ (of : OccType). HasType s (xv.Most end ty) of x.value) (sym c.0) (subst (HasType s (xv.Most end ty) to) (sym c.3) (has.most end ty to c.1 i c.2))) (extreme_known end to)
 
 -- an operand that is the same as a whole expression
-either : (e : Operand) (w : OperandView) → w.name ≡ None → IsDigits e w.digits → ((s : Scope) → w.whole s ≡ w.said s) → ((s : Scope) → Reads (is_free_operand e) (OperandHasType s e) (judged (w.said s).term)) → OperandReads e w
+either : (e : Operand) (w : OperandView) → w.name ≡ None → w.digits ≡ digits_in e → ((s : Scope) → w.whole s ≡ w.said s) → ((s : Scope) → PartReads s e (judged (w.said s).term)) → OperandReads e w
 either e w is at same h = record {
   name = subst (IsNamed e (λ name. ov.Element (ev.Named name []))) (sym is) tt;
   digits = at;
   part = h;
-  whole = λ s. subst (λ (x : Said). Reads (is_free_operand e) (HasType s (xv.Alone e)) (judged x.term)) (sym (same s)) (alone_reads s e (judged (w.said s).term) (h s));
+  whole = λ s. subst (λ (x : Said). ItemReads s (xv.Alone e) (judged x.term)) (sym (same s)) (alone_reads s e (judged (w.said s).term) (h s));
 }
 
-table_item : (s : Scope) (e : Expr) (es : List Expr) (free : Bool) (J : Has) → free ≡ false → Every OfExpr (e ∷ es) → ((of : OccType) → IsTable s (e ∷ es) of → J of None)
-    → Reads free J (judged (table (in_scope s (expr_views (e ∷ es)))).term)
-table_item s e es free J is h make =
+table_part : (s : Scope) (e : Expr) (es : List Expr) (free : Bool) (A : Has) (T : OccType → Has) (B : Has) → free ≡ false → Every OfExpr (e ∷ es)
+    → ((of : OccType) → IsTableAlone s (e ∷ es) of → A of None) → ((to of : OccType) (parts : Option ℕ × OccType) → as_array to ≡ Some parts → IsTable s (e ∷ es) parts.1 of → fits to of ≡ true → T to of None)
+    → Reads free A T (Beside B) (judged (table (in_scope s (expr_views (e ∷ es)))).term)
+table_part s e es free A T B is h alone taken =
     let j = judged (table (in_scope s (expr_views (e ∷ es)))).term in
-    reads_free free false J j is (reads_as false (TableHas s (e ∷ es)) J j (λ of value g. subst (J of) (sym g.1) (make of g.0)) (table_reads s e es (terms (in_scope s (expr_views (e ∷ es)))) (all_read s (e ∷ es) h)))
+    reads_free free false A T (Beside B) j is
+    (reads_as false (TableAlone s (e ∷ es)) A (TableTaken s (e ∷ es)) T NoPrimitive (Beside B) j (λ of value g. subst (A of) (sym g.1) (alone of g.0))
+    (λ to of value g. subst (T to of) (sym g.4) (taken to of g.0 g.1 g.2 g.3)) (λ of value g. inr g)
+    (table_reads s e es (terms (in_scope s (expr_views (e ∷ es)))) (all_read s (e ∷ es) h)))
+
+-- parentheses
+parens_alone : (s : Scope) (e : Expr) (of : OccType) (value : Option Value) → StandsAlone s e of value → OperandAlone s (ov.Parens e) of value
+parens_alone s _ _ _ (has.by_itself e of value h a) = has.operand_by_itself (ov.Parens e) of value (has.parens e of value h) (λ free. a (sym (frees.parens e) ∙ free))
+parens_alone s _ _ _ (has.table_by_itself e es of is h) = has.operand_table (ov.Parens e) es of (has.table_in_parens e es is) h
+
+parens_takes : (s : Scope) (e : Expr) (to of : OccType) (value : Option Value) → Takes s e to of value → Takes s (xv.Alone (ov.Parens e)) to of value
+parens_takes s _ _ _ _ (has.fitting e to of value h fit) = has.fitting (xv.Alone (ov.Parens e)) to of value (has.operand (ov.Parens e) of value (has.parens e of value h)) fit
+parens_takes s _ _ _ _ (has.table_taking e es to of parts is at h fit) = has.table_taking (xv.Alone (ov.Parens e)) es to of parts (has.table_alone (ov.Parens e) es (has.table_in_parens e es is)) at h fit
 
 -- ---- all forms
 
@@ -405,93 +484,93 @@ steps = record {
         whole = λ s. as_element s (ev.Segment e b es) _ (segment_known s e b es ((element_view e).reported s) ((bounds_view b).said s) (h.reported s) (g s) i);
       });
   expr_alone = λ e h. subst (ExprReads (xv.Alone e)) (sym (views.expr_alone e))
-      (record { name = name_through e (operand_view e).name h.name; reads = λ s. reads_free (is_free (xv.Alone e)) (is_free_operand e) (HasType s (xv.Alone e)) (judged ((operand_view e).whole s).term) (frees.alone e) (h.whole s) });
+      (record { name = name_through e (operand_view e).name h.name; reads = h.whole });
   expr_run = λ operator a b es h g i. subst (ExprReads (xv.Run operator a b es)) (sym (views.expr_run operator a b es))
-      (record { name = tt; reads = λ s. means_reads (is_free (xv.Run operator a b es)) _ (HasType s (xv.Run operator a b es)) _ (frees.run operator a b es) (run_means s operator a b es (h, (g, i))) });
+      (record { name = tt; reads = λ s. expr_single s (xv.Run operator a b es) _ _ (frees.run operator a b es) (run_means s operator a b es (h, (g, i))) });
   expr_pair = λ a operator b h g. subst (ExprReads (xv.Pair a operator b)) (sym (views.expr_pair a operator b))
-      (record { name = tt; reads = λ s. means_reads (is_free (xv.Pair a operator b)) _ (HasType s (xv.Pair a operator b)) _ (frees.pair a operator b) (pair_means s a b operator h g) });
+      (record { name = tt; reads = λ s. expr_single s (xv.Pair a operator b) _ _ (frees.pair a operator b) (pair_means s a b operator h g) });
   expr_applied = λ operator e h. subst (ExprReads (xv.Applied operator e)) (sym (views.expr_applied operator e))
       (record {
         name = tt;
-        reads = λ s. means_reads (is_free (xv.Applied operator e)) _ (HasType s (xv.Applied operator e)) _ (frees.applied operator e) (applied_means s e operator (operand_view e).digits (judged ((operand_view e).said s).term) h.digits (h.part s));
+        reads = λ s. expr_single s (xv.Applied operator e) _ _ (frees.applied operator e) (applied_means s e operator (operand_view e).digits (judged ((operand_view e).said s).term) h.digits (h.part s));
       });
   expr_converted = λ ds b e h g i. subst (ExprReads (xv.Converted ds b e)) (sym (views.expr_converted ds b e))
       (record {
         name = tt;
-        reads = λ s. typed_reads (is_free (xv.Converted ds b e)) (HasType s (xv.Converted ds b e)) _ (frees.converted ds b e)
-            (conversion_known (array_over (each opening.Refused s (dimension_views ds)) (builtin_view b s)).found (Over s ds (IsBuiltin s b)) (is_free_operand e) (OperandHasType s e) (HasType s (xv.Converted ds b e)) (judged ((operand_view e).said s).term)
+        reads = λ s. expr_typed s (xv.Converted ds b e) _ (frees.converted ds b e)
+            (conversion_known (array_over (each opening.Refused s (dimension_views ds)) (builtin_view b s)).found (Over s ds (IsBuiltin s b)) (is_free_operand e) (OperandAlone s e) (Takes s (xv.Alone e)) (Beside (OperandHasType s e)) (HasType s (xv.Converted ds b e)) (judged ((operand_view e).said s).term)
             (array_any s ds (each opening.Refused s (dimension_views ds)) (IsBuiltin s b) (builtin_view b s) (all_spans s ds h) (g s)) (i.part s)
-            (λ of from inner value w j a c k. has.converted ds b e w.0 of from inner value w.1 w.2 j a c k));
+            (λ of from inner value w j c k. has.converted ds b e w.0 of from inner value w.1 w.2 j c k));
       });
   expr_array_converted = λ d ds n e h g i. subst (ExprReads (xv.ArrayConverted d ds n e)) (sym (views.expr_array_converted d ds n e))
       (record {
         name = tt;
-        reads = λ s. typed_reads (is_free (xv.ArrayConverted d ds n e)) (HasType s (xv.ArrayConverted d ds n e)) _ (frees.array_converted d ds n e)
-            (conversion_known (array_over_more (dimension_view d opening.Refused s) (each opening.Refused s (dimension_views ds)) (data_type n (visible s n))).found (Over s (d ∷ ds) (Names s n)) (is_free_operand e) (OperandHasType s e)
-            (HasType s (xv.ArrayConverted d ds n e)) (judged ((operand_view e).said s).term)
+        reads = λ s. expr_typed s (xv.ArrayConverted d ds n e) _ (frees.array_converted d ds n e)
+            (conversion_known (array_over_more (dimension_view d opening.Refused s) (each opening.Refused s (dimension_views ds)) (data_type n (visible s n))).found (Over s (d ∷ ds) (Names s n)) (is_free_operand e) (OperandAlone s e) (Takes s (xv.Alone e)) (Beside (OperandHasType s e)) (HasType s (xv.ArrayConverted d ds n e)) (judged ((operand_view e).said s).term)
             (array_more_any s d ds (dimension_view d opening.Refused s) (each opening.Refused s (dimension_views ds)) (Names s n) (data_type n (visible s n)) (h s) (all_spans s ds g) (named_any s n)) (i.part s)
-            (λ of from inner value w j a c k. has.array_converted d ds n e w.0 of from inner value w.1 w.2 j a c k));
+            (λ of from inner value w j c k. has.array_converted d ds n e w.0 of from inner value w.1 w.2 j c k));
       });
   expr_named = λ n e h. subst (ExprReads (xv.Named n e)) (sym (views.expr_named n e))
       (record {
         name = tt;
-        reads = λ s. typed_reads (is_free (xv.Named n e)) (HasType s (xv.Named n e)) _ (frees.named_converted n e)
-            (conversion_known (array_over [] (data_type n (visible s n))).found (Over s [] (Names s n)) (is_free_named e) (NamedHasType s e) (HasType s (xv.Named n e)) (judged ((named_operand_view e).said s).term)
-            (array_any s [] [] (Names s n) (data_type n (visible s n)) tt (named_any s n)) (h s) (λ of from inner value w j a c k. has.named_converted n e w.0 of from inner value w.1 w.2 j a c k));
+        reads = λ s. expr_typed s (xv.Named n e) _ (frees.named_converted n e)
+            (conversion_known (array_over [] (data_type n (visible s n))).found (Over s [] (Names s n)) (is_free_named e) (NamedAlone s e) AnyType (Beside (NamedHasType s e)) (HasType s (xv.Named n e)) (judged ((named_operand_view e).said s).term)
+            (array_any s [] [] (Names s n) (data_type n (visible s n)) tt (named_any s n)) (h s) (λ of from inner value w j c k. has.named_converted n e w.0 of from inner value w.1 w.2 j c k));
       });
   expr_most = λ end ty h. subst (ExprReads (xv.Most end ty)) (sym (views.expr_most end ty))
-      (record { name = tt; reads = λ s. typed_reads (is_free (xv.Most end ty)) (HasType s (xv.Most end ty)) _ (frees.most end ty) (most_reads s end ty h) });
+      (record { name = tt; reads = λ s. expr_typed s (xv.Most end ty) _ (frees.most end ty) (most_reads s end ty h) });
   named_operand_element = λ e h. subst (NamedReads (nv.Element e)) (sym (views.named_operand_element e))
-      (λ s. typed_reads (is_free_named (nv.Element e)) (NamedHasType s (nv.Element e)) _ (frees.named_element e)
+      (λ s. named_typed s (nv.Element e) _ (frees.named_element e)
       (knows_as (Element_of s e) (λ x. NamedHasType s (nv.Element e) x.of x.value) ((element_view e).reported s).kind (λ x g. has.named_element e x.of x.value g) (h.reported s)));
   named_operand_literal = λ lit. subst (NamedReads (nv.Literal lit)) (sym (views.named_operand_literal lit))
-      (λ s. means_reads (is_free_named (nv.Literal lit)) (is_integer lit) (NamedHasType s (nv.Literal lit)) (literal lit).kind (frees.named_literal lit)
+      (λ s. named_single s (nv.Literal lit) (literal lit).kind (is_integer lit) (frees.named_literal lit)
       (means_as (is_integer lit) (LiteralHasType lit) (NamedHasType s (nv.Literal lit)) (literal lit).kind (λ of value g. has.named_literal lit of value g) (literal_means lit)));
   named_operand_decorated = λ lit ty h. subst (NamedReads (nv.Decorated lit ty)) (sym (views.named_operand_decorated lit ty))
-      (λ s. typed_reads (is_free_named (nv.Decorated lit ty)) (NamedHasType s (nv.Decorated lit ty)) _ (frees.named_decorated lit ty)
-      (typed_literal s lit ty (NamedHasType s (nv.Decorated lit ty)) h (λ to of value w g. has.named_decorated lit ty to of value w g)));
+      (λ s. named_typed s (nv.Decorated lit ty) _ (frees.named_decorated lit ty)
+      (typed_literal s lit ty (NamedHasType s (nv.Decorated lit ty)) h (λ to value w g. has.named_decorated lit ty to value w g)));
   named_operand_truth = λ b. subst (NamedReads (nv.Truth b)) (sym (views.named_operand_truth b))
-      (λ s. typed_reads (is_free_named (nv.Truth b)) (NamedHasType s (nv.Truth b)) _ (frees.named_truth b) (has.named_truth b));
+      (λ s. named_typed s (nv.Truth b) _ (frees.named_truth b) (has.named_truth b));
   named_operand_table = λ e f es h g i. subst (NamedReads (nv.Table e f es)) (sym (views.named_operand_table e f es))
-      (λ s. table_item s e (f ∷ es) (is_free_named (nv.Table e f es)) (NamedHasType s (nv.Table e f es)) (frees.named_table e f es) (h, (g, i)) (λ of w. has.named_table e f es of w));
+      (λ s. table_part s e (f ∷ es) (is_free_named (nv.Table e f es)) (NamedAlone s (nv.Table e f es)) AnyType (NamedHasType s (nv.Table e f es)) (frees.named_table e f es) (h, (g, i)) (λ of w. has.named_table e f es of w) (λ to of parts at w fit. tt));
   named_operand_decorated_table = λ e es ty h g i. subst (NamedReads (nv.DecoratedTable e es ty)) (sym (views.named_operand_decorated_table e es ty))
-      (λ s. typed_reads (is_free_named (nv.DecoratedTable e es ty)) (NamedHasType s (nv.DecoratedTable e es ty)) _ (frees.named_decorated_table e es ty)
+      (λ s. named_typed s (nv.DecoratedTable e es ty) _ (frees.named_decorated_table e es ty)
       (typed_table s e es ty (NamedHasType s (nv.DecoratedTable e es ty)) i (h, g) (λ to w j. has.named_decorated_table e es ty to w j)));
   named_operand_call = λ n es h. subst (NamedReads (nv.Call n es)) (sym (views.named_operand_call n es))
-      (λ s. typed_reads (is_free_named (nv.Call n es)) (NamedHasType s (nv.Call n es)) _ (frees.named_call n es)
+      (λ s. named_typed s (nv.Call n es) _ (frees.named_call n es)
       (knows_as (λ x. CallHasType s n es x.of x.value) (λ x. NamedHasType s (nv.Call n es) x.of x.value) (call s n (expr_views es)).kind (λ x g. has.named_call n es x.of x.value g) (call_known s n es h)));
   operand_element = λ e h. subst (OperandReads (ov.Element e)) (sym (views.operand_element e))
       (record {
         name = element_through e (element_view e).name h.name;
-        digits = tt;
-        part = λ s. typed_reads (is_free_operand (ov.Element e)) (OperandHasType s (ov.Element e)) _ (frees.element e)
+        digits = digits_at (ov.Element e) (Operand-F.Operand::Element e) (layers.operand_element e);
+        part = λ s. operand_typed s (ov.Element e) _ (frees.element e)
             (knows_as (Element_of s e) (λ x. OperandHasType s (ov.Element e) x.of x.value) ((element_view e).reported s).kind (λ x g. has.element e x.of x.value g) (h.reported s));
-        whole = λ s. typed_reads (is_free_operand (ov.Element e)) (HasType s (xv.Alone (ov.Element e))) _ (frees.element e) (h.whole s);
+        whole = λ s. expr_typed s (xv.Alone (ov.Element e)) _ (frees.alone (ov.Element e) ∙ frees.element e) (h.whole s);
       });
   operand_literal = λ lit. subst (OperandReads (ov.Literal lit)) (sym (views.operand_literal lit))
-      (either (ov.Literal lit) _ refl (digits_is lit) (λ s. refl)
-      (λ s. means_reads (is_free_operand (ov.Literal lit)) (is_integer lit) (OperandHasType s (ov.Literal lit)) (literal lit).kind (frees.literal lit)
+      (either (ov.Literal lit) _ refl (literal_digits lit ∙ digits_at (ov.Literal lit) (Operand-F.Operand::Literal lit) (layers.operand_literal lit)) (λ s. refl)
+      (λ s. operand_single s (ov.Literal lit) (literal lit).kind (is_integer lit) (frees.literal lit)
       (means_as (is_integer lit) (LiteralHasType lit) (OperandHasType s (ov.Literal lit)) (literal lit).kind (λ of value g. has.literal lit of value g) (literal_means lit))));
   operand_decorated = λ lit ty h. subst (OperandReads (ov.Decorated lit ty)) (sym (views.operand_decorated lit ty))
-      (either (ov.Decorated lit ty) _ refl tt (λ s. refl)
-      (λ s. typed_reads (is_free_operand (ov.Decorated lit ty)) (OperandHasType s (ov.Decorated lit ty)) _ (frees.decorated lit ty)
-      (typed_literal s lit ty (OperandHasType s (ov.Decorated lit ty)) h (λ to of value w g. has.decorated lit ty to of value w g))));
+      (either (ov.Decorated lit ty) _ refl (digits_at (ov.Decorated lit ty) (Operand-F.Operand::Decorated lit ty) (layers.operand_decorated lit ty)) (λ s. refl)
+      (λ s. operand_typed s (ov.Decorated lit ty) _ (frees.decorated lit ty)
+      (typed_literal s lit ty (OperandHasType s (ov.Decorated lit ty)) h (λ to value w g. has.decorated lit ty to value w g))));
   operand_truth = λ b. subst (OperandReads (ov.Truth b)) (sym (views.operand_truth b))
-      (either (ov.Truth b) _ refl tt (λ s. refl) (λ s. typed_reads (is_free_operand (ov.Truth b)) (OperandHasType s (ov.Truth b)) _ (frees.truth b) (has.truth b)));
+      (either (ov.Truth b) _ refl (digits_at (ov.Truth b) (Operand-F.Operand::Truth b) (layers.operand_truth b)) (λ s. refl) (λ s. operand_typed s (ov.Truth b) _ (frees.truth b) (has.truth b)));
   operand_parens = λ e h. subst (OperandReads (ov.Parens e)) (sym (views.operand_parens e))
-      (either (ov.Parens e) _ refl tt (λ s. refl)
-      (λ s. reads_free (is_free_operand (ov.Parens e)) (is_free e) (OperandHasType s (ov.Parens e)) (judged ((expr_view e).said s).term) (frees.parens e)
-      (reads_as (is_free e) (HasType s e) (OperandHasType s (ov.Parens e)) (judged ((expr_view e).said s).term) (λ of value g. has.parens e of value g) (h.reads s))));
+      (either (ov.Parens e) _ refl (digits_at (ov.Parens e) (Operand-F.Parens e) (layers.operand_parens e)) (λ s. refl)
+      (λ s. reads_free (is_free_operand (ov.Parens e)) (is_free e) (OperandAlone s (ov.Parens e)) (Takes s (xv.Alone (ov.Parens e))) (Beside (OperandHasType s (ov.Parens e))) (judged ((expr_view e).said s).term) (frees.parens e)
+      (reads_as (is_free e) (StandsAlone s e) (OperandAlone s (ov.Parens e)) (Takes s e) (Takes s (xv.Alone (ov.Parens e))) (Beside (HasType s e)) (Beside (OperandHasType s (ov.Parens e))) (judged ((expr_view e).said s).term)
+      (parens_alone s e) (parens_takes s e) (beside_as (HasType s e) (OperandHasType s (ov.Parens e)) (λ of value g. has.parens e of value g)) (h.reads s))));
   operand_table = λ e es h g. subst (OperandReads (ov.Table e es)) (sym (views.operand_table e es))
-      (either (ov.Table e es) _ refl tt (λ s. refl)
-      (λ s. table_item s e es (is_free_operand (ov.Table e es)) (OperandHasType s (ov.Table e es)) (frees.table e es) (h, g) (λ of w. has.table e es of w)));
+      (either (ov.Table e es) _ refl (digits_at (ov.Table e es) (Operand-F.Operand::Table e es) (layers.operand_table e es)) (λ s. refl)
+      (λ s. table_part s e es (is_free_operand (ov.Table e es)) (OperandAlone s (ov.Table e es)) (Takes s (xv.Alone (ov.Table e es))) (OperandHasType s (ov.Table e es)) (frees.table e es) (h, g) (λ of w. has.operand_table (ov.Table e es) (e ∷ es) of (has.table_itself e es) w) (λ to of parts at w fit. has.table_taking (xv.Alone (ov.Table e es)) (e ∷ es) to of parts (has.table_alone (ov.Table e es) (e ∷ es) (has.table_itself e es)) at w fit)));
   operand_decorated_table = λ e es ty h g i. subst (OperandReads (ov.DecoratedTable e es ty)) (sym (views.operand_decorated_table e es ty))
-      (either (ov.DecoratedTable e es ty) _ refl tt (λ s. refl)
-      (λ s. typed_reads (is_free_operand (ov.DecoratedTable e es ty)) (OperandHasType s (ov.DecoratedTable e es ty)) _ (frees.decorated_table e es ty)
+      (either (ov.DecoratedTable e es ty) _ refl (digits_at (ov.DecoratedTable e es ty) (Operand-F.Operand::DecoratedTable e es ty) (layers.operand_decorated_table e es ty)) (λ s. refl)
+      (λ s. operand_typed s (ov.DecoratedTable e es ty) _ (frees.decorated_table e es ty)
       (typed_table s e es ty (OperandHasType s (ov.DecoratedTable e es ty)) i (h, g) (λ to w j. has.decorated_table e es ty to w j))));
   operand_call = λ n es h. subst (OperandReads (ov.Call n es)) (sym (views.operand_call n es))
-      (either (ov.Call n es) _ refl tt (λ s. refl)
-      (λ s. typed_reads (is_free_operand (ov.Call n es)) (OperandHasType s (ov.Call n es)) _ (frees.call n es)
+      (either (ov.Call n es) _ refl (digits_at (ov.Call n es) (Operand-F.Operand::Call n es) (layers.operand_call n es)) (λ s. refl)
+      (λ s. operand_typed s (ov.Call n es) _ (frees.call n es)
       (knows_as (λ x. CallHasType s n es x.of x.value) (λ x. OperandHasType s (ov.Call n es) x.of x.value) (call s n (expr_views es)).kind (λ x g. has.call n es x.of x.value g) (call_known s n es h))));
   type_form_named = λ ds n h s. subst (λ (w : TypeFormView). Any (IsWritten s (tv.Named ds n)) (w opening.Refused s).found) (sym (views.type_form_named ds n))
       (any_as (Over s ds (Names s n)) (IsWritten s (tv.Named ds n)) (array_over (each opening.Refused s (dimension_views ds)) (data_type n (visible s n))).found (λ to w. has.named_type ds n w.0 to w.1 w.2)

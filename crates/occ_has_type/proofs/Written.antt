@@ -39,11 +39,12 @@ use Rattle.occ_types.specs.declared.types.Protocol.TheVariants as protocol
 use Rattle.occ_types.specs.declared.value.Primitive.{Primitive}
 use Rattle.occ_types.specs.declared.value.Value.{Value}
 use Rattle.occ_has_type.specs.Free.{is_free}
-use Rattle.occ_has_type.specs.Types.{AreSizes, HasType, IsArrayOf, IsBuiltin, IsData, IsWritten, arrays, values_channel}
+use Rattle.occ_has_type.specs.Types.{AreSizes, HasType, IsArrayOf, IsBuiltin, IsData, IsWritten, StandsAlone, Takes, arrays, values_channel}
 use Rattle.occ_has_type.specs.Types as has
 use Rattle.occ_has_type.proofs.Gives.{Any}
-use Rattle.occ_has_type.proofs.Means.{Fits, Has, Knows}
-use Rattle.occ_has_type.proofs.Reading.{Reads}
+use Rattle.occ_has_type.proofs.Means.{Has, Knows}
+use Rattle.occ_has_type.proofs.Operating.{Beside}
+use Rattle.occ_has_type.proofs.Reading.{ItemReads, takes_int, under_reads}
 
 -- ---- dimensions
 
@@ -51,10 +52,8 @@ use Rattle.occ_has_type.proofs.Reading.{Reads}
 pub record IsSize (s : Scope) (d : Dimension) (n : ℕ) : Type 0 where
   pub e : Expr
   pub is : d ≡ dv.Sized e
-  pub of : OccType
   pub value : Value
-  pub typed : HasType s e of (Some value)
-  pub an_int : fits int of ≡ true
+  pub typed : HasType s e int (Some value)
   pub at : number_of value ≡ pos n
   pub few : nat_le n 4294967295 ≡ true
 
@@ -66,24 +65,24 @@ Spans s d (extent.Sized n) = IsSize s d n
 abbrev size_if : Bool → ℕ → Size
 size_if b n = if b then record { faults = []; count = Some n } else record { faults = nameless code.T9 ∷ []; count = None }
 
-if_size : (s : Scope) (e : Expr) (of : OccType) (value : Value) (n : ℕ) (b : Bool) → nat_le n 4294967295 ≡ b → HasType s e of (Some value) → fits int of ≡ true → number_of value ≡ pos n
+if_size : (s : Scope) (e : Expr) (value : Value) (n : ℕ) (b : Bool) → nat_le n 4294967295 ≡ b → HasType s e int (Some value) → number_of value ≡ pos n
     → Spans s (dv.Sized e) (extent_of (size_if b n).count)
-if_size s e of value n true few h is at = record { e = e; is = refl; of = of; value = value; typed = h; an_int = is; at = at; few = few }
-if_size s e of value n false few h is at = tt
+if_size s e value n true few h at = record { e = e; is = refl; value = value; typed = h; at = at; few = few }
+if_size s e value n false few h at = tt
 
-number_spans : (s : Scope) (e : Expr) (of : OccType) (value : Option Value) (i : Option ℤ) → number_in value ≡ i → HasType s e of value → fits int of ≡ true → Spans s (dv.Sized e) (extent_of (size_of_number i).count)
-number_spans s e of value None at h is = tt
-number_spans s e of value (Some (negsuc n)) at h is = tt
-number_spans s e of None (Some (pos n)) at h is = absurd cc
-number_spans s e of (Some v) (Some (pos n)) at h is = if_size s e of v n (nat_le n 4294967295) refl h is (cc (at))
+number_spans : (s : Scope) (e : Expr) (value : Option Value) (i : Option ℤ) → number_in value ≡ i → HasType s e int value → Spans s (dv.Sized e) (extent_of (size_of_number i).count)
+number_spans s e value None at h = tt
+number_spans s e value (Some (negsuc n)) at h = tt
+number_spans s e None (Some (pos n)) at h = absurd cc
+number_spans s e (Some v) (Some (pos n)) at h = if_size s e v n (nat_le n 4294967295) refl h (cc (at))
 
-kind_spans : (s : Scope) (e : Expr) (kind : Kind) → Knows (Fits int (HasType s e)) kind → Spans s (dv.Sized e) (extent_of (size_of_kind kind).count)
+kind_spans : (s : Scope) (e : Expr) (kind : Kind) → Knows (λ x. Takes s e int x.of x.value) kind → Spans s (dv.Sized e) (extent_of (size_of_kind kind).count)
 kind_spans s e k.Faulty h = tt
 kind_spans s e (k.Untyped f) h = absurd h
-kind_spans s e (k.Known x) h = number_spans s e x.of x.value (number_in x.value) refl h.0 h.1
+kind_spans s e (k.Known x) h = number_spans s e x.value (number_in x.value) refl (takes_int s e x.of x.value h)
 
-pub sized_spans : (s : Scope) (e : Expr) (x : Said) → Reads (is_free e) (HasType s e) (judged x.term) → Spans s (dv.Sized e) (sized_dimension x).extent
-sized_spans s e x h = kind_spans s e ((judged x.term).under int).kind (h.wanted int)
+pub sized_spans : (s : Scope) (e : Expr) (x : Said) → ItemReads s e (judged x.term) → Spans s (dv.Sized e) (sized_dimension x).extent
+sized_spans s e x h = kind_spans s e ((judged x.term).under int).kind (under_reads (is_free e) (StandsAlone s e) (Takes s e) (Beside (HasType s e)) x.term int h)
 
 abbrev pub AllSpan : Scope → List Dimension → List Spanning → Type 0
 AllSpan s [] [] = Unit {0}
@@ -102,7 +101,7 @@ one_spanned s d ds of extent.Faulty (Some u) h g = tt
 one_spanned s d ds of extent.Open (Some u) h g = absurd h
 one_spanned s d ds of (extent.Sized n) (Some u) h g = (
   n ∷ g.0,
-  subst (λ (z : Dimension). AreSizes s (z ∷ ds) (n ∷ g.0)) (sym h.is) (has.one_size h.e ds h.of h.value n g.0 h.typed h.an_int h.at h.few g.1),
+  subst (λ (z : Dimension). AreSizes s (z ∷ ds) (n ∷ g.0)) (sym h.is) (has.one_size h.e ds h.value n g.0 h.typed h.at h.few g.1),
   ap (t.Array (Some n)) g.2,
 )
 

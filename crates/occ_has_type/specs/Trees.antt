@@ -24,6 +24,7 @@ use Rattle.occ_typing_rules.specs.declared.expr.TypedElement.{TypedElement, out-
 use Rattle.occ_typing_rules.specs.declared.expr.TypedExpr.{TypedExpr}
 use Rattle.occ_typing_rules.specs.declared.expr.TypedExpr.TheVariants as typed
 use Rattle.occ_forms_expressions.specs.declared.tree.Bounds.{Bounds}
+use Rattle.occ_forms_expressions.specs.declared.tree.Bounds.TheOpen.{Operand-F}
 use Rattle.occ_forms_expressions.specs.declared.tree.Bounds.TheVariants as bounds
 use Rattle.occ_forms_expressions.specs.declared.tree.Builtin.{Builtin}
 use Rattle.occ_forms_expressions.specs.declared.tree.Dimension.{Dimension}
@@ -39,7 +40,7 @@ use Rattle.occ_forms_expressions.specs.declared.tree.MonadicOperator.{MonadicOpe
 use Rattle.occ_forms_expressions.specs.declared.tree.MonadicOperator.TheVariants as mo
 use Rattle.occ_forms_expressions.specs.declared.tree.NamedOperand.{NamedOperand}
 use Rattle.occ_forms_expressions.specs.declared.tree.NamedOperand.TheVariants as n
-use Rattle.occ_forms_expressions.specs.declared.tree.Operand.{Operand}
+use Rattle.occ_forms_expressions.specs.declared.tree.Operand.{Operand, out-Operand}
 use Rattle.occ_forms_expressions.specs.declared.tree.Operand.TheVariants as o
 use Rattle.occ_forms_expressions.specs.declared.tree.PairOperator.{PairOperator}
 use Rattle.occ_forms_expressions.specs.declared.tree.RunOperator.{RunOperator}
@@ -85,6 +86,14 @@ front_operator mo.Not = Some m.Not
 front_operator mo.Size = None
 
 -- ---- forms
+
+abbrev pub digits_layer : Operand-F Bounds Builtin Dimension Element Expr NamedOperand Operand TypeForm → Option ℕ
+digits_layer (Operand-F.Operand::Literal (l.Decimal i)) = Some i
+digits_layer _ = None
+
+-- the integer in decimal digits that an operand is
+unfoldable pub digits_in : Operand → Option ℕ
+digits_in e = digits_layer (out-Operand e)
 
 -- a name alone
 abbrev pub name_alone : List ℕ → Expr

@@ -4,11 +4,9 @@ ghost use Rattle.occ_expr_operations.specs.declared.written.Opening.TheVariants 
 ghost use Rattle.occ_forms_expressions.specs.declared.tree.Element.{Element as AnElement};
 ghost use Rattle.occ_forms_expressions.specs.declared.tree.Expr.{Expr as AnExpr};
 ghost use Rattle.occ_forms_expressions.specs.declared.tree.TypeForm.{TypeForm as ATypeForm};
-ghost use Rattle.occ_has_type.specs.Free.{is_free};
 ghost use Rattle.occ_has_type.specs.Trees.{IsOfElement, IsOfExpr};
-ghost use Rattle.occ_has_type.specs.Types.{ElementHasType, HasType, IsAlone, IsWritten};
+ghost use Rattle.occ_has_type.specs.Types.{ElementHasType, IsWritten, StandsAlone, Takes};
 ghost use Rattle.occ_scope.specs.declared.scope.Scope.{Scope};
-ghost use Rattle.occ_types.specs.Fits.{fits};
 ghost use Rattle.occ_types.specs.declared.types.OccType.{OccType as AType};
 ghost use Rattle.occ_typing_operands.specs.declared.kind.Kind.TheVariants as k;
 ghost use Rattle.occ_typing_operands.specs.declared.kind.Known.{Known as AKnown};
@@ -16,7 +14,7 @@ ghost use Rattle.occ_typing_rules.specs.Placing.{placed};
 ghost use Rattle.occ_typing_rules.specs.declared.expr.TypedElement.{TypedElement as ATypedElement};
 ghost use Rattle.occ_typing_rules.specs.declared.expr.TypedExpr.{TypedExpr as ATypedExpr};
 ghost use Rattle.occ_typing_tables.specs.Terms.{judged};
-ghost use Rattle.std.specs.Prelude.{Some, true, ◌≡◌};
+ghost use Rattle.std.specs.Prelude.{Some, ◌≡◌};
 
 /// Each tree that an expression is given is one of its form, whatever type is wanted of it, and with faults or without.
 /// So it has the names that were written, as their specifications, and the operators, subscripts, items and actuals, in order.
@@ -29,11 +27,11 @@ pub fn element_tree_law()
     ensures { (s : Scope) (e : AnElement) (t : ATypedElement) → (element_view e).tree s ≡ Some t → IsOfElement s e t }
 {}
 
-/// What is known of an expression is a type and a value that it has by the tables of the language (`HasType`), whatever is wanted of it.
-/// Where a type is wanted this one fits it; where none is, a free expression is an INT.
+/// What is known of an expression is a type and a value that it has by the tables of the language, where a type is wanted of it
+/// (`Takes`) and where none is (`StandsAlone`).
 pub fn expr_type_law()
-    ensures wanted { (s : Scope) (e : AnExpr) (to : AType) (x : AKnown) → ((judged ((expr_view e).said s).term).under to).kind ≡ k.Known x → HasType s e x.of x.value × (fits to x.of ≡ true) }
-    ensures alone { (s : Scope) (e : AnExpr) (x : AKnown) → (judged ((expr_view e).said s).term).alone.kind ≡ k.Known x → HasType s e x.of x.value × IsAlone (is_free e) x.of }
+    ensures wanted { (s : Scope) (e : AnExpr) (to : AType) (x : AKnown) → ((judged ((expr_view e).said s).term).under to).kind ≡ k.Known x → Takes s e to x.of x.value }
+    ensures alone { (s : Scope) (e : AnExpr) (x : AKnown) → (judged ((expr_view e).said s).term).alone.kind ≡ k.Known x → StandsAlone s e x.of x.value }
 {}
 
 /// So is what is known of an element.
