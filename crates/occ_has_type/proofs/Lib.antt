@@ -12,3 +12,4 @@ mod Written
 mod Selecting
 mod Typing
 mod Known
+mod Finding
