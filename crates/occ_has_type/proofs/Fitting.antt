@@ -311,3 +311,6 @@ never_array to n inner none e = by (out-OccType to) (roll-out-OccType to) where
 
 pub number_fits : (of : OccType) (base : Primitive) → number (base_of of) ≡ Some base → fits of of ≡ true
 number_fits of base is = let x = base_there (base_of of) base is in fits_itself of x.0 x.1
+
+pub named_fits_it : (of : OccType) (base : Primitive) → base_of of ≡ Some base → fits of of ≡ true
+named_fits_it of base is = fits_itself of base is

@@ -13,3 +13,4 @@ mod Selecting
 mod Typing
 mod Known
 mod Finding
+mod Combining

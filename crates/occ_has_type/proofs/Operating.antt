@@ -222,7 +222,7 @@ value_of_kind (k.Untyped f) = None
 value_of_kind (k.Known x) = x.value
 
 -- what an operator allows is named over a primitive type
-allowed_base : (class : Class) (o : Option Primitive) → allows class o ≡ true → (base : Primitive) × (o ≡ Some base)
+pub allowed_base : (class : Class) (o : Option Primitive) → allows class o ≡ true → (base : Primitive) × (o ≡ Some base)
 allowed_base c.Arithmetic None e = absurd cc
 allowed_base c.Equality None e = absurd cc
 allowed_base c.Order None e = absurd cc
@@ -291,7 +291,7 @@ free_all s (e ∷ es) (k.Faulty ∷ ks) h is = absurd cc
 free_all s (e ∷ es) (k.Untyped f ∷ ks) h is = ap (λ (b : Bool). b && are_free es) h.0.0 ∙ free_all s es ks h.1 is
 free_all s (e ∷ es) (k.Known x ∷ ks) h is = absurd cc
 
-back_false : (a b : Bool) → b ≡ false → (a && b) ≡ false
+pub back_false : (a b : Bool) → b ≡ false → (a && b) ≡ false
 back_false true b e = e
 back_false false b e = refl
 
@@ -319,7 +319,7 @@ free_operands s (e ∷ es) (k.Untyped f ∷ ks) to base h is sound n good =
     (free_operands s es ks to base h.1 is each.1 n good.1)
 free_operands s (e ∷ es) (k.Known x ∷ ks) to base h is sound n good = absurd cc
 
-arithmetic_class : (class : Class) → is_arithmetic class ≡ true → class ≡ c.Arithmetic
+pub arithmetic_class : (class : Class) → is_arithmetic class ≡ true → class ≡ c.Arithmetic
 arithmetic_class c.Arithmetic e = refl
 arithmetic_class c.Equality e = absurd cc
 arithmetic_class c.Order e = absurd cc
