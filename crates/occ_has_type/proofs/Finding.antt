@@ -38,7 +38,7 @@ use Rattle.occ_has_type.proofs.Means.{chosen}
 abbrev pub Finds : OccType → Option Value → Finding → Type 0
 Finds of value x = (x.faults ≡ []) × (x.kind ≡ known of value)
 
-both_clean : {X : Type 0} (xs ys : List X) → xs ≡ [] → ys ≡ [] → xs ++ ys ≡ []
+pub both_clean : {X : Type 0} (xs ys : List X) → xs ≡ [] → ys ≡ [] → xs ++ ys ≡ []
 both_clean xs ys a b = ap (λ zs. zs ++ ys) a ∙ b
 
 pub then_finds : (x : Finding) (next : Kind → Finding) (of to : OccType) (inner value : Option Value) → Finds of inner x → Finds to value (next (known of inner)) → Finds to value (and_then x next)

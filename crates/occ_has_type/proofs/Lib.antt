@@ -14,3 +14,5 @@ mod Typing
 mod Known
 mod Finding
 mod Combining
+mod Taking
+mod Reaching

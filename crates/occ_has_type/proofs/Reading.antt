@@ -178,7 +178,7 @@ each_known s es js outside of h sound =
 
 -- ---- the type of a table
 
-abbrev types_in : List Kind → List OccType
+abbrev pub types_in : List Kind → List OccType
 types_in [] = []
 types_in (k.Faulty ∷ ks) = types_in ks
 types_in (k.Untyped f ∷ ks) = types_in ks
@@ -192,7 +192,7 @@ none_with : (us : List OccType) → merged_with None us ≡ None
 none_with [] = refl
 none_with (u ∷ us) = refl
 
-same_merged : (o : Option OccType) (ks : List Kind) → merged_all o ks ≡ merged_with o (types_in ks)
+pub same_merged : (o : Option OccType) (ks : List Kind) → merged_all o ks ≡ merged_with o (types_in ks)
 same_merged o [] = refl
 same_merged None (x ∷ ks) = none_merged ks ∙ sym (none_with (types_in (x ∷ ks)))
 same_merged (Some of) (k.Faulty ∷ ks) = same_merged (Some of) ks
