@@ -16,3 +16,4 @@ mod Finding
 mod Combining
 mod Taking
 mod Reaching
+mod Exactly

@@ -133,7 +133,7 @@ pub record Says (free : Bool) (of : OccType) (value : Option Value) (x : Said) :
   pub comes : Comes free of value kind
 
 -- by itself, beside no fault
-plain_is : (free : Bool) (of : OccType) (value : Option Value) (x : Said) → (h : Says free of value x) → plain (judged x.term) ≡ record { faults = []; kind = h.kind }
+pub plain_is : (free : Bool) (of : OccType) (value : Option Value) (x : Said) → (h : Says free of value x) → plain (judged x.term) ≡ record { faults = []; kind = h.kind }
 unfolding plain
 plain_is free of value x h = ap (λ (z : Term). (judged z).beside false) h.is ∙ ap (λ (j : Judged). j.beside false) (judged_single h.kind)
 
@@ -272,13 +272,16 @@ false_writes : (b : Bool) (x y : Written) (of : OccType) → b ≡ false → Wri
 false_writes true x y of is h = absurd cc
 false_writes false x y of is h = h
 
+pub limited_writes : (xs : List Extent) (ns : List ℕ) (of : OccType) → xs ≡ sized_extents ns → is_too_large (arrays ns of) ≡ false → Writes (arrays ns of) (limited (spanned_by xs (Some of)))
+limited_writes xs ns of is small =
+    subst (λ (zs : List Extent). Writes (arrays ns of) (limited (spanned_by zs (Some of)))) (sym is)
+    (subst (λ (o : Option OccType). Writes (arrays ns of) (limited o)) (sym (spanned_arrays ns of))
+    (false_writes (is_too_large (arrays ns of)) (record { faults = nameless code.T9 ∷ []; found = None }) (record { faults = []; found = Some (arrays ns of) }) (arrays ns of) small (refl, refl)))
+
 pub after_writes : (xs : List Spanning) (ns : List ℕ) (of : OccType) → all_spanning_faults xs ≡ [] → extents xs ≡ sized_extents ns → is_too_large (arrays ns of) ≡ false → Writes (arrays ns of) (array_after [] xs (Some of))
 unfolding array_after
 after_writes xs ns of clean is small =
-    let there : Writes (arrays ns of) (limited (spanned_by (extents xs) (Some of)))
-    = subst (λ (zs : List Extent). Writes (arrays ns of) (limited (spanned_by zs (Some of)))) (sym is)
-    (subst (λ (o : Option OccType). Writes (arrays ns of) (limited o)) (sym (spanned_arrays ns of))
-    (false_writes (is_too_large (arrays ns of)) (record { faults = nameless code.T9 ∷ []; found = None }) (record { faults = []; found = Some (arrays ns of) }) (arrays ns of) small (refl, refl))) in
+    let there = limited_writes (extents xs) ns of is small in
     (both_clean (all_spanning_faults xs) (limited (spanned_by (extents xs) (Some of))).faults clean there.0, there.1)
 
 pub over_writes : (xs : List Spanning) (ns : List ℕ) (of : OccType) (w : Written) → Writes of w → all_spanning_faults xs ≡ [] → extents xs ≡ sized_extents ns → is_too_large (arrays ns of) ≡ false → Writes (arrays ns of) (array_over xs w)

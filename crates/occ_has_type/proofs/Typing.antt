@@ -9,7 +9,7 @@ use Rattle.occ_expr_operations.specs.Written.{Written, array_over, array_over_mo
 use Rattle.occ_expr_operations.specs.declared.written.Opening.TheVariants as opening
 use Rattle.occ_expr_operations.proofs.Layers as layers
 use Rattle.occ_expr_operations.proofs.Views as views
-use Rattle.occ_forms_expressions.proofs.Induction.{Every, Steps, every_element, every_expr, every_type_form}
+use Rattle.occ_forms_expressions.proofs.Induction.{Every, Steps, every_element, every_expr, every_operand, every_type_form}
 use Rattle.occ_forms_expressions.specs.declared.tree.Bounds.{Bounds}
 use Rattle.occ_forms_expressions.specs.declared.tree.Bounds.TheOpen.{Operand-F}
 use Rattle.occ_forms_expressions.specs.declared.tree.Bounds.TheVariants as bv
@@ -588,3 +588,6 @@ element_reads = every_element steps
 
 pub type_reads : (ty : TypeForm) → OfType ty
 type_reads = every_type_form steps
+
+pub operand_digits : (e : Operand) → (operand_view e).digits ≡ digits_in e
+operand_digits e = (every_operand steps e).digits
