@@ -11,9 +11,9 @@ mod Calling
 mod Written
 mod Selecting
 mod Typing
-mod Known
 mod Finding
 mod Combining
 mod Taking
 mod Reaching
 mod Exactly
+mod Known

@@ -1,5 +1,5 @@
 //! What type an expression has, in the words of the language, and which typed trees are of a form: relations, and the laws that
-//! the rules of types keep to them.
+//! the rules of types give exactly these.
 #![tactic(auto)]
 
 mod laws;
