@@ -1,32 +1,30 @@
 -- Tables with their type, literals, conversions and calls: what the relation says of what is known of them.
-use Rattle.std.proofs.Common.{◌≡◌, ◌∙◌, ◌&&◌, ◌||◌, ◌⊎◌, inl, inr, ℕ, Bool, true, false, List, [], ◌∷◌, map, length, Option, Some, None, if◌then◌else◌, refl, ap, sym, subst, arith}
+use Rattle.std.proofs.Common.{◌≡◌, ◌∙◌, ◌⊎◌, inl, inr, ℕ, Bool, true, false, List, [], ◌∷◌, map, length, Option, Some, None, if◌then◌else◌, refl, ap, sym, subst, arith}
 use Rattle.std.specs.List.{list_any}
-use Rattle.std.specs.Prelude.{◌==◌, nat_le, pos, ◌-ℤ◌}
+use Rattle.std.specs.Prelude.{◌==◌, nat_le, pos}
 use Rattle.occ_base.specs.declared.code.Code.TheVariants as code
-use Rattle.occ_expr_operations.specs.Literals.{byte, decorated_kind, decorated_literal, literal, truth}
+use Rattle.occ_expr_operations.specs.Literals.{byte, decorated_kind, decorated_literal, literal}
 use Rattle.occ_expr_operations.specs.Operations.{converted, extreme_of, limit_of, plain}
-use Rattle.occ_expr_operations.specs.Parts.{ExprView, Said, argument_as, call, call_of, call_of_type, function_call, in_scope, no_call, one_result, only, result_after, table_as, table_of_one_as, terms}
+use Rattle.occ_expr_operations.specs.Parts.{Said, function_call, one_result, table_as, terms}
 use Rattle.occ_forms_expressions.specs.declared.tree.Expr.{Expr}
 use Rattle.occ_forms_expressions.specs.declared.tree.Extreme.{Extreme}
 use Rattle.occ_forms_expressions.specs.declared.tree.Literal.{Literal}
 use Rattle.occ_forms_expressions.specs.declared.tree.Literal.TheVariants as l
 use Rattle.occ_scope.specs.declared.scope.Scope.{Scope}
 use Rattle.occ_typing_operands.specs.Operators.{is_faulty, kinds}
-use Rattle.occ_typing_operands.specs.Outcomes.{decimal, fitting, hexadecimal, in_each, in_type}
+use Rattle.occ_typing_operands.specs.Outcomes.{decimal, fitting, hexadecimal}
 use Rattle.occ_typing_operands.specs.Parts.{mismatched}
 use Rattle.occ_typing_operands.specs.Settling.{Finding, base_of, fault_of, int, known, number, settled, silent}
-use Rattle.occ_typing_operands.specs.Wanting.{conversion, fitted, wanted}
+use Rattle.occ_typing_operands.specs.Wanting.{fitted}
 use Rattle.occ_typing_operands.specs.declared.kind.Kind.{Kind}
 use Rattle.occ_typing_operands.specs.declared.kind.Kind.TheVariants as k
 use Rattle.occ_typing_operands.specs.declared.kind.Known.{Known}
 use Rattle.occ_typing_rules.specs.Calling.{as_many, each_for, matched}
 use Rattle.occ_typing_rules.specs.Numbering.{any_faulty}
 use Rattle.occ_typing_rules.specs.Numbering as numbering
-use Rattle.occ_typing_rules.specs.Placing.{constant_in}
-use Rattle.occ_typing_tables.specs.Decorating.{decorated_table, field_values, misused, of_another_number, of_array, of_components, of_fields, of_record, of_values, whole}
+use Rattle.occ_typing_tables.specs.Decorating.{field_values, of_another_number, of_components, of_fields, of_values, whole}
 use Rattle.occ_typing_tables.specs.Extents.{arrayed, is_too_large}
-use Rattle.occ_typing_tables.specs.Measuring.{most, most_of}
-use Rattle.occ_typing_tables.specs.Measuring as measuring
+use Rattle.occ_typing_tables.specs.Measuring.{most_of}
 use Rattle.occ_typing_tables.specs.Terms.{Judged, alone, judged, judged_all, so_many, table_alone, table_type}
 use Rattle.occ_typing_tables.specs.declared.term.Term.{Term}
 use Rattle.occ_types.specs.Constant.{number_value, pattern_value, value_of}
@@ -38,14 +36,13 @@ use Rattle.occ_types.specs.declared.types.OccType.{OccType}
 use Rattle.occ_types.specs.declared.types.OccType.TheVariants as t
 use Rattle.occ_types.specs.declared.value.Primitive.{Primitive}
 use Rattle.occ_types.specs.declared.value.Primitive.TheVariants as p
-use Rattle.occ_types.specs.declared.value.Value.{Value}
 use Rattle.occ_has_type.specs.Free.{is_free, is_integer}
 use Rattle.occ_has_type.specs.Trees.{end_of}
 use Rattle.occ_has_type.specs.Types.{AreActuals, DecoratedHasType, HasType, IsNumber, IsTableOf, LiteralHasType, StandsAlone, Takes}
 use Rattle.occ_has_type.specs.Types as has
 use Rattle.occ_has_type.proofs.Fitting.{second_same}
 use Rattle.occ_has_type.proofs.Literals.{ends, int_base}
-use Rattle.occ_has_type.proofs.Means.{Converts, Has, Knows, Means, Settles, chosen, knows_as, knows_chosen, knows_conversion, knows_otherwise, knows_unless, settles}
+use Rattle.occ_has_type.proofs.Means.{Converts, Has, Knows, Means, Settles, chosen, knows_chosen, knows_conversion, knows_otherwise, knows_unless, settles}
 use Rattle.occ_has_type.proofs.Operating.{Beside, integer_means, neither_true}
 use Rattle.occ_has_type.proofs.Outcomes.{each_good}
 use Rattle.occ_has_type.proofs.Reading.{AllRead, Decorates, Reads, array_known, fields_of, typed_means, under_reads}

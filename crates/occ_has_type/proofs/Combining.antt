@@ -1,20 +1,18 @@
 -- Operators over operands that have types: nothing is reported, and this is known of the whole.
-use Rattle.std.proofs.Common.{◌≡◌, ◌∙◌, ◌++◌, ◌&&◌, ◌||◌, ℕ, Bool, true, false, List, [], ◌∷◌, map, Option, Some, None, if◌then◌else◌, refl, ap, sym, subst}
+use Rattle.std.proofs.Common.{◌≡◌, ◌∙◌, ◌++◌, ◌&&◌, ◌||◌, Bool, true, false, List, [], ◌∷◌, map, Option, Some, None, if◌then◌else◌, refl, ap, sym, subst}
 use Rattle.std.specs.List.{list_all, list_any}
-use Rattle.std.specs.Prelude.{ℤ, not}
+use Rattle.std.specs.Prelude.{not}
 use Rattle.occ_base.specs.declared.code.Code.TheVariants as code
 use Rattle.occ_base.specs.declared.fault.Fault.{Fault}
 use Rattle.occ_forms_expressions.specs.declared.tree.Operand.{Operand}
-use Rattle.occ_typing_operands.specs.Operators.{all_faults, allows, class_of, decided, first_bound, front_operated, given, is_arithmetic, is_faulty, is_int, is_not, is_of, is_there, kinds, known_count, needs_faulty, not_untyped, operated, operated_from, outcome_in, run_in, shift_operated, shifted_by, takes, value_outcome, verdict}
-use Rattle.occ_typing_operands.specs.Outcomes.{applied, fitting, in_each, in_type, misshifted, run, shifted}
+use Rattle.occ_typing_operands.specs.Operators.{all_faults, allows, class_of, decided, first_bound, front_operated, given, is_arithmetic, is_faulty, is_int, is_not, is_of, is_there, kinds, needs_faulty, not_untyped, operated, operated_from, outcome_in, run_in, shift_operated, shifted_by, takes, value_outcome, verdict}
+use Rattle.occ_typing_operands.specs.Outcomes.{applied, in_each, in_type, misshifted, run, shifted}
 use Rattle.occ_typing_operands.specs.Settling.{Finding, base_of, fault_of, int, known, landed, number, settled, silent}
 use Rattle.occ_typing_operands.specs.declared.kind.Untyped.{Untyped}
 use Rattle.occ_typing_operands.specs.declared.kind.Kind.{Kind}
 use Rattle.occ_typing_operands.specs.declared.kind.Kind.TheVariants as k
-use Rattle.occ_typing_operands.specs.declared.kind.Known.{Known}
 use Rattle.occ_typing_operands.specs.declared.kind.TypedValue.{TypedValue}
 use Rattle.occ_typing_operands.specs.declared.operate.Class.{Class}
-use Rattle.occ_typing_operands.specs.declared.operate.Class.TheVariants as c
 use Rattle.occ_types.specs.Constant.{folded_one}
 use Rattle.occ_types.specs.Fits.{fits}
 use Rattle.occ_types.specs.View.{as_primitive}
@@ -22,16 +20,14 @@ use Rattle.occ_types.specs.declared.constant.Monadic.{Monadic}
 use Rattle.occ_types.specs.declared.constant.Monadic.TheVariants as m
 use Rattle.occ_types.specs.declared.constant.Operator.{Operator}
 use Rattle.occ_types.specs.declared.types.OccType.{OccType}
-use Rattle.occ_types.specs.declared.types.OccType.TheVariants as t
 use Rattle.occ_types.specs.declared.value.Primitive.{Primitive}
 use Rattle.occ_types.specs.declared.value.Primitive.TheVariants as p
 use Rattle.occ_types.specs.declared.value.Value.{Value}
-use Rattle.occ_types.proofs.Agreeing.{as_primitive_at_primitive}
 use Rattle.occ_has_type.specs.Free.{are_free, is_free_operand}
 use Rattle.occ_has_type.specs.Types.{IsChosen}
 use Rattle.occ_has_type.specs.Values.{IsMade, IsRun, IsShifted}
 use Rattle.occ_has_type.proofs.Finding.{Comes, Finds, applied_comes, false_finds, landed_finds, run_comes, settled_finds, shifted_comes, true_finds}
-use Rattle.occ_has_type.proofs.Fitting.{first_same, named_fits_it, primitive_is}
+use Rattle.occ_has_type.proofs.Fitting.{named_fits_it, primitive_is}
 use Rattle.occ_has_type.proofs.Means.{chosen}
 use Rattle.occ_has_type.proofs.Operating.{allowed_base, arithmetic_class, back_false, both_true}
 

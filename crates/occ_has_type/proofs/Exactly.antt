@@ -7,8 +7,8 @@ use Rattle.occ_base.specs.declared.code.Code.TheVariants as code
 use Rattle.occ_base.specs.declared.fault.Fault.{Fault}
 use Rattle.occ_expr_operations.specs.Literals.{decorated_literal, literal, truth}
 use Rattle.occ_expr_operations.specs.Operations.{among, applied, converted, each_among, extreme_of, in_front, negated, number_of_faulty, operation, pair, pair_operator, plain, run_operator, shift, together}
-use Rattle.occ_expr_operations.specs.Parts.{ExprView, Said, SaidBounds, named, after, call, call_of, function_call, in_scope, named_element, own_faults, segment_element, segment_of, segment_within, single, subscript, subscripts, table, table_as, terms, whole_element, whole_element_of}
-use Rattle.occ_expr_operations.specs.Views.{BoundsView, BuiltinView, DimensionView, ElementView, NamedOperandView, OperandView, TypeFormView, bounds_view, builtin_view, decorated, decorated_table, digits_of, dimension_view, dimension_views, each, element_view, expr_view, expr_views, named_operand_view, operand_view, operand_views, operands, sized_dimension, type_form_view}
+use Rattle.occ_expr_operations.specs.Parts.{ExprView, Said, SaidBounds, named, after, call, call_of, in_scope, named_element, own_faults, segment_element, segment_of, segment_within, single, subscript, subscripts, table, table_as, terms, whole_element, whole_element_of}
+use Rattle.occ_expr_operations.specs.Views.{BoundsView, BuiltinView, DimensionView, ElementView, NamedOperandView, OperandView, TypeFormView, bounds_view, builtin_view, decorated, decorated_table, dimension_view, dimension_views, each, element_view, expr_view, expr_views, named_operand_view, operand_view, operand_views, operands, sized_dimension, type_form_view}
 use Rattle.occ_expr_operations.specs.Written.{Spanning, Written, all_spanning_faults, array_after, array_over, array_over_more, base_type, channel, count_fault, count_type, counted_channel, counted_type, channel_of_values, data_form, extent_of, extents, named_channel, primitive_of, values_channel as written_values}
 use Rattle.occ_expr_operations.specs.declared.written.Extent.{Extent}
 use Rattle.occ_expr_operations.specs.declared.written.Extent.TheVariants as extent
@@ -48,13 +48,12 @@ use Rattle.occ_scope.specs.declared.meaning.Meaning.{Meaning}
 use Rattle.occ_scope.specs.declared.meaning.Meaning.TheVariants as meaning
 use Rattle.occ_scope.specs.declared.meaning.Whole.{Whole}
 use Rattle.occ_scope.specs.declared.scope.Scope.{Scope}
-use Rattle.occ_typing_operands.specs.Operators.{all_faults, allows, class_of, front_operated, given, is_arithmetic, is_faulty, is_not, is_there, kinds, operated, shift_operated, takes, value_outcome}
+use Rattle.occ_typing_operands.specs.Operators.{all_faults, allows, class_of, front_operated, given, is_arithmetic, is_faulty, is_not, is_there, kinds, operated, shift_operated, takes}
 use Rattle.occ_typing_operands.specs.Outcomes.{decimal, fitting}
 use Rattle.occ_typing_operands.specs.Parts.{field_named, is_constant_outside}
 use Rattle.occ_typing_operands.specs.Settling.{Finding, base_of, int, known, number}
 use Rattle.occ_typing_operands.specs.Wanting.{converts}
 use Rattle.occ_typing_operands.specs.declared.kind.Kind.{Kind}
-use Rattle.occ_typing_operands.specs.declared.kind.Kind.TheVariants as k
 use Rattle.occ_typing_rules.specs.Calling.{each_for}
 use Rattle.occ_typing_tables.specs.Decorating.{field_value, field_values}
 use Rattle.occ_typing_tables.specs.Extents.{is_too_large}
@@ -93,7 +92,7 @@ use Rattle.occ_has_type.proofs.Finding.{Comes, Finds, after_finds, both_clean, t
 use Rattle.occ_has_type.proofs.Fitting.{first_same}
 use Rattle.occ_has_type.proofs.Frees as frees
 use Rattle.occ_has_type.proofs.Operating.{allowed_base}
-use Rattle.occ_has_type.proofs.Reaching.{Says, Sizes, Writes, int_fits, limited_writes, plain_is, component_finds, components_find, decorated_finds, field_finds, for_finds, from_finds, from_for_finds, function_finds, literal_comes, most_finds, one_field_finds, over_writes, segment_finds, size_finds, size_finds_count, sized_extents, values_find, after_writes}
+use Rattle.occ_has_type.proofs.Reaching.{Says, Writes, int_fits, limited_writes, plain_is, component_finds, components_find, decorated_finds, field_finds, for_finds, from_finds, from_for_finds, function_finds, literal_comes, most_finds, one_field_finds, over_writes, segment_finds, size_finds, size_finds_count, sized_extents, values_find}
 use Rattle.occ_has_type.proofs.Taking.{AllDone, Done, FirstIs, Stands, alone_finds, converted_finds, free_first, none_first, single_done, single_stands, table_done, table_stands, typed_first}
 use Rattle.occ_has_type.proofs.Typing.{operand_digits}
 

@@ -1,34 +1,26 @@
 -- Where nothing is reported, and this is known: of findings, and of what takes a type.
-use Rattle.std.proofs.Common.{◌≡◌, ◌∙◌, ◌++◌, ◌&&◌, ◌||◌, ℕ, Bool, true, false, List, [], ◌∷◌, map, Option, Some, None, if◌then◌else◌, refl, ap, sym, subst}
-use Rattle.std.specs.List.{list_all, list_any}
-use Rattle.std.specs.Prelude.{Result, Ok, Err}
-use Rattle.occ_base.specs.declared.code.Code.{Code}
+use Rattle.std.proofs.Common.{◌≡◌, ◌∙◌, ◌++◌, Bool, true, false, List, [], ◌∷◌, map, Option, Some, None, refl, ap, sym, subst}
+use Rattle.std.specs.Prelude.{Result}
 use Rattle.occ_base.specs.declared.code.Code.TheVariants as code
 use Rattle.occ_base.specs.declared.fault.Fault.{Fault}
 use Rattle.occ_expr_operations.specs.Parts.{after}
-use Rattle.occ_typing_operands.specs.Operators.{all_faults, allows, class_of, decided, first_bound, front_operated, given, is_arithmetic, is_faulty, is_int, is_not, is_of, is_there, kinds, known_count, needs_faulty, operated, operated_from, outcome_in, run_in, shift_operated, shifted_by, takes, value_outcome, verdict}
-use Rattle.occ_typing_operands.specs.Outcomes.{applied, if_constant, in_each, in_type, misshifted, outcome_of, run, shifted, with_all, worst}
-use Rattle.occ_typing_operands.specs.Settling.{Finding, base_of, fault_of, faulty_if, int, known, landed, landed_or_int, number, settled, settled_untyped}
-use Rattle.occ_typing_operands.specs.Wanting.{cast, conversion, converted_from, converts, fitted, wanted}
+use Rattle.occ_typing_operands.specs.Operators.{value_outcome}
+use Rattle.occ_typing_operands.specs.Outcomes.{applied, if_constant, in_type, outcome_of, run, shifted, with_all, worst}
+use Rattle.occ_typing_operands.specs.Settling.{Finding, base_of, fault_of, faulty_if, known, landed, landed_or_int, number, settled, settled_untyped}
+use Rattle.occ_typing_operands.specs.Wanting.{cast, fitted, wanted}
 use Rattle.occ_typing_operands.specs.declared.kind.Untyped.{Untyped}
 use Rattle.occ_typing_operands.specs.declared.kind.Kind.{Kind}
 use Rattle.occ_typing_operands.specs.declared.kind.Kind.TheVariants as k
-use Rattle.occ_typing_operands.specs.declared.kind.Known.{Known}
 use Rattle.occ_typing_operands.specs.declared.kind.TypedValue.{TypedValue}
 use Rattle.occ_typing_operands.specs.declared.kind.TypedValue.TheVariants as o
-use Rattle.occ_typing_operands.specs.declared.operate.Class.{Class}
-use Rattle.occ_typing_operands.specs.declared.operate.Class.TheVariants as c
 use Rattle.occ_typing_tables.specs.Terms.{and_then}
 use Rattle.occ_types.specs.Constant.{converted, folded, folded_one}
 use Rattle.occ_types.specs.Fits.{fits}
-use Rattle.occ_types.specs.View.{as_primitive}
 use Rattle.occ_types.specs.declared.constant.ConstFault.{ConstFault}
 use Rattle.occ_types.specs.declared.constant.Monadic.{Monadic}
-use Rattle.occ_types.specs.declared.constant.Monadic.TheVariants as m
 use Rattle.occ_types.specs.declared.constant.Operator.{Operator}
 use Rattle.occ_types.specs.declared.types.OccType.{OccType}
 use Rattle.occ_types.specs.declared.value.Primitive.{Primitive}
-use Rattle.occ_types.specs.declared.value.Primitive.TheVariants as p
 use Rattle.occ_types.specs.declared.value.Value.{Value}
 use Rattle.occ_has_type.specs.Values.{Is, IsCast, IsChain, IsChained, IsMade, IsRun, IsShifted, all_values, with_value}
 use Rattle.occ_has_type.proofs.Fitting.{base_there, second_same}

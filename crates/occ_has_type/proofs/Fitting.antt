@@ -1,8 +1,8 @@
 -- A type that is named over a primitive one fits itself.
-use Rattle.std.proofs.Common.{◌≡◌, ◌∙◌, ◌&&◌, ◌⊎◌, inl, inr, ℕ, Bool, true, false, List, [], ◌∷◌, map, Option, Some, None, refl, ap, sym, subst}
+use Rattle.std.proofs.Common.{◌≡◌, ◌∙◌, ◌&&◌, ◌⊎◌, inl, inr, ℕ, Bool, true, false, List, map, Option, Some, None, refl, ap, sym, subst}
 use Rattle.std.proofs.lemmas.Slice.Eq.{bytes_eq-Decides}
 use Rattle.occ_typing_operands.specs.Settling.{base_of, number}
-use Rattle.occ_types.specs.Fits.{array_fits, channel_fits, field_fits, fits, protocol_fits, record_fits, is_same_name, is_same_primitive, named_fits, primitive_fits, unnamed}
+use Rattle.occ_types.specs.Fits.{array_fits, channel_fits, field_fits, fits, protocol_fits, record_fits, is_same_name, is_same_primitive, named_fits, primitive_fits}
 use Rattle.occ_types.specs.View.{Layer, array_layer, as_array, as_channel, as_named, as_primitive, as_record, channel_layer, is_timer, is_unknown, named_layer, primitive_layer, record_layer, timer_layer, unknown_layer}
 use Rattle.occ_types.specs.declared.types.Field.{Field}
 use Rattle.occ_types.specs.declared.types.Item.{Item}

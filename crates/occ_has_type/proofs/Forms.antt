@@ -1,20 +1,17 @@
 -- Each tree that a form is given is one of that form: form by form.
-use Rattle.std.proofs.Common.{◌≡◌, ◌∙◌, ◌++◌, ℕ, Bool, List, [], ◌∷◌, Option, Some, None, refl, ap, sym, subst}
+use Rattle.std.proofs.Common.{◌≡◌, ◌++◌, ℕ, List, [], ◌∷◌, Option, Some, None, refl, ap, sym, subst}
 use Rattle.std.specs.Prelude.{pos, ◌-ℤ◌}
 use Rattle.occ_expr_operations.specs.Elements.{component_at, element_of, element_open, field_at, field_place, one_selector, place_tree, selector, selector_in, selectors, with_selectors}
-use Rattle.occ_expr_operations.specs.Literals.{decorated_literal, literal, truth}
-use Rattle.occ_expr_operations.specs.OpenExprs.{applied_open, front_open, by_value, called_tree, components_placed, conversion_open, decorated_open, formal_types, items_placed, literal_open, negated_open, opened, operand_call, operation_open, pair_open, typed_call, types_of, values_placed}
-use Rattle.occ_expr_operations.specs.Operations.{applied, converted, negated, extreme_of, operation, pair, pair_operator, run_operator}
-use Rattle.occ_expr_operations.specs.Parts.{ExprView, function_call, in_scope, named, named_element, only, segment_element, segment_within, subscript, table, terms}
-use Rattle.occ_expr_operations.specs.Views.{name_alone as alone_in, BoundsView, ElementView, NamedOperandView, OperandView, bounds_view, call_open, call_open_of, components_of, converted_call, converted_element, decorated, digits_of, element_view, expr_view, expr_views, for_of, from_for_of, from_of, item_opens, named_operand_view, named_tree, operand_opens, operand_view, operand_views, part_of, segment_tree, type_form_view, whole_element_open, whole_open_of}
-use Rattle.occ_expr_operations.specs.Written.{Written}
+use Rattle.occ_expr_operations.specs.Literals.{literal, truth}
+use Rattle.occ_expr_operations.specs.OpenExprs.{applied_open, front_open, by_value, called_tree, components_placed, conversion_open, decorated_open, formal_types, items_placed, negated_open, operand_call, operation_open, pair_open, typed_call, types_of, values_placed}
+use Rattle.occ_expr_operations.specs.Operations.{applied, negated, pair_operator, run_operator}
+use Rattle.occ_expr_operations.specs.Parts.{ExprView, function_call, in_scope, named, named_element, only, segment_element, segment_within, subscript, table}
+use Rattle.occ_expr_operations.specs.Views.{name_alone as alone_in, BoundsView, ElementView, NamedOperandView, OperandView, bounds_view, call_open, call_open_of, components_of, converted_call, converted_element, digits_of, element_view, expr_view, expr_views, for_of, from_for_of, from_of, item_opens, named_operand_view, named_tree, operand_opens, operand_view, operand_views, part_of, segment_tree, type_form_view, whole_element_open, whole_open_of}
 use Rattle.occ_expr_operations.specs.declared.written.Opening.TheVariants as opening
 use Rattle.occ_expr_operations.proofs.Views as views
-use Rattle.occ_forms_expressions.proofs.Induction.{Every, Steps, every_bounds, every_element, every_expr, every_operand}
+use Rattle.occ_forms_expressions.proofs.Induction.{Every, Steps, every_element, every_expr}
 use Rattle.occ_forms_expressions.specs.declared.tree.Bounds.{Bounds}
 use Rattle.occ_forms_expressions.specs.declared.tree.Bounds.TheVariants as bv
-use Rattle.occ_forms_expressions.specs.declared.tree.Builtin.{Builtin}
-use Rattle.occ_forms_expressions.specs.declared.tree.Dimension.{Dimension}
 use Rattle.occ_forms_expressions.specs.declared.tree.Element.{Element}
 use Rattle.occ_forms_expressions.specs.declared.tree.Element.TheVariants as ev
 use Rattle.occ_forms_expressions.specs.declared.tree.Expr.{Expr}
@@ -30,7 +27,6 @@ use Rattle.occ_forms_expressions.specs.declared.tree.Operand.TheVariants as ov
 use Rattle.occ_forms_expressions.specs.declared.tree.PairOperator.{PairOperator}
 use Rattle.occ_forms_expressions.specs.declared.tree.PairOperator.TheVariants as po
 use Rattle.occ_forms_expressions.specs.declared.tree.RunOperator.{RunOperator}
-use Rattle.occ_forms_expressions.specs.declared.tree.TypeForm.{TypeForm}
 use Rattle.occ_scope.specs.Lookup.{element}
 use Rattle.occ_scope.specs.Visible.{referent, visible}
 use Rattle.occ_scope.specs.declared.meaning.Meaning.{Meaning}
@@ -42,22 +38,21 @@ use Rattle.occ_typing_operands.specs.Settling.{base_of, int, number}
 use Rattle.occ_typing_operands.specs.declared.kind.Kind.{Kind}
 use Rattle.occ_typing_operands.specs.declared.kind.Kind.TheVariants as k
 use Rattle.occ_typing_operands.specs.declared.kind.Known.{Known}
-use Rattle.occ_typing_rules.specs.Placing.{all_placed, each_placed, placed, table_of, with_first}
+use Rattle.occ_typing_rules.specs.Placing.{all_placed, each_placed, placed, table_of}
 use Rattle.occ_typing_rules.specs.declared.open_expr.OpenExpr.{OpenExpr}
 use Rattle.occ_typing_rules.specs.declared.open_expr.OpenExpr.TheVariants as d
 use Rattle.occ_typing_rules.specs.declared.expr.Selector.{Selector}
 use Rattle.occ_typing_rules.specs.declared.expr.Selector.TheVariants as by
 use Rattle.occ_typing_rules.specs.declared.expr.TypedActual.{TypedActual}
 use Rattle.occ_typing_rules.specs.declared.expr.TypedActual.TheVariants as actual
-use Rattle.occ_typing_rules.specs.declared.expr.TypedElement.{TypedElement, out-TypedElement, roll-TypedElement}
+use Rattle.occ_typing_rules.specs.declared.expr.TypedElement.{TypedElement, out-TypedElement}
 use Rattle.occ_typing_rules.specs.declared.expr.TypedExpr.{TypedExpr}
 use Rattle.occ_typing_rules.specs.declared.expr.TypedExpr.TheVariants as typed
-use Rattle.occ_typing_tables.specs.Terms.{Judged, judged, judged_all}
+use Rattle.occ_typing_tables.specs.Terms.{Judged, judged}
 use Rattle.occ_types.specs.Fits.{unnamed}
 use Rattle.occ_types.specs.View.{as_array, fields_in}
 use Rattle.occ_types.specs.declared.constant.Monadic.{Monadic}
 use Rattle.occ_types.specs.declared.constant.Monadic.TheVariants as m
-use Rattle.occ_types.specs.declared.constant.Operator.{Operator}
 use Rattle.occ_types.specs.declared.constant.Operator.TheVariants as op
 use Rattle.occ_types.specs.declared.interface.Formal.{Formal}
 use Rattle.occ_types.specs.declared.types.Field.{Field}
@@ -65,7 +60,7 @@ use Rattle.occ_types.specs.declared.types.OccType.{OccType}
 use Rattle.occ_types.specs.declared.value.Value.TheVariants as v
 use Rattle.occ_has_type.specs.Trees.{AreOfExprs, AreOfOperands, AreOfSubscripts, IsOfBounds, IsOfElement, IsOfExpr, IsOfLiteral, IsOfNamed, IsOfOperand, decimal_in, end_in, front_operator, name_alone, part, values}
 use Rattle.occ_has_type.specs.Trees as of
-use Rattle.occ_has_type.proofs.Gives.{AllGive, Any, EachGives, Gives, Tells, any_first, any_table, conversion_gives, front_gives, gives_faulty, gives_opened, gives_typed, literal_gives, operation_gives, shift_gives, size_gives, table_gives}
+use Rattle.occ_has_type.proofs.Gives.{AllGive, Any, EachGives, Gives, any_first, any_table, conversion_gives, front_gives, gives_faulty, gives_opened, gives_typed, literal_gives, operation_gives, shift_gives, size_gives, table_gives}
 use Rattle.occ_has_type.proofs.Literals.{decimal_is, decorated_tells, extreme_tells, literal_tells}
 
 -- ---- what is shown of each form

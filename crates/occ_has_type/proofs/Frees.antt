@@ -1,5 +1,5 @@
 -- Which forms are free, form by form.
-use Rattle.std.proofs.Common.{◌≡◌, ◌∙◌, ◌&&◌, ℕ, Bool, true, false, List, [], ◌∷◌, map, refl, ap, sym}
+use Rattle.std.proofs.Common.{◌≡◌, ◌∙◌, ◌&&◌, ℕ, Bool, false, List, [], ◌∷◌, map, refl, ap, sym}
 use Rattle.occ_expr_operations.specs.Operations.{run_operator}
 use Rattle.occ_forms_expressions.specs.declared.tree.Bounds.TheFolds.{fold-Expr, fold-NamedOperand, fold-Operand, fold-roll-Expr, fold-roll-NamedOperand, fold-roll-Operand}
 use Rattle.occ_forms_expressions.specs.declared.tree.Bounds.TheOpen.{Expr-F, NamedOperand-F, Operand-F}

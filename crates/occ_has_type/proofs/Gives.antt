@@ -1,5 +1,5 @@
 -- What holds of each tree that an open expression becomes, whatever type is wanted of it.
-use Rattle.std.proofs.Common.{◌≡◌, ◌∙◌, ℕ, List, [], ◌∷◌, Option, Some, None, refl, ap, sym, subst}
+use Rattle.std.proofs.Common.{◌≡◌, ℕ, List, [], ◌∷◌, Option, Some, None, sym, subst}
 use Rattle.occ_expr_operations.specs.OpenExprs.{conversion_open, converted_of, converted_to, front_open, literal_open, opened, operands_type, operation_open, shift_open, shifted_known, shifted_untyped, size_of, size_open, type_alone}
 use Rattle.occ_expr_operations.specs.Operations.{converted, plain}
 use Rattle.occ_typing_operands.specs.Settling.{int}
@@ -8,7 +8,7 @@ use Rattle.occ_typing_operands.specs.declared.kind.Kind.{Kind}
 use Rattle.occ_typing_operands.specs.declared.kind.Kind.TheVariants as k
 use Rattle.occ_typing_operands.specs.declared.kind.Known.{Known}
 use Rattle.occ_typing_tables.specs.Terms.{Judged}
-use Rattle.occ_typing_rules.specs.Placing.{all_placed, applied_of, array_known, each_placed, known_in, operation_of, placed, placed_table, shifted_of, table_of, table_under, with_first}
+use Rattle.occ_typing_rules.specs.Placing.{all_placed, applied_of, each_placed, known_in, operation_of, placed, shifted_of, table_of, table_under, with_first}
 use Rattle.occ_typing_rules.specs.declared.open_expr.OpenExpr.{OpenExpr}
 use Rattle.occ_typing_rules.specs.declared.open_expr.OpenExpr.TheVariants as d
 use Rattle.occ_typing_rules.specs.declared.expr.TypedExpr.{TypedExpr}

@@ -1,5 +1,5 @@
 -- What is known of an expression, an element or a written type is exactly what the relation says: the statements of the laws.
-use Rattle.std.proofs.Common.{◌≡◌, ◌↔◌, [], Option, Some, subst}
+use Rattle.std.proofs.Common.{◌≡◌, ◌↔◌, [], Option, Some}
 use Rattle.occ_expr_operations.specs.Views.{element_view, expr_view, type_form_view}
 use Rattle.occ_expr_operations.specs.declared.written.Opening.TheVariants as opening
 use Rattle.occ_forms_expressions.specs.declared.tree.Element.{Element}

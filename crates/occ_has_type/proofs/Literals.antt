@@ -1,15 +1,15 @@
 -- Literals: their trees have the value that is written.
-use Rattle.std.proofs.Common.{◌≡◌, ◌∙◌, ℕ, Bool, true, false, List, [], ◌∷◌, length, Option, Some, None, if◌then◌else◌, refl, ap, sym, subst}
-use Rattle.std.specs.Prelude.{ℤ, pos, ◌-ℤ◌, nat_le}
+use Rattle.std.proofs.Common.{◌≡◌, ◌∙◌, ℕ, Bool, true, false, [], length, Option, Some, None, if◌then◌else◌, refl, ap, sym, subst}
+use Rattle.std.specs.Prelude.{ℤ, pos, nat_le}
 use Rattle.occ_base.specs.declared.code.Code.{Code}
 use Rattle.occ_base.specs.declared.code.Code.TheVariants as code
-use Rattle.occ_expr_operations.specs.Literals.{byte, decorated_kind, decorated_literal, literal, truth}
+use Rattle.occ_expr_operations.specs.Literals.{byte, decorated_kind, decorated_literal, literal}
 use Rattle.occ_expr_operations.specs.Operations.{extreme_of, limit_of}
 use Rattle.occ_forms_expressions.specs.declared.tree.Extreme.{Extreme}
 use Rattle.occ_forms_expressions.specs.declared.tree.Extreme.TheVariants as extreme
 use Rattle.occ_forms_expressions.specs.declared.tree.Literal.{Literal}
 use Rattle.occ_forms_expressions.specs.declared.tree.Literal.TheVariants as l
-use Rattle.occ_typing_operands.specs.Outcomes.{decimal, fitting, hexadecimal, in_each, in_type}
+use Rattle.occ_typing_operands.specs.Outcomes.{decimal, fitting, hexadecimal, in_type}
 use Rattle.occ_typing_operands.specs.Settling.{Finding, base_of, fault_of, faulty_if, int, known, landed, landed_or_int, number, settled, settled_untyped}
 use Rattle.occ_typing_operands.specs.Wanting.{fitted, wanted}
 use Rattle.occ_typing_operands.specs.declared.kind.Untyped.{Untyped}
@@ -18,21 +18,19 @@ use Rattle.occ_typing_operands.specs.declared.kind.Kind.TheVariants as k
 use Rattle.occ_typing_operands.specs.declared.kind.Known.{Known}
 use Rattle.occ_typing_operands.specs.declared.kind.TypedValue.{TypedValue}
 use Rattle.occ_typing_operands.specs.declared.kind.TypedValue.TheVariants as o
-use Rattle.occ_typing_rules.specs.Placing.{constant_in, known_in, value_in, value_in_base}
+use Rattle.occ_typing_rules.specs.Placing.{constant_in, known_in, value_in_base}
 use Rattle.occ_typing_tables.specs.Extents.{arrayed, is_too_large}
 use Rattle.occ_typing_tables.specs.Measuring.{most, most_of}
 use Rattle.occ_typing_tables.specs.Measuring as measuring
 use Rattle.occ_typing_tables.specs.Terms.{so_many, table_type}
-use Rattle.occ_typing_tables.specs.declared.measure.Limit.{Limit}
 use Rattle.occ_types.specs.Constant.{number_value, pattern_value, value_of}
-use Rattle.occ_types.specs.Fits.{alike, fits, is_data, unnamed}
+use Rattle.occ_types.specs.Fits.{alike, fits, is_data}
 use Rattle.occ_types.specs.View.{as_primitive}
 use Rattle.occ_types.specs.declared.types.OccType.{OccType}
 use Rattle.occ_types.specs.declared.types.OccType.TheVariants as t
 use Rattle.occ_types.specs.declared.value.Primitive.{Primitive}
 use Rattle.occ_types.specs.declared.value.Primitive.TheVariants as p
 use Rattle.occ_types.specs.declared.value.Value.{Value}
-use Rattle.occ_types.specs.declared.value.Value.TheVariants as v
 use Rattle.occ_types.proofs.Agreeing.{as_primitive_at_primitive, unnamed_of_primitive}
 use Rattle.occ_has_type.specs.Trees.{IsOfLiteral, decimal_in, end_in, end_of, hexadecimal_in}
 use Rattle.occ_has_type.proofs.Gives.{Tells}

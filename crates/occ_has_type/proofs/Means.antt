@@ -1,10 +1,10 @@
 -- What the relation says of what is known of an operand.
-use Rattle.std.proofs.Common.{◌≡◌, ◌∙◌, ◌⊎◌, ◌&&◌, ◌||◌, inl, inr, ℕ, Bool, true, false, List, [], ◌∷◌, map, Option, Some, None, if◌then◌else◌, refl, ap, sym, subst}
+use Rattle.std.proofs.Common.{◌≡◌, ◌⊎◌, inl, inr, Bool, true, false, [], Option, Some, None, if◌then◌else◌, refl, ap, subst}
 use Rattle.occ_base.specs.declared.code.Code.{Code}
 use Rattle.occ_base.specs.declared.code.Code.TheVariants as code
 use Rattle.occ_typing_operands.specs.Outcomes.{in_type, outcome_of}
 use Rattle.occ_typing_operands.specs.Operators.{value_outcome}
-use Rattle.occ_typing_operands.specs.Settling.{Finding, base_of, fault_of, faulty_if, int, known, landed, landed_or_int, number, settled, settled_untyped, silent}
+use Rattle.occ_typing_operands.specs.Settling.{Finding, base_of, fault_of, faulty_if, int, landed, landed_or_int, number, settled, settled_untyped, silent}
 use Rattle.occ_typing_operands.specs.Wanting.{cast, conversion, converted_from, converts, fitted, wanted}
 use Rattle.occ_typing_operands.specs.declared.kind.Untyped.{Untyped}
 use Rattle.occ_typing_operands.specs.declared.kind.Kind.{Kind}

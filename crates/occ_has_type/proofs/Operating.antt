@@ -1,14 +1,14 @@
 -- Operators: what they give on operands of which the relation says what is known.
-use Rattle.std.proofs.Common.{◌≡◌, ◌∙◌, ◌⊎◌, ◌&&◌, ◌||◌, inl, inr, ℕ, Bool, true, false, List, [], ◌∷◌, map, Option, Some, None, if◌then◌else◌, refl, ap, sym, subst}
+use Rattle.std.proofs.Common.{◌≡◌, ◌∙◌, ◌⊎◌, ◌&&◌, ◌||◌, inl, inr, Bool, true, false, List, [], ◌∷◌, map, Option, Some, None, if◌then◌else◌, refl, ap, sym, subst}
 use Rattle.std.specs.List.{list_all, list_any}
-use Rattle.std.specs.Prelude.{ℤ, not}
+use Rattle.std.specs.Prelude.{not}
 use Rattle.occ_base.specs.declared.code.Code.{Code}
 use Rattle.occ_base.specs.declared.code.Code.TheVariants as code
 use Rattle.occ_forms_expressions.specs.declared.tree.Operand.{Operand}
 use Rattle.occ_scope.specs.declared.scope.Scope.{Scope}
-use Rattle.occ_typing_operands.specs.Operators.{allows, class_of, decided, first_bound, front_operated, given, is_arithmetic, is_faulty, is_int, is_not, is_of, is_there, kinds, known_count, needs_faulty, not_number, not_untyped, operated, operated_from, outcome_in, run_in, shift_operated, shifted_by, takes, value_outcome, verdict}
-use Rattle.occ_typing_operands.specs.Outcomes.{applied, decimal, fitting, in_each, in_type, misshifted, run, shifted}
-use Rattle.occ_typing_operands.specs.Settling.{Finding, base_of, fault_of, int, known, landed, number, settled, silent}
+use Rattle.occ_typing_operands.specs.Operators.{allows, class_of, decided, first_bound, front_operated, given, is_arithmetic, is_faulty, is_int, is_not, is_of, is_there, kinds, known_count, needs_faulty, not_number, not_untyped, operated, operated_from, outcome_in, run_in, shift_operated, shifted_by, takes, value_outcome}
+use Rattle.occ_typing_operands.specs.Outcomes.{applied, fitting, in_each, in_type, misshifted, shifted}
+use Rattle.occ_typing_operands.specs.Settling.{Finding, base_of, fault_of, int, landed, number, settled, silent}
 use Rattle.occ_typing_operands.specs.declared.kind.Untyped.{Untyped}
 use Rattle.occ_typing_operands.specs.declared.kind.Kind.{Kind}
 use Rattle.occ_typing_operands.specs.declared.kind.Kind.TheVariants as k
@@ -18,7 +18,7 @@ use Rattle.occ_typing_operands.specs.declared.kind.TypedValue.TheVariants as o
 use Rattle.occ_typing_operands.specs.declared.operate.Class.{Class}
 use Rattle.occ_typing_operands.specs.declared.operate.Class.TheVariants as c
 use Rattle.occ_typing_rules.specs.Placing.{constant_in}
-use Rattle.occ_types.specs.Constant.{folded_one, number_value}
+use Rattle.occ_types.specs.Constant.{folded_one}
 use Rattle.occ_types.specs.Fits.{fits}
 use Rattle.occ_types.specs.View.{as_primitive}
 use Rattle.occ_types.specs.declared.constant.Monadic.{Monadic}
@@ -34,8 +34,8 @@ use Rattle.occ_has_type.specs.Types.{AreOperands, IsChosen, IsNumber, OperandHas
 use Rattle.occ_has_type.specs.Types as has
 use Rattle.occ_has_type.specs.Values.{IsMade, IsRun, IsShifted}
 use Rattle.occ_has_type.proofs.Fitting.{first_same, number_fits, primitive_is}
-use Rattle.occ_has_type.proofs.Means.{FreeMeans, Has, IsGood, Knows, Means, Settles, chosen, knows_as, knows_chosen, knows_found, knows_landed, knows_unless, settles, value_back, value_good}
-use Rattle.occ_has_type.proofs.Outcomes.{AllGood, Fit, applied_good, each_good, fitting_good, run_all_good, run_good, shifted_good}
+use Rattle.occ_has_type.proofs.Means.{FreeMeans, Has, IsGood, Knows, Means, Settles, chosen, knows_as, settles, value_back}
+use Rattle.occ_has_type.proofs.Outcomes.{AllGood, applied_good, each_good, fitting_good, run_all_good, run_good, shifted_good}
 
 means_landed : (free : Bool) (J : Has) (of : OccType) (x : TypedValue) → free ≡ false → (IsGood x → J of (constant_in x)) → Means free J (landed of x).kind
 means_landed free J of o.Unfit is h = tt

@@ -1,7 +1,7 @@
 -- What operators come to: where it is good, that of each operand is, and it is made of theirs.
-use Rattle.std.proofs.Common.{◌≡◌, ◌∙◌, Bool, true, false, List, [], ◌∷◌, map, Option, Some, None, if◌then◌else◌, refl, ap, sym, subst}
+use Rattle.std.proofs.Common.{◌≡◌, Bool, List, [], ◌∷◌, map, Option, Some, None, refl, ap, sym, subst}
 use Rattle.std.specs.Prelude.{Result, Ok, Err}
-use Rattle.occ_typing_operands.specs.Outcomes.{applied, fitting, if_constant, in_each, in_type, outcome_of, run, shifted, with_all, with_next, worse, worst}
+use Rattle.occ_typing_operands.specs.Outcomes.{applied, fitting, if_constant, in_each, in_type, outcome_of, run, shifted, with_all, worse, worst}
 use Rattle.occ_typing_operands.specs.declared.kind.TypedValue.{TypedValue}
 use Rattle.occ_typing_operands.specs.declared.kind.TypedValue.TheVariants as o
 use Rattle.occ_typing_rules.specs.Placing.{constant_in}

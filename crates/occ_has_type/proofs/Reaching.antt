@@ -1,37 +1,31 @@
 -- Elements, tables with their type, calls and written types whose parts have types: nothing is reported of them.
-use Rattle.std.proofs.Common.{◌≡◌, ◌∙◌, ◌++◌, ◌&&◌, ◌||◌, ℕ, suc, Bool, true, false, List, [], ◌∷◌, map, length, Option, Some, None, if◌then◌else◌, refl, ap, sym, subst, arith}
+use Rattle.std.proofs.Common.{◌≡◌, ◌∙◌, ◌++◌, ◌||◌, ℕ, Bool, true, false, List, [], ◌∷◌, length, Option, Some, None, if◌then◌else◌, refl, ap, sym, subst, arith}
 use Rattle.std.specs.List.{list_any}
-use Rattle.std.specs.Prelude.{◌==◌, ℤ, nat_le, pos, negsuc}
+use Rattle.std.specs.Prelude.{◌==◌, ℤ, nat_le, pos}
 use Rattle.occ_base.specs.Reporting.{nameless}
 use Rattle.occ_base.specs.declared.code.Code.TheVariants as code
-use Rattle.occ_base.specs.declared.fault.Fault.{Fault}
 use Rattle.occ_expr_operations.specs.Literals.{byte, decorated_kind, decorated_literal, literal}
 use Rattle.occ_expr_operations.specs.Operations.{extreme_of, limit_of, plain}
-use Rattle.occ_expr_operations.specs.Parts.{ExprView, Said, SaidBounds, actuals, after, component, field_or_component, function_call, in_scope, kind_of_whole, named, named_element, one_result, own_faults, part, result_after, segment_element, segment_of, segment_within, subscript, subscripts, table_as, terms}
-use Rattle.occ_expr_operations.specs.Views.{expr_view, expr_views}
+use Rattle.occ_expr_operations.specs.Parts.{ExprView, Said, component, field_or_component, function_call, one_result, own_faults, part, segment_of, subscript, terms}
 use Rattle.occ_expr_operations.specs.Written.{Spanning, Written, all_spanning_faults, array_after, array_over, extents, limited, spanned, spanned_by}
 use Rattle.occ_expr_operations.specs.declared.written.Extent.{Extent}
 use Rattle.occ_expr_operations.specs.declared.written.Extent.TheVariants as extent
 use Rattle.occ_forms_expressions.specs.declared.tree.Expr.{Expr}
 use Rattle.occ_forms_expressions.specs.declared.tree.Extreme.{Extreme}
-use Rattle.occ_forms_expressions.specs.declared.tree.Extreme.TheVariants as extreme
 use Rattle.occ_forms_expressions.specs.declared.tree.Literal.{Literal}
-use Rattle.occ_forms_expressions.specs.declared.tree.Literal.TheVariants as l
 use Rattle.occ_scope.specs.declared.scope.Scope.{Scope}
 use Rattle.occ_typing_operands.specs.Operators.{all_faults, is_faulty, kinds, value_outcome}
-use Rattle.occ_typing_operands.specs.Outcomes.{decimal, fitting, hexadecimal, in_each, in_type}
-use Rattle.occ_typing_operands.specs.Parts.{component_at, field, field_named, field_reported, is_constant_outside, subscripted, subscripted_array}
-use Rattle.occ_typing_operands.specs.Settling.{Finding, base_of, fault_of, int, known, landed, number, settled, silent}
+use Rattle.occ_typing_operands.specs.Outcomes.{decimal, fitting, hexadecimal}
+use Rattle.occ_typing_operands.specs.Parts.{component_at, field_named, field_reported, is_constant_outside, subscripted, subscripted_array}
+use Rattle.occ_typing_operands.specs.Settling.{Finding, fault_of, int, known, number, silent}
 use Rattle.occ_typing_operands.specs.Wanting.{wanted}
 use Rattle.occ_typing_operands.specs.declared.kind.Kind.{Kind}
 use Rattle.occ_typing_operands.specs.declared.kind.Kind.TheVariants as k
-use Rattle.occ_typing_operands.specs.declared.kind.Known.{Known}
 use Rattle.occ_typing_rules.specs.Calling.{Matched, as_many, each_for, matched}
-use Rattle.occ_typing_tables.specs.Decorating.{decorated_table, field_value, field_values, of_another_number, of_array, of_components, of_count, of_fields, of_record, of_values, whole}
+use Rattle.occ_typing_tables.specs.Decorating.{decorated_table, field_value, field_values, of_another_number, of_components, of_count, of_fields, of_values, whole}
 use Rattle.occ_typing_tables.specs.Dimensions.{Size, size, size_of_kind, size_of_number}
 use Rattle.occ_typing_tables.specs.Extents.{arrayed, is_too_large}
 use Rattle.occ_typing_tables.specs.Measuring.{most_of, size_of_array, size_outcome, sized}
-use Rattle.occ_typing_tables.specs.Measuring as measuring
 use Rattle.occ_typing_tables.specs.Segments.{constant_of, count_of, for_count, from_base, from_for, is_beyond, is_negative, number_in, segment_in, taken, to_the_end}
 use Rattle.occ_typing_tables.specs.Segments as segments
 use Rattle.occ_typing_tables.specs.Terms.{Judged, and_then, each_under, judged, judged_all, so_many, table_type, with_items}
@@ -41,7 +35,7 @@ use Rattle.occ_typing_tables.specs.declared.term.Term.TheVariants as v
 use Rattle.occ_typing_tables.proofs.Judging.{judged_single}
 use Rattle.occ_types.specs.Constant.{number_of, number_value, pattern_value, value_of}
 use Rattle.occ_types.specs.Fits.{alike, counts_fit, fits, is_data, unnamed}
-use Rattle.occ_types.specs.View.{as_array, as_record, fields_in, is_unknown, second}
+use Rattle.occ_types.specs.View.{as_array, fields_in, is_unknown, second}
 use Rattle.occ_types.specs.declared.interface.Formal.{Formal}
 use Rattle.occ_types.specs.declared.types.Field.{Field}
 use Rattle.occ_types.specs.declared.types.OccType.{OccType}
@@ -50,17 +44,17 @@ use Rattle.occ_types.specs.declared.value.Primitive.{Primitive}
 use Rattle.occ_types.specs.declared.value.Primitive.TheVariants as p
 use Rattle.occ_types.specs.declared.value.Value.{Value}
 use Rattle.occ_types.proofs.Agreeing.{as_record_at_array}
-use Rattle.occ_has_type.specs.Free.{is_free, is_integer}
+use Rattle.occ_has_type.specs.Free.{is_integer}
 use Rattle.occ_has_type.specs.Trees.{end_of}
 use Rattle.occ_has_type.specs.Types.{DecoratedHasType, IsArray, IsNumber, LiteralHasType, arrays}
 use Rattle.occ_has_type.specs.Types as has
 use Rattle.occ_has_type.specs.Values.{IsCount}
 use Rattle.occ_has_type.proofs.Combining.{integer_comes}
-use Rattle.occ_has_type.proofs.Finding.{Comes, Finds, after_finds, both_clean, false_finds, landed_finds, settled_finds, then_finds, true_finds, wanted_finds}
+use Rattle.occ_has_type.proofs.Finding.{Comes, Finds, after_finds, both_clean, false_finds, landed_finds, then_finds, true_finds, wanted_finds}
 use Rattle.occ_has_type.proofs.Fitting.{array_is, number_fits}
 use Rattle.occ_has_type.proofs.Literals.{ends, int_base}
 use Rattle.occ_has_type.proofs.Means.{chosen}
-use Rattle.occ_has_type.proofs.Taking.{AllDone, Done, Fitted, each_fitted, items_finds}
+use Rattle.occ_has_type.proofs.Taking.{AllDone, each_fitted, items_finds}
 
 pub int_fits : fits int int ≡ true
 int_fits = number_fits int p.Int (ap number int_base)

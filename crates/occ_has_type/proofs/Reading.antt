@@ -1,24 +1,20 @@
 -- Operands, tables among them: what the relation says of what is known of them, whatever is wanted.
 use Rattle.std.proofs.Common.{◌≡◌, ◌∙◌, ◌&&◌, ◌||◌, ◌⊎◌, inl, inr, ℕ, suc, Bool, true, false, List, [], ◌∷◌, map, length, Option, Some, None, if◌then◌else◌, refl, ap, sym, subst}
 use Rattle.std.specs.List.{list_any}
-use Rattle.std.specs.Prelude.{◌==◌, nat_le, not}
+use Rattle.std.specs.Prelude.{nat_le, not}
 use Rattle.occ_base.specs.declared.code.Code.TheVariants as code
-use Rattle.occ_expr_operations.specs.Operations.{converted}
 use Rattle.occ_forms_expressions.specs.declared.tree.Expr.{Expr}
 use Rattle.occ_scope.specs.declared.scope.Scope.{Scope}
 use Rattle.occ_typing_operands.specs.Operators.{is_faulty, kinds, needs_faulty}
-use Rattle.occ_typing_operands.specs.Parts.{mismatched}
-use Rattle.occ_typing_operands.specs.Settling.{Finding, base_of, fault_of, faulty_if, int, known, number, settled, settled_untyped, silent}
+use Rattle.occ_typing_operands.specs.Settling.{Finding, base_of, faulty_if, int, known, number, settled, settled_untyped, silent}
 use Rattle.occ_typing_operands.specs.Wanting.{fitted}
 use Rattle.occ_typing_operands.specs.declared.kind.Kind.{Kind}
 use Rattle.occ_typing_operands.specs.declared.kind.Kind.TheVariants as k
 use Rattle.occ_typing_operands.specs.declared.kind.Known.{Known}
-use Rattle.occ_typing_rules.specs.Calling.{each_for, matched}
-use Rattle.occ_typing_rules.specs.Numbering.{any_faulty}
-use Rattle.occ_typing_tables.specs.Decorating.{decorated_table, field_value, field_values, misused, of_another_number, of_array, of_components, of_count, of_fields, of_record, of_values, whole}
+use Rattle.occ_typing_tables.specs.Decorating.{field_value, field_values, of_array, of_count, whole}
 use Rattle.occ_typing_tables.specs.Extents.{arrayed, is_too_large}
 use Rattle.occ_typing_tables.specs.Merging.{merged}
-use Rattle.occ_typing_tables.specs.Terms.{Judged, after_first, all_under, alone, each_own_or_alone, each_under, first_settled, first_type, fitted_to, has_fault, is_faulty_settled, is_untyped_kind, items_type, joined, judged, judged_all, merged_all, merged_next, own_or_alone, settled_under, so_many, stands, table_alone, table_of, table_settled, table_type, table_under, term_step, unless_faulty, with_items}
+use Rattle.occ_typing_tables.specs.Terms.{Judged, after_first, alone, each_own_or_alone, each_under, first_settled, first_type, fitted_to, has_fault, is_faulty_settled, is_untyped_kind, items_type, joined, judged, judged_all, merged_all, own_or_alone, settled_under, so_many, table_alone, table_of, table_type, term_step}
 use Rattle.occ_typing_tables.specs.declared.table.Settled.{Settled}
 use Rattle.occ_typing_tables.specs.declared.term.Term.{Term, out-Term, roll-Term}
 use Rattle.occ_typing_tables.specs.declared.term.Term.TheOpen.{Term-F}
@@ -26,8 +22,7 @@ use Rattle.occ_typing_tables.specs.declared.term.Term.TheViews.{roll-out-Term}
 use Rattle.occ_typing_tables.specs.declared.term.Term.TheVariants as v
 use Rattle.occ_typing_tables.proofs.Judging.{judged_single, judged_table}
 use Rattle.occ_types.specs.Fits.{counts_fit, fits, is_data, unnamed}
-use Rattle.occ_types.specs.View.{as_array, as_primitive, fields_in, is_unknown}
-use Rattle.occ_types.specs.declared.interface.Formal.{Formal}
+use Rattle.occ_types.specs.View.{as_array, as_primitive, is_unknown}
 use Rattle.occ_types.specs.declared.types.Field.{Field}
 use Rattle.occ_types.specs.declared.types.OccType.{OccType}
 use Rattle.occ_types.specs.declared.types.OccType.TheVariants as t

@@ -1,26 +1,25 @@
 -- Elements: what the relation says of what is known of them.
-use Rattle.std.proofs.Common.{◌≡◌, ◌∙◌, ◌++◌, ◌||◌, ℕ, Bool, true, false, List, [], ◌∷◌, map, Option, Some, None, if◌then◌else◌, refl, ap, sym, subst}
+use Rattle.std.proofs.Common.{◌≡◌, ◌||◌, ℕ, Bool, true, false, List, [], ◌∷◌, Option, Some, None, refl, sym, subst}
 use Rattle.std.specs.List.{list_any}
 use Rattle.std.specs.Prelude.{ℤ, pos}
 use Rattle.occ_base.specs.declared.code.Code.TheVariants as code
-use Rattle.occ_base.specs.declared.fault.Fault.{Fault}
 use Rattle.occ_expr_operations.specs.Operations.{plain}
-use Rattle.occ_expr_operations.specs.Parts.{ExprView, Said, SaidBounds, component, field_or_component, kind_of_whole, named, named_element, part, segment_element, segment_of, segment_within, subscript, subscripts}
-use Rattle.occ_expr_operations.specs.Views.{ElementView, bounds_view, element_view, expr_view, expr_views}
+use Rattle.occ_expr_operations.specs.Parts.{ExprView, Said, SaidBounds, component, field_or_component, kind_of_whole, named, named_element, part, segment_element, segment_of, subscript, subscripts}
+use Rattle.occ_expr_operations.specs.Views.{expr_view, expr_views}
 use Rattle.occ_forms_expressions.proofs.Induction.{Every}
 use Rattle.occ_forms_expressions.specs.declared.tree.Bounds.{Bounds}
 use Rattle.occ_forms_expressions.specs.declared.tree.Bounds.TheVariants as bv
 use Rattle.occ_forms_expressions.specs.declared.tree.Element.{Element}
 use Rattle.occ_forms_expressions.specs.declared.tree.Element.TheVariants as ev
 use Rattle.occ_forms_expressions.specs.declared.tree.Expr.{Expr}
-use Rattle.occ_scope.specs.Lookup.{Found, element}
+use Rattle.occ_scope.specs.Lookup.{element}
 use Rattle.occ_scope.specs.Visible.{visible}
 use Rattle.occ_scope.specs.declared.meaning.Meaning.{Meaning}
 use Rattle.occ_scope.specs.declared.meaning.Meaning.TheVariants as meaning
 use Rattle.occ_scope.specs.declared.meaning.Whole.{Whole}
 use Rattle.occ_scope.specs.declared.scope.Scope.{Scope}
 use Rattle.occ_typing_operands.specs.Operators.{is_faulty}
-use Rattle.occ_typing_operands.specs.Parts.{component_at, field, field_named, field_reported, is_constant_outside, mismatched, subscripted, subscripted_array}
+use Rattle.occ_typing_operands.specs.Parts.{component_at, field_named, field_reported, is_constant_outside, subscripted_array}
 use Rattle.occ_typing_operands.specs.Settling.{Finding, fault_of, int, known, settled, silent}
 use Rattle.occ_typing_operands.specs.Wanting.{wanted}
 use Rattle.occ_typing_operands.specs.declared.kind.Kind.{Kind}
@@ -28,10 +27,10 @@ use Rattle.occ_typing_operands.specs.declared.kind.Kind.TheVariants as k
 use Rattle.occ_typing_operands.specs.declared.kind.Known.{Known}
 use Rattle.occ_typing_tables.specs.Segments.{bound, constant_of, count_of, is_beyond, is_negative, no_segment, number_in, segment_in, taken, to_the_end}
 use Rattle.occ_typing_tables.specs.Segments as segments
-use Rattle.occ_typing_tables.specs.Terms.{Judged, judged, unless_faulty}
+use Rattle.occ_typing_tables.specs.Terms.{judged, unless_faulty}
 use Rattle.occ_typing_tables.specs.declared.selection.BoundTerms.{BoundTerms}
 use Rattle.occ_typing_tables.specs.declared.selection.BoundTerms.TheVariants as bounds
-use Rattle.occ_types.specs.Fits.{fits, unnamed}
+use Rattle.occ_types.specs.Fits.{unnamed}
 use Rattle.occ_types.specs.View.{as_array, fields_in, is_unknown}
 use Rattle.occ_types.specs.declared.types.Field.{Field}
 use Rattle.occ_types.specs.declared.types.OccType.{OccType}
@@ -42,7 +41,7 @@ use Rattle.occ_has_type.specs.Trees.{name_alone}
 use Rattle.occ_has_type.specs.Types.{ElementHasType, HasBounds, HasType, Selects, StandsAlone, Takes}
 use Rattle.occ_has_type.specs.Types as has
 use Rattle.occ_has_type.proofs.Calling.{mismatched_faulty}
-use Rattle.occ_has_type.proofs.Means.{Fits, Has, Knows, Means, chosen, knows_as, knows_otherwise, knows_unless, knows_wanted}
+use Rattle.occ_has_type.proofs.Means.{Fits, Knows, Means, chosen, knows_as, knows_otherwise, knows_unless, knows_wanted}
 use Rattle.occ_has_type.proofs.Operating.{Beside, neither_true}
 use Rattle.occ_has_type.proofs.Reading.{ItemReads, int_place, takes_int, under_reads}
 

@@ -1,23 +1,19 @@
 -- Operands and tables that take a type, or stand alone: nothing is reported of them, and this is known.
-use Rattle.std.proofs.Common.{◌≡◌, ◌∙◌, ◌++◌, ◌&&◌, ◌||◌, ℕ, suc, Bool, true, false, List, [], ◌∷◌, map, length, Option, Some, None, if◌then◌else◌, refl, ap, sym, subst}
+use Rattle.std.proofs.Common.{◌≡◌, ◌∙◌, ◌||◌, ℕ, suc, Bool, true, false, List, [], ◌∷◌, map, length, Option, Some, None, if◌then◌else◌, refl, ap, sym, subst}
 use Rattle.std.specs.List.{list_any}
 use Rattle.std.specs.Prelude.{nat_le}
 use Rattle.occ_base.specs.declared.code.Code.TheVariants as code
-use Rattle.occ_base.specs.declared.fault.Fault.{Fault}
 use Rattle.occ_expr_operations.specs.Operations.{converted, plain}
 use Rattle.occ_forms_expressions.specs.declared.tree.Expr.{Expr}
-use Rattle.occ_scope.specs.declared.scope.Scope.{Scope}
 use Rattle.occ_typing_operands.specs.Operators.{all_faults, is_faulty, kinds}
 use Rattle.occ_typing_operands.specs.Settling.{Finding, base_of, fault_of, int, known, landed, settled, silent}
 use Rattle.occ_typing_operands.specs.Wanting.{cast, conversion, converted_from, converts, fitted}
 use Rattle.occ_typing_operands.specs.declared.kind.Kind.{Kind}
 use Rattle.occ_typing_operands.specs.declared.kind.Kind.TheVariants as k
-use Rattle.occ_typing_operands.specs.declared.kind.Known.{Known}
 use Rattle.occ_typing_tables.specs.Extents.{arrayed, is_too_large}
-use Rattle.occ_typing_tables.specs.Terms.{Judged, after_first, all_settled, all_under, each_own_or_alone, each_under, first_settled, first_type, fitted_to, is_faulty_settled, is_untyped_kind, items_type, joined, judged, judged_all, merged_all, reported_of, settled_under, so_many, table_alone, table_of, table_settled, table_type, table_under, term_step, unless_faulty, with_items}
+use Rattle.occ_typing_tables.specs.Terms.{Judged, after_first, all_under, each_own_or_alone, each_under, first_settled, first_type, fitted_to, is_faulty_settled, is_untyped_kind, items_type, joined, judged, judged_all, merged_all, reported_of, settled_under, so_many, table_alone, table_of, table_settled, table_type, unless_faulty, with_items}
 use Rattle.occ_typing_tables.specs.declared.table.Settled.{Settled}
 use Rattle.occ_typing_tables.specs.declared.term.Term.{Term}
-use Rattle.occ_typing_tables.specs.declared.term.Term.TheOpen.{Term-F}
 use Rattle.occ_typing_tables.specs.declared.term.Term.TheVariants as v
 use Rattle.occ_typing_tables.proofs.Judging.{judged_single, judged_table}
 use Rattle.occ_types.specs.Fits.{fits, is_data}
@@ -29,7 +25,6 @@ use Rattle.occ_has_type.specs.Free.{is_free}
 use Rattle.occ_has_type.specs.Types.{IsAlone, IsArray, agreed, merged_with}
 use Rattle.occ_has_type.specs.Values.{IsCast}
 use Rattle.occ_has_type.proofs.Finding.{Comes, Finds, both_clean, cast_comes, false_finds, fitted_finds, free_same, landed_finds, settled_finds, then_finds, true_finds, wanted_finds}
-use Rattle.occ_has_type.proofs.Means.{chosen}
 use Rattle.occ_has_type.proofs.Reading.{same_merged, types_in}
 
 -- ---- one operand

@@ -1,11 +1,11 @@
 -- What is known of each form, the relation says of it: form by form.
-use Rattle.std.proofs.Common.{◌≡◌, ◌∙◌, ◌++◌, ◌&&◌, ◌⊎◌, inl, inr, ℕ, Bool, true, false, List, [], ◌∷◌, map, Option, Some, None, refl, ap, sym, subst}
+use Rattle.std.proofs.Common.{◌≡◌, ◌∙◌, ◌&&◌, inl, inr, ℕ, Bool, true, false, List, [], ◌∷◌, Option, Some, None, refl, ap, sym, subst}
 use Rattle.std.specs.Prelude.{pos, ◌-ℤ◌, not}
-use Rattle.occ_expr_operations.specs.Literals.{decorated_literal, literal, truth}
-use Rattle.occ_expr_operations.specs.Operations.{among, another_has_fault, applied, converted, each_among, extreme_of, in_front, negated, number_of_faulty, operation, pair, pair_operator, plain, run_operator, shift, together}
-use Rattle.occ_expr_operations.specs.Parts.{ExprView, Said, call, call_of, call_of_type, element_of_type, in_scope, named_element, no_call, only, segment_element, single, table, table_as, terms, whole_element, whole_element_of}
+use Rattle.occ_expr_operations.specs.Literals.{decorated_literal, literal}
+use Rattle.occ_expr_operations.specs.Operations.{another_has_fault, applied, converted, each_among, extreme_of, in_front, negated, number_of_faulty, operation, pair, pair_operator, plain, run_operator}
+use Rattle.occ_expr_operations.specs.Parts.{ExprView, Said, call, call_of, call_of_type, element_of_type, in_scope, named_element, no_call, only, table, table_as, terms, whole_element, whole_element_of}
 use Rattle.occ_expr_operations.specs.Views.{BoundsView, BuiltinView, DimensionView, ElementView, NamedOperandView, OperandView, TypeFormView, bounds_view, builtin_view, decorated, decorated_table, digits_of, dimension_view, dimension_views, each, element_view, expr_view, expr_views, name_alone as alone_in, named_operand_view, operand_view, operand_views, operands, type_form_view}
-use Rattle.occ_expr_operations.specs.Written.{Written, array_over, array_over_more, count_type, counted_channel, data_form, primitive_of}
+use Rattle.occ_expr_operations.specs.Written.{array_over, array_over_more, data_form}
 use Rattle.occ_expr_operations.specs.declared.written.Opening.TheVariants as opening
 use Rattle.occ_expr_operations.proofs.Layers as layers
 use Rattle.occ_expr_operations.proofs.Views as views
@@ -43,34 +43,26 @@ use Rattle.occ_scope.specs.declared.meaning.Meaning.TheVariants as meaning
 use Rattle.occ_scope.specs.declared.scope.Scope.{Scope}
 use Rattle.occ_typing_operands.specs.Operators.{class_of, is_arithmetic, is_not, kinds}
 use Rattle.occ_typing_operands.specs.Outcomes.{decimal, fitting}
-use Rattle.occ_typing_operands.specs.Settling.{Finding, base_of, int, known}
+use Rattle.occ_typing_operands.specs.Settling.{base_of, int}
 use Rattle.occ_typing_operands.specs.Wanting.{converts}
 use Rattle.occ_typing_operands.specs.declared.kind.Kind.{Kind}
 use Rattle.occ_typing_operands.specs.declared.kind.Kind.TheVariants as k
 use Rattle.occ_typing_operands.specs.declared.kind.Known.{Known}
-use Rattle.occ_typing_operands.specs.declared.kind.TypedValue.{TypedValue}
-use Rattle.occ_typing_operands.specs.declared.kind.TypedValue.TheVariants as o
 use Rattle.occ_typing_rules.specs.Placing.{constant_in}
 use Rattle.occ_typing_tables.specs.Measuring.{size_of_array, size_outcome, sized}
 use Rattle.occ_typing_tables.specs.Terms.{Judged, judged, judged_all}
-use Rattle.occ_typing_tables.specs.declared.term.Term.{Term}
 use Rattle.occ_typing_tables.specs.declared.term.Term.TheVariants as v
 use Rattle.occ_types.specs.Constant.{number_value}
 use Rattle.occ_types.specs.Fits.{fits, unnamed}
 use Rattle.occ_types.specs.View.{as_array}
 use Rattle.occ_types.specs.declared.constant.Monadic.{Monadic}
 use Rattle.occ_types.specs.declared.constant.Monadic.TheVariants as m
-use Rattle.occ_types.specs.declared.constant.Operator.{Operator}
 use Rattle.occ_types.specs.declared.constant.Operator.TheVariants as op
-use Rattle.occ_types.specs.declared.interface.Formal.{Formal}
 use Rattle.occ_types.specs.declared.types.OccType.{OccType}
-use Rattle.occ_types.specs.declared.types.OccType.TheVariants as t
-use Rattle.occ_types.specs.declared.types.Protocol.TheVariants as protocol
-use Rattle.occ_types.specs.declared.value.Primitive.{Primitive}
 use Rattle.occ_types.specs.declared.value.Primitive.TheVariants as p
 use Rattle.occ_types.specs.declared.value.Value.{Value}
 use Rattle.occ_has_type.specs.Free.{are_free, is_free, is_free_named, is_free_operand, is_integer, pair_is_free, stays_free}
-use Rattle.occ_has_type.specs.Trees.{digits_in, digits_layer, end_of, front_operator, name_alone}
+use Rattle.occ_has_type.specs.Trees.{digits_in, digits_layer, front_operator, name_alone}
 use Rattle.occ_has_type.specs.Types.{CallHasType, DecoratedHasType, ElementHasType, HasType, IsArrayOf, IsBuiltin, IsData, IsNoNegative, IsTable, IsTableAlone, IsTableOf, IsWritten, LiteralHasType, NamedAlone, NamedHasType, OperandAlone, OperandHasType, StandsAlone, Takes}
 use Rattle.occ_has_type.specs.Types as has
 use Rattle.occ_has_type.specs.Values.{IsCast, IsCount}
@@ -78,7 +70,7 @@ use Rattle.occ_has_type.proofs.Calling.{CallKnown, DecoratedKnown, MostKnown, co
 use Rattle.occ_has_type.proofs.Frees as frees
 use Rattle.occ_has_type.proofs.Gives.{Any}
 use Rattle.occ_has_type.proofs.Means.{Converts, Has, IsGood, Knows, Means, knows_as, knows_landed, means_as}
-use Rattle.occ_has_type.proofs.Operating.{AllMean, Beside, Fronts, Runs, front_means, fronts_beside, integer_means, operated_means, shift_means, shifts_beside}
+use Rattle.occ_has_type.proofs.Operating.{AllMean, Beside, front_means, fronts_beside, integer_means, operated_means, shift_means, shifts_beside}
 use Rattle.occ_has_type.proofs.Outcomes.{each_good, fitting_good}
 use Rattle.occ_has_type.proofs.Reading.{AllRead, Alone_of, Decorates, ItemReads, NoPrimitive, Reads, TableAlone, TableTaken, Taken, reads_as, reads_free, single_reads, table_reads, typed_means}
 use Rattle.occ_has_type.proofs.Selecting.{BoundsRead, Element_of, ExprReads, IsNamed, OfExpr, for_reads, from_for_reads, from_reads, named_known, segment_known}

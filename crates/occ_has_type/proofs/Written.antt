@@ -1,14 +1,13 @@
 -- Types that are written: what is found of them is what the relation says.
-use Rattle.std.proofs.Common.{◌≡◌, ◌∙◌, ◌++◌, ℕ, Bool, true, false, List, [], ◌∷◌, Option, Some, None, if◌then◌else◌, refl, ap, sym, subst}
+use Rattle.std.proofs.Common.{◌≡◌, ◌∙◌, ℕ, Bool, true, false, List, [], ◌∷◌, Option, Some, None, if◌then◌else◌, refl, ap, sym, subst}
 use Rattle.std.specs.Prelude.{ℤ, pos, negsuc, nat_le}
 use Rattle.occ_base.specs.Reporting.{nameless}
 use Rattle.occ_base.specs.declared.code.Code.TheVariants as code
 use Rattle.occ_expr_operations.specs.Parts.{Said}
-use Rattle.occ_expr_operations.specs.Views.{DimensionView, dimension_view, dimension_views, each, sized_dimension}
-use Rattle.occ_expr_operations.specs.Written.{Spanning, Written, array_after, array_over, array_over_more, base_type, channel, channel_if, channel_of_values, count_fault, count_type, counted_channel, counted_type, data_form, extent_of, extents, limited, primitive_of, spanned, spanned_by}
+use Rattle.occ_expr_operations.specs.Views.{sized_dimension}
+use Rattle.occ_expr_operations.specs.Written.{Spanning, Written, array_after, array_over, array_over_more, base_type, channel, channel_if, channel_of_values, count_fault, count_type, counted_type, data_form, extent_of, extents, limited, primitive_of, spanned, spanned_by}
 use Rattle.occ_expr_operations.specs.declared.written.Extent.{Extent}
 use Rattle.occ_expr_operations.specs.declared.written.Extent.TheVariants as extent
-use Rattle.occ_expr_operations.specs.declared.written.Opening.TheVariants as opening
 use Rattle.occ_forms_expressions.specs.declared.tree.Builtin.TheVariants as uv
 use Rattle.occ_forms_expressions.specs.declared.tree.ChannelWords.{ChannelWords}
 use Rattle.occ_forms_expressions.specs.declared.tree.DataBase.{DataBase}
@@ -16,33 +15,29 @@ use Rattle.occ_forms_expressions.specs.declared.tree.DataBase.TheVariants as bas
 use Rattle.occ_forms_expressions.specs.declared.tree.Dimension.{Dimension}
 use Rattle.occ_forms_expressions.specs.declared.tree.Dimension.TheVariants as dv
 use Rattle.occ_forms_expressions.specs.declared.tree.Expr.{Expr}
-use Rattle.occ_scope.specs.Lookup.{Found, carries, data_type}
+use Rattle.occ_scope.specs.Lookup.{carries, data_type}
 use Rattle.occ_scope.specs.Visible.{visible}
-use Rattle.occ_scope.specs.declared.lookup.Carried.{Carried}
 use Rattle.occ_scope.specs.declared.meaning.Meaning.{Meaning}
 use Rattle.occ_scope.specs.declared.meaning.Meaning.TheVariants as meaning
 use Rattle.occ_scope.specs.declared.scope.Scope.{Scope}
 use Rattle.occ_typing_operands.specs.Settling.{int, number}
 use Rattle.occ_typing_operands.specs.declared.kind.Kind.{Kind}
 use Rattle.occ_typing_operands.specs.declared.kind.Kind.TheVariants as k
-use Rattle.occ_typing_tables.specs.Dimensions.{Size, size, size_of_kind, size_of_number}
+use Rattle.occ_typing_tables.specs.Dimensions.{Size, size_of_kind, size_of_number}
 use Rattle.occ_typing_tables.specs.Extents.{is_too_large}
 use Rattle.occ_typing_tables.specs.Segments.{number_in}
-use Rattle.occ_typing_tables.specs.Terms.{Judged, judged}
+use Rattle.occ_typing_tables.specs.Terms.{judged}
 use Rattle.occ_types.specs.Constant.{number_of}
-use Rattle.occ_types.specs.Fits.{fits}
 use Rattle.occ_types.specs.View.{as_primitive}
-use Rattle.occ_types.specs.declared.types.Item.TheVariants as item
 use Rattle.occ_types.specs.declared.types.OccType.{OccType}
 use Rattle.occ_types.specs.declared.types.OccType.TheVariants as t
-use Rattle.occ_types.specs.declared.types.Protocol.TheVariants as protocol
 use Rattle.occ_types.specs.declared.value.Primitive.{Primitive}
 use Rattle.occ_types.specs.declared.value.Value.{Value}
 use Rattle.occ_has_type.specs.Free.{is_free}
 use Rattle.occ_has_type.specs.Types.{AreSizes, HasType, IsArrayOf, IsBuiltin, IsData, IsWritten, StandsAlone, Takes, arrays, values_channel}
 use Rattle.occ_has_type.specs.Types as has
 use Rattle.occ_has_type.proofs.Gives.{Any}
-use Rattle.occ_has_type.proofs.Means.{Has, Knows}
+use Rattle.occ_has_type.proofs.Means.{Knows}
 use Rattle.occ_has_type.proofs.Operating.{Beside}
 use Rattle.occ_has_type.proofs.Reading.{ItemReads, takes_int, under_reads}
 

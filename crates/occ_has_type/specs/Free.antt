@@ -13,7 +13,6 @@ use Rattle.occ_forms_expressions.specs.declared.tree.NamedOperand.{NamedOperand}
 use Rattle.occ_forms_expressions.specs.declared.tree.Operand.{Operand}
 use Rattle.occ_forms_expressions.specs.declared.tree.PairOperator.{PairOperator}
 use Rattle.occ_forms_expressions.specs.declared.tree.PairOperator.TheVariants as po
-use Rattle.occ_forms_expressions.specs.declared.tree.RunOperator.{RunOperator}
 use Rattle.occ_expr_operations.specs.Operations.{pair_operator, run_operator}
 
 abbrev pub is_integer : Literal → Bool

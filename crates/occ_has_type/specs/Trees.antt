@@ -10,7 +10,6 @@ use Rattle.occ_types.specs.declared.value.Primitive.{Primitive}
 use Rattle.occ_types.specs.declared.value.Value.{Value}
 use Rattle.occ_types.specs.declared.value.Value.TheVariants as v
 use Rattle.occ_scope.specs.Visible.{referent, visible}
-use Rattle.occ_scope.specs.declared.meaning.Meaning.{Meaning}
 use Rattle.occ_scope.specs.declared.meaning.Meaning.TheVariants as meaning
 use Rattle.occ_scope.specs.declared.meaning.Referent.{Referent}
 use Rattle.occ_scope.specs.declared.scope.Scope.{Scope}

@@ -1,8 +1,7 @@
 -- The value of an expression from those of its operands: there is one where all of them have one, and then it has no fault.
-use Rattle.std.specs.Prelude.{◌≡◌, ℕ, ℤ, pos, Option, Some, None, List, [], ◌∷◌, Result, Ok, Err}
-use Rattle.occ_types.specs.Constant.{converted, folded, folded_one, number_value}
+use Rattle.std.specs.Prelude.{◌≡◌, ℕ, pos, Option, Some, None, List, [], ◌∷◌, Result, Ok}
+use Rattle.occ_types.specs.Constant.{converted, folded, number_value}
 use Rattle.occ_types.specs.declared.constant.ConstFault.{ConstFault}
-use Rattle.occ_types.specs.declared.constant.Monadic.{Monadic}
 use Rattle.occ_types.specs.declared.constant.Operator.{Operator}
 use Rattle.occ_types.specs.declared.value.Primitive.{Primitive}
 use Rattle.occ_types.specs.declared.value.Primitive.TheVariants as p
