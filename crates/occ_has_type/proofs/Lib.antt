@@ -17,3 +17,4 @@ mod Taking
 mod Reaching
 mod Exactly
 mod Known
+mod Worked
