@@ -1,5 +1,5 @@
 -- Worked expressions: five that have a type, and one that has none.
-use Rattle.std.proofs.Common.{◌≡◌, ◌∙◌, ℕ, Bool, true, List, [], ◌∷◌, Option, Some, None, refl, ap, sym, subst}
+use Rattle.std.proofs.Common.{◌≡◌, ◌∙◌, ℕ, Bool, true, List, [], ◌∷◌, Option, Some, None, if◌then◌else◌, refl, ap, sym, subst}
 use Rattle.occ_expr_operations.proofs.Layers as layers
 use Rattle.occ_expr_operations.specs.Operations.{run_operator}
 use Rattle.occ_forms_expressions.specs.declared.tree.Bounds.{Bounds}
@@ -24,7 +24,12 @@ use Rattle.occ_scope.specs.declared.scope.Scope.{Scope}
 use Rattle.occ_typing_operands.specs.Operators.{allows, class_of}
 use Rattle.occ_typing_operands.specs.Settling.{base_of, int, number}
 use Rattle.occ_typing_operands.specs.declared.operate.Class.TheVariants as c
-use Rattle.occ_types.specs.Fits.{fits, unnamed}
+use Rattle.std.specs.Prelude.{pos}
+use Rattle.occ_typing_tables.specs.Merging.{Fill, fill_step, filled, merged}
+use Rattle.occ_types.specs.Constant.{number_value}
+use Rattle.occ_types.specs.Fits.{array_fits, fits, unnamed}
+use Rattle.occ_types.specs.declared.types.Item.TheFolds.{fold-OccType, fold-roll-OccType}
+use Rattle.occ_types.specs.declared.types.Item.TheOpen.{OccType-F}
 use Rattle.occ_types.specs.View.{as_array, as_primitive}
 use Rattle.occ_types.specs.declared.interface.Formal.{Formal}
 use Rattle.occ_types.specs.declared.types.OccType.{OccType}
@@ -33,11 +38,11 @@ use Rattle.occ_types.specs.declared.value.Primitive.{Primitive}
 use Rattle.occ_types.specs.declared.value.Primitive.TheVariants as p
 use Rattle.occ_types.specs.declared.value.Value.{Value}
 use Rattle.occ_types.specs.declared.value.Value.TheVariants as vv
-use Rattle.occ_types.proofs.Agreeing.{as_array_at_array, as_primitive_at_primitive, unnamed_of_array, unnamed_of_primitive}
+use Rattle.occ_types.proofs.Agreeing.{as_array_at_array, fits_of_array, as_primitive_at_primitive, unnamed_of_array, unnamed_of_primitive}
 use Rattle.occ_has_type.specs.Trees.{name_alone}
-use Rattle.occ_has_type.specs.Types.{AreOperands, ElementHasType, HasType, OperandHasType, byte}
+use Rattle.occ_has_type.specs.Types.{AreOperands, ElementHasType, HasType, IsArray, OperandHasType, Takes, agreed, byte, merged_with}
 use Rattle.occ_has_type.specs.Types as has
-use Rattle.occ_has_type.proofs.Fitting.{first_same}
+use Rattle.occ_has_type.proofs.Fitting.{first_same, number_fits}
 use Rattle.occ_has_type.proofs.Literals.{int_base}
 use Rattle.occ_has_type.proofs.Operating.{allowed_base}
 use Rattle.occ_has_type.proofs.Reaching.{int_fits}
@@ -63,6 +68,49 @@ sum s x w is at none =
 -- `'a'`
 pub character : (s : Scope) (b : ℕ) → HasType s (xv.Alone (ov.Literal (l.Character b))) byte (Some (vv.Byte b))
 character s b = has.operand (ov.Literal (l.Character b)) byte (Some (vv.Byte b)) (has.literal (l.Character b) byte (Some (vv.Byte b)) (has.character b))
+
+-- `[1, 2, 3]`, of which `[3]BYTE` is wanted
+byte_base : base_of byte ≡ Some p.Byte
+byte_base = ap as_primitive (unnamed_of_primitive p.Byte) ∙ as_primitive_at_primitive p.Byte
+
+byte_fits : fits byte byte ≡ true
+byte_fits = number_fits byte p.Byte (ap number byte_base)
+
+byte_filled : filled byte byte ≡ byte
+unfolding filled
+byte_filled = ap (λ (f : Fill). f byte byte) (ap (fold-OccType (Unit {0}) Fill (Unit {0}) (Unit {0}) (Unit {0}) (λ _. tt) fill_step (λ _. tt) (λ _. tt) (λ _. tt)) (sym (t.rolls-Primitive p.Byte))
+    ∙ fold-roll-OccType (Unit {0}) Fill (Unit {0}) (Unit {0}) (Unit {0}) (λ _. tt) fill_step (λ _. tt) (λ _. tt) (λ _. tt) (OccType-F.Primitive p.Byte))
+
+abbrev some_if : Bool → OccType → Option OccType
+some_if b of = if b then Some of else None
+
+byte_merged : merged byte byte ≡ Some byte
+byte_merged = ap (λ (b : Bool). some_if b (filled byte byte)) byte_fits ∙ ap Some byte_filled
+
+number_item : (s : Scope) (i : ℕ) (value : Value) → number_value p.Byte (pos i) ≡ Some value → Takes s (xv.Alone (ov.Literal (l.Decimal i))) byte byte (Some value)
+number_item s i value is =
+    has.fitting (xv.Alone (ov.Literal (l.Decimal i))) byte byte (Some value)
+    (has.operand (ov.Literal (l.Decimal i)) byte (Some value) (has.literal (l.Decimal i) byte (Some value) (has.decimal i byte p.Byte value (ap number byte_base) is))) byte_fits
+
+abbrev numeral : ℕ → Expr
+numeral i = xv.Alone (ov.Literal (l.Decimal i))
+
+bytes_agree : agreed (byte ∷ byte ∷ byte ∷ []) ≡ Some byte
+bytes_agree =
+    ap (λ (o : Option OccType). merged_with o (byte ∷ byte ∷ [])) byte_merged ∙ ap (λ (o : Option OccType). merged_with o (byte ∷ [])) byte_merged ∙ byte_merged
+
+array_fits_it : fits (t.Array (Some 3) byte) (t.Array (Some 3) byte) ≡ true
+array_fits_it = fits_of_array (Some 3) byte (t.Array (Some 3) byte) ∙ ap (array_fits (Some 3) (fits byte)) (as_array_at_array (Some 3) byte) ∙ byte_fits
+
+pub three_bytes : (s : Scope) → IsArray 3 byte → Takes s (xv.Alone (ov.Table (numeral 1) (numeral 2 ∷ numeral 3 ∷ []))) (t.Array (Some 3) byte) (t.Array (Some 3) byte) None
+three_bytes s small =
+    let es = numeral 1 ∷ numeral 2 ∷ numeral 3 ∷ [] in
+    has.table_taking (xv.Alone (ov.Table (numeral 1) (numeral 2 ∷ numeral 3 ∷ []))) es (t.Array (Some 3) byte) (t.Array (Some 3) byte) (Some 3, byte)
+    (has.table_alone (ov.Table (numeral 1) (numeral 2 ∷ numeral 3 ∷ [])) es (has.table_itself (numeral 1) (numeral 2 ∷ numeral 3 ∷ []))) (as_array_at_array (Some 3) byte)
+    (has.table_of es byte (byte ∷ byte ∷ byte ∷ []) byte
+    (has.one_item (numeral 1) (numeral 2 ∷ numeral 3 ∷ []) byte byte (Some (vv.Byte 1)) (byte ∷ byte ∷ []) (number_item s 1 (vv.Byte 1) refl)
+    (has.one_item (numeral 2) (numeral 3 ∷ []) byte byte (Some (vv.Byte 2)) (byte ∷ []) (number_item s 2 (vv.Byte 2) refl)
+    (has.one_item (numeral 3) [] byte byte (Some (vv.Byte 3)) [] (number_item s 3 (vv.Byte 3) refl) (has.no_item byte)))) bytes_agree small) array_fits_it
 
 -- `a[i]`
 pub subscripted : (s : Scope) (a i : List ℕ) (v w : Whole) (n : ℕ) (of : OccType) → visible s a ≡ Some (meaning.Element v) → v.of ≡ t.Array (Some n) of → visible s i ≡ Some (meaning.Element w) → w.of ≡ int → w.value ≡ None

@@ -5,5 +5,5 @@
 mod laws;
 
 pub use laws::{
-    element_tree_law, element_type_law, expr_tree_law, expr_type_law, written_type_law,
+    element_tree_law, element_type_law, expr_tree_law, expr_type_law, worked_law, written_type_law,
 };
