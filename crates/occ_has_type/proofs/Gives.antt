@@ -38,7 +38,7 @@ AllGive Q xs = (of : OccType) → Any Q (all_placed xs of)
 abbrev pub EachGives : (List TypedExpr → Type 0) → List OpenExpr → Type 0
 EachGives Q xs = (types : List OccType) → Any Q (each_placed xs types)
 
-back : {X : Type 0} (P : X → Type 0) (a b : Option X) → a ≡ b → Any P b → Any P a
+pub back : {X : Type 0} (P : X → Type 0) (a b : Option X) → a ≡ b → Any P b → Any P a
 back P a b e h = subst (Any P) (sym e) h
 
 -- ---- form by form

@@ -18,3 +18,4 @@ mod Reaching
 mod Exactly
 mod Known
 mod Worked
+mod Noting

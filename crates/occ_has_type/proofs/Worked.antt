@@ -34,7 +34,6 @@ use Rattle.occ_types.specs.View.{as_array, as_primitive}
 use Rattle.occ_types.specs.declared.interface.Formal.{Formal}
 use Rattle.occ_types.specs.declared.types.OccType.{OccType}
 use Rattle.occ_types.specs.declared.types.OccType.TheVariants as t
-use Rattle.occ_types.specs.declared.value.Primitive.{Primitive}
 use Rattle.occ_types.specs.declared.value.Primitive.TheVariants as p
 use Rattle.occ_types.specs.declared.value.Value.{Value}
 use Rattle.occ_types.specs.declared.value.Value.TheVariants as vv

@@ -22,7 +22,7 @@ ghost use Rattle.occ_types.specs.declared.types.OccType.{OccType as AType};
 ghost use Rattle.occ_types.specs.declared.value.Value.TheVariants as v;
 ghost use Rattle.occ_types.specs.declared.value.Value.{Value as AValue};
 ghost use Rattle.occ_typing_operands.specs.Settling.{int, known};
-ghost use Rattle.occ_typing_rules.specs.Placing.{placed};
+ghost use Rattle.occ_typing_rules.specs.Placing.{known_of, placed};
 ghost use Rattle.occ_typing_rules.specs.declared.expr.TypedElement.{TypedElement as ATypedElement};
 ghost use Rattle.occ_typing_rules.specs.declared.expr.TypedExpr.{TypedExpr as ATypedExpr};
 ghost use Rattle.occ_typing_tables.specs.Terms.{judged};
@@ -30,8 +30,10 @@ ghost use Rattle.std.specs.Prelude.{List, None, Option, Some, [], true, ℕ, ◌
 
 /// Each tree that an expression is given is one of its form, whatever type is wanted of it, and with faults or without.
 /// So it has the names that were written, as their specifications, and the operators, subscripts, items and actuals, in order.
+/// Of an expression that is no table it notes the type and the value that the expression has.
 pub fn expr_tree_law()
-    ensures { (s : Scope) (e : AnExpr) (to : AType) (t : ATypedExpr) → placed ((expr_view e).open_expr s) to ≡ Some t → IsOfExpr s e t }
+    ensures form { (s : Scope) (e : AnExpr) (to : AType) (t : ATypedExpr) → placed ((expr_view e).open_expr s) to ≡ Some t → IsOfExpr s e t }
+    ensures notes { (s : Scope) (e : AnExpr) (to of : AType) (value : Option AValue) (t : ATypedExpr) → HasType s e of value → fits to of ≡ true → placed ((expr_view e).open_expr s) to ≡ Some t → known_of t ≡ record { of = of; value = value } }
 {}
 
 /// So is the tree of an element.
