@@ -1,5 +1,5 @@
 -- Operators over operands that have types: nothing is reported, and this is known of the whole.
-use Rattle.std.proofs.Common.{◌≡◌, ◌∙◌, ◌++◌, ◌&&◌, ◌||◌, Bool, true, false, List, [], ◌∷◌, map, Option, Some, None, if◌then◌else◌, refl, ap, sym, subst}
+use Rattle.std.proofs.Common.{◌≡◌, ◌∙◌, ◌++◌, ◌&&◌, ◌||◌, Bool, true, false, List, [], ◌∷◌, map, Option, Some, None, refl, ap, sym, subst}
 use Rattle.std.specs.List.{list_all, list_any}
 use Rattle.std.specs.Prelude.{not}
 use Rattle.occ_base.specs.declared.code.Code.TheVariants as code
@@ -27,9 +27,9 @@ use Rattle.occ_has_type.specs.Free.{are_free, is_free_operand}
 use Rattle.occ_has_type.specs.Types.{IsChosen}
 use Rattle.occ_has_type.specs.Values.{IsMade, IsRun, IsShifted}
 use Rattle.occ_has_type.proofs.Finding.{Comes, Finds, applied_comes, false_finds, landed_finds, run_comes, settled_finds, shifted_comes, true_finds}
-use Rattle.occ_has_type.proofs.Fitting.{named_fits_it, primitive_is}
+use Rattle.occ_has_type.proofs.Fitting.{both_true, named_fits_it, primitive_is}
 use Rattle.occ_has_type.proofs.Means.{chosen}
-use Rattle.occ_has_type.proofs.Operating.{allowed_base, arithmetic_class, back_false, both_true}
+use Rattle.occ_has_type.proofs.Operating.{allowed_base, arithmetic_class, back_false, none_front, outcome_if}
 
 -- nothing is reported, and it comes to this
 abbrev pub Found_as : Bool → OccType → Option Value → Finding → Type 0
@@ -75,10 +75,6 @@ takes_no_bool m.Not (Some p.Int16) base n is = absurd cc
 takes_no_bool m.Not (Some p.Int32) base n is = absurd cc
 takes_no_bool m.Not (Some p.Int64) base n is = absurd cc
 
-none_front : (b c : Bool) → c ≡ false → (not b && c) ≡ false
-none_front true c e = refl
-none_front false c e = e
-
 front_untyped : (op : Monadic) (b free : Bool) (of : OccType) (f : Untyped) (operand value : Option Value) → b ≡ false → Comes free of operand (k.Untyped f) → IsMade (folded_one op) operand value
     → Found_as (not b && free) of value (chosen b (not_untyped f.is_faulty f.int) (record { faults = []; kind = k.Untyped (in_each f.is_faulty (λ base. applied op (in_type f base))) }))
 front_untyped op true free of f operand value is h made = absurd cc
@@ -100,9 +96,6 @@ front_comes op free of operand value (k.Known x) h is made =
 
 is_int_of : (o : Option Primitive) → o ≡ Some p.Int → is_int o ≡ true
 is_int_of o is = ap is_int is
-
-abbrev outcome_if : Bool → TypedValue → TypedValue → TypedValue
-outcome_if b x y = if b then x else y
 
 true_outcome : (b : Bool) (x y : TypedValue) → b ≡ true → outcome_if b x y ≡ x
 true_outcome true x y is = refl

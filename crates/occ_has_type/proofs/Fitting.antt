@@ -183,7 +183,7 @@ NamedOver of = (base : Primitive) × (base_of of ≡ Some base)
 abbrev IsSame : OccType → Type 0
 IsSame a = (b : OccType) → fits a b ≡ true → NamedOver a ⊎ NamedOver b → a ≡ b
 
-both_true : (a b : Bool) → (a && b) ≡ true → (a ≡ true) × (b ≡ true)
+pub both_true : (a b : Bool) → (a && b) ≡ true → (a ≡ true) × (b ≡ true)
 both_true true b e = (refl, e)
 both_true false b e = absurd cc
 

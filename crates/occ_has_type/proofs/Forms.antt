@@ -6,7 +6,7 @@ use Rattle.occ_expr_operations.specs.Literals.{literal, truth}
 use Rattle.occ_expr_operations.specs.OpenExprs.{applied_open, front_open, by_value, called_tree, components_placed, conversion_open, decorated_open, formal_types, items_placed, negated_open, operand_call, operation_open, pair_open, typed_call, types_of, values_placed}
 use Rattle.occ_expr_operations.specs.Operations.{applied, negated, pair_operator, run_operator}
 use Rattle.occ_expr_operations.specs.Parts.{ExprView, function_call, in_scope, named, named_element, only, segment_element, segment_within, subscript, table}
-use Rattle.occ_expr_operations.specs.Views.{name_alone as alone_in, BoundsView, ElementView, NamedOperandView, OperandView, bounds_view, call_open, call_open_of, components_of, converted_call, converted_element, digits_of, element_view, expr_view, expr_views, for_of, from_for_of, from_of, item_opens, named_operand_view, named_tree, operand_opens, operand_view, operand_views, part_of, segment_tree, type_form_view, whole_element_open, whole_open_of}
+use Rattle.occ_expr_operations.specs.Views.{BoundsView, ElementView, NamedOperandView, OperandView, bounds_view, call_open, call_open_of, components_of, converted_call, converted_element, digits_of, element_view, expr_view, expr_views, for_of, from_for_of, from_of, item_opens, named_operand_view, named_tree, operand_opens, operand_view, operand_views, part_of, segment_tree, type_form_view, whole_element_open, whole_open_of}
 use Rattle.occ_expr_operations.specs.declared.written.Opening.TheVariants as opening
 use Rattle.occ_expr_operations.proofs.Views as views
 use Rattle.occ_forms_expressions.proofs.Induction.{Every, Steps, every_element, every_expr}
@@ -60,18 +60,14 @@ use Rattle.occ_types.specs.declared.types.OccType.{OccType}
 use Rattle.occ_types.specs.declared.value.Value.TheVariants as v
 use Rattle.occ_has_type.specs.Trees.{AreOfExprs, AreOfOperands, AreOfSubscripts, IsOfBounds, IsOfElement, IsOfExpr, IsOfLiteral, IsOfNamed, IsOfOperand, decimal_in, end_in, front_operator, name_alone, part, values}
 use Rattle.occ_has_type.specs.Trees as of
-use Rattle.occ_has_type.proofs.Gives.{AllGive, Any, EachGives, Gives, any_first, any_table, conversion_gives, front_gives, gives_faulty, gives_opened, gives_typed, literal_gives, operation_gives, shift_gives, size_gives, table_gives}
+use Rattle.occ_has_type.proofs.Gives.{AllGive, Any, any_as, any_is, EachGives, Gives, any_first, any_table, conversion_gives, front_gives, gives_faulty, gives_opened, gives_typed, literal_gives, operation_gives, shift_gives, size_gives, table_gives}
+use Rattle.occ_has_type.proofs.Names.{IsNamed, element_through, name_if_alone, name_through}
 use Rattle.occ_has_type.proofs.Literals.{decimal_is, decorated_tells, extreme_tells, literal_tells}
 
 -- ---- what is shown of each form
 
 abbrev OfBounds : Bounds → Type 0
 OfBounds b = (s : Scope) (n : Option ℕ) → Any (IsOfBounds s b) ((bounds_view b).tree s n)
-
--- a form that is a name alone, and what it is then
-abbrev IsNamed : {X : Type 0} → X → (List ℕ → X) → Option (List ℕ) → Type 0
-IsNamed x as_name None = Unit {0}
-IsNamed x as_name (Some name) = x ≡ as_name name
 
 record ElementForm (e : Element) (v : ElementView) : Type 0 where
   name : IsNamed e (λ name. ev.Named name []) v.name
@@ -112,10 +108,6 @@ abbrev Anything : {X : Type 0} → X → Type 0
 Anything x = Unit {0}
 
 -- ---- what is there, under another name
-
-any_as : {X : Type 0} (P Q : X → Type 0) (x : Option X) → ((y : X) → P y → Q y) → Any P x → Any Q x
-any_as P Q None make h = tt
-any_as P Q (Some y) make h = make y h
 
 gives_as : (P Q : TypedExpr → Type 0) (x : OpenExpr) → ((t : TypedExpr) → P t → Q t) → Gives P x → Gives Q x
 gives_as P Q x make h = λ to. any_as P Q (placed x to) make (h to)
@@ -211,15 +203,12 @@ all_select s (e ∷ es) kind h =
     with_one (Selects s e) (AreOfSubscripts s es) (AreOfSubscripts s (e ∷ es)) (selector s (expr_view e) kind) (selectors s (expr_views es) (subscript s (expr_view e) kind).kind)
     (λ x xs g i. g es xs i) (one_selects s e kind h.0) (all_select s es (subscript s (expr_view e) kind).kind h.1)
 
-found_in : {X : Type 0} (P : X → Type 0) (a : Option X) (x : X) → Any P a → a ≡ Some x → P x
-found_in P a x h is = subst (Any P) is h
-
 named_is : (s : Scope) (name : List ℕ) (es : List Expr) → Every OfExpr es → Any (IsOfElement s (ev.Named name es)) (named_tree s name (expr_views es))
 unfolding named_tree
 named_is s name es h =
     let kind = (named (element name (visible s name))).kind in
     made_element (IsOfElement s (ev.Named name es)) (named_element s name (expr_views es)).kind name (referent s name) (selectors s (expr_views es) kind)
-    (λ x q zs is are. of.named name es x q zs is (found_in (AreOfSubscripts s es) (selectors s (expr_views es) kind) zs (all_select s es kind h) are))
+    (λ x q zs is are. of.named name es x q zs is (any_is (AreOfSubscripts s es) (selectors s (expr_views es) kind) zs (all_select s es kind h) are))
 
 there_element : (P : TypedElement → Type 0) (kind : Kind) (name : List ℕ) (r : Referent) (zs : List Selector) → ((x : Known) → P (part x name r zs)) → Any P (element_of kind name (Some r) (Some zs))
 unfolding element_of
@@ -283,10 +272,6 @@ whole_element_is : (s : Scope) (name : List ℕ) (es : List Expr) → Every OfEx
 unfolding whole_element_open
 whole_element_is s name es h =
     whole_is s name es (visible s name) refl h (element_open (named_tree s name (expr_views es))) (as_operand s (ev.Named name es) (named_tree s name (expr_views es)) (named_is s name es h))
-
-name_if_alone : (name : List ℕ) (es : List Expr) → IsNamed (ev.Named name es) (λ name. ev.Named name []) (alone_in name (expr_views es))
-name_if_alone name [] = refl
-name_if_alone name (e ∷ es) = tt
 
 -- ---- bounds
 
@@ -440,14 +425,6 @@ either e v is at same h = record {
   whole = λ s. subst (Gives (IsOfExpr s (xv.Alone e))) (sym (same s)) (alone_gives s e (v.open_expr s) (h s));
 }
 
-name_through : (o : Operand) (name : Option (List ℕ)) → IsNamed o (λ name. ov.Element (ev.Named name [])) name → IsNamed (xv.Alone o) name_alone name
-name_through o None h = tt
-name_through o (Some name) h = ap xv.Alone h
-
-element_through : (e : Element) (name : Option (List ℕ)) → IsNamed e (λ name. ev.Named name []) name → IsNamed (ov.Element e) (λ name. ov.Element (ev.Named name [])) name
-element_through e None h = tt
-element_through e (Some name) h = ap ov.Element h
-
 digits_is : (lit : Literal) → IsDigits (ov.Literal lit) (digits_of lit)
 digits_is (l.Decimal n) = refl
 digits_is (l.Hexadecimal n) = tt
@@ -533,7 +510,7 @@ steps = record {
 
 -- each tree of an expression, whatever type is wanted of it, is one of its form
 pub expr_tree_is : (s : Scope) (e : Expr) (to : OccType) (t : TypedExpr) → placed ((expr_view e).open_expr s) to ≡ Some t → IsOfExpr s e t
-expr_tree_is s e to t is = found_in (IsOfExpr s e) (placed ((expr_view e).open_expr s) to) t ((every_expr steps e).tree s to) is
+expr_tree_is s e to t is = any_is (IsOfExpr s e) (placed ((expr_view e).open_expr s) to) t ((every_expr steps e).tree s to) is
 
 pub element_tree_is : (s : Scope) (e : Element) (t : TypedElement) → (element_view e).tree s ≡ Some t → IsOfElement s e t
-element_tree_is s e t is = found_in (IsOfElement s e) ((element_view e).tree s) t ((every_element steps e).tree s) is
+element_tree_is s e t is = any_is (IsOfElement s e) ((element_view e).tree s) t ((every_element steps e).tree s) is

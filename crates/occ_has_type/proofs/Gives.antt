@@ -27,6 +27,10 @@ Any P (Some x) = P x
 pub any_is : {X : Type 0} (P : X → Type 0) (a : Option X) (x : X) → Any P a → a ≡ Some x → P x
 any_is P a x h e = subst (Any P) e h
 
+pub any_as : {X : Type 0} (P Q : X → Type 0) (x : Option X) → ((y : X) → P y → Q y) → Any P x → Any Q x
+any_as P Q None make h = tt
+any_as P Q (Some y) make h = make y h
+
 -- of each tree that it becomes
 abbrev pub Gives : (TypedExpr → Type 0) → OpenExpr → Type 0
 Gives P x = (of : OccType) → Any P (placed x of)

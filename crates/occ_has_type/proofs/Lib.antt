@@ -1,5 +1,6 @@
 mod Gives
 mod Literals
+mod Names
 mod Forms
 mod Frees
 mod Means

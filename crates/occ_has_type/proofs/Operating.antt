@@ -33,7 +33,7 @@ use Rattle.occ_has_type.specs.Free.{are_free, is_free_operand}
 use Rattle.occ_has_type.specs.Types.{AreOperands, IsChosen, IsNumber, OperandHasType}
 use Rattle.occ_has_type.specs.Types as has
 use Rattle.occ_has_type.specs.Values.{IsMade, IsRun, IsShifted}
-use Rattle.occ_has_type.proofs.Fitting.{first_same, number_fits, primitive_is}
+use Rattle.occ_has_type.proofs.Fitting.{both_true, first_same, number_fits, primitive_is}
 use Rattle.occ_has_type.proofs.Means.{FreeMeans, Has, IsGood, Knows, Means, Settles, chosen, knows_as, settles, value_back}
 use Rattle.occ_has_type.proofs.Outcomes.{AllGood, applied_good, each_good, fitting_good, run_all_good, run_good, shifted_good}
 
@@ -50,10 +50,6 @@ means_chosen free J false x c h = tt
 means_unless : (free : Bool) (J : Has) (b : Bool) (x : Finding) → (b ≡ false → Means free J x.kind) → Means free J (chosen b silent x).kind
 means_unless free J true x h = tt
 means_unless free J false x h = h refl
-
-pub both_true : (a b : Bool) → (a && b) ≡ true → (a ≡ true) × (b ≡ true)
-both_true true b e = (refl, e)
-both_true false b e = absurd cc
 
 pub neither_true : (a b : Bool) → (a || b) ≡ false → (a ≡ false) × (b ≡ false)
 neither_true true b e = absurd cc
@@ -94,7 +90,7 @@ front_free op H J f is make h sound to base n good =
     subst (λ (z : TypedValue). J to (constant_in z)) (sym same)
     (make to (constant_in (in_type f base)) (constant_in (report base)) (h sound to base n x.0) (takes_number op to base is n) x.1)
 
-none_front : (b c : Bool) → c ≡ false → (not b && c) ≡ false
+pub none_front : (b c : Bool) → c ≡ false → (not b && c) ≡ false
 none_front true c e = refl
 none_front false c e = e
 
@@ -164,7 +160,7 @@ never_misshifted (o.Faulty w) h = h
 never_misshifted o.Varying h = h
 never_misshifted (o.Constant v) h = h
 
-abbrev outcome_if : Bool → TypedValue → TypedValue → TypedValue
+abbrev pub outcome_if : Bool → TypedValue → TypedValue → TypedValue
 outcome_if b x y = if b then x else y
 
 shift_if : (op : Operator) (count : Option Value) (b : Bool) (x : TypedValue) → IsGood (outcome_if b (shifted op count x) (misshifted x))

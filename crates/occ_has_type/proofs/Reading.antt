@@ -157,7 +157,7 @@ any_own s (e ∷ es) (j ∷ js) outside of h is =
       | inr there ↦ or_last (is_faulty (own_or_alone outside (j.settled of) j).kind) tail (any_own s es js outside of h.1 there)
     ]
 
-abbrev findings_if : Bool → List Finding → List Finding → List Finding
+abbrev pub findings_if : Bool → List Finding → List Finding → List Finding
 findings_if b xs ys = if b then xs else ys
 
 know_if : (s : Scope) (to : OccType) (es : List Expr) (b : Bool) (xs ys : List Finding) → (b ≡ true → list_any is_faulty (kinds xs) ≡ true) → AllKnow s to es (kinds ys)

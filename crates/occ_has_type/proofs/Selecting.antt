@@ -42,13 +42,9 @@ use Rattle.occ_has_type.specs.Types.{ElementHasType, HasBounds, HasType, Selects
 use Rattle.occ_has_type.specs.Types as has
 use Rattle.occ_has_type.proofs.Calling.{mismatched_faulty}
 use Rattle.occ_has_type.proofs.Means.{Fits, Knows, Means, chosen, knows_as, knows_otherwise, knows_unless, knows_wanted}
+use Rattle.occ_has_type.proofs.Names.{IsNamed}
 use Rattle.occ_has_type.proofs.Operating.{Beside, neither_true}
 use Rattle.occ_has_type.proofs.Reading.{ItemReads, int_place, takes_int, under_reads}
-
--- a form that is a name alone, and what it is then
-abbrev pub IsNamed : {X : Type 0} → X → (List ℕ → X) → Option (List ℕ) → Type 0
-IsNamed x as_name None = Unit {0}
-IsNamed x as_name (Some name) = x ≡ as_name name
 
 pub record ExprReads (e : Expr) (v : ExprView) : Type 0 where
   pub name : IsNamed e name_alone v.name

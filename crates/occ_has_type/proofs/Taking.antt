@@ -1,5 +1,5 @@
 -- Operands and tables that take a type, or stand alone: nothing is reported of them, and this is known.
-use Rattle.std.proofs.Common.{◌≡◌, ◌∙◌, ◌||◌, ℕ, suc, Bool, true, false, List, [], ◌∷◌, map, length, Option, Some, None, if◌then◌else◌, refl, ap, sym, subst}
+use Rattle.std.proofs.Common.{◌≡◌, ◌∙◌, ◌||◌, ℕ, suc, Bool, true, false, List, [], ◌∷◌, map, length, Option, Some, None, refl, ap, sym, subst}
 use Rattle.std.specs.List.{list_any}
 use Rattle.std.specs.Prelude.{nat_le}
 use Rattle.occ_base.specs.declared.code.Code.TheVariants as code
@@ -25,7 +25,7 @@ use Rattle.occ_has_type.specs.Free.{is_free}
 use Rattle.occ_has_type.specs.Types.{IsAlone, IsArray, agreed, merged_with}
 use Rattle.occ_has_type.specs.Values.{IsCast}
 use Rattle.occ_has_type.proofs.Finding.{Comes, Finds, both_clean, cast_comes, false_finds, fitted_finds, free_same, landed_finds, settled_finds, then_finds, true_finds, wanted_finds}
-use Rattle.occ_has_type.proofs.Reading.{same_merged, types_in}
+use Rattle.occ_has_type.proofs.Reading.{findings_if, same_merged, types_in}
 
 -- ---- one operand
 
@@ -102,9 +102,6 @@ all_fitted to (e ∷ es) [] js h = absurd h
 all_fitted to (e ∷ es) (of ∷ types) [] h = absurd h
 all_fitted to (e ∷ es) (of ∷ types) (j ∷ js) h =
     one_more e es of types h.0.0 (fitted_to to (j.settled to)) (map (fitted_to to) (map (settled_under to) js)) (one_fitted to of h.0.0 (j.settled to) h.0.1.clean h.0.1.is h.0.1.fit) (all_fitted to es types js h.1)
-
-abbrev findings_if : Bool → List Finding → List Finding → List Finding
-findings_if b xs ys = if b then xs else ys
 
 fitted_if : (es : List Expr) (types : List OccType) (b : Bool) (xs ys : List Finding) → b ≡ false → Fitted es types ys → Fitted es types (findings_if b xs ys)
 fitted_if es types true xs ys is h = absurd cc

@@ -4,7 +4,7 @@ use Rattle.std.specs.Prelude.{pos, ◌-ℤ◌, not}
 use Rattle.occ_expr_operations.specs.Literals.{decorated_literal, literal}
 use Rattle.occ_expr_operations.specs.Operations.{another_has_fault, applied, converted, each_among, extreme_of, in_front, negated, number_of_faulty, operation, pair, pair_operator, plain, run_operator}
 use Rattle.occ_expr_operations.specs.Parts.{ExprView, Said, call, call_of, call_of_type, element_of_type, in_scope, named_element, no_call, only, table, table_as, terms, whole_element, whole_element_of}
-use Rattle.occ_expr_operations.specs.Views.{BoundsView, BuiltinView, DimensionView, ElementView, NamedOperandView, OperandView, TypeFormView, bounds_view, builtin_view, decorated, decorated_table, digits_of, dimension_view, dimension_views, each, element_view, expr_view, expr_views, name_alone as alone_in, named_operand_view, operand_view, operand_views, operands, type_form_view}
+use Rattle.occ_expr_operations.specs.Views.{BoundsView, BuiltinView, DimensionView, ElementView, NamedOperandView, OperandView, TypeFormView, bounds_view, builtin_view, decorated, decorated_table, digits_of, dimension_view, dimension_views, each, element_view, expr_view, expr_views, named_operand_view, operand_view, operand_views, operands, type_form_view}
 use Rattle.occ_expr_operations.specs.Written.{array_over, array_over_more, data_form}
 use Rattle.occ_expr_operations.specs.declared.written.Opening.TheVariants as opening
 use Rattle.occ_expr_operations.proofs.Layers as layers
@@ -62,18 +62,19 @@ use Rattle.occ_types.specs.declared.types.OccType.{OccType}
 use Rattle.occ_types.specs.declared.value.Primitive.TheVariants as p
 use Rattle.occ_types.specs.declared.value.Value.{Value}
 use Rattle.occ_has_type.specs.Free.{are_free, is_free, is_free_named, is_free_operand, is_integer, pair_is_free, stays_free}
-use Rattle.occ_has_type.specs.Trees.{digits_in, digits_layer, front_operator, name_alone}
+use Rattle.occ_has_type.specs.Trees.{digits_in, digits_layer, front_operator}
 use Rattle.occ_has_type.specs.Types.{CallHasType, DecoratedHasType, ElementHasType, HasType, IsArrayOf, IsBuiltin, IsData, IsNoNegative, IsTable, IsTableAlone, IsTableOf, IsWritten, LiteralHasType, NamedAlone, NamedHasType, OperandAlone, OperandHasType, StandsAlone, Takes}
 use Rattle.occ_has_type.specs.Types as has
 use Rattle.occ_has_type.specs.Values.{IsCast, IsCount}
 use Rattle.occ_has_type.proofs.Calling.{CallKnown, DecoratedKnown, MostKnown, converted_known, decorated_known, decorated_literal_known, extreme_known, function_known, literal_means, unknown_type}
 use Rattle.occ_has_type.proofs.Frees as frees
-use Rattle.occ_has_type.proofs.Gives.{Any}
+use Rattle.occ_has_type.proofs.Gives.{Any, any_as}
 use Rattle.occ_has_type.proofs.Means.{Converts, Has, IsGood, Knows, Means, knows_as, knows_landed, means_as}
+use Rattle.occ_has_type.proofs.Names.{IsNamed, element_through, name_if_alone, name_through}
 use Rattle.occ_has_type.proofs.Operating.{AllMean, Beside, front_means, fronts_beside, integer_means, operated_means, shift_means, shifts_beside}
 use Rattle.occ_has_type.proofs.Outcomes.{each_good, fitting_good}
 use Rattle.occ_has_type.proofs.Reading.{AllRead, Alone_of, Decorates, ItemReads, NoPrimitive, Reads, TableAlone, TableTaken, Taken, reads_as, reads_free, single_reads, table_reads, typed_means}
-use Rattle.occ_has_type.proofs.Selecting.{BoundsRead, Element_of, ExprReads, IsNamed, OfExpr, for_reads, from_for_reads, from_reads, named_known, segment_known}
+use Rattle.occ_has_type.proofs.Selecting.{BoundsRead, Element_of, ExprReads, OfExpr, for_reads, from_for_reads, from_reads, named_known, segment_known}
 use Rattle.occ_has_type.proofs.Written.{AllSpan, Names, Over, Spans, array_any, array_more_any, channel_any, counted_any, data_any, named_any, sized_spans}
 
 -- ---- what is shown of each form
@@ -166,10 +167,6 @@ alone_reads s e j h =
     (reads_as (is_free_operand e) (OperandAlone s e) (StandsAlone s (xv.Alone e)) (Takes s (xv.Alone e)) (Takes s (xv.Alone e)) (Beside (OperandHasType s e)) (Beside (HasType s (xv.Alone e))) j
     (operand_stands s e) (λ to of value g. g) (beside_as (OperandHasType s e) (HasType s (xv.Alone e)) (λ of value g. has.operand e of value g)) h)
 
-any_as : {X : Type 0} (P Q : X → Type 0) (x : Option X) → ((y : X) → P y → Q y) → Any P x → Any Q x
-any_as P Q None make h = tt
-any_as P Q (Some y) make h = make y h
-
 -- ---- lists
 
 all_spans : (s : Scope) (ds : List Dimension) → Every OfDimension ds → AllSpan s ds (each opening.Refused s (dimension_views ds))
@@ -229,18 +226,6 @@ whole_known s name es (Some (meaning.Element w)) is h = as_element s (ev.Named n
 whole_element_known : (s : Scope) (name : List ℕ) (es : List Expr) → Every OfExpr es → Knows (λ x. HasType s (xv.Alone (ov.Element (ev.Named name es))) x.of x.value) (whole_element s name (expr_views es)).kind
 unfolding whole_element
 whole_element_known s name es h = whole_known s name es (visible s name) refl h
-
-name_if_alone : (name : List ℕ) (es : List Expr) → IsNamed (ev.Named name es) (λ name. ev.Named name []) (alone_in name (expr_views es))
-name_if_alone name [] = refl
-name_if_alone name (e ∷ es) = tt
-
-name_through : (e : Operand) (name : Option (List ℕ)) → IsNamed e (λ name. ov.Element (ev.Named name [])) name → IsNamed (xv.Alone e) name_alone name
-name_through e None h = tt
-name_through e (Some name) h = ap xv.Alone h
-
-element_through : (e : Element) (name : Option (List ℕ)) → IsNamed e (λ name. ev.Named name []) name → IsNamed (ov.Element e) (λ name. ov.Element (ev.Named name [])) name
-element_through e None h = tt
-element_through e (Some name) h = ap ov.Element h
 
 digits_at : (e : Operand) (y : Operand-F Bounds Builtin Dimension Element Expr NamedOperand Operand TypeForm) → out-Operand e ≡ y → digits_layer y ≡ digits_in e
 unfolding digits_in

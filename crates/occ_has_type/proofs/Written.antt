@@ -36,7 +36,7 @@ use Rattle.occ_types.specs.declared.value.Value.{Value}
 use Rattle.occ_has_type.specs.Free.{is_free}
 use Rattle.occ_has_type.specs.Types.{AreSizes, HasType, IsArrayOf, IsBuiltin, IsData, IsWritten, StandsAlone, Takes, arrays, values_channel}
 use Rattle.occ_has_type.specs.Types as has
-use Rattle.occ_has_type.proofs.Gives.{Any}
+use Rattle.occ_has_type.proofs.Gives.{Any, any_as}
 use Rattle.occ_has_type.proofs.Means.{Knows}
 use Rattle.occ_has_type.proofs.Operating.{Beside}
 use Rattle.occ_has_type.proofs.Reading.{ItemReads, takes_int, under_reads}
@@ -161,10 +161,6 @@ type_any name (Some (meaning.Element w)) = tt
 
 pub named_any : (s : Scope) (name : List ℕ) → Any (Names s name) (data_type name (visible s name)).found
 named_any s name = type_any name (visible s name)
-
-any_as : {X : Type 0} (P Q : X → Type 0) (x : Option X) → ((y : X) → P y → Q y) → Any P x → Any Q x
-any_as P Q None make h = tt
-any_as P Q (Some y) make h = make y h
 
 pub data_any : (s : Scope) (ds : List Dimension) (xs : List Spanning) (b : DataBase) → AllSpan s ds xs → Any (IsData s ds b) (data_form s xs b).found
 unfolding data_form
