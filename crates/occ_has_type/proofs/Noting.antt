@@ -1,5 +1,5 @@
 -- What a typed tree notes of an expression that is no table is what is known of the expression.
-use Rattle.std.proofs.Common.{◌≡◌, ◌∙◌, ◌⊎◌, inl, inr, ℕ, Bool, true, List, [], ◌∷◌, Option, Some, None, refl, ap, sym, subst}
+use Rattle.std.proofs.Common.{◌≡◌, ◌∙◌, ◌⊎◌, inl, inr, ℕ, suc, length, Bool, true, List, [], ◌∷◌, Option, Some, None, refl, ap, sym, subst}
 use Rattle.occ_expr_operations.specs.Elements.{element_of, element_open, selectors}
 use Rattle.occ_expr_operations.specs.Literals.{literal, truth}
 use Rattle.occ_expr_operations.specs.OpenExprs.{applied_open, called_tree, conversion_open, converted_of, converted_to, decorated_open, front_open, items_placed, literal_open, negated_open, opened, operand_call, operands_type, operation_open, pair_open, shift_open, shifted_known, shifted_untyped, size_of, size_open, type_alone, typed_call, formal_types}
@@ -28,7 +28,7 @@ use Rattle.occ_typing_operands.specs.declared.kind.Untyped.{Untyped}
 use Rattle.occ_typing_operands.specs.declared.kind.Kind.{Kind}
 use Rattle.occ_typing_operands.specs.declared.kind.Kind.TheVariants as k
 use Rattle.occ_typing_operands.specs.declared.kind.Known.{Known}
-use Rattle.occ_typing_rules.specs.Placing.{all_placed, applied_of, constant_in, each_placed, known_in, known_of, operation_of, placed, shifted_of, table_of, value_in_base}
+use Rattle.occ_typing_rules.specs.Placing.{array_known, count_of, placed_table, table_under, all_placed, applied_of, constant_in, each_placed, known_in, known_of, operation_of, placed, shifted_of, table_of, value_in_base}
 use Rattle.occ_typing_rules.specs.declared.open_expr.OpenExpr.{OpenExpr}
 use Rattle.occ_typing_rules.specs.declared.open_expr.OpenExpr.TheVariants as d
 use Rattle.occ_typing_rules.specs.declared.expr.Selector.{Selector}
@@ -36,7 +36,7 @@ use Rattle.occ_typing_rules.specs.declared.expr.Selector.TheViews.{out-roll-Type
 use Rattle.occ_typing_rules.specs.declared.expr.TypedElement.{TypedElement, out-TypedElement}
 use Rattle.occ_typing_rules.specs.declared.expr.TypedExpr.{TypedExpr}
 use Rattle.occ_typing_rules.proofs.Knowing.{known_applied, known_call, known_converted, known_element, known_literal, known_operation, known_size, known_table}
-use Rattle.occ_typing_rules.proofs.OpenPlacing.{placed_applied, placed_faulty, placed_literal, placed_operation, placed_shifted, placed_typed}
+use Rattle.occ_typing_rules.proofs.OpenPlacing.{placed_as_table, placed_applied, placed_faulty, placed_literal, placed_operation, placed_shifted, placed_typed}
 use Rattle.occ_typing_tables.specs.Terms.{Judged, judged}
 use Rattle.occ_typing_tables.specs.declared.term.Term.{Term, out-Term}
 use Rattle.occ_typing_tables.specs.declared.term.Term.TheOpen.{Term-F}
@@ -48,12 +48,15 @@ use Rattle.occ_types.specs.declared.constant.Monadic.TheVariants as m
 use Rattle.occ_types.specs.declared.constant.Operator.{Operator}
 use Rattle.occ_types.specs.declared.constant.Operator.TheVariants as op
 use Rattle.occ_types.specs.declared.interface.Formal.{Formal}
+use Rattle.occ_types.specs.View.{as_array}
 use Rattle.occ_types.specs.declared.types.OccType.{OccType}
+use Rattle.occ_types.specs.declared.types.OccType.TheVariants as types
 use Rattle.occ_types.specs.declared.value.Primitive.{Primitive}
 use Rattle.occ_types.specs.declared.value.Value.{Value}
 use Rattle.occ_has_type.specs.Free.{is_free}
 use Rattle.occ_has_type.specs.Trees.{part}
-use Rattle.occ_has_type.specs.Types.{HasType}
+use Rattle.occ_has_type.specs.Types.{HasType, IsTableExpr, IsTableOperand}
+use Rattle.occ_has_type.specs.Types as has
 use Rattle.occ_has_type.proofs.Exactly.{has_type}
 use Rattle.occ_has_type.proofs.Finding.{Comes, free_same}
 use Rattle.occ_has_type.proofs.Gives.{Any, any_is, back}
@@ -367,3 +370,26 @@ tree_noted s e to of value t h fit is = by (has_type s e of value h) (every_expr
   by : (x : Says (is_free e) of value ((expr_view e).said s)) → SaidOpens ((expr_view e).said s) ((expr_view e).open_expr s) → known_of t ≡ record { of = of; value = value }
   by x (inl g) = kind_noted g.0 ((expr_view e).open_expr s) (is_free e) to of value t g.2 (subst (Comes (is_free e) of value) (same_kind x.kind g.0 (sym x.is ∙ g.1)) x.comes) fit is
   by x (inr g) = absurd (no_table x.kind g.0 (sym x.is ∙ g.1))
+
+-- ---- tables
+
+mutual
+  expr_opens : (s : Scope) (e : Expr) (es : List Expr) → IsTableExpr e es → (expr_view e).open_expr s ≡ d.Table (item_opens s (expr_views es))
+  expr_opens s _ _ (has.table_alone e es h) = ap (λ (w : ExprView). w.open_expr s) (views.expr_alone e) ∙ (operand_table_opens s e es h).1
+
+  operand_table_opens : (s : Scope) (e : Operand) (es : List Expr) → IsTableOperand e es → ((operand_view e).open_expr s ≡ d.Table (item_opens s (expr_views es))) × ((operand_view e).whole_open s ≡ d.Table (item_opens s (expr_views es)))
+  operand_table_opens s _ _ (has.table_itself e es) = (ap (λ (w : OperandView). w.open_expr s) (views.operand_table e es), ap (λ (w : OperandView). w.whole_open s) (views.operand_table e es))
+  operand_table_opens s _ _ (has.table_in_parens e es h) =
+      let x = expr_opens s e es h in (ap (λ (w : OperandView). w.open_expr s) (views.operand_parens e) ∙ x, ap (λ (w : OperandView). w.whole_open s) (views.operand_parens e) ∙ x)
+
+same_many : (s : Scope) (es : List Expr) → length (item_opens s (expr_views es)) ≡ length es
+same_many s [] = refl
+same_many s (e ∷ es) = ap suc (same_many s es)
+
+pub table_noted : (s : Scope) (e : Expr) (es : List Expr) (to : OccType) (parts : Option ℕ × OccType) (t : TypedExpr) → IsTableExpr e es → as_array to ≡ Some parts → placed ((expr_view e).open_expr s) to ≡ Some t
+    → known_of t ≡ record { of = types.Array (count_of (length es)) parts.1; value = None }
+table_noted s e es to parts t h at is =
+    let xs = item_opens s (expr_views es) in
+    let noted = array_known (length xs) parts.1 in
+    let there : placed ((expr_view e).open_expr s) to ≡ placed_table xs parts.1 = ap (λ (z : OpenExpr). placed z to) (expr_opens s e es h) ∙ placed_as_table xs to ∙ ap (table_under xs) at in
+    any_is (Notes noted) (placed_table xs parts.1) t (any_table noted (all_placed xs parts.1)) (sym there ∙ is) ∙ ap (λ (n : ℕ). array_known n parts.1) (same_many s es)
