@@ -1,0 +1,4 @@
+pub mod Trees
+pub mod Free
+pub mod Values
+pub mod Types
