@@ -162,8 +162,29 @@ fn is_rest_flagged(files: &[Read], flags: &[bool], index: usize) -> bool
     }
 }
 
-/// Whether the files at these indices are absent, or have their flags.
+/// Whether the file at the last of these indices, if there is one, is absent or has its flag.
+fn is_last_flagged(files: &[Read], flags: &[bool], indices: &Nodes<'_>) -> bool
+    ensures { IsFalse result → list_all (rest_flag files.now flags.now) indices.now ≡ false }
+{
+    match indices.count().checked_sub(1) {
+        Some(place) => is_rest_flagged(files, flags, indices.at(place)),
+        None => true,
+    }
+}
+
+/// Whether the files at these indices are absent, or have their flags. The last is looked at first: in order of name what has no
+/// flag yet often stands at one of both ends.
 fn are_flagged(files: &[Read], flags: &[bool], indices: &Nodes<'_>) -> bool
+    ensures { result ≡ list_all (rest_flag files.now flags.now) indices.now }
+{
+    if !is_last_flagged(files, flags, indices) {
+        return false;
+    }
+    are_all_flagged(files, flags, indices)
+}
+
+/// The same, from the first on.
+fn are_all_flagged(files: &[Read], flags: &[bool], indices: &Nodes<'_>) -> bool
     ensures { result ≡ list_all (rest_flag files.now flags.now) indices.now }
 {
     for place in 0..indices.count() {

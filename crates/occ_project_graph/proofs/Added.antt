@@ -67,13 +67,13 @@ module _ (p : ℕ) where
     by true e = inl (eqb-true v p e)
     by false e = inr (lowered v (eqb-false v p e))
 
-  apart_test : (v : ℕ) → (raised p v == p) ≡ false
+  pub apart_test : (v : ℕ) → (raised p v == p) ≡ false
   apart_test v = none_by (raised p v == p) (λ e. raised_apart v (eqb-true (raised p v) p e))
 
   turned_test : (v : ℕ) → (p == raised p v) ≡ false
   turned_test v = none_by (p == raised p v) (λ e. raised_apart v (sym (eqb-true p (raised p v) e)))
 
-  same_test : (u v : ℕ) → (raised p u == raised p v) ≡ (u == v)
+  pub same_test : (u v : ℕ) → (raised p u == raised p v) ≡ (u == v)
   same_test u v = same_truth (raised p u == raised p v) (u == v)
       (λ e. eq-eqb u v (raised_same u v (eqb-true (raised p u) (raised p v) e)))
       (λ e. eq-eqb (raised p u) (raised p v) (ap (raised p) (eqb-true u v e)))
@@ -86,7 +86,7 @@ module _ (p : ℕ) where
   not_among [] = refl
   not_among (w ∷ ws) = ap (λ (b : Bool). b || is_among (map (raised p) ws) p) (apart_test w) ∙ not_among ws
 
-get_map : (f : List ℕ → List ℕ) (g : Graph) (u : ℕ) → f [] ≡ [] → get_or (map f g) u [] ≡ f (get_or g u [])
+pub get_map : (f : List ℕ → List ℕ) (g : Graph) (u : ℕ) → f [] ≡ [] → get_or (map f g) u [] ≡ f (get_or g u [])
 get_map f [] u e = sym e
 get_map f (ws ∷ g) zero e = refl
 get_map f (ws ∷ g) (suc u) e = get_map f g u e
@@ -142,7 +142,7 @@ same_filter : (f h : ℕ → Bool) → ((v : ℕ) → f v ≡ h v) → (ws : Lis
 same_filter f h e [] = refl
 same_filter f h e (w ∷ ws) = ap (λ (b : Bool). cond b (w ∷ filter f ws) (filter f ws)) (e w) ∙ ap (λ (vs : List ℕ). cond (h w) (w ∷ vs) vs) (same_filter f h e ws)
 
-filter_raised : (r : ℕ → ℕ) (f h : ℕ → Bool) → ((v : ℕ) → f (r v) ≡ h v) → (ws : List ℕ) → filter f (map r ws) ≡ map r (filter h ws)
+pub filter_raised : (r : ℕ → ℕ) (f h : ℕ → Bool) → ((v : ℕ) → f (r v) ≡ h v) → (ws : List ℕ) → filter f (map r ws) ≡ map r (filter h ws)
 filter_raised r f h e [] = refl
 filter_raised r f h e (w ∷ ws) = ap (λ (b : Bool). cond b (r w ∷ filter f (map r ws)) (filter f (map r ws))) (e w) ∙ ap (λ (vs : List ℕ). cond (h w) (r w ∷ vs) vs) (filter_raised r f h e ws) ∙ by (h w) where
   by : (b : Bool) → cond b (r w ∷ map r (filter h ws)) (map r (filter h ws)) ≡ map r (cond b (w ∷ filter h ws) (filter h ws))
@@ -251,7 +251,7 @@ sources_parts n (ws ∷ a) b v =
     ap (λ (us : List ℕ). once_each n ws v ++ us) (sources_parts (n + 1) a b v ∙ ap (λ (m : ℕ). sources_from (n + 1) a v ++ sources_from m b v) e)
     ∙ sym (append_assoc (once_each n ws v) (sources_from (n + 1) a v) (sources_from (n + suc (length a)) b v))
 
-once_raised : (p u : ℕ) (ws : List ℕ) (v : ℕ) → once_each u (map (raised p) ws) (raised p v) ≡ once_each u ws v
+pub once_raised : (p u : ℕ) (ws : List ℕ) (v : ℕ) → once_each u (map (raised p) ws) (raised p v) ≡ once_each u ws v
 once_raised p u [] v = refl
 once_raised p u (w ∷ ws) v = ap (λ (b : Bool). map (λ (x : ℕ). u) (cond b (raised p w ∷ filter (λ x. x == raised p v) (map (raised p) ws)) (filter (λ x. x == raised p v) (map (raised p) ws)))) (same_test p w v) ∙ by (w == v) (once_raised p u ws v) where
   by : (b : Bool) → once_each u (map (raised p) ws) (raised p v) ≡ once_each u ws v

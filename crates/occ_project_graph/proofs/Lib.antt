@@ -11,3 +11,5 @@ pub mod Numbered
 pub mod Renumbered
 pub mod Free
 pub mod Mates
+pub mod Joined
+pub mod Led

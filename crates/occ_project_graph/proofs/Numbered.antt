@@ -153,7 +153,7 @@ module _ (numbers indices : List ℕ) (is : IsNumbered numbers indices) (at : �
     | inr above ↦ let e = raised_above at v above in omega (arith, lt, e)
   ]
 
-  raised_back : (v : ℕ) → raised at v < length numbers + 1 → v < length numbers
+  pub raised_back : (v : ℕ) → raised at v < length numbers + 1 → v < length numbers
   raised_back v lt = elim (cases_lt v at) [
     | inl below ↦ omega (arith, below, h)
     | inr above ↦ let e = raised_above at v above in omega (arith, lt, e)
@@ -282,7 +282,7 @@ range_next a (suc n) =
     ap (λ (m : ℕ). a ∷ (range_with_len (a + 1) n ++ m ∷ [])) e ∙ ap (λ (ms : List ℕ). a ∷ ms) (range_next (a + 1) n) ∙ ap (range_with_len a) k
 
 -- all indices are those of nodes
-all_places : (count : ℕ) (xs : List ℕ) → ((i : ℕ) → i < length xs → get_or xs i 0 < count) → AreFew count xs
+pub all_places : (count : ℕ) (xs : List ℕ) → ((i : ℕ) → i < length xs → get_or xs i 0 < count) → AreFew count xs
 all_places count [] f n h = absurd cc
 all_places count (x ∷ xs) f n h = by (x == n) refl h (all_places count xs (λ i lt. f (suc i) (omega (arith, lt))) n) where
   by : (b : Bool) → (x == n) ≡ b → (b || is_among xs n) ≡ true → (is_among xs n ≡ true → n < count) → n < count

@@ -108,7 +108,7 @@ abbrev AllFew : ℕ → Graph → Type 0
 AllFew count [] = Unit {0}
 AllFew count (x ∷ xs) = AreFew count x × AllFew count xs
 
-few_row : (indices : List ℕ) (at number times : ℕ) (nodes row : List ℕ) → AreFew number nodes → IsSourceRow indices at number times nodes row → AreFew (number + 1) row
+pub few_row : (indices : List ℕ) (at number times : ℕ) (nodes row : List ℕ) → AreFew number nodes → IsSourceRow indices at number times nodes row → AreFew (number + 1) row
 few_row indices at number times nodes row few r n h =
     let k = r.front in
     let there : is_among (take k nodes ++ (replicate times number ++ drop k nodes)) n ≡ true = ap (λ (us : List ℕ). is_among us n) (sym r.is) ∙ h in
@@ -352,10 +352,10 @@ module _ (numbers indices : List ℕ) (edges kept turned : Graph) (is : IsLinked
       graph_then = edges_are
 
 -- the first numbers are the indices
-at_first : (count n : ℕ) → n < count → get_or (range_with_len 0 count) n 0 ≡ n
+pub at_first : (count n : ℕ) → n < count → get_or (range_with_len 0 count) n 0 ≡ n
 at_first count n lt = get_or-range_with_len 0 count n 0 lt ∙ (let e : 0 + n ≡ n = omega arith in e)
 
-first_long : (count : ℕ) → length (range_with_len 0 count) ≡ count
+pub first_long : (count : ℕ) → length (range_with_len 0 count) ≡ count
 first_long count = length-range_with_len 0 count
 
 pub first_numbered : (count : ℕ) → IsNumbered (range_with_len 0 count) (range_with_len 0 count)

@@ -27,8 +27,8 @@ fn count_of(nodes: &[usize], node: usize) -> usize
 }
 
 /// Adds a node so often.
-fn add_times(row: &mut Items<usize>, node: usize, count: usize) -> Result<(), AllocError>
-    ensures { OnOk result (row.new ≡ row.old ++ replicate count node) }
+fn add_times(row: &mut Vec<usize>, node: usize, count: usize) -> Result<(), AllocError>
+    ensures { OnOk result (row.new.items ≡ row.old.items ++ replicate count node) }
 {
     for _ in 0..count {
         row.push(node)?;
@@ -38,7 +38,7 @@ fn add_times(row: &mut Items<usize>, node: usize, count: usize) -> Result<(), Al
 
 /// Those from which edges lead to a node of a number, where the next number is that of a node that comes to an index, and edges
 /// lead from it to these.
-fn source_row(
+pub fn source_row(
     alloc: Global,
     indices: &[usize],
     before: &[usize],
@@ -50,10 +50,11 @@ fn source_row(
 {
     let front = front_of(before, indices, at);
     let (first, rest) = before.split_at(front);
-    let mut row = Items::from_slice(alloc, first)?;
+    let mut row = Vec::with_capacity(alloc, before.len().saturating_add(times))?;
+    row.extend_from_slice(first)?;
     add_times(&mut row, number, times)?;
-    row.append(Items::from_slice(alloc, rest)?)?;
-    Ok(row)
+    row.extend_from_slice(rest)?;
+    Ok(Items::from_vec(row))
 }
 
 /// The same of each node to which an edge leads from the new one.

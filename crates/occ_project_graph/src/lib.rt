@@ -3,6 +3,7 @@
 
 mod adding;
 mod circles;
+mod joining;
 pub mod laws;
 mod linked;
 mod nodes;

@@ -1,17 +1,18 @@
 //! A graph with what its nodes rest on and with its edges turned around, cached. Contracts see the edges alone.
-ghost use Rattle.occ_project_graph.specs.Adding.{with_node};
+ghost use Rattle.occ_project_graph.specs.Adding.{IsParted, with_node, with_used_node};
 ghost use Rattle.occ_project_graph.specs.Graph.{IsWhole, has_edge as spec_has_edge, is_among, rests as spec_rests, targets as spec_targets};
 ghost use Rattle.occ_project_graph.specs.Sources.{sources as spec_sources};
 ghost use Rattle.occ_project_graph.specs.inside.Linking.{rests_kept};
 ghost use Rattle.occ_project_graph.specs.inside.Numbering.{IsNumbered, indexed, row_by};
-ghost use Rattle.std.specs.Prelude.{◌≡◌, ◌<◌, ◌≤◌, [], ℕ, IfOk, OnErr, OnOk, length, true};
+ghost use Rattle.std.specs.Prelude.{◌≡◌, ◌<◌, ◌≤◌, [], ℕ, IfOk, IsTrue, OnErr, OnOk, false, get_or, length, true};
 
 use super::adding::{put_rows, source_rows};
 use super::circles::find_rests;
+use super::joining::{led_rests, led_rows, marked_numbers};
 use super::nodes::Nodes;
 use super::numbering::{first_numbers, insert_node, numbers_then, push_within};
 use super::resting::{add_rests, is_one};
-use super::search::targets as row;
+use super::search::{number_at, targets as row};
 use super::sources::find_sources;
 use sqlite_items::Items;
 use std::alloc::{AllocError, Global};
@@ -85,13 +86,32 @@ fn rests_of<'a>(
     }
 }
 
+/// Whether the node of an index, whose number this is, is found among those of these numbers where these stand in the order of
+/// their indices. Where they do not, it may be missed.
+fn is_found(indices: &[usize], nodes: &[usize], number: usize, index: usize) -> bool
+    ensures { IsTrue result → is_among nodes.now number ≡ true }
+{
+    let place = nodes.partition_point(|node| number_at(indices, *node) < index);
+    match nodes.get(place) {
+        Some(node) => *node == number,
+        None => false,
+    }
+}
+
+/// Whether the node of an index, whose number this is, is one of those of these numbers.
+fn is_node(indices: &[usize], nodes: &[usize], number: usize, index: usize) -> bool
+    ensures { result ≡ is_among nodes.now number }
+{
+    is_found(indices, nodes, number, index) || is_one(nodes, number)
+}
+
 /// Whether the node of an index is one of those of these numbers.
 fn has_node(numbers: &[usize], indices: &[usize], nodes: &[usize], index: usize) -> bool
     requires numbered { IsNumbered numbers.now indices.now }
     requires within { (n : ℕ) → is_among nodes.now n ≡ true → n < length numbers.now }
     ensures { result ≡ is_among (indexed indices.now nodes.now) index }
 {
-    index < numbers.len() && is_one(nodes, numbers[index])
+    index < numbers.len() && is_node(indices, nodes, numbers[index], index)
 }
 
 impl Linked {
@@ -215,6 +235,29 @@ impl Linked {
         push_within(&mut self.sources, Items::new(alloc));
         put_rows(&mut self.sources, row.as_slice(), found);
         push_within(&mut self.edges, row);
+        Ok(())
+    }
+
+    /// One node more comes to an index, from which no edge leads, and to which one leads from each node that has a mark. What the
+    /// others rest on and from where edges lead to them stays. All memory is taken before the first change.
+    pub fn add_used(&mut self, alloc: Global, at: usize, marks: &[bool]) -> Result<(), AllocError>
+        requires index { at ≤ length self.old }
+        requires parted { (u : ℕ) → get_or marks.now u false ≡ true → IsParted at (spec_targets self.old u) }
+        ensures ok { OnOk result (self.new ≡ with_used_node self.old at marks.now) }
+        ensures err { OnErr result (self.new ≡ self.old) }
+    {
+        let number = self.numbers.len();
+        let indices = self.indices.as_slice();
+        let edges = led_rows(alloc, indices, marks, self.edges.as_slice(), at, number)?;
+        let rests = led_rests(alloc, indices, marks, &self.rests, at, number)?;
+        let users = marked_numbers(alloc, self.numbers.as_slice(), marks)?;
+        self.numbers.reserve(1)?;
+        self.indices.reserve(1)?;
+        self.sources.reserve(1)?;
+        insert_node(&mut self.numbers, &mut self.indices, at);
+        push_within(&mut self.sources, users);
+        self.edges = edges;
+        self.rests = rests;
         Ok(())
     }
 }

@@ -29,7 +29,7 @@ use Rattle.occ_project_units.proofs.Renewed.{facts_at}
 use Rattle.occ_project_units.proofs.Rising.{equal_names}
 use Rattle.occ_project_units.proofs.Sharing.{facts_stay, put_others}
 use Rattle.occ_project_units.specs.Along.{name_at}
-use Rattle.occ_project_units.specs.New.{IsNew}
+use Rattle.occ_project_units.specs.New.{IsGap, IsNew}
 use Rattle.occ_project_units.specs.Indices.{graph_of, indices_of}
 use Rattle.occ_project_units.specs.Project.{IsProject, put}
 use Rattle.occ_project_units.specs.Units.{read_names, used_units}
@@ -79,7 +79,7 @@ module _ (file : Read) (name : List ℕ) where
     by false None e k rest = ap (option_map suc) (rest e)
     by false (Some v) e k rest = absurd cc
 
-insert_map : {X Y : Type 0} (f : X → Y) (xs : List X) (i : ℕ) (x : X) → map f (insert xs i x) ≡ insert (map f xs) i (f x)
+pub insert_map : {X Y : Type 0} (f : X → Y) (xs : List X) (i : ℕ) (x : X) → map f (insert xs i x) ≡ insert (map f xs) i (f x)
 insert_map {X} {Y} f xs i x =
     map-append f (take i xs) (x ∷ drop i xs)
     ∙ ap (λ (ys : List Y). ys ++ f x ∷ map f (drop i xs)) (sym (take-map f i xs))
@@ -92,7 +92,7 @@ insert_back [] (suc at) file le = absurd (omega (arith, le))
 insert_back (x ∷ files) zero file le = refl
 insert_back (x ∷ files) (suc at) file le = ap (λ (fs : List Read). x ∷ fs) (insert_back files at file (omega (arith, le)))
 
-same_map : {X : Type 0} (f h : Read → X) (files : List Read) → ((p : ℕ) (x : Read) → slice_get files p ≡ Some x → p < length files → f x ≡ h x) → map f files ≡ map h files
+pub same_map : {X : Type 0} (f h : Read → X) (files : List Read) → ((p : ℕ) (x : Read) → slice_get files p ≡ Some x → p < length files → f x ≡ h x) → map f files ≡ map h files
 same_map f h [] e = refl
 same_map {X} f h (x ∷ files) e = ap (λ (y : X). y ∷ map f files) (e 0 x refl (omega arith)) ∙ ap (λ (ys : List X). h x ∷ ys) (same_map f h files (λ p y s lt. e (suc p) y s (omega (arith, lt))))
 
@@ -108,58 +108,80 @@ or_parts : (b c : Bool) → (b || c) ≡ false → (b ≡ false) × (c ≡ false
 or_parts true c h = absurd cc
 or_parts false c h = (refl, h)
 
-module _ (files : List Read) (file : Read) (at : ℕ) (new : IsNew files file.name at) where
-  put_is : insert files at file ≡ put files file
-  put_is = put_gap files file at new.gap
+-- where a file would stand that is not there
+module _ (files : List Read) (file : Read) (at : ℕ) (gap : IsGap file.name files at) where
+  pub gap_put : insert files at file ≡ put files file
+  gap_put = put_gap files file at gap
 
-  pub put_back : remove (put files file) at ≡ files
-  put_back = ap (λ (fs : List Read). remove fs at) (sym put_is) ∙ insert_back files at file new.gap.within
+  pub gap_back : remove (put files file) at ≡ files
+  gap_back = ap (λ (fs : List Read). remove fs at) (sym gap_put) ∙ insert_back files at file gap.within
 
-  pub put_long : length (put files file) ≡ length files + 1
-  put_long = ap (length {A = Read}) (sym put_is) ∙ length-insert files at file new.gap.within
+  pub gap_long : length (put files file) ≡ length files + 1
+  gap_long = ap (length {A = Read}) (sym gap_put) ∙ length-insert files at file gap.within
 
-  pub index_new : index file.name (put files file) ≡ Some at
-  index_new = ap (index file.name) (sym put_is) ∙ index_itself file file.name files at new.gap.within (same_bytes file.name) new.gap.absent
+  pub gap_new : index file.name (put files file) ≡ Some at
+  gap_new = ap (index file.name) (sym gap_put) ∙ index_itself file file.name files at gap.within (same_bytes file.name) gap.absent
 
-  pub index_then : (name : List ℕ) → bytes_eq file.name name ≡ false → index name (put files file) ≡ option_map (raised at) (index name files)
-  index_then name h = ap (index name) (sym put_is) ∙ index_in file name files at new.gap.within h
+  pub gap_then : (name : List ℕ) → bytes_eq file.name name ≡ false → index name (put files file) ≡ option_map (raised at) (index name files)
+  gap_then name h = ap (index name) (sym gap_put) ∙ index_in file name files at gap.within h
 
-  pub name_new : name_at (put files file) at ≡ file.name
-  name_new = named_at (put files file) file.name at index_new
+  pub gap_name : name_at (put files file) at ≡ file.name
+  gap_name = named_at (put files file) file.name at gap_new
+
+  pub gap_indices : (names : List (List ℕ)) → is_among names file.name ≡ false → indices_of (put files file) names ≡ map (raised at) (indices_of files names)
+  gap_indices [] h = refl
+  gap_indices (n ∷ names) h =
+      let parts = or_parts (bytes_eq n file.name) (is_among names file.name) h in
+      ap (λ (o : Option ℕ). cons_option o (indices_of (put files file) names)) (gap_then n (apart_names n file.name parts.0))
+      ∙ ap (cons_option (option_map (raised at) (index n files))) (gap_indices names parts.1)
+      ∙ cons_raised at (index n files) (indices_of files names)
 
   named : (p : ℕ) (x : Read) → slice_get files p ≡ Some x → name_at files p ≡ x.name
   named p x e = ap (λ (o : Option Read). unwrap_or (option_map (λ (y : Read). y.name) o) []) e
 
-  -- of what does not read it the same is known
-  known_then : (p : ℕ) (x : Read) → slice_get files p ≡ Some x → p < length files → facts_of (put files file) x.name ≡ facts_of files x.name
-  known_then p x e lt = sym (facts_stay files (put files file) x.name file.name (put_others files file)
-      (ap (λ (names : List (List ℕ)). is_among names file.name) (read_by (is_unit x.name) (expansion files x.name)) ∙ ap (λ (n : List ℕ). is_among (read_names files n) file.name) (sym (named p x e)) ∙ new.unread p lt))
+  -- and that none reads
+  module _ (unread : (p : ℕ) → p < length files → is_among (read_names files (name_at files p)) file.name ≡ false) where
+    -- of what does not read it the same is known
+    pub known_then : (p : ℕ) (x : Read) → slice_get files p ≡ Some x → p < length files → facts_of (put files file) x.name ≡ facts_of files x.name
+    known_then p x e lt = sym (facts_stay files (put files file) x.name file.name (put_others files file)
+        (ap (λ (names : List (List ℕ)). is_among names file.name) (read_by (is_unit x.name) (expansion files x.name)) ∙ ap (λ (n : List ℕ). is_among (read_names files n) file.name) (sym (named p x e)) ∙ unread p lt))
+
+    pub all_known_then : insert (all_facts files) at (facts_of (put files file) file.name) ≡ all_facts (put files file)
+    all_known_then =
+        sym (ap (λ (facts : List Facts). insert facts at (facts_of (put files file) file.name)) (same_map (λ x. facts_of (put files file) x.name) (λ x. facts_of files x.name) files known_then))
+        ∙ sym (insert_map (λ (x : Read). facts_of (put files file) x.name) files at file)
+        ∙ ap (map (λ (x : Read). facts_of (put files file) x.name)) gap_put
+
+module _ (files : List Read) (file : Read) (at : ℕ) (new : IsNew files file.name at) where
+  pub put_back : remove (put files file) at ≡ files
+  put_back = gap_back files file at new.gap
+
+  pub put_long : length (put files file) ≡ length files + 1
+  put_long = gap_long files file at new.gap
+
+  pub index_new : index file.name (put files file) ≡ Some at
+  index_new = gap_new files file at new.gap
+
+  pub index_then : (name : List ℕ) → bytes_eq file.name name ≡ false → index name (put files file) ≡ option_map (raised at) (index name files)
+  index_then name h = gap_then files file at new.gap name h
+
+  pub name_new : name_at (put files file) at ≡ file.name
+  name_new = gap_name files file at new.gap
 
   pub facts_then : insert (all_facts files) at (facts_of (put files file) file.name) ≡ all_facts (put files file)
-  facts_then =
-      sym (ap (λ (facts : List Facts). insert facts at (facts_of (put files file) file.name)) (same_map (λ x. facts_of (put files file) x.name) (λ x. facts_of files x.name) files known_then))
-      ∙ sym (insert_map (λ (x : Read). facts_of (put files file) x.name) files at file)
-      ∙ ap (map (λ (x : Read). facts_of (put files file) x.name)) put_is
-
-  indices_then : (names : List (List ℕ)) → is_among names file.name ≡ false → indices_of (put files file) names ≡ map (raised at) (indices_of files names)
-  indices_then [] h = refl
-  indices_then (n ∷ names) h =
-      let parts = or_parts (bytes_eq n file.name) (is_among names file.name) h in
-      ap (λ (o : Option ℕ). cons_option o (indices_of (put files file) names)) (index_then n (apart_names n file.name parts.0))
-      ∙ ap (cons_option (option_map (raised at) (index n files))) (indices_then names parts.1)
-      ∙ cons_raised at (index n files) (indices_of files names)
+  facts_then = all_known_then files file at new.gap new.unread
 
   row_then : (p : ℕ) (x : Read) → slice_get files p ≡ Some x → p < length files → indices_of (put files file) (used_units (put files file) x.name) ≡ map (raised at) (indices_of files (used_units files x.name))
   row_then p x e lt =
-      ap (λ (f : Facts). indices_of (put files file) f.uses) (known_then p x e lt)
-      ∙ indices_then (used_units files x.name) (ap (λ (n : List ℕ). is_among (used_units files n) file.name) (sym (named p x e)) ∙ new.unused p lt)
+      ap (λ (f : Facts). indices_of (put files file) f.uses) (known_then files file at new.gap new.unread p x e lt)
+      ∙ gap_indices files file at new.gap (used_units files x.name) (ap (λ (n : List ℕ). is_among (used_units files n) file.name) (sym (named files file at new.gap p x e)) ∙ new.unused p lt)
 
   pub graph_then : with_node (graph_of files) at (indices_of (put files file) (used_units (put files file) file.name)) ≡ graph_of (put files file)
   graph_then =
       sym (ap (λ (rows : Graph). insert rows at (indices_of (put files file) (used_units (put files file) file.name)))
       (same_map (λ x. indices_of (put files file) (used_units (put files file) x.name)) (λ x. map (raised at) (indices_of files (used_units files x.name))) files row_then ∙ twice (map (raised at)) (λ x. indices_of files (used_units files x.name)) files))
       ∙ sym (insert_map (λ (x : Read). indices_of (put files file) (used_units (put files file) x.name)) files at file)
-      ∙ ap (map (λ (x : Read). indices_of (put files file) (used_units (put files file) x.name))) put_is
+      ∙ ap (map (λ (x : Read). indices_of (put files file) (used_units (put files file) x.name))) (gap_put files file at new.gap)
 
 -- the new unit uses none that is not there
 pub used_within : (files : List Read) (names : List (List ℕ)) (nodes : List ℕ) (n : ℕ) → nodes ≡ indices_of files names → length files ≡ n + 1 → (v : ℕ) → graph.is_among nodes v ≡ true → v ≤ n

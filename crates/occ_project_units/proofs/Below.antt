@@ -30,7 +30,7 @@ named_at files v q e =
     ap (λ (o : Option Read). unwrap_or (option_map (λ (file : Read). file.name) o) []) there.1 ∙ there.2
 
 -- and where no name stands twice, the place of the name at an index is that index
-get_some : (files : List Read) (p : ℕ) (d : Read) → p < length files → (get_or files p d).name ≡ name_at files p
+pub get_some : (files : List Read) (p : ℕ) (d : Read) → p < length files → (get_or files p d).name ≡ name_at files p
 get_some [] p d lt = absurd (omega (arith, lt))
 get_some (x ∷ files) zero d lt = refl
 get_some (x ∷ files) (suc p) d lt = get_some files p d (omega (arith, lt))

@@ -42,7 +42,7 @@ less_joined = total.trans
 pub apart : (a b : List ℕ) (o : Ordering) → name_cmp a b ≡ o → bytes_eq a b ≡ is_eq o
 apart a b o e = sym (is_eq-slice_cmp a b) ∙ ap is_eq e
 
-all_more : (P Q : List ℕ → Type 0) (names : List (List ℕ)) → ((name : List ℕ) → P name → Q name) → AllByRecursion P names → AllByRecursion Q names
+pub all_more : (P Q : List ℕ → Type 0) (names : List (List ℕ)) → ((name : List ℕ) → P name → Q name) → AllByRecursion P names → AllByRecursion Q names
 all_more P Q [] f h = tt
 all_more P Q (name ∷ names) f h = (f name h.0, all_more P Q names f h.1)
 

@@ -105,6 +105,9 @@ fn add_index(
     if project.is_at(next, name) {
         return indices.push(next);
     }
+    if project.is_gap(next, name) {
+        return Ok(());
+    }
     match project.index_near(hint, name) {
         Some(index) => indices.push(index),
         None => Ok(()),

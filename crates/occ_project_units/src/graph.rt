@@ -10,13 +10,14 @@ ghost use Rattle.occ_project_units.specs.New.{IsNew};
 ghost use Rattle.occ_project_units.specs.Indices.{graph_of, is_circular as spec_is_circular, readers_at, standing_of, users_at};
 ghost use Rattle.occ_project_units.specs.Project.{put};
 ghost use Rattle.occ_project_units.specs.Units.{read_names, used_units};
-ghost use Rattle.occ_project_units.specs.inside.Keeping.{all_facts as spec_all_facts, facts_of as spec_facts_of};
+ghost use Rattle.occ_project_units.specs.inside.Keeping.{IsUnread, all_facts as spec_all_facts, facts_of as spec_facts_of};
 ghost use Rattle.std.specs.Option.{is_some, option_and_then, option_copied, option_map};
 ghost use Rattle.std.specs.Prelude.{[], ◌∷◌, cond, false, get_or, IfOk, IfSome, IsFalse, MatchOption, None, OnErr, OnOk, Some, length, List, not, slice_get, true, ℕ, ◌&&◌, ◌≡◌, ◌<◌};
 
 use super::adding::{add_file, may_read, may_use};
 use super::facts::{Facts, all_facts, does_read, place_or};
 use super::following::{all_facts_after, use_same};
+use super::joining::add_used_file;
 use super::links::links_of;
 use super::project::{Project, share};
 use super::renewing::{find_readers, renew};
@@ -144,6 +145,92 @@ impl Graph {
     /// Gives the file of that name this text, or takes it away, by the edit of that number. What is kept of units that do not
     /// read it stays, and what rests on what if no file is new and each uses the same units.
     pub fn put(
+        &mut self,
+        alloc: Global,
+        name: FileName,
+        revision: u32,
+        source: Option<Shared<Source>>,
+    ) -> Result<(), AllocError>
+        ensures ok { OnOk result (self.new ≡ put self.old (record { name = name; revision = revision; source = source })) }
+        ensures err { OnErr result (self.new ≡ self.old) }
+    {
+        match self.unread_index(name) {
+            Some(at) => self.put_unread(alloc, at, name, revision, source),
+            None => self.put_read(alloc, name, revision, source),
+        }
+    }
+
+    /// Where a file of that name would stand, if there is none, and no file is found to read one.
+    fn unread_index(&self, name: FileName) -> Option<usize>
+        ensures { IfSome result (λ at. IsUnread self.now name at) }
+    {
+        let at = self.project.gap(name)?;
+        if self.may_any_read(name) {
+            return None;
+        }
+        Some(at)
+    }
+
+    /// Whether any file may read one of that name, which is not there.
+    fn may_any_read(&self, name: FileName) -> bool
+        requires { spec_index name self.now ≡ None }
+        ensures { IsFalse result → (p : ℕ) → p < length self.now → is_among (read_names self.now (name_at self.now p)) name ≡ false }
+    {
+        for index in 0..self.project.files().len() {
+            if self.may_read(index, name) {
+                return true;
+            }
+        }
+        false
+    }
+
+    /// Whether the file at an index may read one of that name, which is not there.
+    fn may_read(&self, index: usize, name: FileName) -> bool
+        requires within { index < length self.now }
+        requires absent { spec_index name self.now ≡ None }
+        ensures { IsFalse result → is_among (read_names self.now (name_at self.now index)) name ≡ false }
+    {
+        let _files = self.project.files();
+        match facts_at(self.facts.as_slice(), index) {
+            Some(facts) => may_read(facts, name),
+            None => true,
+        }
+    }
+
+    /// Puts a file that is new, and that no file reads. What is kept of the others stays.
+    fn put_unread(
+        &mut self,
+        alloc: Global,
+        at: usize,
+        name: FileName,
+        revision: u32,
+        source: Option<Shared<Source>>,
+    ) -> Result<(), AllocError>
+        requires { IsUnread self.old name at }
+        ensures ok { OnOk result (self.new ≡ put self.old (record { name = name; revision = revision; source = source })) }
+        ensures err { OnErr result (self.new ≡ self.old) }
+    {
+        let _files = self.project.files();
+        let file = Read {
+            name,
+            revision,
+            source,
+        };
+        add_used_file(
+            alloc,
+            &mut self.project,
+            &mut self.facts,
+            &mut self.links,
+            at,
+            file,
+        )?;
+        self.readers = None;
+        self.settled = false;
+        Ok(())
+    }
+
+    /// Puts a file that others may read, which are expanded anew.
+    fn put_read(
         &mut self,
         alloc: Global,
         name: FileName,

@@ -6,6 +6,7 @@ mod expansion;
 mod facts;
 mod following;
 mod graph;
+mod joining;
 pub mod laws;
 mod links;
 mod project;

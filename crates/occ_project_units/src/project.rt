@@ -1,11 +1,13 @@
 //! A project: files in order of name, each with revision and text, found by hint or binary search.
-ghost use Rattle.occ_project.specs.Reads.{member, index as spec_index};
+ghost use Rattle.occ_project.specs.Reads.{member, index as spec_index, name_cmp};
+ghost use Rattle.occ_project.specs.declared.reads.Read.{Read as ARead};
 ghost use Rattle.occ_project_units.specs.Along.{name_at as spec_name_at};
 ghost use Rattle.occ_project_units.specs.Project.{IsProject, file_of, put};
 ghost use Rattle.occ_project_units.specs.New.{IsGap};
 ghost use Rattle.std.specs.List.{remove};
 ghost use Rattle.std.specs.Option.{is_some, option_copied};
-ghost use Rattle.std.specs.Prelude.{[], map, IfOk, IfSome, IsTrue, MatchResult, List, None, OnErr, OnOk, Some, length, ℕ, ◌≡◌, ◌<◌};
+ghost use Rattle.std.specs.Prelude.{[], map, get_or, IfOk, IfSome, IsTrue, MatchResult, List, None, OnErr, OnOk, Some, length, ℕ, ◌≡◌, ◌<◌, ◌≤◌};
+ghost use Rattle.std.specs.declared.cmp.Ordering.TheVariants.{Less, Greater};
 
 use occ_base::{FileName, Items, Shared};
 use occ_forms::Source;
@@ -119,6 +121,36 @@ impl Project {
         match at(self.files.as_slice(), index) {
             Some(file) => file.name == name,
             None => false,
+        }
+    }
+
+    /// Whether a file of that name would stand at this index, and there is none.
+    pub(crate) fn is_gap(&self, index: usize, name: FileName) -> bool
+        ensures { IsTrue result → spec_index name self.now ≡ None }
+    {
+        self.is_before(index, name) && self.is_after(index, name)
+    }
+
+    /// Whether the file before an index, if there is one, has a smaller name; then all before it have.
+    fn is_before(&self, index: usize, name: FileName) -> bool
+        ensures { IsTrue result → (k : ℕ) (d : ARead) → k < index → k < length self.now → name_cmp (get_or self.now k d).name name ≡ Less }
+    {
+        if index == 0 {
+            return true;
+        }
+        match at(self.files.as_slice(), index - 1) {
+            Some(file) => file.name.cmp(&name).is_lt(),
+            None => false,
+        }
+    }
+
+    /// Whether the file at an index, if there is one, has a greater name; then all from it on have.
+    fn is_after(&self, index: usize, name: FileName) -> bool
+        ensures { IsTrue result → (k : ℕ) (d : ARead) → index ≤ k → k < length self.now → name_cmp (get_or self.now k d).name name ≡ Greater }
+    {
+        match at(self.files.as_slice(), index) {
+            Some(file) => file.name.cmp(&name).is_gt(),
+            None => true,
         }
     }
 

@@ -1,10 +1,10 @@
 -- What is kept of a graph, and what of it is made anew where one node more comes to an index.
 use Rattle.std.specs.Global.{Global}
-use Rattle.std.specs.Prelude.{◌≡◌, ◌<◌, ◌≤◌, ◌+◌, ◌-◌, ◌++◌, ◌==◌, ℕ, Bool, true, List, [], ◌∷◌, None, Option, Some, Vec, cond, get_or, length, map, nat_lt, not, slice_set}
+use Rattle.std.specs.Prelude.{◌≡◌, ◌<◌, ◌≤◌, ◌+◌, ◌-◌, ◌++◌, ◌==◌, ℕ, Bool, false, true, List, [], ◌∷◌, None, Option, Some, Vec, cond, get_or, length, map, nat_lt, not, slice_set}
 use Rattle.std.specs.List.{filter}
 use Rattle.occ_project_graph.specs.Graph.{Graph, all_rests}
 use Rattle.occ_project_graph.specs.Sources.{once_each, sources}
-use Rattle.occ_project_graph.specs.inside.Numbering.{IsNumbered, IsOver, graph_by}
+use Rattle.occ_project_graph.specs.inside.Numbering.{IsNumbered, IsOver, IsSourceRow, graph_by, index_at}
 
 -- what the nodes of a graph rest on: what is kept, or, if nothing is, all to which edges lead
 abbrev pub rests_kept : Graph → Option (Vec (List ℕ) Global) → Graph
@@ -44,3 +44,27 @@ abbrev pub with_rows : Graph → List ℕ → List (List ℕ) → Graph
 with_rows g [] rows = g
 with_rows g (w ∷ ws) [] = g
 with_rows g (w ∷ ws) (row ∷ rows) = slice_set (with_rows g ws rows) w row
+
+-- those that have a mark at their place
+abbrev pub marked : List ℕ → List Bool → List ℕ
+marked [] marks = []
+marked (n ∷ ns) [] = []
+marked (n ∷ ns) (m ∷ marks) = cond m (n ∷ marked ns marks) (marked ns marks)
+
+-- the row of a node, to which the new one is added behind those before its index if this is so
+abbrev pub IsLedRow : List ℕ → ℕ → ℕ → Bool → List ℕ → List ℕ → Type 0
+IsLedRow indices at number true before row = IsSourceRow indices at number 1 before row
+IsLedRow indices at number false before row = row ≡ before
+
+-- the same of all that have a mark, and a row for the new node, from which no edge leads
+pub record AreLedRows (indices : List ℕ) (marks : List Bool) (at number : ℕ) (before rows : Graph) : Type 0 where
+  pub len : length rows ≡ length before + 1
+  pub led : (n : ℕ) → n < length before → IsLedRow indices at number (get_or marks (index_at indices n) false) (get_or before n []) (get_or rows n [])
+  pub last : get_or rows (length before) [] ≡ []
+
+-- the same of what is kept of what nodes rest on, if something is
+abbrev pub AreLedRests : List ℕ → List Bool → ℕ → ℕ → Option (Vec (List ℕ) Global) → Option (Vec (List ℕ) Global) → Type 0
+AreLedRests indices marks at number None None = Unit {0}
+AreLedRests indices marks at number None (Some rows) = ⊥
+AreLedRests indices marks at number (Some before) None = ⊥
+AreLedRests indices marks at number (Some before) (Some rows) = AreLedRows indices marks at number before.items rows.items

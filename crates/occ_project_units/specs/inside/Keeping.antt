@@ -1,15 +1,18 @@
 -- What a graph keeps.
-use Rattle.std.specs.Prelude.{◌≡◌, ◌<◌, ℕ, Bool, false, true, List, [], cond, get_or, length, map, slice_get, Option, Some, None}
+use Rattle.std.specs.List.{insert}
+use Rattle.std.specs.Prelude.{◌≡◌, ◌<◌, ◌≤◌, ℕ, Bool, false, true, List, [], cond, get_or, length, map, slice_get, Option, Some, None}
 use Rattle.std.specs.Str.{bytes_eq}
 use Rattle.occ_base.specs.FileName.{is_unit}
-use Rattle.occ_project_graph.specs.Graph.{Graph}
+use Rattle.occ_project_graph.specs.Adding.{IsParted, with_used_node}
+use Rattle.occ_project_graph.specs.Graph.{Graph, targets}
 use Rattle.occ_project.specs.declared.reads.Read.{Read}
 use Rattle.occ_project.specs.Entries.{is_among}
 use Rattle.occ_project.specs.Expansion.{Expansion, expansion}
 use Rattle.occ_project.specs.Reads.{index}
 use Rattle.occ_project_units.specs.Along.{name_at}
 use Rattle.occ_project_units.specs.declared.facts.Facts.{Facts}
-use Rattle.occ_project_units.specs.Indices.{graph_of, read_graph, readers_at}
+use Rattle.occ_project_units.specs.Indices.{graph_of, indices_of, read_graph, readers_at}
+use Rattle.occ_project_units.specs.New.{IsGap}
 use Rattle.occ_project_units.specs.Project.{file_of}
 use Rattle.occ_project_units.specs.Units.{read_names, used_units}
 
@@ -63,3 +66,17 @@ pub record IsRenewed (files later : List Read) : Type 0 where
   pub len : length later ≡ length files
   pub graph : graph_of later ≡ graph_of files
   pub reads : read_graph later ≡ read_graph files
+
+-- no file has the name, which would stand at this index, and none reads it
+pub record IsUnread (files : List Read) (name : List ℕ) (at : ℕ) : Type 0 where
+  pub gap : IsGap name files at
+  pub unread : (p : ℕ) → p < length files → is_among (read_names files (name_at files p)) name ≡ false
+
+-- what is known before of files, and what is known when one is put at an index that no other reads
+pub record IsJoining (facts : List Facts) (links : Graph) (later : List Read) (at : ℕ) : Type 0 where
+  pub within : at < length later
+  pub facts_fit : at ≤ length facts
+  pub links_fit : at ≤ length links
+  pub facts_are : insert facts at (facts_of later (name_at later at)) ≡ all_facts later
+  pub parted : (u : ℕ) → get_or (map (λ f. is_among f.uses (name_at later at)) facts) u false ≡ true → IsParted at (targets links u)
+  pub links_are : indices_of later (used_units later (name_at later at)) ≡ [] → with_used_node links at (map (λ f. is_among f.uses (name_at later at)) facts) ≡ graph_of later

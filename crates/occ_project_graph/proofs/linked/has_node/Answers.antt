@@ -6,7 +6,7 @@ use Rattle.occ_project_graph.proofs.linked.has_node.Goals as goal
 
 pub returns-then-index-numbers : goal.returns-then-index-numbers
 returns-then-index-numbers c =
-    c.is_one.ensures ∙ node_there c.args.numbers.now c.args.indices.now c.args.nodes.now c.args.index c.requires.numbered c.requires.within c.if-index-numbers.true
+    c.is_node.ensures ∙ node_there c.args.numbers.now c.args.indices.now c.args.nodes.now c.args.index c.requires.numbered c.requires.within c.if-index-numbers.true
 
 pub returns-else-index-numbers : goal.returns-else-index-numbers
 returns-else-index-numbers c =

@@ -1,6 +1,6 @@
 use Rattle.std.proofs.Common.{subst, sym, ◌∙◌}
 use Rattle.occ_project_units.proofs.Sharing.{others_after, indices_after}
-use Rattle.occ_project_units.proofs.graph.Graph.put.Goals as goal
+use Rattle.occ_project_units.proofs.graph.Graph.put_read.Goals as goal
 use Rattle.occ_project_units.specs.Project.{IsProject}
 
 pub all_facts_after-requires-clause-others : goal.all_facts_after-requires-clause-others

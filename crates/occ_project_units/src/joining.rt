@@ -1,0 +1,162 @@
+//! Puts in a file that is new, that others may use and that none reads. What is known of the others stays; and if it uses none
+//! that is there, so does what they rest on.
+ghost use Rattle.occ_project_graph.specs.Adding.{IsParted, with_used_node};
+ghost use Rattle.occ_project_graph.specs.Graph.{targets};
+ghost use Rattle.occ_project.specs.Entries.{is_among};
+ghost use Rattle.occ_project_units.specs.Indices.{graph_of};
+ghost use Rattle.occ_project_units.specs.Project.{IsProject, put};
+ghost use Rattle.occ_project_units.specs.inside.Keeping.{IsJoining, IsUnread, all_facts as spec_all_facts};
+ghost use Rattle.std.specs.List.{insert};
+ghost use Rattle.std.specs.Prelude.{◌≡◌, ◌≤◌, ℕ, IfOk, IsTrue, OnErr, OnOk, false, get_or, length, map, true};
+
+use super::facts::{Facts, facts_of, indices_of, is_name_among};
+use super::links::links_of;
+use super::project::Project;
+use occ_base::{FileName, Items, Shared};
+use occ_project::Read;
+use occ_project_graph::Linked;
+use std::alloc::{AllocError, Global};
+
+/// Whether the name stands at a place of these.
+fn is_name_at(names: &[FileName], place: usize, name: FileName) -> bool
+    ensures { IsTrue result → is_among names.now name ≡ true }
+{
+    match names.get(place) {
+        Some(other) => *other == name,
+        None => false,
+    }
+}
+
+/// Whether the name is found among these where they stand in order. Where they do not, it may be missed.
+fn is_name_found(names: &[FileName], name: FileName) -> bool
+    ensures { IsTrue result → is_among names.now name ≡ true }
+{
+    is_name_at(names, names.partition_point(|other| *other < name), name)
+}
+
+/// Whether a file uses one of that name, which is looked for at a place of those that it uses first.
+fn does_use(facts: &Facts, place: usize, name: FileName) -> bool
+    ensures { result ≡ is_among facts.now.uses name }
+{
+    let names = facts.uses.as_slice();
+    is_name_at(names, place, name) || is_name_found(names, name) || is_name_among(names, name)
+}
+
+/// Of each file whether it uses one of that name. It is looked for first behind as many as are there.
+fn users_of(
+    alloc: Global,
+    all: &[Shared<Facts>],
+    links: &Linked,
+    name: FileName,
+) -> Result<Items<bool>, AllocError>
+    ensures { IfOk result (λ marks. marks ≡ map (λ facts. is_among facts.uses name) all.now) }
+{
+    let mut marks = Items::new(alloc);
+    for (index, facts) in all.iter().enumerate() {
+        let place = links.targets(index).count();
+        marks.push(does_use(facts.get(), place, name))?;
+    }
+    Ok(marks)
+}
+
+/// Adds what is known of the file at an index, which is new, and finds anew what rests on what.
+fn add_known_anew(
+    alloc: Global,
+    project: &Project,
+    facts: &mut Vec<Shared<Facts>>,
+    links: &mut Linked,
+    at: usize,
+    known: Shared<Facts>,
+) -> Result<(), AllocError>
+    requires fits { at ≤ length facts.old.items }
+    requires known { insert facts.old.items at known ≡ spec_all_facts project.now }
+    ensures facts { OnOk result (facts.new.items ≡ spec_all_facts project.now) }
+    ensures links { OnOk result (links.new ≡ graph_of project.now) }
+    ensures err { OnErr result (facts.new.items ≡ facts.old.items × links.new ≡ links.old) }
+{
+    facts.insert(at, known)?;
+    match links_of(alloc, project, facts.as_slice(), Some(links), at) {
+        Ok(found) => {
+            *links = found;
+            Ok(())
+        }
+        Err(refused) => {
+            facts.remove(at);
+            Err(refused)
+        }
+    }
+}
+
+/// Adds what is known of the file at an index, which is new, where no edge leads from it and one to it from each that has a mark.
+fn add_known_used(
+    alloc: Global,
+    facts: &mut Vec<Shared<Facts>>,
+    links: &mut Linked,
+    at: usize,
+    known: Shared<Facts>,
+    marks: &[bool],
+) -> Result<(), AllocError>
+    requires facts_fit { at ≤ length facts.old.items }
+    requires links_fit { at ≤ length links.old }
+    requires parted { (u : ℕ) → get_or marks.now u false ≡ true → IsParted at (targets links.old u) }
+    ensures facts { OnOk result (facts.new.items ≡ insert facts.old.items at known) }
+    ensures links { OnOk result (links.new ≡ with_used_node links.old at marks.now) }
+    ensures err { OnErr result (facts.new.items ≡ facts.old.items × links.new ≡ links.old) }
+{
+    facts.reserve(1)?;
+    links.add_used(alloc, at, marks)?;
+    let _ = facts.insert(at, known);
+    Ok(())
+}
+
+/// Adds what is known of the file at an index, which is new. All memory is taken before the first change.
+fn add_known(
+    alloc: Global,
+    project: &Project,
+    facts: &mut Vec<Shared<Facts>>,
+    links: &mut Linked,
+    at: usize,
+) -> Result<(), AllocError>
+    requires { IsJoining facts.old.items links.old project.now at }
+    ensures facts { OnOk result (facts.new.items ≡ spec_all_facts project.now) }
+    ensures links { OnOk result (links.new ≡ graph_of project.now) }
+    ensures err { OnErr result (facts.new.items ≡ facts.old.items × links.new ≡ links.old) }
+{
+    let name = project.name_at(at);
+    let known = facts_of(alloc, project, at, name)?;
+    let targets = indices_of(alloc, project, 0, None, known.uses.as_slice())?;
+    let shared = Shared::new(alloc, known)?;
+    if !targets.is_empty() {
+        return add_known_anew(alloc, project, facts, links, at, shared);
+    }
+    let marks = users_of(alloc, facts.as_slice(), links, name)?;
+    add_known_used(alloc, facts, links, at, shared, marks.as_slice())
+}
+
+/// Puts a file into a project that is new to it and that no file reads, with what is then known. What is known of the others stays.
+pub fn add_used_file(
+    alloc: Global,
+    project: &mut Project,
+    facts: &mut Vec<Shared<Facts>>,
+    links: &mut Linked,
+    at: usize,
+    file: Read,
+) -> Result<(), AllocError>
+    requires project { IsProject project.old }
+    requires new { IsUnread project.old file.name at }
+    requires facts { facts.old.items ≡ spec_all_facts project.old }
+    requires links { links.old ≡ graph_of project.old }
+    ensures project { OnOk result (project.new ≡ put project.old file) }
+    ensures facts { OnOk result (facts.new.items ≡ spec_all_facts project.new) }
+    ensures links { OnOk result (links.new ≡ graph_of project.new) }
+    ensures err { OnErr result (project.new ≡ project.old × (facts.new.items ≡ facts.old.items × links.new ≡ links.old)) }
+{
+    project.insert(at, file)?;
+    match add_known(alloc, project, facts, links, at) {
+        Ok(()) => Ok(()),
+        Err(refused) => {
+            project.remove(at);
+            Err(refused)
+        }
+    }
+}
