@@ -14,3 +14,4 @@ pub mod Reading
 pub mod Near
 pub mod Renewed
 pub mod Added
+pub mod Noting
