@@ -42,6 +42,9 @@ use std::alloc::{AllocError, Global};
 use std::marker::Model;
 use std::mem;
 
+/// Among so many of the last edits the one is looked for that is taken back.
+const LOOK_BACK: usize = 8;
+
 /// The state of everything. In contracts it is the state of the machine: a base and the edits that were accepted since, the
 /// inputs of the outcomes that are cached, and those that are handed out.
 pub struct Board {
@@ -102,6 +105,15 @@ impl Model for Board {
     ghost view = { λ b. record { base = b.base; journal = b.journal.items; cached = b.cached; handed = b.handed.items } };
 
     ghost invariant = { λ b. IsBoard b.base b.journal.items b.cached b.graph b.flags b.opened b.units × NoneIsReady b.graph b.flags b.waiting × AreVerified b.graph b.cached b.verified };
+}
+
+/// The text that a file had before its last edit, if that is one of the last of all. It promises nothing: a text that is left out costs
+/// time.
+fn text_before(entries: &[Entry], name: FileName) -> Option<&Shared<Source>> {
+    let (_, last) = entries.split_at(entries.len().saturating_sub(LOOK_BACK));
+    let mut edits = last.iter().rev().filter(|entry| entry.edit.name() == name);
+    edits.next()?;
+    edits.next()?.edit.source()
 }
 
 /// The source of a text, of which there is no other.
@@ -348,9 +360,31 @@ impl Board {
         ensures within { IfErr result (λ refused. limit_fault text.now ≡ None) }
         ensures text { IfOk result (λ found. IfSome found (λ source. source.text ≡ text.now)) }
     {
-        match self.graph.project().get(name) {
-            Some(known) if text_fault(text).is_none() => known.get().again(alloc, text),
-            _ => Ok(None),
+        let Some(known) = self.graph.project().get(name) else {
+            return Ok(None);
+        };
+        if text_fault(text).is_some() {
+            return Ok(None);
+        }
+        match known.get().again(alloc, text)? {
+            Some(source) => Ok(Some(source)),
+            None => self.prepared_before(alloc, name, text),
+        }
+    }
+
+    /// The text with the lines that the file had before its last edit, where that is taken back.
+    fn prepared_before(
+        &self,
+        alloc: Global,
+        name: FileName,
+        text: &[u8],
+    ) -> Result<Option<Source>, AllocError>
+        ensures limit { IfOk result (λ found. IfSome found (λ source. limit_fault text.now ≡ None)) }
+        ensures text { IfOk result (λ found. IfSome found (λ source. source.text ≡ text.now)) }
+    {
+        match text_before(self.journal.as_slice(), name) {
+            Some(source) => source.get().again(alloc, text),
+            None => Ok(None),
         }
     }
 

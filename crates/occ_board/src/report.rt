@@ -10,7 +10,7 @@ ghost use Rattle.std.specs.Prelude.{◌≡◌, ◌&&◌, ◌∷◌, ◌++◌, []
 use super::cached::Cached;
 use super::flags::is_flagged;
 use super::laws::cached_law;
-use occ_base::{Diag, FileName, Items};
+use occ_base::{Diag, FileName, Items, Shared};
 use occ_check::laws::input_law;
 use occ_project::Read;
 use occ_project_units::Graph;
@@ -21,7 +21,7 @@ pub enum Shown {
     /// Its check is still to come.
     Pending,
     /// Its diagnostics, in their order, each once.
-    Done(Items<Diag>),
+    Done(Shared<Items<Diag>>),
 }
 
 /// Written out: crates above call it, where each would prove a derived one anew.
@@ -47,42 +47,13 @@ impl Drop for Row {
     }
 }
 
-/// The same diagnostic.
-fn copied(alloc: Global, diag: &Diag) -> Result<Diag, AllocError>
-    ensures { IfOk result (λ copy. copy ≡ diag.now) }
-{
-    let name = match &diag.name {
-        Some(name) => Some(name.copied(alloc)?),
-        None => None,
-    };
-    Ok(Diag {
-        file: diag.file,
-        line: diag.line,
-        code: diag.code,
-        grade: diag.grade,
-        name,
-    })
-}
-
-/// The same diagnostics.
-fn all_copied(alloc: Global, diags: &[Diag]) -> Result<Items<Diag>, AllocError>
-    ensures { IfOk result (λ copies. copies ≡ diags.now) }
-{
-    let mut found = Items::new(alloc);
-    for diag in diags {
-        found.push(copied(alloc, diag)?)?;
-    }
-    Ok(found)
-}
-
 /// The diagnostics of a unit that is done, whose outcome is looked for at an index first.
 fn diags_of(
-    alloc: Global,
     graph: &Graph,
     cached: &Cached,
     hint: usize,
     unit: FileName,
-) -> Result<Items<Diag>, AllocError>
+) -> Result<Shared<Items<Diag>>, AllocError>
     requires { spec_done graph.now cached.now unit ≡ true }
     ensures { IfOk result (λ diags. diags ≡ spec_diags graph.now unit) }
 {
@@ -90,14 +61,13 @@ fn diags_of(
     cached_law();
     input_law();
     match cached.get_near(hint, unit) {
-        Some(outcome) => all_copied(alloc, outcome.diags()),
+        Some(outcome) => outcome.shared_diags().share(),
         None => unreachable!(),
     }
 }
 
 /// What is shown of a unit, whose outcome is looked for at an index first, if it is done, or if it is not.
 fn show(
-    alloc: Global,
     graph: &Graph,
     cached: &Cached,
     hint: usize,
@@ -108,7 +78,7 @@ fn show(
     ensures { IfOk result (λ shown. shown ≡ (row_of graph.now cached.now unit).shown) }
 {
     if done {
-        Ok(Shown::Done(diags_of(alloc, graph, cached, hint, unit)?))
+        Ok(Shown::Done(diags_of(graph, cached, hint, unit)?))
     } else {
         Ok(Shown::Pending)
     }
@@ -116,7 +86,6 @@ fn show(
 
 /// Adds the row of a file, if it is an open unit. Its outcome is looked for at an index first.
 fn add_row(
-    alloc: Global,
     graph: &Graph,
     cached: &Cached,
     hint: usize,
@@ -130,7 +99,7 @@ fn add_row(
     if file.name.is_unit() && file.source.is_some() {
         rows.push(Row {
             unit: file.name,
-            shown: show(alloc, graph, cached, hint, done, file.name)?,
+            shown: show(graph, cached, hint, done, file.name)?,
         })?;
     }
     Ok(())
@@ -149,7 +118,7 @@ pub fn rows(
     let mut rows = Items::new(alloc);
     for (index, file) in graph.project().files().iter().enumerate() {
         let done = is_flagged(flags, index);
-        add_row(alloc, graph, cached, index, done, file, &mut rows)?;
+        add_row(graph, cached, index, done, file, &mut rows)?;
     }
     Ok(rows)
 }

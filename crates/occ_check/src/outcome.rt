@@ -72,6 +72,13 @@ impl Outcome {
         self.diags.get().as_slice()
     }
 
+    /// The same, to be shared.
+    pub fn shared_diags(&self) -> &Shared<Items<Diag>>
+        ensures { result.now ≡ diags_of self.now }
+    {
+        &self.diags
+    }
+
     /// What the unit shows to those that use it, if it has no diagnostic of the grade error.
     pub fn interface(&self) -> Option<&Shared<Interface>>
         ensures { option_copied result ≡ interface_of self.now }

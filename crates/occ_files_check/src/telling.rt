@@ -54,7 +54,7 @@ pub fn add_shown(alloc: Global, shown: &Shown, diags: &mut Items<Diag>) -> Resul
 {
     match shown {
         Shown::Pending => Ok(()),
-        Shown::Done(found) => add_all(alloc, found.as_slice(), diags),
+        Shown::Done(found) => add_all(alloc, found.get().as_slice(), diags),
     }
 }
 
@@ -109,7 +109,7 @@ pub fn faulty(rows: &[Row], units: &[FileName]) -> usize {
 fn has_diags(shown: &Shown) -> bool {
     match shown {
         Shown::Pending => false,
-        Shown::Done(diags) => !diags.is_empty(),
+        Shown::Done(diags) => !diags.get().is_empty(),
     }
 }
 

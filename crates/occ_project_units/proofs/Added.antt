@@ -24,7 +24,6 @@ use Rattle.occ_project_units.proofs.Edges.{named_index, targets_are}
 use Rattle.occ_project_units.proofs.Finding.{index_within}
 use Rattle.occ_project_units.proofs.Looks.{reads_itself, same_bytes}
 use Rattle.occ_project_units.proofs.Putting.{put_gap}
-use Rattle.occ_project_units.proofs.Reading.{read_by}
 use Rattle.occ_project_units.proofs.Renewed.{facts_at}
 use Rattle.occ_project_units.proofs.Rising.{equal_names}
 use Rattle.occ_project_units.proofs.Sharing.{facts_stay, put_others}
@@ -34,7 +33,7 @@ use Rattle.occ_project_units.specs.Indices.{graph_of, indices_of}
 use Rattle.occ_project_units.specs.Project.{IsProject, put}
 use Rattle.occ_project_units.specs.Units.{read_names, used_units}
 use Rattle.occ_project_units.specs.declared.facts.Facts.{Facts}
-use Rattle.occ_project_units.specs.inside.Keeping.{IsLookingForNone, IsSettled, all_facts, facts_of, reads_in}
+use Rattle.occ_project_units.specs.inside.Keeping.{IsLookingForNone, IsSettled, all_facts, facts_of}
 
 none_by : (b : Bool) → (b ≡ true → ⊥) → b ≡ false
 none_by true f = absurd (f refl)
@@ -144,7 +143,7 @@ module _ (files : List Read) (file : Read) (at : ℕ) (gap : IsGap file.name fil
     -- of what does not read it the same is known
     pub known_then : (p : ℕ) (x : Read) → slice_get files p ≡ Some x → p < length files → facts_of (put files file) x.name ≡ facts_of files x.name
     known_then p x e lt = sym (facts_stay files (put files file) x.name file.name (put_others files file)
-        (ap (λ (names : List (List ℕ)). is_among names file.name) (read_by (is_unit x.name) (expansion files x.name)) ∙ ap (λ (n : List ℕ). is_among (read_names files n) file.name) (sym (named p x e)) ∙ unread p lt))
+        (ap (λ (n : List ℕ). is_among (read_names files n) file.name) (sym (named p x e)) ∙ unread p lt))
 
     pub all_known_then : insert (all_facts files) at (facts_of (put files file) file.name) ≡ all_facts (put files file)
     all_known_then =
@@ -256,13 +255,13 @@ module _ (files : List Read) (project : IsProject files) (name : List ℕ) (none
   ]
 
 -- the file at an index looks for none, by what is known of it
-pub none_looked : (files : List Read) → IsProject files → (p : ℕ) → p < length files → (known : Facts) → known ≡ facts_of files (name_at files p) → (nodes : List ℕ) → nodes ≡ indices_of files known.uses → (length (reads_in known.expanded) ≤ 1) × (length nodes ≡ length known.uses) → IsLookingForNone files (name_at files p)
+pub none_looked : (files : List Read) → IsProject files → (p : ℕ) → p < length files → (known : Facts) → known ≡ facts_of files (name_at files p) → (nodes : List ℕ) → nodes ≡ indices_of files known.uses → (length known.reads ≤ 1) × (length nodes ≡ length known.uses) → IsLookingForNone files (name_at files p)
 none_looked files project p lt known is nodes to few name none =
-    let reads : reads_in known.expanded ≡ read_names files (name_at files p) = ap (λ (f : Facts). reads_in f.expanded) is ∙ read_by (is_unit (name_at files p)) (expansion files (name_at files p)) in
+    let reads : known.reads ≡ read_names files (name_at files p) = ap (λ (f : Facts). f.reads) is in
     let uses : known.uses ≡ used_units files (name_at files p) = ap (λ (f : Facts). f.uses) is in
     let all : length (indices_of files (used_units files (name_at files p))) ≡ length (used_units files (name_at files p)) =
     ap (λ (names : List (List ℕ)). length (indices_of files names)) (sym uses) ∙ ap (length {A = ℕ}) (sym to) ∙ few.1 ∙ ap (length {A = List ℕ}) uses in
-    (unread_there files project name none p lt (reads_in known.expanded) reads (inl few.0), all_placed files (used_units files (name_at files p)) name all none)
+    (unread_there files project name none p lt known.reads reads (inl few.0), all_placed files (used_units files (name_at files p)) name all none)
 
 mapped_none : (f : ℕ → ℕ) (o : Option ℕ) → option_map f o ≡ None → o ≡ None
 mapped_none f None h = refl
@@ -272,13 +271,10 @@ mapped_none f (Some x) h = absurd cc
 module _ (files : List Read) (file : Read) (at : ℕ) (new : IsNew files file.name at) (project : IsProject files) where
   facts_same : (p : ℕ) → p < length files → facts_of (put files file) (name_at files p) ≡ facts_of files (name_at files p)
   facts_same p lt = sym (facts_stay files (put files file) (name_at files p) file.name (put_others files file)
-      (ap (λ (names : List (List ℕ)). is_among names file.name) (read_by (is_unit (name_at files p)) (expansion files (name_at files p))) ∙ new.unread p lt))
+      (new.unread p lt))
 
   reads_same : (p : ℕ) → p < length files → read_names (put files file) (name_at files p) ≡ read_names files (name_at files p)
-  reads_same p lt =
-      sym (read_by (is_unit (name_at files p)) (expansion (put files file) (name_at files p)))
-      ∙ ap (λ (f : Facts). reads_in f.expanded) (facts_same p lt)
-      ∙ read_by (is_unit (name_at files p)) (expansion files (name_at files p))
+  reads_same p lt = ap (λ (f : Facts). f.reads) (facts_same p lt)
 
   name_then : (p : ℕ) → p < length files → name_at (put files file) (raised at p) ≡ name_at files p
   name_then p lt =

@@ -8,7 +8,7 @@ use Rattle.occ_project_graph.specs.Graph.{Graph, IsWhole, has_edge, rests, targe
 use Rattle.occ_project_graph.specs.Graph as graph
 use Rattle.occ_project.specs.declared.reads.Read.{Read}
 use Rattle.occ_project.specs.Entries.{is_among}
-use Rattle.occ_project.specs.Expansion.{Expansion, expansion}
+use Rattle.occ_project.specs.Expansion.{expansion}
 use Rattle.occ_project.specs.Reads.{member, index}
 use Rattle.occ_project_units.specs.declared.facts.Facts.{Facts}
 use Rattle.occ_project_units.specs.declared.standing.Standing.TheVariants as standing
@@ -57,20 +57,18 @@ uses_none files unit e = by (index unit files) refl e where
   by (Some p) q h = cc
 
 -- what it reads
-pub reads_found : (files : List Read) (unit : List ℕ) (found : Expansion) → Some found ≡ option_and_then (λ (at : ℕ). (facts_of files unit).expanded) (index unit files) → found.reads ≡ read_names files unit
-reads_found files unit found e = by (index unit files) (is_unit unit) e where
-  by : (o : Option ℕ) (b : Bool) → Some found ≡ option_and_then (λ (at : ℕ). cond b (Some (expansion files unit)) None) o → found.reads ≡ cond b (expansion files unit).reads []
-  by None b h = cc
-  by (Some p) true h = let is : found ≡ expansion files unit = cc in ap (λ (x : Expansion). x.reads) is
-  by (Some p) false h = cc
+pub reads_found : (files : List Read) (unit : List ℕ) (facts : Facts) → Some facts ≡ option_map (λ (at : ℕ). facts_of files unit) (index unit files) → facts.reads ≡ read_names files unit
+reads_found files unit facts e = by (index unit files) e where
+  by : (o : Option ℕ) → Some facts ≡ option_map (λ (at : ℕ). facts_of files unit) o → facts.reads ≡ read_names files unit
+  by None h = cc
+  by (Some p) h = let is : facts ≡ facts_of files unit = cc in ap (λ (f : Facts). f.reads) is
 
-pub reads_none : (files : List Read) (unit : List ℕ) → None ≡ option_and_then (λ (at : ℕ). (facts_of files unit).expanded) (index unit files) → cond (is_unit unit) (unit ∷ []) [] ≡ read_names files unit
+pub reads_none : (files : List Read) (unit : List ℕ) → None ≡ option_map (λ (at : ℕ). facts_of files unit) (index unit files) → cond (is_unit unit) (unit ∷ []) [] ≡ read_names files unit
 reads_none files unit e = by (index unit files) (is_unit unit) refl refl e where
-  by : (o : Option ℕ) (b : Bool) → index unit files ≡ o → is_unit unit ≡ b → None ≡ option_and_then (λ (at : ℕ). cond b (Some (expansion files unit)) None) o → cond b (unit ∷ []) [] ≡ read_names files unit
+  by : (o : Option ℕ) (b : Bool) → index unit files ≡ o → is_unit unit ≡ b → None ≡ option_map (λ (at : ℕ). facts_of files unit) o → cond b (unit ∷ []) [] ≡ read_names files unit
   by None true p t h = sym (read_alone files unit p t)
   by None false p t h = sym (ap (λ (b : Bool). cond b (expansion files unit).reads []) t)
-  by (Some p) true q t h = cc
-  by (Some p) false q t h = sym (ap (λ (b : Bool). cond b (expansion files unit).reads []) t)
+  by (Some p) b q t h = cc
 
 -- those that pass a test
 passing : (ws : List ℕ) (test : ℕ → Bool) (q : ℕ) → graph.is_among (filter test ws) q ≡ (graph.is_among ws q && test q)

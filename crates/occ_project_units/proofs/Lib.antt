@@ -15,3 +15,4 @@ pub mod Near
 pub mod Renewed
 pub mod Added
 pub mod Joins
+pub mod Noting

@@ -7,7 +7,7 @@ use Rattle.std.specs.Cmp.Lexicographic.{same_text}
 use Rattle.occ_base.specs.FileName.{is_unit}
 use Rattle.occ_project.specs.declared.reads.Read.{Read}
 use Rattle.occ_project.specs.Entries.{is_among}
-use Rattle.occ_project.specs.Expansion.{Expansion, expansion, not_given}
+use Rattle.occ_project.specs.Expansion.{expansion, not_given}
 use Rattle.occ_project.specs.Reads.{is_named, member, open_source}
 use Rattle.occ_project_units.specs.Project.{file_of}
 use Rattle.occ_project_units.specs.Units.{unit_reads}
@@ -44,25 +44,6 @@ given_is files (n ∷ names) name h = by (is_named name (file_of files n)) refl 
 given_source : (files : List Read) (names : List (List ℕ)) (name : List ℕ) → is_some (member (map (file_of files) names) name) ≡ true → open_source (map (file_of files) names) name ≡ open_source files name
 given_source files names name h = ap (option_and_then (λ (r : Read). r.source)) (given_is files names name h) ∙ file_source files name
 
--- where none is found that fails, none of them fails
-none_fails : (names : List (List ℕ)) (test : List ℕ → Bool) (name : List ℕ) → find test names ≡ None → is_among names name ≡ true → test name ≡ false
-none_fails [] test name e h = cc
-none_fails (n ∷ names) test name e h = by (test n) (bytes_eq n name) refl refl e h (none_fails names test name) where
-  by : (b c : Bool) → test n ≡ b → bytes_eq n name ≡ c → cond b (Some n) (find test names) ≡ None → (c || is_among names name) ≡ true → (find test names ≡ None → is_among names name ≡ true → test name ≡ false) → test name ≡ false
-  by true c p q k a f = cc
-  by false true p q k a f = ap test (sym (same_text n name (sym q))) ∙ p
-  by false false p q k a f = f k a
-
-not_false : (b : Bool) → not b ≡ false → b ≡ true
-not_false true h = refl
-not_false false h = cc
-
--- nothing that is looked up is left out
-pub narrowed : (files : List Read) (names : List (List ℕ)) (unit : List ℕ) → not_given (map (file_of files) names) unit ≡ None → expansion (map (file_of files) names) unit ≡ expansion files unit
-narrowed files names unit e =
-    let some = map (file_of files) names in
-    sym (looks_at_reads some files unit (λ name a. sym (given_source files names name (not_false (is_some (member some name)) (none_fails (expansion some unit).reads (λ n. not (is_some (member some n))) name e a)))))
-
 -- the files of these names are given
 is_given : (files : List Read) (names : List (List ℕ)) (name : List ℕ) → is_among names name ≡ true → is_some (member (map (file_of files) names) name) ≡ true
 is_given files [] name h = cc
@@ -98,7 +79,3 @@ own_given files unit u =
     ap (λ (fs : List Read). not_given fs unit) are
     ∙ ap (λ (ns : List (List ℕ)). find (λ name. not (is_some (member some name))) ns) (ap (λ e. e.reads) same)
     ∙ all_pass names (λ name. not (is_some (member some name))) (λ name a. ap not (is_given files names name a))
-
-pub narrowed_to : (files reads : List Read) (names : List (List ℕ)) (unit : List ℕ) (found : Expansion) → reads ≡ map (file_of files) names → found ≡ expansion reads unit → not_given reads unit ≡ None → found ≡ expansion files unit
-narrowed_to files reads names unit found r f g =
-    f ∙ ap (λ (fs : List Read). expansion fs unit) r ∙ narrowed files names unit (sym (ap (λ (fs : List Read). not_given fs unit) r) ∙ g)

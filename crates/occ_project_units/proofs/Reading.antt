@@ -1,14 +1,12 @@
 -- What the file at an index reads.
-use Rattle.std.proofs.Common.{◌≡◌, ◌∙◌, ◌<◌, ℕ, zero, suc, Bool, true, false, cond, List, [], ◌∷◌, length, map, Option, Some, None, refl, sym, ap, arith}
+use Rattle.std.proofs.Common.{◌≡◌, ◌∙◌, ◌<◌, ℕ, zero, suc, List, [], ◌∷◌, length, map, Option, Some, None, refl, sym, ap, arith}
 use Rattle.std.specs.List.{slice_get}
 use Rattle.std.specs.Option.{option_map, unwrap_or}
-use Rattle.occ_base.specs.FileName.{is_unit}
-use Rattle.occ_project.specs.Expansion.{Expansion, expansion}
 use Rattle.occ_project.specs.declared.reads.Read.{Read}
 use Rattle.occ_project_units.specs.Along.{name_at}
 use Rattle.occ_project_units.specs.Units.{read_names}
 use Rattle.occ_project_units.specs.declared.facts.Facts.{Facts}
-use Rattle.occ_project_units.specs.inside.Keeping.{all_facts, facts_of, reads_in}
+use Rattle.occ_project_units.specs.inside.Keeping.{all_facts, facts_of}
 
 mapped : {X Y : Type 0} (f : X → Y) (xs : List X) (p : ℕ) (y : Y) → slice_get (map f xs) p ≡ Some y → (x : X) × ((slice_get xs p ≡ Some x) × (y ≡ f x))
 mapped f [] p y e = absurd cc
@@ -20,16 +18,12 @@ mapped_none f [] p e lt = omega (arith, lt)
 mapped_none f (x ∷ xs) zero e lt = cc
 mapped_none f (x ∷ xs) (suc p) e lt = mapped_none f xs p e (omega (arith, lt))
 
-pub read_by : (b : Bool) (e : Expansion) → reads_in (cond b (Some e) None) ≡ cond b e.reads []
-read_by true e = refl
-read_by false e = refl
-
-pub read_at : (files : List Read) (facts : List Facts) (p : ℕ) (known : Facts) → facts ≡ all_facts files → Some known ≡ slice_get facts p → reads_in known.expanded ≡ read_names files (name_at files p)
+pub read_at : (files : List Read) (facts : List Facts) (p : ℕ) (known : Facts) → facts ≡ all_facts files → Some known ≡ slice_get facts p → known.reads ≡ read_names files (name_at files p)
 read_at files facts p known f e =
     let there = mapped (λ (file : Read). facts_of files file.name) files p known (sym (ap (λ (fs : List Facts). slice_get fs p) f) ∙ sym e) in
     let file = there.0 in
     let named : name_at files p ≡ file.name = ap (λ (o : Option Read). unwrap_or (option_map (λ (x : Read). x.name) o) []) there.1.0 in
-    ap (λ (x : Facts). reads_in x.expanded) there.1.1 ∙ read_by (is_unit file.name) (expansion files file.name) ∙ ap (read_names files) (sym named)
+    ap (λ (x : Facts). x.reads) there.1.1 ∙ ap (read_names files) (sym named)
 
 pub none_at : (files : List Read) (facts : List Facts) (p : ℕ) → facts ≡ all_facts files → None ≡ slice_get facts p → p < length files → ⊥
 none_at files facts p f e lt = mapped_none (λ (file : Read). facts_of files file.name) files p (sym (ap (λ (fs : List Facts). slice_get fs p) f) ∙ sym e) lt

@@ -12,7 +12,7 @@ use Rattle.occ_project_graph.specs.Sources.{sources}
 use Rattle.occ_project.specs.Entries.{is_among}
 use Rattle.occ_forms.specs.Prepared.{Prepared}
 use Rattle.occ_lines.specs.Listing.{listed}
-use Rattle.occ_project.specs.Expansion.{Expansion, expansion}
+use Rattle.occ_project.specs.Expansion.{Expansion}
 use Rattle.occ_project.specs.Reads.{index, lines_in, listed_in}
 use Rattle.occ_project.specs.Uses.{used_in}
 use Rattle.occ_project.specs.declared.reads.Read.{Read}
@@ -22,7 +22,6 @@ use Rattle.occ_project_units.proofs.Kept.{map_at}
 use Rattle.occ_project_units.proofs.Looks.{IsAlike, looks_alike}
 use Rattle.occ_project_units.proofs.Narrowed.{file_source}
 use Rattle.occ_project_units.proofs.Putting.{file_put, put_at, put_rises}
-use Rattle.occ_project_units.proofs.Reading.{read_by}
 use Rattle.occ_project_units.proofs.Sharing.{facts_stay, index_stays, put_others}
 use Rattle.occ_project_units.specs.Alike.{AreAlike}
 use Rattle.occ_project_units.specs.Along.{name_at}
@@ -30,7 +29,7 @@ use Rattle.occ_project_units.specs.Indices.{graph_of, indices_of, read_graph, re
 use Rattle.occ_project_units.specs.Project.{IsProject, file_of, put}
 use Rattle.occ_project_units.specs.Units.{read_names, used_units}
 use Rattle.occ_project_units.specs.declared.facts.Facts.{Facts}
-use Rattle.occ_project_units.specs.inside.Keeping.{AreAsBefore, AreOthers, AreReaders, IsAsBefore, IsGraph, IsRenewed, all_facts, facts_of, reads_in}
+use Rattle.occ_project_units.specs.inside.Keeping.{AreAsBefore, AreOthers, AreReaders, IsAsBefore, IsGraph, IsRenewed, all_facts, facts_of}
 
 -- what was at an index comes back to it
 set_back : {X : Type 0} (xs : List X) (p : ℕ) (x y : X) → slice_get xs p ≡ Some x → set (set xs p y) p x ≡ xs
@@ -60,11 +59,10 @@ pub back_is : (files now later : List Read) (file x : Read) (p : ℕ) → IsProj
 back_is files now later file x p s e n k l = l ∙ ap (put now) k ∙ ap (λ (fs : List Read). put fs (file_of files file.name)) n ∙ (put_back files file p s e).1
 
 -- of each file the indices of those that it reads
-read_edges_of : (files some : List Read) → map (λ (f : Facts). indices_of files (reads_in f.expanded)) (map (λ (file : Read). facts_of files file.name) some) ≡ map (λ (file : Read). indices_of files (read_names files file.name)) some
+read_edges_of : (files some : List Read) → map (λ (f : Facts). indices_of files f.reads) (map (λ (file : Read). facts_of files file.name) some) ≡ map (λ (file : Read). indices_of files (read_names files file.name)) some
 read_edges_of files [] = refl
 read_edges_of files (x ∷ some) =
-    ap (λ (ns : List (List ℕ)). indices_of files ns ∷ map (λ (f : Facts). indices_of files (reads_in f.expanded)) (map (λ (file : Read). facts_of files file.name) some)) (read_by (is_unit x.name) (expansion files x.name))
-    ∙ ap (λ (es : Graph). indices_of files (read_names files x.name) ∷ es) (read_edges_of files some)
+    ap (λ (es : Graph). indices_of files (read_names files x.name) ∷ es) (read_edges_of files some)
 
 map_long : {X Y : Type 0} (f : X → Y) (xs : List X) → length (map f xs) ≡ length xs
 map_long f [] = refl
@@ -73,10 +71,10 @@ map_long f (x ∷ xs) = ap (λ (n : ℕ). suc n) (map_long f xs)
 pub read_graph_long : (files : List Read) → length (read_graph files) ≡ length files
 read_graph_long files = map_long (λ (f : Read). indices_of files (read_names files f.name)) files
 
-pub readers_found : (files : List Read) (facts : List Facts) (edges rows : Graph) → facts ≡ all_facts files → edges ≡ map (λ (f : Facts). indices_of files (reads_in f.expanded)) facts → ((p : ℕ) → p < length edges → get_or rows p [] ≡ sources edges p)
+pub readers_found : (files : List Read) (facts : List Facts) (edges rows : Graph) → facts ≡ all_facts files → edges ≡ map (λ (f : Facts). indices_of files f.reads) facts → ((p : ℕ) → p < length edges → get_or rows p [] ≡ sources edges p)
     → AreReaders files (Some rows)
 readers_found files facts edges rows f e h p lt =
-    let are : edges ≡ read_graph files = e ∙ ap (map (λ (x : Facts). indices_of files (reads_in x.expanded))) f ∙ read_edges_of files files in
+    let are : edges ≡ read_graph files = e ∙ ap (map (λ (x : Facts). indices_of files x.reads)) f ∙ read_edges_of files files in
     let long : length edges ≡ length files = ap (length {A = List ℕ}) are ∙ read_graph_long files in
     h p (omega (arith, long, lt)) ∙ ap (λ (g : Graph). sources g p) are
 
@@ -300,8 +298,8 @@ module _ (files later : List Read) (file : Read) (at : ℕ) (project : IsProject
 
     -- of what does not read it the same is known
     apart_stays : (p : ℕ) → p < length files → is_index (readers_at files at) p ≡ false → facts_of files (name_at files p) ≡ facts_of later (name_at files p)
-    apart_stays p lt none = facts_stay files later (name_at files p) file.name others (none_by (is_among (reads_in (facts_of files (name_at files p)).expanded) file.name) (λ k.
-        let reads : is_among (read_names files (name_at files p)) file.name ≡ true = ap (λ (ns : List (List ℕ)). is_among ns file.name) (sym (read_by (is_unit (name_at files p)) (expansion files (name_at files p)))) ∙ k in
+    apart_stays p lt none = facts_stay files later (name_at files p) file.name others (none_by (is_among (facts_of files (name_at files p)).reads file.name) (λ k.
+        let reads : is_among (read_names files (name_at files p)) file.name ≡ true = k in
         let there = reads_reader law files p at file.name lt e reads in
         cc (there, none)))
 
@@ -314,7 +312,7 @@ module _ (files later : List Read) (file : Read) (at : ℕ) (project : IsProject
       by true k = inl refl
       by false k = inr (ap (λ (fs : List Facts). slice_get fs p) f ∙ facts_at files p within ∙ ap (λ (x : Facts). Some x) (apart_stays p within k) ∙ ap (λ (n : List ℕ). Some (facts_of later n)) (sym (still_named p within)))
 
-    as_before : (a b : Facts) (x y : Option Facts) → x ≡ Some a → y ≡ Some b → IsAsBefore x y → (reads_in a.expanded ≡ reads_in b.expanded) × (a.uses ≡ b.uses)
+    as_before : (a b : Facts) (x y : Option Facts) → x ≡ Some a → y ≡ Some b → IsAsBefore x y → (a.reads ≡ b.reads) × (a.uses ≡ b.uses)
     as_before a b x y h k s = subst (λ (o : Option Facts). IsAsBefore o (Some b)) h (subst (IsAsBefore x) k s)
 
     find_at : (indices : List ℕ) (i : ℕ) → i < length indices → slice_get (map (λ p. facts_of later (name_at later p)) indices) i ≡ Some (facts_of later (name_at later (get_or indices i 0)))
@@ -325,9 +323,9 @@ module _ (files later : List Read) (file : Read) (at : ℕ) (project : IsProject
     module _ (facts found : List Facts) (indices : List ℕ) (f : facts ≡ all_facts files) (p_is : indices ≡ readers_at files at) (found_is : found ≡ map (λ p. facts_of later (name_at later p)) indices)
         (same : AreAsBefore facts indices found) where
       -- at each index
-      pub stays : (p : ℕ) → p < length files → (reads_in (facts_of files (name_at files p)).expanded ≡ reads_in (facts_of later (name_at files p)).expanded) × (used_units files (name_at files p) ≡ used_units later (name_at files p))
+      pub stays : (p : ℕ) → p < length files → ((facts_of files (name_at files p)).reads ≡ (facts_of later (name_at files p)).reads) × (used_units files (name_at files p) ≡ used_units later (name_at files p))
       stays p lt = by (is_index (readers_at files at) p) refl where
-        by : (b : Bool) → is_index (readers_at files at) p ≡ b → (reads_in (facts_of files (name_at files p)).expanded ≡ reads_in (facts_of later (name_at files p)).expanded) × (used_units files (name_at files p) ≡ used_units later (name_at files p))
+        by : (b : Bool) → is_index (readers_at files at) p ≡ b → ((facts_of files (name_at files p)).reads ≡ (facts_of later (name_at files p)).reads) × (used_units files (name_at files p) ≡ used_units later (name_at files p))
         by true k =
             let there = there_among indices p (ap (λ (ws : List ℕ). is_index ws p) p_is ∙ k) in
             let i : ℕ = there.0 in
@@ -336,7 +334,7 @@ module _ (files later : List Read) (file : Read) (at : ℕ) (project : IsProject
             ap (λ (fs : List Facts). slice_get fs i) found_is ∙ find_at indices i there.1.0 ∙ ap (λ (q : ℕ). Some (facts_of later (name_at later q))) there.1.1 ∙ ap (λ (n : List ℕ). Some (facts_of later n)) (still_named p lt)
             in
             as_before (facts_of files (name_at files p)) (facts_of later (name_at files p)) (slice_get facts (get_or indices i 0)) (slice_get found i) before now (same i there.1.0)
-        by false k = let e = apart_stays p lt k in (ap (λ (x : Facts). reads_in x.expanded) e, ap (λ (x : Facts). x.uses) e)
+        by false k = let e = apart_stays p lt k in (ap (λ (x : Facts). x.reads) e, ap (λ (x : Facts). x.uses) e)
 
       indices_still : (names : List (List ℕ)) → indices_of later names ≡ indices_of files names
       indices_still [] = refl
@@ -371,7 +369,7 @@ module _ (files later : List Read) (file : Read) (at : ℕ) (project : IsProject
           let within : p < length files = omega (arith, lt, read_graph_long files) in
           let over : p < length later = omega (arith, within, still_long) in
           let n : List ℕ = name_at files p in
-          let reads : read_names files n ≡ read_names later n = sym (read_by (is_unit n) (expansion files n)) ∙ (stays p within).0 ∙ read_by (is_unit n) (expansion later n) in
+          let reads : read_names files n ≡ read_names later n = (stays p within).0 in
           read_targets law files p within
           ∙ ap (indices_of files) reads
           ∙ sym (indices_still (read_names later n))
@@ -434,7 +432,7 @@ module _ (files later : List Read) (file : Read) (at : ℕ) (project : IsProject
   -- and all that is known of them stays
   known_then : (name : List ℕ) → facts_of later name ≡ facts_of files name
   known_then name =
-      ap (λ (x : Expansion). record { expanded = cond (is_unit name) (Some x) None; uses = cond (is_unit name) (used_in x.lines) [] })
+      ap (λ (x : Expansion). record { reads = cond (is_unit name) x.reads []; uses = cond (is_unit name) (used_in x.lines) [] })
       (looks_alike files later name (λ other _. alike_then other))
 
   known_at : (p : ℕ) → p < length files → facts_of later (name_at later p) ≡ facts_of files (name_at files p)

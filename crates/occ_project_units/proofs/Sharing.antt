@@ -23,7 +23,7 @@ use Rattle.occ_project_units.proofs.Rising.{equal_names, turned}
 use Rattle.occ_project_units.specs.declared.facts.Facts.{Facts}
 use Rattle.occ_project_units.specs.Indices.{graph_of, indices_of}
 use Rattle.occ_project_units.specs.Project.{IsProject, file_of, put}
-use Rattle.occ_project_units.specs.inside.Keeping.{AreOthers, IsGraph, all_facts, facts_of, reads_in}
+use Rattle.occ_project_units.specs.inside.Keeping.{AreOthers, IsGraph, all_facts, facts_of}
 
 -- what was known at an index
 pub known_is : (files : List Read) (facts : List Facts) (p : ℕ) (file : Read) (name : List ℕ) → facts ≡ all_facts files → slice_get files p ≡ Some file → file.name ≡ name → IfSome (slice_get facts p) (λ known. known ≡ facts_of files name)
@@ -42,7 +42,7 @@ known_by files facts p file name b f e h k = known_is files facts p file name f 
 
 -- of a file that does not read the edited one it is the same as before
 abbrev facts_by : Bool → Expansion → Facts
-facts_by b e = record { expanded = cond b (Some e) None; uses = cond b (used_in e.lines) [] }
+facts_by b e = record { reads = cond b e.reads []; uses = cond b (used_in e.lines) [] }
 
 apart_from : (names : List (List ℕ)) (edited name : List ℕ) → is_among names edited ≡ false → is_among names name ≡ true → bytes_eq edited name ≡ false
 apart_from names edited name h a = by (bytes_eq edited name) refl where
@@ -56,16 +56,16 @@ apart_from names edited name h a = by (bytes_eq edited name) refl where
 same_source : (files later : List Read) (edited name : List ℕ) → AreOthers edited files later → bytes_eq edited name ≡ false → open_source later name ≡ open_source files name
 same_source files later edited name others h = sym (file_source later name) ∙ ap (λ (r : Read). r.source) (others name h) ∙ file_source files name
 
-pub facts_stay : (files later : List Read) (name edited : List ℕ) → AreOthers edited files later → is_among (reads_in (facts_of files name).expanded) edited ≡ false → facts_of files name ≡ facts_of later name
+pub facts_stay : (files later : List Read) (name edited : List ℕ) → AreOthers edited files later → is_among (facts_of files name).reads edited ≡ false → facts_of files name ≡ facts_of later name
 facts_stay files later name edited others apart = by (is_unit name) apart where
-  by : (b : Bool) → is_among (reads_in (cond b (Some (expansion files name)) None)) edited ≡ false → facts_by b (expansion files name) ≡ facts_by b (expansion later name)
+  by : (b : Bool) → is_among (cond b (expansion files name).reads []) edited ≡ false → facts_by b (expansion files name) ≡ facts_by b (expansion later name)
   by true a =
       let same : expansion later name ≡ expansion files name = looks_at_reads files later name (λ n h. same_source files later edited n others (apart_from (expansion files name).reads edited n a h)) in
       ap (facts_by true) (sym same)
   by false a = refl
 
-pub still_facts : (files later : List Read) (known : Facts) (name edited : List ℕ) → AreOthers edited files later → known ≡ facts_of files name → is_among (reads_in known.expanded) edited ≡ false → known ≡ facts_of later name
-still_facts files later known name edited others e apart = e ∙ facts_stay files later name edited others (ap (λ (f : Facts). is_among (reads_in f.expanded) edited) (sym e) ∙ apart)
+pub still_facts : (files later : List Read) (known : Facts) (name edited : List ℕ) → AreOthers edited files later → known ≡ facts_of files name → is_among known.reads edited ≡ false → known ≡ facts_of later name
+still_facts files later known name edited others e apart = e ∙ facts_stay files later name edited others (ap (λ (f : Facts). is_among f.reads edited) (sym e) ∙ apart)
 
 pub put_others : (files : List Read) (file : Read) → AreOthers file.name files (put files file)
 put_others files file other h = file_put files file other ∙ ap (λ (b : Bool). cond b file (file_of files other)) h

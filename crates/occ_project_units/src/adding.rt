@@ -6,11 +6,11 @@ ghost use Rattle.occ_project_units.specs.New.{IsNew};
 ghost use Rattle.occ_project_units.specs.Indices.{graph_of, indices_of as spec_indices_of};
 ghost use Rattle.occ_project_units.specs.Project.{IsProject, put};
 ghost use Rattle.occ_project_units.specs.Units.{used_units};
-ghost use Rattle.occ_project_units.specs.inside.Keeping.{IsLookingForNone, IsSettled, all_facts as spec_all_facts, facts_of as spec_facts_of, reads_in};
+ghost use Rattle.occ_project_units.specs.inside.Keeping.{IsLookingForNone, IsSettled, all_facts as spec_all_facts, facts_of as spec_facts_of};
 ghost use Rattle.std.specs.List.{insert};
 ghost use Rattle.std.specs.Prelude.{◌≡◌, ◌<◌, ◌≤◌, ◌+◌, ◌⊎◌, IfOk, IsFalse, IsTrue, OnErr, OnOk, false, length, true};
 
-use super::facts::{Facts, facts_of, indices_of, is_name_among, reads};
+use super::facts::{Facts, facts_of, indices_of, is_name_among};
 use super::project::Project;
 use occ_base::{FileName, Shared};
 use occ_project::Read;
@@ -19,9 +19,9 @@ use std::alloc::{AllocError, Global};
 
 /// Whether a file may read another of that name: only one that reads more than itself does.
 pub fn may_read(facts: &Facts, name: FileName) -> bool
-    ensures { IsFalse result → length (reads_in facts.now.expanded) ≤ 1 ⊎ is_among (reads_in facts.now.expanded) name ≡ false }
+    ensures { IsFalse result → length facts.now.reads ≤ 1 ⊎ is_among facts.now.reads name ≡ false }
 {
-    let names = reads(facts);
+    let names = facts.reads.as_slice();
     names.len() > 1 && is_name_among(names, name)
 }
 
@@ -35,9 +35,9 @@ pub fn may_use(facts: &Facts, edges: usize, name: FileName) -> bool
 /// Whether it was known before that no file looks for one that is not there, and a file from which edges lead to these does not
 /// either: it reads itself alone, and all that it uses are there.
 fn is_still_settled(settled: bool, facts: &Facts, edges: &[usize]) -> bool
-    ensures { IsTrue result → (settled ≡ true) × ((length (reads_in facts.now.expanded) ≤ 1) × (length edges.now ≡ length facts.now.uses)) }
+    ensures { IsTrue result → (settled ≡ true) × ((length facts.now.reads ≤ 1) × (length edges.now ≡ length facts.now.uses)) }
 {
-    settled && reads(facts).len() <= 1 && edges.len() == facts.uses.len()
+    settled && facts.reads.len() <= 1 && edges.len() == facts.uses.len()
 }
 
 /// Adds what is known of the file at an index, which is new, and says whether it was known that no file looks for one that is not

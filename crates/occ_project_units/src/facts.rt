@@ -2,13 +2,12 @@
 //! wrong, and no answer.
 ghost use Rattle.occ_project_units.specs.Indices.{indices_of as spec_indices_of};
 ghost use Rattle.occ_project.specs.Entries.{is_among};
-ghost use Rattle.occ_project_units.specs.inside.Keeping.{facts_of as spec_facts_of, reads_in};
+ghost use Rattle.occ_project_units.specs.inside.Keeping.{facts_of as spec_facts_of};
 ghost use Rattle.std.specs.Prelude.{[], map, IfOk, OnOk, ◌++◌, ◌∷◌, ◌≡◌};
 
-use super::expansion::expansion;
 use super::project::Project;
+use super::skimming::skim;
 use occ_base::{FileName, Items, Shared};
-use occ_project::{Expanded, used_units};
 use occ_project_graph::{Linked, Nodes};
 use std::alloc::{AllocError, Global};
 
@@ -19,10 +18,10 @@ pub fn is_name_among(names: &[FileName], name: FileName) -> bool
     names.iter().any(|other| *other == name)
 }
 
-/// What is known of a file of a project.
+/// What is known of a file of a project. A file that is no unit reads and uses nothing.
 pub struct Facts {
-    /// Its expansion, if it is a unit.
-    pub expanded: Option<Shared<Expanded>>,
+    /// The names that its expansion looks up.
+    pub reads: Items<FileName>,
     /// The units that it uses, in order of name.
     pub uses: Items<FileName>,
 }
@@ -30,28 +29,15 @@ pub struct Facts {
 /// Written out: crates above call it, where each would prove a derived one anew.
 impl Drop for Facts {
     fn drop(self) {
-        let Facts {
-            expanded: _,
-            uses: _,
-        } = self;
-    }
-}
-
-/// The names that the expansion of a file looks up, if it has one.
-pub fn reads(facts: &Facts) -> &[FileName]
-    ensures { result.now ≡ reads_in facts.now.expanded }
-{
-    match &facts.expanded {
-        Some(expanded) => expanded.get().reads(),
-        None => &[],
+        let Facts { reads: _, uses: _ } = self;
     }
 }
 
 /// Whether a file reads that one.
 pub fn does_read(facts: &Facts, name: FileName) -> bool
-    ensures { result ≡ is_among (reads_in facts.now.expanded) name }
+    ensures { result ≡ is_among facts.now.reads name }
 {
-    is_name_among(reads(facts), name)
+    is_name_among(facts.reads.as_slice(), name)
 }
 
 /// What is known of the file of that name, which is looked for at an index first.
@@ -65,16 +51,11 @@ pub fn facts_of(
 {
     if !name.is_unit() {
         return Ok(Facts {
-            expanded: None,
+            reads: Items::new(alloc),
             uses: Items::new(alloc),
         });
     }
-    let expanded = expansion(alloc, project, hint, name)?;
-    let uses = used_units(alloc, expanded.lines())?;
-    Ok(Facts {
-        expanded: Some(Shared::new(alloc, expanded)?),
-        uses,
-    })
+    skim(alloc, project, hint, name)
 }
 
 /// What is known of each file.
@@ -180,11 +161,12 @@ pub fn read_edges(
     project: &Project,
     all: &[Shared<Facts>],
 ) -> Result<Items<Items<usize>>, AllocError>
-    ensures { IfOk result (λ edges. edges ≡ map (λ facts. spec_indices_of project.now (reads_in facts.expanded)) all.now) }
+    ensures { IfOk result (λ edges. edges ≡ map (λ facts. spec_indices_of project.now facts.reads) all.now) }
 {
     let mut edges = Items::new(alloc);
     for (index, facts) in all.iter().enumerate() {
-        edges.push(indices_of(alloc, project, index, None, reads(facts.get()))?)?;
+        let reads = facts.get().reads.as_slice();
+        edges.push(indices_of(alloc, project, index, None, reads)?)?;
     }
     Ok(edges)
 }

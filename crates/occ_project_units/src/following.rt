@@ -1,6 +1,6 @@
 //! What is known of all files after an edit: only readers of the edited file are expanded anew, the rest is shared.
 ghost use Rattle.occ_project.specs.Entries.{is_among};
-ghost use Rattle.occ_project_units.specs.inside.Keeping.{AreOthers, all_facts, facts_of as spec_facts_of, reads_in};
+ghost use Rattle.occ_project_units.specs.inside.Keeping.{AreOthers, all_facts, facts_of as spec_facts_of};
 ghost use Rattle.std.specs.Option.{option_copied};
 ghost use Rattle.std.specs.Prelude.{IfOk, IfSome, IsTrue, false, map, ◌≡◌};
 
@@ -53,7 +53,7 @@ fn still_known<'a>(
 ) -> Option<&'a Shared<Facts>>
     requires { facts.now ≡ all_facts files.now }
     ensures known { IfSome (option_copied result) (λ known. known ≡ spec_facts_of files.now name) }
-    ensures apart { IfSome (option_copied result) (λ known. is_among (reads_in known.expanded) edited ≡ false) }
+    ensures apart { IfSome (option_copied result) (λ known. is_among known.reads edited ≡ false) }
 {
     let known = known_near(files, facts, index, name)?;
     if does_read(known.get(), edited) {

@@ -24,7 +24,7 @@ use super::renewing::{find_readers, renew};
 use super::standing::Standing;
 use occ_base::{FileName, Items, Shared};
 use occ_forms::Source;
-use occ_project::{Expanded, Read};
+use occ_project::Read;
 use occ_project_graph::{Linked, Nodes};
 use std::alloc::{AllocError, Global};
 use std::marker::Model;
@@ -467,14 +467,6 @@ impl Graph {
         }
     }
 
-    /// The expansion of a unit that is in the project.
-    fn expanded(&self, hint: usize, unit: FileName) -> Option<&Expanded>
-        ensures { option_copied result ≡ option_and_then (λ at. (spec_facts_of self.now unit).expanded) (index unit self.now) }
-    {
-        let expanded = self.facts_of(hint, unit)?.expanded.as_ref();
-        expanded.map(|expanded| expanded.get())
-    }
-
     /// The units that a unit uses, in order of name.
     pub fn uses(&self, unit: FileName) -> &[FileName]
         ensures { result.now ≡ used_units self.now unit }
@@ -503,8 +495,8 @@ impl Graph {
     pub fn reads_near<'a>(&'a self, hint: usize, unit: &'a FileName) -> &'a [FileName]
         ensures { result.now ≡ read_names self.now unit.now }
     {
-        match self.expanded(hint, *unit) {
-            Some(expanded) => expanded.reads(),
+        match self.facts_of(hint, *unit) {
+            Some(facts) => facts.reads.as_slice(),
             None => own_name(unit),
         }
     }

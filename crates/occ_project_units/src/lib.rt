@@ -2,7 +2,6 @@
 #![tactic(auto)]
 
 mod adding;
-mod expansion;
 mod facts;
 mod following;
 mod graph;
@@ -12,6 +11,7 @@ mod links;
 mod project;
 mod renewing;
 pub mod rows;
+mod skimming;
 mod standing;
 
 pub use graph::Graph;

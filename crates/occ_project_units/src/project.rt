@@ -320,13 +320,6 @@ impl Project {
         Ok(reads)
     }
 
-    /// All its files as they are read.
-    pub(crate) fn all_reads(&self, alloc: Global) -> Result<Reads, AllocError>
-        ensures { IfOk result (λ reads. reads ≡ self.now) }
-    {
-        Ok(Items::from_vec(share_all(alloc, self.files.as_slice())?))
-    }
-
     /// The same project, which shares its texts.
     pub(crate) fn share(&self, alloc: Global) -> Result<Project, AllocError>
         ensures { IfOk result (λ project. project ≡ self.now) }

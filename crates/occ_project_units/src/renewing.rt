@@ -4,11 +4,11 @@ ghost use Rattle.occ_project.specs.Reads.{index as spec_index};
 ghost use Rattle.occ_project_units.specs.Along.{name_at};
 ghost use Rattle.occ_project_units.specs.Indices.{readers_at as spec_readers_at};
 ghost use Rattle.occ_project_units.specs.Project.{IsProject, put};
-ghost use Rattle.occ_project_units.specs.inside.Keeping.{AreAsBefore, AreReaders, IsAsBefore, IsRenewed, all_facts as spec_all_facts, facts_of as spec_facts_of, reads_in};
+ghost use Rattle.occ_project_units.specs.inside.Keeping.{AreAsBefore, AreReaders, IsAsBefore, IsRenewed, all_facts as spec_all_facts, facts_of as spec_facts_of};
 ghost use Rattle.std.specs.Option.{option_copied};
 ghost use Rattle.std.specs.Prelude.{get_or, false, IfOk, IsTrue, length, map, OnErr, slice_get, slice_set, Some, true, ℕ, ◌≡◌, ◌<◌, ◌⊎◌};
 
-use super::facts::{Facts, facts_of, read_edges, reads};
+use super::facts::{Facts, facts_of, read_edges};
 use super::following::are_same_names;
 use super::project::Project;
 use occ_base::{Items, Shared};
@@ -54,7 +54,7 @@ fn is_as_before(before: Option<&Shared<Facts>>, now: Option<&Shared<Facts>>) -> 
 {
     match (before, now) {
         (Some(before), Some(now)) => {
-            are_same_names(reads(before.get()), reads(now.get()))
+            are_same_names(before.get().reads.as_slice(), now.get().reads.as_slice())
                 && are_same_names(before.get().uses.as_slice(), now.get().uses.as_slice())
         }
         _ => false,

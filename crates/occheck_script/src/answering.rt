@@ -113,7 +113,7 @@ fn carry_out<W: ByteOut>(
     ensures device { IfErr result (λ ended. is_device_fault ended ≡ W.has_failed writer.new) }
 {
     match desk.answer(alloc, command) {
-        Ok(answer) => hold(held, answer.as_slice(), writer),
+        Ok(answer) => hold(held, answer, writer),
         Err(_) => Err(without_memory(held.as_slice(), writer)),
     }
 }

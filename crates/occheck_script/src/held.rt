@@ -8,26 +8,58 @@ ghost use Rattle.std.specs.Prelude.{◌≡◌, ◌++◌, IfErr, List, OnErr, OnO
 use super::devices::ByteOut;
 use super::status::Status;
 use super::written::write_all;
+use std::alloc::AllocError;
 
 /// So many bytes are not held back any longer.
 const ENOUGH: usize = 65_536;
 
-/// Holds an answer back behind others; where they are enough, all are written. Where memory is refused, the others are.
-pub fn hold<W: ByteOut>(held: &mut Vec<u8>, answer: &[u8], writer: &mut W) -> Result<(), Status>
+/// Holds an answer back behind others; where they are enough, all are written, and the others alone before an answer that is enough
+/// alone. Where memory is refused, the others are.
+pub fn hold<W: ByteOut>(held: &mut Vec<u8>, answer: Vec<u8>, writer: &mut W) -> Result<(), Status>
     requires { W.has_failed writer.old ≡ false }
-    ensures held { OnOk result ((before : Option (List ℕ)) (all : List ℕ) → Left before (W.written writer.old) held.old.items all → Left before (W.written writer.new) held.new.items (all ++ answer.now)) }
+    ensures held { OnOk result ((before : Option (List ℕ)) (all : List ℕ) → Left before (W.written writer.old) held.old.items all → Left before (W.written writer.new) held.new.items (all ++ answer.items)) }
     ensures fine { OnOk result (W.has_failed writer.new ≡ false) }
-    ensures halted { IfErr result (λ ended. (before : Option (List ℕ)) (all : List ℕ) → Left before (W.written writer.old) held.old.items all → IsHalted before (W.written writer.new) all answer.now ended) }
+    ensures halted { IfErr result (λ ended. (before : Option (List ℕ)) (all : List ℕ) → Left before (W.written writer.old) held.old.items all → IsHalted before (W.written writer.new) all answer.items ended) }
     ensures device { IfErr result (λ ended. is_device_fault ended ≡ W.has_failed writer.new) }
 {
-    match held.extend_from_slice(answer) {
-        Ok(()) => write_enough(held, writer),
+    match write_enough(held, answer.len(), writer) {
+        Ok(()) => hold_behind(held, answer, writer),
+        Err(_ended) => Err(Status::DeviceFault),
+    }
+}
+
+/// Holds an answer back behind others; where they are enough, all are written. Where memory is refused, the others are.
+fn hold_behind<W: ByteOut>(
+    held: &mut Vec<u8>,
+    answer: Vec<u8>,
+    writer: &mut W,
+) -> Result<(), Status>
+    requires { W.has_failed writer.old ≡ false }
+    ensures held { OnOk result ((before : Option (List ℕ)) (all : List ℕ) → Left before (W.written writer.old) held.old.items all → Left before (W.written writer.new) held.new.items (all ++ answer.items)) }
+    ensures fine { OnOk result (W.has_failed writer.new ≡ false) }
+    ensures halted { IfErr result (λ ended. (before : Option (List ℕ)) (all : List ℕ) → Left before (W.written writer.old) held.old.items all → IsHalted before (W.written writer.new) all answer.items ended) }
+    ensures device { IfErr result (λ ended. is_device_fault ended ≡ W.has_failed writer.new) }
+{
+    match add(held, answer) {
+        Ok(()) => write_enough(held, held.len(), writer),
         Err(_refused) => Err(without_memory(held.as_slice(), writer)),
     }
 }
 
-/// Writes the answers that are held back, if they are enough.
-fn write_enough<W: ByteOut>(held: &mut Vec<u8>, writer: &mut W) -> Result<(), Status>
+/// Adds an answer behind others. One that is alone is not copied.
+fn add(held: &mut Vec<u8>, answer: Vec<u8>) -> Result<(), AllocError>
+    ensures ok { OnOk result (held.new.items ≡ held.old.items ++ answer.items) }
+    ensures err { OnErr result (held.new.items ≡ held.old.items) }
+{
+    if held.is_empty() {
+        *held = answer;
+        return Ok(());
+    }
+    held.extend_from_slice(answer.as_slice())
+}
+
+/// Writes the answers that are held back, if so many bytes are enough.
+fn write_enough<W: ByteOut>(held: &mut Vec<u8>, bytes: usize, writer: &mut W) -> Result<(), Status>
     requires { W.has_failed writer.old ≡ false }
     ensures held { OnOk result ((before : Option (List ℕ)) (all : List ℕ) → Left before (W.written writer.old) held.old.items all → Left before (W.written writer.new) held.new.items all) }
     ensures front { OnErr result ((before : Option (List ℕ)) (all : List ℕ) → Left before (W.written writer.old) held.old.items all → AppendsFront before (W.written writer.new) all) }
@@ -35,7 +67,7 @@ fn write_enough<W: ByteOut>(held: &mut Vec<u8>, writer: &mut W) -> Result<(), St
     ensures failed { IfErr result (λ ended. ended ≡ status.DeviceFault) }
     ensures failing { OnErr result (W.has_failed writer.new ≡ true) }
 {
-    if held.len() < ENOUGH {
+    if bytes < ENOUGH {
         return Ok(());
     }
     write_held(held, writer)

@@ -31,7 +31,7 @@ fn add_unit(
 {
     match shown {
         Shown::Pending => add_pending(unit, bytes),
-        Shown::Done(diags) => match diags.as_slice() {
+        Shown::Done(diags) => match diags.get().as_slice() {
             [] => add_clean(unit, bytes),
             diags => add_faulty(alloc, unit, diags, bytes),
         },
@@ -51,7 +51,7 @@ fn has_errors(row: &Row) -> bool
 {
     match &row.shown {
         Shown::Pending => false,
-        Shown::Done(diags) => has_error(diags.as_slice()),
+        Shown::Done(diags) => has_error(diags.get().as_slice()),
     }
 }
 

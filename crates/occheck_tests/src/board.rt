@@ -48,7 +48,7 @@ fn finish(alloc: Global, board: &mut Board, text: &str, revision: u32) -> Result
 
 /// Whether the row has no diagnostics.
 fn is_clean(row: &Row) -> bool {
-    matches!(&row.shown, Shown::Done(diags) if diags.is_empty())
+    matches!(&row.shown, Shown::Done(diags) if diags.get().is_empty())
 }
 
 /// Whether the report has one unit, which is done and has no diagnostics.

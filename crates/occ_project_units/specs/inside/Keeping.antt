@@ -7,7 +7,6 @@ use Rattle.occ_project_graph.specs.Adding.{IsParted, with_used_node}
 use Rattle.occ_project_graph.specs.Graph.{Graph, targets}
 use Rattle.occ_project.specs.declared.reads.Read.{Read}
 use Rattle.occ_project.specs.Entries.{is_among}
-use Rattle.occ_project.specs.Expansion.{Expansion, expansion}
 use Rattle.occ_project.specs.Reads.{index}
 use Rattle.occ_project_units.specs.Along.{name_at}
 use Rattle.occ_project_units.specs.declared.facts.Facts.{Facts}
@@ -18,15 +17,10 @@ use Rattle.occ_project_units.specs.Units.{read_names, used_units}
 
 -- what is known of a file
 abbrev pub facts_of : List Read → List ℕ → Facts
-facts_of files name = record { expanded = cond (is_unit name) (Some (expansion files name)) None; uses = used_units files name }
+facts_of files name = record { reads = read_names files name; uses = used_units files name }
 
 abbrev pub all_facts : List Read → List Facts
 all_facts files = map (λ file. facts_of files file.name) files
-
--- what an expansion looks up, if there is one
-abbrev pub reads_in : Option Expansion → List (List ℕ)
-reads_in None = []
-reads_in (Some expansion) = expansion.reads
 
 -- all files but the one of that name are as they were
 abbrev pub AreOthers : List ℕ → List Read → List Read → Type 0
@@ -55,7 +49,7 @@ pub record IsGraph (files : List Read) (facts : List Facts) (links : Graph) (rea
 abbrev pub IsAsBefore : Option Facts → Option Facts → Type 0
 IsAsBefore None now = ⊥
 IsAsBefore (Some before) None = ⊥
-IsAsBefore (Some before) (Some now) = (reads_in before.expanded ≡ reads_in now.expanded) × (before.uses ≡ now.uses)
+IsAsBefore (Some before) (Some now) = (before.reads ≡ now.reads) × (before.uses ≡ now.uses)
 
 -- so do the files at these indices, by what was found of them
 abbrev pub AreAsBefore : List Facts → List ℕ → List Facts → Type 0

@@ -1,7 +1,6 @@
 use Rattle.std.proofs.Common.{◌≡◌, map, take}
 use Rattle.occ_project_units.specs.Indices.{indices_of}
-use Rattle.occ_project_units.specs.inside.Keeping.{reads_in}
 use Rattle.occ_project_units.proofs.facts.read_edges.Given as goal
 
 abbrev pub invariant-loop-index : goal.invariant-loop-index
-invariant-loop-index l = l.edges ≡ map (λ facts. indices_of l.project (reads_in facts.expanded)) (take l.index l.all)
+invariant-loop-index l = l.edges ≡ map (λ facts. indices_of l.project facts.reads) (take l.index l.all)

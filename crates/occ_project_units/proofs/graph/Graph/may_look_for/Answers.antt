@@ -10,11 +10,10 @@ use Rattle.occ_project_units.specs.Indices.{graph_of}
 use Rattle.occ_project_units.specs.Project.{IsProject}
 use Rattle.occ_project_units.specs.Units.{read_names, used_units}
 use Rattle.occ_project_units.specs.declared.facts.Facts.{Facts}
-use Rattle.occ_project_units.specs.inside.Keeping.{reads_in}
 
 pub returns-clause-unread : goal.returns-clause-unread
 returns-clause-unread c = λ _.
-    unread_there c.args.self.now (subst IsProject c.self.view_is c.files-files.ensures.in_order) c.args.name c.requires.absent c.args.index c.requires.within (reads_in c.in-Some.facts.now.expanded)
+    unread_there c.args.self.now (subst IsProject c.self.view_is c.files-files.ensures.in_order) c.args.name c.requires.absent c.args.index c.requires.within c.in-Some.facts.now.reads
     (read_at c.self.inside.project c.self.inside.facts.items c.args.index c.in-Some.facts.now c.self.invariant.facts_are (c.in-Some.ensures ∙ ap (λ (fs : List Facts). slice_get fs c.args.index) c.as_slice.ensures.value)
     ∙ ap (λ (files : List Read). read_names files (name_at files c.args.index)) c.self.view_is)
     (c.may_read.ensures c.if-may_read.false)
