@@ -1,5 +1,5 @@
 -- The files that were found, where one more is.
-use Rattle.std.proofs.Common.{◌≡◌, ◌∙◌, ◌++◌, ◌<◌, Bool, true, false, not, ◌&&◌, ◌||◌, cond, ℕ, zero, suc, List, [], ◌∷◌, length, reverse, Option, Some, None, is_some, arith, refl, subst, sym, ap, if◌then◌else◌}
+use Rattle.std.proofs.Common.{◌≡◌, ◌∙◌, ◌++◌, ◌<◌, Bool, true, false, not, ◌&&◌, ◌||◌, cond, ℕ, suc, List, [], ◌∷◌, length, reverse, Option, Some, None, is_some, arith, refl, subst, sym, ap, if◌then◌else◌}
 use Rattle.std.proofs.lemmas.List.{reverse-append}
 use Rattle.std.proofs.lemmas.Map.Text.{is_eq-slice_cmp}
 use Rattle.std.proofs.lemmas.Slice.Eq.{bytes_eq-Decides}
@@ -68,13 +68,13 @@ pub apart_more : (texts : List Text) (t : Text) → are_apart texts ≡ true →
 apart_more [] t are none = refl
 apart_more (u ∷ us) t are none =
     by (has_name us u.name) (bytes_eq u.name t.name) (has_name us t.name) (bytes_eq t.name u.name) are none (not_back u.name t.name) (apart_more us t) (named_more us t u.name) where
-  by : (a b c d : Bool) → not a && are_apart us ≡ true → b || c ≡ false → (b ≡ false → d ≡ false) → (are_apart us ≡ true → c ≡ false → are_apart (us ++ t ∷ []) ≡ true)
-      → has_name (us ++ t ∷ []) u.name ≡ a || d → not (has_name (us ++ t ∷ []) u.name) && are_apart (us ++ t ∷ []) ≡ true
-  by true b c d h n back rest more = absurd cc
-  by false true c d h n back rest more = absurd cc
-  by false false true d h n back rest more = absurd cc
-  by false false false true h n back rest more = let no : true ≡ false = back refl in absurd cc
-  by false false false false h n back rest more = ap (λ (b : Bool). not b && are_apart (us ++ t ∷ [])) more ∙ rest h refl
+      by : (a b c d : Bool) → not a && are_apart us ≡ true → b || c ≡ false → (b ≡ false → d ≡ false) → (are_apart us ≡ true → c ≡ false → are_apart (us ++ t ∷ []) ≡ true)
+          → has_name (us ++ t ∷ []) u.name ≡ a || d → not (has_name (us ++ t ∷ []) u.name) && are_apart (us ++ t ∷ []) ≡ true
+      by true b c d h n back rest more = absurd cc
+      by false true c d h n back rest more = absurd cc
+      by false false true d h n back rest more = absurd cc
+      by false false false true h n back rest more = let no : true ≡ false = back refl in absurd cc
+      by false false false false h n back rest more = ap (λ (b : Bool). not b && are_apart (us ++ t ∷ [])) more ∙ rest h refl
 
 -- the new one has the last place
 alone : (b : Bool) → (if b then Some 0 else option_map suc None) ≡ cond b (Some 0) None
@@ -133,11 +133,11 @@ named_reverse (t ∷ ts) name =
     ∙ named_more (reverse ts) t name
     ∙ ap (λ (b : Bool). b || bytes_eq t.name name) (named_reverse ts name)
     ∙ by (has_name ts name) (bytes_eq t.name name) where
-  by : (a b : Bool) → a || b ≡ b || a
-  by true true = refl
-  by true false = refl
-  by false true = refl
-  by false false = refl
+      by : (a b : Bool) → a || b ≡ b || a
+      by true true = refl
+      by true false = refl
+      by false true = refl
+      by false false = refl
 
 pub apart_reverse : (texts : List Text) → are_apart texts ≡ true → are_apart (reverse texts) ≡ true
 apart_reverse [] are = refl

@@ -1,5 +1,5 @@
 -- What is found is what a read gives.
-use Rattle.std.proofs.Common.{◌⊎◌, inl, inr, ℕ, List, [], ◌∷◌, Option, None, Some, subst, sym}
+use Rattle.std.proofs.Common.{inl, inr, ℕ, List, [], ◌∷◌, Option, None, Some, subst, sym}
 use Rattle.occ_files.specs.Paths.{Gives, IsFirst, Known}
 
 abbrev pub IsGiven : Known → Option (List ℕ × List ℕ) → Type 0

@@ -1,12 +1,12 @@
 -- What the comparison of selectors says of the elements that are selected.
-use Rattle.std.proofs.Common.{◌≡◌, ℕ, Bool, true, false, ap, ◌∙◌, refl, arith, List, [], ◌∷◌, ◌++◌}
+use Rattle.std.proofs.Common.{◌≡◌, ℕ, Bool, true, false, refl, arith, List, [], ◌∷◌, ◌++◌}
 use Rattle.std.specs.Prelude.{◌||◌, ◌↔◌, ◌==◌, if◌then◌else◌}
 use Rattle.occ_types.specs.declared.interface.PartSelector.{PartSelector}
 use Rattle.occ_usage_parts.specs.declared.part.Overlap.{Overlap}
 use Rattle.occ_usage_parts.specs.declared.part.Overlap.TheVariants as o
 use Rattle.occ_usage_parts.specs.declared.part.Part.{Part}
-use Rattle.occ_usage_parts.specs.Parts.{Meet, Step, all_sure, are_apart, has_empty, lies, overlap_of, overlap_of_selectors, selects, some_differ}
-use Rattle.occ_usage_parts.proofs.Elements.{or_left, and_left, and_right, steps_of_one, apart_met, met_apart, same_test}
+use Rattle.occ_usage_parts.specs.Parts.{Meet, Step, all_sure, are_apart, has_empty, lies, overlap_of, selects, some_differ}
+use Rattle.occ_usage_parts.proofs.Elements.{or_left, and_left, and_right, steps_of_one, apart_met, met_apart}
 
 -- ---- laws of the overlap
 

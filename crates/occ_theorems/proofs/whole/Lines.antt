@@ -89,7 +89,7 @@ use Rattle.occ_typing.specs.Whole.{AreKnownAdds, AreKnownImports, IsKnownInterfa
 use Rattle.occ_typing.specs.WholeTrees.{AllAre, AreWholeExprs, IsWholeElement, IsWholeExpr, IsWholeGuard, IsWholeInput, IsWholeReplicator}
 use Rattle.occ_theorems.proofs.whole.Bodies.{protocol_tags_known, record_fields_known}
 use Rattle.occ_theorems.proofs.whole.Clean.{Has, IsThere, back_clean, front_clean}
-use Rattle.occ_theorems.proofs.whole.Exchanges.{IsWholeSending, IsWholeVariant, both_are, case_known, input_there, output_there, variant_there}
+use Rattle.occ_theorems.proofs.whole.Exchanges.{IsWholeSending, IsWholeVariant, case_known, input_there, output_there, variant_there}
 use Rattle.occ_theorems.proofs.whole.Heads.{function_known, function_line_known, procedure_known, replicator_known, results_known}
 use Rattle.occ_theorems.proofs.whole.Instances.{InstanceKnown, instance_there}
 use Rattle.occ_theorems.proofs.whole.Protocols.{name_found, protocol_known, tagged_known}

@@ -1,4 +1,4 @@
-use Rattle.std.proofs.Common.{◌≡◌, ℕ, List, Option, drop, map}
+use Rattle.std.proofs.Common.{ℕ, List, Option, drop, map}
 use Rattle.std.specs.String.{string_bytes}
 use Rattle.occ_files.specs.Paths.{IsFirst}
 use Rattle.occ_files.proofs.finding.find.Given as goal

@@ -1,4 +1,4 @@
-use Rattle.std.proofs.Common.{◌≡◌, ◌∙◌, ◌≤◌, ◌<◌, ◌⊎◌, inl, inr, Bool, true, false, ℕ, List, ap, arith, refl, subst, sym}
+use Rattle.std.proofs.Common.{◌≡◌, ◌∙◌, ◌≤◌, ◌<◌, inl, inr, Bool, true, false, ℕ, List, arith, refl, subst, sym}
 use Rattle.std.specs.Prelude.{nat_le}
 use Rattle.occ_forms.specs.Depth.{HasForm, HasNoForm, IsTooDeep, form_dimensions}
 use Rattle.occ_forms.specs.Spelling.{form_tokens}
