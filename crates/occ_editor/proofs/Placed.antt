@@ -11,7 +11,7 @@ use Rattle.occ_editor.specs.Rooms.{AreOpen, ChangesAt, HasTexts, Knows, source_a
 use Rattle.occ_editor.specs.declared.documents.Document.{Document}
 use Rattle.occ_editor.specs.inside.Placed.{place_at, place_from}
 use Rattle.occ_files.specs.Gathering.{AreGiven, are_apart, has_name}
-use Rattle.occ_files.specs.Paths.{Gives, Known}
+use Rattle.occ_files.specs.Paths.{Known}
 use Rattle.occ_files.specs.declared.gathering.Text.{Text}
 use Rattle.occ_forms.specs.Prepared.{Prepared}
 

@@ -1,7 +1,7 @@
 -- The rooms of an editor, one after the other.
 use Rattle.std.proofs.Common.{◌≡◌, ◌∙◌, ◌++◌, ◌+◌, ◌<◌, ◌≤◌, ◌⊎◌, inl, inr, Bool, true, false, cond, ℕ, zero, suc, List, [], ◌∷◌, length, not, slice_set, Option, Some, None, arith, refl, subst, sym, ap, if◌then◌else◌}
 use Rattle.std.proofs.lemmas.Slice.Eq.{bytes_eq-Decides}
-use Rattle.std.specs.List.{filter, items_where_true, slice_get}
+use Rattle.std.specs.List.{items_where_true, slice_get}
 use Rattle.std.specs.Str.{bytes_eq}
 use Rattle.std.specs.String.{string_bytes}
 use Rattle.occ_editor.specs.Documents.{IsAfter, IsPut, IsTextOf, path_of, text_in, without}

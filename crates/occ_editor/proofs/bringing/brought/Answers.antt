@@ -1,8 +1,7 @@
-use Rattle.std.proofs.Common.{◌≡◌, ◌∙◌, Bool, ℕ, List, None, Option, ap, cond, is_some, map, subst, sym, true}
+use Rattle.std.proofs.Common.{◌≡◌, ◌∙◌, Bool, List, None, Option, ap, cond, is_some, map, subst, sym, true}
 use Rattle.std.specs.BTreeMap.{get}
 use Rattle.occ_editor.proofs.Brought.{apart_shared, are_shared, given_shared, named_source, names_shared}
 use Rattle.occ_editor.proofs.bringing.brought.Goals as goal
-use Rattle.occ_editor.specs.Placing.{source_on}
 use Rattle.occ_editor.specs.Rooms.{source_in}
 use Rattle.occ_editor.specs.inside.Bringing.{AreShared, Before, HasKept, shared_by}
 use Rattle.occ_files.specs.Gathering.{AreGiven, are_apart, has_name}

@@ -1,4 +1,4 @@
-use Rattle.std.proofs.Common.{◌≡◌, Bor, ℕ, List, Option, ap, subst}
+use Rattle.std.proofs.Common.{Bor, ℕ, List, Option, subst}
 use Rattle.std.specs.Option.{option_map}
 use Rattle.occ_editor.proofs.editor.told.Goals as goal
 use Rattle.occ_editor.specs.Rooms.{ChangesAt}

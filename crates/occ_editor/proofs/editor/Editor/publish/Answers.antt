@@ -1,4 +1,4 @@
-use Rattle.std.proofs.Common.{◌≡◌, ◌∙◌, rules, subst, sym}
+use Rattle.std.proofs.Common.{◌≡◌, rules, subst, sym}
 use Rattle.occ_editor.proofs.editor.Editor.publish.Goals as goal
 use Rattle.occ_editor.specs.Rooms.{AllSettled}
 use Rattle.occ_editor.specs.declared.documents.Documents.{Documents}

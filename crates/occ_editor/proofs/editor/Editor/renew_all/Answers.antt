@@ -1,4 +1,4 @@
-use Rattle.std.proofs.Common.{◌≡◌, ◌≤◌, List, arith, length, refl, rules}
+use Rattle.std.proofs.Common.{◌≤◌, List, length, refl, rules}
 use Rattle.occ_editor.proofs.Rooms.{settled_all, settled_none}
 use Rattle.occ_editor.proofs.editor.Editor.renew_all.Goals as goal
 use Rattle.occ_editor.specs.declared.room.Room.{Room}

@@ -1,7 +1,6 @@
-use Rattle.std.proofs.Common.{◌≡◌, ◌≤◌, List, arith, length, refl, rules}
+use Rattle.std.proofs.Common.{◌≤◌, List, length, refl, rules}
 use Rattle.occ_editor.proofs.Rooms.{followed_all, followed_none}
 use Rattle.occ_editor.proofs.editor.Editor.tell_all.Goals as goal
-use Rattle.occ_editor.specs.declared.documents.Document.{Document}
 use Rattle.occ_editor.specs.declared.room.Room.{Room}
 
 pub loop-index-init : goal.loop-index-init

@@ -2,7 +2,7 @@ use Rattle.std.proofs.Common.{◌≡◌, ◌⊎◌, ◌↔◌, ◌++◌, ◌∷�
 use Rattle.std.specs.List.{Contains}
 use Rattle.occ_editor.proofs.Heads.{pushed, there_already}
 use Rattle.occ_editor.proofs.editor.Published.add.Goals as goal
-use Rattle.occ_messages.specs.Located.{Head, head_of}
+use Rattle.occ_messages.specs.Located.{head_of}
 use Rattle.occ_messages.specs.declared.message.Message.{Message}
 
 pub returns-then-has-clause-messages : goal.returns-then-has-clause-messages

@@ -2,7 +2,7 @@ use Rattle.std.proofs.Common.{◌≡◌, ◌∙◌, ◌⊎◌, ◌↔◌, ◌++�
 use Rattle.std.specs.List.{Contains}
 use Rattle.occ_editor.proofs.Heads.{ended, moved, none_in, pushed, split_right}
 use Rattle.occ_editor.proofs.editor.Published.add_all.Goals as goal
-use Rattle.occ_messages.specs.Located.{Head, head_of}
+use Rattle.occ_messages.specs.Located.{head_of}
 use Rattle.occ_messages.specs.declared.message.Message.{Message}
 
 pub loop-message-preserved : goal.loop-message-preserved

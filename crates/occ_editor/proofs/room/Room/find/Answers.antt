@@ -1,4 +1,4 @@
-use Rattle.std.proofs.Common.{◌≡◌, ◌∙◌, Global, Vec, ap, rules, subst, sym}
+use Rattle.std.proofs.Common.{◌≡◌, ◌∙◌, ap, rules, subst, sym}
 use Rattle.occ_editor.proofs.Placed.{given_open}
 use Rattle.occ_editor.proofs.room.Room.find.Goals as goal
 use Rattle.occ_editor.specs.Rooms.{HasTexts}
