@@ -7,7 +7,7 @@ ghost use Rattle.occ_editor.specs.inside.Placed.{AreFound, HasAt, place_at};
 ghost use Rattle.occ_files.specs.declared.gathering.Text.{Text as AText};
 ghost use Rattle.std.specs.List.{slice_get};
 ghost use Rattle.std.specs.Option.{option_copied};
-ghost use Rattle.std.specs.Prelude.{◌≡◌, IfOk, IsTrue, List, OnOk, Some, map, option_map, slice_set, ℕ};
+ghost use Rattle.std.specs.Prelude.{◌≡◌, IfOk, IsTrue, List, None, OnOk, Some, map, option_map, slice_set, true, ℕ};
 
 use super::bringing::{brought, put_one};
 use super::found::name_alike;
@@ -126,7 +126,8 @@ impl Room {
     /// The file at a path is open with this text now, or no more. If it had another one, or may be one that was not there, all
     /// files have to be found again.
     pub fn meet(&mut self, path: &str, bytes: Option<&[u8]>)
-        ensures { (before now : List ADocument) → ChangesAt before now path.now (option_map (λ text. text.now) bytes.entry) → Stands before self.old → Stands now self.new }
+        ensures closed { bytes.entry ≡ None → self.new.is_loose ≡ true }
+        ensures stands { (before now : List ADocument) → ChangesAt before now path.now (option_map (λ text. text.now) bytes.entry) → Stands before self.old → Stands now self.new }
     {
         if !self.has(path, bytes) {
             self.is_loose = true;

@@ -6,7 +6,7 @@ ghost use Rattle.occ_files.specs.inside.Found.{AreFound};
 ghost use Rattle.std.specs.Prelude.{◌≡◌, IfOk, OnOk, Some, false, is_some, true};
 ghost use Rattle.std.specs.String.{string_bytes};
 
-use super::finding::{Disk, Found, find, folder_of, name_of};
+use super::finding::{Disk, Found, find, folder_of, name_of, path_of};
 use super::refusal::{Refusal, Why};
 use occ_base::{FileName, Items, Shared};
 use occ_forms::{LineBody, Source, prepare};
@@ -109,6 +109,14 @@ fn unit_named(path: &str) -> Result<FileName, Why> {
         Ok(name) if name.is_unit() => Ok(name),
         Ok(_) => Err(Why::NoUnit),
         Err(fault) => Err(Why::Name(fault)),
+    }
+}
+
+/// The path of a name in the first of these folders.
+fn first_path(alloc: Global, folders: &[String], name: &str) -> Result<String, AllocError> {
+    match folders.first() {
+        Some(folder) => path_of(alloc, folder.as_str(), name),
+        None => String::from_str(alloc, name),
     }
 }
 
@@ -269,7 +277,10 @@ impl<'a, D: Disk> Gathering<'a, D> {
         match find(alloc, self.disk, folders.as_slice(), name) {
             Ok(Some(found)) => self.add(alloc, mention.name, found),
             Ok(None) => Ok(()),
-            Err(fault) => self.refuse(alloc, name, Why::of_fault(fault)?),
+            Err(fault) => {
+                let path = first_path(alloc, folders.as_slice(), name)?;
+                self.refuse(alloc, path.as_str(), Why::of_fault(fault)?)
+            }
         }
     }
 

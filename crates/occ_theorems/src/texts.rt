@@ -96,8 +96,8 @@ pub fn form_law()
     occ_forms::one_form_law();
 }
 
-/// No two of these are so of a line: it has a form, it is too deep, it has none. Where neither of the first two is, the third is.
-/// So each line has its one form or its one fault, and `prepare` finds which.
+/// No two of these are so of a line: it has a form, it is too deep, it is not too deep and has none. Where neither of the first
+/// two is, the third is. So each line has its one form or its one fault, and `prepare` finds which.
 pub fn line_law()
     ensures deep { (tokens : List AToken) (form : AForm) → HasForm tokens form → IsTooDeep tokens → ⊥ }
     ensures none { (tokens : List AToken) (form : AForm) → HasForm tokens form → HasNoForm tokens → ⊥ }
