@@ -1,6 +1,5 @@
 pub mod Brought
 pub mod Heads
-pub mod Noted
 pub mod Placed
 pub mod Replayed
 pub mod Rooms

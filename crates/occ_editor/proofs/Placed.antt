@@ -5,10 +5,10 @@ use Rattle.std.specs.List.{slice_get}
 use Rattle.std.specs.Str.{bytes_eq}
 use Rattle.std.specs.String.{string_bytes}
 use Rattle.occ_board.specs.Machine.{State}
-use Rattle.occ_editor.specs.Documents.{text_in}
+use Rattle.occ_editor_edits.specs.Documents.{ChangesAt, text_in}
 use Rattle.occ_editor.specs.Placing.{source_on}
-use Rattle.occ_editor.specs.Rooms.{AreOpen, ChangesAt, HasTexts, Knows, source_at, source_in}
-use Rattle.occ_editor.specs.declared.documents.Document.{Document}
+use Rattle.occ_editor.specs.Rooms.{AreOpen, HasTexts, Knows, source_at, source_in}
+use Rattle.occ_editor_edits.specs.declared.documents.Document.{Document}
 use Rattle.occ_editor.specs.inside.Placed.{place_at, place_from}
 use Rattle.occ_files.specs.Gathering.{AreGiven, are_apart, has_name}
 use Rattle.occ_files.specs.Paths.{Known}

@@ -4,11 +4,11 @@ use Rattle.std.proofs.lemmas.Slice.Eq.{bytes_eq-Decides}
 use Rattle.std.specs.List.{items_where_true, slice_get}
 use Rattle.std.specs.Str.{bytes_eq}
 use Rattle.std.specs.String.{string_bytes}
-use Rattle.occ_editor.specs.Documents.{IsAfter, IsPut, IsTextOf, path_of, text_in, without}
-use Rattle.occ_editor.specs.Rooms.{AllSettled, AllStand, ChangesAt, IsSettled, Stands}
-use Rattle.occ_editor.specs.declared.documents.Document.{Document}
-use Rattle.occ_editor.specs.declared.documents.Note.{Note}
-use Rattle.occ_editor.specs.declared.documents.Note.TheVariants as note
+use Rattle.occ_editor_edits.specs.Documents.{ChangesAt, IsAfter, IsPut, IsTextOf, path_of, text_in, without}
+use Rattle.occ_editor.specs.Rooms.{AllSettled, AllStand, IsSettled, Stands}
+use Rattle.occ_editor_edits.specs.declared.documents.Document.{Document}
+use Rattle.occ_editor_edits.specs.declared.documents.Note.{Note}
+use Rattle.occ_editor_edits.specs.declared.documents.Note.TheVariants as note
 use Rattle.occ_editor.specs.declared.room.Room.{Room}
 use Rattle.occ_editor.specs.inside.Followed.{AreSettled, HaveFollowed}
 use Rattle.occ_editor_edits.specs.Changes.{all_changed}
@@ -129,39 +129,3 @@ stand_more documents xs y all stands k r e = elim (last_or xs y k r e) [
   | inl is ↦ subst (Stands documents) is stands
   | inr is ↦ all k r is
 ]
-
--- ---- what a note changes
-
-others : (path : List ℕ) (ds : List Document) (other : List ℕ) → bytes_eq path other ≡ false → text_in (without path ds) other ≡ text_in ds other
-others path [] other differs = refl
-others path (d ∷ ds) other differs = by (bytes_eq (string_bytes d.path) path) refl (others path ds other differs) where
-  by : (b : Bool) → bytes_eq (string_bytes d.path) path ≡ b → text_in (without path ds) other ≡ text_in ds other → text_in (cond (not b) (d ∷ without path ds) (without path ds)) other ≡ text_in (d ∷ ds) other
-  by true h rest =
-      let same : string_bytes d.path ≡ path = (bytes_eq-Decides (string_bytes d.path) path).0 h in
-      rest ∙ sym (ap (λ (b : Bool). if b then Some d.text.items else text_in ds other) (ap (λ (p : List ℕ). bytes_eq p other) same ∙ differs))
-  by false h rest = ap (λ (o : Option (List ℕ)). if bytes_eq (string_bytes d.path) other then Some d.text.items else o) rest
-
-last_other : (ds : List Document) (d : Document) (other : List ℕ) → bytes_eq (string_bytes d.path) other ≡ false → text_in (ds ++ d ∷ []) other ≡ text_in ds other
-last_other [] d other differs = ap (λ (b : Bool). if b then Some d.text.items else None) differs
-last_other (e ∷ es) d other differs = ap (λ (o : Option (List ℕ)). if bytes_eq (string_bytes e.path) other then Some e.text.items else o) (last_other es d other differs)
-
--- a file alone may have another text where all others have theirs
-alone : (before now : List Document) (path : List ℕ) → ((other : List ℕ) → bytes_eq path other ≡ false → text_in now other ≡ text_in before other) → ChangesAt before now path (text_in now path)
-alone before now path same other = by (bytes_eq path other) refl where
-  by : (b : Bool) → bytes_eq path other ≡ b → text_in now other ≡ cond b (text_in now path) (text_in before other)
-  by true h = ap (text_in now) (sym ((bytes_eq-Decides path other).0 h))
-  by false h = same other h
-
-put_alone : (before now : List Document) (path text : List ℕ) → IsPut before path text now → ChangesAt before now path (text_in now path)
-put_alone before now path text is = alone before now path (λ other differs.
-    ap (λ (ds : List Document). text_in ds other) is.3
-    ∙ last_other (without path before) is.0 other (ap (λ (p : List ℕ). bytes_eq p other) is.1 ∙ differs)
-    ∙ others path before other differs)
-
-pub changes_at : (before now : List Document) (n : Note) → IsAfter before n now → ChangesAt before now (path_of n) (text_in now (path_of n))
-changes_at before now (note.Opened path text) is = put_alone before now (string_bytes path) text.items is
-changes_at before now (note.Changed path changes) is = by (text_in before (string_bytes path)) is where
-  by : (o : Option (List ℕ)) → IsTextOf before (string_bytes path) changes.items o now → ChangesAt before now (string_bytes path) (text_in now (string_bytes path))
-  by None same = alone before now (string_bytes path) (λ other differs. ap (λ (ds : List Document). text_in ds other) same)
-  by (Some text) is = put_alone before now (string_bytes path) (all_changed text changes.items) is
-changes_at before now (note.Closed path) is = alone before now (string_bytes path) (λ other differs. ap (λ (ds : List Document). text_in ds other) is ∙ others (string_bytes path) before other differs)

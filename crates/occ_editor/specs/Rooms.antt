@@ -4,9 +4,9 @@ use Rattle.std.specs.List.{slice_get}
 use Rattle.std.specs.Str.{bytes_eq}
 use Rattle.std.specs.String.{string_bytes}
 use Rattle.occ_board.specs.Machine.{State, files_of}
-use Rattle.occ_editor.specs.Documents.{text_in}
+use Rattle.occ_editor_edits.specs.Documents.{text_in}
 use Rattle.occ_editor.specs.Placing.{source_on, told_of}
-use Rattle.occ_editor.specs.declared.documents.Document.{Document}
+use Rattle.occ_editor_edits.specs.declared.documents.Document.{Document}
 use Rattle.occ_editor.specs.declared.room.Room.{Room}
 use Rattle.occ_files.specs.Gathering.{are_apart}
 use Rattle.occ_files.specs.Paths.{Known}
@@ -44,10 +44,6 @@ pub record IsSettled (documents : List Document) (room : Room) : Type 0 where
   pub stands : Stands documents room
   pub found : room.is_loose ≡ false
   pub same : room.is_changed ≡ false
-
--- of the files that are open only the one at the path may have another text than before: this one, or none
-abbrev pub ChangesAt : List Document → List Document → List ℕ → Option (List ℕ) → Type 0
-ChangesAt before now path text = (other : List ℕ) → text_in now other ≡ cond (bytes_eq path other) text (text_in before other)
 
 -- what is known of a file: its text in the editor, if it is open there
 abbrev pub over : Option (List ℕ) → Option (Option (List ℕ)) → Option (Option (List ℕ))

@@ -1,8 +1,8 @@
 //! The open files with their boards, one for each folder: notes are taken, and what is told of files is published where it changed.
-ghost use Rattle.occ_editor.specs.Documents.{IsAfter, text_in};
-ghost use Rattle.occ_editor.specs.Rooms.{AllSettled, AllStand, ChangesAt, Stands};
+ghost use Rattle.occ_editor_edits.specs.Documents.{ChangesAt, IsAfter, text_in};
+ghost use Rattle.occ_editor.specs.Rooms.{AllSettled, AllStand, Stands};
 ghost use Rattle.occ_editor.specs.Standing.{IsStanding, IsUpToDate};
-ghost use Rattle.occ_editor.specs.declared.documents.Document.{Document as ADocument};
+ghost use Rattle.occ_editor_edits.specs.declared.documents.Document.{Document as ADocument};
 ghost use Rattle.occ_editor.specs.inside.Followed.{AreSettled, HaveFollowed};
 ghost use Rattle.occ_editor.specs.Publishing.{IsPublished};
 ghost use Rattle.occ_messages.specs.Located.{Head, head_of};

@@ -1,6 +1,6 @@
 //! The files of a disk, with those that are open in the editor in place of what is there.
 ghost use Rattle.occ_editor.specs.Rooms.{over};
-ghost use Rattle.occ_editor.specs.Documents.{text_in};
+ghost use Rattle.occ_editor_edits.specs.Documents.{text_in};
 
 use super::documents::Documents;
 use occ_files::{Disk, DiskFault, Seen};

@@ -1,8 +1,9 @@
 //! The files of one folder that are open, with all that they use and include, on a board of their own.
+ghost use Rattle.occ_editor_edits.specs.Documents.{ChangesAt};
 ghost use Rattle.occ_editor.specs.Publishing.{text_at as spec_text_at, told_at};
 ghost use Rattle.occ_messages.specs.Located.{head_of};
-ghost use Rattle.occ_editor.specs.Rooms.{ChangesAt, IsSettled, Knows, Stands};
-ghost use Rattle.occ_editor.specs.declared.documents.Document.{Document as ADocument};
+ghost use Rattle.occ_editor.specs.Rooms.{IsSettled, Knows, Stands};
+ghost use Rattle.occ_editor_edits.specs.declared.documents.Document.{Document as ADocument};
 ghost use Rattle.occ_editor.specs.inside.Placed.{AreFound, HasAt, place_at};
 ghost use Rattle.occ_files.specs.declared.gathering.Text.{Text as AText};
 ghost use Rattle.std.specs.List.{slice_get};

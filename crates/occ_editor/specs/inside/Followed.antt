@@ -2,7 +2,7 @@
 use Rattle.std.specs.Prelude.{◌≡◌, ◌<◌, ◌≤◌, ℕ, List, Some}
 use Rattle.std.specs.List.{slice_get}
 use Rattle.occ_editor.specs.Rooms.{IsSettled, Stands}
-use Rattle.occ_editor.specs.declared.documents.Document.{Document}
+use Rattle.occ_editor_edits.specs.declared.documents.Document.{Document}
 use Rattle.occ_editor.specs.declared.room.Room.{Room}
 
 -- so many of them have followed what changed

@@ -4,7 +4,7 @@ use Rattle.std.specs.Str.{bytes_eq}
 use Rattle.std.specs.String.{string_bytes}
 use Rattle.occ_board.specs.Machine.{State}
 use Rattle.occ_editor.specs.Rooms.{AreOpen, HasTexts, source_at}
-use Rattle.occ_editor.specs.declared.documents.Document.{Document}
+use Rattle.occ_editor_edits.specs.declared.documents.Document.{Document}
 use Rattle.occ_files.specs.Gathering.{are_apart}
 use Rattle.occ_files.specs.declared.gathering.Text.{Text}
 use Rattle.occ_forms.specs.Prepared.{Prepared}

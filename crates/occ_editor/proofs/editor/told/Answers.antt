@@ -1,7 +1,7 @@
+use Rattle.occ_editor_edits.specs.Documents.{ChangesAt}
 use Rattle.std.proofs.Common.{Bor, ℕ, List, Option, subst}
 use Rattle.std.specs.Option.{option_map}
 use Rattle.occ_editor.proofs.editor.told.Goals as goal
-use Rattle.occ_editor.specs.Rooms.{ChangesAt}
 
 pub returns-in_ok-follow-in-Some : goal.returns-in_ok-follow-in-Some
 returns-in_ok-follow-in-Some c = λ before now changes stands.

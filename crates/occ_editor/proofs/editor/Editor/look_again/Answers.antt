@@ -1,7 +1,7 @@
 use Rattle.std.proofs.Common.{◌∙◌, subst, sym}
 use Rattle.occ_editor.proofs.editor.Editor.look_again.Goals as goal
 use Rattle.occ_editor.specs.Rooms.{AllStand}
-use Rattle.occ_editor.specs.declared.documents.Documents.{Documents}
+use Rattle.occ_editor_edits.specs.declared.documents.Documents.{Documents}
 
 pub loop-index-preserved : goal.loop-index-preserved
 loop-index-preserved c = (c.loosen.ensures.documents ∙ c.loop-index.invariant.0, λ documents all. c.loosen.ensures.boards documents (c.loop-index.invariant.1 documents all))

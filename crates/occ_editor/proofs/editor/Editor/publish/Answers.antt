@@ -1,7 +1,7 @@
 use Rattle.std.proofs.Common.{◌≡◌, rules, subst, sym}
 use Rattle.occ_editor.proofs.editor.Editor.publish.Goals as goal
 use Rattle.occ_editor.specs.Rooms.{AllSettled}
-use Rattle.occ_editor.specs.declared.documents.Documents.{Documents}
+use Rattle.occ_editor_edits.specs.declared.documents.Documents.{Documents}
 
 pub returns-clause-boards : goal.returns-clause-boards
 returns-clause-boards g c = λ all.

@@ -4,7 +4,7 @@ use Rattle.std.specs.List.{slice_get}
 use Rattle.occ_editor.proofs.Rooms.{settled_next, settled_past}
 use Rattle.occ_editor.proofs.editor.Editor.renew.Goals as goal
 use Rattle.occ_editor.specs.Rooms.{over}
-use Rattle.occ_editor.specs.declared.documents.Document.{Document}
+use Rattle.occ_editor_edits.specs.declared.documents.Document.{Document}
 use Rattle.occ_editor.specs.declared.room.Room.{Room}
 
 pub returns-in_ok-renew-clause-boards : goal.returns-in_ok-renew-clause-boards

@@ -1,10 +1,10 @@
 use Rattle.std.proofs.Common.{◌≡◌, ◌∙◌, ℕ, List, rules, subst, sym}
-use Rattle.occ_editor.proofs.Rooms.{changes_at}
+use Rattle.occ_editor_edits.proofs.Noted.{changes_at}
 use Rattle.occ_editor.proofs.editor.Editor.take.Goals as goal
-use Rattle.occ_editor.specs.Documents.{path_of, text_in}
-use Rattle.occ_editor.specs.Rooms.{AllStand, ChangesAt}
-use Rattle.occ_editor.specs.declared.documents.Document.{Document}
-use Rattle.occ_editor.specs.declared.documents.Documents.{Documents}
+use Rattle.occ_editor_edits.specs.Documents.{ChangesAt, path_of, text_in}
+use Rattle.occ_editor.specs.Rooms.{AllStand}
+use Rattle.occ_editor_edits.specs.declared.documents.Document.{Document}
+use Rattle.occ_editor_edits.specs.declared.documents.Documents.{Documents}
 
 pub returns-clause-boards : goal.returns-clause-boards
 returns-clause-boards c = λ all.

@@ -1,10 +1,10 @@
+use Rattle.occ_editor_edits.specs.Documents.{ChangesAt}
 use Rattle.std.proofs.Common.{◌≡◌, ◌≤◌, ◌<◌, ℕ, List, Option, Some, arith, length, refl, subst, sym}
 use Rattle.std.proofs.lemmas.Option.{slice_get_read}
 use Rattle.std.specs.List.{slice_get}
 use Rattle.occ_editor.proofs.Rooms.{followed_next, followed_past}
 use Rattle.occ_editor.proofs.editor.Editor.tell.Goals as goal
-use Rattle.occ_editor.specs.Rooms.{ChangesAt}
-use Rattle.occ_editor.specs.declared.documents.Document.{Document}
+use Rattle.occ_editor_edits.specs.declared.documents.Document.{Document}
 use Rattle.occ_editor.specs.declared.room.Room.{Room}
 
 pub returns-in_ok-told-clause-boards : goal.returns-in_ok-told-clause-boards

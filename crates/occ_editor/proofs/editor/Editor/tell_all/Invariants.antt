@@ -1,8 +1,8 @@
 use Rattle.std.proofs.Common.{◌≡◌, List, length}
 use Rattle.occ_editor.proofs.editor.Editor.tell_all.Given as goal
-use Rattle.occ_editor.specs.Documents.{text_in}
-use Rattle.occ_editor.specs.Rooms.{AllStand, ChangesAt}
-use Rattle.occ_editor.specs.declared.documents.Document.{Document}
+use Rattle.occ_editor_edits.specs.Documents.{ChangesAt, text_in}
+use Rattle.occ_editor.specs.Rooms.{AllStand}
+use Rattle.occ_editor_edits.specs.declared.documents.Document.{Document}
 use Rattle.occ_editor.specs.inside.Followed.{HaveFollowed}
 
 abbrev pub invariant-loop-index : goal.invariant-loop-index

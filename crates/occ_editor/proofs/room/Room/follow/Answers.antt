@@ -1,7 +1,7 @@
+use Rattle.occ_editor_edits.specs.Documents.{ChangesAt}
 use Rattle.std.proofs.Common.{◌≡◌, ◌∙◌, ℕ, List, Some, rules, subst, sym}
 use Rattle.occ_editor.proofs.Placed.{not_at, open_beside, or_left}
 use Rattle.occ_editor.proofs.room.Room.follow.Goals as goal
-use Rattle.occ_editor.specs.Rooms.{ChangesAt}
 
 pub returns-in_default : goal.returns-in_default
 returns-in_default c = λ before now changes stands.

@@ -1,11 +1,11 @@
 -- The files that are open in an editor, after each of its notes.
-use Rattle.std.specs.Prelude.{◌≡◌, ℕ, not, List, [], ◌∷◌, ◌++◌, if◌then◌else◌, Option, Some, None}
+use Rattle.std.specs.Prelude.{◌≡◌, ℕ, not, List, [], ◌∷◌, ◌++◌, cond, if◌then◌else◌, Option, Some, None}
 use Rattle.std.specs.List.{filter}
 use Rattle.std.specs.Str.{bytes_eq}
 use Rattle.std.specs.String.{string_bytes}
-use Rattle.occ_editor.specs.declared.documents.Document.{Document}
-use Rattle.occ_editor.specs.declared.documents.Note.{Note}
-use Rattle.occ_editor.specs.declared.documents.Note.TheVariants as note
+use Rattle.occ_editor_edits.specs.declared.documents.Document.{Document}
+use Rattle.occ_editor_edits.specs.declared.documents.Note.{Note}
+use Rattle.occ_editor_edits.specs.declared.documents.Note.TheVariants as note
 use Rattle.occ_editor_edits.specs.Changes.{all_changed}
 use Rattle.occ_editor_edits.specs.declared.changes.Change.{Change}
 
@@ -40,7 +40,6 @@ IsAfter before (note.Opened path text) now = IsPut before (string_bytes path) te
 IsAfter before (note.Changed path changes) now = IsTextOf before (string_bytes path) changes.items (text_in before (string_bytes path)) now
 IsAfter before (note.Closed path) now = now ≡ without (string_bytes path) before
 
--- what notes leave, one after the other
-pub data AreAfter : List Document → List Note → List Document → Type 0 where
-  none : (ds : List Document) → AreAfter ds [] ds
-  one : (ds es fs : List Document) (n : Note) (ns : List Note) → IsAfter ds n es → AreAfter es ns fs → AreAfter ds (n ∷ ns) fs
+-- of the files that are open only the one at the path may have another text than before: this one, or none
+abbrev pub ChangesAt : List Document → List Document → List ℕ → Option (List ℕ) → Type 0
+ChangesAt before now path text = (other : List ℕ) → text_in now other ≡ cond (bytes_eq path other) text (text_in before other)

@@ -1,9 +1,11 @@
 //! The files that are open in an editor: their paths and texts, as its notes leave them.
-ghost use Rattle.occ_editor.specs.Documents.{IsAfter, IsTextOf, path_of, text_in, without};
-ghost use Rattle.std.specs.Prelude.{◌≡◌, ◌++◌, ◌∷◌, [], OnOk, option_map};
+ghost use Rattle.occ_editor_edits.specs.Documents.{IsAfter, IsTextOf, path_of, text_in, without};
+ghost use Rattle.occ_editor_edits.specs.Messages.{said};
+ghost use Rattle.occ_editor_edits.specs.Texts.{after_saying};
+ghost use Rattle.std.specs.Prelude.{◌≡◌, ◌++◌, ◌∷◌, [], List, OnOk, option_map, ℕ};
 ghost use Rattle.std.specs.String.{string_bytes};
 
-use occ_editor_edits::{Change, changed_all};
+use super::changes::{Change, changed_all};
 use std::alloc::{AllocError, Global};
 
 /// A file that is open in the editor.
@@ -72,7 +74,8 @@ impl Documents {
 
     /// Takes a note.
     pub fn take(&mut self, alloc: Global, note: Note) -> Result<(), AllocError>
-        ensures { OnOk result (IsAfter self.old.all.items note self.new.all.items) }
+        ensures after { OnOk result (IsAfter self.old.all.items note self.new.all.items) }
+        ensures texts { OnOk result ((path : List ℕ) → text_in self.new.all.items path ≡ after_saying (text_in self.old.all.items) (said note) path) }
     {
         match note {
             Note::Opened(path, text) => self.put(path, text)?,
