@@ -1,9 +1,10 @@
 //! The files that are checked together: those that are asked for, and all that they use and include. A name is one file there:
 //! that which is found first.
-ghost use Rattle.occ_files.specs.Gathering.{AreGiven, are_apart, has_name};
+ghost use Rattle.occ_files.specs.Gathering.{AreGiven, are_apart, has_name, has_path, is_met};
 ghost use Rattle.occ_files.specs.Paths.{Gives};
-ghost use Rattle.occ_files.specs.inside.Found.{AreFound};
-ghost use Rattle.std.specs.Prelude.{◌≡◌, IfOk, OnOk, Some, false, is_some, true};
+ghost use Rattle.occ_files.specs.inside.Found.{AreFound, IsMet, Keeps};
+ghost use Rattle.std.specs.List.{All};
+ghost use Rattle.std.specs.Prelude.{◌≡◌, IfOk, IfSome, OnOk, Some, false, is_some, true};
 ghost use Rattle.std.specs.String.{string_bytes};
 
 use super::finding::{Disk, Found, find, folder_of, name_of, path_of};
@@ -67,6 +68,7 @@ pub fn gather<D: Disk>(
 ) -> Result<Gathered, AllocError>
     ensures given { IfOk result (λ found. AreGiven (D.known disk.now) found.texts.items) }
     ensures apart { IfOk result (λ found. are_apart found.texts.items ≡ true) }
+    ensures met { IfOk result (λ found. All (λ path. is_met found.texts.items found.refusals.items (string_bytes path) ≡ true) paths.now) }
 {
     let mut gathering = Gathering {
         disk,
@@ -172,7 +174,8 @@ impl<'a, D: Disk> Gathering<'a, D> {
     /// The text of that name, if there is one.
     fn text(&self, name: FileName) -> Option<&Text>
         requires { AreFound (D.known self.now.disk.now) self.now.found.texts.items self.now.places }
-        ensures { is_some result ≡ has_name self.now.found.texts.items name }
+        ensures named { is_some result ≡ has_name self.now.found.texts.items name }
+        ensures there { IfSome result (λ text. has_path self.now.found.texts.items (string_bytes text.now.path) ≡ true) }
     {
         let place = self.places.get(&name)?;
         self.found.texts.get(*place)
@@ -183,6 +186,8 @@ impl<'a, D: Disk> Gathering<'a, D> {
         ensures texts { self.new.found.texts ≡ self.old.found.texts }
         ensures places { self.new.places ≡ self.old.places }
         ensures disk { self.new.disk ≡ self.old.disk }
+        ensures met { OnOk result (IsMet self.new.found path.now) }
+        ensures keeps { OnOk result (Keeps self.old.found self.new.found) }
     {
         self.found.refusals.push(Refusal::of(alloc, path, why)?)?;
         Ok(())
@@ -193,13 +198,17 @@ impl<'a, D: Disk> Gathering<'a, D> {
         requires found { AreFound (D.known self.old.disk.now) self.old.found.texts.items self.old.places }
         ensures found { OnOk result (AreFound (D.known self.new.disk.now) self.new.found.texts.items self.new.places) }
         ensures disk { self.new.disk ≡ self.old.disk }
+        ensures met { OnOk result (IsMet self.new.found path.now) }
+        ensures keeps { OnOk result (Keeps self.old.found self.new.found) }
     {
         let name = match unit_named(path) {
             Ok(name) => name,
             Err(why) => return self.refuse(alloc, path, why),
         };
-        if self.text(name).is_some() {
-            return Ok(());
+        match self.text(name) {
+            Some(text) if text.path.as_str() == path => return Ok(()),
+            Some(_) => return self.refuse(alloc, path, Why::Twice),
+            None => {}
         }
         match self.disk.read(alloc, path) {
             Ok(Some(bytes)) => {
@@ -219,6 +228,8 @@ impl<'a, D: Disk> Gathering<'a, D> {
         requires given { Gives (D.known self.old.disk.now) (string_bytes found.path) (Some found.bytes.items) }
         ensures found { OnOk result (AreFound (D.known self.new.disk.now) self.new.found.texts.items self.new.places) }
         ensures disk { self.new.disk ≡ self.old.disk }
+        ensures met { OnOk result (IsMet self.new.found (string_bytes found.path)) }
+        ensures keeps { OnOk result (Keeps self.old.found self.new.found) }
     {
         let Found { path, bytes } = found;
         if self.found.texts.len() >= FILE_LIMIT {
@@ -240,6 +251,7 @@ impl<'a, D: Disk> Gathering<'a, D> {
         ensures texts { self.new.found.texts ≡ self.old.found.texts }
         ensures places { self.new.places ≡ self.old.places }
         ensures disk { self.new.disk ≡ self.old.disk }
+        ensures keeps { OnOk result (Keeps self.old.found self.new.found) }
     {
         if self.text(unit).is_some() && !self.found.units.contains(&unit) {
             self.found.units.push(unit)?;
@@ -266,6 +278,7 @@ impl<'a, D: Disk> Gathering<'a, D> {
         requires found { AreFound (D.known self.old.disk.now) self.old.found.texts.items self.old.places }
         ensures found { OnOk result (AreFound (D.known self.new.disk.now) self.new.found.texts.items self.new.places) }
         ensures disk { self.new.disk ≡ self.old.disk }
+        ensures keeps { OnOk result (Keeps self.old.found self.new.found) }
     {
         if self.text(mention.name).is_some() {
             return Ok(());
@@ -304,6 +317,7 @@ impl<'a, D: Disk> Gathering<'a, D> {
         requires found { AreFound (D.known self.old.disk.now) self.old.found.texts.items self.old.places }
         ensures found { OnOk result (AreFound (D.known self.new.disk.now) self.new.found.texts.items self.new.places) }
         ensures disk { self.new.disk ≡ self.old.disk }
+        ensures keeps { OnOk result (Keeps self.old.found self.new.found) }
     {
         let mut reads = Items::new(alloc);
         reads.push(self.read_of(unit)?)?;
@@ -326,6 +340,7 @@ impl<'a, D: Disk> Gathering<'a, D> {
         requires found { AreFound (D.known self.old.disk.now) self.old.found.texts.items self.old.places }
         ensures found { OnOk result (AreFound (D.known self.new.disk.now) self.new.found.texts.items self.new.places) }
         ensures disk { self.new.disk ≡ self.old.disk }
+        ensures keeps { OnOk result (Keeps self.old.found self.new.found) }
     {
         for line in expanded.lines() {
             self.add_used(alloc, line.file, line.used_units())?;
@@ -343,6 +358,7 @@ impl<'a, D: Disk> Gathering<'a, D> {
         requires found { AreFound (D.known self.old.disk.now) self.old.found.texts.items self.old.places }
         ensures found { OnOk result (AreFound (D.known self.new.disk.now) self.new.found.texts.items self.new.places) }
         ensures disk { self.new.disk ≡ self.old.disk }
+        ensures keeps { OnOk result (Keeps self.old.found self.new.found) }
     {
         for name in units {
             self.look_up(alloc, Mention { file, name: *name })?;

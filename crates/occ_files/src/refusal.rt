@@ -1,4 +1,7 @@
 //! Files that are not checked, and why.
+ghost use Rattle.std.specs.Prelude.{◌≡◌, IfOk};
+ghost use Rattle.std.specs.String.{string_bytes};
+
 use super::finding::DiskFault;
 use occ_base::NameFault;
 use occ_lines::TextFault;
@@ -18,6 +21,8 @@ pub enum Why {
     Name(NameFault),
     /// Its text is too large.
     Text(TextFault),
+    /// Another file of its name is checked there.
+    Twice,
     /// Over 4,096 files would be checked together.
     TooMany,
 }
@@ -31,7 +36,9 @@ pub struct Refusal {
 
 impl Refusal {
     /// The file at that path is not checked.
-    pub fn of(alloc: Global, path: &str, why: Why) -> Result<Refusal, AllocError> {
+    pub fn of(alloc: Global, path: &str, why: Why) -> Result<Refusal, AllocError>
+        ensures { IfOk result (λ refusal. string_bytes refusal.path ≡ path.now) }
+    {
         Ok(Refusal {
             path: String::from_str(alloc, path)?,
             why,
@@ -64,6 +71,7 @@ impl Why {
             Why::Text(TextFault::TooLarge) => "a text has 262,144 bytes at most",
             Why::Text(TextFault::TooManyLines) => "a text has 16,384 lines at most",
             Why::Text(TextFault::Memory) => "memory is refused",
+            Why::Twice => "another file of that name is checked there",
             Why::TooMany => "over 4,096 files would be checked together",
         }
     }

@@ -3,8 +3,9 @@ use Rattle.std.specs.Prelude.{◌≡◌, ℕ, suc, true, List, [], ◌∷◌, Op
 use Rattle.std.specs.BTreeMap.{BTreeMap, get}
 use Rattle.std.specs.Option.{option_map}
 use Rattle.std.specs.Str.{bytes_eq}
-use Rattle.occ_files.specs.Gathering.{AreGiven, are_apart}
+use Rattle.occ_files.specs.Gathering.{AreGiven, are_apart, is_met}
 use Rattle.occ_files.specs.Paths.{Known}
+use Rattle.occ_files.specs.declared.gathering.Gathered.{Gathered}
 use Rattle.occ_files.specs.declared.gathering.Text.{Text}
 use Rattle.occ_project.specs.Reads.{name_cmp}
 
@@ -17,3 +18,11 @@ pub record AreFound (known : Known) (texts : List Text) (places : BTreeMap (List
   pub given : AreGiven known texts
   pub apart : are_apart texts ≡ true
   pub placed : (name : List ℕ) → get name_cmp places name ≡ place_in texts name
+
+-- the file at the path is there or refused
+abbrev pub IsMet : Gathered → List ℕ → Type 0
+IsMet found path = is_met found.texts.items found.refusals.items path ≡ true
+
+-- what was met stays so
+abbrev pub Keeps : Gathered → Gathered → Type 0
+Keeps before now = (path : List ℕ) → IsMet before path → IsMet now path

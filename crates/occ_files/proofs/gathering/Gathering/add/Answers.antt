@@ -1,8 +1,10 @@
-use Rattle.std.proofs.Common.{◌≡◌, ◌++◌, ◌∷◌, ℕ, List, [], Some, length, rules, subst, sym}
+use Rattle.std.proofs.Common.{◌≡◌, ◌++◌, ◌∷◌, ℕ, List, [], Some, length, refl, rules, subst, sym, true}
 use Rattle.std.specs.BTreeMap.{Updates}
 use Rattle.std.specs.String.{string_bytes}
+use Rattle.occ_files.proofs.Kept.{found_met}
 use Rattle.occ_files.proofs.Named.{found_more}
 use Rattle.occ_files.proofs.gathering.Gathering.add.Goals as goal
+use Rattle.occ_files.specs.Gathering.{is_met}
 use Rattle.occ_files.specs.Paths.{Gives}
 use Rattle.occ_files.specs.declared.gathering.Text.{Text}
 use Rattle.occ_files.specs.inside.Found.{AreFound}
@@ -19,3 +21,11 @@ returns-in_ok-push-in-Ok-clause-found g c =
     let given : Gives (g.D.Disk.known c.args.self.now.disk.now) (string_bytes c.args.found.path) (Some c.in-Ok.source.text) = subst (λ (bytes : List ℕ). Gives (g.D.Disk.known c.args.self.now.disk.now) (string_bytes c.args.found.path) (Some bytes)) (sym made) c.requires.given in
     subst (λ (ts : List Text). AreFound (g.D.Disk.known c.args.self.now.disk.now) ts c.insert.new.self) (sym more)
     (found_more (g.D.Disk.known c.args.self.now.disk.now) texts c.args.self.now.places c.insert.new.self text c.len-in-Ok.result c.requires.found c.requires.new given len updates.0)
+
+pub returns-in_ok-push-in-Ok-clause-met : goal.returns-in_ok-push-in-Ok-clause-met
+returns-in_ok-push-in-Ok-clause-met g c =
+    let texts : List Text = c.args.self.now.found.texts.items in
+    let text : Text = record { path = c.args.found.path; name = c.args.name; source = c.in-Ok.source } in
+    let more : c.push.new.self.items ≡ texts ++ text ∷ [] = search rules in
+    subst (λ (ts : List Text). is_met ts c.args.self.now.found.refusals.items (string_bytes c.args.found.path) ≡ true) (sym more)
+    (found_met texts c.args.self.now.found.refusals.items text (string_bytes c.args.found.path) refl)

@@ -1,6 +1,6 @@
 use Rattle.std.proofs.Common.{◌≡◌}
 use Rattle.occ_files.proofs.gathering.Gathering.add_used.Given as goal
-use Rattle.occ_files.specs.inside.Found.{AreFound}
+use Rattle.occ_files.specs.inside.Found.{AreFound, Keeps}
 
 abbrev pub invariant-loop-name : goal.invariant-loop-name
-invariant-loop-name g l = AreFound (g.D.Disk.known l.self.disk.now) l.self.found.texts.items l.self.places × (l.self.disk ≡ l.fn.self.disk)
+invariant-loop-name g l = AreFound (g.D.Disk.known l.self.disk.now) l.self.found.texts.items l.self.places × (l.self.disk ≡ l.fn.self.disk) × Keeps l.fn.self.found l.self.found

@@ -1,9 +1,11 @@
-use Rattle.std.proofs.Common.{◌≡◌, ◌∙◌, List, None, Some, ap, false, length, rules}
+use Rattle.std.proofs.Common.{◌≡◌, ◌∙◌, IfSome, List, None, Some, ap, false, length, rules, subst, true}
 use Rattle.std.specs.Prelude.{nat_lt}
 use Rattle.std.specs.BTreeMap.{get}
+use Rattle.std.specs.String.{string_bytes}
+use Rattle.occ_files.proofs.Kept.{item_there}
 use Rattle.occ_files.proofs.Named.{none_named, some_named}
 use Rattle.occ_files.proofs.gathering.Gathering.text.Goals as goal
-use Rattle.occ_files.specs.Gathering.{has_name}
+use Rattle.occ_files.specs.Gathering.{has_name, has_path}
 use Rattle.occ_files.specs.declared.gathering.Text.{Text}
 use Rattle.occ_project.specs.Reads.{name_cmp}
 
@@ -13,9 +15,14 @@ returns-in_err-place g c =
     let no : has_name c.args.self.now.found.texts.items c.args.name ≡ false = none_named c.args.self.now.found.texts.items c.args.self.now.places c.args.name c.requires.placed none in
     search rules
 
-pub returns : goal.returns
-returns g c =
+pub returns-clause-named : goal.returns-clause-named
+returns-clause-named g c =
     let there : get name_cmp c.args.self.now.places c.args.name ≡ Some c.in_ok-place.place.now = search rules in
     c.get-2.ensures.lookup.0
     ∙ ap (λ (ts : List Text). nat_lt c.in_ok-place.place.now (length ts)) c.deref.ensures.value
     ∙ some_named c.args.self.now.found.texts.items c.args.self.now.places c.args.name c.in_ok-place.place.now c.requires.placed there
+
+pub returns-clause-there : goal.returns-clause-there
+returns-clause-there g c =
+    let texts : List Text = c.deref.result.now in
+    subst (λ (ts : List Text). IfSome c.get-2.result (λ t. has_path ts (string_bytes t.now.path) ≡ true)) c.deref.ensures.value (item_there texts c.in_ok-place.place.now c.get-2.result (c.get-2.ensures.lookup))
