@@ -1,5 +1,5 @@
 //! Files by their paths, and the search for a file that another one names.
-ghost use Rattle.occ_files.specs.Paths.{Gives, IsFirst, Known, path_in};
+ghost use Rattle.occ_files.specs.Paths.{Gives, IsFirst, Known, folder_of as spec_folder_of, path_in};
 ghost use Rattle.occ_files.specs.declared.finding.DiskFault.TheVariants as a_fault;
 ghost use Rattle.std.specs.Option.{option_map};
 ghost use Rattle.std.specs.Prelude.{◌≡◌, ◌++◌, codes, IfOk, map};
@@ -99,7 +99,9 @@ pub fn find<D: Disk>(
 }
 
 /// The folder of a path; no text is the folder in which the program runs.
-pub fn folder_of(path: &str) -> &str {
+pub fn folder_of(path: &str) -> &str
+    ensures { result.now ≡ spec_folder_of path.now }
+{
     match path.rsplit_once('/') {
         Some((folder, _)) if !folder.is_empty() => folder,
         Some(_) => "/.",
