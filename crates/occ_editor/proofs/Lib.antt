@@ -4,3 +4,4 @@ pub mod Placed
 pub mod Replayed
 pub mod Rooms
 pub mod Settled
+pub mod Wanted

@@ -165,3 +165,23 @@ given_open known documents (t ∷ ts) knows are p bytes source e f = by (bytes_e
 pub or_left : (a b : Bool) → a || b ≡ false → a ≡ false
 or_left true b h = absurd cc
 or_left false b h = refl
+
+pub or_right : (a b : Bool) → a || b ≡ false → b ≡ false
+or_right true b h = absurd cc
+or_right false b h = h
+
+-- the text of a name, where no two have one
+pub source_named : (ts : List Text) (i : ℕ) (t : Text) → slice_get ts i ≡ Some t → are_apart ts ≡ true → source_in ts t.name ≡ Some t.source
+source_named [] i t e apart = absurd cc
+source_named (u ∷ us) zero t e apart =
+    let same : u ≡ t = cc in
+    ap (λ (b : Bool). if b then Some u.source else source_in us t.name) (ap (λ (v : Text). bytes_eq v.name t.name) same ∙ (bytes_eq-Decides t.name t.name).1 refl)
+    ∙ ap (λ (v : Text). Some v.source) same
+source_named (u ∷ us) (suc i) t e apart = by (bytes_eq u.name t.name) refl (source_named us i t e (split (has_name us u.name) (are_apart us) apart).1) where
+  by : (b : Bool) → bytes_eq u.name t.name ≡ b → source_in us t.name ≡ Some t.source → (if b then Some u.source else source_in us t.name) ≡ Some t.source
+  by true h rest =
+      let one : u.name ≡ t.name = (bytes_eq-Decides u.name t.name).0 h in
+      let none : has_name us u.name ≡ false = (split (has_name us u.name) (are_apart us) apart).0 in
+      let is : has_name us u.name ≡ true = ap (has_name us) one ∙ there us i t e in
+      absurd cc
+  by false h rest = rest

@@ -4,14 +4,10 @@ use Rattle.std.proofs.lemmas.Slice.Eq.{bytes_eq-Decides}
 use Rattle.std.specs.List.{items_where_true, slice_get}
 use Rattle.std.specs.Str.{bytes_eq}
 use Rattle.std.specs.String.{string_bytes}
-use Rattle.occ_editor_edits.specs.Documents.{ChangesAt, IsAfter, IsPut, IsTextOf, path_of, text_in, without}
 use Rattle.occ_editor.specs.Rooms.{AllSettled, AllStand, IsSettled, Stands}
 use Rattle.occ_editor_edits.specs.declared.documents.Document.{Document}
-use Rattle.occ_editor_edits.specs.declared.documents.Note.{Note}
-use Rattle.occ_editor_edits.specs.declared.documents.Note.TheVariants as note
 use Rattle.occ_editor.specs.declared.room.Room.{Room}
 use Rattle.occ_editor.specs.inside.Followed.{AreSettled, HaveFollowed}
-use Rattle.occ_editor_edits.specs.Changes.{all_changed}
 
 -- ---- one room of a list
 
@@ -54,7 +50,7 @@ where_true (false ∷ bs) (x ∷ xs) k r e = let rest = where_true bs xs k r e i
 
 -- one whose files have to be found again
 pub loose : (documents : List Document) (room : Room) → Stands documents room → Stands documents (record { folder = room.folder; board = room.board; texts = room.texts; refusals = room.refusals; told = room.told; is_loose = true; is_changed = room.is_changed })
-loose documents room stands = record { apart = stands.apart; has = stands.has; opened = λ (no : true ≡ false). absurd cc; told = λ (no : true ≡ false) same. absurd cc }
+loose documents room stands = record { apart = stands.apart; has = stands.has; opened = λ (no : true ≡ false). absurd cc; met = λ (no : true ≡ false). absurd cc; told = λ (no : true ≡ false) same. absurd cc }
 
 -- ---- rooms that follow
 

@@ -1,4 +1,3 @@
-pub mod Documents
 pub mod Placing
 pub mod Publishing
 pub mod Rooms

@@ -1,15 +1,16 @@
 -- The files of a folder on a board of their own, and what is told of them, as the open files of the editor want it.
-use Rattle.std.specs.Prelude.{◌≡◌, ℕ, false, true, cond, List, [], ◌∷◌, Option, Some, None, if◌then◌else◌}
-use Rattle.std.specs.List.{slice_get}
+use Rattle.std.specs.Prelude.{◌≡◌, ◌⊎◌, ◌==◌, ◌&&◌, ℕ, Bool, false, true, codes, List, [], ◌∷◌, Option, Some, None, if◌then◌else◌, length}
+use Rattle.std.specs.List.{ends_with, list_any, slice_get}
 use Rattle.std.specs.Str.{bytes_eq}
 use Rattle.std.specs.String.{string_bytes}
 use Rattle.occ_board.specs.Machine.{State, files_of}
 use Rattle.occ_editor_edits.specs.Documents.{text_in}
 use Rattle.occ_editor.specs.Placing.{source_on, told_of}
+use Rattle.occ_editor.specs.Publishing.{text_at}
 use Rattle.occ_editor_edits.specs.declared.documents.Document.{Document}
 use Rattle.occ_editor.specs.declared.room.Room.{Room}
-use Rattle.occ_files.specs.Gathering.{are_apart}
-use Rattle.occ_files.specs.Paths.{Known}
+use Rattle.occ_files.specs.Gathering.{are_apart, is_met, is_refused}
+use Rattle.occ_files.specs.Paths.{Known, folder_of}
 use Rattle.occ_files.specs.declared.gathering.Text.{Text}
 use Rattle.occ_forms.specs.Prepared.{Prepared}
 
@@ -31,12 +32,26 @@ HasTexts board texts = (name : List ℕ) → source_on board name ≡ source_in 
 abbrev pub AreOpen : List Document → List Text → Type 0
 AreOpen documents texts = (path bytes : List ℕ) (source : Prepared) → text_in documents path ≡ Some bytes → source_at texts path ≡ Some source → source.text ≡ bytes
 
+-- a file is a unit by its name
+abbrev pub is_unit : List ℕ → Bool
+is_unit path = ends_with ◌==◌ path (codes ".occ")
+
+-- a unit is of the room for its folder
+abbrev pub is_of : Room → List ℕ → Bool
+is_of room path = is_unit path && bytes_eq (string_bytes room.folder) (folder_of path)
+
+-- the open units of its folder are among its files, or it is told why one is not
+abbrev pub MeetsOpen : List Document → Room → Type 0
+MeetsOpen documents room = (path bytes : List ℕ) → text_in documents path ≡ Some bytes → is_of room path ≡ true → is_met room.texts.items room.refusals.items path ≡ true
+
 -- the board of a room has its files, of which no two have one name. If they need not be found again, open files have their
--- texts there; and if none of them has changed since, what was told last is what the rules give for them
+-- texts there, open units of the folder are among them, and if none of them has changed since, what was told last is what the
+-- rules give for them
 pub record Stands (documents : List Document) (room : Room) : Type 0 where
   pub apart : are_apart room.texts.items ≡ true
   pub has : HasTexts room.board room.texts.items
   pub opened : room.is_loose ≡ false → AreOpen documents room.texts.items
+  pub met : room.is_loose ≡ false → MeetsOpen documents room
   pub told : room.is_loose ≡ false → room.is_changed ≡ false → room.told ≡ told_of (files_of room.board)
 
 -- so it is up to date
@@ -60,3 +75,25 @@ AllStand documents rooms = (index : ℕ) (room : Room) → slice_get rooms index
 
 abbrev pub AllSettled : List Document → List Room → Type 0
 AllSettled documents rooms = (index : ℕ) (room : Room) → slice_get rooms index ≡ Some room → IsSettled documents room
+
+-- one of the rooms is for the folder
+abbrev pub has_folder : List Room → List ℕ → Bool
+has_folder rooms folder = list_any (λ room. bytes_eq (string_bytes room.folder) folder) rooms
+
+-- the folder of each open unit has a room
+abbrev pub HaveRooms : List Document → List Room → Type 0
+HaveRooms documents rooms = (path bytes : List ℕ) → text_in documents path ≡ Some bytes → is_unit path ≡ true → has_folder rooms (folder_of path) ≡ true
+
+-- that of each has, but perhaps that of the file at the path
+abbrev pub HaveOthers : List ℕ → List Document → List Room → Type 0
+HaveOthers path documents rooms = (other bytes : List ℕ) → text_in documents other ≡ Some bytes → is_unit other ≡ true → bytes_eq path other ≡ false → has_folder rooms (folder_of other) ≡ true
+
+-- a room has no file
+abbrev pub is_vacant : Room → Bool
+is_vacant room = (length room.texts.items == 0) && (length room.refusals.items == 0)
+
+-- the board of a room has the file at a path with these bytes, or it is told why not
+abbrev pub IsServed : Room → List ℕ → List ℕ → Type 0
+IsServed room path bytes =
+    ((text : Text) × (text_at room.texts.items path ≡ Some text) × (source_on room.board text.name ≡ Some text.source) × (text.source.text ≡ bytes))
+    ⊎ (is_refused room.refusals.items path ≡ true)

@@ -9,6 +9,7 @@ ghost use Rattle.std.specs.List.{slice_get};
 ghost use Rattle.occ_project.specs.Reads.{name_cmp};
 ghost use Rattle.std.specs.BTreeMap.{get};
 ghost use Rattle.std.specs.Str.{bytes_eq};
+ghost use Rattle.std.specs.String.{string_bytes};
 ghost use Rattle.std.specs.Prelude.{◌≡◌, IfOk, List, None, OnOk, Some, cond, is_ok, is_some, map, slice_set, true, ℕ};
 
 use super::placing::{put, remove};
@@ -34,6 +35,7 @@ pub fn brought(
     requires apart { are_apart texts.items ≡ true }
     ensures has { IfOk result (λ made. are_apart olds.now ≡ true → HasTexts board.old olds.now → HasTexts board.new made.items) }
     ensures apart { IfOk result (λ made. are_apart made.items ≡ true) }
+    ensures paths { IfOk result (λ made. map (λ text. string_bytes text.path) made.items ≡ map (λ text. string_bytes text.path) texts.items) }
     ensures given { IfOk result (λ made. (known : Known) → AreGiven known texts.items → AreGiven known made.items) }
 {
     let before = by_name(alloc, olds)?;

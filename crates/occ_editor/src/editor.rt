@@ -1,18 +1,23 @@
 //! The open files with their boards, one for each folder: notes are taken, and what is told of files is published where it changed.
 ghost use Rattle.occ_editor_edits.specs.Documents.{ChangesAt, IsAfter, text_in};
-ghost use Rattle.occ_editor.specs.Rooms.{AllSettled, AllStand, Stands};
-ghost use Rattle.occ_editor.specs.Standing.{IsStanding, IsUpToDate};
+ghost use Rattle.occ_editor.specs.Rooms.{AllSettled, AllStand, HaveOthers, HaveRooms, Stands, has_folder, is_vacant};
+ghost use Rattle.occ_files.specs.Paths.{folder_of as spec_folder_of};
+ghost use Rattle.occ_editor.specs.Standing.{AreServed, IsStanding, IsUpToDate};
 ghost use Rattle.occ_editor_edits.specs.declared.documents.Document.{Document as ADocument};
 ghost use Rattle.occ_editor.specs.inside.Followed.{AreSettled, HaveFollowed};
+ghost use Rattle.occ_editor.specs.inside.Placed.{AreAsked};
+ghost use Rattle.occ_editor_edits.specs.Messages.{said};
+ghost use Rattle.occ_editor_edits.specs.Texts.{after_saying};
+ghost use Rattle.std.specs.String.{string_bytes};
 ghost use Rattle.occ_editor.specs.Publishing.{IsPublished};
 ghost use Rattle.occ_messages.specs.Located.{Head, head_of};
-ghost use Rattle.std.specs.List.{All, Contains};
-ghost use Rattle.std.specs.Prelude.{◌≡◌, ◌⊎◌, ◌↔◌, ◌+◌, [], IfOk, IsTrue, List, OnOk, length, map, option_map, ℕ};
+ghost use Rattle.std.specs.List.{All, Contains, filter};
+ghost use Rattle.std.specs.Prelude.{◌≡◌, ◌⊎◌, ◌↔◌, ◌+◌, [], IfOk, IsTrue, List, OnOk, length, map, not, option_map, ℕ};
 
-use super::documents::{Documents, Note};
 use super::overlay::Overlay;
-use super::room::{Room, is_of};
+use super::room::{Room, is_unit};
 use occ_base::Code;
+use occ_editor_edits::{Documents, Note};
 use occ_files::{Disk, Why, folder_of};
 use occ_files_check::CheckFault;
 use occ_messages::Message;
@@ -56,6 +61,7 @@ impl Editor {
     /// Takes a note. The open files have the texts then that it gives them, and the boards follow.
     pub fn take(&mut self, alloc: Global, note: Note) -> Result<(), CheckFault>
         ensures documents { OnOk result (IsAfter self.old.documents.all.items note self.new.documents.all.items) }
+        ensures texts { OnOk result ((path : List ℕ) → text_in self.new.documents.all.items path ≡ after_saying (text_in self.old.documents.all.items) (said note) path) }
         ensures boards { OnOk result (IsStanding self.old → IsStanding self.new) }
     {
         let path = String::from_str(alloc, note.path())?;
@@ -70,6 +76,7 @@ impl Editor {
     /// All boards follow the file at a path, of which alone the text may have changed.
     fn tell_all(&mut self, alloc: Global, path: &str, is_change: bool) -> Result<(), CheckFault>
         ensures documents { self.new.documents ≡ self.old.documents }
+        ensures folders { OnOk result (map (λ room. string_bytes room.folder) self.new.rooms.items ≡ map (λ room. string_bytes room.folder) self.old.rooms.items) }
         ensures boards { OnOk result ((before : List ADocument) → ChangesAt before self.old.documents.all.items path.now (text_in self.old.documents.all.items path.now) → AllStand before self.old.rooms.items → AllStand self.old.documents.all.items self.new.rooms.items) }
     {
         for index in 0..self.rooms.len() {
@@ -87,6 +94,7 @@ impl Editor {
         is_change: bool,
     ) -> Result<(), CheckFault>
         ensures documents { self.new.documents ≡ self.old.documents }
+        ensures folders { OnOk result (map (λ room. string_bytes room.folder) self.new.rooms.items ≡ map (λ room. string_bytes room.folder) self.old.rooms.items) }
         ensures count { length self.new.rooms.items ≡ length self.old.rooms.items }
         ensures boards { OnOk result ((before : List ADocument) → ChangesAt before self.old.documents.all.items path.now (text_in self.old.documents.all.items path.now) → HaveFollowed before self.old.documents.all.items index self.old.rooms.items → HaveFollowed before self.old.documents.all.items (index + 1) self.new.rooms.items) }
     {
@@ -100,13 +108,26 @@ impl Editor {
     /// Adds the room of a unit that is open, unless there is one.
     fn add_room(&mut self, alloc: Global, path: &str) -> Result<(), AllocError>
         ensures documents { self.new.documents ≡ self.old.documents }
+        ensures rooms { OnOk result (HaveOthers path.now self.old.documents.all.items self.old.rooms.items → HaveRooms self.old.documents.all.items self.new.rooms.items) }
         ensures boards { OnOk result ((documents : List ADocument) → AllStand documents self.old.rooms.items → AllStand documents self.new.rooms.items) }
     {
-        let is_unit = path.ends_with(".occ") && self.documents.text_of(path).is_some();
-        if is_unit && !self.rooms.iter().any(|room| is_of(room, path)) {
+        let is_open = is_unit(path) && self.documents.text_of(path).is_some();
+        if is_open && !self.has_room(path) {
             self.rooms.push(Room::new(alloc, folder_of(path))?)?;
         }
         Ok(())
+    }
+
+    /// Whether the folder of the file at a path has a room.
+    fn has_room(&self, path: &str) -> bool
+        ensures { result ≡ has_folder self.now.rooms.items (spec_folder_of path.now) }
+    {
+        for room in &self.rooms {
+            if room.is_for(path) {
+                return true;
+            }
+        }
+        false
     }
 
     /// Files that are not open may have changed: all are found again.
@@ -122,6 +143,7 @@ impl Editor {
     /// The files of the room of that number are found again.
     fn loosen(&mut self, index: usize)
         ensures documents { self.new.documents ≡ self.old.documents }
+        ensures folders { map (λ room. string_bytes room.folder) self.new.rooms.items ≡ map (λ room. string_bytes room.folder) self.old.rooms.items }
         ensures boards { (documents : List ADocument) → AllStand documents self.old.rooms.items → AllStand documents self.new.rooms.items }
     {
         if let Some(room) = self.rooms.get_mut(index) {
@@ -139,6 +161,7 @@ impl Editor {
         ensures documents { self.new.documents ≡ self.old.documents }
         ensures boards { OnOk result (IsStanding self.old → IsUpToDate self.new) }
         ensures stands { OnOk result (IsStanding self.old → IsStanding self.new) }
+        ensures served { OnOk result (IsStanding self.old → AreServed self.new) }
         ensures told { IfOk result (λ all. All (IsPublished self.new.rooms.items) all.items) }
     {
         self.renew_all(alloc, disk)?;
@@ -151,6 +174,7 @@ impl Editor {
     /// Renews all rooms.
     fn renew_all<D: Disk>(&mut self, alloc: Global, disk: &D) -> Result<(), CheckFault>
         ensures documents { self.new.documents ≡ self.old.documents }
+        ensures folders { OnOk result (map (λ room. string_bytes room.folder) self.new.rooms.items ≡ map (λ room. string_bytes room.folder) self.old.rooms.items) }
         ensures boards { OnOk result (AllStand self.old.documents.all.items self.old.rooms.items → AllSettled self.old.documents.all.items self.new.rooms.items) }
     {
         for index in 0..self.rooms.len() {
@@ -162,6 +186,7 @@ impl Editor {
     /// Renews the room of that number.
     fn renew<D: Disk>(&mut self, alloc: Global, disk: &D, index: usize) -> Result<(), CheckFault>
         ensures documents { self.new.documents ≡ self.old.documents }
+        ensures folders { OnOk result (map (λ room. string_bytes room.folder) self.new.rooms.items ≡ map (λ room. string_bytes room.folder) self.old.rooms.items) }
         ensures count { length self.new.rooms.items ≡ length self.old.rooms.items }
         ensures boards { OnOk result (AreSettled self.old.documents.all.items index self.old.rooms.items → AreSettled self.old.documents.all.items (index + 1) self.new.rooms.items) }
     {
@@ -180,6 +205,8 @@ impl Editor {
     /// Rooms without files are left.
     fn leave_empty(&mut self)
         ensures documents { self.new.documents ≡ self.old.documents }
+        ensures rooms { self.new.rooms.items ≡ filter (λ room. not (is_vacant room)) self.old.rooms.items }
+        ensures folders { (documents : List ADocument) → AllSettled documents self.old.rooms.items → HaveRooms documents self.old.rooms.items → HaveRooms documents self.new.rooms.items }
         ensures boards { (documents : List ADocument) → AllSettled documents self.old.rooms.items → AllSettled documents self.new.rooms.items }
     {
         self.rooms.retain(|room| !room.is_empty());
@@ -208,7 +235,8 @@ fn told(
     text: Option<&[u8]>,
     is_change: bool,
 ) -> Result<(), CheckFault>
-    ensures { OnOk result ((before now : List ADocument) → ChangesAt before now path.now (option_map (λ text. text.now) text.entry) → Stands before room.old → Stands now room.new) }
+    ensures folder { room.new.folder ≡ room.old.folder }
+    ensures stands { OnOk result ((before now : List ADocument) → ChangesAt before now path.now (option_map (λ text. text.now) text.entry) → Stands before room.old → Stands now room.new) }
 {
     match text {
         Some(bytes) if is_change => room.follow(alloc, path, bytes)?,
@@ -218,11 +246,13 @@ fn told(
 }
 
 /// The open units of a room, by their paths.
-fn paths_in(alloc: Global, documents: &Documents, room: &Room) -> Result<Vec<String>, AllocError> {
+fn paths_in(alloc: Global, documents: &Documents, room: &Room) -> Result<Vec<String>, AllocError>
+    ensures { IfOk result (λ paths. AreAsked documents.now.all.items room.now paths.items) }
+{
     let mut paths = Vec::new(alloc);
     for document in documents.as_slice() {
         let path = document.path.as_str();
-        if path.ends_with(".occ") && is_of(room, path) {
+        if room.wants(path) {
             paths.push(String::from_str(alloc, path)?)?;
         }
     }

@@ -3,13 +3,11 @@
 #![tactic(auto)]
 
 mod bringing;
-mod documents;
 mod editor;
 mod found;
 mod overlay;
 mod placing;
 mod room;
 
-pub use documents::{Documents, Note};
 pub use editor::{Editor, Published};
 pub use placing::{put, remove, told};

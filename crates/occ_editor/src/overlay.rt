@@ -2,7 +2,7 @@
 ghost use Rattle.occ_editor.specs.Rooms.{over};
 ghost use Rattle.occ_editor_edits.specs.Documents.{text_in};
 
-use super::documents::Documents;
+use occ_editor_edits::Documents;
 use occ_files::{Disk, DiskFault, Seen};
 use std::alloc::Global;
 

@@ -2,13 +2,17 @@
 ghost use Rattle.occ_editor_edits.specs.Documents.{ChangesAt};
 ghost use Rattle.occ_editor.specs.Publishing.{text_at as spec_text_at, told_at};
 ghost use Rattle.occ_messages.specs.Located.{head_of};
-ghost use Rattle.occ_editor.specs.Rooms.{IsSettled, Knows, Stands};
+ghost use Rattle.occ_editor.specs.Rooms.{IsSettled, Knows, Stands, is_of as spec_is_of, is_unit as spec_is_unit, is_vacant};
+ghost use Rattle.occ_files.specs.Paths.{folder_of as spec_folder_of};
+ghost use Rattle.occ_files.specs.Gathering.{is_refused};
+ghost use Rattle.std.specs.Str.{bytes_eq};
+ghost use Rattle.std.specs.String.{string_bytes};
 ghost use Rattle.occ_editor_edits.specs.declared.documents.Document.{Document as ADocument};
-ghost use Rattle.occ_editor.specs.inside.Placed.{AreFound, HasAt, place_at};
+ghost use Rattle.occ_editor.specs.inside.Placed.{AreAsked, AreFound, HasAt, place_at};
 ghost use Rattle.occ_files.specs.declared.gathering.Text.{Text as AText};
 ghost use Rattle.std.specs.List.{slice_get};
 ghost use Rattle.std.specs.Option.{option_copied};
-ghost use Rattle.std.specs.Prelude.{◌≡◌, IfOk, IsTrue, List, None, OnOk, Some, map, option_map, slice_set, true, ℕ};
+ghost use Rattle.std.specs.Prelude.{◌≡◌, IfOk, IsTrue, List, None, OnOk, Some, false, map, option_map, slice_set, true, ℕ};
 
 use super::bringing::{brought, put_one};
 use super::found::name_alike;
@@ -44,7 +48,8 @@ pub struct Room {
 impl Room {
     /// A room without files, which have to be found.
     pub fn new(alloc: Global, folder: &str) -> Result<Room, AllocError>
-        ensures { IfOk result (λ room. (documents : List ADocument) → Stands documents room) }
+        ensures stands { IfOk result (λ room. (documents : List ADocument) → Stands documents room) }
+        ensures folder { IfOk result (λ room. string_bytes room.folder ≡ folder.now) }
     {
         Ok(Room {
             folder: String::from_str(alloc, folder)?,
@@ -55,6 +60,20 @@ impl Room {
             is_loose: true,
             is_changed: false,
         })
+    }
+
+    /// Whether the file at a path is a unit of its folder.
+    pub fn wants(&self, path: &str) -> bool
+        ensures { result ≡ spec_is_of self.now path.now }
+    {
+        is_unit(path) && self.is_for(path)
+    }
+
+    /// Whether it is for the folder of the file at a path.
+    pub fn is_for(&self, path: &str) -> bool
+        ensures { result ≡ bytes_eq (string_bytes self.now.folder) (spec_folder_of path.now) }
+    {
+        self.folder.as_str() == folder_of(path)
     }
 
     /// Where the file at a path stands among its texts.
@@ -84,10 +103,11 @@ impl Room {
     /// The file at a path has this text now. If its text names other files, or is or was refused, all files have to be found
     /// again.
     pub fn follow(&mut self, alloc: Global, path: &str, bytes: &[u8]) -> Result<(), CheckFault>
-        ensures { OnOk result ((before now : List ADocument) → ChangesAt before now path.now (Some bytes.now) → Stands before self.old → Stands now self.new) }
+        ensures stands { OnOk result ((before now : List ADocument) → ChangesAt before now path.now (Some bytes.now) → Stands before self.old → Stands now self.new) }
+        ensures folder { self.new.folder ≡ self.old.folder }
     {
         let Some(place) = self.place_of(path) else {
-            self.is_loose |= self.refusal_of(path).is_some();
+            self.is_loose |= self.wants(path) || self.refusal_of(path).is_some();
             return Ok(());
         };
         match prepare(alloc, bytes) {
@@ -110,7 +130,8 @@ impl Room {
         place: usize,
         source: Shared<Source>,
     ) -> Result<(), CheckFault>
-        ensures { OnOk result ((before now : List ADocument) (path : List ℕ) → place_at self.old.texts.items path ≡ Some place → ChangesAt before now path (Some source.text) → Stands before self.old → Stands now self.new) }
+        ensures folder { self.new.folder ≡ self.old.folder }
+        ensures stands { OnOk result ((before now : List ADocument) (path : List ℕ) → place_at self.old.texts.items path ≡ Some place → ChangesAt before now path (Some source.text) → Stands before self.old → Stands now self.new) }
     {
         let Some(text) = self.texts.get(place) else {
             return Ok(());
@@ -127,6 +148,7 @@ impl Room {
     /// The file at a path is open with this text now, or no more. If it had another one, or may be one that was not there, all
     /// files have to be found again.
     pub fn meet(&mut self, path: &str, bytes: Option<&[u8]>)
+        ensures folder { self.new.folder ≡ self.old.folder }
         ensures closed { bytes.entry ≡ None → self.new.is_loose ≡ true }
         ensures stands { (before now : List ADocument) → ChangesAt before now path.now (option_map (λ text. text.now) bytes.entry) → Stands before self.old → Stands now self.new }
     {
@@ -160,19 +182,47 @@ impl Room {
         paths: &[String],
         stale: &mut BTreeSet<String>,
     ) -> Result<(), CheckFault>
-        ensures { OnOk result ((documents : List ADocument) → Knows (D.known disk.now) documents → Stands documents self.old → IsSettled documents self.new) }
+        ensures folder { OnOk result (self.new.folder ≡ self.old.folder) }
+        ensures settled { OnOk result ((documents : List ADocument) → Knows (D.known disk.now) documents → AreAsked documents self.old paths.now → Stands documents self.old → IsSettled documents self.new) }
     {
         if self.is_loose {
-            self.add_shown(alloc, stale)?;
-            self.find(alloc, disk, folders, paths)?;
-            self.told = told(alloc, &mut self.board)?;
-            self.add_shown(alloc, stale)?;
+            self.find_anew(alloc, disk, folders, paths, stale)?;
         } else if self.is_changed {
-            let now = told(alloc, &mut self.board)?;
-            let before = mem::replace(&mut self.told, now);
-            self.add_changed(alloc, before.as_slice(), stale)?;
+            self.tell_anew(alloc, stale)?;
         }
+        Ok(())
+    }
+
+    /// Finds its files again, and checks what is pending. Adds the paths of which something was told or is told now.
+    fn find_anew<D: Disk>(
+        &mut self,
+        alloc: Global,
+        disk: &D,
+        folders: &[String],
+        paths: &[String],
+        stale: &mut BTreeSet<String>,
+    ) -> Result<(), CheckFault>
+        ensures folder { OnOk result (self.new.folder ≡ self.old.folder) }
+        ensures settled { OnOk result ((documents : List ADocument) → Knows (D.known disk.now) documents → AreAsked documents self.old paths.now → Stands documents self.old → IsSettled documents self.new) }
+    {
+        self.add_shown(alloc, stale)?;
+        self.find(alloc, disk, folders, paths)?;
+        self.told = told(alloc, &mut self.board)?;
+        self.add_shown(alloc, stale)?;
         self.is_loose = false;
+        self.is_changed = false;
+        Ok(())
+    }
+
+    /// Checks what is pending. Adds the paths of which something else is told now.
+    fn tell_anew(&mut self, alloc: Global, stale: &mut BTreeSet<String>) -> Result<(), CheckFault>
+        requires { self.old.is_loose ≡ false }
+        ensures folder { OnOk result (self.new.folder ≡ self.old.folder) }
+        ensures settled { OnOk result ((documents : List ADocument) → Stands documents self.old → IsSettled documents self.new) }
+    {
+        let now = told(alloc, &mut self.board)?;
+        let before = mem::replace(&mut self.told, now);
+        self.add_changed(alloc, before.as_slice(), stale)?;
         self.is_changed = false;
         Ok(())
     }
@@ -185,7 +235,8 @@ impl Room {
         folders: &[String],
         paths: &[String],
     ) -> Result<(), CheckFault>
-        ensures { OnOk result ((documents : List ADocument) → Knows (D.known disk.now) documents → Stands documents self.old → AreFound documents self.new.board self.new.texts.items) }
+        ensures folder { OnOk result (self.new.folder ≡ self.old.folder) }
+        ensures found { OnOk result ((documents : List ADocument) → Knows (D.known disk.now) documents → Stands documents self.old → AreFound documents self.new.board self.new.texts.items self.new.refusals.items paths.now) }
     {
         let Gathered {
             texts,
@@ -269,7 +320,9 @@ impl Room {
     }
 
     /// Whether it has no file.
-    pub fn is_empty(&self) -> bool {
+    pub fn is_empty(&self) -> bool
+        ensures { result ≡ is_vacant self.now }
+    {
         self.texts.is_empty() && self.refusals.is_empty()
     }
 
@@ -319,7 +372,9 @@ fn of_file(diags: &[Diag], name: FileName) -> &[Diag] {
     diags.get(from..to).unwrap_or(&[])
 }
 
-/// The folder of a file.
-pub fn is_of(room: &Room, path: &str) -> bool {
-    room.folder.as_str() == folder_of(path)
+/// Whether a file is a unit, by its name.
+pub fn is_unit(path: &str) -> bool
+    ensures { result ≡ spec_is_unit path.now }
+{
+    path.ends_with(".occ")
 }

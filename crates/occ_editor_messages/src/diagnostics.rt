@@ -1,7 +1,7 @@
 //! What is told of a file, as the protocol has it.
-use super::paths::uri_of;
 use occ_base::Grade;
 use occ_editor::Published;
+use occ_editor_edits::uri_of;
 use occ_messages::{Message, Quoted};
 use serde_json::{Value, json};
 use std::alloc::{AllocError, Global};

@@ -1,11 +1,18 @@
 //! The server: messages are taken one by one, and what is told of files is published when it is asked for.
-ghost use Rattle.occ_editor.specs.Standing.{IsStanding, IsUpToDate};
-ghost use Rattle.std.specs.Prelude.{◌≡◌, OnOk};
+ghost use Rattle.occ_editor.specs.Standing.{AreServed, IsStanding, IsUpToDate};
+ghost use Rattle.occ_editor_edits.specs.Calls.{note_in};
+ghost use Rattle.occ_editor_edits.specs.Documents.{text_in};
+ghost use Rattle.occ_editor_messages.specs.Talks.{HasHeard, IsJson, IsNoJson, Talk, asks, heard, silence, texts_after};
+ghost use Rattle.occ_editor_messages.specs.inside.Phases.{phase_by};
+ghost use Rattle.occ_editor_messages.specs.declared.server.Phase.TheVariants.{Begun};
+ghost use Rattle.serde_json.specs.Data.{Data};
+ghost use Rattle.serde_json.specs.View.{view};
+ghost use Rattle.std.specs.Prelude.{◌≡◌, List, OnOk, is_some, ℕ};
 
-use super::calls::{Call, call_of};
 use super::diagnostics::published;
 use super::sending::{NO_JSON, NO_MEMBERS, NO_METHOD, NO_REQUEST, NOT_BEGUN, Sending};
 use occ_editor::{Editor, Published};
+use occ_editor_edits::{Call, call_of};
 use occ_files::Disk;
 use occ_files_check::CheckFault;
 use occ_messages::explained;
@@ -22,7 +29,7 @@ pub enum Next {
 
 /// What the client has asked for.
 #[derive(Clone, Copy, PartialEq, Eq)]
-enum Phase {
+pub enum Phase {
     /// Nothing yet.
     New,
     /// To serve it.
@@ -48,7 +55,8 @@ pub struct Server<D: Disk> {
 impl<D: Disk + Drop> Server<D> {
     /// A server that nothing was asked for. Used and included files are looked for in these folders, too.
     pub fn new(alloc: Global, disk: D, folders: Vec<String>) -> Server<D>
-        ensures { IsStanding result.editor }
+        ensures boards { IsStanding result.editor }
+        ensures heard { HasHeard result silence }
     {
         Server {
             alloc,
@@ -68,14 +76,16 @@ impl<D: Disk + Drop> Server<D> {
 
     /// It was sent.
     pub fn clear(&mut self)
-        ensures { self.new.editor ≡ self.old.editor }
+        ensures editor { self.new.editor ≡ self.old.editor }
+        ensures phase { self.new.phase ≡ self.old.phase }
     {
         self.sending.clear();
     }
 
     /// What came is no message: so much is answered, once until a message comes.
     pub fn lose(&mut self) -> Result<(), AllocError>
-        ensures { self.new.editor ≡ self.old.editor }
+        ensures editor { self.new.editor ≡ self.old.editor }
+        ensures phase { self.new.phase ≡ self.old.phase }
     {
         if self.is_lost {
             return Ok(());
@@ -88,9 +98,11 @@ impl<D: Disk + Drop> Server<D> {
         )
     }
 
-    /// Takes a message. Whatever it is, the boards stand after it.
+    /// Takes a message. Whatever it is, the boards stand after it, and the open files have the texts that it gives them.
     pub fn take(&mut self, message: &[u8]) -> Result<Next, CheckFault>
-        ensures { OnOk result (IsStanding self.old.editor → IsStanding self.new.editor) }
+        ensures boards { OnOk result (IsStanding self.old.editor → IsStanding self.new.editor) }
+        ensures heard { OnOk result ((talk : Talk) (data : Data) → IsJson message.now data → HasHeard self.old talk → HasHeard self.new (heard talk data)) }
+        ensures unheard { OnOk result ((talk : Talk) → IsNoJson message.now → HasHeard self.old talk → HasHeard self.new talk) }
     {
         self.is_lost = false;
         match Value::from_slice(self.alloc, message) {
@@ -106,24 +118,25 @@ impl<D: Disk + Drop> Server<D> {
 
     /// Takes a message that is JSON.
     fn take_value(&mut self, message: &Value) -> Result<Next, CheckFault>
-        ensures { OnOk result (IsStanding self.old.editor → IsStanding self.new.editor) }
+        ensures boards { OnOk result (IsStanding self.old.editor → IsStanding self.new.editor) }
+        ensures heard { OnOk result ((talk : Talk) → HasHeard self.old talk → HasHeard self.new (heard talk (view message.now))) }
     {
         let call = call_of(self.alloc, message)?;
         if matches!(&call, Call::Exit) {
             return Ok(Next::Ends(if self.phase == Phase::Shut { 0 } else { 1 }));
         }
-        match message.get("id") {
-            Some(id) if matches!(id, Value::Number(_) | Value::String(_)) => {
-                self.answer(id, call)?
-            }
-            _ => self.note(call)?,
+        match id_of(message) {
+            Some(id) => self.answer(id, call)?,
+            None => self.note(call)?,
         }
         Ok(Next::Goes)
     }
 
     /// Answers a request.
     fn answer(&mut self, id: &Value, call: Call) -> Result<(), CheckFault>
-        ensures { OnOk result (IsStanding self.old.editor → IsStanding self.new.editor) }
+        ensures boards { OnOk result (IsStanding self.old.editor → IsStanding self.new.editor) }
+        ensures documents { OnOk result (self.new.editor.documents ≡ self.old.editor.documents) }
+        ensures phase { OnOk result (self.new.phase ≡ phase_by self.old.phase call) }
     {
         match (call, self.phase) {
             (Call::Hover(path, line), Phase::Begun) => {
@@ -137,7 +150,8 @@ impl<D: Disk + Drop> Server<D> {
 
     /// Answers a request for which nothing is checked.
     fn answer_plain(&mut self, id: &Value, call: Call) -> Result<(), AllocError>
-        ensures { self.new.editor ≡ self.old.editor }
+        ensures editor { self.new.editor ≡ self.old.editor }
+        ensures phase { OnOk result (self.new.phase ≡ phase_by self.old.phase call) }
     {
         match (call, self.phase) {
             (Call::Nothing, _) => Ok(()),
@@ -167,7 +181,8 @@ impl<D: Disk + Drop> Server<D> {
 
     /// Answers a request that may come now.
     fn answer_begun(&mut self, id: &Value, call: Call) -> Result<(), AllocError>
-        ensures { self.new.editor ≡ self.old.editor }
+        ensures editor { self.new.editor ≡ self.old.editor }
+        ensures phase { OnOk result (self.old.phase ≡ Begun → self.new.phase ≡ phase_by self.old.phase call) }
     {
         match call {
             Call::Shutdown => {
@@ -206,7 +221,9 @@ impl<D: Disk + Drop> Server<D> {
 
     /// Takes a note, which is not answered.
     fn note(&mut self, call: Call) -> Result<(), CheckFault>
-        ensures { OnOk result (IsStanding self.old.editor → IsStanding self.new.editor) }
+        ensures boards { OnOk result (IsStanding self.old.editor → IsStanding self.new.editor) }
+        ensures phase { OnOk result (self.new.phase ≡ self.old.phase) }
+        ensures texts { OnOk result ((path : List ℕ) → text_in self.new.editor.documents.all.items path ≡ texts_after self.old.phase (note_in call) (text_in self.old.editor.documents.all.items) path) }
     {
         match (call, self.phase) {
             (Call::Initialized, Phase::Begun) if self.watches => Ok(self.watch()?),
@@ -227,7 +244,8 @@ impl<D: Disk + Drop> Server<D> {
 
     /// Asks the client to watch files.
     fn watch(&mut self) -> Result<(), AllocError>
-        ensures { self.new.editor ≡ self.old.editor }
+        ensures editor { self.new.editor ≡ self.old.editor }
+        ensures phase { self.new.phase ≡ self.old.phase }
     {
         let watcher = json!(in self.alloc; {"globPattern": "**/*.{occ,inc,lbb}"})?;
         let options = json!(in self.alloc; {"watchers": [&watcher]})?;
@@ -244,6 +262,9 @@ impl<D: Disk + Drop> Server<D> {
     pub fn publish(&mut self) -> Result<(), CheckFault>
         ensures boards { OnOk result (IsStanding self.old.editor → IsUpToDate self.new.editor) }
         ensures stands { OnOk result (IsStanding self.old.editor → IsStanding self.new.editor) }
+        ensures served { OnOk result (IsStanding self.old.editor → AreServed self.new.editor) }
+        ensures documents { OnOk result (self.new.editor.documents ≡ self.old.editor.documents) }
+        ensures phase { self.new.phase ≡ self.old.phase }
     {
         let all = self.editor.publish(self.alloc, &self.disk)?;
         self.send_all(all.as_slice())?;
@@ -252,7 +273,8 @@ impl<D: Disk + Drop> Server<D> {
 
     /// Sends what is told of files.
     fn send_all(&mut self, all: &[Published]) -> Result<(), AllocError>
-        ensures { self.new.editor ≡ self.old.editor }
+        ensures editor { self.new.editor ≡ self.old.editor }
+        ensures phase { self.new.phase ≡ self.old.phase }
     {
         for told in all {
             let params = published(self.alloc, told)?;
@@ -260,6 +282,16 @@ impl<D: Disk + Drop> Server<D> {
                 .note("textDocument/publishDiagnostics", &params)?;
         }
         Ok(())
+    }
+}
+
+/// The id of a request: a number or a string.
+fn id_of(message: &Value) -> Option<&Value>
+    ensures { is_some result ≡ asks (view message.now) }
+{
+    match message.get("id") {
+        Some(id) if matches!(id, Value::Number(_) | Value::String(_)) => Some(id),
+        _ => None,
     }
 }
 

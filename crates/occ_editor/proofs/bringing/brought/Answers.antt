@@ -1,6 +1,8 @@
 use Rattle.std.proofs.Common.{◌≡◌, ◌∙◌, Bool, List, None, Option, ap, cond, is_some, map, subst, sym, true}
 use Rattle.std.specs.BTreeMap.{get}
+use Rattle.std.specs.String.{string_bytes}
 use Rattle.occ_editor.proofs.Brought.{apart_shared, are_shared, given_shared, named_source, names_shared}
+use Rattle.occ_editor.proofs.Wanted.{paths_shared}
 use Rattle.occ_editor.proofs.bringing.brought.Goals as goal
 use Rattle.occ_editor.specs.Rooms.{source_in}
 use Rattle.occ_editor.specs.inside.Bringing.{AreShared, Before, HasKept, shared_by}
@@ -31,6 +33,9 @@ returns-clause-has c = λ apart has name.
 
 pub returns-clause-apart : goal.returns-clause-apart
 returns-clause-apart c = ap are_apart c.in_ok-texts.ensures ∙ apart_shared (get name_cmp c.in_ok-before.before) c.args.texts.items ∙ c.requires.apart
+
+pub returns-clause-paths : goal.returns-clause-paths
+returns-clause-paths c = ap (map (λ text. string_bytes text.path)) c.in_ok-texts.ensures ∙ paths_shared (get name_cmp c.in_ok-before.before) c.args.texts.items
 
 pub returns-clause-given : goal.returns-clause-given
 returns-clause-given c = λ known given. subst (AreGiven known) (sym c.in_ok-texts.ensures) (given_shared (get name_cmp c.in_ok-before.before) known c.args.texts.items given)

@@ -1,11 +1,18 @@
-use Rattle.std.proofs.Common.{◌∙◌, subst, sym}
+use Rattle.std.proofs.Common.{◌∙◌, List, subst, sym}
+use Rattle.occ_editor.proofs.Wanted.{folder_same}
 use Rattle.occ_editor.proofs.editor.Editor.look_again.Goals as goal
-use Rattle.occ_editor.specs.Rooms.{AllStand}
+use Rattle.occ_editor.specs.Rooms.{AllStand, HaveRooms}
+use Rattle.occ_editor.specs.declared.room.Room.{Room}
+use Rattle.occ_files.specs.Paths.{folder_of}
 use Rattle.occ_editor_edits.specs.declared.documents.Documents.{Documents}
 
 pub loop-index-preserved : goal.loop-index-preserved
-loop-index-preserved c = (c.loosen.ensures.documents ∙ c.loop-index.invariant.0, λ documents all. c.loosen.ensures.boards documents (c.loop-index.invariant.1 documents all))
+loop-index-preserved c = (c.loosen.ensures.documents ∙ c.loop-index.invariant.0, λ documents all. c.loosen.ensures.boards documents (c.loop-index.invariant.1 documents all), c.loosen.ensures.folders ∙ c.loop-index.invariant.2)
 
 pub returns-clause-boards : goal.returns-clause-boards
 returns-clause-boards c = λ all.
-    subst (λ (d : Documents). AllStand d.all.items c.loop-index.self.rooms.items) (sym c.loop-index.invariant.0) (c.loop-index.invariant.1 c.args.self.now.documents.all.items all)
+    let rooms : List Room = c.loop-index.self.rooms.items in
+    record {
+      boards = subst (λ (d : Documents). AllStand d.all.items rooms) (sym c.loop-index.invariant.0) (c.loop-index.invariant.1 c.args.self.now.documents.all.items all.boards);
+      folders = subst (λ (d : Documents). HaveRooms d.all.items rooms) (sym c.loop-index.invariant.0) (λ path bytes e unit. folder_same rooms c.args.self.now.rooms.items (folder_of path) c.loop-index.invariant.2 ∙ all.folders path bytes e unit);
+    }

@@ -2,6 +2,7 @@ use Rattle.std.proofs.Common.{◌≡◌, ◌<◌, ℕ, List, Some, arith, length
 use Rattle.std.proofs.lemmas.Option.{slice_get_read}
 use Rattle.std.specs.List.{slice_get}
 use Rattle.occ_editor.proofs.Rooms.{loose, stand_next}
+use Rattle.occ_editor.proofs.Wanted.{folders_set}
 use Rattle.occ_editor.proofs.editor.Editor.loosen.Goals as goal
 use Rattle.occ_editor.specs.declared.room.Room.{Room}
 
@@ -13,3 +14,11 @@ returns-in-Some-clause-boards c = λ documents all.
     let less : index < length rooms = grind (arith, c.in-Some.ensures.item.0) in
     let there : slice_get rooms index ≡ Some room = slice_get_read rooms _ _ room refl less c.in-Some.ensures.item.1 in
     stand_next documents index rooms _ all (loose documents room (all index room there))
+
+pub returns-in-Some-clause-folders : goal.returns-in-Some-clause-folders
+returns-in-Some-clause-folders c =
+    let rooms : List Room = c.args.self.now.rooms.items in
+    let index : ℕ = c.args.index in
+    let room : Room = c.in-Some.room.now in
+    let less : index < length rooms = grind (arith, c.in-Some.ensures.item.0) in
+    folders_set rooms index room _ (slice_get_read rooms _ _ room refl less c.in-Some.ensures.item.1) refl

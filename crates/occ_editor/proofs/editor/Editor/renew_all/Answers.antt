@@ -4,7 +4,7 @@ use Rattle.occ_editor.proofs.editor.Editor.renew_all.Goals as goal
 use Rattle.occ_editor.specs.declared.room.Room.{Room}
 
 pub loop-index-init : goal.loop-index-init
-loop-index-init g c = (refl, refl, λ all. settled_none c.args.self.now.documents.all.items c.args.self.now.rooms.items all)
+loop-index-init g c = (refl, refl, λ all. settled_none c.args.self.now.documents.all.items c.args.self.now.rooms.items all, refl)
 
 pub returns-clause-boards : goal.returns-clause-boards
 returns-clause-boards g c = λ all.

@@ -4,7 +4,7 @@ use Rattle.occ_editor.proofs.editor.Editor.tell_all.Goals as goal
 use Rattle.occ_editor.specs.declared.room.Room.{Room}
 
 pub loop-index-init : goal.loop-index-init
-loop-index-init c = (refl, refl, λ before changes all. followed_none before c.args.self.now.documents.all.items c.args.self.now.rooms.items all)
+loop-index-init c = (refl, refl, λ before changes all. followed_none before c.args.self.now.documents.all.items c.args.self.now.rooms.items all, refl)
 
 pub returns-clause-boards : goal.returns-clause-boards
 returns-clause-boards c = λ before changes all.

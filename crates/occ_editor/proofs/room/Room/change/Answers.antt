@@ -4,23 +4,24 @@ use Rattle.std.specs.List.{slice_get}
 use Rattle.std.specs.Prelude.{nat_lt, slice_set}
 use Rattle.std.specs.Str.{bytes_eq}
 use Rattle.occ_editor.proofs.Placed.{IsAt, apart_set, has_set, is_at, open_put, or_left, other_source, source_at_set, text_at}
+use Rattle.occ_editor.proofs.Wanted.{met_beside, met_set, source_met}
 use Rattle.occ_editor.proofs.room.Room.change.Goals as goal
 use Rattle.occ_editor.specs.Placing.{source_on}
 use Rattle.occ_editor.specs.Rooms.{AreOpen, HasTexts}
-use Rattle.occ_files.specs.Gathering.{are_apart}
+use Rattle.occ_files.specs.Gathering.{are_apart, is_met}
 use Rattle.occ_files.specs.declared.gathering.Text.{Text}
 use Rattle.occ_forms.specs.Prepared.{Prepared}
 
-pub returns-in_default : goal.returns-in_default
-returns-in_default c = λ before now path e changes stands.
+pub returns-in_default-clause-stands : goal.returns-in_default-clause-stands
+returns-in_default-clause-stands c = λ before now path e changes stands.
     let texts : List Text = c.args.self.now.texts.items in
     let less : c.args.place < length texts = (text_at texts path c.args.place (is_at texts path c.args.place e)).4 in
     let within : nat_lt c.args.place (length texts) ≡ true = grind (arith, less) in
     let none : false ≡ nat_lt c.args.place (length texts) = c.in_default.ensures.lookup.0 ∙ ap (λ (ts : List Text). nat_lt c.args.place (length ts)) c.deref.ensures.value in
     absurd cc
 
-pub returns : goal.returns
-returns c = λ before now path e changes stands.
+pub returns-clause-stands : goal.returns-clause-stands
+returns-clause-stands c = λ before now path e changes stands.
     let texts : List Text = c.args.self.now.texts.items in
     let place : ℕ = c.args.place in
     let source : Prepared = c.args.source in
@@ -36,5 +37,8 @@ returns c = λ before now path e changes stands.
           (λ name. c.in_ok-put_one.ensures name ∙ ap (λ (s : Prepared). cond (bytes_eq text.name name) (Some s) (source_on c.args.self.now.board name)) c.in_ok-share.ensures));
       opened = λ found. subst (AreOpen now) (sym put)
           (open_put before now path source texts (slice_set texts place (other_source text source)) changes (source_at_set texts path place text source at there) (stands.opened (or_left c.args.self.now.is_loose _ found)));
+      met = λ found. met_beside before now path (Some source.text) c.args.self.now (record { folder = c.args.self.now.folder; board = c.args.self.now.board; texts = c.put_source.new.texts; refusals = c.args.self.now.refusals; told = c.args.self.now.told; is_loose = false; is_changed = true }) changes refl
+          (λ p met. ap (λ (ts : List Text). is_met ts c.args.self.now.refusals.items p) put ∙ met_set texts c.args.self.now.refusals.items place text source p there ∙ met)
+          (λ of. source_met texts c.args.self.now.refusals.items path _ (text_at texts path place at).3) (stands.met (or_left c.args.self.now.is_loose _ found));
       told = λ found same. absurd cc;
     }
