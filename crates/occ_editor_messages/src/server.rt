@@ -101,7 +101,7 @@ impl<D: Disk + Drop> Server<D> {
     /// Takes a message. Whatever it is, the boards stand after it, and the open files have the texts that it gives them.
     pub fn take(&mut self, message: &[u8]) -> Result<Next, CheckFault>
         ensures boards { OnOk result (IsStanding self.old.editor → IsStanding self.new.editor) }
-        ensures heard { OnOk result ((talk : Talk) (data : Data) → IsJson message.now data → HasHeard self.old talk → HasHeard self.new (heard talk data)) }
+        ensures heard { OnOk result ((talk : Talk) (value : Data) → IsJson message.now value → HasHeard self.old talk → HasHeard self.new (heard talk value)) }
         ensures unheard { OnOk result ((talk : Talk) → IsNoJson message.now → HasHeard self.old talk → HasHeard self.new talk) }
     {
         self.is_lost = false;
