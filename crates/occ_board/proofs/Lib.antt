@@ -32,3 +32,4 @@ pub mod Counted
 pub mod Revisions
 pub mod Waits
 pub mod Likeness
+pub mod Worked

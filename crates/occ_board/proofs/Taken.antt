@@ -15,7 +15,7 @@ use Rattle.occ_board.specs.Same.{same_used}
 use Rattle.occ_board.specs.Verdicts.{is_as_read, is_off, off_read, or_else, reads_verdict, same_text, verdict_of}
 use Rattle.occ_board.specs.declared.verdict.Verdict.{Verdict}
 use Rattle.occ_board.specs.declared.verdict.Verdict.TheVariants as verdict
-use Rattle.occ_board.specs.inside.Ready.{HasJob, is_next, is_rested}
+use Rattle.occ_board.specs.inside.Ready.{HasJob, IsAcceptable, is_next, is_rested}
 use Rattle.occ_check.specs.Input.{Input}
 use Rattle.occ_check.specs.declared.used.UsedUnit.{UsedUnit}
 use Rattle.occ_forms.specs.Prepared.{Prepared}
@@ -116,6 +116,12 @@ module _ (files : List Read) (project : IsProject files) (law : (cached : List I
       let pending = left_true (not (done files cached file.name)) (is_rested files cached file.name && not (is_input_among handed (input files file.name)))
       (right_true (is_open_unit file) (not (done files cached file.name) && (is_rested files cached file.name && not (is_input_among handed (input files file.name)))) at.1.1) in
       (file.name, (one.1.1, (next_has_job files cached handed file (filed files at.0 file project at.1.0) at.1.1, pending)))
+
+  -- what is next may be cached
+  pub next_acceptable : (handed : List Input) (i : Input) → next_input files cached handed ≡ Some i → IsAcceptable files cached i
+  next_acceptable handed i e =
+      let n = next handed i e in
+      subst (IsAcceptable files cached) (sym n.1.0) (record { now = refl; job = n.1.1.0; other = other n.0 n.1.1.0 n.1.1.1 })
 
   pub next_accepted : (accepted : ℕ) (handed : List Input) (i : Input) → next_input files cached handed ≡ Some i → verdict_of files accepted cached i ≡ verdict.Accepted
   next_accepted accepted handed i e = let n = next handed i e in ap (verdict_of files accepted cached) n.1.0 ∙ judged accepted n.0 n.1.1.0 n.1.1.1

@@ -9,12 +9,13 @@ ghost use Rattle.occ_board.specs.declared.entry.EditFault.{EditFault as AFault};
 ghost use Rattle.occ_board.specs.declared.verdict.Verdict.TheVariants as verdicts;
 ghost use Rattle.occ_board.specs.inside.Ready.{HasJob, IsAcceptable};
 ghost use Rattle.occ_check.specs.Checks.{input};
+ghost use Rattle.occ_check.specs.Input.{Input};
 ghost use Rattle.occ_forms.specs.Prepared.{IsPrepared};
 ghost use Rattle.occ_forms.specs.declared.source.SourceLine.{SourceLine as ASourceLine};
 ghost use Rattle.occ_lines.specs.Lines.{limit_fault, line_count};
 ghost use Rattle.occ_project_units.specs.Spelled.{AreSpelled};
 ghost use Rattle.std.specs.Option.{is_some, option_map};
-ghost use Rattle.std.specs.Prelude.{◌≡◌, ◌<◌, ◌≤◌, ◌^◌, ◌↔◌, ◌⊎◌, Err, IfErr, IfOk, IfSome, IsErrOf, List, None, OnErr, OnOk, length, true};
+ghost use Rattle.std.specs.Prelude.{◌≡◌, ◌<◌, ◌≤◌, ◌^◌, ◌↔◌, ◌⊎◌, Err, IfErr, IfOk, IfSome, IsErrOf, List, None, OnErr, OnOk, Some, length, true};
 
 use super::base::{Base, Cut};
 use super::cached::Cached;
@@ -32,6 +33,7 @@ use super::taking::{first_ready, job_now, next_unit};
 use super::touching::renew;
 use super::verdict::Verdict;
 use super::verified::{forget_users, verified_law};
+use super::working::working_law;
 use occ_base::{FileName, Items, Shared};
 use occ_check::{Job, Outcome, check};
 use occ_forms::{Source, prepare, source_law};
@@ -267,6 +269,19 @@ impl Board {
         ensures given { IfOk result (λ job. 0 < pending_answer self.old → NoneIsHanded (files_of self.old) self.old.cached self.old.handed → is_some job ≡ true) }
         ensures err { OnErr result (self.new ≡ self.old) }
     {
+        let Some(job) = self.next_job(alloc)? else {
+            return Ok(None);
+        };
+        self.handed.push(copied_job(alloc, &job)?)?;
+        Ok(Some(job))
+    }
+
+    /// The job of the least unit that is ready and whose present job is not handed out, if there is one.
+    fn next_job(&mut self, alloc: Global) -> Result<Option<Job>, AllocError>
+        ensures same { self.new ≡ self.old }
+        ensures next { IfOk result (λ job. job ≡ take_answer self.old) }
+        ensures given { IfOk result (λ job. 0 < pending_answer self.old → NoneIsHanded (files_of self.old) self.old.cached self.old.handed → is_some job ≡ true) }
+    {
         ready_law();
         taking_law();
         if self.pending() == 0 {
@@ -276,9 +291,30 @@ impl Board {
         let Some(unit) = self.next_unit() else {
             return Ok(None);
         };
-        let job = self.job(alloc, self.waiting, unit)?;
-        self.handed.push(copied_job(alloc, &job)?)?;
-        Ok(Some(job))
+        Ok(Some(self.job(alloc, self.waiting, unit)?))
+    }
+
+    /// Takes the next job, checks it and caches its outcome, and says whether there was one: what a take and a finish come to
+    /// where nothing happens between them. Such an outcome is accepted, so it is not judged. Where memory is refused nothing is
+    /// changed.
+    pub fn work(&mut self, alloc: Global) -> Result<bool, AllocError>
+        ensures worked { IfOk result (λ worked. worked ≡ is_some (take_answer self.old)) }
+        ensures after { (i : Input) → take_answer self.old ≡ Some i → OnOk result (self.new ≡ after (after self.old Event.Take) (Event.Finish i)) }
+        ensures none { take_answer self.old ≡ None → OnOk result (self.new ≡ self.old) }
+        ensures err { OnErr result (self.new ≡ self.old) }
+    {
+        working_law();
+        let Some(job) = self.next_job(alloc)? else {
+            return Ok(false);
+        };
+        let Ok(outcome) = self.check(alloc, job) else {
+            return Err(AllocError);
+        };
+        let file = self.waiting;
+        match self.accept_outcome(file, outcome) {
+            Ok(()) => Ok(true),
+            Err(_refused) => Err(AllocError),
+        }
     }
 
     /// The least unit that is ready and whose present job is not handed out.

@@ -79,7 +79,8 @@ impl Flags {
         requires { index ≤ length self.now }
         ensures { IfOk result (λ next. next ≡ insert self.now index false) }
     {
-        let mut flags = Vec::from_slice(alloc, self.flags.as_slice())?;
+        let mut flags = Vec::with_capacity(alloc, self.flags.len().saturating_add(1))?;
+        flags.extend_from_slice(self.flags.as_slice())?;
         flags.insert(index, false)?;
         Ok(Flags {
             flags: Items::from_vec(flags),

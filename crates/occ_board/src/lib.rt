@@ -22,6 +22,7 @@ mod touched;
 mod touching;
 mod verdict;
 mod verified;
+mod working;
 
 pub use base::{Base, Cut};
 pub use board::Board;

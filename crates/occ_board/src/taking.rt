@@ -67,12 +67,12 @@ fn units_now(
     requires rested { AreRested graph.now cached.now user units.now }
     ensures { IfOk result (λ used. used ≡ map (used_unit graph.now user (checked graph.now)) units.now) }
 {
-    let mut used = Items::new(alloc);
+    let mut used = Vec::with_capacity(alloc, units.len())?;
     for (number, unit) in units.iter().enumerate() {
         let used_hint = graph.used_hint(hint, number);
         used.push(unit_now(graph, cached, hint, used_hint, user, *unit)?)?;
     }
-    Ok(used)
+    Ok(Items::from_vec(used))
 }
 
 /// The job of an open unit, which is looked for at an index first, that looks at what is so at present.

@@ -156,7 +156,10 @@ impl Graph {
     {
         match self.unread_index(name) {
             Some(at) => self.put_unread(alloc, at, name, revision, source),
-            None => self.put_read(alloc, name, revision, source),
+            None => {
+                self.put_read(alloc, name, revision, source)?;
+                Ok(())
+            }
         }
     }
 
@@ -229,15 +232,16 @@ impl Graph {
         Ok(())
     }
 
-    /// Puts a file that others may read, which are expanded anew.
+    /// Puts a file that others may read, which are expanded anew. It says whether who uses whom is known to be as before.
     fn put_read(
         &mut self,
         alloc: Global,
         name: FileName,
         revision: u32,
         source: Option<Shared<Source>>,
-    ) -> Result<(), AllocError>
+    ) -> Result<bool, AllocError>
         ensures ok { OnOk result (self.new ≡ put self.old (record { name = name; revision = revision; source = source })) }
+        ensures same { IfOk result (λ same. same ≡ true → graph_of self.new ≡ graph_of self.old) }
         ensures err { OnErr result (self.new ≡ self.old) }
     {
         let mut project = self.project.share(alloc)?;
@@ -254,7 +258,7 @@ impl Graph {
             self.facts = facts;
             self.readers = None;
             self.settled = false;
-            return Ok(());
+            return Ok(true);
         };
         *self = Graph {
             project,
@@ -263,7 +267,7 @@ impl Graph {
             readers: None,
             settled: false,
         };
-        Ok(())
+        Ok(false)
     }
 
     /// Whether the file at an index may read or use one of that name, which is not there.
@@ -379,8 +383,7 @@ impl Graph {
         ensures err { OnErr result (self.new ≡ self.old) }
     {
         if name.as_bytes().ends_with(b".lbb") {
-            self.put(alloc, name, revision, source)?;
-            return Ok(false);
+            return self.put_at(alloc, index, name, revision, source);
         }
         let _files = self.project.files();
         let file = Read {
@@ -401,7 +404,28 @@ impl Graph {
         )? {
             return Ok(open);
         }
-        self.put(alloc, name, revision, again.source)?;
+        self.put_at(alloc, index, name, revision, again.source)
+    }
+
+    /// Puts the file at an index anew, and expands its readers anew. It says whether who uses whom is known to be as before, and
+    /// the file is open as before.
+    fn put_at(
+        &mut self,
+        alloc: Global,
+        index: usize,
+        name: FileName,
+        revision: u32,
+        source: Option<Shared<Source>>,
+    ) -> Result<bool, AllocError>
+        requires { spec_index name self.old ≡ Some index }
+        ensures ok { OnOk result (self.new ≡ put self.old (record { name = name; revision = revision; source = source })) }
+        ensures alike { IfOk result (λ alike. alike ≡ true → AreAlike self.old self.new) }
+        ensures err { OnErr result (self.new ≡ self.old) }
+    {
+        let is_open = source.is_some() && self.project.is_open_at(index);
+        if self.put_read(alloc, name, revision, source)? {
+            return Ok(is_open);
+        }
         Ok(false)
     }
 

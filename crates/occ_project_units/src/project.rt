@@ -313,11 +313,11 @@ impl Project {
     ) -> Result<Reads, AllocError>
         ensures { IfOk result (λ reads. reads ≡ map (file_of self.now) names.now) }
     {
-        let mut reads = Items::new(alloc);
+        let mut reads = Vec::with_capacity(alloc, names.len())?;
         for name in names {
             reads.push(self.read_near(hint, *name)?)?;
         }
-        Ok(reads)
+        Ok(Items::from_vec(reads))
     }
 
     /// The same project, which shares its texts.

@@ -5,7 +5,7 @@ ghost use Rattle.occ_typing.specs.declared.unit.TypeFault.TheVariants.{Memory};
 ghost use Rattle.std.specs.Prelude.{◌≡◌, IfErr, IfOk};
 
 use super::tree::TypedLine;
-use super::walk::lines;
+use super::walk::lines_kept;
 use occ_base::{Diag, Items};
 use occ_scope::Scope;
 use occ_tree::Unit;
@@ -53,7 +53,7 @@ pub fn type_unit(alloc: Global, unit: &Unit, imports: &[Import]) -> Result<Typed
 {
     let mut scope = Scope::new(alloc);
     let mut faults = Items::new(alloc);
-    let lines = lines(
+    let lines = lines_kept(
         alloc,
         imports,
         unit.roots.as_slice(),

@@ -10,7 +10,7 @@ ghost use Rattle.occ_typing.specs.TypedLines.{is_process as spec_is_process, is_
 ghost use Rattle.occ_typing_lines.specs.Judging.{judged as spec_judged};
 ghost use Rattle.occ_typing.specs.Units.{after_line as spec_after_line, line_faults, lines as spec_lines};
 ghost use Rattle.occ_typing.specs.inside.Opening.{opened_at, with_children};
-ghost use Rattle.std.specs.Prelude.{◌≡◌, ◌∷◌, ◌++◌, [], IfOk, OnErr, OnOk};
+ghost use Rattle.std.specs.Prelude.{◌≡◌, ◌∷◌, ◌++◌, [], IfOk, OnErr, OnOk, length};
 
 use super::tree::TypedLine;
 use occ_base::{Boxed, Diag, Items};
@@ -270,7 +270,7 @@ fn go_under(
 
 /// The typed lines of nodes, of which their parent says this, with what they report, after those of others.
 #[cycle(lines)]
-pub fn lines(
+fn lines(
     alloc: Global,
     imports: &[Import],
     nodes: &[Node],
@@ -283,6 +283,26 @@ pub fn lines(
     ensures found { OnOk result (found.new ≡ found.old ++ spec_lines imports.now parent scope.old scope.old (forest_of nodes.now)) }
 {
     let outer = scope.len();
+    let typed = lines_kept(alloc, imports, nodes, parent, scope, found)?;
+    scope.leave_to(outer);
+    Ok(typed)
+}
+
+/// The same, but what the last ones brought into scope stays there.
+#[cycle(lines)]
+pub fn lines_kept(
+    alloc: Global,
+    imports: &[Import],
+    nodes: &[Node],
+    parent: Parent,
+    scope: &mut Scope,
+    found: &mut Items<Diag>,
+) -> Result<Items<TypedLine>, AllocError>
+    ensures typed { IfOk result (λ typed. typed ≡ typed_lines imports.now parent scope.old scope.old (forest_of nodes.now)) }
+    ensures scope { OnOk result (back_to (length scope.old.meanings) scope.new ≡ scope.old) }
+    ensures found { OnOk result (found.new ≡ found.old ++ spec_lines imports.now parent scope.old scope.old (forest_of nodes.now)) }
+{
+    let outer = scope.len();
     let mut parent = parent;
     let mut typed = Items::new(alloc);
     for node in nodes {
@@ -290,6 +310,5 @@ pub fn lines(
             alloc, imports, node, parent, outer, scope, &mut typed, found,
         )?;
     }
-    scope.leave_to(outer);
     Ok(typed)
 }

@@ -8,3 +8,4 @@ pub mod Std
 pub mod Stepwise
 pub mod Holding
 pub mod Editing
+pub mod Working

@@ -5,7 +5,6 @@ ghost use Rattle.occheck_script.specs.Settling.{settled, settled_in};
 ghost use Rattle.occheck_script.specs.inside.Seen.{IsNext};
 ghost use Rattle.std.specs.Prelude.{◌≡◌, IfOk, OnOk};
 
-use super::jobs::checked;
 use occ_board::Board;
 use std::alloc::{AllocError, Global};
 
@@ -34,12 +33,5 @@ fn settle_in(alloc: Global, board: &mut Board, jobs: usize) -> Result<(), AllocE
 fn work_once(alloc: Global, board: &mut Board) -> Result<bool, AllocError>
     ensures { IfOk result (λ was_one. IsNext was_one (take_answer board.old) board.old board.new) }
 {
-    let Some(job) = board.take(alloc)? else {
-        return Ok(false);
-    };
-    let outcome = checked(alloc, board, job)?;
-    match board.finish(outcome) {
-        Ok(_verdict) => Ok(true),
-        Err(_refused) => Err(AllocError),
-    }
+    board.work(alloc)
 }

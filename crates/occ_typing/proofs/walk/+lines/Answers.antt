@@ -7,8 +7,8 @@ use Rattle.occ_typing.specs.Units.{lines}
 use Rattle.occ_typing.proofs.Walking.{split_at, stays_so, step, step_lines}
 use Rattle.occ_typing.proofs.walk.+lines.Goals as goal
 
-pub lines-loop-node-preserved : goal.lines-loop-node-preserved
-lines-loop-node-preserved t c =
+pub lines_kept-loop-node-preserved : goal.lines_kept-loop-node-preserved
+lines_kept-loop-node-preserved t c =
     let split : drop c.loop-node.node-index c.args.nodes.now ≡ c.node-item.result ∷ drop (c.loop-node.node-index + 1) c.args.nodes.now = split_at _ _ _ c.loop-node-test.true c.node-item.is in
     let typed = ap (λ z. c.loop-node.typed ++ typed_lines c.args.imports.now c.loop-node.parent c.args.scope.now c.loop-node.scope (forest_of z)) (sym split) ∙ c.loop-node.invariant.2 in
     let reported = ap (λ z. c.loop-node.found ++ lines c.args.imports.now c.loop-node.parent c.args.scope.now c.loop-node.scope (forest_of z)) (sym split) ∙ c.loop-node.invariant.3 in

@@ -5,8 +5,8 @@ use Rattle.occ_typing.specs.TypedLines.{typed_lines}
 use Rattle.occ_typing.specs.Units.{lines}
 use Rattle.occ_typing.proofs.walk.+lines.Given as goal
 
-abbrev pub invariant-lines-loop-node : goal.invariant-lines-loop-node
-invariant-lines-loop-node l =
+abbrev pub invariant-lines_kept-loop-node : goal.invariant-lines_kept-loop-node
+invariant-lines_kept-loop-node l =
     (l.outer ≤ length l.scope.meanings)
     × (back_to l.outer l.scope ≡ l.initial.scope)
     × (l.typed ++ typed_lines l.imports l.parent l.initial.scope l.scope (forest_of (drop l.node-index l.nodes)) ≡ typed_lines l.imports l.initial.parent l.initial.scope l.initial.scope (forest_of l.nodes))
