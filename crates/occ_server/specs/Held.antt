@@ -1,6 +1,6 @@
 -- What is said of the lock: that a state stands after it whose journal is legal over its base. Which state it was when a call had
 -- the lock no contract can say, since other threads have it before and after. So a refusal is said of some such state.
-use Rattle.std.specs.Prelude.{◌≡◌, ◌<◌, ◌⊎◌, ℕ, true, false, List, None, Option}
+use Rattle.std.specs.Prelude.{◌≡◌, ◌<◌, ◌⊎◌, ℕ, nat_lt, Bool, true, false, ◌&&◌, not, List, None, Option}
 use Rattle.occ_board.specs.Journal.{IsBase, IsLegal, last_number}
 use Rattle.occ_board.specs.Machine.{Answer, Event, State, answer, edit_answer, edit_number, pending_answer}
 use Rattle.occ_board.specs.declared.base.Cut.{Cut}
@@ -42,3 +42,7 @@ IsUnended ts close_fault.Memory s = (ascends ts ≡ true) × (ts ≡ receipts_of
 -- the edits since the base, with the number of the last one
 abbrev pub IsCutOf : Cut → State → Type 0
 IsCutOf cut s = (cut.entries ≡ s.journal) × (cut.number ≡ last_number s.base s.journal)
+
+-- there is something to wait for: a unit is pending, and the server is not stopped
+abbrev pub is_waiting : Bool → State → Bool
+is_waiting stopped s = not stopped && nat_lt 0 (pending_answer s)

@@ -4,14 +4,14 @@ ghost use Rattle.occ_board.specs.Machine.{Answer, Event, after, answer, edit_ans
 ghost use Rattle.occ_board.specs.declared.entry.EditFault.TheVariants as fault;
 ghost use Rattle.occ_board.specs.declared.entry.EditFault.{EditFault as AFault};
 ghost use Rattle.occ_board.specs.declared.verdict.Verdict.TheVariants as verdicts;
-ghost use Rattle.occ_server.specs.Held.{IsHeld, IsUnended};
+ghost use Rattle.occ_server.specs.Held.{IsHeld, IsUnended, is_waiting as spec_is_waiting};
 ghost use Rattle.occ_server.specs.Receipts.{IsLeastOff, Numbered, ascends as spec_ascends, entry_at, receipts_of};
 ghost use Rattle.occ_server.specs.Snapshots.{IsBehind, IsFound, Stands};
 ghost use Rattle.occ_server.specs.declared.fault.CloseFault.TheVariants as refusal;
 ghost use Rattle.occ_server.specs.declared.fault.ReportFault.TheVariants as report_refusal;
 ghost use Rattle.occ_server.specs.declared.work.Settled.TheVariants as ends;
 ghost use Rattle.std.specs.Option.{option_copied};
-ghost use Rattle.std.specs.Prelude.{◌≡◌, ◌≤◌, ◌<◌, ◌⊎◌, ℕ, ◌&&◌, not, Err, IfErr, IfOk, None, OnErr, OnOk, Some, false, nat_lt, true};
+ghost use Rattle.std.specs.Prelude.{◌≡◌, ◌≤◌, ◌<◌, ◌⊎◌, ℕ, Err, IfErr, IfOk, IsErrAnd, None, OnErr, OnOk, Some, false, true};
 
 use super::comparing::{ascends, entry_of, first_off, is_found};
 use super::copying::{all_copied, copied};
@@ -130,7 +130,7 @@ impl Locked {
 
     /// Whether there is something to wait for: a unit is pending, and the server is not stopped.
     pub fn is_waiting(&self) -> bool
-        ensures { result ≡ (not self.now.stopped && nat_lt 0 (pending_answer self.now.board)) }
+        ensures { result ≡ spec_is_waiting self.now.stopped self.now.board }
     {
         !self.stopped && self.board.pending() > 0
     }
@@ -181,7 +181,7 @@ impl Locked {
     }
 
     /// The end: all edits since the base have their receipts, in order, and nothing is pending.
-    pub fn end(&self, alloc: Global, receipts: &[Receipt]) -> Result<Ended, CloseFault>
+    fn end(&self, alloc: Global, receipts: &[Receipt]) -> Result<Ended, CloseFault>
         ensures held { IsHeld self.now.board }
         ensures unended { IfErr result (λ f. IsUnended receipts.now f self.now.board) }
         ensures base { IfOk result (λ e. e.base ≡ self.now.board.base) }
@@ -217,6 +217,23 @@ impl Locked {
         match first_off(receipts, self.board.base(), self.board.entries()) {
             Some(number) => Err(CloseFault::Mismatch(number)),
             None => Ok(()),
+        }
+    }
+
+    /// The end, or what is locked as it was, and why it has no end.
+    pub fn close(self, alloc: Global, receipts: &[Receipt]) -> Result<Ended, (Locked, CloseFault)>
+        ensures held { IsHeld self.board }
+        ensures back { IfErr result (λ refused. refused.0 ≡ self) }
+        ensures unended { IfErr result (λ refused. IsUnended receipts.now refused.1 self.board) }
+        ensures base { IfOk result (λ e. e.base ≡ self.board.base) }
+        ensures entries { IfOk result (λ e. e.entries ≡ self.board.journal) }
+        ensures agree { IfOk result (λ e. receipts.now ≡ receipts_of self.board.base self.board.journal) }
+        ensures order { spec_ascends receipts.now ≡ false → IsErrAnd result (λ refused. refused.1 ≡ refusal.OutOfOrder) }
+        ensures pending { receipts.now ≡ receipts_of self.board.base self.board.journal → 0 < pending_answer self.board → IsErrAnd result (λ refused. refused.1 ≡ refusal.Pending) }
+    {
+        match self.end(alloc, receipts) {
+            Ok(ended) => Ok(ended),
+            Err(fault) => Err((self, fault)),
         }
     }
 

@@ -1,9 +1,10 @@
 //! The calls that threads make. They lock, wait and wake; what is known of a result is in its type. `docs/MACHINE.md, The
 //! server`.
-ghost use Rattle.occ_server.specs.Held.{IsCutOf, IsNumberOf, IsRefusalOf, IsUnended, IsUnreported, OfOne};
+ghost use Rattle.occ_server.specs.Held.{IsCutOf, IsNumberOf, IsRefusalOf, IsUnended, IsUnreported, OfOne, is_waiting};
 ghost use Rattle.occ_server.specs.Receipts.{ascends, receipts_of};
 ghost use Rattle.occ_server.specs.Snapshots.{IsBehind, Stands};
 ghost use Rattle.std.specs.Option.{option_copied};
+ghost use Rattle.std.specs.Sync.Mutex.{mutex_guard_value};
 ghost use Rattle.occ_server.specs.declared.fault.CloseFault.TheVariants as close_fault;
 ghost use Rattle.std.specs.Prelude.{◌≡◌, IfErr, IfOk, IsErrAnd, false};
 
@@ -15,7 +16,7 @@ use super::snapshot::{Ended, Snapshot};
 use super::work::{Gate, Settled, WorkEnd, Worked};
 use occ_board::{Cut, Edit, EditFault, Job, Outcome, Verdict, check};
 use std::alloc::{AllocError, Global};
-use std::sync::{Condvar, Mutex, Wait};
+use std::sync::{Condvar, Mutex, MutexGuard, Wait};
 
 /// A board that threads share. All calls but `new` and `close` may wait for the lock.
 pub struct Server {
@@ -139,10 +140,15 @@ impl Server {
 
     /// Waits until no unit is pending, or the server is stopped.
     pub fn settle<R: Wait>(&self, rt: &R) -> Settled {
-        let locked = self
-            .changed
-            .wait_while(rt, self.locked.lock(rt), |locked| locked.is_waiting());
-        locked.settled()
+        self.quiet(rt).settled()
+    }
+
+    /// What is locked once there is nothing to wait for. The lock is held then.
+    fn quiet<R: Wait>(&self, rt: &R) -> MutexGuard<'_, Locked>
+        ensures { is_waiting (mutex_guard_value result).stopped (mutex_guard_value result).board ≡ false }
+    {
+        self.changed
+            .wait_while(rt, self.locked.lock(rt), |locked| locked.is_waiting())
     }
 
     /// Makes the present project the base, and hands out the edits since the base before. From then on receipts of these have no
@@ -182,11 +188,10 @@ impl Server {
         ensures unended { IfErr result (λ refused. OfOne (IsUnended receipts.now refused.1)) }
     {
         let Server { locked, changed } = self;
-        let inner = locked.into_inner();
-        match inner.end(alloc, receipts) {
+        match locked.into_inner().close(alloc, receipts) {
             Ok(ended) => Ok(ended),
-            Err(fault) => {
-                let locked = Mutex::new(inner);
+            Err((same, fault)) => {
+                let locked = Mutex::new(same);
                 Err((Server { locked, changed }, fault))
             }
         }

@@ -1,4 +1,8 @@
 //! The gate that jobs pass, what a worker did, and how a wait ended.
+ghost use Rattle.occ_server.specs.Counts.{counted, is_accepted, is_stale};
+ghost use Rattle.occ_server.specs.declared.work.WorkEnd.TheVariants as ends;
+ghost use Rattle.std.specs.Prelude.{◌≡◌};
+
 use occ_base::FileName;
 use occ_board::Verdict;
 use std::sync::Wait;
@@ -29,7 +33,9 @@ pub struct Worked {
 
 impl Worked {
     /// Nothing yet.
-    pub(crate) fn new() -> Worked {
+    pub(crate) fn new() -> Worked
+        ensures { result ≡ record { accepted = 0; stale = 0; end = ends.Stopped } }
+    {
         Worked {
             accepted: 0,
             stale: 0,
@@ -38,7 +44,11 @@ impl Worked {
     }
 
     /// Counts what became of an outcome.
-    pub(crate) fn count(&mut self, verdict: Verdict) {
+    pub(crate) fn count(&mut self, verdict: Verdict)
+        ensures accepted { self.new.accepted ≡ counted (is_accepted verdict) self.old.accepted }
+        ensures stale { self.new.stale ≡ counted (is_stale verdict) self.old.stale }
+        ensures end { self.new.end ≡ self.old.end }
+    {
         match verdict {
             Verdict::Accepted => self.accepted = self.accepted.saturating_add(1),
             Verdict::Stale(_) => self.stale = self.stale.saturating_add(1),
