@@ -121,6 +121,19 @@ fn finished(alloc: Global, board: &mut Board, unit: &str) -> Result<(), Off> {
     wanted(matches!(verdict, Verdict::Accepted))
 }
 
+/// Takes the next job, checks it and caches its outcome, all at once.
+fn worked(alloc: Global, board: &mut Board) -> Result<(), Off> {
+    let before = looked_at(alloc, board)?;
+    let was_one = match board.work(alloc) {
+        Ok(was_one) => was_one,
+        Err(_refused) => {
+            stays(alloc, board, &before)?;
+            board.work(alloc)?
+        }
+    };
+    wanted(was_one)
+}
+
 /// A checkpoint that hands so many edits out.
 fn cut(alloc: Global, board: &mut Board, entries: usize) -> Result<(), Off> {
     let before = looked_at(alloc, board)?;
@@ -166,7 +179,7 @@ fn included(alloc: Global, board: &mut Board) -> Result<(), Off> {
     finished(alloc, board, "b.occ")?;
     edited(alloc, board, Kind::Remove, "k.inc", "")?;
     edited(alloc, board, Kind::Remove, "a.occ", "")?;
-    finished(alloc, board, "b.occ")?;
+    worked(alloc, board)?;
     reports(
         alloc,
         board,
