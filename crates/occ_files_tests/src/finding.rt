@@ -83,7 +83,8 @@ fn has(texts: &[Text], path: &str) -> bool {
 #[test]
 fn files_are_found_beside_and_then_in_folders(rt: HostRuntime) -> Result<(), Fail> {
     let a = rt.alloc();
-    let (folders, paths) = (texts(a, &["lib"])?, texts(a, &["a/main.occ", "a/not.occ"])?);
+    let folders = texts(a, &["lib"])?;
+    let paths = texts(a, &["a/main.occ", "a/not.occ", "b/main.occ"])?;
     let found = gather(
         a,
         &List(FILES.as_slice()),
@@ -97,7 +98,10 @@ fn files_are_found_beside_and_then_in_folders(rt: HostRuntime) -> Result<(), Fai
     assert!(rt; has(files, "lib/width.inc") && has(files, "lib/deep.inc"));
     assert!(rt; files.len() == 5 && found.units.len() == 2);
     match found.refusals.as_slice() {
-        [one] => assert!(rt; one.path.as_str() == "a/not.occ" && matches!(one.why, Why::NotThere)),
+        [one, two] => {
+            assert!(rt; one.path.as_str() == "a/not.occ" && matches!(one.why, Why::NotThere));
+            assert!(rt; two.path.as_str() == "b/main.occ" && matches!(two.why, Why::Twice));
+        }
         _ => assert!(rt; false),
     }
     Ok(())
