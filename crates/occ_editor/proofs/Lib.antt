@@ -4,4 +4,5 @@ pub mod Placed
 pub mod Replayed
 pub mod Rooms
 pub mod Settled
+pub mod Shown
 pub mod Wanted
