@@ -1,5 +1,5 @@
 -- Of which files a room tells something else than before.
-use Rattle.std.proofs.Common.{◌≡◌, ◌∙◌, ◌↔◌, ◌⊎◌, inl, inr, ◌+◌, ◌++◌, ◌<◌, ◌&&◌, ◌||◌, Bool, true, false, cond, not, ℕ, zero, suc, List, [], ◌∷◌, length, map, slice_set, Option, Some, None, IfSome, String, Global, arith, refl, subst, sym, ap, if◌then◌else◌}
+use Rattle.std.proofs.Common.{◌≡◌, ◌∙◌, ◌↔◌, ◌⊎◌, inl, inr, ◌+◌, ◌++◌, ◌<◌, ◌≤◌, ◌==◌, drop, ◌&&◌, ◌||◌, Bool, true, false, cond, not, ℕ, zero, suc, List, [], ◌∷◌, length, map, slice_set, Option, Some, None, IfSome, String, Global, arith, refl, subst, sym, ap, if◌then◌else◌}
 use Rattle.std.proofs.lemmas.Map.Text.{is_eq-slice_cmp}
 use Rattle.std.proofs.lemmas.Slice.Eq.{bytes_eq-Decides}
 use Rattle.std.specs.BTreeSet.{BTreeSet, insert_key}
@@ -11,11 +11,12 @@ use Rattle.std.specs.declared.cmp.Ordering.TheVariants as ordering
 use Rattle.std.specs.Str.{bytes_eq}
 use Rattle.std.specs.String.{string_bytes}
 use Rattle.occ_base.specs.declared.diag.Diag.{Diag}
-use Rattle.occ_editor.proofs.Placed.{other_source, there}
-use Rattle.occ_editor.specs.Publishing.{IsTold, TellSame, TellsAt, first_of, heads_of, refusal_at, text_at, told_at, why_of}
+use Rattle.occ_editor.proofs.Placed.{other_source}
+use Rattle.occ_editor.specs.Publishing.{IsTold, TellSame, TellsAt, first_of, heads_of, is_published, refusal_at, text_at, told_at, why_of}
 use Rattle.occ_editor.specs.Rooms.{is_vacant}
+use Rattle.occ_editor.specs.declared.editor.Published.{Published}
 use Rattle.occ_editor.specs.declared.room.Room.{Room}
-use Rattle.occ_editor.specs.inside.Shown.{AllAt, IsIn, IsQuiet, TellsSame, has_key, text_named}
+use Rattle.occ_editor.specs.inside.Shown.{AllAt, IsIn, Grows, HasFile, IsQuiet, TellsSame, AllTellBut, has_key, text_named}
 use Rattle.occ_files.specs.Gathering.{are_apart, has_name}
 use Rattle.occ_files.specs.declared.gathering.Text.{Text}
 use Rattle.occ_files.specs.declared.refusal.Refusal.{Refusal}
@@ -64,22 +65,22 @@ map_there f (y ∷ ys) x h = elim (cases y ys x h) [
 
 filter_cases : {X : Type 0} (p : X → Bool) (xs : List X) (x : X) → Contains (filter p xs) x → Contains xs x × (p x ≡ true)
 filter_cases p [] x h = let less = h.1 in absurd (omega (arith, less))
-filter_cases {X} p (y ∷ ys) x h = by (p y) refl h where
-  by : (b : Bool) → p y ≡ b → Contains (cond b (y ∷ filter p ys) (filter p ys)) x → Contains (y ∷ ys) x × (p x ≡ true)
-  by true e k = elim (cases y (filter p ys) x k) [
+filter_cases {X} p (y ∷ ys) x h = by (p y) refl h (filter_cases p ys x) where
+  by : (b : Bool) → p y ≡ b → Contains (cond b (y ∷ filter p ys) (filter p ys)) x → (Contains (filter p ys) x → Contains ys x × (p x ≡ true)) → Contains (y ∷ ys) x × (p x ≡ true)
+  by true e k rest = elim (cases y (filter p ys) x k) [
     | inl is ↦ (subst (Contains (y ∷ ys)) is (at_head y ys), subst (λ z. p z ≡ true) is e)
-    | inr later ↦ let found = filter_cases p ys x later in (at_tail y ys x found.0, found.1)
+    | inr later ↦ let found = rest later in (at_tail y ys x found.0, found.1)
   ]
-  by false e k = let found = filter_cases p ys x k in (at_tail y ys x found.0, found.1)
+  by false e k rest = let found = rest k in (at_tail y ys x found.0, found.1)
 
 filter_there : {X : Type 0} (p : X → Bool) (xs : List X) (x : X) → Contains xs x → p x ≡ true → Contains (filter p xs) x
 filter_there p [] x h is = let less = h.1 in absurd (omega (arith, less))
-filter_there {X} p (y ∷ ys) x h is = by (p y) refl (cases y ys x h) where
-  by : (b : Bool) → p y ≡ b → (y ≡ x) ⊎ Contains ys x → Contains (cond b (y ∷ filter p ys) (filter p ys)) x
-  by true e (inl same) = subst (Contains (y ∷ filter p ys)) same (at_head y (filter p ys))
-  by true e (inr later) = at_tail y (filter p ys) x (filter_there p ys x later is)
-  by false e (inl same) = let yes : p y ≡ true = ap p same ∙ is in absurd cc
-  by false e (inr later) = filter_there p ys x later is
+filter_there {X} p (y ∷ ys) x h is = by (p y) refl (cases y ys x h) (λ later. filter_there p ys x later is) where
+  by : (b : Bool) → p y ≡ b → (y ≡ x) ⊎ Contains ys x → (Contains ys x → Contains (filter p ys) x) → Contains (cond b (y ∷ filter p ys) (filter p ys)) x
+  by true e (inl same) rest = subst (Contains (y ∷ filter p ys)) same (at_head y (filter p ys))
+  by true e (inr later) rest = at_tail y (filter p ys) x (rest later)
+  by false e (inl same) rest = let holds : p y ≡ true = ap p same ∙ is in absurd cc
+  by false e (inr later) rest = rest later
 
 -- ---- what a room tells
 
@@ -182,13 +183,13 @@ key_insert before now k path e = ap (list_any (λ key. bytes_eq (string_bytes ke
 -- ---- what stays
 
 pub tells_itself : (room : Room) (path : List ℕ) → TellsSame room room path
-tells_itself room path = record { heads = λ head. (λ h. h, λ h. h); why = refl; }
+tells_itself room path = record { heads = λ head. (λ h. h, λ h. h); why = refl }
 
 pub tells_both : (a b c : Room) (path : List ℕ) → TellsSame a b path → TellsSame b c path → TellsSame a c path
-tells_both a b c path one two = record { heads = λ head. (λ h. (two.heads head).0 ((one.heads head).0 h), λ h. (one.heads head).1 ((two.heads head).1 h)); why = one.why ∙ two.why; }
+tells_both a b c path one two = record { heads = λ head. (λ h. (two.heads head).0 ((one.heads head).0 h), λ h. (one.heads head).1 ((two.heads head).1 h)); why = one.why ∙ two.why }
 
 pub quiet_both : (a b : Room) (path : List ℕ) → IsQuiet a path → IsQuiet b path → TellsSame a b path
-quiet_both a b path one two = record { heads = λ head. (λ h. absurd (one.heads head h), λ h. absurd (two.heads head h)); why = one.why ∙ sym two.why; }
+quiet_both a b path one two = record { heads = λ head. (λ h. absurd (one.heads head h), λ h. absurd (two.heads head h)); why = one.why ∙ sym two.why }
 
 -- another source at a place leaves what is told
 at_set : (ts : List Text) (i : ℕ) (t : Text) (s : Prepared) (name : List ℕ) → slice_get ts i ≡ Some t → path_of (slice_set ts i (other_source t s)) name ≡ path_of ts name
@@ -210,16 +211,16 @@ in_set (u ∷ us) zero t s path d e h =
       by false f =
           let there : text_at (u ∷ us) path ≡ text_at us path = ap (λ (b : Bool). if b then Some u else text_at us path) (ap (λ (v : Text). bytes_eq (string_bytes v.path) path) (let is : u ≡ t = cc in is) ∙ f) in
           (h.0, ap (λ (b : Bool). if b then Some (other_source t s) else text_at us path) f ∙ sym there ∙ h.1, h.2)
-in_set (u ∷ us) (suc i) t s path d e h = by (bytes_eq (string_bytes u.path) path) refl where
-  by : (b : Bool) → bytes_eq (string_bytes u.path) path ≡ b → IsIn (u ∷ slice_set us i (other_source t s)) path d
-  by true f =
+in_set (u ∷ us) (suc i) t s path d e h = by (bytes_eq (string_bytes u.path) path) refl (in_set us i t s path d e) where
+  by : (b : Bool) → bytes_eq (string_bytes u.path) path ≡ b → (IsIn us path d → IsIn (slice_set us i (other_source t s)) path d) → IsIn (u ∷ slice_set us i (other_source t s)) path d
+  by true f more =
       let here : text_at (u ∷ us) path ≡ Some u = ap (λ (b : Bool). if b then Some u else text_at us path) f in
       let one : Some h.0 ≡ Some u = sym h.1 ∙ here in
       let is : h.0 ≡ u = cc in
       (u, ap (λ (b : Bool). if b then Some u else text_at (slice_set us i (other_source t s)) path) f, h.2 ∙ ap (λ (v : Text). v.name) is)
-  by false f =
+  by false f more =
       let there : text_at (u ∷ us) path ≡ text_at us path = ap (λ (b : Bool). if b then Some u else text_at us path) f in
-      let rest = in_set us i t s path d e (h.0, sym there ∙ h.1, h.2) in
+      let rest = more (h.0, sym there ∙ h.1, h.2) in
       (rest.0, ap (λ (b : Bool). if b then Some u else text_at (slice_set us i (other_source t s)) path) f ∙ rest.1, rest.2)
 
 in_back : (ts : List Text) (i : ℕ) (t : Text) (s : Prepared) (path : List ℕ) (d : Diag) → slice_get ts i ≡ Some t → IsIn (slice_set ts i (other_source t s)) path d → IsIn ts path d
@@ -240,16 +241,16 @@ in_back (u ∷ us) zero t s path d e h =
       by false f =
           let there : text_at (other_source t s ∷ us) path ≡ text_at us path = ap (λ (b : Bool). if b then Some (other_source t s) else text_at us path) f in
           (h.0, ap (λ (b : Bool). if b then Some u else text_at us path) (paths false f) ∙ sym there ∙ h.1, h.2)
-in_back (u ∷ us) (suc i) t s path d e h = by (bytes_eq (string_bytes u.path) path) refl where
-  by : (b : Bool) → bytes_eq (string_bytes u.path) path ≡ b → IsIn (u ∷ us) path d
-  by true f =
+in_back (u ∷ us) (suc i) t s path d e h = by (bytes_eq (string_bytes u.path) path) refl (in_back us i t s path d e) where
+  by : (b : Bool) → bytes_eq (string_bytes u.path) path ≡ b → (IsIn (slice_set us i (other_source t s)) path d → IsIn us path d) → IsIn (u ∷ us) path d
+  by true f more =
       let here : text_at (u ∷ slice_set us i (other_source t s)) path ≡ Some u = ap (λ (b : Bool). if b then Some u else text_at (slice_set us i (other_source t s)) path) f in
       let one : Some h.0 ≡ Some u = sym h.1 ∙ here in
       let is : h.0 ≡ u = cc in
       (u, ap (λ (b : Bool). if b then Some u else text_at us path) f, h.2 ∙ ap (λ (v : Text). v.name) is)
-  by false f =
+  by false f more =
       let there : text_at (u ∷ slice_set us i (other_source t s)) path ≡ text_at (slice_set us i (other_source t s)) path = ap (λ (b : Bool). if b then Some u else text_at (slice_set us i (other_source t s)) path) f in
-      let rest = in_back us i t s path d e (h.0, sym there ∙ h.1, h.2) in
+      let rest = more (h.0, sym there ∙ h.1, h.2) in
       (rest.0, ap (λ (b : Bool). if b then Some u else text_at us path) f ∙ rest.1, rest.2)
 
 pub told_set : (ts : List Text) (told : List Diag) (i : ℕ) (t : Text) (s : Prepared) (path : List ℕ) → slice_get ts i ≡ Some t → (head : Head) → Contains (heads_of ts told (text_at ts path)) head ↔ Contains (heads_of (slice_set ts i (other_source t s)) told (text_at (slice_set ts i (other_source t s)) path)) head
@@ -268,39 +269,49 @@ pub all_themselves : (rooms : List Room) (path : List ℕ) → AllAt rooms rooms
 all_themselves [] path = tt
 all_themselves (r ∷ rs) path = (tells_itself r path, all_themselves rs path)
 
-pub all_both : (as bs cs : List Room) (path : List ℕ) → AllAt as bs path → AllAt bs cs path → AllAt as cs path
+pub all_both : (xs ys zs : List Room) (path : List ℕ) → AllAt xs ys path → AllAt ys zs path → AllAt xs zs path
 all_both [] [] [] path one two = tt
-all_both [] [] (c ∷ cs) path one two = absurd two
-all_both [] (b ∷ bs) cs path one two = absurd one
-all_both (a ∷ as) [] cs path one two = absurd one
-all_both (a ∷ as) (b ∷ bs) [] path one two = absurd two
-all_both (a ∷ as) (b ∷ bs) (c ∷ cs) path one two = (tells_both a b c path one.0 two.0, all_both as bs cs path one.1 two.1)
+all_both [] [] (z ∷ zs) path one two = absurd two
+all_both [] (y ∷ ys) zs path one two = absurd one
+all_both (x ∷ xs) [] zs path one two = absurd one
+all_both (x ∷ xs) (y ∷ ys) [] path one two = absurd two
+all_both (x ∷ xs) (y ∷ ys) (z ∷ zs) path one two = (tells_both x y z path one.0 two.0, all_both xs ys zs path one.1 two.1)
 
 pub all_set : (rooms : List Room) (i : ℕ) (r n : Room) (path : List ℕ) → slice_get rooms i ≡ Some r → TellsSame r n path → AllAt rooms (slice_set rooms i n) path
 all_set [] i r n path e same = absurd cc
 all_set (x ∷ xs) zero r n path e same = let is : x ≡ r = cc in (subst (λ (y : Room). TellsSame y n path) (sym is) same, all_themselves xs path)
 all_set (x ∷ xs) (suc i) r n path e same = (tells_itself x path, all_set xs i r n path e same)
 
+at_next : (b n : Room) (bs ns : List Room) (path : List ℕ) → TellsSame b n path → TellsAt bs ns path → TellsAt (b ∷ bs) (n ∷ ns) path
+at_next b n bs ns path one rest = record {
+  heads = λ head. (there head, back head);
+  why = ap (λ (o : Option Why). first_of o (why_of bs path)) one.why ∙ ap (first_of (refusal_at n.refusals.items path)) rest.why;
+} where
+  there : (head : Head) → IsTold (b ∷ bs) path head → IsTold (n ∷ ns) path head
+  there head (inl h) = inl ((one.heads head).0 h)
+  there head (inr h) = inr ((rest.heads head).0 h)
+
+  back : (head : Head) → IsTold (n ∷ ns) path head → IsTold (b ∷ bs) path head
+  back head (inl h) = inl ((one.heads head).1 h)
+  back head (inr h) = inr ((rest.heads head).1 h)
+
+at_skip : (r : Room) (rs ns : List Room) (path : List ℕ) → IsQuiet r path → TellsAt rs ns path → TellsAt (r ∷ rs) ns path
+at_skip r rs ns path quiet rest = record {
+  heads = λ head. (there head, λ h. inr ((rest.heads head).1 h));
+  why = ap (λ (o : Option Why). first_of o (why_of rs path)) quiet.why ∙ rest.why;
+} where
+  there : (head : Head) → IsTold (r ∷ rs) path head → IsTold ns path head
+  there head (inl h) = absurd (quiet.heads head h)
+  there head (inr h) = (rest.heads head).0 h
+
 pub all_at : (before now : List Room) (path : List ℕ) → AllAt before now path → TellsAt before now path
-all_at [] [] path same = record { heads = λ head. (λ h. h, λ h. h); why = refl; }
+all_at [] [] path same = record { heads = λ head. (λ h. h, λ h. h); why = refl }
 all_at [] (n ∷ ns) path same = absurd same
 all_at (b ∷ bs) [] path same = absurd same
-all_at (b ∷ bs) (n ∷ ns) path same =
-    let rest = all_at bs ns path same.1 in
-    record {
-      heads = λ head. (there head, back head);
-      why = ap (λ (o : Option Why). first_of o (why_of bs path)) same.0.why ∙ ap (first_of (refusal_at n.refusals.items path)) rest.why;
-    } where
-      there : (head : Head) → IsTold (b ∷ bs) path head → IsTold (n ∷ ns) path head
-      there head (inl h) = inl ((same.0.heads head).0 h)
-      there head (inr h) = inr (((all_at bs ns path same.1).heads head).0 h)
+all_at (b ∷ bs) (n ∷ ns) path same = at_next b n bs ns path same.0 (all_at bs ns path same.1)
 
-      back : (head : Head) → IsTold (n ∷ ns) path head → IsTold (b ∷ bs) path head
-      back head (inl h) = inl ((same.0.heads head).1 h)
-      back head (inr h) = inr (((all_at bs ns path same.1).heads head).1 h)
-
-pub at_both : (as bs cs : List Room) (path : List ℕ) → TellsAt as bs path → TellsAt bs cs path → TellsAt as cs path
-at_both as bs cs path one two = record { heads = λ head. (λ h. (two.heads head).0 ((one.heads head).0 h), λ h. (one.heads head).1 ((two.heads head).1 h)); why = one.why ∙ two.why; }
+pub at_both : (xs ys zs : List Room) (path : List ℕ) → TellsAt xs ys path → TellsAt ys zs path → TellsAt xs zs path
+at_both xs ys zs path one two = record { heads = λ head. (λ h. (two.heads head).0 ((one.heads head).0 h), λ h. (one.heads head).1 ((two.heads head).1 h)); why = one.why ∙ two.why }
 
 -- one more that tells nothing
 pub more_quiet : (rooms : List Room) (room : Room) (path : List ℕ) → IsQuiet room path → TellsAt rooms (rooms ++ room ∷ []) path
@@ -311,19 +322,7 @@ more_quiet [] room path quiet = record {
   back : (head : Head) → IsTold (room ∷ []) path head → IsTold [] path head
   back head (inl h) = absurd (quiet.heads head h)
   back head (inr h) = h
-more_quiet (r ∷ rs) room path quiet =
-    let rest = more_quiet rs room path quiet in
-    record {
-      heads = λ head. (there head, back head);
-      why = ap (first_of (refusal_at r.refusals.items path)) rest.why;
-    } where
-      there : (head : Head) → IsTold (r ∷ rs) path head → IsTold (r ∷ rs ++ room ∷ []) path head
-      there head (inl h) = inl h
-      there head (inr h) = inr (((more_quiet rs room path quiet).heads head).0 h)
-
-      back : (head : Head) → IsTold (r ∷ rs ++ room ∷ []) path head → IsTold (r ∷ rs) path head
-      back head (inl h) = inl h
-      back head (inr h) = inr (((more_quiet rs room path quiet).heads head).1 h)
+more_quiet (r ∷ rs) room path quiet = at_next r r rs (rs ++ room ∷ []) path (tells_itself r path) (more_quiet rs room path quiet)
 
 -- a room without files tells nothing
 vacant_quiet : (room : Room) (path : List ℕ) → is_vacant room ≡ true → IsQuiet room path
@@ -336,31 +335,100 @@ vacant_quiet room path vacant = by room.texts.items refl room.refusals.items ref
   by [] e (r ∷ rs) f h = absurd (let no : (length (r ∷ rs) == 0) ≡ false = grind arith in cc)
   by (t ∷ ts) e rs f h = absurd (let no : (length (t ∷ ts) == 0) ≡ false = grind arith in cc)
 
-pub filter_same : (rooms : List Room) → TellSame rooms (filter (λ room. not (is_vacant room)) rooms)
-filter_same [] path = record { heads = λ head. (λ h. h, λ h. h); why = refl; }
-filter_same (r ∷ rs) path = by (is_vacant r) refl where
+pub without_vacant : (rooms : List Room) → TellSame rooms (filter (λ room. not (is_vacant room)) rooms)
+without_vacant [] path = record { heads = λ head. (λ h. h, λ h. h); why = refl }
+without_vacant (r ∷ rs) path = by (is_vacant r) refl (without_vacant rs path) where
   left : List Room
   left = filter (λ room. not (is_vacant room)) rs
 
-  rest : TellsAt rs left path
-  rest = filter_same rs path
+  by : (b : Bool) → is_vacant r ≡ b → TellsAt rs left path → TellsAt (r ∷ rs) (cond (not b) (r ∷ left) left) path
+  by true e rest = at_skip r rs left path (vacant_quiet r path e) rest
+  by false e rest = at_next r r rs left path (tells_itself r path) rest
 
-  by : (b : Bool) → is_vacant r ≡ b → TellsAt (r ∷ rs) (cond (not b) (r ∷ left) left) path
-  by true e = record {
-    heads = λ head. (there head, λ h. inr ((rest.heads head).1 h));
-    why = ap (λ (o : Option Why). first_of o (why_of rs path)) (vacant_quiet r path e).why ∙ rest.why;
-  } where
-    there : (head : Head) → IsTold (r ∷ rs) path head → IsTold left path head
-    there head (inl h) = absurd ((vacant_quiet r path e).heads head h)
-    there head (inr h) = (rest.heads head).0 h
-  by false e = record {
-    heads = λ head. (there head, back head);
-    why = ap (first_of (refusal_at r.refusals.items path)) rest.why;
-  } where
-    there : (head : Head) → IsTold (r ∷ rs) path head → IsTold (r ∷ left) path head
-    there head (inl h) = inl h
-    there head (inr h) = inr ((rest.heads head).0 h)
+-- ---- paths that grow
 
-    back : (head : Head) → IsTold (r ∷ left) path head → IsTold (r ∷ rs) path head
-    back head (inl h) = inl h
-    back head (inr h) = inr ((rest.heads head).1 h)
+pub grows_back : (before now : BTreeSet (String Global)) (path : List ℕ) → Grows before now → has_key now path ≡ false → has_key before path ≡ false
+grows_back before now path grows none = by (has_key before path) refl where
+  by : (b : Bool) → has_key before path ≡ b → b ≡ false
+  by true e = let some : has_key now path ≡ true = grows path e in absurd cc
+  by false e = refl
+
+pub but_next : (before now : BTreeSet (String Global)) (xs ys zs : List Room) → Grows before now → AllTellBut before xs ys → AllTellBut now ys zs → AllTellBut now xs zs
+but_next before now xs ys zs grows one two path none = all_both xs ys zs path (one path (grows_back before now path grows none)) (two path none)
+
+-- a path that is there covers the diagnostics of its file
+pub covered : (texts : List Text) (paths : BTreeSet (String Global)) (d : Diag) (path : List ℕ) → are_apart texts ≡ true → HasFile texts paths d.file → has_key paths path ≡ false → IsIn texts path d → ⊥
+covered texts paths d path apart has none at =
+    let t : Text = at.0 in
+    let named : text_named texts d.file ≡ Some t = ap (text_named texts) at.2 ∙ at_name texts path t apart at.1 in
+    let there : has_key paths (string_bytes t.path) ≡ true = subst (λ (o : Option Text). IfSome o (λ t. has_key paths (string_bytes t.path) ≡ true)) named has in
+    let some : has_key paths path ≡ true = ap (has_key paths) (sym (at_path texts path t at.1)) ∙ there in
+    absurd cc
+
+pub next_in : (texts : List Text) (path : List ℕ) (others : List Diag) (d : Diag) (ds : List Diag) → (IsIn texts path d → Contains others d) → ((x : Diag) → Contains ds x → IsIn texts path x → Contains others x) → (x : Diag) → Contains (d ∷ ds) x → IsIn texts path x → Contains others x
+next_in texts path others d ds here later x h at = elim (cases d ds x h) [
+  | inl is ↦ subst (Contains others) is (here (subst (IsIn texts path) (sym is) at))
+  | inr there ↦ later x there at
+]
+
+pub keeps_file : (texts : List Text) (last : Option (List ℕ)) (before now : BTreeSet (String Global)) → Grows before now → IfSome last (HasFile texts before) → IfSome last (HasFile texts now)
+keeps_file texts None before now grows has = tt
+keeps_file texts (Some name) before now grows has = by (text_named texts name) has where
+  by : (o : Option Text) → IfSome o (λ t. has_key before (string_bytes t.path) ≡ true) → IfSome o (λ t. has_key now (string_bytes t.path) ≡ true)
+  by None h = tt
+  by (Some t) h = grows (string_bytes t.path) h
+
+pub past_none : (texts : List Text) (path : List ℕ) (others ds : List Diag) (i : ℕ) → length ds ≤ i → (x : Diag) → Contains (drop i ds) x → IsIn texts path x → Contains others x
+past_none texts path others ds i past x h at = absurd (none ds i past h) where
+  none : (es : List Diag) (k : ℕ) → length es ≤ k → Contains (drop k es) x → ⊥
+  none [] zero p g = let less = g.1 in omega (arith, less)
+  none [] (suc k) p g = let less = g.1 in omega (arith, less)
+  none (e ∷ es) zero p g = omega (arith, p)
+  none (e ∷ es) (suc k) p g = none es k (omega (arith, p)) g
+
+-- ---- what is published
+
+pub published_keys : (all : List Published) (path : List ℕ) → is_published all path ≡ list_any (λ p. bytes_eq p path) (map (λ p. string_bytes p.path) all)
+published_keys [] path = refl
+published_keys (p ∷ ps) path = ap (λ (b : Bool). bytes_eq (string_bytes p.path) path || b) (published_keys ps path)
+
+keys_paths : (ks : List (String Global)) (path : List ℕ) → list_any (λ key. bytes_eq (string_bytes key) path) ks ≡ list_any (λ p. bytes_eq p path) (map string_bytes ks)
+keys_paths [] path = refl
+keys_paths (k ∷ ks) path = ap (λ (b : Bool). bytes_eq (string_bytes k) path || b) (keys_paths ks path)
+
+pub published_as : (all : List Published) (paths : BTreeSet (String Global)) (path : List ℕ) → map (λ p. string_bytes p.path) all ≡ map string_bytes paths.keys → is_published all path ≡ has_key paths path
+published_as all paths path e = published_keys all path ∙ ap (list_any (λ p. bytes_eq p path)) e ∙ sym (keys_paths paths.keys path)
+
+-- one more path
+pub grows_insert : (before now : BTreeSet (String Global)) (k : String Global) → now.keys ≡ insert_key (λ a b. slice_cmp nat_cmp (string_bytes a) (string_bytes b)) before.keys k → Grows before now
+grows_insert before now k e path has = key_insert before now k path e ∙ ap (λ (b : Bool). bytes_eq (string_bytes k) path || b) has ∙ or_true (bytes_eq (string_bytes k) path)
+
+pub has_insert : (before now : BTreeSet (String Global)) (k : String Global) → now.keys ≡ insert_key (λ a b. slice_cmp nat_cmp (string_bytes a) (string_bytes b)) before.keys k → has_key now (string_bytes k) ≡ true
+has_insert before now k e = key_insert before now k (string_bytes k) e ∙ ap (λ (b : Bool). b || has_key before (string_bytes k)) (is_itself (string_bytes k))
+
+pub grows_itself : (paths : BTreeSet (String Global)) → Grows paths paths
+grows_itself paths path has = has
+
+pub grows_both : (a b c : BTreeSet (String Global)) → Grows a b → Grows b c → Grows a c
+grows_both a b c one two path has = two path (one path has)
+
+-- a path that is not there is not that of the next refusal
+pub next_refused : (r : Refusal) (rs : List Refusal) (before now : BTreeSet (String Global)) (k : String Global) (path : List ℕ) → string_bytes k ≡ string_bytes r.path → now.keys ≡ insert_key (λ a b. slice_cmp nat_cmp (string_bytes a) (string_bytes b)) before.keys k → has_key now path ≡ false → refusal_at rs path ≡ None → refusal_at (r ∷ rs) path ≡ None
+next_refused r rs before now k path same e none rest = by (bytes_eq (string_bytes r.path) path) refl where
+  by : (b : Bool) → bytes_eq (string_bytes r.path) path ≡ b → (if b then Some r.why else refusal_at rs path) ≡ None
+  by true h =
+      let is : string_bytes k ≡ path = same ∙ same_bytes (string_bytes r.path) path h in
+      let some : has_key now path ≡ true = ap (has_key now) (sym is) ∙ has_insert before now k e in
+      absurd cc
+  by false h = rest
+
+map_end : (ps : List Published) (p : Published) (xs : List (List ℕ)) → map (λ q. string_bytes q.path) (ps ++ p ∷ []) ++ xs ≡ map (λ q. string_bytes q.path) ps ++ string_bytes p.path ∷ xs
+map_end [] p xs = refl
+map_end (q ∷ qs) p xs = ap (λ (ys : List (List ℕ)). string_bytes q.path ∷ ys) (map_end qs p xs)
+
+pub paths_more : (ps qs : List Published) (p : Published) (k : String Global) (ks left : List (String Global)) → qs ≡ ps ++ p ∷ [] → ks ≡ k ∷ left → string_bytes p.path ≡ string_bytes k → map (λ q. string_bytes q.path) qs ++ map string_bytes left ≡ map (λ q. string_bytes q.path) ps ++ map string_bytes ks
+paths_more ps qs p k ks left more next path =
+    ap (λ (xs : List Published). map (λ q. string_bytes q.path) xs ++ map string_bytes left) more
+    ∙ map_end ps p (map string_bytes left)
+    ∙ ap (λ (x : List ℕ). map (λ q. string_bytes q.path) ps ++ x ∷ map string_bytes left) path
+    ∙ ap (λ (xs : List (String Global)). map (λ q. string_bytes q.path) ps ++ map string_bytes xs) (sym next)

@@ -10,7 +10,7 @@ ghost use Rattle.std.specs.Str.{bytes_eq};
 ghost use Rattle.std.specs.String.{string_bytes};
 ghost use Rattle.occ_editor_edits.specs.declared.documents.Document.{Document as ADocument};
 ghost use Rattle.occ_editor.specs.inside.Placed.{AreAsked, AreFound, HasAt, place_at};
-ghost use Rattle.occ_editor.specs.inside.Shown.{Grows, IsIn, IsQuiet, TellsSame, has_key, text_named};
+ghost use Rattle.occ_editor.specs.inside.Shown.{Grows, HasFile, IsIn, IsQuiet, TellsSame, has_key, text_named};
 ghost use Rattle.occ_files.specs.declared.gathering.Text.{Text as AText};
 ghost use Rattle.std.specs.List.{Contains, slice_get};
 ghost use Rattle.std.specs.Option.{option_copied};
@@ -272,7 +272,8 @@ impl Room {
         ensures added { OnOk result (are_apart self.now.texts.items ≡ true → (path : List ℕ) → has_key paths.new path ≡ false → IsQuiet self.now path) }
     {
         self.add_refused(alloc, paths)?;
-        self.add_paths(alloc, self.told.as_slice(), &[], paths)
+        self.add_paths(alloc, self.told.as_slice(), &[], paths)?;
+        Ok(())
     }
 
     /// Adds the paths that are refused.
@@ -299,12 +300,36 @@ impl Room {
     {
         let mut last = None;
         for diag in diags {
-            if last != Some(diag.file) && others.binary_search(diag).is_err() {
-                last = Some(diag.file);
-                self.add_path(alloc, diag.file, paths)?;
-            }
+            last = self.add_missing(alloc, diag, others, last, paths)?;
         }
         Ok(())
+    }
+
+    /// Adds the path of the file of a diagnostic, unless it was the last that was added, or the others have the diagnostic. Gives
+    /// the last file that was added.
+    fn add_missing(
+        &self,
+        alloc: Global,
+        diag: &Diag,
+        others: &[Diag],
+        last: Option<FileName>,
+        paths: &mut BTreeSet<String>,
+    ) -> Result<Option<FileName>, AllocError>
+        requires { IfSome last (HasFile self.now.texts.items paths.old) }
+        ensures last { IfOk result (λ last. IfSome last (HasFile self.now.texts.items paths.new)) }
+        ensures grows { OnOk result (Grows paths.old paths.new) }
+        ensures added { OnOk result (are_apart self.now.texts.items ≡ true → (path : List ℕ) → has_key paths.new path ≡ false → IsIn self.now.texts.items path diag.now → Contains others.now diag.now) }
+    {
+        if let Some(name) = last
+            && name == diag.file
+        {
+            return Ok(last);
+        }
+        if has_diag(others, diag) {
+            return Ok(last);
+        }
+        self.add_path(alloc, diag.file, paths)?;
+        Ok(Some(diag.file))
     }
 
     /// Adds the path of a file, if it is there.
@@ -315,7 +340,7 @@ impl Room {
         paths: &mut BTreeSet<String>,
     ) -> Result<(), AllocError>
         ensures grows { OnOk result (Grows paths.old paths.new) }
-        ensures added { OnOk result (IfSome (text_named self.now.texts.items name) (λ text. has_key paths.new (string_bytes text.path) ≡ true)) }
+        ensures added { OnOk result (HasFile self.now.texts.items paths.new name) }
     {
         if let Some(text) = self.text_named(name) {
             paths.insert(String::from_str(alloc, text.path.as_str())?)?;
@@ -346,11 +371,9 @@ impl Room {
         ensures added { OnOk result (are_apart self.now.texts.items ≡ true → (path : List ℕ) → has_key paths.new path ≡ false → (diag : ADiag) → IsIn self.now.texts.items path diag → Contains before.now diag ↔ Contains self.now.told diag) }
     {
         let now = self.told.as_slice();
-        if before == now {
-            return Ok(());
-        }
         self.add_paths(alloc, before, now, paths)?;
-        self.add_paths(alloc, now, before, paths)
+        self.add_paths(alloc, now, before, paths)?;
+        Ok(())
     }
 
     /// Why the file at a path is not checked, if so it is.
@@ -416,6 +439,13 @@ fn of_file(diags: &[Diag], name: FileName) -> &[Diag] {
     let from = diags.partition_point(|diag| diag.file < name);
     let to = diags.partition_point(|diag| diag.file <= name);
     diags.get(from..to).unwrap_or(&[])
+}
+
+/// Whether a diagnostic is among those that stand in order.
+fn has_diag(diags: &[Diag], diag: &Diag) -> bool
+    ensures { IsTrue result → Contains diags.now diag.now }
+{
+    diags.binary_search(diag).is_ok()
 }
 
 /// Whether a file is a unit, by its name.

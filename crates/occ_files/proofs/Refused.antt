@@ -12,10 +12,10 @@ use Rattle.occ_files.specs.declared.refusal.Why.{Why}
 use Rattle.occ_files.specs.declared.refusal.Why.TheVariants as why
 
 -- more files of which one is another one, if one was
-abbrev Grows : List Text → List Text → Type 0
+abbrev pub Grows : List Text → List Text → Type 0
 Grows texts more = (length texts ≤ length more) × ((path : List ℕ) → has_other texts path ≡ true → has_other more path ≡ true)
 
-right_grows : (held : Held) (texts more : List Text) (path : List ℕ) (w : Why) → Grows texts more → IsRight held texts path w → IsRight held more path w
+pub right_grows : (held : Held) (texts more : List Text) (path : List ℕ) (w : Why) → Grows texts more → IsRight held texts path w → IsRight held more path w
 right_grows held texts more path why.NotThere grows is = is
 right_grows held texts more path why.NoUnit grows is = is
 right_grows held texts more path (why.Disk kind) grows is = is

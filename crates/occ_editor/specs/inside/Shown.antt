@@ -1,5 +1,5 @@
 -- Of which files a room tells something else than before.
-use Rattle.std.specs.Prelude.{◌≡◌, ◌↔◌, ℕ, Bool, true, false, List, [], ◌∷◌, Option, Some, None, String, if◌then◌else◌}
+use Rattle.std.specs.Prelude.{◌≡◌, ◌↔◌, ℕ, Bool, true, false, List, [], ◌∷◌, IfSome, Option, Some, None, String, if◌then◌else◌}
 use Rattle.std.specs.BTreeSet.{BTreeSet}
 use Rattle.std.specs.List.{Contains, list_any}
 use Rattle.std.specs.Str.{bytes_eq}
@@ -23,6 +23,10 @@ Grows before now = (path : List ℕ) → has_key before path ≡ true → has_ke
 abbrev pub text_named : List Text → List ℕ → Option Text
 text_named [] name = None
 text_named (text ∷ texts) name = if bytes_eq text.name name then Some text else text_named texts name
+
+-- the path of the file of a name is one of these, if there is one
+abbrev pub HasFile : List Text → BTreeSet (String Global) → List ℕ → Type 0
+HasFile texts paths name = IfSome (text_named texts name) (λ text. has_key paths (string_bytes text.path) ≡ true)
 
 -- the diagnostic is in the file at a path
 abbrev pub IsIn : List Text → List ℕ → Diag → Type 0
