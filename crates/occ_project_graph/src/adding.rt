@@ -85,13 +85,13 @@ pub fn source_rows(
     ensures { IfOk result (λ rows. AreSourceRows indices.now sources.now at number nodes.now nodes.now rows) }
 {
     let is_once = do_rise(indices, nodes);
-    let mut rows = Items::new(alloc);
+    let mut rows = Vec::with_capacity(alloc, nodes.len())?;
     for node in nodes {
         let times = count_of(nodes, *node, is_once);
         let before = row(sources, *node);
         rows.push(source_row(alloc, indices, before, at, number, times)?)?;
     }
-    Ok(rows)
+    Ok(Items::from_vec(rows))
 }
 
 /// Replaces the row at the index that stands among these.
