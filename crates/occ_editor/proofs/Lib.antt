@@ -2,6 +2,9 @@ pub mod Brought
 pub mod Heads
 pub mod Placed
 pub mod Replayed
+pub mod Right
 pub mod Rooms
+pub mod Same
 pub mod Settled
+pub mod Shown
 pub mod Wanted

@@ -50,7 +50,7 @@ where_true (false ∷ bs) (x ∷ xs) k r e = let rest = where_true bs xs k r e i
 
 -- one whose files have to be found again
 pub loose : (documents : List Document) (room : Room) → Stands documents room → Stands documents (record { folder = room.folder; board = room.board; texts = room.texts; refusals = room.refusals; told = room.told; is_loose = true; is_changed = room.is_changed })
-loose documents room stands = record { apart = stands.apart; has = stands.has; opened = λ (no : true ≡ false). absurd cc; met = λ (no : true ≡ false). absurd cc; told = λ (no : true ≡ false) same. absurd cc }
+loose documents room stands = record { apart = stands.apart; named = stands.named; has = stands.has; opened = λ (no : true ≡ false). absurd cc; right = λ (no : true ≡ false). absurd cc; met = λ (no : true ≡ false). absurd cc; told = λ (no : true ≡ false) same. absurd cc }
 
 -- ---- rooms that follow
 

@@ -6,6 +6,8 @@ use Rattle.std.specs.List.{All, filter, list_any, slice_get}
 use Rattle.std.specs.Str.{bytes_eq}
 use Rattle.std.specs.String.{string_bytes}
 use Rattle.occ_editor.proofs.Placed.{other_source, source_named}
+use Rattle.occ_editor.proofs.Right.{name_at, reason}
+use Rattle.occ_editor.proofs.Shown.{at_path}
 use Rattle.occ_editor.specs.Publishing.{text_at}
 use Rattle.occ_editor.specs.Rooms.{AllSettled, HaveRooms, IsServed, IsSettled, MeetsOpen, has_folder, is_of, is_unit, is_vacant, source_at}
 use Rattle.occ_editor.specs.declared.room.Room.{Room}
@@ -14,7 +16,7 @@ use Rattle.occ_editor.specs.inside.Placed.{AreAsked, wanted}
 use Rattle.occ_editor_edits.specs.Documents.{ChangesAt, text_in}
 use Rattle.occ_editor_edits.specs.declared.documents.Document.{Document}
 use Rattle.occ_files.specs.Gathering.{has_path, is_met, is_refused}
-use Rattle.occ_files.specs.Paths.{folder_of}
+use Rattle.occ_files.specs.Paths.{folder_of, name_of}
 use Rattle.occ_files.specs.declared.gathering.Text.{Text}
 use Rattle.occ_files.specs.declared.refusal.Refusal.{Refusal}
 use Rattle.occ_forms.specs.Prepared.{Prepared}
@@ -193,8 +195,11 @@ served documents room path bytes settled e of = by (has_path room.texts.items pa
   by true h met =
       let at = text_there room.texts.items path h in
       let t = at.1 in
-      inl (t, at.3, settled.stands.has t.name ∙ source_named room.texts.items at.0 t at.2 settled.stands.apart, settled.stands.opened settled.found path bytes t.source e at.4)
-  by false h met = inr met
+      let named : t.name ≡ name_of path = name_at room.texts.items at.0 t at.2 settled.stands.named ∙ ap name_of (at_path room.texts.items path t at.3) in
+      inl (t, at.3, named, settled.stands.has t.name ∙ source_named room.texts.items at.0 t at.2 settled.stands.apart, settled.stands.opened settled.found path bytes t.source e at.4)
+  by false h met =
+      let why = reason room.refusals.items path met in
+      inr (why.0, why.1, settled.stands.right settled.found path bytes why.0 e why.1)
 
 -- each open unit is on the board of its folder
 pub all_served : (documents : List Document) (rooms : List Room) → AllSettled documents rooms → HaveRooms documents rooms → (path bytes : List ℕ) → text_in documents path ≡ Some bytes → is_unit path ≡ true

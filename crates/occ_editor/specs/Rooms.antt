@@ -6,12 +6,14 @@ use Rattle.std.specs.String.{string_bytes}
 use Rattle.occ_board.specs.Machine.{State, files_of}
 use Rattle.occ_editor_edits.specs.Documents.{text_in}
 use Rattle.occ_editor.specs.Placing.{source_on, told_of}
-use Rattle.occ_editor.specs.Publishing.{text_at}
+use Rattle.occ_editor.specs.Publishing.{refusal_at, text_at}
 use Rattle.occ_editor_edits.specs.declared.documents.Document.{Document}
 use Rattle.occ_editor.specs.declared.room.Room.{Room}
-use Rattle.occ_files.specs.Gathering.{are_apart, is_met, is_refused}
-use Rattle.occ_files.specs.Paths.{Known, folder_of}
+use Rattle.occ_files.specs.Gathering.{AreNamed, are_apart, is_met}
+use Rattle.occ_files.specs.Paths.{Known, folder_of, name_of}
+use Rattle.occ_files.specs.Refusals.{IsRight}
 use Rattle.occ_files.specs.declared.gathering.Text.{Text}
+use Rattle.occ_files.specs.declared.refusal.Why.{Why}
 use Rattle.occ_forms.specs.Prepared.{Prepared}
 
 -- the text of the file of that name
@@ -44,14 +46,20 @@ is_of room path = is_unit path && bytes_eq (string_bytes room.folder) (folder_of
 abbrev pub MeetsOpen : List Document → Room → Type 0
 MeetsOpen documents room = (path bytes : List ℕ) → text_in documents path ≡ Some bytes → is_of room path ≡ true → is_met room.texts.items room.refusals.items path ≡ true
 
+-- of an open file that is not checked, the reason is right
+abbrev pub RefusesRightly : List Document → Room → Type 0
+RefusesRightly documents room = (path bytes : List ℕ) (why : Why) → text_in documents path ≡ Some bytes → refusal_at room.refusals.items path ≡ Some why → IsRight (Some (Some bytes)) room.texts.items path why
+
 -- the board of a room has its files, of which no two have one name. If they need not be found again, open files have their
--- texts there, open units of the folder are among them, and if none of them has changed since, what was told last is what the
--- rules give for them
+-- texts there, open units of the folder are among them or rightly refused, and if none of them has changed since, what was told
+-- last is what the rules give for them
 pub record Stands (documents : List Document) (room : Room) : Type 0 where
   pub apart : are_apart room.texts.items ≡ true
+  pub named : AreNamed room.texts.items
   pub has : HasTexts room.board room.texts.items
   pub opened : room.is_loose ≡ false → AreOpen documents room.texts.items
   pub met : room.is_loose ≡ false → MeetsOpen documents room
+  pub right : room.is_loose ≡ false → RefusesRightly documents room
   pub told : room.is_loose ≡ false → room.is_changed ≡ false → room.told ≡ told_of (files_of room.board)
 
 -- so it is up to date
@@ -92,8 +100,8 @@ HaveOthers path documents rooms = (other bytes : List ℕ) → text_in documents
 abbrev pub is_vacant : Room → Bool
 is_vacant room = (length room.texts.items == 0) && (length room.refusals.items == 0)
 
--- the board of a room has the file at a path with these bytes, or it is told why not
+-- the board of a room has the file at a path by its name with these bytes; or it is told why not, and that is right
 abbrev pub IsServed : Room → List ℕ → List ℕ → Type 0
 IsServed room path bytes =
-    ((text : Text) × (text_at room.texts.items path ≡ Some text) × (source_on room.board text.name ≡ Some text.source) × (text.source.text ≡ bytes))
-    ⊎ (is_refused room.refusals.items path ≡ true)
+    ((text : Text) × (text_at room.texts.items path ≡ Some text) × (text.name ≡ name_of path) × (source_on room.board text.name ≡ Some text.source) × (text.source.text ≡ bytes))
+    ⊎ ((why : Why) × (refusal_at room.refusals.items path ≡ Some why) × IsRight (Some (Some bytes)) room.texts.items path why)

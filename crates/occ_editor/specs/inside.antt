@@ -2,3 +2,4 @@
 pub mod Bringing
 pub mod Followed
 pub mod Placed
+pub mod Shown

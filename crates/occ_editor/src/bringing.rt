@@ -2,8 +2,10 @@
 ghost use Rattle.occ_editor.specs.Placing.{source_on};
 ghost use Rattle.occ_editor.specs.Rooms.{HasTexts, source_in};
 ghost use Rattle.occ_editor.specs.inside.Bringing.{AreShared, HasKept, has_same, shared_by};
-ghost use Rattle.occ_files.specs.Gathering.{AreGiven, are_apart};
+ghost use Rattle.occ_files.specs.Gathering.{AreGiven, AreNamed, are_apart};
 ghost use Rattle.occ_files.specs.Paths.{Known};
+ghost use Rattle.occ_files.specs.Refusals.{Held, IsRight};
+ghost use Rattle.occ_files.specs.declared.refusal.Why.{Why as AWhy};
 ghost use Rattle.occ_files.specs.declared.gathering.Text.{Text as AText};
 ghost use Rattle.std.specs.List.{slice_get};
 ghost use Rattle.occ_project.specs.Reads.{name_cmp};
@@ -37,6 +39,8 @@ pub fn brought(
     ensures apart { IfOk result (λ made. are_apart made.items ≡ true) }
     ensures paths { IfOk result (λ made. map (λ text. string_bytes text.path) made.items ≡ map (λ text. string_bytes text.path) texts.items) }
     ensures given { IfOk result (λ made. (known : Known) → AreGiven known texts.items → AreGiven known made.items) }
+    ensures named { IfOk result (λ made. AreNamed texts.items → AreNamed made.items) }
+    ensures right { IfOk result (λ made. (held : Held) (path : List ℕ) (why : AWhy) → IsRight held texts.items path why → IsRight held made.items path why) }
 {
     let before = by_name(alloc, olds)?;
     let news = by_name(alloc, texts.as_slice())?;

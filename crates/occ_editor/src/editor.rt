@@ -9,7 +9,8 @@ ghost use Rattle.occ_editor.specs.inside.Placed.{AreAsked};
 ghost use Rattle.occ_editor_edits.specs.Messages.{said};
 ghost use Rattle.occ_editor_edits.specs.Texts.{after_saying};
 ghost use Rattle.std.specs.String.{string_bytes};
-ghost use Rattle.occ_editor.specs.Publishing.{IsPublished};
+ghost use Rattle.occ_editor.specs.Publishing.{AreWhole, IsPublished, TellSame, why_of};
+ghost use Rattle.occ_editor.specs.inside.Shown.{AllTellBut, AllTellSame, Grows, TellsSame};
 ghost use Rattle.occ_messages.specs.Located.{Head, head_of};
 ghost use Rattle.std.specs.List.{All, Contains, filter};
 ghost use Rattle.std.specs.Prelude.{◌≡◌, ◌⊎◌, ◌↔◌, ◌+◌, [], IfOk, IsTrue, List, OnOk, length, map, not, option_map, ℕ};
@@ -63,6 +64,7 @@ impl Editor {
         ensures documents { OnOk result (IsAfter self.old.documents.all.items note self.new.documents.all.items) }
         ensures texts { OnOk result ((path : List ℕ) → text_in self.new.documents.all.items path ≡ after_saying (text_in self.old.documents.all.items) (said note) path) }
         ensures boards { OnOk result (IsStanding self.old → IsStanding self.new) }
+        ensures told { OnOk result (TellSame self.old.rooms.items self.new.rooms.items) }
     {
         let path = String::from_str(alloc, note.path())?;
         let is_change = matches!(&note, Note::Changed(_, _));
@@ -78,6 +80,7 @@ impl Editor {
         ensures documents { self.new.documents ≡ self.old.documents }
         ensures folders { OnOk result (map (λ room. string_bytes room.folder) self.new.rooms.items ≡ map (λ room. string_bytes room.folder) self.old.rooms.items) }
         ensures boards { OnOk result ((before : List ADocument) → ChangesAt before self.old.documents.all.items path.now (text_in self.old.documents.all.items path.now) → AllStand before self.old.rooms.items → AllStand self.old.documents.all.items self.new.rooms.items) }
+        ensures told { OnOk result (AllTellSame self.old.rooms.items self.new.rooms.items) }
     {
         for index in 0..self.rooms.len() {
             self.tell(alloc, index, path, is_change)?;
@@ -97,6 +100,7 @@ impl Editor {
         ensures folders { OnOk result (map (λ room. string_bytes room.folder) self.new.rooms.items ≡ map (λ room. string_bytes room.folder) self.old.rooms.items) }
         ensures count { length self.new.rooms.items ≡ length self.old.rooms.items }
         ensures boards { OnOk result ((before : List ADocument) → ChangesAt before self.old.documents.all.items path.now (text_in self.old.documents.all.items path.now) → HaveFollowed before self.old.documents.all.items index self.old.rooms.items → HaveFollowed before self.old.documents.all.items (index + 1) self.new.rooms.items) }
+        ensures told { OnOk result (AllTellSame self.old.rooms.items self.new.rooms.items) }
     {
         let text = self.documents.text_of(path);
         if let Some(room) = self.rooms.get_mut(index) {
@@ -110,6 +114,7 @@ impl Editor {
         ensures documents { self.new.documents ≡ self.old.documents }
         ensures rooms { OnOk result (HaveOthers path.now self.old.documents.all.items self.old.rooms.items → HaveRooms self.old.documents.all.items self.new.rooms.items) }
         ensures boards { OnOk result ((documents : List ADocument) → AllStand documents self.old.rooms.items → AllStand documents self.new.rooms.items) }
+        ensures told { OnOk result (TellSame self.old.rooms.items self.new.rooms.items) }
     {
         let is_open = is_unit(path) && self.documents.text_of(path).is_some();
         if is_open && !self.has_room(path) {
@@ -134,6 +139,7 @@ impl Editor {
     pub fn look_again(&mut self)
         ensures documents { self.new.documents ≡ self.old.documents }
         ensures boards { IsStanding self.old → IsStanding self.new }
+        ensures told { TellSame self.old.rooms.items self.new.rooms.items }
     {
         for index in 0..self.rooms.len() {
             self.loosen(index);
@@ -145,6 +151,7 @@ impl Editor {
         ensures documents { self.new.documents ≡ self.old.documents }
         ensures folders { map (λ room. string_bytes room.folder) self.new.rooms.items ≡ map (λ room. string_bytes room.folder) self.old.rooms.items }
         ensures boards { (documents : List ADocument) → AllStand documents self.old.rooms.items → AllStand documents self.new.rooms.items }
+        ensures told { AllTellSame self.old.rooms.items self.new.rooms.items }
     {
         if let Some(room) = self.rooms.get_mut(index) {
             room.is_loose = true;
@@ -163,6 +170,7 @@ impl Editor {
         ensures stands { OnOk result (IsStanding self.old → IsStanding self.new) }
         ensures served { OnOk result (IsStanding self.old → AreServed self.new) }
         ensures told { IfOk result (λ all. All (IsPublished self.new.rooms.items) all.items) }
+        ensures whole { IfOk result (λ all. IsStanding self.old → AreWhole self.old.rooms.items self.new.rooms.items all.items) }
     {
         self.renew_all(alloc, disk)?;
         self.leave_empty();
@@ -176,6 +184,7 @@ impl Editor {
         ensures documents { self.new.documents ≡ self.old.documents }
         ensures folders { OnOk result (map (λ room. string_bytes room.folder) self.new.rooms.items ≡ map (λ room. string_bytes room.folder) self.old.rooms.items) }
         ensures boards { OnOk result (AllStand self.old.documents.all.items self.old.rooms.items → AllSettled self.old.documents.all.items self.new.rooms.items) }
+        ensures told { OnOk result (AllStand self.old.documents.all.items self.old.rooms.items → AllTellBut self.new.stale self.old.rooms.items self.new.rooms.items) }
     {
         for index in 0..self.rooms.len() {
             self.renew(alloc, disk, index)?;
@@ -189,6 +198,8 @@ impl Editor {
         ensures folders { OnOk result (map (λ room. string_bytes room.folder) self.new.rooms.items ≡ map (λ room. string_bytes room.folder) self.old.rooms.items) }
         ensures count { length self.new.rooms.items ≡ length self.old.rooms.items }
         ensures boards { OnOk result (AreSettled self.old.documents.all.items index self.old.rooms.items → AreSettled self.old.documents.all.items (index + 1) self.new.rooms.items) }
+        ensures grows { OnOk result (Grows self.old.stale self.new.stale) }
+        ensures told { OnOk result (AreSettled self.old.documents.all.items index self.old.rooms.items → AllTellBut self.new.stale self.old.rooms.items self.new.rooms.items) }
     {
         let overlay = Overlay {
             documents: &self.documents,
@@ -208,6 +219,8 @@ impl Editor {
         ensures rooms { self.new.rooms.items ≡ filter (λ room. not (is_vacant room)) self.old.rooms.items }
         ensures folders { (documents : List ADocument) → AllSettled documents self.old.rooms.items → HaveRooms documents self.old.rooms.items → HaveRooms documents self.new.rooms.items }
         ensures boards { (documents : List ADocument) → AllSettled documents self.old.rooms.items → AllSettled documents self.new.rooms.items }
+        ensures stale { self.new.stale ≡ self.old.stale }
+        ensures told { TellSame self.old.rooms.items self.new.rooms.items }
     {
         self.rooms.retain(|room| !room.is_empty());
     }
@@ -237,6 +250,7 @@ fn told(
 ) -> Result<(), CheckFault>
     ensures folder { room.new.folder ≡ room.old.folder }
     ensures stands { OnOk result ((before now : List ADocument) → ChangesAt before now path.now (option_map (λ text. text.now) text.entry) → Stands before room.old → Stands now room.new) }
+    ensures told { OnOk result ((path : List ℕ) → TellsSame room.old room.new path) }
 {
     match text {
         Some(bytes) if is_change => room.follow(alloc, path, bytes)?,
@@ -265,7 +279,8 @@ fn told_all(
     rooms: &[Room],
     paths: &BTreeSet<String>,
 ) -> Result<Vec<Published>, AllocError>
-    ensures { IfOk result (λ all. All (IsPublished rooms.now) all.items) }
+    ensures told { IfOk result (λ all. All (IsPublished rooms.now) all.items) }
+    ensures paths { IfOk result (λ all. map (λ p. string_bytes p.path) all.items ≡ map string_bytes paths.now.keys) }
 {
     let mut published = Vec::new(alloc);
     for path in paths {
@@ -276,24 +291,37 @@ fn told_all(
 
 /// What is told of the file at a path.
 fn told_of(alloc: Global, rooms: &[Room], path: &str) -> Result<Published, AllocError>
-    ensures { IfOk result (IsPublished rooms.now) }
+    ensures told { IfOk result (IsPublished rooms.now) }
+    ensures path { IfOk result (λ published. string_bytes published.path ≡ path.now) }
 {
     let mut published = Published {
         path: String::from_str(alloc, path)?,
         messages: Vec::new(alloc),
-        refusal: None,
+        refusal: refusal_in(rooms, path),
     };
     for room in rooms {
         published.add_all(room.messages_of(alloc, path)?)?;
-        published.refuse(room.refusal_of(path));
     }
     Ok(published)
+}
+
+/// Why the file at a path is not checked, as the first board tells it that does not check it.
+fn refusal_in(rooms: &[Room], path: &str) -> Option<Why>
+    ensures { result ≡ why_of rooms.now path.now }
+{
+    for room in rooms {
+        if let Some(why) = room.refusal_of(path) {
+            return Some(why);
+        }
+    }
+    None
 }
 
 impl Published {
     /// Adds messages, but for those that are there.
     fn add_all(&mut self, mut messages: Vec<Message>) -> Result<(), AllocError>
         ensures path { self.new.path ≡ self.old.path }
+        ensures refusal { self.new.refusal ≡ self.old.refusal }
         ensures messages { OnOk result ((head : Head) → Contains (map head_of self.new.messages.items) head ↔ (Contains (map head_of self.old.messages.items) head ⊎ Contains (map head_of messages.items) head)) }
     {
         if self.messages.is_empty() {
@@ -309,6 +337,7 @@ impl Published {
     /// Adds a message, unless it is there.
     fn add(&mut self, message: Message) -> Result<(), AllocError>
         ensures path { self.new.path ≡ self.old.path }
+        ensures refusal { self.new.refusal ≡ self.old.refusal }
         ensures messages { OnOk result ((head : Head) → Contains (map head_of self.new.messages.items) head ↔ (Contains (map head_of self.old.messages.items) head ⊎ (head_of message ≡ head))) }
     {
         if self.has(&message) {
@@ -328,16 +357,6 @@ impl Published {
             }
         }
         false
-    }
-
-    /// The file is not checked, if there is a reason.
-    fn refuse(&mut self, why: Option<Why>)
-        ensures path { self.new.path ≡ self.old.path }
-        ensures messages { self.new.messages ≡ self.old.messages }
-    {
-        if why.is_some() {
-            self.refusal = why;
-        }
     }
 }
 

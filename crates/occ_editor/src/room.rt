@@ -1,18 +1,20 @@
 //! The files of one folder that are open, with all that they use and include, on a board of their own.
 ghost use Rattle.occ_editor_edits.specs.Documents.{ChangesAt};
-ghost use Rattle.occ_editor.specs.Publishing.{text_at as spec_text_at, told_at};
+ghost use Rattle.occ_editor.specs.Publishing.{refusal_at, text_at as spec_text_at, told_at};
 ghost use Rattle.occ_messages.specs.Located.{head_of};
 ghost use Rattle.occ_editor.specs.Rooms.{IsSettled, Knows, Stands, is_of as spec_is_of, is_unit as spec_is_unit, is_vacant};
 ghost use Rattle.occ_files.specs.Paths.{folder_of as spec_folder_of};
-ghost use Rattle.occ_files.specs.Gathering.{is_refused};
+ghost use Rattle.occ_base.specs.declared.diag.Diag.{Diag as ADiag};
+ghost use Rattle.occ_files.specs.Gathering.{are_apart};
 ghost use Rattle.std.specs.Str.{bytes_eq};
 ghost use Rattle.std.specs.String.{string_bytes};
 ghost use Rattle.occ_editor_edits.specs.declared.documents.Document.{Document as ADocument};
 ghost use Rattle.occ_editor.specs.inside.Placed.{AreAsked, AreFound, HasAt, place_at};
+ghost use Rattle.occ_editor.specs.inside.Shown.{Grows, HasFile, IsIn, IsQuiet, TellsSame, has_key, text_named};
 ghost use Rattle.occ_files.specs.declared.gathering.Text.{Text as AText};
-ghost use Rattle.std.specs.List.{slice_get};
+ghost use Rattle.std.specs.List.{Contains, slice_get};
 ghost use Rattle.std.specs.Option.{option_copied};
-ghost use Rattle.std.specs.Prelude.{◌≡◌, IfOk, IsTrue, List, None, OnOk, Some, false, map, option_map, slice_set, true, ℕ};
+ghost use Rattle.std.specs.Prelude.{◌≡◌, ◌↔◌, IfOk, IfSome, IsTrue, List, None, OnOk, Some, false, map, option_map, slice_set, true, ℕ};
 
 use super::bringing::{brought, put_one};
 use super::found::name_alike;
@@ -49,6 +51,7 @@ impl Room {
     /// A room without files, which have to be found.
     pub fn new(alloc: Global, folder: &str) -> Result<Room, AllocError>
         ensures stands { IfOk result (λ room. (documents : List ADocument) → Stands documents room) }
+        ensures quiet { IfOk result (λ room. (path : List ℕ) → IsQuiet room path) }
         ensures folder { IfOk result (λ room. string_bytes room.folder ≡ folder.now) }
     {
         Ok(Room {
@@ -100,14 +103,19 @@ impl Room {
         None
     }
 
-    /// The file at a path has this text now. If its text names other files, or is or was refused, all files have to be found
+    /// The file at a path has this text now. If its text names other files, or it is or was refused, all files have to be found
     /// again.
     pub fn follow(&mut self, alloc: Global, path: &str, bytes: &[u8]) -> Result<(), CheckFault>
         ensures stands { OnOk result ((before now : List ADocument) → ChangesAt before now path.now (Some bytes.now) → Stands before self.old → Stands now self.new) }
+        ensures told { OnOk result ((path : List ℕ) → TellsSame self.old self.new path) }
         ensures folder { self.new.folder ≡ self.old.folder }
     {
+        if self.refusal_of(path).is_some() {
+            self.is_loose = true;
+            return Ok(());
+        }
         let Some(place) = self.place_of(path) else {
-            self.is_loose |= self.wants(path) || self.refusal_of(path).is_some();
+            self.is_loose |= self.wants(path);
             return Ok(());
         };
         match prepare(alloc, bytes) {
@@ -131,7 +139,8 @@ impl Room {
         source: Shared<Source>,
     ) -> Result<(), CheckFault>
         ensures folder { self.new.folder ≡ self.old.folder }
-        ensures stands { OnOk result ((before now : List ADocument) (path : List ℕ) → place_at self.old.texts.items path ≡ Some place → ChangesAt before now path (Some source.text) → Stands before self.old → Stands now self.new) }
+        ensures stands { OnOk result ((before now : List ADocument) (path : List ℕ) → place_at self.old.texts.items path ≡ Some place → refusal_at self.old.refusals.items path ≡ None → ChangesAt before now path (Some source.text) → Stands before self.old → Stands now self.new) }
+        ensures told { OnOk result ((path : List ℕ) → TellsSame self.old self.new path) }
     {
         let Some(text) = self.texts.get(place) else {
             return Ok(());
@@ -145,14 +154,15 @@ impl Room {
         Ok(())
     }
 
-    /// The file at a path is open with this text now, or no more. If it had another one, or may be one that was not there, all
-    /// files have to be found again.
+    /// The file at a path is open with this text now, or no more. If it had another one, or is refused, or may be one that was
+    /// not there, all files have to be found again.
     pub fn meet(&mut self, path: &str, bytes: Option<&[u8]>)
         ensures folder { self.new.folder ≡ self.old.folder }
         ensures closed { bytes.entry ≡ None → self.new.is_loose ≡ true }
         ensures stands { (before now : List ADocument) → ChangesAt before now path.now (option_map (λ text. text.now) bytes.entry) → Stands before self.old → Stands now self.new }
+        ensures told { (path : List ℕ) → TellsSame self.old self.new path }
     {
-        if !self.has(path, bytes) {
+        if self.refusal_of(path).is_some() || !self.has(path, bytes) {
             self.is_loose = true;
         }
     }
@@ -184,6 +194,8 @@ impl Room {
     ) -> Result<(), CheckFault>
         ensures folder { OnOk result (self.new.folder ≡ self.old.folder) }
         ensures settled { OnOk result ((documents : List ADocument) → Knows (D.known disk.now) documents → AreAsked documents self.old paths.now → Stands documents self.old → IsSettled documents self.new) }
+        ensures grows { OnOk result (Grows stale.old stale.new) }
+        ensures told { OnOk result ((documents : List ADocument) → Stands documents self.old → (path : List ℕ) → has_key stale.new path ≡ false → TellsSame self.old self.new path) }
     {
         if self.is_loose {
             self.find_anew(alloc, disk, folders, paths, stale)?;
@@ -204,6 +216,8 @@ impl Room {
     ) -> Result<(), CheckFault>
         ensures folder { OnOk result (self.new.folder ≡ self.old.folder) }
         ensures settled { OnOk result ((documents : List ADocument) → Knows (D.known disk.now) documents → AreAsked documents self.old paths.now → Stands documents self.old → IsSettled documents self.new) }
+        ensures grows { OnOk result (Grows stale.old stale.new) }
+        ensures told { OnOk result ((documents : List ADocument) → Stands documents self.old → (path : List ℕ) → has_key stale.new path ≡ false → TellsSame self.old self.new path) }
     {
         self.add_shown(alloc, stale)?;
         self.find(alloc, disk, folders, paths)?;
@@ -219,6 +233,8 @@ impl Room {
         requires { self.old.is_loose ≡ false }
         ensures folder { OnOk result (self.new.folder ≡ self.old.folder) }
         ensures settled { OnOk result ((documents : List ADocument) → Stands documents self.old → IsSettled documents self.new) }
+        ensures grows { OnOk result (Grows stale.old stale.new) }
+        ensures told { OnOk result ((documents : List ADocument) → Stands documents self.old → (path : List ℕ) → has_key stale.new path ≡ false → TellsSame self.old self.new path) }
     {
         let now = told(alloc, &mut self.board)?;
         let before = mem::replace(&mut self.told, now);
@@ -236,6 +252,7 @@ impl Room {
         paths: &[String],
     ) -> Result<(), CheckFault>
         ensures folder { OnOk result (self.new.folder ≡ self.old.folder) }
+        ensures apart { OnOk result (are_apart self.new.texts.items ≡ true) }
         ensures found { OnOk result ((documents : List ADocument) → Knows (D.known disk.now) documents → Stands documents self.old → AreFound documents self.new.board self.new.texts.items self.new.refusals.items paths.now) }
     {
         let Gathered {
@@ -250,41 +267,97 @@ impl Room {
     }
 
     /// Adds the paths of which something is told.
-    pub fn add_shown(&self, alloc: Global, paths: &mut BTreeSet<String>) -> Result<(), AllocError> {
-        for refusal in &self.refusals {
-            paths.insert(String::from_str(alloc, refusal.path.as_str())?)?;
-        }
-        self.add_paths(alloc, self.told.as_slice(), paths)
+    pub fn add_shown(&self, alloc: Global, paths: &mut BTreeSet<String>) -> Result<(), AllocError>
+        ensures grows { OnOk result (Grows paths.old paths.new) }
+        ensures added { OnOk result (are_apart self.now.texts.items ≡ true → (path : List ℕ) → has_key paths.new path ≡ false → IsQuiet self.now path) }
+    {
+        self.add_refused(alloc, paths)?;
+        self.add_paths(alloc, self.told.as_slice(), &[], paths)?;
+        Ok(())
     }
 
-    /// Adds the paths of the files of diagnostics.
-    fn add_paths(
-        &self,
-        alloc: Global,
-        diags: &[Diag],
-        paths: &mut BTreeSet<String>,
-    ) -> Result<(), AllocError> {
-        let mut last = None;
-        for diag in diags {
-            if last != Some(diag.file) {
-                last = Some(diag.file);
-                self.add_path(alloc, diag.file, paths)?;
-            }
+    /// Adds the paths that are refused.
+    fn add_refused(&self, alloc: Global, paths: &mut BTreeSet<String>) -> Result<(), AllocError>
+        ensures grows { OnOk result (Grows paths.old paths.new) }
+        ensures added { OnOk result ((path : List ℕ) → has_key paths.new path ≡ false → refusal_at self.now.refusals.items path ≡ None) }
+    {
+        for refusal in &self.refusals {
+            paths.insert(String::from_str(alloc, refusal.path.as_str())?)?;
         }
         Ok(())
     }
 
-    /// Adds the path of a file.
+    /// Adds the paths of the files of those diagnostics that are not among the others.
+    fn add_paths(
+        &self,
+        alloc: Global,
+        diags: &[Diag],
+        others: &[Diag],
+        paths: &mut BTreeSet<String>,
+    ) -> Result<(), AllocError>
+        ensures grows { OnOk result (Grows paths.old paths.new) }
+        ensures added { OnOk result (are_apart self.now.texts.items ≡ true → (path : List ℕ) → has_key paths.new path ≡ false → (diag : ADiag) → Contains diags.now diag → IsIn self.now.texts.items path diag → Contains others.now diag) }
+    {
+        let mut last = None;
+        for diag in diags {
+            last = self.add_missing(alloc, diag, others, last, paths)?;
+        }
+        Ok(())
+    }
+
+    /// Adds the path of the file of a diagnostic, unless it was the last that was added, or the others have the diagnostic. Gives
+    /// the last file that was added.
+    fn add_missing(
+        &self,
+        alloc: Global,
+        diag: &Diag,
+        others: &[Diag],
+        last: Option<FileName>,
+        paths: &mut BTreeSet<String>,
+    ) -> Result<Option<FileName>, AllocError>
+        requires { IfSome last (HasFile self.now.texts.items paths.old) }
+        ensures last { IfOk result (λ last. IfSome last (HasFile self.now.texts.items paths.new)) }
+        ensures grows { OnOk result (Grows paths.old paths.new) }
+        ensures added { OnOk result (are_apart self.now.texts.items ≡ true → (path : List ℕ) → has_key paths.new path ≡ false → IsIn self.now.texts.items path diag.now → Contains others.now diag.now) }
+    {
+        if let Some(name) = last
+            && name == diag.file
+        {
+            return Ok(last);
+        }
+        if has_diag(others, diag) {
+            return Ok(last);
+        }
+        self.add_path(alloc, diag.file, paths)?;
+        Ok(Some(diag.file))
+    }
+
+    /// Adds the path of a file, if it is there.
     fn add_path(
         &self,
         alloc: Global,
         name: FileName,
         paths: &mut BTreeSet<String>,
-    ) -> Result<(), AllocError> {
-        if let Some(text) = self.texts.iter().find(|text| text.name == name) {
+    ) -> Result<(), AllocError>
+        ensures grows { OnOk result (Grows paths.old paths.new) }
+        ensures added { OnOk result (HasFile self.now.texts.items paths.new name) }
+    {
+        if let Some(text) = self.text_named(name) {
             paths.insert(String::from_str(alloc, text.path.as_str())?)?;
         }
         Ok(())
+    }
+
+    /// The file of a name.
+    fn text_named(&self, name: FileName) -> Option<&Text>
+        ensures { option_copied result ≡ text_named self.now.texts.items name }
+    {
+        for text in &self.texts {
+            if text.name == name {
+                return Some(text);
+            }
+        }
+        None
     }
 
     /// Adds the paths of the files of which other diagnostics are told than before.
@@ -293,30 +366,26 @@ impl Room {
         alloc: Global,
         before: &[Diag],
         paths: &mut BTreeSet<String>,
-    ) -> Result<(), AllocError> {
+    ) -> Result<(), AllocError>
+        ensures grows { OnOk result (Grows paths.old paths.new) }
+        ensures added { OnOk result (are_apart self.now.texts.items ≡ true → (path : List ℕ) → has_key paths.new path ≡ false → (diag : ADiag) → IsIn self.now.texts.items path diag → Contains before.now diag ↔ Contains self.now.told diag) }
+    {
         let now = self.told.as_slice();
-        if before == now {
-            return Ok(());
-        }
-        let mut last = None;
-        for diag in before.iter().chain(now.iter()) {
-            if last != Some(diag.file) {
-                last = Some(diag.file);
-                if of_file(before, diag.file) != of_file(now, diag.file) {
-                    self.add_path(alloc, diag.file, paths)?;
-                }
-            }
-        }
+        self.add_paths(alloc, before, now, paths)?;
+        self.add_paths(alloc, now, before, paths)?;
         Ok(())
     }
 
     /// Why the file at a path is not checked, if so it is.
-    pub fn refusal_of(&self, path: &str) -> Option<Why> {
-        let refusal = self
-            .refusals
-            .iter()
-            .find(|refusal| refusal.path.as_str() == path)?;
-        Some(refusal.why)
+    pub fn refusal_of(&self, path: &str) -> Option<Why>
+        ensures { result ≡ refusal_at self.now.refusals.items path.now }
+    {
+        for refusal in &self.refusals {
+            if refusal.path.as_str() == path {
+                return Some(refusal.why);
+            }
+        }
+        None
     }
 
     /// Whether it has no file.
@@ -370,6 +439,13 @@ fn of_file(diags: &[Diag], name: FileName) -> &[Diag] {
     let from = diags.partition_point(|diag| diag.file < name);
     let to = diags.partition_point(|diag| diag.file <= name);
     diags.get(from..to).unwrap_or(&[])
+}
+
+/// Whether a diagnostic is among those that stand in order.
+fn has_diag(diags: &[Diag], diag: &Diag) -> bool
+    ensures { IsTrue result → Contains diags.now diag.now }
+{
+    diags.binary_search(diag).is_ok()
 }
 
 /// Whether a file is a unit, by its name.

@@ -1,3 +1,4 @@
 pub mod Heads
 pub mod Noted
 pub mod Starts
+pub mod Uris

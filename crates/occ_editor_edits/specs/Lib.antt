@@ -5,3 +5,4 @@ pub mod Frames
 pub mod Messages
 pub mod Places
 pub mod Texts
+pub mod Uris

@@ -1,8 +1,10 @@
 //! Paths of files as URIs, and back. What is no URI of a file is its own path.
 ghost use Rattle.std.specs.Str.Lossy.{utf8_lossy};
 ghost use Rattle.occ_editor_edits.specs.Messages.{from_slash as spec_from_slash, path_of_uri};
+ghost use Rattle.occ_editor_edits.specs.Uris.{IsUriOf, is_rooted};
+ghost use Rattle.percent_encoding.specs.AsciiSet.{contains};
 ghost use Rattle.percent_encoding.specs.Percent.{percent_decode as spec_percent_decode};
-ghost use Rattle.std.specs.Prelude.{◌≡◌, IfOk, option_map};
+ghost use Rattle.std.specs.Prelude.{◌≡◌, IfOk, false, option_map, true};
 ghost use Rattle.std.specs.String.{string_bytes};
 
 use percent_encoding::{AsciiSet, NON_ALPHANUMERIC, percent_decode, percent_encode};
@@ -12,7 +14,10 @@ use std::alloc::{AllocError, Global};
 const FILE: &[u8; 7] = b"file://";
 
 /// What is escaped in a path.
-fn escaped() -> AsciiSet {
+fn escaped() -> AsciiSet
+    ensures percent { contains result 37 ≡ true }
+    ensures slash { contains result 47 ≡ false }
+{
     NON_ALPHANUMERIC
         .remove(b'/')
         .remove(b'-')
@@ -56,10 +61,20 @@ fn spelled(alloc: Global, path: &[u8]) -> Result<String, AllocError>
 }
 
 /// The URI of a path.
-pub fn uri_of(alloc: Global, path: &str) -> Result<String, AllocError> {
-    if !path.starts_with('/') {
-        return String::from_str(alloc, path);
+pub fn uri_of(alloc: Global, path: &str) -> Result<String, AllocError>
+    ensures { IfOk result (λ uri. IsUriOf path.now (string_bytes uri)) }
+{
+    if path.as_bytes().first() == Some(&b'/') {
+        escaped_uri(alloc, path)
+    } else {
+        String::from_str(alloc, path)
     }
+}
+
+/// The URI of a path from the root.
+fn escaped_uri(alloc: Global, path: &str) -> Result<String, AllocError>
+    ensures { IfOk result (λ uri. is_rooted path.now ≡ true → path_of_uri (string_bytes uri) ≡ path.now) }
+{
     let mut uri = String::from_str(alloc, "file://")?;
     percent_encode(path.as_bytes(), escaped()).append_to(&mut uri)?;
     Ok(uri)

@@ -23,17 +23,17 @@ or_or : (a b c : Bool) → a || (b || c) ≡ (a || b) || c
 or_or true b c = refl
 or_or false b c = refl
 
-or_true : (b : Bool) → b || true ≡ true
+pub or_true : (b : Bool) → b || true ≡ true
 or_true true = refl
 or_true false = refl
 
-or_back : (a b : Bool) → a || b ≡ b || a
+pub or_back : (a b : Bool) → a || b ≡ b || a
 or_back true true = refl
 or_back true false = refl
 or_back false true = refl
 or_back false false = refl
 
-any_more : {A : Type 0} (p : A → Bool) (xs : List A) (x : A) → list_any p (xs ++ x ∷ []) ≡ list_any p xs || p x
+pub any_more : {A : Type 0} (p : A → Bool) (xs : List A) (x : A) → list_any p (xs ++ x ∷ []) ≡ list_any p xs || p x
 any_more p [] x = or_false (p x)
 any_more p (y ∷ ys) x = ap (λ (b : Bool). p y || b) (any_more p ys x) ∙ or_or (p y) (list_any p ys) (p x)
 

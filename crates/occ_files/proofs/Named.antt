@@ -1,17 +1,24 @@
 -- The files that were found, where one more is.
-use Rattle.std.proofs.Common.{◌≡◌, ◌∙◌, ◌++◌, ◌<◌, Bool, true, false, not, ◌&&◌, ◌||◌, cond, ℕ, suc, List, [], ◌∷◌, length, reverse, Option, Some, None, is_some, arith, refl, subst, sym, ap, if◌then◌else◌}
+use Rattle.std.proofs.Common.{◌≡◌, ◌∙◌, ◌++◌, ◌<◌, Bool, Bor, IfSome, true, false, not, ◌&&◌, ◌||◌, cond, ℕ, suc, List, [], ◌∷◌, length, reverse, zero, Option, Some, None, is_some, arith, refl, subst, sym, ap, if◌then◌else◌}
 use Rattle.std.proofs.lemmas.List.{reverse-append}
 use Rattle.std.proofs.lemmas.Map.Text.{is_eq-slice_cmp}
 use Rattle.std.proofs.lemmas.Slice.Eq.{bytes_eq-Decides}
 use Rattle.std.specs.BTreeMap.{BTreeMap, get}
 use Rattle.std.specs.Prelude.{nat_lt}
 use Rattle.std.specs.Option.{option_map}
+use Rattle.std.proofs.lemmas.Option.{slice_get_read}
 use Rattle.std.specs.Ordering.{is_eq}
+use Rattle.std.specs.Slice.{IsItemAt}
 use Rattle.std.specs.Str.{bytes_eq}
 use Rattle.std.specs.String.{string_bytes}
+use Rattle.std.specs.List.{list_any, slice_get}
+use Rattle.occ_files.proofs.Kept.{or_true}
+use Rattle.occ_files.proofs.Refused.{all_right_more, names_more, right_more}
 use Rattle.occ_files.specs.Gathering.{AreGiven, are_apart, has_name}
-use Rattle.occ_files.specs.Paths.{Gives, Known}
+use Rattle.occ_files.specs.Paths.{Gives, Known, name_of}
+use Rattle.occ_files.specs.Refusals.{IsRight, has_other, is_other}
 use Rattle.occ_files.specs.declared.gathering.Text.{Text}
+use Rattle.occ_files.specs.declared.refusal.Refusal.{Refusal}
 use Rattle.occ_files.specs.inside.Found.{AreFound, place_in}
 use Rattle.occ_project.specs.Reads.{name_cmp}
 
@@ -41,6 +48,34 @@ some_named texts places name i placed there =
     let is_less : nat_lt i (length texts) ≡ true = grind (arith, less) in
     is_less
     ∙ sym (sym (named_place texts name) ∙ ap (λ (o : Option ℕ). is_some o) (sym (placed name) ∙ there))
+
+-- what has the place of a name has this name
+named_at : (texts : List Text) (name : List ℕ) (i : ℕ) (t : Text) → place_in texts name ≡ Some i → slice_get texts i ≡ Some t → bytes_eq t.name name ≡ true
+named_at [] name i t place at = absurd cc
+named_at (x ∷ xs) name i t place at = by (bytes_eq x.name name) refl (place_in xs name) refl i place at (λ k. named_at xs name k t) where
+  by : (b : Bool) → bytes_eq x.name name ≡ b → (o : Option ℕ) → place_in xs name ≡ o → (k : ℕ) → (if b then Some 0 else option_map suc o) ≡ Some k → slice_get (x ∷ xs) k ≡ Some t → ((n : ℕ) → place_in xs name ≡ Some n → slice_get xs n ≡ Some t → bytes_eq t.name name ≡ true) → bytes_eq t.name name ≡ true
+  by true e o m zero p here rest = let one : x ≡ t = cc in ap (λ (y : Text). bytes_eq y.name name) (sym one) ∙ e
+  by true e o m (suc k) p here rest = absurd cc
+  by false e None m k p here rest = absurd cc
+  by false e (Some j) m zero p here rest = absurd cc
+  by false e (Some j) m (suc k) p here rest = let same : j ≡ k = cc in rest k (m ∙ ap Some same) here
+
+any_at : (p : Text → Bool) (texts : List Text) (i : ℕ) (t : Text) → slice_get texts i ≡ Some t → p t ≡ true → list_any p texts ≡ true
+any_at p [] i t at is = absurd cc
+any_at p (x ∷ xs) zero t at is = let one : x ≡ t = cc in ap (λ (y : Text). p y || list_any p xs) one ∙ ap (λ (b : Bool). b || list_any p xs) is
+any_at p (x ∷ xs) (suc i) t at is = ap (λ (b : Bool). p x || b) (any_at p xs i t at is) ∙ or_true (p x)
+
+pub other_at : (texts : List Text) (name : List ℕ) (i : ℕ) (t : Text) (path : List ℕ) → place_in texts name ≡ Some i → slice_get texts i ≡ Some t → name ≡ name_of path → bytes_eq (string_bytes t.path) path ≡ false → has_other texts path ≡ true
+other_at texts name i t path place at is differs =
+    let same : bytes_eq t.name (name_of path) ≡ true = ap (bytes_eq t.name) (sym is) ∙ named_at texts name i t place at in
+    any_at (is_other path) texts i t at (ap (λ (b : Bool). b && not (bytes_eq (string_bytes t.path) path)) same ∙ ap not differs)
+
+pub other_there : (texts : List Text) (name : List ℕ) (i : ℕ) (r : Option (Bor Text)) → place_in texts name ≡ Some i → IsItemAt texts i r → IfSome r (λ t. (path : List ℕ) → name ≡ name_of path → bytes_eq (string_bytes t.now.path) path ≡ false → has_other texts path ≡ true)
+other_there texts name i None place is = tt
+other_there texts name i (Some t) place is =
+    let at : true ≡ nat_lt i (length texts) = is.0 in
+    let less : i < length texts = grind (arith, at) in
+    λ path named differs. other_at texts name i t.now path place (slice_get_read texts (length texts) i t.now refl less is.1) named differs
 
 -- ---- one more
 
@@ -104,10 +139,12 @@ place_more (u ∷ us) t name none = by (bytes_eq u.name t.name) refl (has_name u
   by false h true q n rest = absurd cc
   by false h false q n rest = ap (λ (o : Option ℕ). if bytes_eq u.name name then Some 0 else option_map suc o) (rest q) ∙ mixed (bytes_eq u.name name) (bytes_eq t.name name) (other h)
 
-pub found_more : (known : Known) (texts : List Text) (places more : BTreeMap (List ℕ) ℕ) (t : Text) (n : ℕ) → AreFound known texts places → has_name texts t.name ≡ false → Gives known (string_bytes t.path) (Some t.source.text) → n ≡ length texts
-    → ((name : List ℕ) → get name_cmp more name ≡ cond (is_eq (name_cmp t.name name)) (Some n) (get name_cmp places name)) → AreFound known (texts ++ t ∷ []) more
-found_more known texts places more t n found none given len updates = record {
+pub found_more : (known : Known) (texts : List Text) (refusals : List Refusal) (places more : BTreeMap (List ℕ) ℕ) (t : Text) (n : ℕ) → AreFound known texts refusals places → has_name texts t.name ≡ false → t.name ≡ name_of (string_bytes t.path) → Gives known (string_bytes t.path) (Some t.source.text) → n ≡ length texts
+    → ((name : List ℕ) → get name_cmp more name ≡ cond (is_eq (name_cmp t.name name)) (Some n) (get name_cmp places name)) → AreFound known (texts ++ t ∷ []) refusals more
+found_more known texts refusals places more t n found none named given len updates = record {
   given = given_more known texts t found.given given;
+  named = names_more texts t found.named named;
+  right = all_right_more known texts t refusals found.right;
   apart = apart_more texts t found.apart none;
   placed = λ name.
       updates name
@@ -115,6 +152,16 @@ found_more known texts places more t n found none given len updates = record {
       ∙ ap (λ (m : ℕ). cond (bytes_eq t.name name) (Some m) (get name_cmp places name)) len
       ∙ ap (cond (bytes_eq t.name name) (Some (length texts))) (found.placed name)
       ∙ sym (place_more texts t name none);
+}
+
+-- one more that is not checked
+pub refused_more : (known : Known) (texts : List Text) (refusals : List Refusal) (places : BTreeMap (List ℕ) ℕ) (r : Refusal) → AreFound known texts refusals places → IsRight (known (string_bytes r.path)) texts (string_bytes r.path) r.why → AreFound known texts (refusals ++ r ∷ []) places
+refused_more known texts refusals places r found right = record {
+  given = found.given;
+  named = found.named;
+  right = right_more known texts refusals r found.right right;
+  apart = found.apart;
+  placed = found.placed;
 }
 
 -- ---- the other way round

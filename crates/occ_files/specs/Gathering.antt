@@ -1,9 +1,9 @@
 -- The files that were found.
-use Rattle.std.specs.Prelude.{ℕ, Bool, true, not, ◌&&◌, ◌||◌, List, [], ◌∷◌, Some}
+use Rattle.std.specs.Prelude.{◌≡◌, ℕ, Bool, true, not, ◌&&◌, ◌||◌, List, [], ◌∷◌, Some}
 use Rattle.std.specs.List.{list_any}
 use Rattle.std.specs.Str.{bytes_eq}
 use Rattle.std.specs.String.{string_bytes}
-use Rattle.occ_files.specs.Paths.{Gives, Known}
+use Rattle.occ_files.specs.Paths.{Gives, Known, name_of}
 use Rattle.occ_files.specs.declared.gathering.Text.{Text}
 use Rattle.occ_files.specs.declared.refusal.Refusal.{Refusal}
 
@@ -11,6 +11,11 @@ use Rattle.occ_files.specs.declared.refusal.Refusal.{Refusal}
 abbrev pub AreGiven : Known → List Text → Type 0
 AreGiven known [] = Unit {0}
 AreGiven known (text ∷ texts) = Gives known (string_bytes text.path) (Some text.source.text) × AreGiven known texts
+
+-- each has the name at the end of its path
+abbrev pub AreNamed : List Text → Type 0
+AreNamed [] = Unit {0}
+AreNamed (text ∷ texts) = (text.name ≡ name_of (string_bytes text.path)) × AreNamed texts
 
 -- one of them has the name
 abbrev pub has_name : List Text → List ℕ → Bool

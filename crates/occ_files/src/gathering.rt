@@ -1,13 +1,16 @@
 //! The files that are checked together: those that are asked for, and all that they use and include. A name is one file there:
 //! that which is found first.
-ghost use Rattle.occ_files.specs.Gathering.{AreGiven, are_apart, has_name, has_path, is_met};
-ghost use Rattle.occ_files.specs.Paths.{Gives};
+ghost use Rattle.occ_files.specs.Gathering.{AreGiven, AreNamed, are_apart, has_name, has_path, is_met};
+ghost use Rattle.occ_files.specs.Paths.{Gives, name_of as spec_name_of};
+ghost use Rattle.occ_files.specs.Refusals.{AreRight, Held, IsRight, has_other};
 ghost use Rattle.occ_files.specs.inside.Found.{AreFound, IsMet, Keeps};
+ghost use Rattle.occ_files.specs.declared.gathering.Text.{Text as AText};
 ghost use Rattle.std.specs.List.{All};
-ghost use Rattle.std.specs.Prelude.{◌≡◌, IfOk, IfSome, OnOk, Some, false, is_some, true};
+ghost use Rattle.std.specs.Prelude.{◌≡◌, IfErr, IfOk, IfSome, List, OnOk, Some, false, is_some, true, ℕ};
+ghost use Rattle.std.specs.Str.{bytes_eq};
 ghost use Rattle.std.specs.String.{string_bytes};
 
-use super::finding::{Disk, Found, find, folder_of, name_of, path_of};
+use super::finding::{Disk, Found, Search, find, folder_of, name_of};
 use super::refusal::{Refusal, Why};
 use occ_base::{FileName, Items, Shared};
 use occ_forms::{LineBody, Source, prepare};
@@ -67,7 +70,9 @@ pub fn gather<D: Disk>(
     paths: &[String],
 ) -> Result<Gathered, AllocError>
     ensures given { IfOk result (λ found. AreGiven (D.known disk.now) found.texts.items) }
+    ensures named { IfOk result (λ found. AreNamed found.texts.items) }
     ensures apart { IfOk result (λ found. are_apart found.texts.items ≡ true) }
+    ensures right { IfOk result (λ found. AreRight (D.known disk.now) found.texts.items found.refusals.items) }
     ensures met { IfOk result (λ found. All (λ path. is_met found.texts.items found.refusals.items (string_bytes path) ≡ true) paths.now) }
 {
     let mut gathering = Gathering {
@@ -96,7 +101,8 @@ pub fn gather<D: Disk>(
 
 /// The text of a file, or why there is none.
 fn prepared(alloc: Global, bytes: &[u8]) -> Result<Result<Shared<Source>, Why>, AllocError>
-    ensures { IfOk result (λ made. IfOk made (λ source. source.text ≡ bytes.now)) }
+    ensures made { IfOk result (λ made. IfOk made (λ source. source.text ≡ bytes.now)) }
+    ensures right { IfOk result (λ made. IfErr made (λ why. (held : Held) (texts : List AText) (path : List ℕ) → IfSome held (λ file. Some bytes.now ≡ file) → IsRight held texts path why)) }
 {
     match prepare(alloc, bytes) {
         Ok(source) => Ok(Ok(Shared::new(alloc, source)?)),
@@ -106,19 +112,14 @@ fn prepared(alloc: Global, bytes: &[u8]) -> Result<Result<Shared<Source>, Why>, 
 }
 
 /// The name of the unit at a path, or why it is none.
-fn unit_named(path: &str) -> Result<FileName, Why> {
+fn unit_named(path: &str) -> Result<FileName, Why>
+    ensures named { IfOk result (λ name. name ≡ spec_name_of path.now) }
+    ensures right { IfErr result (λ why. (held : Held) (texts : List AText) → IsRight held texts path.now why) }
+{
     match FileName::read(name_of(path).as_bytes()) {
         Ok(name) if name.is_unit() => Ok(name),
         Ok(_) => Err(Why::NoUnit),
         Err(fault) => Err(Why::Name(fault)),
-    }
-}
-
-/// The path of a name in the first of these folders.
-fn first_path(alloc: Global, folders: &[String], name: &str) -> Result<String, AllocError> {
-    match folders.first() {
-        Some(folder) => path_of(alloc, folder.as_str(), name),
-        None => String::from_str(alloc, name),
     }
 }
 
@@ -173,9 +174,10 @@ impl<'a, D: Disk> Gathering<'a, D> {
 
     /// The text of that name, if there is one.
     fn text(&self, name: FileName) -> Option<&Text>
-        requires { AreFound (D.known self.now.disk.now) self.now.found.texts.items self.now.places }
+        requires { AreFound (D.known self.now.disk.now) self.now.found.texts.items self.now.found.refusals.items self.now.places }
         ensures named { is_some result ≡ has_name self.now.found.texts.items name }
         ensures there { IfSome result (λ text. has_path self.now.found.texts.items (string_bytes text.now.path) ≡ true) }
+        ensures other { IfSome result (λ text. (path : List ℕ) → name ≡ spec_name_of path → bytes_eq (string_bytes text.now.path) path ≡ false → has_other self.now.found.texts.items path ≡ true) }
     {
         let place = self.places.get(&name)?;
         self.found.texts.get(*place)
@@ -183,20 +185,33 @@ impl<'a, D: Disk> Gathering<'a, D> {
 
     /// The file at that path is not checked.
     fn refuse(&mut self, alloc: Global, path: &str, why: Why) -> Result<(), AllocError>
-        ensures texts { self.new.found.texts ≡ self.old.found.texts }
-        ensures places { self.new.places ≡ self.old.places }
+        requires found { AreFound (D.known self.old.disk.now) self.old.found.texts.items self.old.found.refusals.items self.old.places }
+        requires right { IsRight (D.known self.old.disk.now path.now) self.old.found.texts.items path.now why }
+        ensures found { OnOk result (AreFound (D.known self.new.disk.now) self.new.found.texts.items self.new.found.refusals.items self.new.places) }
         ensures disk { self.new.disk ≡ self.old.disk }
         ensures met { OnOk result (IsMet self.new.found path.now) }
         ensures keeps { OnOk result (Keeps self.old.found self.new.found) }
     {
-        self.found.refusals.push(Refusal::of(alloc, path, why)?)?;
+        self.add_refusal(Refusal::of(alloc, path, why)?)
+    }
+
+    /// Adds a file that is not checked.
+    fn add_refusal(&mut self, refusal: Refusal) -> Result<(), AllocError>
+        requires found { AreFound (D.known self.old.disk.now) self.old.found.texts.items self.old.found.refusals.items self.old.places }
+        requires right { IsRight (D.known self.old.disk.now (string_bytes refusal.path)) self.old.found.texts.items (string_bytes refusal.path) refusal.why }
+        ensures found { OnOk result (AreFound (D.known self.new.disk.now) self.new.found.texts.items self.new.found.refusals.items self.new.places) }
+        ensures disk { self.new.disk ≡ self.old.disk }
+        ensures met { OnOk result (IsMet self.new.found (string_bytes refusal.path)) }
+        ensures keeps { OnOk result (Keeps self.old.found self.new.found) }
+    {
+        self.found.refusals.push(refusal)?;
         Ok(())
     }
 
     /// Adds a unit that is asked for.
     fn add_asked(&mut self, alloc: Global, path: &str) -> Result<(), AllocError>
-        requires found { AreFound (D.known self.old.disk.now) self.old.found.texts.items self.old.places }
-        ensures found { OnOk result (AreFound (D.known self.new.disk.now) self.new.found.texts.items self.new.places) }
+        requires found { AreFound (D.known self.old.disk.now) self.old.found.texts.items self.old.found.refusals.items self.old.places }
+        ensures found { OnOk result (AreFound (D.known self.new.disk.now) self.new.found.texts.items self.new.found.refusals.items self.new.places) }
         ensures disk { self.new.disk ≡ self.old.disk }
         ensures met { OnOk result (IsMet self.new.found path.now) }
         ensures keeps { OnOk result (Keeps self.old.found self.new.found) }
@@ -223,10 +238,11 @@ impl<'a, D: Disk> Gathering<'a, D> {
 
     /// Adds a file that was found, unless its text is refused.
     fn add(&mut self, alloc: Global, name: FileName, found: Found) -> Result<(), AllocError>
-        requires found { AreFound (D.known self.old.disk.now) self.old.found.texts.items self.old.places }
+        requires found { AreFound (D.known self.old.disk.now) self.old.found.texts.items self.old.found.refusals.items self.old.places }
         requires new { has_name self.old.found.texts.items name ≡ false }
+        requires named { name ≡ spec_name_of (string_bytes found.path) }
         requires given { Gives (D.known self.old.disk.now) (string_bytes found.path) (Some found.bytes.items) }
-        ensures found { OnOk result (AreFound (D.known self.new.disk.now) self.new.found.texts.items self.new.places) }
+        ensures found { OnOk result (AreFound (D.known self.new.disk.now) self.new.found.texts.items self.new.found.refusals.items self.new.places) }
         ensures disk { self.new.disk ≡ self.old.disk }
         ensures met { OnOk result (IsMet self.new.found (string_bytes found.path)) }
         ensures keeps { OnOk result (Keeps self.old.found self.new.found) }
@@ -247,8 +263,9 @@ impl<'a, D: Disk> Gathering<'a, D> {
 
     /// Adds a unit of which there is a text, once.
     fn add_unit(&mut self, unit: FileName) -> Result<(), AllocError>
-        requires found { AreFound (D.known self.old.disk.now) self.old.found.texts.items self.old.places }
+        requires found { AreFound (D.known self.old.disk.now) self.old.found.texts.items self.old.found.refusals.items self.old.places }
         ensures texts { self.new.found.texts ≡ self.old.found.texts }
+        ensures refusals { self.new.found.refusals ≡ self.old.found.refusals }
         ensures places { self.new.places ≡ self.old.places }
         ensures disk { self.new.disk ≡ self.old.disk }
         ensures keeps { OnOk result (Keeps self.old.found self.new.found) }
@@ -261,7 +278,7 @@ impl<'a, D: Disk> Gathering<'a, D> {
 
     /// Where a file is looked for that another one names: beside that, then in the other folders.
     fn folders_from(&self, alloc: Global, file: FileName) -> Result<Vec<String>, AllocError>
-        requires { AreFound (D.known self.now.disk.now) self.now.found.texts.items self.now.places }
+        requires { AreFound (D.known self.now.disk.now) self.now.found.texts.items self.now.found.refusals.items self.now.places }
     {
         let mut folders = Vec::new(alloc);
         if let Some(text) = self.text(file) {
@@ -275,8 +292,8 @@ impl<'a, D: Disk> Gathering<'a, D> {
 
     /// Looks the file up that a directive names, unless its name was found before.
     fn look_up(&mut self, alloc: Global, mention: Mention) -> Result<(), AllocError>
-        requires found { AreFound (D.known self.old.disk.now) self.old.found.texts.items self.old.places }
-        ensures found { OnOk result (AreFound (D.known self.new.disk.now) self.new.found.texts.items self.new.places) }
+        requires found { AreFound (D.known self.old.disk.now) self.old.found.texts.items self.old.found.refusals.items self.old.places }
+        ensures found { OnOk result (AreFound (D.known self.new.disk.now) self.new.found.texts.items self.new.found.refusals.items self.new.places) }
         ensures disk { self.new.disk ≡ self.old.disk }
         ensures keeps { OnOk result (Keeps self.old.found self.new.found) }
     {
@@ -287,19 +304,16 @@ impl<'a, D: Disk> Gathering<'a, D> {
         let Ok(name) = str::from_utf8(mention.name.as_bytes()) else {
             return Ok(());
         };
-        match find(alloc, self.disk, folders.as_slice(), name) {
-            Ok(Some(found)) => self.add(alloc, mention.name, found),
-            Ok(None) => Ok(()),
-            Err(fault) => {
-                let path = first_path(alloc, folders.as_slice(), name)?;
-                self.refuse(alloc, path.as_str(), Why::of_fault(fault)?)
-            }
+        match find(alloc, self.disk, folders.as_slice(), name)? {
+            Search::Found(found) => self.add(alloc, mention.name, found),
+            Search::Nowhere => Ok(()),
+            Search::Refused(refusal) => self.add_refusal(refusal),
         }
     }
 
     /// A file as an expansion reads it.
     fn read_of(&self, name: FileName) -> Result<Read, AllocError>
-        requires { AreFound (D.known self.now.disk.now) self.now.found.texts.items self.now.places }
+        requires { AreFound (D.known self.now.disk.now) self.now.found.texts.items self.now.found.refusals.items self.now.places }
     {
         let source = match self.text(name) {
             Some(text) => Some(text.source.share()?),
@@ -314,8 +328,8 @@ impl<'a, D: Disk> Gathering<'a, D> {
 
     /// Looks up all that the expansion of a unit looks up, and then the units that it uses.
     fn follow(&mut self, alloc: Global, unit: FileName) -> Result<(), AllocError>
-        requires found { AreFound (D.known self.old.disk.now) self.old.found.texts.items self.old.places }
-        ensures found { OnOk result (AreFound (D.known self.new.disk.now) self.new.found.texts.items self.new.places) }
+        requires found { AreFound (D.known self.old.disk.now) self.old.found.texts.items self.old.found.refusals.items self.old.places }
+        ensures found { OnOk result (AreFound (D.known self.new.disk.now) self.new.found.texts.items self.new.found.refusals.items self.new.places) }
         ensures disk { self.new.disk ≡ self.old.disk }
         ensures keeps { OnOk result (Keeps self.old.found self.new.found) }
     {
@@ -337,8 +351,8 @@ impl<'a, D: Disk> Gathering<'a, D> {
 
     /// Looks up the units that the lines of an expansion use.
     fn add_uses(&mut self, alloc: Global, expanded: &Expanded) -> Result<(), AllocError>
-        requires found { AreFound (D.known self.old.disk.now) self.old.found.texts.items self.old.places }
-        ensures found { OnOk result (AreFound (D.known self.new.disk.now) self.new.found.texts.items self.new.places) }
+        requires found { AreFound (D.known self.old.disk.now) self.old.found.texts.items self.old.found.refusals.items self.old.places }
+        ensures found { OnOk result (AreFound (D.known self.new.disk.now) self.new.found.texts.items self.new.found.refusals.items self.new.places) }
         ensures disk { self.new.disk ≡ self.old.disk }
         ensures keeps { OnOk result (Keeps self.old.found self.new.found) }
     {
@@ -355,8 +369,8 @@ impl<'a, D: Disk> Gathering<'a, D> {
         file: FileName,
         units: &[FileName],
     ) -> Result<(), AllocError>
-        requires found { AreFound (D.known self.old.disk.now) self.old.found.texts.items self.old.places }
-        ensures found { OnOk result (AreFound (D.known self.new.disk.now) self.new.found.texts.items self.new.places) }
+        requires found { AreFound (D.known self.old.disk.now) self.old.found.texts.items self.old.found.refusals.items self.old.places }
+        ensures found { OnOk result (AreFound (D.known self.new.disk.now) self.new.found.texts.items self.new.found.refusals.items self.new.places) }
         ensures disk { self.new.disk ≡ self.old.disk }
         ensures keeps { OnOk result (Keeps self.old.found self.new.found) }
     {

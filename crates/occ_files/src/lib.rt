@@ -7,7 +7,7 @@ mod gathering;
 mod refusal;
 mod walking;
 
-pub use finding::{Disk, DiskFault, Found, Seen, find, folder_of, name_of};
+pub use finding::{Disk, DiskFault, Found, Search, Seen, find, folder_of, name_of};
 pub use gathering::{Gathered, Text, gather};
 pub use refusal::{Refusal, Why};
 pub use walking::{Asked, Group, groups};

@@ -1,5 +1,7 @@
 //! Files that are not checked, and why.
-ghost use Rattle.std.specs.Prelude.{◌≡◌, IfOk};
+ghost use Rattle.occ_files.specs.Refusals.{Held, IsRight, MayFail};
+ghost use Rattle.occ_files.specs.declared.gathering.Text.{Text as AText};
+ghost use Rattle.std.specs.Prelude.{◌≡◌, IfOk, List, ℕ};
 ghost use Rattle.std.specs.String.{string_bytes};
 
 use super::finding::DiskFault;
@@ -37,7 +39,8 @@ pub struct Refusal {
 impl Refusal {
     /// The file at that path is not checked.
     pub fn of(alloc: Global, path: &str, why: Why) -> Result<Refusal, AllocError>
-        ensures { IfOk result (λ refusal. string_bytes refusal.path ≡ path.now) }
+        ensures path { IfOk result (λ refusal. string_bytes refusal.path ≡ path.now) }
+        ensures why { IfOk result (λ refusal. refusal.why ≡ why) }
     {
         Ok(Refusal {
             path: String::from_str(alloc, path)?,
@@ -48,9 +51,10 @@ impl Refusal {
 
 impl Why {
     /// Why a file that cannot be read is not checked, if it is not for want of memory.
-    pub fn of_fault(fault: DiskFault) -> Result<Why, AllocError> {
+    pub fn of_fault(fault: DiskFault) -> Result<Why, AllocError>
+        ensures { IfOk result (λ why. (held : Held) (texts : List AText) (path : List ℕ) → MayFail held fault → IsRight held texts path why) }
+    {
         match fault {
-            DiskFault::TooLarge => Ok(Why::Text(TextFault::TooLarge)),
             DiskFault::Refused(kind) => Ok(Why::Disk(kind)),
             DiskFault::Memory => Err(AllocError),
         }

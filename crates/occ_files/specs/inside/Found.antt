@@ -3,10 +3,12 @@ use Rattle.std.specs.Prelude.{◌≡◌, ℕ, suc, true, List, [], ◌∷◌, Op
 use Rattle.std.specs.BTreeMap.{BTreeMap, get}
 use Rattle.std.specs.Option.{option_map}
 use Rattle.std.specs.Str.{bytes_eq}
-use Rattle.occ_files.specs.Gathering.{AreGiven, are_apart, is_met}
+use Rattle.occ_files.specs.Gathering.{AreGiven, AreNamed, are_apart, is_met}
 use Rattle.occ_files.specs.Paths.{Known}
+use Rattle.occ_files.specs.Refusals.{AreRight}
 use Rattle.occ_files.specs.declared.gathering.Gathered.{Gathered}
 use Rattle.occ_files.specs.declared.gathering.Text.{Text}
+use Rattle.occ_files.specs.declared.refusal.Refusal.{Refusal}
 use Rattle.occ_project.specs.Reads.{name_cmp}
 
 -- the place of the first one of that name
@@ -14,8 +16,10 @@ abbrev pub place_in : List Text → List ℕ → Option ℕ
 place_in [] name = None
 place_in (text ∷ texts) name = if bytes_eq text.name name then Some 0 else option_map suc (place_in texts name)
 
-pub record AreFound (known : Known) (texts : List Text) (places : BTreeMap (List ℕ) ℕ) : Type 0 where
+pub record AreFound (known : Known) (texts : List Text) (refusals : List Refusal) (places : BTreeMap (List ℕ) ℕ) : Type 0 where
   pub given : AreGiven known texts
+  pub named : AreNamed texts
+  pub right : AreRight known texts refusals
   pub apart : are_apart texts ≡ true
   pub placed : (name : List ℕ) → get name_cmp places name ≡ place_in texts name
 

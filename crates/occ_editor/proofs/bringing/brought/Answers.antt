@@ -2,11 +2,14 @@ use Rattle.std.proofs.Common.{◌≡◌, ◌∙◌, Bool, List, None, Option, ap
 use Rattle.std.specs.BTreeMap.{get}
 use Rattle.std.specs.String.{string_bytes}
 use Rattle.occ_editor.proofs.Brought.{apart_shared, are_shared, given_shared, named_source, names_shared}
+use Rattle.occ_editor.proofs.Right.{grows_shared, named_shared}
 use Rattle.occ_editor.proofs.Wanted.{paths_shared}
 use Rattle.occ_editor.proofs.bringing.brought.Goals as goal
 use Rattle.occ_editor.specs.Rooms.{source_in}
 use Rattle.occ_editor.specs.inside.Bringing.{AreShared, Before, HasKept, shared_by}
-use Rattle.occ_files.specs.Gathering.{AreGiven, are_apart, has_name}
+use Rattle.occ_files.proofs.Refused.{right_grows}
+use Rattle.occ_files.specs.Refusals.{IsRight}
+use Rattle.occ_files.specs.Gathering.{AreGiven, AreNamed, are_apart, has_name}
 use Rattle.occ_files.specs.declared.gathering.Text.{Text}
 use Rattle.occ_forms.specs.Prepared.{Prepared}
 use Rattle.occ_project.specs.Reads.{name_cmp}
@@ -39,3 +42,12 @@ returns-clause-paths c = ap (map (λ text. string_bytes text.path)) c.in_ok-text
 
 pub returns-clause-given : goal.returns-clause-given
 returns-clause-given c = λ known given. subst (AreGiven known) (sym c.in_ok-texts.ensures) (given_shared (get name_cmp c.in_ok-before.before) known c.args.texts.items given)
+
+pub returns-clause-named : goal.returns-clause-named
+returns-clause-named c = λ named. subst AreNamed (sym c.in_ok-texts.ensures) (named_shared (get name_cmp c.in_ok-before.before) c.args.texts.items named)
+
+pub returns-clause-right : goal.returns-clause-right
+returns-clause-right c = λ held path why right.
+    let before : Before = get name_cmp c.in_ok-before.before in
+    let texts : List Text = c.args.texts.items in
+    subst (λ (ts : List Text). IsRight held ts path why) (sym c.in_ok-texts.ensures) (right_grows held texts (map (shared_by before) texts) path why (grows_shared before texts) right)

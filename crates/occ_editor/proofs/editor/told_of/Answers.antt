@@ -17,11 +17,11 @@ loop-room-preserved c =
     let path : List ℕ = c.args.path.now in
     let next : drop i rooms ≡ room ∷ drop (i + 1) rooms = drop_more rooms i room c.loop-room-test.true ∙ ap (λ (r : Room). r ∷ drop (i + 1) rooms) (sym c.room-item.is) in
     let old : List Message = c.loop-room.published.messages.items in
-    let new : List Message = c.refuse.new.self.messages.items in
+    let new : List Message = c.add_all.new.self.messages.items in
     let more : (head : Head) → Contains (map head_of new) head ↔ (Contains (map head_of old) head ⊎ Contains (told_at room path) head) = λ head.
     subst (λ (hs : List Head). Contains (map head_of new) head ↔ (Contains (map head_of old) head ⊎ Contains hs head)) c.in_ok-messages_of.ensures
-    (subst (λ (ms : Vec Message Global). Contains (map head_of ms.items) head ↔ (Contains (map head_of old) head ⊎ Contains (map head_of c.in_ok-messages_of.field-0.items) head)) (sym c.refuse.ensures.messages)
-    (c.in_ok-add_all.ensures.messages head)) in (
-      ap (λ (p : String Global). string_bytes p) (c.refuse.ensures.path ∙ c.in_ok-add_all.ensures.path) ∙ c.loop-room.invariant.0,
-      λ head. merged (more head) (subst (λ (rs : List Room). (Contains (map head_of old) head ⊎ IsTold rs path head) ↔ IsTold rooms path head) next (c.loop-room.invariant.1 head)),
+    (c.in_ok-add_all.ensures.messages head) in (
+      ap (λ (p : String Global). string_bytes p) c.in_ok-add_all.ensures.path ∙ c.loop-room.invariant.0,
+      c.in_ok-add_all.ensures.refusal ∙ c.loop-room.invariant.1,
+      λ head. merged (more head) (subst (λ (rs : List Room). (Contains (map head_of old) head ⊎ IsTold rs path head) ↔ IsTold rooms path head) next (c.loop-room.invariant.2 head)),
     )

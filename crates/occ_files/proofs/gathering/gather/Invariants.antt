@@ -5,7 +5,7 @@ use Rattle.occ_files.proofs.gathering.gather.Given as goal
 use Rattle.occ_files.specs.inside.Found.{AreFound, IsMet}
 
 abbrev pub invariant-loop-path : goal.invariant-loop-path
-invariant-loop-path g l = AreFound (g.D.Disk.known l.gathering.disk.now) l.gathering.found.texts.items l.gathering.places × (l.gathering.disk.now ≡ l.disk) × All (λ path. IsMet l.gathering.found (string_bytes path)) (take l.path-index l.paths)
+invariant-loop-path g l = AreFound (g.D.Disk.known l.gathering.disk.now) l.gathering.found.texts.items l.gathering.found.refusals.items l.gathering.places × (l.gathering.disk.now ≡ l.disk) × All (λ path. IsMet l.gathering.found (string_bytes path)) (take l.path-index l.paths)
 
 abbrev pub invariant-loop-index : goal.invariant-loop-index
-invariant-loop-index g l = AreFound (g.D.Disk.known l.gathering.disk.now) l.gathering.found.texts.items l.gathering.places × (l.gathering.disk.now ≡ l.disk) × All (λ path. IsMet l.gathering.found (string_bytes path)) l.paths
+invariant-loop-index g l = AreFound (g.D.Disk.known l.gathering.disk.now) l.gathering.found.texts.items l.gathering.found.refusals.items l.gathering.places × (l.gathering.disk.now ≡ l.disk) × All (λ path. IsMet l.gathering.found (string_bytes path)) l.paths

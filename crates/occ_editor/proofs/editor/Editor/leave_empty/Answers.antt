@@ -2,8 +2,10 @@ use Rattle.std.proofs.Common.{◌∙◌, List, ap, not, rules, subst, sym}
 use Rattle.std.proofs.lemmas.Fn.{filter_same}
 use Rattle.std.specs.List.{slice_get}
 use Rattle.occ_editor.proofs.Rooms.{where_true}
+use Rattle.occ_editor.proofs.Shown.{without_vacant}
 use Rattle.occ_editor.proofs.Wanted.{rooms_filter}
 use Rattle.occ_editor.proofs.editor.Editor.leave_empty.Goals as goal
+use Rattle.occ_editor.specs.Publishing.{TellSame}
 use Rattle.occ_editor.specs.Rooms.{HaveRooms, is_vacant}
 use Rattle.occ_editor.specs.declared.room.Room.{Room}
 
@@ -18,3 +20,6 @@ returns-clause-rooms c = filter_same _ (λ (room : Room). not (is_vacant room)) 
 
 pub returns-clause-folders : goal.returns-clause-folders
 returns-clause-folders c = λ documents settled have. subst (HaveRooms documents) (sym (returns-clause-rooms c)) (rooms_filter documents c.args.self.now.rooms.items settled have)
+
+pub returns-clause-told : goal.returns-clause-told
+returns-clause-told c = subst (TellSame c.args.self.now.rooms.items) (sym (returns-clause-rooms c)) (without_vacant c.args.self.now.rooms.items)

@@ -2,6 +2,7 @@ use Rattle.std.proofs.Common.{◌≡◌, ◌≤◌, ◌<◌, ℕ, List, Option, 
 use Rattle.std.proofs.lemmas.Option.{slice_get_read}
 use Rattle.std.specs.List.{slice_get}
 use Rattle.occ_editor.proofs.Rooms.{settled_next, settled_past}
+use Rattle.occ_editor.proofs.Shown.{all_set, all_themselves}
 use Rattle.occ_editor.proofs.Wanted.{folders_set}
 use Rattle.occ_editor.proofs.editor.Editor.renew.Goals as goal
 use Rattle.occ_editor.specs.Rooms.{over}
@@ -30,3 +31,15 @@ returns-in_ok-renew-clause-folders g c =
     let rooms : List Room = c.args.self.now.rooms.items in
     let less : c.args.index < length rooms = grind (arith, c.in-Some.ensures.item.0) in
     folders_set rooms c.args.index c.in-Some.room.now c.renew.new.self (slice_get_read rooms _ _ c.in-Some.room.now refl less c.in-Some.ensures.item.1) c.in_ok-renew.ensures.folder
+
+pub returns-in_ok-renew-clause-told : goal.returns-in_ok-renew-clause-told
+returns-in_ok-renew-clause-told g c = λ settled path none.
+    let documents : List Document = c.args.self.now.documents.all.items in
+    let rooms : List Room = c.args.self.now.rooms.items in
+    let index : ℕ = c.args.index in
+    let less : index < length rooms = grind (arith, c.in-Some.ensures.item.0) in
+    let there : slice_get rooms index ≡ Some c.in-Some.room.now = slice_get_read rooms _ _ c.in-Some.room.now refl less c.in-Some.ensures.item.1 in
+    all_set rooms index c.in-Some.room.now c.renew.new.self path there (c.in_ok-renew.ensures.told documents (settled.left index c.in-Some.room.now (omega arith) there) path none)
+
+pub returns-in_default-clause-told : goal.returns-in_default-clause-told
+returns-in_default-clause-told g c = λ settled path none. all_themselves c.args.self.now.rooms.items path

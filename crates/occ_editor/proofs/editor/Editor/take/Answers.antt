@@ -1,5 +1,6 @@
 use Rattle.std.proofs.Common.{◌≡◌, ◌∙◌, Bool, ℕ, List, Some, ap, cond, rules, subst, sym}
 use Rattle.occ_editor_edits.proofs.Noted.{changes_at}
+use Rattle.occ_editor.proofs.Shown.{all_at, at_both}
 use Rattle.occ_editor.proofs.Wanted.{folder_same}
 use Rattle.occ_editor.proofs.editor.Editor.take.Goals as goal
 use Rattle.occ_editor_edits.specs.Documents.{ChangesAt, path_of, text_in}
@@ -23,3 +24,6 @@ returns-clause-boards c = λ stand.
       boards = subst (λ (d : Documents). AllStand d.all.items c.add_room.new.self.rooms.items) (sym same) (c.in_ok-add_room.ensures.boards now (c.in_ok-tell_all.ensures.boards before changes stand.boards));
       folders = subst (λ (d : Documents). HaveRooms d.all.items c.add_room.new.self.rooms.items) (sym c.in_ok-add_room.ensures.documents) (c.in_ok-add_room.ensures.rooms (subst (λ (p : List ℕ). HaveOthers p c.tell_all.new.self.documents.all.items c.tell_all.new.self.rooms.items) (c.as_str.ensures.value ∙ sym c.as_str-2.ensures.value) others));
     }
+
+pub returns-clause-told : goal.returns-clause-told
+returns-clause-told c = λ path. at_both c.args.self.now.rooms.items c.tell_all.new.self.rooms.items c.add_room.new.self.rooms.items path (all_at c.args.self.now.rooms.items c.tell_all.new.self.rooms.items path (c.in_ok-tell_all.ensures.told path)) (c.in_ok-add_room.ensures.told path)

@@ -3,6 +3,7 @@ use Rattle.std.proofs.Common.{◌≡◌, ◌≤◌, ◌<◌, ℕ, List, Option, 
 use Rattle.std.proofs.lemmas.Option.{slice_get_read}
 use Rattle.std.specs.List.{slice_get}
 use Rattle.occ_editor.proofs.Rooms.{followed_next, followed_past}
+use Rattle.occ_editor.proofs.Shown.{all_set, all_themselves}
 use Rattle.occ_editor.proofs.Wanted.{folders_set}
 use Rattle.occ_editor.proofs.editor.Editor.tell.Goals as goal
 use Rattle.occ_editor_edits.specs.declared.documents.Document.{Document}
@@ -28,3 +29,12 @@ returns-in_ok-told-clause-folders c =
     let rooms : List Room = c.args.self.now.rooms.items in
     let less : c.args.index < length rooms = grind (arith, c.in-Some.ensures.item.0) in
     folders_set rooms c.args.index c.in-Some.room.now c.told.new.room (slice_get_read rooms _ _ c.in-Some.room.now refl less c.in-Some.ensures.item.1) c.told.ensures.folder
+
+pub returns-in_ok-told-clause-told : goal.returns-in_ok-told-clause-told
+returns-in_ok-told-clause-told c = λ path.
+    let rooms : List Room = c.args.self.now.rooms.items in
+    let less : c.args.index < length rooms = grind (arith, c.in-Some.ensures.item.0) in
+    all_set rooms c.args.index c.in-Some.room.now c.told.new.room path (slice_get_read rooms _ _ c.in-Some.room.now refl less c.in-Some.ensures.item.1) (c.in_ok-told.ensures.told path)
+
+pub returns-in_default-clause-told : goal.returns-in_default-clause-told
+returns-in_default-clause-told c = λ path. all_themselves c.args.self.now.rooms.items path

@@ -11,13 +11,14 @@ loop-message-preserved c =
     let old : List Message = c.loop-message.self.messages.items in
     let all : c.loop-message.messages.items ≡ rest ++ c.in-Some.message ∷ [] = search rules in (
       c.in_ok-add.ensures.path ∙ c.loop-message.invariant.0,
+      c.in_ok-add.ensures.refusal ∙ c.loop-message.invariant.1,
       λ head.
           moved (c.in_ok-add.ensures.messages head)
           (split_right (pushed rest c.in-Some.message head)
-          (subst (λ (ms : List Message). (Contains (map head_of old) head ⊎ Contains (map head_of ms) head) ↔ (Contains (map head_of c.args.self.now.messages.items) head ⊎ Contains (map head_of c.args.messages.items) head)) all (c.loop-message.invariant.1 head))),
+          (subst (λ (ms : List Message). (Contains (map head_of old) head ⊎ Contains (map head_of ms) head) ↔ (Contains (map head_of c.args.self.now.messages.items) head ⊎ Contains (map head_of c.args.messages.items) head)) all (c.loop-message.invariant.2 head))),
     )
 
 pub returns-clause-messages : goal.returns-clause-messages
 returns-clause-messages c = λ head.
     let none : c.loop-message.messages.items ≡ [] = search rules in
-    ended (none_in head) (subst (λ (ms : List Message). (Contains (map head_of c.loop-message.self.messages.items) head ⊎ Contains (map head_of ms) head) ↔ (Contains (map head_of c.args.self.now.messages.items) head ⊎ Contains (map head_of c.args.messages.items) head)) none (c.loop-message.invariant.1 head))
+    ended (none_in head) (subst (λ (ms : List Message). (Contains (map head_of c.loop-message.self.messages.items) head ⊎ Contains (map head_of ms) head) ↔ (Contains (map head_of c.args.self.now.messages.items) head ⊎ Contains (map head_of c.args.messages.items) head)) none (c.loop-message.invariant.2 head))

@@ -6,6 +6,7 @@ use Rattle.occ_messages.specs.Located.{Head, head_of}
 abbrev pub invariant-loop-message : goal.invariant-loop-message
 invariant-loop-message l =
     (l.self.path ≡ l.fn.self.path)
+    × (l.self.refusal ≡ l.fn.self.refusal)
     × ((head : Head) → (Contains (map head_of l.self.messages.items) head ⊎ Contains (map head_of l.messages.items) head) ↔ (Contains (map head_of l.fn.self.messages.items) head ⊎ Contains (map head_of l.fn.messages.items) head))
 
 abbrev pub decreases-loop-message : goal.decreases-loop-message

@@ -1,12 +1,20 @@
-use Rattle.std.proofs.Common.{Option, Some, subst, sym}
-use Rattle.std.specs.Option.{option_map}
+use Rattle.std.proofs.Common.{◌≡◌, ◌∙◌, List, Some, ap, map, rules, subst, sym, ℕ}
 use Rattle.std.specs.String.{string_bytes}
-use Rattle.occ_files.proofs.Searched.{IsGiven, first_given}
+use Rattle.occ_base.specs.FileName.{IsFileName}
+use Rattle.occ_files.proofs.Paths.{first_named, name_alone}
+use Rattle.occ_files.proofs.Searched.{first_given}
 use Rattle.occ_files.proofs.gathering.Gathering.look_up.Goals as goal
-use Rattle.occ_files.specs.Paths.{Gives}
-use Rattle.occ_files.specs.declared.finding.Found.{Found}
+use Rattle.occ_files.specs.Searches.{IsSearch}
+
+pub add-requires-clause-named : goal.add-requires-clause-named
+add-requires-clause-named g c =
+    let name : List ℕ = c.in-Ok.name.now in
+    let same : name ≡ c.args.mention.name = search rules in
+    let is : IsFileName name = subst IsFileName (sym same) c.as_bytes.ensures.named in
+    let first = subst (IsSearch (g.D.Disk.known c.args.self.now.disk.now) (map string_bytes c.as_slice.result.now) name) c.in-Found.is c.in_ok-found.ensures in
+    sym (first_named (g.D.Disk.known c.args.self.now.disk.now) (map string_bytes c.as_slice.result.now) name (Some (string_bytes c.in-Found.found.path, c.in-Found.found.bytes.items)) (name_alone name is) first ∙ same)
 
 pub add-requires-clause-given : goal.add-requires-clause-given
 add-requires-clause-given g c =
-    let given : IsGiven (g.D.Disk.known c.args.self.now.disk.now) (Some (string_bytes c.in-Ok-Some.found.path, c.in-Ok-Some.found.bytes.items)) = subst (λ (f : Option Found). IsGiven (g.D.Disk.known c.args.self.now.disk.now) (option_map (λ f. (string_bytes f.path, f.bytes.items)) f)) c.in-Ok-Some.field-0-is (first_given (g.D.Disk.known c.args.self.now.disk.now) _ _ _ c.in-Ok-Some.ensures) in
-    subst (λ (f : Found). Gives (g.D.Disk.known c.args.self.now.disk.now) (string_bytes f.path) (Some f.bytes.items)) (sym c.in-Ok-Some.found-is) given
+    let first = subst (IsSearch (g.D.Disk.known c.args.self.now.disk.now) (map string_bytes c.as_slice.result.now) c.in-Ok.name.now) c.in-Found.is c.in_ok-found.ensures in
+    first_given (g.D.Disk.known c.args.self.now.disk.now) (map string_bytes c.as_slice.result.now) c.in-Ok.name.now (Some (string_bytes c.in-Found.found.path, c.in-Found.found.bytes.items)) first
