@@ -1,52 +1,106 @@
 //! What is told of a file, as the protocol has it.
+ghost use Rattle.occ_editor_messages.specs.Sent.{IsFirst, IsTold, diagnostic_data, line_data, location_data, other_data, params_data, place_data, range_data, refusal_data, units_in, words_of};
+ghost use Rattle.serde_json.specs.Data.{Data, array};
+ghost use Rattle.serde_json.specs.View.{items_of, view};
+ghost use Rattle.std.specs.Prelude.{◌≡◌, ◌++◌, IfOk, List, map};
+ghost use Rattle.std.specs.String.{string_bytes};
+
 use occ_base::Grade;
 use occ_editor::Published;
 use occ_editor_edits::uri_of;
+use occ_files::Why;
 use occ_messages::{Message, Quoted};
 use serde_json::{Value, json};
 use std::alloc::{AllocError, Global};
 
 /// The note that tells it.
-pub fn published(alloc: Global, told: &Published) -> Result<Value, AllocError> {
+pub fn published(alloc: Global, told: &Published) -> Result<Value, AllocError>
+    ensures { IfOk result (λ value. IsTold told.now (view value)) }
+{
     let uri = uri_of(alloc, told.path.as_str())?;
-    let uri = uri.as_str();
-    let mut list = Vec::new(alloc);
-    if let Some(why) = told.refusal {
-        list.push(refusal(alloc, why.as_str())?)?;
-    }
+    let list = diagnostics(alloc, told, uri.as_str())?;
+    note_of(alloc, uri.as_str(), &list)
+}
+
+/// The note of a file that has these diagnostics.
+fn note_of(alloc: Global, uri: &str, list: &Value) -> Result<Value, AllocError>
+    ensures { IfOk result (λ value. view value ≡ params_data uri.now (view list.now)) }
+{
+    json!(in alloc; {"uri": uri, "diagnostics": list})
+}
+
+/// The diagnostics of a file.
+fn diagnostics(alloc: Global, told: &Published, uri: &str) -> Result<Value, AllocError>
+    ensures { IfOk result (λ value. (first : List Data) × IsFirst told.now.refusal first × (view value ≡ array (items_of (first ++ map (diagnostic_data uri.now) told.now.messages.items)))) }
+{
+    let mut list = first(alloc, told.refusal)?;
     for message in &told.messages {
         list.push(diagnostic(alloc, message, uri)?)?;
     }
-    let list = Value::Array(list);
-    json!(in alloc; {"uri": uri, "diagnostics": &list})
+    Ok(Value::Array(list))
+}
+
+/// Why a file is not checked, if there is a reason.
+fn first(alloc: Global, refusal: Option<Why>) -> Result<Vec<Value>, AllocError>
+    ensures { IfOk result (λ list. IsFirst refusal (map view list.items)) }
+{
+    let mut list = Vec::new(alloc);
+    if let Some(why) = refusal {
+        list.push(refused(alloc, why.as_str())?)?;
+    }
+    Ok(list)
 }
 
 /// Why a file is not checked, at its first line.
-fn refusal(alloc: Global, why: &str) -> Result<Value, AllocError> {
+fn refused(alloc: Global, why: &str) -> Result<Value, AllocError>
+    ensures { IfOk result (λ value. view value ≡ refusal_data why.now) }
+{
     let range = line_range(alloc, 1, "")?;
     json!(in alloc; {"range": &range, "severity": 1, "source": "occ", "message": why})
 }
 
 /// A whole line, from 1.
-fn line_range(alloc: Global, line: u32, source: &str) -> Result<Value, AllocError> {
+fn line_range(alloc: Global, line: u32, source: &str) -> Result<Value, AllocError>
+    ensures { IfOk result (λ value. view value ≡ line_data line source.now) }
+{
     let line = line.saturating_sub(1);
-    let units = units(source);
-    let start = json!(in alloc; {"line": line, "character": 0})?;
-    let end = json!(in alloc; {"line": line, "character": units})?;
-    json!(in alloc; {"start": &start, "end": &end})
+    let start = place(alloc, line, 0)?;
+    let end = place(alloc, line, units(source.as_bytes()))?;
+    range(alloc, &start, &end)
+}
+
+/// A place.
+fn place(alloc: Global, line: u32, character: u64) -> Result<Value, AllocError>
+    ensures { IfOk result (λ value. view value ≡ place_data line character) }
+{
+    json!(in alloc; {"line": line, "character": character})
+}
+
+/// What stands between two places.
+fn range(alloc: Global, start: &Value, end: &Value) -> Result<Value, AllocError>
+    ensures { IfOk result (λ value. view value ≡ range_data (view start.now) (view end.now)) }
+{
+    json!(in alloc; {"start": start, "end": end})
 }
 
 /// How many UTF-16 units a text has.
-fn units(source: &str) -> u32 {
-    let mut units = 0u32;
-    for character in source.chars() {
-        units = units.saturating_add(if u32::from(character) > 0xFFFF { 2 } else { 1 });
+fn units(source: &[u8]) -> u64
+    ensures { result ≡ units_in source.now }
+{
+    let mut units = 0;
+    for b in source {
+        let byte = *b;
+        if !(128 <= byte && byte < 192) {
+            units += if 240 <= byte { 2 } else { 1 };
+        }
     }
     units
 }
 
 /// A diagnostic.
-fn diagnostic(alloc: Global, message: &Message, uri: &str) -> Result<Value, AllocError> {
+fn diagnostic(alloc: Global, message: &Message, uri: &str) -> Result<Value, AllocError>
+    ensures { IfOk result (λ value. view value ≡ diagnostic_data uri.now message.now) }
+{
     let range = line_range(alloc, message.line, message.source.as_str())?;
     let severity = match message.grade {
         Grade::Error => 1,
@@ -67,7 +121,9 @@ fn diagnostic(alloc: Global, message: &Message, uri: &str) -> Result<Value, Allo
 }
 
 /// What is wrong, and what may help.
-fn words(alloc: Global, message: &Message) -> Result<String, AllocError> {
+fn words(alloc: Global, message: &Message) -> Result<String, AllocError>
+    ensures { IfOk result (λ words. string_bytes words ≡ words_of message.now) }
+{
     let mut words = String::from_str(alloc, message.words.as_str())?;
     for hint in &message.hints {
         words.push_str("\nhelp: ")?;
@@ -77,7 +133,9 @@ fn words(alloc: Global, message: &Message) -> Result<String, AllocError> {
 }
 
 /// The other lines that matter.
-fn others(alloc: Global, message: &Message, uri: &str) -> Result<Value, AllocError> {
+fn others(alloc: Global, message: &Message, uri: &str) -> Result<Value, AllocError>
+    ensures { IfOk result (λ value. view value ≡ array (items_of (map (other_data uri.now) message.now.others.items))) }
+{
     let mut list = Vec::new(alloc);
     for other in &message.others {
         list.push(other_line(alloc, other, uri)?)?;
@@ -86,9 +144,18 @@ fn others(alloc: Global, message: &Message, uri: &str) -> Result<Value, AllocErr
 }
 
 /// Another line that matters.
-fn other_line(alloc: Global, other: &Quoted, uri: &str) -> Result<Value, AllocError> {
+fn other_line(alloc: Global, other: &Quoted, uri: &str) -> Result<Value, AllocError>
+    ensures { IfOk result (λ value. view value ≡ other_data uri.now other.now) }
+{
     let range = line_range(alloc, other.number, other.source.as_str())?;
-    let location = json!(in alloc; {"uri": uri, "range": &range})?;
+    let location = location(alloc, uri, &range)?;
     let label = other.label;
     json!(in alloc; {"location": &location, "message": label})
+}
+
+/// A range of a file.
+fn location(alloc: Global, uri: &str, range: &Value) -> Result<Value, AllocError>
+    ensures { IfOk result (λ value. view value ≡ location_data uri.now (view range.now)) }
+{
+    json!(in alloc; {"uri": uri, "range": range})
 }

@@ -1,4 +1,10 @@
 //! Messages that are sent, in their frames.
+ghost use Rattle.occ_editor_edits.specs.Frames.{framed};
+ghost use Rattle.occ_editor_messages.specs.Sent.{note_bytes, note_data};
+ghost use Rattle.serde_json.specs.View.{view};
+ghost use Rattle.serde_json.specs.Written.{compact_text, has_float};
+ghost use Rattle.std.specs.Prelude.{◌≡◌, ◌++◌, [], IfOk, OnOk, false};
+
 use occ_editor_edits::frame;
 use serde_json::{Value, json};
 use std::alloc::{AllocError, Global};
@@ -31,20 +37,27 @@ impl Sending {
     }
 
     /// All bytes, which are to be sent no more.
-    pub fn as_slice(&self) -> &[u8] {
+    pub fn as_slice(&self) -> &[u8]
+        ensures { result.now ≡ self.now.bytes.items }
+    {
         self.bytes.as_slice()
     }
 
     /// They were sent.
-    pub fn clear(&mut self) {
+    pub fn clear(&mut self)
+        ensures { self.new.bytes.items ≡ [] }
+    {
         self.bytes.clear();
     }
 
     /// Adds a message.
-    fn add(&mut self, message: &Value) -> Result<(), AllocError> {
+    fn add(&mut self, message: &Value) -> Result<(), AllocError>
+        ensures { OnOk result (has_float (view message.now) ≡ false → self.new.bytes.items ≡ self.old.bytes.items ++ framed (compact_text (view message.now))) }
+    {
         let text = message.to_string(self.alloc)?;
         let framed = frame(self.alloc, text.as_str())?;
-        self.bytes.extend_from_slice(framed.as_bytes())
+        self.bytes.extend_from_slice(framed.as_bytes())?;
+        Ok(())
     }
 
     /// Adds the answer to a request.
@@ -64,9 +77,12 @@ impl Sending {
     }
 
     /// Adds a note.
-    pub fn note(&mut self, method: &str, params: &Value) -> Result<(), AllocError> {
-        let message = json!(in self.alloc; {"jsonrpc": "2.0", "method": method, "params": params})?;
-        self.add(&message)
+    pub fn note(&mut self, method: &str, params: &Value) -> Result<(), AllocError>
+        ensures { OnOk result (has_float (view params.now) ≡ false → self.new.bytes.items ≡ self.old.bytes.items ++ note_bytes method.now (view params.now)) }
+    {
+        let message = note(self.alloc, method, params)?;
+        self.add(&message)?;
+        Ok(())
     }
 
     /// Adds a request of the server's own, whose answer tells nothing.
@@ -76,4 +92,11 @@ impl Sending {
         )?;
         self.add(&message)
     }
+}
+
+/// A note of a method.
+fn note(alloc: Global, method: &str, params: &Value) -> Result<Value, AllocError>
+    ensures { IfOk result (λ message. view message ≡ note_data method.now (view params.now)) }
+{
+    json!(in alloc; {"jsonrpc": "2.0", "method": method, "params": params})
 }

@@ -2,12 +2,15 @@
 ghost use Rattle.occ_editor.specs.Standing.{AreServed, IsStanding, IsUpToDate};
 ghost use Rattle.occ_editor_edits.specs.Calls.{note_in};
 ghost use Rattle.occ_editor_edits.specs.Documents.{text_in};
-ghost use Rattle.occ_editor_messages.specs.Talks.{HasHeard, IsJson, IsNoJson, Talk, asks, heard, silence, texts_after};
+ghost use Rattle.occ_editor_messages.specs.Sent.{Tells};
+ghost use Rattle.occ_editor_messages.specs.inside.Sending.{AreSent};
+ghost use Rattle.occ_editor_messages.specs.Talks.{HasHeard, IsJson, IsNoJson, Talk, asks, heard, next_of, silence, status_of, texts_after};
 ghost use Rattle.occ_editor_messages.specs.inside.Phases.{phase_by};
+ghost use Rattle.occ_editor_messages.specs.declared.server.Next.TheVariants.{Goes};
 ghost use Rattle.occ_editor_messages.specs.declared.server.Phase.TheVariants.{Begun};
 ghost use Rattle.serde_json.specs.Data.{Data};
 ghost use Rattle.serde_json.specs.View.{view};
-ghost use Rattle.std.specs.Prelude.{◌≡◌, List, OnOk, is_some, ℕ};
+ghost use Rattle.std.specs.Prelude.{◌≡◌, [], IfOk, List, OnOk, is_some, ℕ};
 
 use super::diagnostics::published;
 use super::sending::{NO_JSON, NO_MEMBERS, NO_METHOD, NO_REQUEST, NOT_BEGUN, Sending};
@@ -70,12 +73,15 @@ impl<D: Disk + Drop> Server<D> {
     }
 
     /// What is to be sent.
-    pub fn sent(&self) -> &[u8] {
+    pub fn sent(&self) -> &[u8]
+        ensures { result.now ≡ self.now.sending.bytes.items }
+    {
         self.sending.as_slice()
     }
 
     /// It was sent.
     pub fn clear(&mut self)
+        ensures sent { self.new.sending.bytes.items ≡ [] }
         ensures editor { self.new.editor ≡ self.old.editor }
         ensures phase { self.new.phase ≡ self.old.phase }
     {
@@ -102,6 +108,8 @@ impl<D: Disk + Drop> Server<D> {
     pub fn take(&mut self, message: &[u8]) -> Result<Next, CheckFault>
         ensures boards { OnOk result (IsStanding self.old.editor → IsStanding self.new.editor) }
         ensures heard { OnOk result ((talk : Talk) (value : Data) → IsJson message.now value → HasHeard self.old talk → HasHeard self.new (heard talk value)) }
+        ensures next { IfOk result (λ next. (talk : Talk) (value : Data) → IsJson message.now value → HasHeard self.old talk → next ≡ next_of talk value) }
+        ensures goes { IfOk result (λ next. IsNoJson message.now → next ≡ Goes) }
         ensures unheard { OnOk result ((talk : Talk) → IsNoJson message.now → HasHeard self.old talk → HasHeard self.new talk) }
     {
         self.is_lost = false;
@@ -120,10 +128,11 @@ impl<D: Disk + Drop> Server<D> {
     fn take_value(&mut self, message: &Value) -> Result<Next, CheckFault>
         ensures boards { OnOk result (IsStanding self.old.editor → IsStanding self.new.editor) }
         ensures heard { OnOk result ((talk : Talk) → HasHeard self.old talk → HasHeard self.new (heard talk (view message.now))) }
+        ensures next { IfOk result (λ next. (talk : Talk) → HasHeard self.old talk → next ≡ next_of talk (view message.now)) }
     {
         let call = call_of(self.alloc, message)?;
         if matches!(&call, Call::Exit) {
-            return Ok(Next::Ends(if self.phase == Phase::Shut { 0 } else { 1 }));
+            return Ok(Next::Ends(status(self.phase)));
         }
         match id_of(message) {
             Some(id) => self.answer(id, call)?,
@@ -263,6 +272,7 @@ impl<D: Disk + Drop> Server<D> {
         ensures boards { OnOk result (IsStanding self.old.editor → IsUpToDate self.new.editor) }
         ensures stands { OnOk result (IsStanding self.old.editor → IsStanding self.new.editor) }
         ensures served { OnOk result (IsStanding self.old.editor → AreServed self.new.editor) }
+        ensures told { OnOk result (IsStanding self.old.editor → Tells self.old self.new) }
         ensures documents { OnOk result (self.new.editor.documents ≡ self.old.editor.documents) }
         ensures phase { self.new.phase ≡ self.old.phase }
     {
@@ -275,6 +285,7 @@ impl<D: Disk + Drop> Server<D> {
     fn send_all(&mut self, all: &[Published]) -> Result<(), AllocError>
         ensures editor { self.new.editor ≡ self.old.editor }
         ensures phase { self.new.phase ≡ self.old.phase }
+        ensures sent { OnOk result (AreSent all.now self.old.sending.bytes.items self.new.sending.bytes.items) }
     {
         for told in all {
             let params = published(self.alloc, told)?;
@@ -282,6 +293,16 @@ impl<D: Disk + Drop> Server<D> {
                 .note("textDocument/publishDiagnostics", &params)?;
         }
         Ok(())
+    }
+}
+
+/// The status with which a server ends.
+fn status(phase: Phase) -> u8
+    ensures { result ≡ status_of phase }
+{
+    match phase {
+        Phase::Shut => 0,
+        Phase::New | Phase::Begun => 1,
     }
 }
 
