@@ -35,6 +35,12 @@ one_waits files flags n here e none before p file lt is = elim (last_or_less n p
   one_file : (x y : Read) → Some x ≡ Some y → x ≡ y
   one_file x y s = cc
 
+-- a file at an index that is ready there is the one that is found there
+pub ready_there : (files : List Read) (flags : List Bool) (n : ℕ) (here file : Read) → slice_get files n ≡ Some here → is_ready files flags n here ≡ true → slice_get files n ≡ Some file → is_ready files flags n file ≡ true
+ready_there files flags n here file e ready is = subst (λ (f : Read). is_ready files flags n f ≡ true) (one_file here file (sym e ∙ is)) ready where
+  one_file : (x y : Read) → Some x ≡ Some y → x ≡ y
+  one_file x y s = cc
+
 pub fewer_wait : (files : List Read) (flags : List Bool) (m n : ℕ) → m ≤ n → NoneIsReady files flags n → NoneIsReady files flags m
 fewer_wait files flags m n le before p file lt e = before p file (omega (arith, lt, le)) e
 

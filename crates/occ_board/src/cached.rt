@@ -5,7 +5,7 @@ ghost use Rattle.occ_board.specs.inside.Verified.{shown_of};
 ghost use Rattle.occ_board.specs.inside.Holding.{index_in};
 ghost use Rattle.occ_check.specs.Diagnostics.{interface_of};
 ghost use Rattle.std.specs.Option.{option_copied};
-ghost use Rattle.std.specs.Prelude.{◌≡◌, ◌<◌, [], IfErr, IfOk, IfSome, IsTrue, None, Some, length, slice_get, true};
+ghost use Rattle.std.specs.Prelude.{◌≡◌, ◌↔◌, ◌<◌, [], IfErr, IfOk, IfSome, IsTrue, None, Some, length, slice_get, true};
 
 use super::comparing::are_same_interfaces;
 use occ_base::{FileName, Shared};
@@ -149,7 +149,7 @@ impl Cached {
     ) -> Result<(usize, bool), (Outcome, AllocError)>
         ensures cached { IfOk result (λ _. self.new ≡ with_cached self.old outcome) }
         ensures index { IfOk result (λ found. slice_get self.new found.0 ≡ Some outcome) }
-        ensures shown { IfOk result (λ found. found.1 ≡ true → interface_of outcome ≡ shown_of self.old outcome.unit) }
+        ensures shown { IfOk result (λ found. (found.1 ≡ true) ↔ (interface_of outcome ≡ shown_of self.old outcome.unit)) }
         ensures err { IfErr result (λ refused. (refused.0 ≡ outcome) × (self.new ≡ self.old)) }
     {
         match self.index_near(file, outcome.job().unit()) {
@@ -173,7 +173,7 @@ impl Cached {
         requires index { index_in self.old outcome.unit ≡ Some index }
         ensures cached { self.new ≡ with_cached self.old outcome }
         ensures index { slice_get self.new index ≡ Some outcome }
-        ensures shown { IsTrue result → interface_of outcome ≡ shown_of self.old outcome.unit }
+        ensures shown { IsTrue result ↔ (interface_of outcome ≡ shown_of self.old outcome.unit) }
     {
         let before = self.at(index).interface();
         let same = are_same_interfaces(outcome.interface(), before);

@@ -66,7 +66,7 @@ pub fn are_same_sources(a: Option<&Shared<Source>>, b: Option<&Shared<Source>>) 
 
 /// Whether two units show one interface, or both none.
 pub fn are_same_interfaces(a: Option<&Shared<Interface>>, b: Option<&Shared<Interface>>) -> bool
-    ensures { IsTrue result → option_copied a.entry ≡ option_copied b.entry }
+    ensures { IsTrue result ↔ (option_copied a.entry ≡ option_copied b.entry) }
 {
     match (a, b) {
         (Some(a), Some(b)) => a.get().is_same(b.get()),

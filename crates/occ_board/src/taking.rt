@@ -4,10 +4,11 @@ ghost use Rattle.occ_board.specs.Machine.{next_input};
 ghost use Rattle.occ_board.specs.inside.Flagged.{AreFlags};
 ghost use Rattle.occ_board.specs.inside.Ready.{AreRested, HasJob, NoneIsReady, is_next as spec_is_next, is_ready as spec_is_ready, is_rested};
 ghost use Rattle.occ_check.specs.Checks.{checked, input, used_as as spec_used_as, used_unit};
+ghost use Rattle.occ_project.specs.declared.reads.Read.{Read as ARead};
 ghost use Rattle.occ_project_units.specs.Indices.{is_below, standing_of};
 ghost use Rattle.occ_project_units.specs.Project.{IsProject};
 ghost use Rattle.std.specs.Option.{option_copied, option_map};
-ghost use Rattle.std.specs.Prelude.{◌≡◌, ◌<◌, ◌≤◌, ℕ, IfOk, IfSome, Some, false, get_or, map, slice_get, true};
+ghost use Rattle.std.specs.Prelude.{◌≡◌, ◌<◌, ◌≤◌, ℕ, IfOk, IfSome, Some, false, get_or, length, map, slice_get, true};
 
 use super::cached::Cached;
 use super::flags::{are_rests_flagged, is_flagged};
@@ -136,7 +137,9 @@ fn first_unflagged(flags: &[bool], from: usize) -> usize
 /// The first index, from one before which no unit is ready, where one is; if there is none, how many files there are.
 pub fn first_ready(graph: &Graph, flags: &[bool], from: usize) -> usize
     requires { NoneIsReady graph.now flags.now from }
-    ensures { NoneIsReady graph.now flags.now result }
+    ensures before { NoneIsReady graph.now flags.now result }
+    ensures ready { (file : ARead) → slice_get graph.now result ≡ Some file → spec_is_ready graph.now flags.now result file ≡ true }
+    ensures most { result ≤ length graph.now }
 {
     let files = graph.project().files();
     for index in first_unflagged(flags, from)..files.len() {

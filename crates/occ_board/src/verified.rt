@@ -81,7 +81,8 @@ pub fn verified_with_index(
     verified: &Flags,
     index: usize,
 ) -> Result<Flags, AllocError>
-    ensures { IfOk result (λ next. ((index ≤ length verified.now) × (next ≡ insert verified.now index false)) ⊎ (next ≡ [])) }
+    ensures known { IfOk result (λ next. ((index ≤ length verified.now) × (next ≡ insert verified.now index false)) ⊎ (next ≡ [])) }
+    ensures kept { IfOk result (λ next. index ≤ length verified.now → next ≡ insert verified.now index false) }
 {
     if index <= verified.as_slice().len() {
         return verified.with_index(alloc, index);

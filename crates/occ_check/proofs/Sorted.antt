@@ -1,6 +1,8 @@
 -- A used unit is found by halves.
 use Rattle.std.proofs.Common.{◌≡◌, ◌∙◌, ◌<◌, ◌≤◌, ℕ, zero, suc, Bool, true, false, cond, List, [], ◌∷◌, length, map, get_or, Result, Ok, Err, MatchResult, refl, sym, ap, subst, inl, inr, arith}
 use Rattle.std.proofs.lemmas.Bool.{cases_lt}
+use Rattle.std.proofs.lemmas.Cmp.{nat_list_cmp_total}
+use Rattle.std.specs.Cmp.{tied_itself}
 use Rattle.std.specs.List.{AllByRecursion, HoldsAt}
 use Rattle.std.specs.List.Sorted.{IsBinarySearchResult, IsNonDecreasingBy, IsSearchInRange, IsStrictlySortedBy}
 use Rattle.std.specs.Ordering.{ordering_index}
@@ -62,6 +64,9 @@ found_at name (x ∷ used) (suc k) d s lt h =
     let there = equal_names (get_or used k x).unit name (h x) in
     let less : name_cmp x.unit name ≡ Less = subst (λ (n : List ℕ). name_cmp x.unit n ≡ Less) there (later x used s.0 k x (omega (arith, lt))) in
     ap (λ (b : Bool). cond b x.used (standing used name)) (apart x.unit name Less less) ∙ found_at name used k d s.1 (omega (arith, lt)) (λ e. h e)
+
+pub found_here : (name : List ℕ) (used : List UsedUnit) (at : ℕ) (d : UsedUnit) → AreSorted used → (at < length used) × HoldsAt (λ one. one.unit ≡ name) used at → standing used name ≡ (get_or used at d).used
+found_here name used at d sorted there = found_at name used at d sorted there.0 (λ e. ap (λ (n : List ℕ). name_cmp n name) (there.1 e) ∙ tied_itself nat_list_cmp_total name)
 
 none_found : (name : List ℕ) (used : List UsedUnit) → ((k : ℕ) (d : UsedUnit) → k < length used → bytes_eq (get_or used k d).unit name ≡ false) → standing used name ≡ how.Absent
 none_found name [] h = refl

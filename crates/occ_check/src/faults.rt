@@ -1,7 +1,8 @@
 //! Faults of lines (L1 to L4, S1, S3), and of used units (G1 to G3). `docs/LANGUAGE.md, Codes`.
-ghost use Rattle.std.specs.List.{flat_map};
-ghost use Rattle.std.specs.Prelude.{◌≡◌, ◌++◌, OnOk};
+ghost use Rattle.std.specs.List.{HoldsAt, flat_map};
+ghost use Rattle.std.specs.Prelude.{◌≡◌, ◌<◌, ◌++◌, IfSome, IsTrue, MatchOption, OnOk, length};
 ghost use Rattle.occ_check.specs.inside.Sorted.{AreSorted};
+ghost use Rattle.occ_check.specs.declared.used.Used.TheVariants as how;
 ghost use Rattle.occ_check.specs.Faults.{line_faults, own_faults, standing, use_code as spec_use_code, use_faults};
 
 use super::used::{Used, UsedUnit};
@@ -21,21 +22,49 @@ fn code_of(used: &Used) -> Option<Code>
     }
 }
 
-/// What is wrong with a use of the unit, as it stands among these: one that is not among them is absent.
-fn use_code(used: &[UsedUnit], unit: FileName) -> Option<Code>
+/// Whether the unit is the one at this place.
+fn is_at(used: &[UsedUnit], place: usize, unit: FileName) -> bool
+    ensures { IsTrue result → (place < length used.now) × HoldsAt (λ one. one.unit ≡ unit) used.now place }
+{
+    match used.get(place) {
+        Some(one) => one.unit == unit,
+        None => false,
+    }
+}
+
+/// The place of the unit, if it is one of these. It is looked for at the hint first.
+fn place_of(used: &[UsedUnit], hint: usize, unit: FileName) -> Option<usize>
+    requires { AreSorted used.now }
+    ensures within { IfSome result (λ place. place < length used.now) }
+    ensures value { MatchOption result (standing used.now unit ≡ how.Absent) (λ place. HoldsAt (λ one. standing used.now unit ≡ one.used) used.now place) }
+{
+    if is_at(used, hint, unit) {
+        return Some(hint);
+    }
+    match used.binary_search_by(|one| one.unit.cmp(&unit)) {
+        Ok(place) => Some(place),
+        Err(_place) => None,
+    }
+}
+
+/// What is wrong with a use of the unit, as it stands among these: one that is not among them is absent. Where it is found, the
+/// next one is looked for behind it first.
+fn use_code(used: &[UsedUnit], hint: &mut usize, unit: FileName) -> Option<Code>
     requires { AreSorted used.now }
     ensures { result ≡ spec_use_code (standing used.now unit) }
 {
-    match used.binary_search_by_key(&unit, |one| one.unit) {
-        Ok(at) => code_of(&used[at].used),
-        Err(_at) => Some(Code::G1),
-    }
+    let Some(place) = place_of(used, *hint, unit) else {
+        return Some(Code::G1);
+    };
+    *hint = place + 1;
+    code_of(&used[place].used)
 }
 
 /// Adds the fault of a use of the unit at the line, if it has one.
 fn add_use_fault(
     alloc: Global,
     used: &[UsedUnit],
+    hint: &mut usize,
     line: &ExpandedLine,
     unit: FileName,
     found: &mut Items<Diag>,
@@ -43,7 +72,7 @@ fn add_use_fault(
     requires { AreSorted used.now }
     ensures { OnOk result (found.new ≡ found.old ++ use_faults used.now line.now unit) }
 {
-    let Some(code) = use_code(used, unit) else {
+    let Some(code) = use_code(used, hint, unit) else {
         return Ok(());
     };
     let name = Name::from_slice(alloc, unit.as_bytes())?;
@@ -54,6 +83,7 @@ fn add_use_fault(
 fn add_use_faults(
     alloc: Global,
     used: &[UsedUnit],
+    hint: &mut usize,
     line: &ExpandedLine,
     units: &[FileName],
     found: &mut Items<Diag>,
@@ -62,7 +92,7 @@ fn add_use_faults(
     ensures { OnOk result (found.new ≡ found.old ++ flat_map (use_faults used.now line.now) units.now) }
 {
     for unit in units {
-        add_use_fault(alloc, used, line, *unit, found)?;
+        add_use_fault(alloc, used, hint, line, *unit, found)?;
     }
     Ok(())
 }
@@ -71,6 +101,7 @@ fn add_use_faults(
 fn add_own_faults(
     alloc: Global,
     used: &[UsedUnit],
+    hint: &mut usize,
     line: &ExpandedLine,
     found: &mut Items<Diag>,
 ) -> Result<(), AllocError>
@@ -80,7 +111,7 @@ fn add_own_faults(
     match &line.body {
         ExpandedBody::Form(_) => Ok(()),
         ExpandedBody::Uses(units) => {
-            add_use_faults(alloc, used, line, units.get().as_slice(), found)
+            add_use_faults(alloc, used, hint, line, units.get().as_slice(), found)
         }
         ExpandedBody::Fault(code) => found.push(Diag::error(line.file, line.line, *code, None)),
     }
@@ -96,8 +127,9 @@ pub fn find_line_faults(
     requires { AreSorted used.now }
     ensures { OnOk result (found.new ≡ found.old ++ line_faults used.now lines.now) }
 {
+    let mut hint = 0;
     for line in lines {
-        add_own_faults(alloc, used, line, found)?;
+        add_own_faults(alloc, used, &mut hint, line, found)?;
     }
     Ok(())
 }

@@ -38,7 +38,7 @@ impl Judgement {
 fn imports(alloc: Global, used: &[UsedUnit]) -> Result<Items<Import>, AllocError>
     ensures { IfOk result (λ imports. imports ≡ spec_imports used.now) }
 {
-    let mut found = Items::new(alloc);
+    let mut found = Vec::with_capacity(alloc, used.len())?;
     for one in used {
         if let Used::Clean(interface) = &one.used {
             found.push(Import {
@@ -47,7 +47,7 @@ fn imports(alloc: Global, used: &[UsedUnit]) -> Result<Items<Import>, AllocError
             })?;
         }
     }
-    Ok(found)
+    Ok(Items::from_vec(found))
 }
 
 /// What the rules of uses say of a unit, and what it exports.

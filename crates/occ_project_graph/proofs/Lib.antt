@@ -13,3 +13,4 @@ pub mod Free
 pub mod Mates
 pub mod Joined
 pub mod Led
+pub mod Rising

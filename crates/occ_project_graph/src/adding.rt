@@ -2,7 +2,7 @@
 //! indices of their nodes.
 ghost use Rattle.occ_project_graph.specs.inside.Linking.{with_rows};
 ghost use Rattle.occ_project_graph.specs.inside.Numbering.{AreSourceRows, IsFrontBefore, IsSourceRow, times_in};
-ghost use Rattle.std.specs.Prelude.{◌≡◌, ◌<◌, ◌++◌, IfOk, OnOk, get_or, length, replicate, slice_set};
+ghost use Rattle.std.specs.Prelude.{◌≡◌, ◌<◌, ◌++◌, ℕ, IfOk, IsTrue, OnOk, get_or, length, replicate, slice_set};
 
 use super::search::{number_at, targets as row};
 use sqlite_items::Items;
@@ -19,10 +19,26 @@ fn front_of(nodes: &[usize], indices: &[usize], at: usize) -> usize
     front
 }
 
-/// How often a node is one of these.
-fn count_of(nodes: &[usize], node: usize) -> usize
+/// Whether the indices of these nodes rise. Then each stands among them once.
+fn do_rise(indices: &[usize], nodes: &[usize]) -> bool
+    ensures { IsTrue result → (i : ℕ) → i < length nodes.now → times_in nodes.now (get_or nodes.now i 0) ≡ 1 }
+{
+    for i in 1..nodes.len() {
+        if number_at(indices, nodes[i - 1]) >= number_at(indices, nodes[i]) {
+            return false;
+        }
+    }
+    true
+}
+
+/// How often a node is one of these, which is once where it is known.
+fn count_of(nodes: &[usize], node: usize, is_once: bool) -> usize
+    requires { IsTrue is_once → times_in nodes.now node ≡ 1 }
     ensures { result ≡ times_in nodes.now node }
 {
+    if is_once {
+        return 1;
+    }
     nodes.iter().filter(|other| **other == node).count()
 }
 
@@ -68,13 +84,14 @@ pub fn source_rows(
 ) -> Result<Items<Items<usize>>, AllocError>
     ensures { IfOk result (λ rows. AreSourceRows indices.now sources.now at number nodes.now nodes.now rows) }
 {
-    let mut rows = Items::new(alloc);
+    let is_once = do_rise(indices, nodes);
+    let mut rows = Vec::with_capacity(alloc, nodes.len())?;
     for node in nodes {
-        let times = count_of(nodes, *node);
+        let times = count_of(nodes, *node, is_once);
         let before = row(sources, *node);
         rows.push(source_row(alloc, indices, before, at, number, times)?)?;
     }
-    Ok(rows)
+    Ok(Items::from_vec(rows))
 }
 
 /// Replaces the row at the index that stands among these.

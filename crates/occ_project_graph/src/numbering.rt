@@ -44,11 +44,11 @@ pub fn numbers_then(
     requires within { (p : ℕ) → is_among indices.now p ≡ true → p ≤ length numbers.now }
     ensures { IfOk result (λ found. found ≡ map (λ p. get_or (insert numbers.now at (length numbers.now)) p 0) indices.now) }
 {
-    let mut found = Items::new(alloc);
+    let mut found = Vec::with_capacity(alloc, indices.len())?;
     for index in indices {
         found.push(number_then(numbers, at, *index))?;
     }
-    Ok(found)
+    Ok(Items::from_vec(found))
 }
 
 /// The index of a node behind an index rises by one.

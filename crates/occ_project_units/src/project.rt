@@ -96,7 +96,7 @@ impl Project {
     fn find(&self, name: FileName) -> Result<usize, usize>
         ensures { MatchResult result (λ at. spec_index name self.now ≡ Some at) (λ at. IsGap name self.now at) }
     {
-        self.files.binary_search_by_key(&name, |file| file.name)
+        self.files.binary_search_by(|file| file.name.cmp(&name))
     }
 
     /// The place of the file of that name.

@@ -100,8 +100,26 @@ kept_less es all m m' e chained near is puts =
           (near q ∙ nearest_of_all es all e q is);
     }
 
+undone : (b : Bool) (place hidden x y r : Option ℕ) → (b ≡ true → hidden ≡ r) → y ≡ cond b place x → x ≡ r → cond b hidden y ≡ r
+undone true place hidden x y r f h e = f refl
+undone false place hidden x y r f h e = h ∙ e
+
+-- what was put is taken back
+pub kept_back : (es : List Entry) (m m' m'' : BTreeMap (List ℕ) ℕ) (name : List ℕ) (place hidden : Option ℕ) → AreChained [] es → AreNearest es m → hidden ≡ place_held m name → Puts m m' name place → Puts m' m'' name hidden
+    → IsKept (inside es m'')
+kept_back es m m' m'' name place hidden chained near is puts back =
+    record {
+      chained = chained;
+      newest = λ q. back q ∙ undone (is_same_name name q) place hidden (place_held m q) (place_held m' q) (nearest (names_of es) q)
+          (λ h. is ∙ ap (place_held m) (exact_bytes name q (equal (slice_cmp nat_cmp name q) h)) ∙ near q)
+          (puts q) (near q);
+    }
+
 pub same_itself : (n : List ℕ) → is_same_name n n ≡ true
 same_itself n = ap is_eq (tied_itself nat_list_cmp_total n)
+
+pub put_is_held : (m m' : BTreeMap (List ℕ) ℕ) (n : List ℕ) (place : ℕ) → Puts m m' n (Some place) → IsSome (place_held m' n)
+put_is_held m m' n place puts = ap is_some (puts n ∙ ap (λ (b : Bool). cond b (Some place) (place_held m n)) (same_itself n))
 
 pub is_held : (es all : List Entry) (m : BTreeMap (List ℕ) ℕ) (e : Entry) → AreNearest all m → all ≡ es ++ e ∷ [] → IsSome (place_held m e.name)
 is_held es all m e near is = ap is_some (near e.name ∙ nearest_of_all es all e e.name is ∙ ap (λ (b : Bool). cond b (Some (length (names_of es))) (nearest (names_of es) e.name)) (same_itself e.name))

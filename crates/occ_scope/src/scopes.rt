@@ -69,10 +69,9 @@ impl Scopes {
         let place = self.entries.len();
         let key = name.copied(alloc)?;
         let copy = name.copied(alloc)?;
-        let hidden = self.newest.get(name).copied();
-        self.entries.push(Entry { name: copy, hidden })?;
-        if let Err(refused) = put(&mut self.newest, key, place) {
-            self.entries.pop();
+        let hidden = put(&mut self.newest, key, place)?;
+        if let Err(refused) = self.entries.push(Entry { name: copy, hidden }) {
+            restore(&mut self.newest, name, hidden);
             return Err(refused);
         }
         Ok(place)
@@ -85,31 +84,37 @@ impl Scopes {
         let Some(last) = self.entries.pop() else {
             return;
         };
-        restore(&mut self.newest, last.name, last.hidden);
+        restore(&mut self.newest, &last.name, last.hidden);
     }
 }
 
-/// The newest of a name is at a place.
-fn put(newest: &mut BTreeMap<Name, usize>, name: Name, place: usize) -> Result<(), AllocError>
+/// The newest of a name is at a place: where it was before is told, if there was one.
+fn put(
+    newest: &mut BTreeMap<Name, usize>,
+    name: Name,
+    place: usize,
+) -> Result<Option<usize>, AllocError>
+    ensures hidden { IfOk result (λ hidden. hidden ≡ place_held newest.old name) }
     ensures ok { OnOk result (Puts newest.old newest.new name (Some place)) }
-    ensures absent { OnErr result (place_held newest.old name ≡ None) }
     ensures err { OnErr result (newest.new.entries ≡ newest.old.entries) }
 {
-    newest.insert(name, place)?;
-    Ok(())
+    let hidden = newest.insert(name, place)?;
+    Ok(hidden)
 }
 
 /// The newest of a name, of which there is one, is at a place again, or there is none any more.
-fn restore(newest: &mut BTreeMap<Name, usize>, name: Name, hidden: Option<usize>)
-    requires { IsSome (place_held newest.old name) }
-    ensures { Puts newest.old newest.new name hidden }
+fn restore(newest: &mut BTreeMap<Name, usize>, name: &Name, hidden: Option<usize>)
+    requires { IsSome (place_held newest.old name.now) }
+    ensures { Puts newest.old newest.new name.now hidden }
 {
     match hidden {
         Some(place) => {
-            let _ = put(newest, name, place);
+            if let Some(held) = newest.get_mut(name) {
+                *held = place;
+            }
         }
         None => {
-            newest.remove(&name);
+            newest.remove(name);
         }
     }
 }

@@ -9,7 +9,7 @@ use super::walk::lines_kept;
 use occ_base::{Diag, Items};
 use occ_scope::Scope;
 use occ_tree::Unit;
-use occ_typing_lines::{Import, Role, body_of};
+use occ_typing_lines::{Import, Imports, Role, body_of};
 use std::alloc::{AllocError, Global};
 use thiserror::Error;
 
@@ -53,9 +53,10 @@ pub fn type_unit(alloc: Global, unit: &Unit, imports: &[Import]) -> Result<Typed
 {
     let mut scope = Scope::new(alloc);
     let mut faults = Items::new(alloc);
+    let imports = Imports::new(imports);
     let lines = lines_kept(
         alloc,
-        imports,
+        &imports,
         unit.roots.as_slice(),
         body_of(Role::Process),
         &mut scope,

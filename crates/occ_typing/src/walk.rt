@@ -18,7 +18,7 @@ use occ_forms::Form;
 use occ_project::{ExpandedBody, Location};
 use occ_scope::{Scope, ScopeEntry};
 use occ_tree::Node;
-use occ_typing_lines::{Import, Line, Parent, Role, TypedForm, judged, place};
+use occ_typing_lines::{Imports, Line, Parent, Role, TypedForm, judged, place};
 use std::alloc::{AllocError, Global};
 
 /// What stands in scope after a line, where so many specifications stood in scope round its item.
@@ -98,7 +98,7 @@ struct Begun {
 /// A line before those under it; what it says of them, and what it reports itself.
 fn open(
     alloc: Global,
-    imports: &[Import],
+    imports: &Imports<'_>,
     node: &Node,
     parent: Parent,
     scope: &mut Scope,
@@ -184,7 +184,7 @@ fn close(
 #[cycle(lines)]
 fn inner(
     alloc: Global,
-    imports: &[Import],
+    imports: &Imports<'_>,
     nodes: &[Node],
     parent: Parent,
     enters: &[ScopeEntry],
@@ -207,7 +207,7 @@ fn inner(
 #[cycle(lines)]
 fn line(
     alloc: Global,
-    imports: &[Import],
+    imports: &Imports<'_>,
     node: &Node,
     parent: Parent,
     outer: usize,
@@ -237,7 +237,7 @@ fn line(
 #[cycle(lines)]
 fn go_under(
     alloc: Global,
-    imports: &[Import],
+    imports: &Imports<'_>,
     nodes: &[Node],
     begun: Begun,
     outer: usize,
@@ -272,7 +272,7 @@ fn go_under(
 #[cycle(lines)]
 fn lines(
     alloc: Global,
-    imports: &[Import],
+    imports: &Imports<'_>,
     nodes: &[Node],
     parent: Parent,
     scope: &mut Scope,
@@ -292,7 +292,7 @@ fn lines(
 #[cycle(lines)]
 pub fn lines_kept(
     alloc: Global,
-    imports: &[Import],
+    imports: &Imports<'_>,
     nodes: &[Node],
     parent: Parent,
     scope: &mut Scope,

@@ -1,3 +1,5 @@
 pub mod Scopes
 pub mod Trees
 mod Judging
+mod Searching
+mod Decimals

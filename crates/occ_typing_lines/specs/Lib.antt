@@ -8,3 +8,4 @@ pub mod Protocols
 pub mod Specifying
 pub mod Using
 pub mod Judging
+pub mod inside

@@ -6,6 +6,7 @@ ghost use Rattle.occ_typing_lines.specs.Parts.{instance_form as spec_instance_fo
 ghost use Rattle.occ_typing_lines.specs.declared.tree.TypedForm.TheVariants as t;
 ghost use Rattle.std.specs.Prelude.{◌≡◌};
 
+use super::options::TypedOptions;
 use super::tree::{BlockKind, TypedForm};
 use occ_base::{Items, Shared};
 use occ_typing_rules::{TypedElement, TypedExpr};
@@ -131,7 +132,7 @@ pub fn value_form(tree: Option<Shared<TypedExpr>>) -> TypedForm
 }
 
 /// Options, if each has a tree.
-pub fn options_form(trees: Option<Items<Shared<TypedExpr>>>) -> TypedForm
+pub fn options_form(trees: Option<TypedOptions>) -> TypedForm
     ensures { result ≡ made t.Options trees }
 {
     match trees {

@@ -9,14 +9,15 @@ ghost use Rattle.std.specs.Prelude.{◌≡◌, ◌++◌, [], IfOk, OnOk};
 use super::action::action;
 use super::construct::construct;
 use super::heading::heading;
+use super::imports::Imports;
 use super::line::{line_of_one, main, plain, with_role};
 use super::parent::{Line, Parent, Role};
 use super::part::{expressions, part};
 use super::specifying::one_line;
 use super::tree::TypedForm;
-use super::using::{Import, imported, interfaces_of};
+use super::using::{imported, interfaces_of};
 use super::variant::tagged;
-use occ_base::{Diag, Fault, Items};
+use occ_base::{Diag, Fault, Items, Shared};
 use occ_forms::{Form, Specified};
 use occ_project::ExpandedBody;
 use occ_scope::Scope;
@@ -47,7 +48,7 @@ fn specifying_line(
 /// The line of a form, with these nodes under it.
 fn form_line(
     alloc: Global,
-    form: &Form,
+    form: &Shared<Form>,
     nodes: &[Node],
     scope: &mut Scope,
     parent: Parent,
@@ -59,7 +60,7 @@ fn form_line(
     ensures found { OnOk result (found.new ≡ found.old ++ (spec_form_line scope.old form.now (forest_of nodes.now) parent).beneath) }
     ensures faults { OnOk result (faults.new ≡ faults.old ++ (spec_form_line scope.old form.now (forest_of nodes.now) parent).faults) }
 {
-    match form {
+    match form.get() {
         Form::Specified(specified) => {
             specifying_line(alloc, specified, nodes, scope, parent, found, faults)
         }
@@ -71,7 +72,7 @@ fn form_line(
         Form::Construct(following) => construct(alloc, following, scope, parent, faults),
         Form::Part(following) => part(alloc, following, scope, parent, faults),
         Form::Expressions(first, more) => {
-            expressions(alloc, first, more.as_slice(), scope, parent, faults)
+            expressions(alloc, form, first, more.as_slice(), scope, parent, faults)
         }
         Form::Tagged(name, first, more) => {
             tagged(alloc, name, first, more.as_slice(), scope, parent, faults)
@@ -82,7 +83,7 @@ fn form_line(
 /// A line with these nodes under it, which its parent does not report.
 fn line(
     alloc: Global,
-    imports: &[Import],
+    imports: &Imports<'_>,
     body: &ExpandedBody,
     nodes: &[Node],
     scope: &mut Scope,
@@ -96,9 +97,7 @@ fn line(
     ensures faults { OnOk result (faults.new ≡ faults.old ++ (spec_line imports.now scope.old body.now (forest_of nodes.now) parent).faults) }
 {
     match body {
-        ExpandedBody::Form(form) => {
-            form_line(alloc, form.get(), nodes, scope, parent, found, faults)
-        }
+        ExpandedBody::Form(form) => { form_line(alloc, form, nodes, scope, parent, found, faults) }
         ExpandedBody::Uses(units) => {
             let interfaces = interfaces_of(alloc, imports, units.get().as_slice())?;
             let adds = imported(alloc, interfaces.as_slice())?;
@@ -128,7 +127,7 @@ fn member(alloc: Global, parent: Parent) -> Result<Line, AllocError>
 #[tactic(auto, unfolding(crate::specs::Judging::judged))]
 pub fn judged(
     alloc: Global,
-    imports: &[Import],
+    imports: &Imports<'_>,
     body: &ExpandedBody,
     nodes: &[Node],
     scope: &mut Scope,

@@ -1,4 +1,5 @@
 //! Lines that are parts of what is around them: conditions, options, ELSE, VALOF, RESULT.
+ghost use Rattle.occ_forms.specs.declared.tree.Form.TheVariants as forms;
 ghost use Rattle.occ_typing_lines.specs.Parts.{else_option as spec_else_option, expressing as spec_expressing, instance_line as spec_instance_line, option as spec_option, otherwise as spec_otherwise, parting as spec_parting, resulting as spec_resulting, results_in as spec_results_in, results_of as spec_results_of, second as spec_second, valued as spec_valued};
 ghost use Rattle.occ_typing_statements.specs.Statements.{is_any_faulty};
 ghost use Rattle.std.specs.Prelude.{◌≡◌, ◌∷◌, ◌++◌, [], IfOk, OnOk};
@@ -6,21 +7,23 @@ ghost use Rattle.std.specs.Prelude.{◌≡◌, ◌∷◌, ◌++◌, [], IfOk, On
 use super::form::{condition_form, instance_form, options_form, results_form};
 use super::guard::guarding;
 use super::line::{main, plain};
+use super::options::typed_options;
 use super::parent::{Choosing, Line, Parent, Role};
 use super::tree::TypedForm;
 use super::variant::{of_role, variant_named};
 use occ_base::{Boxed, Code, Fault, Items, Shared, report};
-use occ_forms::PartForm;
+use occ_forms::{Form, PartForm};
 use occ_forms_expressions::Expr;
 use occ_scope::Scope;
 use occ_typing_rules::TypedExpr;
 use occ_typing_specifications::Expected;
-use occ_typing_statements::{condition, hidden_results, instance, options, results};
+use occ_typing_statements::{condition, hidden_results, instance, results};
 use std::alloc::{AllocError, Global};
 
 /// A line of options.
 fn option(
     alloc: Global,
+    form: &Shared<Form>,
     first: &Expr,
     more: &[Expr],
     mut choosing: Choosing,
@@ -28,11 +31,13 @@ fn option(
     scope: &Scope,
     faults: &mut Items<Fault>,
 ) -> Result<Line, AllocError>
+    requires { form.now ≡ forms.Expressions first.now more.now }
     ensures line { IfOk result (λ line. line ≡ (spec_option scope.now choosing rounds (first.now ∷ more.now)).line) }
     ensures faults { OnOk result (faults.new ≡ faults.old ++ (spec_option scope.now choosing rounds (first.now ∷ more.now)).faults) }
 {
-    let trees = options(
+    let trees = typed_options(
         alloc,
+        form,
         first,
         more,
         &choosing.selector,
@@ -116,12 +121,14 @@ fn instance_line(
 /// A line of expressions: a condition, options, a variant without parts, or an instance of a procedure.
 pub fn expressions(
     alloc: Global,
+    form: &Shared<Form>,
     first: &Expr,
     more: &[Expr],
     scope: &Scope,
     parent: Parent,
     faults: &mut Items<Fault>,
 ) -> Result<Line, AllocError>
+    requires { form.now ≡ forms.Expressions first.now more.now }
     ensures line { IfOk result (λ line. line ≡ (spec_expressing scope.now first.now more.now parent).line) }
     ensures faults { OnOk result (faults.new ≡ faults.old ++ (spec_expressing scope.now first.now more.now parent).faults) }
 {
@@ -142,6 +149,7 @@ pub fn expressions(
         }
         Role::Selection(choosing) => option(
             alloc,
+            form,
             first,
             more,
             choosing.into_inner(),

@@ -1,4 +1,5 @@
 //! Typed forms: what each line of a unit is, once its names and expressions are typed.
+use super::options::TypedOptions;
 use occ_base::{Items, Name, Shared};
 use occ_scope::{Referent, ScopeEntry};
 use occ_types::Interface;
@@ -84,7 +85,7 @@ pub enum TypedForm {
     /// `e`, the condition of a choice.
     Condition(Shared<TypedExpr>),
     /// `e, ..`: options of a selection.
-    Options(Items<Shared<TypedExpr>>),
+    Options(TypedOptions),
     /// `ELSE`
     Otherwise,
     /// `e & g`

@@ -1,7 +1,8 @@
 //! Imports: what comes into scope after a `#USE`, from the interfaces of used units.
 ghost use Rattle.occ_typing_lines.specs.Using.{entry_of, entries_of, imported as spec_imported, interface_of as spec_interface_of, interfaces_of as spec_interfaces_of, meaning_of as spec_meaning_of};
-ghost use Rattle.std.specs.Prelude.{◌≡◌, ◌++◌, ◌∷◌, [], IfOk, MatchOption, OnOk};
+ghost use Rattle.std.specs.Prelude.{◌≡◌, ◌++◌, ◌∷◌, [], IfOk, OnOk};
 
+use super::imports::Imports;
 use occ_base::{FileName, Items, Shared};
 use occ_scope::{Meaning, ScopeEntry};
 use occ_types::{Export, ExportKind, Formal, Interface, OccType};
@@ -81,27 +82,15 @@ fn push_exports(
     Ok(())
 }
 
-/// What the first import of this unit shows; a unit of which there is none shows nothing.
-fn interface_of(imports: &[Import], unit: FileName) -> Option<&Shared<Interface>>
-    ensures { MatchOption result (spec_interface_of unit imports.now ≡ []) (λ interface. spec_interface_of unit imports.now ≡ interface.now ∷ []) }
-{
-    for import in imports {
-        if import.unit == unit {
-            return Some(&import.interface);
-        }
-    }
-    None
-}
-
 /// Adds what the import of this unit shows, if there is one.
 fn push_interface(
-    imports: &[Import],
+    imports: &Imports<'_>,
     unit: FileName,
     found: &mut Items<Shared<Interface>>,
 ) -> Result<(), AllocError>
     ensures { OnOk result (found.new ≡ found.old ++ spec_interface_of unit imports.now) }
 {
-    match interface_of(imports, unit) {
+    match imports.interface_of(unit) {
         Some(interface) => found.push(interface.share()?),
         None => Ok(()),
     }
@@ -110,7 +99,7 @@ fn push_interface(
 /// What the imports of these units show, in the order of the units.
 pub fn interfaces_of(
     alloc: Global,
-    imports: &[Import],
+    imports: &Imports<'_>,
     units: &[FileName],
 ) -> Result<Items<Shared<Interface>>, AllocError>
     ensures { IfOk result (λ found. found ≡ spec_interfaces_of units.now imports.now) }

@@ -40,4 +40,4 @@ settle_from-requires-clause-reported c =
 pub settle_from-requires-clause-verified : goal.settle_from-requires-clause-verified
 settle_from-requires-clause-verified c =
     verified_new c.args.graph.now c.add.new.self (record { name = c.args.name; revision = c.args.revision; source = c.args.source }) c.args.index c.args.cached.now c.args.verified.now c.in_ok-known.known (subst IsProject c.project.ensures c.files-files.ensures.in_order) c.requires.new c.in_ok-add.ensures.ok
-    c.requires.spelled c.names_law.ensures c.apart_law.ensures.looked c.requires.verified c.in_ok-known.ensures
+    c.requires.spelled c.names_law.ensures c.apart_law.ensures.looked c.requires.verified c.in_ok-known.ensures.known

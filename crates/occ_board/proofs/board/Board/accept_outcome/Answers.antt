@@ -49,7 +49,7 @@ settle_cached-self-inside-requires-clause-verified c =
     let job : c.job-job.result.now ≡ c.args.outcome = c.job-job.ensures ∙ same_there c.cache.new.self c.in_ok-found.found.0 c.at.result.now c.args.outcome c.at.ensures c.in_ok-found.ensures.index in
     verified_still c.self.inside.base c.self.inside.journal.items c.self.inside.cached c.self.inside.handed.items c.args.self.now c.args.outcome c.self.view_is c.requires c.cache.new.self c.in_ok-found.ensures.cached c.done_law.ensures.done (c.done_law.ensures.project c.self.inside.base c.self.inside.journal.items c.self.invariant.0.based) c.height_law.ensures c.self.inside.graph c.self.inside.flags c.self.inside.opened c.self.inside.units
     c.self.invariant.0 c.self.inside.verified c.forget_users.new.verified c.in_ok-found.found.1 c.unit.result (c.unit.ensures.value ∙ ap (λ (i : Input). i.unit) job) c.verified_law.ensures.done c.self.invariant.2 c.forget_users.ensures
-    (λ h. c.in_ok-found.ensures.shown h ∙ ap (λ (t : State). shown_of t.cached c.args.outcome.unit) c.self.view_is)
+    (λ h. c.in_ok-found.ensures.shown.0 h ∙ ap (λ (t : State). shown_of t.cached c.args.outcome.unit) c.self.view_is)
 
 pub returns-clause-ok : goal.returns-clause-ok
 returns-clause-ok c =

@@ -14,7 +14,13 @@ pub cache_first-requires : goal.cache_first-requires
 cache_first-requires c = sym (c.in-None.ensures ∙ ap (index_in c.args.self.now) (c.unit.ensures.value ∙ ap (λ (i : Input). i.unit) c.job.ensures))
 
 pub returns-in_ok-index-in-None-clause-shown : goal.returns-in_ok-index-in-None-clause-shown
-returns-in_ok-index-in-None-clause-shown c = λ h.
+returns-in_ok-index-in-None-clause-shown c =
     let none : index_in c.args.self.now c.args.outcome.unit ≡ None = sym (c.in-None.ensures ∙ ap (index_in c.args.self.now) (c.unit.ensures.value ∙ ap (λ (i : Input). i.unit) c.job.ensures)) in
-    let shows : interface_of c.args.outcome ≡ None = search rules in
-    shows ∙ sym (none_shown c.args.self.now c.args.outcome.unit none)
+    let nothing = none_shown c.args.self.now c.args.outcome.unit none in (
+      λ h.
+          let shows : interface_of c.args.outcome ≡ None = search rules in
+          shows ∙ sym nothing,
+      λ e.
+          let shows : interface_of c.args.outcome ≡ None = e ∙ nothing in
+          search rules,
+    )

@@ -24,8 +24,8 @@ pub returns-clause-index : goal.returns-clause-index
 returns-clause-index c = set_there c.self.inside.outcomes.items c.args.outcome c.args.index (subst (λ (is : List Input). c.args.index < length is) (sym c.self.view_is) c.requires.within)
 
 pub returns-clause-shown : goal.returns-clause-shown
-returns-clause-shown c = λ h.
-    sym c.interface.ensures
-    ∙ c.are_same_interfaces-same.ensures h
-    ∙ c.interface-before.ensures
-    ∙ sym (shown_there c.args.self.now c.args.outcome.unit c.args.index c.at.result.now c.requires.index c.at.ensures)
+returns-clause-shown c =
+    let there = shown_there c.args.self.now c.args.outcome.unit c.args.index c.at.result.now c.requires.index c.at.ensures in (
+      λ h. sym c.interface.ensures ∙ c.are_same_interfaces-same.ensures.0 h ∙ c.interface-before.ensures ∙ sym there,
+      λ e. c.are_same_interfaces-same.ensures.1 (c.interface.ensures ∙ e ∙ there ∙ sym c.interface-before.ensures),
+    )

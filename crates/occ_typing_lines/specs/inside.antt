@@ -1,0 +1,3 @@
+-- what no contract of a public call rests on
+pub mod Decimals
+pub mod Sorted
