@@ -4,3 +4,5 @@ pub mod Order
 pub mod Placed
 pub mod Fronts
 pub mod Indices
+pub mod Digits
+pub mod Zeros

@@ -8,3 +8,4 @@ pub mod formers
 pub mod Errors
 pub mod Reporting
 pub mod Lists
+pub mod inside

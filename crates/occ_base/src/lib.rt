@@ -13,6 +13,7 @@ pub mod list_rows;
 mod name;
 mod rows;
 mod shared;
+mod short;
 
 pub use code::{Code, Grade};
 pub use diag::{Diag, add_error_if, has_error, write_diag};

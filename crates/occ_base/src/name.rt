@@ -1,4 +1,5 @@
-//! Names in texts and diagnostics. Up to 16 bytes are inline, so that most copies take no allocation.
+//! Names in texts and diagnostics. Up to 16 bytes are inline, so that most copies take no allocation, and most comparisons
+//! are of numbers.
 ghost use Rattle.std.proofs.Common.{rules};
 ghost use Rattle.std.proofs.lemmas.Cmp.{nat_list_cmp_total};
 ghost use Rattle.std.specs.Cmp.{partial_order_from_own_ties};
@@ -8,18 +9,22 @@ ghost use Rattle.std.specs.Ordering.{as_partial_cmp, nat_cmp};
 ghost use Rattle.std.specs.Prelude.{◌≡◌, IfOk};
 ghost use Rattle.std.specs.Str.{bytes_eq};
 
-use smallvec::SmallVec;
+use super::short::Short;
 use std::alloc::{AllocError, Global};
 use std::cmp::Ordering;
 use std::marker::Model;
 
-/// How long a name may be that is kept without an allocation. Most names of programs are shorter.
-const SHORT: usize = 16;
+/// The bytes of a name. Most names of programs are short.
+#[derive(Debug, Drop)]
+enum Bytes {
+    Short(Short),
+    Long(Vec<u8>),
+}
 
 /// A name in the text of a program, or what a diagnostic names: its bytes, in contracts and in order.
 #[derive(Debug, Drop)]
 pub struct Name {
-    bytes: SmallVec<u8, SHORT>,
+    bytes: Bytes,
 }
 
 impl Model for Name {
@@ -30,7 +35,9 @@ impl Model for Name {
 
     ghost coded = { coded_list coded_ℕ };
 
-    ghost view = { λ n. n.bytes.items };
+    ghost use Rattle.occ_base.specs.inside.Short.{bytes_of};
+
+    ghost view = { λ n. bytes_of n.bytes };
 }
 
 impl Name {
@@ -38,7 +45,11 @@ impl Name {
     pub fn from_slice(alloc: Global, bytes: &[u8]) -> Result<Name, AllocError>
         ensures { IfOk result (λ name. name ≡ bytes.now) }
     {
-        let bytes = SmallVec::from_slice(alloc, bytes)?;
+        let bytes = if bytes.len() <= 16 {
+            Bytes::Short(Short::new(bytes))
+        } else {
+            Bytes::Long(Vec::from_slice(alloc, bytes)?)
+        };
         Ok(Name { bytes })
     }
 
@@ -46,15 +57,39 @@ impl Name {
     pub fn copied(&self, alloc: Global) -> Result<Name, AllocError>
         ensures { IfOk result (λ name. name ≡ self.now) }
     {
-        Name::from_slice(alloc, self.as_bytes())
+        match &self.bytes {
+            Bytes::Short(bytes) => Ok(Name {
+                bytes: Bytes::Short(*bytes),
+            }),
+            Bytes::Long(bytes) => Name::from_slice(alloc, bytes.as_slice()),
+        }
     }
 
     /// The bytes of the name.
     pub fn as_bytes(&self) -> &[u8]
         ensures { result.now ≡ self.now }
     {
-        self.bytes.as_slice()
+        match &self.bytes {
+            Bytes::Short(bytes) => bytes.as_bytes(),
+            Bytes::Long(bytes) => bytes.as_slice(),
+        }
     }
+}
+
+/// Whether two names are the same of which one at least is long. By itself, so that the comparison of short ones is short.
+#[inline(never)]
+fn are_same(a: &Name, b: &Name) -> bool
+    ensures { result ≡ bytes_eq a.now b.now }
+{
+    a.as_bytes() == b.as_bytes()
+}
+
+/// Which of two names comes first of which one at least is long.
+#[inline(never)]
+fn order(a: &Name, b: &Name) -> Ordering
+    ensures { result ≡ slice_cmp nat_cmp a.now b.now }
+{
+    a.as_bytes().cmp(b.as_bytes())
 }
 
 impl PartialEq for Name {
@@ -63,7 +98,10 @@ impl PartialEq for Name {
     ghost laws = { Prim.search (comparing, rules) };
 
     fn eq(&self, other: &Name) -> bool {
-        self.as_bytes() == other.as_bytes()
+        match (&self.bytes, &other.bytes) {
+            (Bytes::Short(bytes), Bytes::Short(others)) => bytes.is_same(others),
+            _ => are_same(self, other),
+        }
     }
 }
 
@@ -81,7 +119,10 @@ impl Ord for Name {
     ghost matches_eq = { Prim.search (comparing, rules) };
 
     fn cmp(&self, other: &Name) -> Ordering {
-        self.as_bytes().cmp(other.as_bytes())
+        match (&self.bytes, &other.bytes) {
+            (Bytes::Short(bytes), Bytes::Short(others)) => bytes.order(others),
+            _ => order(self, other),
+        }
     }
 }
 

@@ -50,7 +50,7 @@ cached_among p (w ∷ vs) v h a = either_true (bytes_eq w v) (is_among vs v) a
     (λ k. among_more (p w) w v (filter p vs) (cached_among p vs v h k))
 
 -- tests that agree on names leave the same of them
-same_filter : (p q : List ℕ → Bool) (vs : List (List ℕ)) → ((v : List ℕ) → is_among vs v ≡ true → p v ≡ q v) → filter p vs ≡ filter q vs
+pub same_filter : (p q : List ℕ → Bool) (vs : List (List ℕ)) → ((v : List ℕ) → is_among vs v ≡ true → p v ≡ q v) → filter p vs ≡ filter q vs
 same_filter p q [] e = refl
 same_filter p q (v ∷ vs) e =
     let rest = same_filter p q vs (λ w a. e w (or_right (bytes_eq v w) (is_among vs w) a)) in

@@ -24,6 +24,7 @@ pub mod Readers
 pub mod Spread
 pub mod Marked
 pub mod Looked
+pub mod Alikes
 pub mod Adopted
 pub mod Least
 pub mod Newly
@@ -33,3 +34,4 @@ pub mod Revisions
 pub mod Waits
 pub mod Likeness
 pub mod Worked
+pub mod Runs

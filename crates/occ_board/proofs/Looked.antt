@@ -49,7 +49,7 @@ use Rattle.occ_project_units.specs.Units.{Uses, read_names, unit_reads, used_uni
 use Rattle.occ_project_units.specs.declared.standing.Standing.{Standing}
 use Rattle.occ_project_units.specs.declared.standing.Standing.TheVariants as standing
 
-false_by : (b : Bool) → (b ≡ true → ⊥) → b ≡ false
+pub false_by : (b : Bool) → (b ≡ true → ⊥) → b ≡ false
 false_by true f = absurd (f refl)
 false_by false f = refl
 
@@ -69,7 +69,7 @@ pub verified_cached : (files : List Read) (cached : List Input) (verified : List
 verified_cached files cached verified u p are at h same =
     ap (λ (o : Option Input). is_that o (input files u)) (are u (flag_at files verified u p at ∙ h) ∙ ap (λ (i : Input). Some i) same) ∙ (inputs_are_one (input files u) (input files u)).1 refl
 
-one_index : (m n : ℕ) → Some m ≡ Some n → m ≡ n
+pub one_index : (m n : ℕ) → Some m ≡ Some n → m ≡ n
 one_index m n s = cc
 
 -- none is verified
@@ -135,7 +135,7 @@ module _ (files later : List Read) (file : Read) (alike : AreAlike files later) 
   same_expansion : is_unit u ≡ true → expansion later u ≡ expansion files u
   same_expansion unit = alone files later u (λ name a. sym (file_source later name) ∙ ap (λ (r : Read). r.source) (other_file name (ap (λ (b : Bool). is_among (cond b (expansion files u).reads []) name) unit ∙ a)) ∙ file_source files name)
 
-  same_names : (read_names later u ≡ read_names files u) × (used_units later u ≡ used_units files u)
+  pub same_names : (read_names later u ≡ read_names files u) × (used_units later u ≡ used_units files u)
   same_names = by (is_unit u) refl where
     by : (b : Bool) → is_unit u ≡ b → (read_names later u ≡ read_names files u) × (used_units later u ≡ used_units files u)
     by true unit =
@@ -151,7 +151,7 @@ module _ (files later : List Read) (file : Read) (alike : AreAlike files later) 
   same_reads : unit_reads later u ≡ unit_reads files u
   same_reads = ap (map (file_of later)) same_names.0 ∙ map_among (file_of later) (file_of files) (read_names files u) other_file
 
-  same_standing : (v : List ℕ) → standing_of later u v ≡ standing_of files u v
+  pub same_standing : (v : List ℕ) → standing_of later u v ≡ standing_of files u v
   same_standing v =
       ap (λ (b : Bool). cond b (cond (is_among (used_units later u) v && circular_at (graph_of later) (index u later) (index v later)) standing.Circular standing.Below) standing.Absent) (alike.opened v)
       ∙ ap (λ (us : List (List ℕ)). cond (is_some (file_of files v).source) (cond (is_among us v && circular_at (graph_of later) (index u later) (index v later)) standing.Circular standing.Below) standing.Absent) same_names.1
@@ -159,17 +159,27 @@ module _ (files later : List Read) (file : Read) (alike : AreAlike files later) 
       ∙ ap (λ (o : Option ℕ). cond (is_some (file_of files v).source) (cond (is_among (used_units files u) v && circular_at (graph_of files) o (index v later)) standing.Circular standing.Below) standing.Absent) (indices u)
       ∙ ap (λ (o : Option ℕ). cond (is_some (file_of files v).source) (cond (is_among (used_units files u) v && circular_at (graph_of files) (index u files) o) standing.Circular standing.Below) standing.Absent) (indices v)
 
-  looked_still : (cached : List Input) → looked files cached u ≡ looked later cached u
+  pub looked_still : (cached : List Input) → looked files cached u ≡ looked later cached u
   looked_still cached =
       looked_by u (unit_reads files u) (unit_reads later u) (map (used_unit files u (cached_check cached)) (used_units files u)) (map (used_unit later u (cached_check cached)) (used_units later u)) (sym same_reads)
       (map_among (used_unit files u (cached_check cached)) (used_unit later u (cached_check cached)) (used_units files u) (λ v a. ap (λ (s : Standing). record { unit = v; used = used_as s (shown_of cached v) }) (sym (same_standing v)))
       ∙ ap (map (used_unit later u (cached_check cached))) (sym same_names.1))
 
+-- a unit that is no reader does not read the file
+pub unread_at : (files : List Read) (name : List ℕ) (at : ℕ) → IsProject files → index name files ≡ Some at
+    → ((fs : List Read) (p q : ℕ) → IsProject fs → p < length fs → q < length fs → is_index (readers_at fs q) p ≡ is_among (read_names fs (name_at fs p)) (name_at fs q))
+    → (u : List ℕ) (p : ℕ) → index u files ≡ Some p → is_index (readers_at files at) p ≡ false → is_among (read_names files u) name ≡ false
+unread_at files name at project here reading u p e none =
+    ap (λ (n : List ℕ). is_among (read_names files n) name) (sym (name_there files u p e))
+    ∙ ap (is_among (read_names files (name_at files p))) (sym (name_there files name at here))
+    ∙ sym (reading files p at project (index_within u files p e) (index_within name files at here))
+    ∙ none
+
 -- so after an edit those are verified that were and that do not read the file
 pub verified_after : (files one later : List Read) (file : Read) (at : ℕ) (cached : List Input) (verified next : List Bool) (readers slice : List ℕ) (marks : List Bool) (alike : Bool) → IsProject files → one ≡ files → later ≡ put one file → index file.name files ≡ Some at
     → readers ≡ readers_at files at → slice ≡ readers → AreVerified files cached verified → (alike ≡ true → AreAlike one later)
     → ((p : ℕ) → get_or next p false ≡ true → (get_or verified p false ≡ true) × (((alike ≡ true) × (is_index slice p ≡ false)) ⊎ (get_or marks p false ≡ false)))
-    → ((v : List ℕ) → ((q : ℕ) → index v files ≡ Some q → get_or marks q false ≡ false) → looked later cached v ≡ looked files cached v)
+    → ((v : List ℕ) (p : ℕ) → index v files ≡ Some p → get_or marks p false ≡ false → looked later cached v ≡ looked files cached v)
     → ((fs : List Read) (f : Read) (n : List ℕ) → file_of (put fs f) n ≡ cond (bytes_eq f.name n) f (file_of fs n))
     → ((fs others : List Read) (unit : List ℕ) → ((name : List ℕ) → is_among (expansion fs unit).reads name ≡ true → open_source others name ≡ open_source fs name) → expansion others unit ≡ expansion fs unit)
     → ((fs : List Read) (p q : ℕ) → IsProject fs → p < length fs → q < length fs → is_index (readers_at fs q) p ≡ is_among (read_names fs (name_at fs p)) (name_at fs q))
@@ -186,15 +196,9 @@ verified_after files one later file at cached verified next readers slice marks 
 
   same_looked : (p : ℕ) → index u files ≡ Some p → ((alike ≡ true) × (is_index slice p ≡ false)) ⊎ (get_or marks p false ≡ false) → looked files cached u ≡ looked later cached u
   same_looked p e (inl both) =
-      let unread : is_among (read_names files u) file.name ≡ false =
-      ap (λ (n : List ℕ). is_among (read_names files n) file.name) (sym (name_there files u p e))
-      ∙ ap (is_among (read_names files (name_at files p))) (sym (name_there files file.name at here))
-      ∙ sym (reading files p at project (index_within u files p e) (index_within file.name files at here))
-      ∙ ap (λ (ws : List ℕ). is_index ws p) (sym (s ∙ r))
-      ∙ both.1
-      in
+      let unread = unread_at files file.name at project here reading u p e (ap (λ (ws : List ℕ). is_index ws p) (sym (s ∙ r)) ∙ both.1) in
       looked_still files later file (subst (λ (fs : List Read). AreAlike fs later) same (like both.0)) indices changed alone u unread cached
-  same_looked p e (inr none) = sym (unmarked u (λ q f. let is : Some p ≡ Some q = sym e ∙ f in subst (λ (x : ℕ). get_or marks x false ≡ false) (one_index p q is) none))
+  same_looked p e (inr none) = sym (unmarked u p e none)
 
   by : (o : Option ℕ) → index u files ≡ o → cached_of cached u ≡ Some (looked later cached u)
   by None e = let none = no_flag later next u (indices u ∙ e) in absurd (cc (none, h))

@@ -36,28 +36,28 @@ use Rattle.occ_project_units.specs.Spelled.{AreSpelled}
 use Rattle.occ_project_units.specs.Units.{Uses, UsesBy, read_names}
 
 -- what marking along the first i users of the unit at an index has come to
-pub record IsTouch (files : List Read) (users : List ℕ) (old marks : List Bool) (at i : ℕ) : Type 0 where
+pub record IsTouch (files : List Read) (flags : List Bool) (all : Bool) (users : List ℕ) (old marks : List Bool) (at i : ℕ) : Type 0 where
   pub len : length marks ≡ length files
   pub fewer : unflagged marks < unflagged old
   pub more : (p : ℕ) → get_or old p false ≡ true → get_or marks p false ≡ true
   pub here : get_or marks at false ≡ true
-  pub closed : (p q : ℕ) → has_edge (graph_of files) p q ≡ true → get_or old q false ≡ false → get_or marks q false ≡ true → (get_or marks p false ≡ true) ⊎ ((at ≡ q) × (is_among (drop i users) p ≡ true))
+  pub closed : (p q : ℕ) → has_edge (graph_of files) p q ≡ true → (all || get_or flags q false) ≡ true → get_or old q false ≡ false → get_or marks q false ≡ true → (get_or marks p false ≡ true) ⊎ ((at ≡ q) × (is_among (drop i users) p ≡ true))
 
 long_set : (flags : List Bool) (p : ℕ) → length (slice_set flags p true) ≡ length flags
 long_set [] p = refl
 long_set (f ∷ flags) zero = refl
 long_set (f ∷ flags) (suc p) = ap suc (long_set flags p)
 
-module _ (files : List Read) where
+module _ (files : List Read) (flags : List Bool) (all : Bool) where
   -- one mark is set
   pub touch_begun : (reported : (p q : ℕ) → (is_among (users_at files q) p ≡ true) ↔ (has_edge (graph_of files) p q ≡ true)) (users : List ℕ) (old marks : List Bool) (at : ℕ) → users ≡ users_at files at → marks ≡ slice_set old at true → length old ≡ length files
-      → at < length files → get_or old at false ≡ false → IsTouch files users old marks at 0
-  touch_begun reported users old marks at u m len lt none = subst (λ (ms : List Bool). IsTouch files users old ms at 0) (sym m) (record {
+      → at < length files → get_or old at false ≡ false → IsTouch files flags all users old marks at 0
+  touch_begun reported users old marks at u m len lt none = subst (λ (ms : List Bool). IsTouch files flags all users old ms at 0) (sym m) (record {
     len = long_set old at ∙ len;
     fewer = set_fewer old at (omega (arith, len, lt)) none;
     more = set_stays old at;
     here = set_here old at (omega (arith, len, lt));
-    closed = λ p q e o h. by p q (q == at) refl e o h;
+    closed = λ p q e on o h. by p q (q == at) refl e o h;
   }) where
     by : (p q : ℕ) (b : Bool) → (q == at) ≡ b → has_edge (graph_of files) p q ≡ true → get_or old q false ≡ false → get_or (slice_set old at true) q false ≡ true
         → (get_or (slice_set old at true) p false ≡ true) ⊎ ((at ≡ q) × (is_among users p ≡ true))
@@ -67,34 +67,34 @@ module _ (files : List Read) where
     by p q false t e o h = let k : get_or old q false ≡ true = sym (set_apart old at q (eqb-false q at t)) ∙ h in absurd (cc (k, o))
 
   -- and what one more user marks
-  pub touch_more : (users : List ℕ) (old marks next : List Bool) (at i user : ℕ) → IsTouch files users old marks at i → drop i users ≡ user ∷ drop (i + 1) users → length next ≡ length files → unflagged next ≤ unflagged marks
+  pub touch_more : (users : List ℕ) (old marks next : List Bool) (at i user : ℕ) → IsTouch files flags all users old marks at i → drop i users ≡ user ∷ drop (i + 1) users → length next ≡ length files → unflagged next ≤ unflagged marks
       → ((p : ℕ) → get_or marks p false ≡ true → get_or next p false ≡ true) → get_or next user false ≡ true
-      → ((p q : ℕ) → has_edge (graph_of files) p q ≡ true → get_or marks q false ≡ false → get_or next q false ≡ true → get_or next p false ≡ true) → IsTouch files users old next at (i + 1)
+      → ((p q : ℕ) → has_edge (graph_of files) p q ≡ true → (all || get_or flags q false) ≡ true → get_or marks q false ≡ false → get_or next q false ≡ true → get_or next p false ≡ true) → IsTouch files flags all users old next at (i + 1)
   touch_more users old marks next at i user h split len least more here closed = record {
     len = len;
     fewer = let f = h.fewer in omega (arith, f, least);
     more = λ p k. more p (h.more p k);
     here = more at h.here;
-    closed = λ p q e o k. by p q (get_or marks q false) refl e o k;
+    closed = λ p q e on o k. by p q (get_or marks q false) refl e on o k;
   } where
     user_there : (p q : ℕ) (b : Bool) → (user == p) ≡ b → at ≡ q → (b || is_among (drop (i + 1) users) p) ≡ true → (get_or next p false ≡ true) ⊎ ((at ≡ q) × (is_among (drop (i + 1) users) p ≡ true))
     user_there p q true t s k = inl (subst (λ (x : ℕ). get_or next x false ≡ true) (eqb-true user p t) here)
     user_there p q false t s k = inr (s, k)
 
-    by : (p q : ℕ) (b : Bool) → get_or marks q false ≡ b → has_edge (graph_of files) p q ≡ true → get_or old q false ≡ false → get_or next q false ≡ true → (get_or next p false ≡ true) ⊎ ((at ≡ q) × (is_among (drop (i + 1) users) p ≡ true))
-    by p q true t e o k = elim (h.closed p q e o t) [
+    by : (p q : ℕ) (b : Bool) → get_or marks q false ≡ b → has_edge (graph_of files) p q ≡ true → (all || get_or flags q false) ≡ true → get_or old q false ≡ false → get_or next q false ≡ true → (get_or next p false ≡ true) ⊎ ((at ≡ q) × (is_among (drop (i + 1) users) p ≡ true))
+    by p q true t e on o k = elim (h.closed p q e on o t) [
       | inl m ↦ inl (more p m)
       | inr m ↦ user_there p q (user == p) refl m.0 (sym (ap (λ (ws : List ℕ). is_among ws p) split) ∙ m.1)
     ]
-    by p q false t e o k = inl (closed p q e t k)
+    by p q false t e on o k = inl (closed p q e on t k)
 
   none_after : (ws : List ℕ) (p : ℕ) → is_among (drop (length ws) ws) p ≡ false
   none_after [] p = refl
   none_after (w ∷ ws) p = none_after ws p
 
-  pub touch_over : (users : List ℕ) (old marks : List Bool) (at i : ℕ) → IsTouch files users old marks at i → length users ≤ i → i ≤ length users
-      → (p q : ℕ) → has_edge (graph_of files) p q ≡ true → get_or old q false ≡ false → get_or marks q false ≡ true → get_or marks p false ≡ true
-  touch_over users old marks at i h most least p q e o k = elim (h.closed p q e o k) [
+  pub touch_over : (users : List ℕ) (old marks : List Bool) (at i : ℕ) → IsTouch files flags all users old marks at i → length users ≤ i → i ≤ length users
+      → (p q : ℕ) → has_edge (graph_of files) p q ≡ true → (all || get_or flags q false) ≡ true → get_or old q false ≡ false → get_or marks q false ≡ true → get_or marks p false ≡ true
+  touch_over users old marks at i h most least p q e on o k = elim (h.closed p q e on o k) [
     | inl m ↦ m
     | inr m ↦
         let end : i ≡ length users = omega (arith, most, least) in
@@ -104,19 +104,27 @@ module _ (files : List Read) where
   ]
 
   -- marks that were closed stay so
-  pub closed_more : (old marks : List Bool) → IsClosed (graph_of files) old → ((p : ℕ) → get_or old p false ≡ true → get_or marks p false ≡ true)
-      → ((p q : ℕ) → has_edge (graph_of files) p q ≡ true → get_or old q false ≡ false → get_or marks q false ≡ true → get_or marks p false ≡ true) → IsClosed (graph_of files) marks
-  closed_more old marks was more reported p q e k = by (get_or old q false) refl where
+  pub closed_more : (old marks : List Bool) → IsClosed (graph_of files) flags all old → ((p : ℕ) → get_or old p false ≡ true → get_or marks p false ≡ true)
+      → ((p q : ℕ) → has_edge (graph_of files) p q ≡ true → (all || get_or flags q false) ≡ true → get_or old q false ≡ false → get_or marks q false ≡ true → get_or marks p false ≡ true) → IsClosed (graph_of files) flags all marks
+  closed_more old marks was more reported p q e on k = by (get_or old q false) refl where
     by : (b : Bool) → get_or old q false ≡ b → get_or marks p false ≡ true
-    by true o = more p (was p q e o)
-    by false o = reported p q e o k
+    by true o = more p (was p q e on o)
+    by false o = reported p q e on o k
+
+  -- where one is marked that what uses it is not to follow
+  pub touch_alone : (old marks : List Bool) (at : ℕ) → marks ≡ slice_set old at true → (all || get_or flags at false) ≡ false
+      → (p q : ℕ) → has_edge (graph_of files) p q ≡ true → (all || get_or flags q false) ≡ true → get_or old q false ≡ false → get_or marks q false ≡ true → get_or marks p false ≡ true
+  touch_alone old marks at m off p q e on o h = by (q == at) refl where
+    by : (b : Bool) → (q == at) ≡ b → get_or marks p false ≡ true
+    by true t = let none = subst (λ (x : ℕ). (all || get_or flags x false) ≡ false) (sym (eqb-true q at t)) off in absurd (cc (none, on))
+    by false t = let k : get_or old q false ≡ true = sym (set_apart old at q (eqb-false q at t)) ∙ ap (λ (ms : List Bool). get_or ms q false) (sym m) ∙ h in absurd (cc (k, o))
 
   -- what marking the file at an index and along the first n of its readers has come to
   pub record IsTouched (at : ℕ) (readers : List ℕ) (marks : List Bool) (n : ℕ) : Type 0 where
     pub len : length marks ≡ length files
     pub here : get_or marks at false ≡ true
     pub read : (i : ℕ) → i < n → get_or marks (get_or readers i 0) false ≡ true
-    pub closed : IsClosed (graph_of files) marks
+    pub closed : IsClosed (graph_of files) flags all marks
 
   last_or_less : (n p : ℕ) → p < n + 1 → (p ≡ n) ⊎ (p < n)
   last_or_less zero zero h = inl refl
@@ -128,7 +136,7 @@ module _ (files : List Read) where
   ]
 
   pub touched_more : (at : ℕ) (readers : List ℕ) (marks next : List Bool) (n : ℕ) → IsTouched at readers marks n → length next ≡ length files → ((p : ℕ) → get_or marks p false ≡ true → get_or next p false ≡ true)
-      → get_or next (get_or readers n 0) false ≡ true → IsClosed (graph_of files) next → IsTouched at readers next (n + 1)
+      → get_or next (get_or readers n 0) false ≡ true → IsClosed (graph_of files) flags all next → IsTouched at readers next (n + 1)
   touched_more at readers marks next n h len more here closed = record {
     len = len;
     here = more at h.here;
@@ -165,7 +173,7 @@ reads_by files name false v u t h = cc
 
 -- a unit that is not marked is one that the edit does not concern
 module _ (files : List Read) (project : IsProject files) (name : List ℕ) (at : ℕ) (marks : List Bool) (e : index name files ≡ Some at) (readers : (p : ℕ) → is_among (readers_at files at) p ≡ true → get_or marks p false ≡ true)
-    (closed : IsClosed (graph_of files) marks)
+    (flags : List Bool) (closed : IsClosed (graph_of files) flags true marks)
     (reading : (p q : ℕ) → IsProject files → p < length files → q < length files → is_among (readers_at files q) p ≡ names.is_among (read_names files (name_at files p)) (name_at files q))
     (units : (u v : List ℕ) → Uses files u v → is_unit v ≡ true) where
   abbrev Unmarked : List ℕ → Type 0
@@ -178,7 +186,7 @@ module _ (files : List Read) (project : IsProject files) (name : List ℕ) (at :
   next_unmarked : (u v : List ℕ) → Unmarked u → Uses files u v → Unmarked v
   next_unmarked u v h uses q k = false_by (get_or marks q false) (λ m.
       let from = placed_user files u v uses in
-      let there : get_or marks from.0 false ≡ true = closed from.0 q (edge files u v from.0 q from.1 k uses) m in
+      let there : get_or marks from.0 false ≡ true = closed from.0 q (edge files u v from.0 q from.1 k uses) refl m in
       let none = h from.0 from.1 in
       cc (there, none))
 
@@ -394,7 +402,7 @@ module _ (files one later : List Read) (file : Read) (at : ℕ) (project : IsPro
   long_at = still_long files later file at project put_later e
 
   module _ (cached : List Input) (readers slice : List ℕ) (marks flags next : List Bool) (r : readers ≡ readers_at files at) (s : slice ≡ readers) (are : AreFlags files cached flags)
-      (here : get_or marks at false ≡ true) (reported : (p : ℕ) → is_among slice p ≡ true → get_or marks p false ≡ true) (closed : IsClosed (graph_of one) marks)
+      (here : get_or marks at false ≡ true) (reported : (p : ℕ) → is_among slice p ≡ true → get_or marks p false ≡ true) (closed : IsClosed (graph_of one) flags true marks)
       (left : (p : ℕ) → get_or next p false ≡ (get_or flags p false && not (get_or marks p false)))
       (reading : (fs : List Read) (p q : ℕ) → IsProject fs → p < length fs → q < length fs → is_among (readers_at fs q) p ≡ names.is_among (read_names fs (name_at fs p)) (name_at fs q))
       (spelled : AreSpelled files) (units : (fs : List Read) (u v : List ℕ) → AreSpelled fs → Uses fs u v → is_unit v ≡ true)
@@ -403,7 +411,7 @@ module _ (files one later : List Read) (file : Read) (at : ℕ) (project : IsPro
       (step : (fs : List Read) (ks : List Input) (u : List ℕ) → IsProject fs → done fs ks u ≡ done_step fs ks u (done fs ks)) where
     same_at : (u : List ℕ) → ((q : ℕ) → index u files ≡ Some q → get_or marks q false ≡ false) → done later cached u ≡ done files cached u
     same_at u h =
-        unmarked_same files project file.name at marks e (λ p k. reported p (ap (λ (ws : List ℕ). is_among ws p) (s ∙ r) ∙ k)) (subst (λ (fs : List Read). IsClosed (graph_of fs) marks) same closed)
+        unmarked_same files project file.name at marks e (λ p k. reported p (ap (λ (ws : List ℕ). is_among ws p) (s ∙ r) ∙ k)) flags (subst (λ (fs : List Read). IsClosed (graph_of fs) flags true marks) same closed)
         (λ p q. reading files p q) (λ v w. units files v w spelled) later file cached refl put_later here apart files_put rises step u h
 
     -- and what an outcome of it would have looked at
@@ -412,7 +420,7 @@ module _ (files one later : List Read) (file : Read) (at : ℕ) (project : IsPro
       by : (b : Bool) → is_unit u ≡ b → looked later cached u ≡ looked files cached u
       by true unit =
           ap (λ (fs : List Read). looked fs cached u) put_later
-          ∙ law files file cached u (unmarked_apart files project file.name at marks e (λ p k. reported p (ap (λ (ws : List ℕ). is_among ws p) (s ∙ r) ∙ k)) (subst (λ (fs : List Read). IsClosed (graph_of fs) marks) same closed)
+          ∙ law files file cached u (unmarked_apart files project file.name at marks e (λ p k. reported p (ap (λ (ws : List ℕ). is_among ws p) (s ∙ r) ∙ k)) flags (subst (λ (fs : List Read). IsClosed (graph_of fs) flags true marks) same closed)
           (λ p q. reading files p q) (λ v w. units files v w spelled) u unit h)
       by false none = no_input later (cached_check cached) u none ∙ sym (no_input files (cached_check cached) u none)
 

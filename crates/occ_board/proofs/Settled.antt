@@ -62,6 +62,13 @@ module _ (files : List Read) (cached : List Input) where
     pub are_flags : (flags : List Bool) (h : List ℕ → ℕ) → ((u v : List ℕ) → is_among (rest_units files u) v ≡ true → h v < h u) → IsSound files cached flags → IsFull files cached flags (length files) → AreFlags files cached flags
     are_flags flags h fall sound full u = same_truth (flag_of files flags u) (done files cached u) (sound u) (none_missing flags h fall full u)
 
+-- where nothing is cached none is missing
+pub none_cached : (files : List Read) (cached : List Input) (flags : List Bool) → cached ≡ [] → IsFull files cached flags (length files)
+none_cached files cached flags e p lt h =
+    let its = step_cached files cached (name_at files p) (flag_of files flags) h in
+    let none : is_cached cached (input files (name_at files p)) ≡ false = ap (λ (ks : List Input). is_cached ks (input files (name_at files p))) e in
+    absurd (cc (none, its))
+
 pub none_set : (n p : ℕ) → get_or (replicate n false) p false ≡ false
 none_set zero p = refl
 none_set (suc n) zero = refl

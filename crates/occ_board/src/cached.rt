@@ -62,6 +62,13 @@ impl Cached {
         }
     }
 
+    /// Whether none is.
+    pub fn is_empty(&self) -> bool
+        ensures { IsTrue result ↔ (self.now ≡ []) }
+    {
+        self.outcomes.is_empty()
+    }
+
     /// Lets the indices where outcomes are looked for first follow the indices of a project after an edit of a file, which may
     /// be new to it.
     pub fn follow(&mut self, project: &Project, edited: FileName)

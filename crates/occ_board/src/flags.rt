@@ -305,7 +305,7 @@ fn pass(graph: &Graph, cached: &Cached, flags: &mut Flags, verified: &mut Flags)
     advanced
 }
 
-/// Sets the flags of all units that are done. It takes no memory.
+/// Sets the flags of all units that are done, which none is where no outcome is cached. It takes no memory.
 pub fn settle(graph: &Graph, cached: &Cached, flags: &mut Flags, verified: &mut Flags)
     requires len { length flags.old ≡ length graph.now }
     requires sound { IsSound graph.now cached.now flags.old }
@@ -318,6 +318,9 @@ pub fn settle(graph: &Graph, cached: &Cached, flags: &mut Flags, verified: &mut 
     let _files = graph.project().files();
     done_law();
     height_law();
+    if cached.is_empty() {
+        return;
+    }
     while pass(graph, cached, flags, verified) {}
 }
 

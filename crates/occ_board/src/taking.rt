@@ -8,7 +8,7 @@ ghost use Rattle.occ_project.specs.declared.reads.Read.{Read as ARead};
 ghost use Rattle.occ_project_units.specs.Indices.{is_below, standing_of};
 ghost use Rattle.occ_project_units.specs.Project.{IsProject};
 ghost use Rattle.std.specs.Option.{option_copied, option_map};
-ghost use Rattle.std.specs.Prelude.{◌≡◌, ◌<◌, ◌≤◌, ℕ, IfOk, IfSome, Some, false, get_or, length, map, slice_get, true};
+ghost use Rattle.std.specs.Prelude.{◌≡◌, ◌<◌, ◌≤◌, ◌+◌, ℕ, IfOk, IfSome, IsTrue, Some, false, get_or, length, map, slice_get, true};
 
 use super::cached::Cached;
 use super::flags::{are_rests_flagged, is_flagged};
@@ -22,6 +22,9 @@ use occ_project::Read;
 use occ_project_units::{Graph, Standing};
 use occ_types::Interface;
 use std::alloc::{AllocError, Global};
+
+/// So many flags are looked at together.
+const RUN: usize = 64;
 
 /// How a unit is used that stands so, where this is what it shows.
 fn used_as(standing: Standing, shown: Option<&Shared<Interface>>) -> Result<Used, AllocError>
@@ -122,11 +125,35 @@ fn is_ready(graph: &Graph, flags: &[bool], index: usize, file: &Read) -> bool
     !is_flagged(flags, index) && are_rests_flagged(graph, flags, index) && is_pending(file, false)
 }
 
+/// Whether the flags of a run that begins at an index are all set. Of fewer it is not said.
+fn is_run_set(flags: &[bool], from: usize) -> bool
+    ensures within { IsTrue result → from + 64 ≤ length flags.now }
+    ensures set { IsTrue result → (p : ℕ) → from ≤ p → p < from + 64 → get_or flags.now p false ≡ true }
+{
+    if flags.len() < RUN || flags.len() - RUN < from {
+        return false;
+    }
+    let (_, rest) = flags.split_at(from);
+    let (run, _) = rest.split_at(RUN);
+    !run.contains(&false)
+}
+
+/// An index, from this one, up to which all flags are set.
+fn past_runs(flags: &[bool], from: usize) -> usize
+    ensures { (p : ℕ) → from ≤ p → p < result → get_or flags.now p false ≡ true }
+{
+    let mut index = from;
+    while is_run_set(flags, index) {
+        index += RUN;
+    }
+    index
+}
+
 /// The first index, from this one, whose flag is not set; if there is none, how many flags there are.
 fn first_unflagged(flags: &[bool], from: usize) -> usize
     ensures { (p : ℕ) → from ≤ p → p < result → get_or flags.now p false ≡ true }
 {
-    for index in from..flags.len() {
+    for index in past_runs(flags, from)..flags.len() {
         if !flags[index] {
             return index;
         }

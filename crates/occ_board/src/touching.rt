@@ -9,22 +9,23 @@ ghost use Rattle.occ_board.specs.inside.Touched.{IsClosed};
 ghost use Rattle.occ_check.specs.Input.{Input};
 ghost use Rattle.occ_project_graph.specs.Graph.{has_edge, is_among as spec_is_among};
 ghost use Rattle.occ_project.specs.Reads.{index as spec_index};
-ghost use Rattle.occ_project.specs.declared.reads.Read.{Read};
+ghost use Rattle.occ_project.specs.declared.reads.Read.{Read as ARead};
 ghost use Rattle.occ_project_units.specs.New.{IsNew};
 ghost use Rattle.occ_project_units.specs.Indices.{graph_of, readers_at};
 ghost use Rattle.occ_project_units.specs.Project.{IsProject, put};
 ghost use Rattle.occ_project_units.specs.Spelled.{AreSpelled};
 ghost use Rattle.std.specs.List.{insert};
-ghost use Rattle.std.specs.Prelude.{◌≡◌, ◌<◌, ◌≤◌, ◌&&◌, IfOk, List, None, OnErr, OnOk, Some, false, get_or, length, not, true, ℕ};
+ghost use Rattle.std.specs.Prelude.{◌≡◌, ◌<◌, ◌≤◌, ◌&&◌, ◌||◌, IfOk, List, None, OnErr, OnOk, Some, false, get_or, length, not, true, ℕ};
 
 use super::cached::Cached;
-use super::flags::{Flags, settle, settle_among, settle_from, unflag};
+use super::flags::{Flags, is_flagged, settle, settle_among, settle_from, unflag};
 use super::laws::{done_law, height_law};
 use super::touched::Touched;
-use super::verified::{forget_readers, verified_with_index};
+use super::verified::{forget_readers, verified_law, verified_with_index};
 use occ_base::{FileName, Shared};
 use occ_check::Checked;
 use occ_forms::Source;
+use occ_project::Read;
 use occ_project_graph::Nodes;
 use occ_project_units::Graph;
 use occ_project_units::laws::{
@@ -35,8 +36,8 @@ use std::alloc::{AllocError, Global};
 /// An edit of a file changes neither whether a unit is done nor what a verified outcome of it looked at, if the file is a read neither
 /// of the unit nor of a unit that it reaches.
 fn apart_law()
-    ensures done { (files : List Read) (file : Read) (cached : List Input) (u : List ℕ) → IsProject files → IsApart files file.name u → done (put files file) cached u ≡ done files cached u }
-    ensures looked { (files : List Read) (file : Read) (cached : List Input) (u : List ℕ) → IsApart files file.name u → looked (put files file) cached u ≡ looked files cached u }
+    ensures done { (files : List ARead) (file : ARead) (cached : List Input) (u : List ℕ) → IsProject files → IsApart files file.name u → done (put files file) cached u ≡ done files cached u }
+    ensures looked { (files : List ARead) (file : ARead) (cached : List Input) (u : List ℕ) → IsApart files file.name u → looked (put files file) cached u ≡ looked files cached u }
 {
     put_law();
     reads_law();
@@ -46,48 +47,73 @@ fn apart_law()
     along_law::<Checked>();
 }
 
-/// Marks the unit at an index, unless it is marked, and then so each that uses it. It goes no deeper than there are units.
+/// Whether what uses the file at an index is marked with it: where all is, or else it has its flag.
+fn goes_on(flags: &Flags, all: bool, index: usize) -> bool
+    ensures { result ≡ (all || get_or flags.now index false) }
+{
+    all || is_flagged(flags.as_slice(), index)
+}
+
+/// Marks the unit at an index, unless it is marked, and then so each that uses it: where not all are to be marked that reach it, if
+/// it has its flag, since without it none has one that rests on it. It goes no deeper than there are units.
 #[cycle(touch)]
-fn touch(graph: &Graph, touched: &mut Touched, index: usize) -> Result<(), AllocError>
+fn touch(
+    graph: &Graph,
+    flags: &Flags,
+    all: bool,
+    touched: &mut Touched,
+    index: usize,
+) -> Result<(), AllocError>
     requires within { index < length graph.now }
     requires len { length touched.old ≡ length graph.now }
     ensures len { OnOk result (length touched.new ≡ length graph.now) }
     ensures least { OnOk result (unflagged touched.new ≤ unflagged touched.old) }
     ensures more { OnOk result ((p : ℕ) → get_or touched.old p false ≡ true → get_or touched.new p false ≡ true) }
     ensures here { OnOk result (get_or touched.new index false ≡ true) }
-    ensures closed { OnOk result ((p q : ℕ) → has_edge (graph_of graph.now) p q ≡ true → get_or touched.old q false ≡ false → get_or touched.new q false ≡ true → get_or touched.new p false ≡ true) }
+    ensures closed { OnOk result ((p q : ℕ) → has_edge (graph_of graph.now) p q ≡ true → (all || get_or flags.now q false) ≡ true → get_or touched.old q false ≡ false → get_or touched.new q false ≡ true → get_or touched.new p false ≡ true) }
 {
     users_law();
     if touched.has(index) {
         return Ok(());
     }
     touched.mark(index)?;
+    if !goes_on(flags, all, index) {
+        return Ok(());
+    }
     let users = graph.users(index);
     for place in 0..users.count() {
-        touch(graph, touched, users.at(place))?;
+        touch(graph, flags, all, touched, users.at(place))?;
     }
     Ok(())
 }
 
 /// The same where what uses a marked one is marked, which is so after it.
-fn touch_also(graph: &Graph, touched: &mut Touched, index: usize) -> Result<(), AllocError>
+fn touch_also(
+    graph: &Graph,
+    flags: &Flags,
+    all: bool,
+    touched: &mut Touched,
+    index: usize,
+) -> Result<(), AllocError>
     requires within { index < length graph.now }
     requires len { length touched.old ≡ length graph.now }
-    requires closed { IsClosed (graph_of graph.now) touched.old }
+    requires closed { IsClosed (graph_of graph.now) flags.now all touched.old }
     ensures len { OnOk result (length touched.new ≡ length graph.now) }
     ensures more { OnOk result ((p : ℕ) → get_or touched.old p false ≡ true → get_or touched.new p false ≡ true) }
     ensures here { OnOk result (get_or touched.new index false ≡ true) }
-    ensures closed { OnOk result (IsClosed (graph_of graph.now) touched.new) }
+    ensures closed { OnOk result (IsClosed (graph_of graph.now) flags.now all touched.new) }
 {
-    touch(graph, touched, index)?;
+    touch(graph, flags, all, touched, index)?;
     Ok(())
 }
 
 /// Marks of the files that an edit of the one at an index may concern: that file, the units that read it, and those that reach
-/// one of these.
+/// one of these, or else of them those that rest on one by units that have their flags.
 fn touched_by(
     alloc: Global,
     graph: &Graph,
+    flags: &Flags,
+    all: bool,
     index: usize,
     readers: &[usize],
 ) -> Result<Touched, AllocError>
@@ -96,13 +122,13 @@ fn touched_by(
     ensures len { IfOk result (λ touched. length touched ≡ length graph.now) }
     ensures here { IfOk result (λ touched. get_or touched index false ≡ true) }
     ensures readers { IfOk result (λ touched. (p : ℕ) → spec_is_among readers.now p ≡ true → get_or touched p false ≡ true) }
-    ensures closed { IfOk result (λ touched. IsClosed (graph_of graph.now) touched) }
+    ensures closed { IfOk result (λ touched. IsClosed (graph_of graph.now) flags.now all touched) }
 {
     readers_law();
     let mut touched = Touched::none(alloc, graph.project().files().len())?;
-    touch_also(graph, &mut touched, index)?;
+    touch_also(graph, flags, all, &mut touched, index)?;
     for reader in readers {
-        touch_also(graph, &mut touched, *reader)?;
+        touch_also(graph, flags, all, &mut touched, *reader)?;
     }
     Ok(touched)
 }
@@ -205,27 +231,71 @@ fn renew_all(
     Ok(())
 }
 
-/// The graph, the flags and what is verified after the edit of the file at an index. What the edit does not concern stays where it
-/// is.
-fn renew_at(
+/// The graph, the flags and what is verified after a file comes in the place of the one at an index, which the units at these indices
+/// read, if it is open as that was and these read and use the same as before; and whether that is so. Else nothing is changed. Only the
+/// readers look at something else then, so of the others none loses its flag but those that rest on one.
+fn renew_alike(
     alloc: Global,
     graph: &mut Graph,
     cached: &Cached,
     flags: &mut Flags,
     verified: &mut Flags,
     index: usize,
-    name: FileName,
-    revision: u32,
-    source: Option<Shared<Source>>,
+    readers: &[usize],
+    file: &Read,
+) -> Result<bool, AllocError>
+    requires index { spec_index file.now.name graph.old ≡ Some index }
+    requires readers { readers.now ≡ readers_at graph.old index }
+    requires len { length flags.old ≡ length graph.old }
+    requires flags { AreFlags graph.old cached.now flags.old }
+    requires reported { AllGivenByRevision graph.old cached.now }
+    requires verified { AreVerified graph.old cached.now verified.old }
+    requires before { AreBefore file.now.revision cached.now }
+    ensures graph { IfOk result (λ alike. alike ≡ true → graph.new ≡ put graph.old file.now) }
+    ensures len { IfOk result (λ alike. alike ≡ true → length flags.new ≡ length graph.new) }
+    ensures flags { IfOk result (λ alike. alike ≡ true → AreFlags graph.new cached.now flags.new) }
+    ensures verified { IfOk result (λ alike. alike ≡ true → AreVerified graph.new cached.now verified.new) }
+    ensures other { IfOk result (λ alike. alike ≡ false → (graph.new ≡ graph.old) × (flags.new ≡ flags.old) × (verified.new ≡ verified.old)) }
+    ensures err { OnErr result ((graph.new ≡ graph.old) × (flags.new ≡ flags.old) × (verified.new ≡ verified.old)) }
+{
+    let _files = graph.project().files();
+    verified_law();
+    put_law();
+    done_law();
+    height_law();
+    readers_law();
+    reads_law();
+    let touched = touched_by(alloc, graph, flags, false, index, readers)?;
+    if !graph.set_alike(alloc, index, readers, file)? {
+        return Ok(false);
+    }
+    unflag(verified, &Nodes::of_indices(readers));
+    unflag(flags, &Nodes::of_indices(touched.indices()));
+    resettle(graph, cached, flags, verified, &touched);
+    Ok(true)
+}
+
+/// The graph, the flags and what is verified after a file comes in the place of the one at an index, which the units at these indices
+/// read. What the edit does not concern stays where it is.
+fn renew_other(
+    alloc: Global,
+    graph: &mut Graph,
+    cached: &Cached,
+    flags: &mut Flags,
+    verified: &mut Flags,
+    index: usize,
+    readers: &[usize],
+    file: Read,
 ) -> Result<(), AllocError>
-    requires index { spec_index name graph.old ≡ Some index }
+    requires index { spec_index file.name graph.old ≡ Some index }
+    requires readers { readers.now ≡ readers_at graph.old index }
     requires spelled { AreSpelled graph.old }
     requires len { length flags.old ≡ length graph.old }
     requires flags { AreFlags graph.old cached.now flags.old }
     requires reported { AllGivenByRevision graph.old cached.now }
     requires verified { AreVerified graph.old cached.now verified.old }
-    requires before { AreBefore revision cached.now }
-    ensures graph { OnOk result (graph.new ≡ put graph.old (record { name = name; revision = revision; source = source })) }
+    requires before { AreBefore file.revision cached.now }
+    ensures graph { OnOk result (graph.new ≡ put graph.old file) }
     ensures len { OnOk result (length flags.new ≡ length graph.new) }
     ensures flags { OnOk result (AreFlags graph.new cached.now flags.new) }
     ensures verified { OnOk result (AreVerified graph.new cached.now verified.new) }
@@ -238,13 +308,43 @@ fn renew_at(
     names_law();
     readers_law();
     reads_law();
-    let readers = graph.readers(alloc, index)?;
-    let touched = touched_by(alloc, graph, index, readers.as_slice())?;
-    let alike = graph.set(alloc, index, readers.as_slice(), name, revision, source)?;
-    forget_readers(verified, readers.as_slice(), &touched, alike);
+    let touched = touched_by(alloc, graph, flags, true, index, readers)?;
+    let alike = graph.set(alloc, index, file)?;
+    forget_readers(verified, readers, &touched, alike);
     unflag(flags, &Nodes::of_indices(touched.indices()));
     resettle(graph, cached, flags, verified, &touched);
     Ok(())
+}
+
+/// The graph, the flags and what is verified after the edit of the file at an index.
+fn renew_at(
+    alloc: Global,
+    graph: &mut Graph,
+    cached: &Cached,
+    flags: &mut Flags,
+    verified: &mut Flags,
+    index: usize,
+    file: Read,
+) -> Result<(), AllocError>
+    requires index { spec_index file.name graph.old ≡ Some index }
+    requires spelled { AreSpelled graph.old }
+    requires len { length flags.old ≡ length graph.old }
+    requires flags { AreFlags graph.old cached.now flags.old }
+    requires reported { AllGivenByRevision graph.old cached.now }
+    requires verified { AreVerified graph.old cached.now verified.old }
+    requires before { AreBefore file.revision cached.now }
+    ensures graph { OnOk result (graph.new ≡ put graph.old file) }
+    ensures len { OnOk result (length flags.new ≡ length graph.new) }
+    ensures flags { OnOk result (AreFlags graph.new cached.now flags.new) }
+    ensures verified { OnOk result (AreVerified graph.new cached.now verified.new) }
+    ensures err { OnErr result ((graph.new ≡ graph.old) × (flags.new ≡ flags.old) × (verified.new ≡ verified.old)) }
+{
+    let readers = graph.readers(alloc, index)?;
+    let readers = readers.as_slice();
+    if renew_alike(alloc, graph, cached, flags, verified, index, readers, &file)? {
+        return Ok(());
+    }
+    renew_other(alloc, graph, cached, flags, verified, index, readers, file)
 }
 
 /// Gives a file this text, or takes it away, by the edit of that number. Where these were the flags of the units that are
@@ -272,9 +372,12 @@ pub fn renew(
     ensures err { OnErr result ((graph.new ≡ graph.old) × (flags.new ≡ flags.old) × (verified.new ≡ verified.old)) }
 {
     if let Some(index) = graph.project().index(name) {
-        return renew_at(
-            alloc, graph, cached, flags, verified, index, name, revision, source,
-        );
+        let file = Read {
+            name,
+            revision,
+            source,
+        };
+        return renew_at(alloc, graph, cached, flags, verified, index, file);
     }
     match graph.index_for(name) {
         Some(index) => renew_new(

@@ -1,16 +1,16 @@
 -- A graph where one node more comes to an index, to which edges lead from those that have a mark, and from which none leads.
-use Rattle.std.proofs.Common.{◌≡◌, ◌∙◌, ◌+◌, ◌<◌, ◌≤◌, ◌++◌, ◌||◌, ◌==◌, ℕ, zero, suc, Bool, true, false, cond, not, List, [], ◌∷◌, length, map, take, drop, get_or, refl, sym, ap, subst, inl, inr, arith}
+use Rattle.std.proofs.Common.{◌≡◌, ◌∙◌, ◌+◌, ◌<◌, ◌≤◌, ◌++◌, ◌||◌, ◌==◌, ℕ, zero, suc, Bool, true, false, cond, not, List, [], ◌∷◌, length, map, get_or, refl, sym, ap, subst, inl, inr, arith}
 use Rattle.std.specs.Prelude.{nat_lt}
 use Rattle.std.specs.List.{filter, insert, range_with_len}
-use Rattle.std.proofs.lemmas.Bool.{cases_lt, eq-eqb, eqb-false, eqb-true, le-ltb, lt-ltb}
-use Rattle.std.proofs.lemmas.List.{get_or_past, length-map, map-append}
+use Rattle.std.proofs.lemmas.Bool.{cases_lt, eq-eqb, eqb-true, le-ltb, lt-ltb}
+use Rattle.std.proofs.lemmas.List.{get_or_past, map-append}
 use Rattle.std.proofs.lemmas.List.Edits.{get_or-insert_above, get_or-insert_at, get_or-insert_below, length-insert}
 use Rattle.std.proofs.lemmas.List.Elements.{filter-append}
-use Rattle.occ_project_graph.specs.Adding.{IsParted, raised, row_with, rows_with, with_node, with_used_node}
+use Rattle.occ_project_graph.specs.Adding.{IsParted, raised, row_with, rows_with, with_used_node}
 use Rattle.occ_project_graph.specs.Graph.{Graph, Path, Reaches, all_rests, has_edge, is_among, is_circular, reaches, rests, targets}
 use Rattle.occ_project_graph.specs.Sources.{once_each, sources, sources_from}
 use Rattle.occ_project_graph.specs.inside.Linking.{before, following, marked}
-use Rattle.occ_project_graph.proofs.Added.{all_rows, among_raised, apart_test, filter_raised, get_map, here_or, none_by, not_among, not_both, once_none, once_raised, raised_above, raised_apart, raised_below, rests_long, rests_there, same_test, sources_moved, sources_raised}
+use Rattle.occ_project_graph.proofs.Added.{all_rows, among_raised, apart_test, filter_raised, here_or, none_by, not_among, not_both, once_none, raised_above, raised_apart, raised_below, rests_long, rests_there, same_test, sources_moved, sources_raised}
 use Rattle.occ_project_graph.proofs.Ways.{first_holds, path_reaches, reaches_path, same_truth, second_holds}
 
 -- what comes into a row is no other

@@ -2,23 +2,24 @@
 use Rattle.std.specs.Global.{Global}
 use Rattle.std.proofs.Common.{◌≡◌, ◌∙◌, ◌+◌, ◌<◌, ◌≤◌, ◌++◌, ◌||◌, ◌==◌, ◌⊎◌, ℕ, zero, suc, Bool, true, false, cond, List, [], ◌∷◌, Option, Some, None, Vec, length, map, take, get_or, refl, sym, ap, subst, inl, inr, arith}
 use Rattle.std.specs.List.{insert, range_with_len}
-use Rattle.std.proofs.lemmas.Bool.{cases_lt, eqb-true}
+use Rattle.std.specs.Prelude.{slice_set}
+use Rattle.std.proofs.lemmas.Bool.{cases_lt, eq-eqb, eqb-false, eqb-true}
 use Rattle.std.proofs.lemmas.List.{get_or-map, get_or_append_left, get_or_push, length-map, length-take-le, take_more}
 use Rattle.occ_project_graph.specs.Adding.{IsParted, raised, row_with, with_node, with_used_node}
-use Rattle.occ_project_graph.specs.Graph.{Graph, all_rests, has_edge, is_among, targets}
+use Rattle.occ_project_graph.specs.Graph.{Graph, all_rests, is_among, targets}
 use Rattle.occ_project_graph.specs.Sources.{sources}
-use Rattle.occ_project_graph.specs.inside.Linking.{AreLedRests, AreLedRows, IsLedRow, IsLinked, marked, rests_kept}
-use Rattle.occ_project_graph.specs.inside.Numbering.{IsNumbered, IsOver, graph_by, index_at, indexed}
-use Rattle.occ_project_graph.proofs.Added.{all_rows, here_or, rests_there}
+use Rattle.occ_project_graph.specs.inside.Linking.{AreLed, AreLedRests, AreLedRows, IsLed, IsLedRow, IsLinked, marked, rests_kept, with_rows}
+use Rattle.occ_project_graph.specs.inside.Numbering.{IsNumbered, IsOver, IsSourceRow, graph_by, index_at, indexed}
+use Rattle.occ_project_graph.proofs.Added.{all_rows, here_or, none_by, rests_there}
 use Rattle.occ_project_graph.proofs.Added as added
 use Rattle.occ_project_graph.proofs.Joined.{all_rests_joined, joined_long, parted_filter, row_joined, row_new, sources_new, sources_old}
-use Rattle.occ_project_graph.proofs.Numbered.{AreFew, all_places, by_at, by_long, few_first, few_rest, graph_after, index_old, indexed_old, indices_after, number_new, number_old, numbered_after, numbers_after, numbers_long, over_push, raised_back}
+use Rattle.occ_project_graph.proofs.Numbered.{AreFew, all_places, by_at, by_long, few_first, few_rest, graph_after, index_old, indexed_old, number_new, number_old, numbered_after, numbers_long, over_push, raised_back}
 use Rattle.occ_project_graph.proofs.Renumbered.{at_first, few_row, first_long, row_then}
-use Rattle.occ_project_graph.proofs.Replaced.{last_long}
-use Rattle.occ_project_graph.proofs.Ways.{edge_below}
+use Rattle.occ_project_graph.proofs.Replaced.{last_long, rows_long, set_apart, set_here}
+use Rattle.occ_project_graph.proofs.Ways.{edge_below, first_holds, same_truth, second_holds}
 
 -- lists that agree at each place
-all_numbers : (xs ys : List ℕ) → length xs ≡ length ys → ((p : ℕ) → p < length xs → get_or xs p 0 ≡ get_or ys p 0) → xs ≡ ys
+pub all_numbers : (xs ys : List ℕ) → length xs ≡ length ys → ((p : ℕ) → p < length xs → get_or xs p 0 ≡ get_or ys p 0) → xs ≡ ys
 all_numbers [] [] l k = refl
 all_numbers [] (y ∷ ys) l k = cc
 all_numbers (x ∷ xs) [] l k = cc
@@ -241,33 +242,106 @@ used_view numbers indices edges kept turned g is at h marks view parts led are n
     ∙ led_view numbers indices edges kept turned is at h marks edges led is.edges_over are parts
     ∙ ap (λ (y : Graph). with_used_node y at marks) view
 
+-- a node is among those that have a mark if its place has one
+marked_place : (ns : List ℕ) (marks : List Bool) (n : ℕ) → is_among (marked ns marks) n ≡ true → (p : ℕ) × ((p < length ns) × ((get_or ns p 0 ≡ n) × (get_or marks p false ≡ true)))
+marked_place [] marks n k = absurd cc
+marked_place (x ∷ ns) [] n k = absurd cc
+marked_place (x ∷ ns) (true ∷ marks) n k = by (x == n) refl k (marked_place ns marks n) where
+  by : (b : Bool) → (x == n) ≡ b → (b || is_among (marked ns marks) n) ≡ true → (is_among (marked ns marks) n ≡ true → (p : ℕ) × ((p < length ns) × ((get_or ns p 0 ≡ n) × (get_or marks p false ≡ true))))
+      → (p : ℕ) × ((p < suc (length ns)) × ((get_or (x ∷ ns) p 0 ≡ n) × (get_or (true ∷ marks) p false ≡ true)))
+  by true e j rest = (0, (omega arith, (eqb-true x n e, refl)))
+  by false e j rest = let there = rest j in let lt = there.1.0 in (suc there.0, (omega (arith, lt), there.1.1))
+marked_place (x ∷ ns) (false ∷ marks) n k = let there = marked_place ns marks n k in let lt = there.1.0 in (suc there.0, (omega (arith, lt), there.1.1))
+
+among_place : (ns : List ℕ) (marks : List Bool) (p : ℕ) → p < length ns → get_or marks p false ≡ true → is_among (marked ns marks) (get_or ns p 0) ≡ true
+among_place [] marks p lt m = absurd (omega (arith, lt))
+among_place (x ∷ ns) [] p lt m = absurd cc
+among_place (x ∷ ns) (true ∷ marks) zero lt m = first_holds (x == x) (is_among (marked ns marks) x) (eq-eqb x x refl)
+among_place (x ∷ ns) (false ∷ marks) zero lt m = absurd cc
+among_place (x ∷ ns) (true ∷ marks) (suc p) lt m = second_holds (x == get_or ns p 0) (is_among (marked ns marks) (get_or ns p 0)) (among_place ns marks p (omega (arith, lt)) m)
+among_place (x ∷ ns) (false ∷ marks) (suc p) lt m = among_place ns marks p (omega (arith, lt)) m
+
+among_marked : (numbers indices : List ℕ) (marks : List Bool) (n : ℕ) → IsNumbered numbers indices → n < length numbers → is_among (marked numbers marks) n ≡ get_or marks (index_at indices n) false
+among_marked numbers indices marks n is lt = same_truth (is_among (marked numbers marks) n) (get_or marks (index_at indices n) false)
+    (λ k.
+    let there = marked_place numbers marks n k in
+    let place : index_at indices n ≡ there.0 = ap (index_at indices) (sym there.1.1.0) ∙ is.there there.0 there.1.0 in
+    ap (λ (p : ℕ). get_or marks p false) place ∙ there.1.1.1)
+    (λ m. ap (is_among (marked numbers marks)) (sym (is.back n lt)) ∙ among_place numbers marks (index_at indices n) (is.index_within n lt) m)
+
+-- each row is one of those that were put, or stands as it stood
+rows_put : (P : ℕ → List ℕ → Type 0) (g : Graph) (ws : List ℕ) (rows : Graph) → length rows ≡ length ws → ((i : ℕ) → i < length ws → P (get_or ws i 0) (get_or rows i [])) → (q : ℕ) → q < length g
+    → (is_among ws q ≡ true → P q (get_or (with_rows g ws rows) q [])) × (is_among ws q ≡ false → get_or (with_rows g ws rows) q [] ≡ get_or g q [])
+rows_put P g [] rows len each q lt = (λ k. absurd cc, λ k. refl)
+rows_put P g (w ∷ ws) [] len each q lt = cc
+rows_put P g (w ∷ ws) (row ∷ rows) len each q lt = by (w == q) refl (rows_put P g ws rows (omega (arith, len)) (λ i less. each (suc i) (omega (arith, less))) q lt) where
+  by : (b : Bool) → (w == q) ≡ b → (is_among ws q ≡ true → P q (get_or (with_rows g ws rows) q [])) × (is_among ws q ≡ false → get_or (with_rows g ws rows) q [] ≡ get_or g q [])
+      → ((b || is_among ws q) ≡ true → P q (get_or (slice_set (with_rows g ws rows) w row) q [])) × ((b || is_among ws q) ≡ false → get_or (slice_set (with_rows g ws rows) w row) q [] ≡ get_or g q [])
+  by true e rest =
+      let same : w ≡ q = eqb-true w q e in
+      let long = rows_long g ws rows in
+      let here : get_or (slice_set (with_rows g ws rows) w row) q [] ≡ row = ap (λ (x : ℕ). get_or (slice_set (with_rows g ws rows) x row) q []) same ∙ set_here (with_rows g ws rows) q row (omega (arith, lt, long)) in
+      (λ k. subst (P q) (sym here) (subst (λ (x : ℕ). P x row) same (each 0 (omega arith))), λ k. absurd cc)
+  by false e rest =
+      let there : get_or (slice_set (with_rows g ws rows) w row) q [] ≡ get_or (with_rows g ws rows) q [] = set_apart (with_rows g ws rows) w q row (eqb-false w q e) in
+      (λ k. subst (P q) (sym there) (rest.0 k), λ k. there ∙ rest.1 k)
+
+-- so the rows of those that have a mark are put
+pub led_are : (numbers indices : List ℕ) (marks : List Bool) (at number : ℕ) (nodes : List ℕ) (before rows : Graph) → IsNumbered numbers indices → length before ≡ length numbers → nodes ≡ marked numbers marks
+    → IsLed indices at number nodes before rows → AreLedRows indices marks at number before rows
+led_are numbers indices marks at number nodes before rows is len users h = record {
+  len = ap (length {A = List ℕ}) h.is ∙ rows_long g nodes h.found ∙ last_long before [];
+  led = λ n lt. row_at n lt (is_among nodes n) refl;
+  last = ap (λ (x : Graph). get_or x (length before) []) h.is ∙ (put (length before) (omega (arith, long))).1 none ∙ get_or_push before [] [] (length before) refl;
+} where
+  g : Graph
+  g = before ++ [] ∷ []
+
+  long : length g ≡ length before + 1
+  long = last_long before []
+
+  put : (q : ℕ) → q < length g → (is_among nodes q ≡ true → IsSourceRow indices at number 1 (get_or before q []) (get_or (with_rows g nodes h.found) q [])) × (is_among nodes q ≡ false → get_or (with_rows g nodes h.found) q [] ≡ get_or g q [])
+  put q lt = rows_put (λ m row. IsSourceRow indices at number 1 (get_or before m []) row) g nodes h.found h.are.len h.are.led q lt
+
+  few : AreFew (length numbers) nodes
+  few = subst (AreFew (length numbers)) (sym users) (marked_few (length numbers) numbers marks (all_places (length numbers) numbers (λ i lt. is.number_within i lt)))
+
+  none : is_among nodes (length before) ≡ false
+  none = none_by (is_among nodes (length before)) (λ k. let lt = few (length before) k in omega (arith, lt, len))
+
+  mark : (n : ℕ) → n < length before → is_among nodes n ≡ get_or marks (index_at indices n) false
+  mark n lt = ap (λ (ns : List ℕ). is_among ns n) users ∙ among_marked numbers indices marks n is (omega (arith, lt, len))
+
+  row_at : (n : ℕ) → n < length before → (b : Bool) → is_among nodes n ≡ b → IsLedRow indices at number (get_or marks (index_at indices n) false) (get_or before n []) (get_or rows n [])
+  row_at n lt true e =
+      subst (λ (b : Bool). IsLedRow indices at number b (get_or before n []) (get_or rows n [])) (sym e ∙ mark n lt)
+      (subst (λ (x : Graph). IsSourceRow indices at number 1 (get_or before n []) (get_or x n [])) (sym h.is) ((put n (omega (arith, lt, long))).0 e))
+  row_at n lt false e =
+      subst (λ (b : Bool). IsLedRow indices at number b (get_or before n []) (get_or rows n [])) (sym e ∙ mark n lt)
+      (ap (λ (x : Graph). get_or x n []) h.is ∙ (put n (omega (arith, lt, long))).1 e ∙ get_or_append_left before ([] ∷ []) [] n lt)
+
 -- what is kept of what nodes rest on
-pub led_kept : (indices : List ℕ) (marks : List Bool) (at number : ℕ) (edges led : Graph) (rests next : Option (Vec (List ℕ) Global)) → AreLedRows indices marks at number edges led → AreLedRests indices marks at number rests next
-    → AreLedRows indices marks at number (rests_kept edges rests) (rests_kept led next)
-led_kept indices marks at number edges led None None are k = are
-led_kept indices marks at number edges led None (Some rows) are k = absurd k
-led_kept indices marks at number edges led (Some before) None are k = absurd k
-led_kept indices marks at number edges led (Some before) (Some rows) are k = k
+pub led_kept : (numbers indices : List ℕ) (marks : List Bool) (at number : ℕ) (nodes : List ℕ) (edges led : Graph) (rests next : Option (Vec (List ℕ) Global)) → IsNumbered numbers indices → length (rests_kept edges rests) ≡ length numbers → nodes ≡ marked numbers marks
+    → AreLedRows indices marks at number edges led → AreLedRests indices at number nodes rests next → AreLedRows indices marks at number (rests_kept edges rests) (rests_kept led next)
+led_kept numbers indices marks at number nodes edges led None None is len all are k = are
+led_kept numbers indices marks at number nodes edges led None (Some rows) is len all are k = absurd k
+led_kept numbers indices marks at number nodes edges led (Some before) None is len all are k = absurd k
+led_kept numbers indices marks at number nodes edges led (Some before) (Some rows) is len all are k = led_are numbers indices marks at number nodes before.items rows.items is len all k
 
 -- one row more
-pub led_more : (indices : List ℕ) (marks : List Bool) (at number : ℕ) (rows led : Graph) (n : ℕ) (row : List ℕ) → n < length rows → length led ≡ n
-    → ((m : ℕ) → m < n → IsLedRow indices at number (get_or marks (index_at indices m) false) (get_or rows m []) (get_or led m []))
-    → IsLedRow indices at number (get_or marks (index_at indices n) false) (get_or rows n []) row
-    → (m : ℕ) → m < n + 1 → IsLedRow indices at number (get_or marks (index_at indices m) false) (get_or rows m []) (get_or (led ++ row ∷ []) m [])
-led_more indices marks at number rows led n row lt long before r m le = elim (cases_lt m n) [
-  | inl below ↦ subst (IsLedRow indices at number (get_or marks (index_at indices m) false) (get_or rows m [])) (sym (get_or_append_left led (row ∷ []) [] m (omega (arith, below, long)))) (before m below)
-  | inr above ↦
-      let last : n ≡ m = omega (arith, le, above) in
-      let here : get_or (led ++ row ∷ []) m [] ≡ row = get_or_push led row [] m (long ∙ last) in
-      subst (IsLedRow indices at number (get_or marks (index_at indices m) false) (get_or rows m [])) (sym here)
-      (subst (λ (k : ℕ). IsLedRow indices at number (get_or marks (index_at indices k) false) (get_or rows k []) row) last r)
-]
-
-pub led_all : (indices : List ℕ) (marks : List Bool) (at number : ℕ) (rows led : Graph) (count : ℕ) → count ≡ length rows → length led ≡ count
-    → ((m : ℕ) → m < count → IsLedRow indices at number (get_or marks (index_at indices m) false) (get_or rows m []) (get_or led m []))
-    → AreLedRows indices marks at number rows (led ++ [] ∷ [])
-led_all indices marks at number rows led count c long are = record {
-  len = last_long led [] ∙ ap (λ (n : ℕ). n + 1) (long ∙ c);
-  led = λ n lt. subst (IsLedRow indices at number (get_or marks (index_at indices n) false) (get_or rows n [])) (sym (get_or_append_left led ([] ∷ []) [] n (omega (arith, lt, long, c)))) (are n (omega (arith, lt, c)));
-  last = get_or_push led [] [] (length rows) (long ∙ c);
-}
+pub led_more : (indices : List ℕ) (at number : ℕ) (before : Graph) (nodes : List ℕ) (rows : Graph) (i : ℕ) (row : List ℕ) → AreLed indices at number before (take i nodes) rows → i < length nodes
+    → IsSourceRow indices at number 1 (get_or before (get_or nodes i 0) []) row → AreLed indices at number before (take (i + 1) nodes) (rows ++ row ∷ [])
+led_more indices at number before nodes rows i row h lt r = subst (λ (ws : List ℕ). AreLed indices at number before ws (rows ++ row ∷ [])) (sym (take_more nodes i 0 lt)) (record {
+  len = last_long rows row ∙ ap (λ (n : ℕ). n + 1) h.len ∙ sym (last_long (take i nodes) (get_or nodes i 0));
+  led = λ k less. by k (cases_lt k (length (take i nodes))) less;
+}) where
+  by : (k : ℕ) → (k < length (take i nodes)) ⊎ (length (take i nodes) ≤ k) → k < length (take i nodes ++ get_or nodes i 0 ∷ []) → IsSourceRow indices at number 1 (get_or before (get_or (take i nodes ++ get_or nodes i 0 ∷ []) k 0) []) (get_or (rows ++ row ∷ []) k [])
+  by k (inl below) less =
+      let long = h.len in
+      subst (λ (w : ℕ). IsSourceRow indices at number 1 (get_or before w []) (get_or (rows ++ row ∷ []) k [])) (sym (get_or_append_left (take i nodes) (get_or nodes i 0 ∷ []) 0 k below))
+      (subst (IsSourceRow indices at number 1 (get_or before (get_or (take i nodes) k 0) [])) (sym (get_or_append_left rows (row ∷ []) [] k (omega (arith, below, long)))) (h.led k below))
+  by k (inr above) less =
+      let more = last_long (take i nodes) (get_or nodes i 0) in
+      let last : length (take i nodes) ≡ k = omega (arith, less, more, above) in
+      subst (λ (w : ℕ). IsSourceRow indices at number 1 (get_or before w []) (get_or (rows ++ row ∷ []) k [])) (sym (get_or_push (take i nodes) (get_or nodes i 0) 0 k last))
+      (subst (IsSourceRow indices at number 1 (get_or before (get_or nodes i 0) [])) (sym (get_or_push rows row [] k (h.len ∙ last))) r)

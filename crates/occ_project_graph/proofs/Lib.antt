@@ -14,3 +14,4 @@ pub mod Mates
 pub mod Joined
 pub mod Led
 pub mod Rising
+pub mod Raising

@@ -1,10 +1,10 @@
 -- Nodes that reach one another reach the same, so they share the marks of a search.
 use Rattle.std.proofs.Common.{◌≡◌, ◌≢◌, ◌<◌, ◌+◌, ℕ, zero, suc, List, [], ◌∷◌, ◌++◌, Option, Some, None, length, get_or, inl, inr, refl, sym, ap, ◌∙◌, subst, arith}
-use Rattle.std.specs.Prelude.{Bool, true, false, not, ◌&&◌, ◌||◌, ◌==◌, ◌⊎◌, replicate, slice_set, Result, Ok, Err, OnOk}
+use Rattle.std.specs.Prelude.{Bool, true, false, ◌||◌, ◌==◌, replicate, slice_set, Result, Ok, Err, OnOk}
 use Rattle.std.specs.List.{list_any}
 use Rattle.std.proofs.lemmas.Bool.{cases_eq, eqb-true, eq-eqb}
 use Rattle.std.proofs.lemmas.List.{length-append}
-use Rattle.occ_project_graph.specs.Graph.{Graph, has_edge, is_among, reaches, targets}
+use Rattle.occ_project_graph.specs.Graph.{Graph, is_among, reaches, targets}
 use Rattle.occ_project_graph.specs.inside.Circling.{AreMates, AreRows, DoReach, IsMate, IsRow, leads_on, row_at}
 use Rattle.occ_project_graph.specs.inside.Ranking.{rank_at}
 use Rattle.occ_project_graph.specs.inside.Searching.{mark_at}

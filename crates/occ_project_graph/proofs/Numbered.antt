@@ -1,17 +1,16 @@
 -- A graph whose nodes have numbers that stay, where one more comes to an index.
-use Rattle.std.proofs.Common.{◌≡◌, ◌∙◌, ◌+◌, ◌-◌, ◌<◌, ◌≤◌, ◌++◌, ◌||◌, ◌==◌, ℕ, zero, suc, Bool, true, false, cond, not, List, [], ◌∷◌, length, map, take, drop, replicate, get_or, refl, sym, ap, subst, inl, inr, arith}
-use Rattle.std.specs.Prelude.{nat_lt, slice_set}
+use Rattle.std.proofs.Common.{◌≡◌, ◌∙◌, ◌+◌, ◌<◌, ◌≤◌, ◌++◌, ◌||◌, ◌==◌, ℕ, zero, suc, Bool, true, false, cond, not, List, [], ◌∷◌, length, map, get_or, refl, sym, ap, subst, inl, inr, arith}
+use Rattle.std.specs.Prelude.{slice_set}
 use Rattle.std.specs.List.{filter, insert, range_with_len}
-use Rattle.std.proofs.lemmas.Bool.{cases_lt, eq-eqb, eqb-false, eqb-true, le-ltb, lt-ltb}
+use Rattle.std.proofs.lemmas.Bool.{cases_lt, eq-eqb, eqb-false, eqb-true}
 use Rattle.std.proofs.lemmas.List.{get_or-map, get_or_append_left, get_or_past, get_or_push, length-map}
 use Rattle.std.proofs.lemmas.List.Edits.{get_or-insert_above, get_or-insert_at, get_or-insert_below, length-insert}
-use Rattle.std.proofs.lemmas.List.FromFn.{get_or-range_with_len, length-range_with_len}
 use Rattle.occ_project_graph.specs.Adding.{raised, with_node}
-use Rattle.occ_project_graph.specs.Graph.{Graph, IsWhole, all_rests, has_edge, is_among, targets}
-use Rattle.occ_project_graph.specs.Sources.{once_each, sources}
-use Rattle.occ_project_graph.specs.inside.Linking.{IsLinked, before, following, others, sources_then, sources_till, with_rows}
-use Rattle.occ_project_graph.specs.inside.Numbering.{AreSourceRows, IsFrontBefore, IsNumbered, IsOver, IsSourceRow, graph_by, index_at, indexed, row_by, times_in}
-use Rattle.occ_project_graph.proofs.Added.{all_rests_then, all_rows, here_or, long_then, none_by, parted, raised_above, raised_below, row_new, row_then}
+use Rattle.occ_project_graph.specs.Graph.{Graph, is_among}
+use Rattle.occ_project_graph.specs.Sources.{sources}
+use Rattle.occ_project_graph.specs.inside.Linking.{others, with_rows}
+use Rattle.occ_project_graph.specs.inside.Numbering.{AreSourceRows, IsNumbered, IsOver, IsSourceRow, graph_by, index_at, indexed, row_by, times_in}
+use Rattle.occ_project_graph.proofs.Added.{all_rows, here_or, long_then, none_by, raised_above, raised_below, row_new, row_then}
 use Rattle.occ_project_graph.proofs.Replaced.{last_long, rows_long, set_apart, set_here, set_long}
 use Rattle.occ_project_graph.proofs.Ways.{edge_below, first_holds, same_truth, second_holds}
 
@@ -288,16 +287,6 @@ all_places count (x ∷ xs) f n h = by (x == n) refl h (all_places count xs (λ 
   by : (b : Bool) → (x == n) ≡ b → (b || is_among xs n) ≡ true → (is_among xs n ≡ true → n < count) → n < count
   by true e k rest = subst (λ (m : ℕ). m < count) (eqb-true x n e) (f 0 (omega arith))
   by false e k rest = rest k
-
-pub indices_few : (numbers indices : List ℕ) → IsNumbered numbers indices → AreFew (length numbers) indices
-indices_few numbers indices is = all_places (length numbers) indices (λ i lt. is.index_within i (let len = is.len in omega (arith, lt, len)))
-
--- before an index none rises
-pub all_stay : (at : ℕ) (ws : List ℕ) → ((v : ℕ) → is_among ws v ≡ true → v < at) → map (raised at) ws ≡ ws
-all_stay at [] few = refl
-all_stay at (w ∷ ws) few =
-    ap (λ (v : ℕ). v ∷ map (raised at) ws) (raised_below at w (few w (first_holds (w == w) (is_among ws w) (eq-eqb w w refl))))
-    ∙ ap (λ (vs : List ℕ). w ∷ vs) (all_stay at ws (λ v h. few v (second_holds (w == v) (is_among ws v) h)))
 
 -- a row more is found
 pub rows_push : (indices : List ℕ) (sources : Graph) (at number : ℕ) (all ws : List ℕ) (rows : Graph) (w : ℕ) (row : List ℕ) → AreSourceRows indices sources at number all ws rows → IsSourceRow indices at number (times_in all w) (get_or sources w []) row

@@ -1,44 +1,20 @@
 -- Rows that are replaced, and all that is kept of a graph with one node more.
-use Rattle.std.proofs.Common.{◌≡◌, ◌∙◌, ◌+◌, ◌-◌, ◌<◌, ◌≤◌, ◌++◌, ◌||◌, ◌==◌, ℕ, zero, suc, Bool, true, false, cond, not, List, [], ◌∷◌, None, Some, slice_get, length, map, take, drop, get_or, set, refl, sym, ap, subst, inl, inr, arith}
+use Rattle.std.proofs.Common.{◌≡◌, ◌∙◌, ◌+◌, ◌-◌, ◌<◌, ◌≤◌, ◌++◌, ◌||◌, ◌==◌, ℕ, zero, suc, Bool, true, false, cond, List, [], ◌∷◌, length, map, take, get_or, refl, sym, ap, subst, inl, inr, arith}
 use Rattle.std.specs.Prelude.{nat_lt, slice_set}
 use Rattle.std.proofs.lemmas.Bool.{cases_lt, eq-eqb, eqb-false, eqb-true, le-ltb, lt-ltb}
 use Rattle.std.proofs.lemmas.List.{append-nil, length-take-le, take_more}
-use Rattle.std.proofs.lemmas.List.Edits.{map_over_more}
 use Rattle.occ_project_graph.specs.Adding.{raised, with_node}
-use Rattle.occ_project_graph.specs.Graph.{Graph, IsWhole, all_rests, is_among, is_circular, rests, targets}
+use Rattle.occ_project_graph.specs.Graph.{Graph, is_among}
 use Rattle.occ_project_graph.specs.Sources.{once_each, sources}
 use Rattle.occ_project_graph.specs.inside.Linking.{before, following, sources_then, sources_till, with_rows}
-use Rattle.occ_project_graph.proofs.Added.{all_rests_then, among_raised, here_or, long_then, none_by, not_among, not_both, once_none, passed, raised_above, raised_apart, raised_below, rests_there, row_new, row_then, sources_moved, sources_new, sources_raised}
-use Rattle.occ_project_graph.proofs.Turned.{only}
-use Rattle.occ_project_graph.proofs.Ways.{edge_below, first_holds, second_holds}
+use Rattle.occ_project_graph.proofs.Added.{here_or, long_then, none_by, once_none, raised_above, raised_apart, raised_below, row_new, row_then, sources_moved, sources_new, sources_raised}
+use Rattle.occ_project_graph.proofs.Ways.{first_holds, second_holds}
 
 -- a node at an index among others is one of them
 pub among_there : (ws : List ℕ) (i : ℕ) → i < length ws → is_among ws (get_or ws i 0) ≡ true
 among_there [] i lt = absurd (omega (arith, lt))
 among_there (x ∷ ws) zero lt = first_holds (x == x) (is_among ws x) (eq-eqb x x refl)
 among_there (x ∷ ws) (suc i) lt = second_holds (x == get_or ws i 0) (is_among ws (get_or ws i 0)) (among_there ws i (omega (arith, lt)))
-
--- the first i are replaced, each by what a function makes of it
-pub left_at : {X : Type 0} (f : X → X) (xs : List X) (i : ℕ) (d : X) → i < length xs → get_or (map f (take i xs) ++ drop i xs) i d ≡ get_or xs i d
-left_at f [] i d lt = absurd (omega (arith, lt))
-left_at f (x ∷ xs) zero d lt = refl
-left_at f (x ∷ xs) (suc i) d lt = left_at f xs i d (omega (arith, lt))
-
-pub parts_long : {X : Type 0} (f : X → X) (xs : List X) (i : ℕ) → length (map f (take i xs) ++ drop i xs) ≡ length xs
-parts_long f [] zero = refl
-parts_long f [] (suc i) = refl
-parts_long f (x ∷ xs) zero = refl
-parts_long f (x ∷ xs) (suc i) = ap suc (parts_long f xs i)
-
-pub same_default : {X : Type 0} (xs : List X) (i : ℕ) (d e : X) → i < length xs → get_or xs i d ≡ get_or xs i e
-same_default [] i d e lt = absurd (omega (arith, lt))
-same_default (x ∷ xs) zero d e lt = refl
-same_default (x ∷ xs) (suc i) d e lt = same_default xs i d e (omega (arith, lt))
-
-pub replaced_more : {X : Type 0} (f : X → X) (xs ys next : List X) (i : ℕ) (d : X) → i < length xs → ys ≡ map f (take i xs) ++ drop i xs → next ≡ set ys i (f (get_or ys i d)) → next ≡ map f (take (i + 1) xs) ++ drop (i + 1) xs
-replaced_more {X} f xs ys next i d lt y n =
-    let long : length ys ≡ length xs = ap (length {A = X}) y ∙ parts_long f xs i in
-    n ∙ map_over_more f xs ys i (get_or ys i d) lt y (same_default ys i d (get_or ys i d) (omega (arith, lt, long)))
 
 -- the last of the rows is put first
 pub rows_last : (g : Graph) (ws : List ℕ) (rows : List (List ℕ)) (w : ℕ) (row : List ℕ) → length ws ≡ length rows → with_rows g (ws ++ w ∷ []) (rows ++ row ∷ []) ≡ with_rows (slice_set g w row) ws rows

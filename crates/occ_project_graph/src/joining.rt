@@ -1,69 +1,67 @@
 //! The rows of a graph where one node more comes to an index, to which edges lead from others and from which none leads.
-ghost use Rattle.occ_project_graph.specs.inside.Linking.{AreLedRests, AreLedRows, IsLedRow, marked};
-ghost use Rattle.std.specs.Prelude.{◌≡◌, ◌++◌, ◌∷◌, [], IfOk, OnOk, cond};
+ghost use Rattle.occ_project_graph.specs.inside.Linking.{AreLed, AreLedRests, IsLed, marked, rests_kept};
+ghost use Rattle.occ_project_graph.specs.Graph.{Graph};
+ghost use Rattle.std.specs.Prelude.{◌≡◌, ◌++◌, ◌∷◌, [], IfOk, OnErr, OnOk, cond};
 
-use super::adding::source_row;
+use super::adding::{put_rows, source_row};
 use super::reaching::is_known;
-use super::search::number_at;
+use super::search::targets as row;
 use sqlite_items::Items;
 use std::alloc::{AllocError, Global};
 
-/// The row of a node, to which the one of the next number is added, which comes to an index, if so.
-fn led_row(
-    alloc: Global,
-    indices: &[usize],
-    is_led: bool,
-    before: &[usize],
-    at: usize,
-    number: usize,
-) -> Result<Items<usize>, AllocError>
-    ensures { IfOk result (λ row. IsLedRow indices.now at number is_led before.now row) }
-{
-    if is_led {
-        source_row(alloc, indices, before, at, number, 1)
-    } else {
-        Items::from_slice(alloc, before)
-    }
-}
-
-/// The same of each node that has a mark at its index, and a row for the one of the next number, from which no edge leads.
+/// The rows of these nodes, to each of which the one of the next number is added, which comes to an index.
 pub fn led_rows(
     alloc: Global,
     indices: &[usize],
-    marks: &[bool],
     before: &[Items<usize>],
     at: usize,
     number: usize,
-) -> Result<Vec<Items<usize>>, AllocError>
-    ensures { IfOk result (λ rows. AreLedRows indices.now marks.now at number before.now rows.items) }
+    nodes: &[usize],
+) -> Result<Items<Items<usize>>, AllocError>
+    ensures { IfOk result (λ rows. AreLed indices.now at number before.now nodes.now rows) }
 {
-    let mut rows = Vec::with_capacity(alloc, before.len().saturating_add(1))?;
-    for (node, row) in before.iter().enumerate() {
-        let is_led = is_known(marks, number_at(indices, node));
-        rows.push(led_row(alloc, indices, is_led, row.as_slice(), at, number)?)?;
+    let mut rows = Vec::with_capacity(alloc, nodes.len())?;
+    for node in nodes {
+        let before = row(before, *node);
+        rows.push(source_row(alloc, indices, before, at, number, 1)?)?;
     }
+    Ok(Items::from_vec(rows))
+}
+
+/// The node of the next number, from which no edge leads, comes behind the others, and is added to the rows of these.
+fn lead_rows(
+    alloc: Global,
+    indices: &[usize],
+    rows: &mut Vec<Items<usize>>,
+    at: usize,
+    number: usize,
+    nodes: &[usize],
+) -> Result<(), AllocError>
+    ensures ok { OnOk result (IsLed indices.now at number nodes.now rows.old.items rows.new.items) }
+    ensures err { OnErr result (rows.new.items ≡ rows.old.items) }
+{
+    let found = led_rows(alloc, indices, rows.as_slice(), at, number, nodes)?;
     rows.push(Items::new(alloc))?;
-    Ok(rows)
+    put_rows(rows, nodes, found);
+    Ok(())
 }
 
 /// The same of what is kept of what nodes rest on, if something is.
-pub fn led_rests(
+pub fn lead_rests(
     alloc: Global,
     indices: &[usize],
-    marks: &[bool],
-    before: &Option<Vec<Items<usize>>>,
+    rests: &mut Option<Vec<Items<usize>>>,
     at: usize,
     number: usize,
-) -> Result<Option<Vec<Items<usize>>>, AllocError>
-    ensures { IfOk result (λ led. AreLedRests indices.now marks.now at number before.now led) }
+    nodes: &[usize],
+) -> Result<(), AllocError>
+    ensures ok { OnOk result (AreLedRests indices.now at number nodes.now rests.old rests.new) }
+    ensures err { OnErr result ((edges : Graph) → rests_kept edges rests.new ≡ rests_kept edges rests.old) }
 {
-    match before {
-        Some(rows) => {
-            let led = led_rows(alloc, indices, marks, rows.as_slice(), at, number)?;
-            Ok(Some(led))
-        }
-        None => Ok(None),
+    if let Some(rows) = rests {
+        return lead_rows(alloc, indices, rows, at, number, nodes);
     }
+    Ok(())
 }
 
 /// Adds a number, if so.

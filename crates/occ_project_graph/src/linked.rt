@@ -8,7 +8,7 @@ ghost use Rattle.std.specs.Prelude.{◌≡◌, ◌<◌, ◌≤◌, [], ℕ, IfOk
 
 use super::adding::{put_rows, source_rows};
 use super::circles::find_rests;
-use super::joining::{led_rests, led_rows, marked_numbers};
+use super::joining::{lead_rests, led_rows, marked_numbers};
 use super::nodes::Nodes;
 use super::numbering::{first_numbers, insert_node, numbers_then, push_within};
 use super::resting::{add_rests, is_one};
@@ -247,17 +247,31 @@ impl Linked {
         ensures err { OnErr result (self.new ≡ self.old) }
     {
         let number = self.numbers.len();
-        let indices = self.indices.as_slice();
-        let edges = led_rows(alloc, indices, marks, self.edges.as_slice(), at, number)?;
-        let rests = led_rests(alloc, indices, marks, &self.rests, at, number)?;
         let users = marked_numbers(alloc, self.numbers.as_slice(), marks)?;
+        let found = led_rows(
+            alloc,
+            self.indices.as_slice(),
+            self.edges.as_slice(),
+            at,
+            number,
+            users.as_slice(),
+        )?;
         self.numbers.reserve(1)?;
         self.indices.reserve(1)?;
+        self.edges.reserve(1)?;
         self.sources.reserve(1)?;
+        lead_rests(
+            alloc,
+            self.indices.as_slice(),
+            &mut self.rests,
+            at,
+            number,
+            users.as_slice(),
+        )?;
         insert_node(&mut self.numbers, &mut self.indices, at);
+        push_within(&mut self.edges, Items::new(alloc));
+        put_rows(&mut self.edges, users.as_slice(), found);
         push_within(&mut self.sources, users);
-        self.edges = edges;
-        self.rests = rests;
         Ok(())
     }
 }

@@ -1,8 +1,9 @@
 //! The numbers of nodes stay. Their indices rise where a node comes before them.
 ghost use Rattle.occ_project_graph.specs.Adding.{raised as spec_raised};
 ghost use Rattle.occ_project_graph.specs.Graph.{is_among};
+ghost use Rattle.occ_project_graph.specs.inside.Numbering.{IsNumbered};
 ghost use Rattle.std.specs.List.{insert, range_with_len};
-ghost use Rattle.std.specs.Prelude.{◌≡◌, ◌<◌, ◌≤◌, ◌++◌, ◌∷◌, [], ℕ, IfOk, get_or, length, map, true, vec_len, vec_capacity};
+ghost use Rattle.std.specs.Prelude.{◌≡◌, ◌<◌, ◌≤◌, ◌+◌, ◌++◌, ◌∷◌, [], ℕ, IfOk, get_or, length, map, slice_set, true, vec_len, vec_capacity};
 
 use sqlite_items::Items;
 use std::alloc::{AllocError, Global};
@@ -51,26 +52,22 @@ pub fn numbers_then(
     Ok(Items::from_vec(found))
 }
 
-/// The index of a node behind an index rises by one.
-fn raise(index: &mut usize, at: usize, count: usize)
-    requires { index.old < count }
-    ensures { index.new ≡ spec_raised at index.old }
+/// The index of the node of a number rises by one.
+fn raise(indices: &mut [usize], number: usize, count: usize)
+    requires within { number < length indices.old }
+    requires fits { get_or indices.old number 0 < count }
+    ensures { indices.new ≡ slice_set indices.old number (get_or indices.old number 0 + 1) }
 {
-    if *index >= at {
-        *index += 1;
-    }
+    indices[number] += 1;
 }
 
-/// The same of each. Behind the last node none rises.
-fn raise_each(indices: &mut [usize], at: usize, count: usize)
-    requires { (v : ℕ) → is_among indices.old v ≡ true → v < count }
+/// The same of each node that has an index or a later one.
+fn raise_from(indices: &mut [usize], numbers: &[usize], at: usize)
+    requires { IsNumbered numbers.now indices.old }
     ensures { indices.new ≡ map (spec_raised at) indices.old }
 {
-    if at >= count {
-        return;
-    }
-    for index in indices.iter_mut() {
-        raise(index, at, count);
+    for place in at..numbers.len() {
+        raise(indices, numbers[place], numbers.len());
     }
 }
 
@@ -87,12 +84,12 @@ pub fn insert_node(numbers: &mut Vec<usize>, indices: &mut Vec<usize>, at: usize
     requires at { at ≤ vec_len numbers.old }
     requires room { vec_len numbers.old < vec_capacity numbers.old }
     requires more_room { vec_len indices.old < vec_capacity indices.old }
-    requires within { (v : ℕ) → is_among indices.old.items v ≡ true → v < vec_len numbers.old }
+    requires numbered { IsNumbered numbers.old.items indices.old.items }
     ensures numbers { numbers.new.items ≡ insert numbers.old.items at (length numbers.old.items) }
     ensures indices { indices.new.items ≡ map (spec_raised at) indices.old.items ++ at ∷ [] }
 {
     let number = numbers.len();
-    raise_each(indices.as_mut_slice(), at, number);
+    raise_from(indices.as_mut_slice(), numbers.as_slice(), at);
     let _ = numbers.insert(at, number);
     push_within(indices, at);
 }

@@ -33,7 +33,7 @@ use Rattle.occ_project_units.specs.Indices.{graph_of, indices_of}
 use Rattle.occ_project_units.specs.Project.{IsProject, put}
 use Rattle.occ_project_units.specs.Units.{read_names, used_units}
 use Rattle.occ_project_units.specs.declared.facts.Facts.{Facts}
-use Rattle.occ_project_units.specs.inside.Keeping.{IsLookingForNone, IsSettled, all_facts, facts_of}
+use Rattle.occ_project_units.specs.inside.Keeping.{AreLacking, AreLackingWith, IsLookingForNone, all_facts, facts_of}
 
 none_by : (b : Bool) → (b ≡ true → ⊥) → b ≡ false
 none_by true f = absurd (f refl)
@@ -254,24 +254,14 @@ module _ (files : List Read) (project : IsProject files) (name : List ℕ) (none
     | inr k ↦ ap (λ (ns : List (List ℕ)). is_among ns name) (sym e) ∙ k
   ]
 
--- the file at an index looks for none, by what is known of it
-pub none_looked : (files : List Read) → IsProject files → (p : ℕ) → p < length files → (known : Facts) → known ≡ facts_of files (name_at files p) → (nodes : List ℕ) → nodes ≡ indices_of files known.uses → (length known.reads ≤ 1) × (length nodes ≡ length known.uses) → IsLookingForNone files (name_at files p)
-none_looked files project p lt known is nodes to few name none =
-    let reads : known.reads ≡ read_names files (name_at files p) = ap (λ (f : Facts). f.reads) is in
-    let uses : known.uses ≡ used_units files (name_at files p) = ap (λ (f : Facts). f.uses) is in
-    let all : length (indices_of files (used_units files (name_at files p))) ≡ length (used_units files (name_at files p)) =
-    ap (λ (names : List (List ℕ)). length (indices_of files names)) (sym uses) ∙ ap (length {A = ℕ}) (sym to) ∙ few.1 ∙ ap (length {A = List ℕ}) uses in
-    (unread_there files project name none p lt known.reads reads (inl few.0), all_placed files (used_units files (name_at files p)) name all none)
-
 mapped_none : (f : ℕ → ℕ) (o : Option ℕ) → option_map f o ≡ None → o ≡ None
 mapped_none f None h = refl
 mapped_none f (Some x) h = absurd cc
 
--- where no file looks for one that is not there, and a new one does not either, none does then
-module _ (files : List Read) (file : Read) (at : ℕ) (new : IsNew files file.name at) (project : IsProject files) where
+-- those look for one that is not there, once a file is that none reads, that did before, and perhaps the new one
+module _ (files : List Read) (file : Read) (at : ℕ) (gap : IsGap file.name files at) (unread : (p : ℕ) → p < length files → is_among (read_names files (name_at files p)) file.name ≡ false) (project : IsProject files) where
   facts_same : (p : ℕ) → p < length files → facts_of (put files file) (name_at files p) ≡ facts_of files (name_at files p)
-  facts_same p lt = sym (facts_stay files (put files file) (name_at files p) file.name (put_others files file)
-      (new.unread p lt))
+  facts_same p lt = sym (facts_stay files (put files file) (name_at files p) file.name (put_others files file) (unread p lt))
 
   reads_same : (p : ℕ) → p < length files → read_names (put files file) (name_at files p) ≡ read_names files (name_at files p)
   reads_same p lt = ap (λ (f : Facts). f.reads) (facts_same p lt)
@@ -279,38 +269,43 @@ module _ (files : List Read) (file : Read) (at : ℕ) (new : IsNew files file.na
   name_then : (p : ℕ) → p < length files → name_at (put files file) (raised at p) ≡ name_at files p
   name_then p lt =
       named_at (put files file) (name_at files p) (raised at p)
-      (index_then files file at new (name_at files p) (apart_names (name_at files p) file.name (other_there files project file.name new.gap.absent p lt))
+      (gap_then files file at gap (name_at files p) (apart_names (name_at files p) file.name (other_there files project file.name gap.absent p lt))
       ∙ ap (option_map (raised at)) (placed_name files p project lt))
 
   absent_before : (name : List ℕ) → index name (put files file) ≡ None → index name files ≡ None
   absent_before name none =
       let other : bytes_eq file.name name ≡ false = none_by (bytes_eq file.name name) (λ k.
-      let here : index name (put files file) ≡ Some at = ap (λ (n : List ℕ). index n (put files file)) (sym ((bytes_eq-Decides file.name name).0 k)) ∙ index_new files file at new in
+      let here : index name (put files file) ≡ Some at = ap (λ (n : List ℕ). index n (put files file)) (sym ((bytes_eq-Decides file.name name).0 k)) ∙ gap_new files file at gap in
       cc (here, none)) in
-      mapped_none (raised at) (index name files) (sym (index_then files file at new name other) ∙ none)
+      mapped_none (raised at) (index name files) (sym (gap_then files file at gap name other) ∙ none)
 
-  still_none : IsSettled files → (p : ℕ) → p < length files → IsLookingForNone (put files file) (name_at (put files file) (raised at p))
-  still_none before p lt = subst (IsLookingForNone (put files file)) (sym (name_then p lt)) (λ name none.
-      let was = before p lt name (absent_before name none) in (
+  still_none : (p : ℕ) → p < length files → IsLookingForNone files (name_at files p) → IsLookingForNone (put files file) (name_at (put files file) (raised at p))
+  still_none p lt before = subst (IsLookingForNone (put files file)) (sym (name_then p lt)) (λ name none.
+      let was = before name (absent_before name none) in (
         ap (λ (names : List (List ℕ)). is_among names name) (reads_same p lt) ∙ was.0,
         ap (λ (f : Facts). is_among f.uses name) (facts_same p lt) ∙ was.1,
       ))
 
   index_before : (p : ℕ) → raised at p < length (put files file) → p < length files
   index_before p lt =
-      let long = put_long files file at new in
-      let within = new.gap.within in
+      let long = gap_long files file at gap in
+      let within = gap.within in
       elim (cases_lt p at) [
         | inl below ↦ omega (arith, below, within)
         | inr above ↦ let e = raised_above at p above in omega (arith, lt, e, long)
       ]
 
-  pub settled_then : IsSettled files → IsLookingForNone (put files file) (name_at (put files file) at) → IsSettled (put files file)
-  settled_then before own p lt = elim (here_or at p) [
-    | inl e ↦ subst (λ (q : ℕ). IsLookingForNone (put files file) (name_at (put files file) q)) (sym e) own
+  pub lacking_then : (lacking : Option (List ℕ)) → AreLackingWith files at lacking → AreLacking (put files file) lacking
+  lacking_then None h = tt
+  lacking_then (Some lacking) h = λ p lt. elim (here_or at p) [
+    | inl e ↦ inl (subst (λ (q : ℕ). graph.is_among lacking q ≡ true) (sym e) h.new)
     | inr there ↦
         let same = there.1 in
-        subst (λ (q : ℕ). IsLookingForNone (put files file) (name_at (put files file) q)) there.1 (still_none before there.0 (index_before there.0 (omega (arith, lt, same))))
+        let within : there.0 < length files = index_before there.0 (omega (arith, lt, same)) in
+        elim (h.others there.0 within) [
+          | inl k ↦ inl (subst (λ (q : ℕ). graph.is_among lacking q ≡ true) there.1 k)
+          | inr none ↦ inr (subst (λ (q : ℕ). IsLookingForNone (put files file) (name_at (put files file) q)) there.1 (still_none there.0 within none))
+        ]
   ]
 
 -- a file that has no index comes to those that are there

@@ -1,5 +1,5 @@
 -- A file that is new to a project, that others use and that none reads.
-use Rattle.std.proofs.Common.{◌≡◌, ◌∙◌, ◌+◌, ◌<◌, ◌≤◌, ◌++◌, ◌||◌, ℕ, zero, suc, Bool, true, false, cond, not, List, [], ◌∷◌, length, map, get_or, Option, Some, None, refl, sym, ap, subst, inl, inr, arith}
+use Rattle.std.proofs.Common.{◌≡◌, ◌∙◌, ◌+◌, ◌<◌, ◌≤◌, ◌++◌, ◌||◌, ℕ, suc, Bool, true, false, cond, not, List, [], ◌∷◌, length, map, get_or, Option, Some, None, refl, sym, ap, subst, inl, inr, arith}
 use Rattle.std.specs.Prelude.{nat_lt}
 use Rattle.std.specs.List.{AllByRecursion, cons_option, filter, flat_map, insert, slice_get}
 use Rattle.std.specs.List.Sorted.{IsStrictlySortedBy}
@@ -9,7 +9,6 @@ use Rattle.std.specs.declared.cmp.Ordering.{Ordering}
 use Rattle.std.specs.declared.cmp.Ordering.TheVariants.{Less, Equal, Greater}
 use Rattle.std.proofs.lemmas.Bool.{cases_lt, le-ltb, lt-ltb}
 use Rattle.std.proofs.lemmas.List.{length-map}
-use Rattle.std.proofs.lemmas.Slice.Eq.{bytes_eq-Decides}
 use Rattle.occ_base.specs.FileName.{is_unit}
 use Rattle.occ_base.specs.Order.{placed}
 use Rattle.occ_project_graph.specs.Adding.{IsParted, raised, row_with, rows_with, with_used_node}
@@ -24,7 +23,6 @@ use Rattle.occ_project_units.proofs.Added.{apart_names, gap_indices, gap_long, g
 use Rattle.occ_project_units.proofs.Below.{get_some, named_at}
 use Rattle.occ_project_units.proofs.Edges.{get_map, graph_long, no_edge, slice_some}
 use Rattle.occ_project_units.proofs.Finding.{index_within}
-use Rattle.occ_project_units.proofs.Looks.{same_bytes}
 use Rattle.occ_project_units.proofs.Rising.{all_more, apart, equal_names, insert_rising, less_joined, turned}
 use Rattle.occ_project_units.specs.Along.{name_at}
 use Rattle.occ_project_units.specs.New.{IsGap}

@@ -15,4 +15,5 @@ pub mod Near
 pub mod Renewed
 pub mod Added
 pub mod Joins
+pub mod Lacking
 pub mod Noting

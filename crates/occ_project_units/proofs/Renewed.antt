@@ -468,8 +468,8 @@ module _ (files later : List Read) (same : IsRenewed files later) where
   readers_still None h = tt
   readers_still (Some rows) h = λ p lt. let len = same.len in h p (omega (arith, len, lt)) ∙ ap (λ (g : Graph). sources g p) (sym same.reads)
 
-  pub graph_still : (next : List Facts) (links : Graph) (readers : Option Graph) → links ≡ graph_of files → AreReaders files readers → next ≡ all_facts later → IsGraph later next links readers false
-  graph_still next links readers h r n = record { facts_are = n; links_are = h ∙ sym same.graph; readers_are = readers_still readers r; settled_is = λ k. absurd cc }
+  pub graph_still : (next : List Facts) (links : Graph) (readers : Option Graph) → links ≡ graph_of files → AreReaders files readers → next ≡ all_facts later → IsGraph later next links readers None
+  graph_still next links readers h r n = record { facts_are = n; links_are = h ∙ sym same.graph; readers_are = readers_still readers r; lacking_are = tt }
 
 -- where the file was open and is so, the same files are
 pub alike_after : (files later : List Read) (file : Read) → later ≡ put files file → graph_of later ≡ graph_of files → is_some (file_of files file.name).source ≡ true → is_some file.source ≡ true → AreAlike files later

@@ -67,6 +67,11 @@ facts_stay files later name edited others apart = by (is_unit name) apart where
 pub still_facts : (files later : List Read) (known : Facts) (name edited : List ℕ) → AreOthers edited files later → known ≡ facts_of files name → is_among known.reads edited ≡ false → known ≡ facts_of later name
 still_facts files later known name edited others e apart = e ∙ facts_stay files later name edited others (ap (λ (f : Facts). is_among f.reads edited) (sym e) ∙ apart)
 
+-- the same of what is known, if something is
+pub still_known_facts : (files later : List Read) (known : Option Facts) (name edited : List ℕ) → AreOthers edited files later → IfSome known (λ k. k ≡ facts_of files name) → IfSome known (λ k. is_among k.reads edited ≡ false) → IfSome known (λ k. k ≡ facts_of later name)
+still_known_facts files later None name edited others e apart = e
+still_known_facts files later (Some known) name edited others e apart = still_facts files later known name edited others e apart
+
 pub put_others : (files : List Read) (file : Read) → AreOthers file.name files (put files file)
 put_others files file other h = file_put files file other ∙ ap (λ (b : Bool). cond b file (file_of files other)) h
 
@@ -130,9 +135,9 @@ if_ok (Ok z) x y h e = h ∙ e
 if_ok (Err f) x y h e = h
 
 -- what rests on what stays where each file uses the same
-pub links_stay : (now files later : List Read) (facts lent found : List Facts) (kept : Graph) (readers : Option Graph) (settled : Bool) (edited : List ℕ) → files ≡ now → IsGraph files facts kept readers settled → lent ≡ facts → found ≡ all_facts later
+pub links_stay : (now files later : List Read) (facts lent found : List Facts) (kept : Graph) (readers : Option Graph) (lacking : Option (List ℕ)) (edited : List ℕ) → files ≡ now → IsGraph files facts kept readers lacking → lent ≡ facts → found ≡ all_facts later
     → map (λ (f : Facts). f.uses) lent ≡ map (λ (f : Facts). f.uses) found → is_some (index edited files) ≡ true → (is_some (index edited now) ≡ true → (name : List ℕ) → index name later ≡ index name now) → graph_of now ≡ graph_of later
-links_stay now files later facts lent found kept readers settled edited view graph l f uses here same =
+links_stay now files later facts lent found kept readers lacking edited view graph l f uses here same =
     ap graph_of (sym view)
     ∙ graph_stays files later lent found (l ∙ graph.facts_are) f uses (λ name. same (ap (λ (fs : List Read). is_some (index edited fs)) (sym view) ∙ here) name ∙ ap (index name) (sym view))
 

@@ -6,7 +6,7 @@ ghost use Rattle.occ_project_units.specs.New.{IsNew};
 ghost use Rattle.occ_project_units.specs.Indices.{graph_of, indices_of as spec_indices_of};
 ghost use Rattle.occ_project_units.specs.Project.{IsProject, put};
 ghost use Rattle.occ_project_units.specs.Units.{used_units};
-ghost use Rattle.occ_project_units.specs.inside.Keeping.{IsLookingForNone, IsSettled, all_facts as spec_all_facts, facts_of as spec_facts_of};
+ghost use Rattle.occ_project_units.specs.inside.Keeping.{all_facts as spec_all_facts, facts_of as spec_facts_of};
 ghost use Rattle.std.specs.List.{insert};
 ghost use Rattle.std.specs.Prelude.{◌≡◌, ◌<◌, ◌≤◌, ◌+◌, ◌⊎◌, IfOk, IsFalse, IsTrue, OnErr, OnOk, false, length, true};
 
@@ -32,45 +32,40 @@ pub fn may_use(facts: &Facts, edges: usize, name: FileName) -> bool
     edges != facts.uses.len() && is_name_among(facts.uses.as_slice(), name)
 }
 
-/// Whether it was known before that no file looks for one that is not there, and a file from which edges lead to these does not
-/// either: it reads itself alone, and all that it uses are there.
-fn is_still_settled(settled: bool, facts: &Facts, edges: &[usize]) -> bool
-    ensures { IsTrue result → (settled ≡ true) × ((length facts.now.reads ≤ 1) × (length edges.now ≡ length facts.now.uses)) }
+/// Whether a file from which so many edges lead looks for none that is not there: it reads itself alone, and all that it uses are
+/// there.
+pub fn is_whole(facts: &Facts, edges: usize) -> bool
+    ensures { IsTrue result → (length facts.now.reads ≤ 1) × (edges ≡ length facts.now.uses) }
 {
-    settled && facts.reads.len() <= 1 && edges.len() == facts.uses.len()
+    facts.reads.len() <= 1 && edges == facts.uses.len()
 }
 
-/// Adds what is known of the file at an index, which is new, and says whether it was known that no file looks for one that is not
-/// there and this one does not either. All memory is taken before the first change.
+/// Adds what is known of the file at an index, which is new. All memory is taken before the first change.
 fn add_known(
     alloc: Global,
     project: &Project,
     facts: &mut Vec<Shared<Facts>>,
     links: &mut Linked,
     at: usize,
-    settled: bool,
-) -> Result<bool, AllocError>
+) -> Result<(), AllocError>
     requires within { at < length project.now }
     requires facts { length project.now ≡ length facts.old.items + 1 }
     requires links { length project.now ≡ length links.old + 1 }
-    ensures settled { IfOk result (λ still. still ≡ true → (settled ≡ true) × IsLookingForNone project.now (name_at project.now at)) }
     ensures facts { OnOk result (facts.new.items ≡ insert facts.old.items at (spec_facts_of project.now (name_at project.now at))) }
     ensures links { OnOk result (links.new ≡ with_node links.old at (spec_indices_of project.now (used_units project.now (name_at project.now at)))) }
     ensures err { OnErr result (facts.new.items ≡ facts.old.items × links.new ≡ links.old) }
 {
-    let _files = project.files();
-    let known = facts_of(alloc, project, at, project.name_at(at))?;
+    let known = facts_of(alloc, project, at, project.name_at(at), &mut None)?;
     let targets = indices_of(alloc, project, 0, None, known.uses.as_slice())?;
-    let still = is_still_settled(settled, &known, targets.as_slice());
     let shared = Shared::new(alloc, known)?;
     facts.reserve(1)?;
     links.add(alloc, at, targets)?;
     let _ = facts.insert(at, shared);
-    Ok(still)
+    Ok(())
 }
 
 /// Puts a file into a project that is new to it and that no file looks for, with what is then known. What is known of the others
-/// stays, but for their indices. It is said whether it is known that no file looks for one that is not there, and reports the same.
+/// stays, but for their indices.
 pub fn add_file(
     alloc: Global,
     project: &mut Project,
@@ -78,22 +73,19 @@ pub fn add_file(
     links: &mut Linked,
     at: usize,
     file: Read,
-    settled: bool,
-) -> Result<bool, AllocError>
+) -> Result<(), AllocError>
     requires project { IsProject project.old }
     requires new { IsNew project.old file.name at }
     requires facts { facts.old.items ≡ spec_all_facts project.old }
     requires links { links.old ≡ graph_of project.old }
-    requires settled { settled ≡ true → IsSettled project.old }
-    ensures settled { IfOk result (λ still. still ≡ true → IsSettled project.new) }
     ensures project { OnOk result (project.new ≡ put project.old file) }
     ensures facts { OnOk result (facts.new.items ≡ spec_all_facts project.new) }
     ensures links { OnOk result (links.new ≡ graph_of project.new) }
     ensures err { OnErr result (project.new ≡ project.old × (facts.new.items ≡ facts.old.items × links.new ≡ links.old)) }
 {
     project.insert(at, file)?;
-    match add_known(alloc, project, facts, links, at, settled) {
-        Ok(still) => Ok(still),
+    match add_known(alloc, project, facts, links, at) {
+        Ok(()) => Ok(()),
         Err(refused) => {
             project.remove(at);
             Err(refused)

@@ -5,6 +5,7 @@ ghost use Rattle.occ_project.specs.Entries.{is_among};
 ghost use Rattle.occ_project_units.specs.inside.Keeping.{facts_of as spec_facts_of};
 ghost use Rattle.std.specs.Prelude.{[], map, IfOk, OnOk, ◌++◌, ◌∷◌, ◌≡◌};
 
+use super::ordering::Ordered;
 use super::project::Project;
 use super::skimming::skim;
 use occ_base::{FileName, Items, Shared};
@@ -40,12 +41,13 @@ pub fn does_read(facts: &Facts, name: FileName) -> bool
     is_name_among(facts.reads.as_slice(), name)
 }
 
-/// What is known of the file of that name, which is looked for at an index first.
+/// What is known of the file of that name, which is looked for at an index first. What was put in order last spares time.
 pub fn facts_of(
     alloc: Global,
     project: &Project,
     hint: usize,
     name: FileName,
+    last: &mut Option<Ordered>,
 ) -> Result<Facts, AllocError>
     ensures { IfOk result (λ facts. facts ≡ spec_facts_of project.now name) }
 {
@@ -55,7 +57,7 @@ pub fn facts_of(
             uses: Items::new(alloc),
         });
     }
-    skim(alloc, project, hint, name)
+    skim(alloc, project, hint, name, last)
 }
 
 /// What is known of each file.
@@ -63,8 +65,10 @@ pub fn all_facts(alloc: Global, project: &Project) -> Result<Vec<Shared<Facts>>,
     ensures { IfOk result (λ all. all.items ≡ map (λ file. spec_facts_of project.now file.name) project.now) }
 {
     let mut all = Vec::new(alloc);
+    let mut last = None;
     for (index, file) in project.files().iter().enumerate() {
-        all.push(Shared::new(alloc, facts_of(alloc, project, index, file.name)?)?)?;
+        let facts = facts_of(alloc, project, index, file.name, &mut last)?;
+        all.push(Shared::new(alloc, facts)?)?;
     }
     Ok(all)
 }

@@ -5,6 +5,7 @@ ghost use Rattle.std.specs.Option.{option_copied};
 ghost use Rattle.std.specs.Prelude.{IfOk, IfSome, IsTrue, false, map, ◌≡◌};
 
 use super::facts::{Facts, does_read, facts_of};
+use super::ordering::Ordered;
 use super::project::Project;
 use occ_base::{FileName, Shared};
 use occ_project::Read;
@@ -62,23 +63,21 @@ fn still_known<'a>(
     Some(known)
 }
 
-/// What is known of a file after the edit of one: what was known before, if it does not read that.
-fn facts_after(
+/// What is known of a file: what was known before, if that is so still. What was put in order last spares time.
+fn facts_now(
     alloc: Global,
-    files: &[Read],
-    facts: &[Shared<Facts>],
     project: &Project,
     index: usize,
     name: FileName,
-    edited: FileName,
+    known: Option<&Shared<Facts>>,
+    last: &mut Option<Ordered>,
 ) -> Result<Shared<Facts>, AllocError>
-    requires facts { facts.now ≡ all_facts files.now }
-    requires others { AreOthers edited files.now project.now }
+    requires { IfSome (option_copied known) (λ known. known ≡ spec_facts_of project.now name) }
     ensures { IfOk result (λ found. found ≡ spec_facts_of project.now name) }
 {
-    match still_known(files, facts, index, name, edited) {
+    match known {
         Some(known) => known.share(),
-        None => Shared::new(alloc, facts_of(alloc, project, index, name)?),
+        None => Shared::new(alloc, facts_of(alloc, project, index, name, last)?),
     }
 }
 
@@ -95,8 +94,10 @@ pub fn all_facts_after(
     ensures { IfOk result (λ all. all.items ≡ all_facts project.now) }
 {
     let mut all = Vec::new(alloc);
+    let mut last = None;
     for (index, file) in project.files().iter().enumerate() {
-        all.push(facts_after(alloc, files, facts, project, index, file.name, edited)?)?;
+        let known = still_known(files, facts, index, file.name, edited);
+        all.push(facts_now(alloc, project, index, file.name, known, &mut last)?)?;
     }
     Ok(all)
 }

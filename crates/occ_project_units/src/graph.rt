@@ -1,6 +1,7 @@
 //! The graph of a project: what units read and use, circles, and how a used unit is found. Edits change it in place where
 //! they can.
 ghost use Rattle.occ_base.specs.FileName.{is_unit};
+ghost use Rattle.occ_project_graph.specs.Adding.{raised};
 ghost use Rattle.occ_project_graph.specs.Graph.{is_among as spec_is_among, rests as spec_rests, targets};
 ghost use Rattle.occ_project.specs.Entries.{is_among};
 ghost use Rattle.occ_project.specs.Reads.{index, index as spec_index};
@@ -8,16 +9,16 @@ ghost use Rattle.occ_project_units.specs.Alike.{AreAlike};
 ghost use Rattle.occ_project_units.specs.Along.{name_at};
 ghost use Rattle.occ_project_units.specs.New.{IsNew};
 ghost use Rattle.occ_project_units.specs.Indices.{graph_of, is_circular as spec_is_circular, readers_at, standing_of, users_at};
-ghost use Rattle.occ_project_units.specs.Project.{put};
+ghost use Rattle.occ_project_units.specs.Project.{file_of, put};
 ghost use Rattle.occ_project_units.specs.Units.{read_names, used_units};
-ghost use Rattle.occ_project_units.specs.inside.Keeping.{IsUnread, all_facts as spec_all_facts, facts_of as spec_facts_of};
+ghost use Rattle.occ_project_units.specs.inside.Keeping.{AreLacking, AreLackingThen, AreLackingWith, IsLookingForNone, IsUnread, all_facts as spec_all_facts, facts_of as spec_facts_of};
 ghost use Rattle.std.specs.Option.{is_some, option_and_then, option_copied, option_map};
-ghost use Rattle.std.specs.Prelude.{[], ◌∷◌, cond, false, get_or, IfOk, IfSome, IsFalse, MatchOption, None, OnErr, OnOk, Some, length, List, not, slice_get, true, ℕ, ◌&&◌, ◌≡◌, ◌<◌};
+ghost use Rattle.std.specs.Prelude.{[], ◌∷◌, cond, false, get_or, IfOk, IfSome, IsFalse, IsTrue, MatchOption, None, OnErr, OnOk, Some, length, List, map, not, slice_get, true, ℕ, ◌&&◌, ◌⊎◌, ◌≡◌, ◌<◌};
 
-use super::adding::{add_file, may_read, may_use};
+use super::adding::{add_file, is_whole, may_read, may_use};
 use super::facts::{Facts, all_facts, does_read, place_or};
 use super::following::{all_facts_after, use_same};
-use super::joining::add_used_file;
+use super::joining::{add_used_file, users_among, users_of};
 use super::links::links_of;
 use super::project::{Project, share};
 use super::renewing::{find_readers, renew};
@@ -38,6 +39,16 @@ fn row(rows: &[Items<usize>], index: usize) -> &[usize]
         Some(row) => row.as_slice(),
         None => &[],
     }
+}
+
+/// The index that the file at one of so many has, once a file comes to another.
+fn index_then(index: usize, at: usize, count: usize) -> usize
+    ensures { index < count → result ≡ raised at index }
+{
+    if index >= count {
+        return index;
+    }
+    if index >= at { index + 1 } else { index }
 }
 
 /// What is known of the file at an index, if there is one.
@@ -69,8 +80,8 @@ pub struct Graph {
     /// Of each file the indices of those that read it, once they were asked for; after edits that leave all reads as they
     /// were they are the same.
     readers: Option<Items<Items<usize>>>,
-    /// Whether it is known that no file reads or uses one that is not there.
-    settled: bool,
+    /// The indices of files among which are all that read or use one that is not there, if such are known.
+    lacking: Option<Items<usize>>,
 }
 
 /// Written out: crates above call it, where each would prove a derived one anew.
@@ -81,7 +92,7 @@ impl Drop for Graph {
             facts: _,
             links: _,
             readers: _,
-            settled: _,
+            lacking: _,
         } = self;
     }
 }
@@ -103,7 +114,7 @@ impl Model for Graph {
 
     ghost view = { λ graph. graph.project };
 
-    ghost invariant = { λ graph. IsGraph graph.project graph.facts.items graph.links graph.readers graph.settled };
+    ghost invariant = { λ graph. IsGraph graph.project graph.facts.items graph.links graph.readers graph.lacking };
 }
 
 /// The graph of a project, which it keeps.
@@ -117,7 +128,7 @@ fn keep(alloc: Global, project: Project) -> Result<Graph, AllocError>
         facts,
         links,
         readers: None,
-        settled: false,
+        lacking: None,
     })
 }
 
@@ -131,7 +142,7 @@ impl Graph {
             facts: Vec::new(alloc),
             links: Linked::new(alloc),
             readers: None,
-            settled: true,
+            lacking: Some(Items::new(alloc)),
         }
     }
 
@@ -174,8 +185,41 @@ impl Graph {
         Some(at)
     }
 
+    /// Whether the file at an index, if there is one, may read one of that name, which is not there.
+    fn may_read_at(&self, index: usize, name: FileName) -> bool
+        requires { spec_index name self.now ≡ None }
+        ensures { IsFalse result → index < length self.now → is_among (read_names self.now (name_at self.now index)) name ≡ false }
+    {
+        index < self.project.files().len() && self.may_read(index, name)
+    }
+
     /// Whether any file may read one of that name, which is not there.
     fn may_any_read(&self, name: FileName) -> bool
+        requires { spec_index name self.now ≡ None }
+        ensures { IsFalse result → (p : ℕ) → p < length self.now → is_among (read_names self.now (name_at self.now p)) name ≡ false }
+    {
+        match &self.lacking {
+            Some(indices) => self.may_one_read(indices.as_slice(), name),
+            None => self.may_all_read(name),
+        }
+    }
+
+    /// The same, where no file looks for one that is not there but those at these indices.
+    fn may_one_read(&self, indices: &[usize], name: FileName) -> bool
+        requires lacking { AreLacking self.now (Some indices.now) }
+        requires absent { spec_index name self.now ≡ None }
+        ensures { IsFalse result → (p : ℕ) → p < length self.now → is_among (read_names self.now (name_at self.now p)) name ≡ false }
+    {
+        for index in indices {
+            if self.may_read_at(*index, name) {
+                return true;
+            }
+        }
+        false
+    }
+
+    /// The same, where it is not known which do.
+    fn may_all_read(&self, name: FileName) -> bool
         requires { spec_index name self.now ≡ None }
         ensures { IsFalse result → (p : ℕ) → p < length self.now → is_among (read_names self.now (name_at self.now p)) name ≡ false }
     {
@@ -219,16 +263,19 @@ impl Graph {
             revision,
             source,
         };
+        let lacking = self.lacking_with(alloc, at)?;
+        let marks = self.users_of(alloc, name)?;
         add_used_file(
             alloc,
             &mut self.project,
             &mut self.facts,
             &mut self.links,
             at,
+            marks.as_slice(),
             file,
         )?;
         self.readers = None;
-        self.settled = false;
+        self.lacking = lacking;
         Ok(())
     }
 
@@ -257,7 +304,7 @@ impl Graph {
             self.project = project;
             self.facts = facts;
             self.readers = None;
-            self.settled = false;
+            self.lacking = None;
             return Ok(true);
         };
         *self = Graph {
@@ -265,7 +312,7 @@ impl Graph {
             facts,
             links,
             readers: None,
-            settled: false,
+            lacking: None,
         };
         Ok(false)
     }
@@ -287,21 +334,124 @@ impl Graph {
         may_use(facts, self.links.targets(index).count(), name)
     }
 
+    /// The same of the file at an index, if there is one.
+    fn may_look_for_at(&self, index: usize, name: FileName) -> bool
+        requires { spec_index name self.now ≡ None }
+        ensures unread { IsFalse result → index < length self.now → is_among (read_names self.now (name_at self.now index)) name ≡ false }
+        ensures unused { IsFalse result → index < length self.now → is_among (used_units self.now (name_at self.now index)) name ≡ false }
+    {
+        index < self.project.files().len() && self.may_look_for(index, name)
+    }
+
     /// Whether any file may do so.
     fn may_any_look_for(&self, name: FileName) -> bool
         requires { spec_index name self.now ≡ None }
         ensures unread { IsFalse result → (p : ℕ) → p < length self.now → is_among (read_names self.now (name_at self.now p)) name ≡ false }
         ensures unused { IsFalse result → (p : ℕ) → p < length self.now → is_among (used_units self.now (name_at self.now p)) name ≡ false }
     {
-        if self.settled {
-            return false;
+        match &self.lacking {
+            Some(indices) => self.may_one_look_for(indices.as_slice(), name),
+            None => self.may_all_look_for(name),
         }
+    }
+
+    /// The same, where no file looks for one that is not there but those at these indices.
+    fn may_one_look_for(&self, indices: &[usize], name: FileName) -> bool
+        requires lacking { AreLacking self.now (Some indices.now) }
+        requires absent { spec_index name self.now ≡ None }
+        ensures unread { IsFalse result → (p : ℕ) → p < length self.now → is_among (read_names self.now (name_at self.now p)) name ≡ false }
+        ensures unused { IsFalse result → (p : ℕ) → p < length self.now → is_among (used_units self.now (name_at self.now p)) name ≡ false }
+    {
+        for index in indices {
+            if self.may_look_for_at(*index, name) {
+                return true;
+            }
+        }
+        false
+    }
+
+    /// The same, where it is not known which do.
+    fn may_all_look_for(&self, name: FileName) -> bool
+        requires { spec_index name self.now ≡ None }
+        ensures unread { IsFalse result → (p : ℕ) → p < length self.now → is_among (read_names self.now (name_at self.now p)) name ≡ false }
+        ensures unused { IsFalse result → (p : ℕ) → p < length self.now → is_among (used_units self.now (name_at self.now p)) name ≡ false }
+    {
         for index in 0..self.project.files().len() {
             if self.may_look_for(index, name) {
                 return true;
             }
         }
         false
+    }
+
+    /// Whether the file at an index, if there is one, is known to look for none that is not there.
+    fn is_whole(&self, index: usize) -> bool
+        ensures { IsTrue result → index < length self.now → IsLookingForNone self.now (name_at self.now index) }
+    {
+        let _files = self.project.files();
+        match facts_at(self.facts.as_slice(), index) {
+            Some(facts) => is_whole(facts, self.links.targets(index).count()),
+            None => false,
+        }
+    }
+
+    /// Adds the index that the file at one has, once a file comes to another index, unless it is known to look for none that is not
+    /// there.
+    fn add_lacking(
+        &self,
+        lacking: &mut Items<usize>,
+        at: usize,
+        index: usize,
+    ) -> Result<(), AllocError>
+        ensures more { OnOk result ((p : ℕ) → spec_is_among lacking.old p ≡ true → spec_is_among lacking.new p ≡ true) }
+        ensures this { OnOk result (index < length self.now → (spec_is_among lacking.new (raised at index) ≡ true) ⊎ IsLookingForNone self.now (name_at self.now index)) }
+    {
+        if self.is_whole(index) {
+            return Ok(());
+        }
+        lacking.push(index_then(index, at, self.project.files().len()))?;
+        Ok(())
+    }
+
+    /// The indices that files have, once one comes to an index, among which are its own and those of all that look for one that is not
+    /// there, where these are such indices before it.
+    fn lacking_of(
+        &self,
+        alloc: Global,
+        indices: &[usize],
+        at: usize,
+    ) -> Result<Items<usize>, AllocError>
+        requires { AreLacking self.now (Some indices.now) }
+        ensures { IfOk result (λ lacking. AreLackingThen self.now at lacking) }
+    {
+        let mut lacking = Items::new(alloc);
+        lacking.push(at)?;
+        for index in indices {
+            self.add_lacking(&mut lacking, at, *index)?;
+        }
+        Ok(lacking)
+    }
+
+    /// The same, if such are known.
+    fn lacking_with(&self, alloc: Global, at: usize) -> Result<Option<Items<usize>>, AllocError>
+        ensures { IfOk result (λ lacking. AreLackingWith self.now at lacking) }
+    {
+        match &self.lacking {
+            Some(indices) => Ok(Some(self.lacking_of(alloc, indices.as_slice(), at)?)),
+            None => Ok(None),
+        }
+    }
+
+    /// Of each file whether it uses one of that name, which is not there.
+    fn users_of(&self, alloc: Global, name: FileName) -> Result<Items<bool>, AllocError>
+        requires { spec_index name self.now ≡ None }
+        ensures { IfOk result (λ marks. marks ≡ map (λ facts. is_among facts.uses name) (spec_all_facts self.now)) }
+    {
+        let facts = self.facts.as_slice();
+        match &self.lacking {
+            Some(indices) => users_among(alloc, facts, &self.links, indices.as_slice(), name),
+            None => users_of(alloc, facts, &self.links, name),
+        }
     }
 
     /// Where a file of that name would stand, if there is none, and no file is found to read or use one.
@@ -335,16 +485,17 @@ impl Graph {
             revision,
             source,
         };
-        self.settled = add_file(
+        let lacking = self.lacking_with(alloc, at)?;
+        add_file(
             alloc,
             &mut self.project,
             &mut self.facts,
             &mut self.links,
             at,
             file,
-            self.settled,
         )?;
         self.readers = None;
+        self.lacking = lacking;
         Ok(())
     }
 
@@ -363,67 +514,66 @@ impl Graph {
         Ok(readers)
     }
 
-    /// Gives the file at an index, which is read by the units at these indices, this text, or takes it away, by the edit of that
-    /// number. If all these read and use the same as before, all that is kept but what is known of them stays where it is. It
-    /// says whether that is so, and the file is open as before. Of a list that is not tried: what its readers use mostly changes
-    /// with it, and each would be expanded twice.
-    pub fn set(
+    /// Whether a file is open, and so is the one of its name, which stands at this index.
+    fn is_open_as(&self, index: usize, file: &Read) -> bool
+        requires { spec_index file.now.name self.now ≡ Some index }
+        ensures { IsTrue result → (is_some file.now.source ≡ true) × (is_some (file_of self.now file.now.name).source ≡ true) }
+    {
+        file.source.is_some() && self.project.is_open_at(index)
+    }
+
+    /// The same, but of a list it is not said: what its readers use mostly changes with it, and each would be expanded twice.
+    fn is_tried(&self, index: usize, file: &Read) -> bool
+        requires { spec_index file.now.name self.now ≡ Some index }
+        ensures { IsTrue result → (is_some file.now.source ≡ true) × (is_some (file_of self.now file.now.name).source ≡ true) }
+    {
+        !file.name.as_bytes().ends_with(b".lbb") && self.is_open_as(index, file)
+    }
+
+    /// Puts a file in the place of the one at an index, which is read by the units at these indices, if it is open as that was and
+    /// all these read and use the same as before, and says whether that is so. All that is kept but what is known of them stays
+    /// where it is then. Else nothing is changed. Of a list that is not tried.
+    pub fn set_alike(
         &mut self,
         alloc: Global,
         index: usize,
         readers: &[usize],
-        name: FileName,
-        revision: u32,
-        source: Option<Shared<Source>>,
+        file: &Read,
     ) -> Result<bool, AllocError>
-        requires index { spec_index name self.old ≡ Some index }
+        requires index { spec_index file.now.name self.old ≡ Some index }
         requires readers { readers.now ≡ readers_at self.old index }
-        ensures ok { OnOk result (self.new ≡ put self.old (record { name = name; revision = revision; source = source })) }
+        ensures ok { IfOk result (λ alike. alike ≡ true → self.new ≡ put self.old file.now) }
         ensures alike { IfOk result (λ alike. alike ≡ true → AreAlike self.old self.new) }
+        ensures other { IfOk result (λ alike. alike ≡ false → self.new ≡ self.old) }
         ensures err { OnErr result (self.new ≡ self.old) }
     {
-        if name.as_bytes().ends_with(b".lbb") {
-            return self.put_at(alloc, index, name, revision, source);
+        if !self.is_tried(index, file) {
+            return Ok(false);
         }
         let _files = self.project.files();
-        let file = Read {
-            name,
-            revision,
-            source,
-        };
-        let open = file.source.is_some() && self.project.is_open_at(index);
-        let again = share(&file)?;
-        self.settled = false;
-        if renew(
+        let again = share(file)?;
+        self.lacking = None;
+        let alike = renew(
             alloc,
             &mut self.project,
             &mut self.facts,
             index,
             readers,
-            file,
-        )? {
-            return Ok(open);
-        }
-        self.put_at(alloc, index, name, revision, again.source)
+            again,
+        )?;
+        Ok(alike)
     }
 
-    /// Puts the file at an index anew, and expands its readers anew. It says whether who uses whom is known to be as before, and
-    /// the file is open as before.
-    fn put_at(
-        &mut self,
-        alloc: Global,
-        index: usize,
-        name: FileName,
-        revision: u32,
-        source: Option<Shared<Source>>,
-    ) -> Result<bool, AllocError>
-        requires { spec_index name self.old ≡ Some index }
-        ensures ok { OnOk result (self.new ≡ put self.old (record { name = name; revision = revision; source = source })) }
+    /// Puts a file in the place of the one at an index, and expands its readers anew. It says whether who uses whom is known to be as
+    /// before, and the file is open as before.
+    pub fn set(&mut self, alloc: Global, index: usize, file: Read) -> Result<bool, AllocError>
+        requires { spec_index file.name self.old ≡ Some index }
+        ensures ok { OnOk result (self.new ≡ put self.old file) }
         ensures alike { IfOk result (λ alike. alike ≡ true → AreAlike self.old self.new) }
         ensures err { OnErr result (self.new ≡ self.old) }
     {
-        let is_open = source.is_some() && self.project.is_open_at(index);
-        if self.put_read(alloc, name, revision, source)? {
+        let is_open = self.is_open_as(index, &file);
+        if self.put_read(alloc, file.name, file.revision, file.source)? {
             return Ok(is_open);
         }
         Ok(false)

@@ -1,13 +1,14 @@
 //! Puts in a file that is new, that others may use and that none reads. What is known of the others stays; and if it uses none
 //! that is there, so does what they rest on.
 ghost use Rattle.occ_project_graph.specs.Adding.{IsParted, with_used_node};
-ghost use Rattle.occ_project_graph.specs.Graph.{targets};
+ghost use Rattle.occ_project_graph.specs.Graph.{is_among as spec_is_among, targets};
+ghost use Rattle.occ_project_units.specs.Along.{name_at};
 ghost use Rattle.occ_project.specs.Entries.{is_among};
 ghost use Rattle.occ_project_units.specs.Indices.{graph_of};
 ghost use Rattle.occ_project_units.specs.Project.{IsProject, put};
 ghost use Rattle.occ_project_units.specs.inside.Keeping.{IsJoining, IsUnread, all_facts as spec_all_facts};
 ghost use Rattle.std.specs.List.{insert};
-ghost use Rattle.std.specs.Prelude.{◌≡◌, ◌≤◌, ℕ, IfOk, IsTrue, OnErr, OnOk, false, get_or, length, map, true};
+ghost use Rattle.std.specs.Prelude.{◌≡◌, ◌<◌, ◌≤◌, ℕ, IfOk, IsTrue, OnErr, OnOk, cond, false, get_or, length, map, slice_set, true};
 
 use super::facts::{Facts, facts_of, indices_of, is_name_among};
 use super::links::links_of;
@@ -42,8 +43,50 @@ fn does_use(facts: &Facts, place: usize, name: FileName) -> bool
     is_name_at(names, place, name) || is_name_found(names, name) || is_name_among(names, name)
 }
 
-/// Of each file whether it uses one of that name. It is looked for first behind as many as are there.
-fn users_of(
+/// Whether the file at an index uses one of that name. It is looked for first behind as many as are there.
+fn does_use_at(all: &[Shared<Facts>], links: &Linked, index: usize, name: FileName) -> bool
+    requires { index < length all.now }
+    ensures { result ≡ get_or (map (λ facts. is_among facts.uses name) all.now) index false }
+{
+    does_use(all[index].get(), links.targets(index).count(), name)
+}
+
+/// Marks the file at an index, if there is one and it uses one of that name.
+fn mark_user(
+    marks: &mut Items<bool>,
+    all: &[Shared<Facts>],
+    links: &Linked,
+    index: usize,
+    name: FileName,
+)
+    requires { length marks.old ≡ length all.now }
+    ensures { marks.new ≡ cond (get_or (map (λ facts. is_among facts.uses name) all.now) index false) (slice_set marks.old index true) marks.old }
+{
+    if index < all.len() && does_use_at(all, links, index, name) {
+        marks.set(index, true);
+    }
+}
+
+/// Of each file whether it uses one of that name, where none does but those at these indices.
+pub fn users_among(
+    alloc: Global,
+    all: &[Shared<Facts>],
+    links: &Linked,
+    indices: &[usize],
+    name: FileName,
+) -> Result<Items<bool>, AllocError>
+    requires { (p : ℕ) → spec_is_among indices.now p ≡ false → get_or (map (λ facts. is_among facts.uses name) all.now) p false ≡ false }
+    ensures { IfOk result (λ marks. marks ≡ map (λ facts. is_among facts.uses name) all.now) }
+{
+    let mut marks = Items::from_vec(vec![in alloc; false; all.len()]?);
+    for index in indices {
+        mark_user(&mut marks, all, links, *index, name);
+    }
+    Ok(marks)
+}
+
+/// Of each file whether it uses one of that name.
+pub fn users_of(
     alloc: Global,
     all: &[Shared<Facts>],
     links: &Linked,
@@ -109,50 +152,55 @@ fn add_known_used(
     Ok(())
 }
 
-/// Adds what is known of the file at an index, which is new. All memory is taken before the first change.
+/// Adds what is known of the file at an index, which is new and used by those that have a mark. All memory is taken before the first
+/// change.
 fn add_known(
     alloc: Global,
     project: &Project,
     facts: &mut Vec<Shared<Facts>>,
     links: &mut Linked,
     at: usize,
+    marks: &[bool],
 ) -> Result<(), AllocError>
-    requires { IsJoining facts.old.items links.old project.now at }
+    requires joining { IsJoining facts.old.items links.old project.now at }
+    requires marks { marks.now ≡ map (λ f. is_among f.uses (name_at project.now at)) facts.old.items }
     ensures facts { OnOk result (facts.new.items ≡ spec_all_facts project.now) }
     ensures links { OnOk result (links.new ≡ graph_of project.now) }
     ensures err { OnErr result (facts.new.items ≡ facts.old.items × links.new ≡ links.old) }
 {
     let name = project.name_at(at);
-    let known = facts_of(alloc, project, at, name)?;
+    let known = facts_of(alloc, project, at, name, &mut None)?;
     let targets = indices_of(alloc, project, 0, None, known.uses.as_slice())?;
     let shared = Shared::new(alloc, known)?;
     if !targets.is_empty() {
         return add_known_anew(alloc, project, facts, links, at, shared);
     }
-    let marks = users_of(alloc, facts.as_slice(), links, name)?;
-    add_known_used(alloc, facts, links, at, shared, marks.as_slice())
+    add_known_used(alloc, facts, links, at, shared, marks)
 }
 
-/// Puts a file into a project that is new to it and that no file reads, with what is then known. What is known of the others stays.
+/// Puts a file into a project that is new to it and that no file reads, and those use that have a mark, with what is then known. What
+/// is known of the others stays.
 pub fn add_used_file(
     alloc: Global,
     project: &mut Project,
     facts: &mut Vec<Shared<Facts>>,
     links: &mut Linked,
     at: usize,
+    marks: &[bool],
     file: Read,
 ) -> Result<(), AllocError>
     requires project { IsProject project.old }
     requires new { IsUnread project.old file.name at }
     requires facts { facts.old.items ≡ spec_all_facts project.old }
     requires links { links.old ≡ graph_of project.old }
+    requires marks { marks.now ≡ map (λ f. is_among f.uses file.name) facts.old.items }
     ensures project { OnOk result (project.new ≡ put project.old file) }
     ensures facts { OnOk result (facts.new.items ≡ spec_all_facts project.new) }
     ensures links { OnOk result (links.new ≡ graph_of project.new) }
     ensures err { OnErr result (project.new ≡ project.old × (facts.new.items ≡ facts.old.items × links.new ≡ links.old)) }
 {
     project.insert(at, file)?;
-    match add_known(alloc, project, facts, links, at) {
+    match add_known(alloc, project, facts, links, at, marks) {
         Ok(()) => Ok(()),
         Err(refused) => {
             project.remove(at);

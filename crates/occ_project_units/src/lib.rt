@@ -8,6 +8,7 @@ mod graph;
 mod joining;
 pub mod laws;
 mod links;
+mod ordering;
 mod project;
 mod renewing;
 pub mod rows;

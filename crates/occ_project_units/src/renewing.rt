@@ -41,9 +41,11 @@ pub fn facts_of_all(
     ensures { IfOk result (λ found. found ≡ map (λ index. spec_facts_of project.now (name_at project.now index)) indices.now) }
 {
     let mut found = Items::new(alloc);
+    let mut last = None;
     for index in indices {
         let name = project.name_at(*index);
-        found.push(Shared::new(alloc, facts_of(alloc, project, *index, name)?)?)?;
+        let facts = facts_of(alloc, project, *index, name, &mut last)?;
+        found.push(Shared::new(alloc, facts)?)?;
     }
     Ok(found)
 }

@@ -12,12 +12,11 @@ ghost use Rattle.std.specs.Prelude.{[], ◌&&◌, ◌++◌, IfOk, IsFalse, IsTru
 ghost use Rattle.std.specs.Result.{result_err, result_ok};
 
 use super::facts::Facts;
+use super::ordering::{Ordered, in_order};
 use super::project::Project;
-use occ_base::{FileName, Items, Shared, first_indices, one_item};
+use occ_base::{FileName, Items, first_indices, one_item};
 use occ_forms::{LineBody, SourceLine};
-use occ_project::{ExpandedBody, ExpandedLine, used_units};
 use std::alloc::{AllocError, Global};
-use std::slice;
 
 /// The greatest number of lines of an expansion. An `#INCLUDE` counts as one, and a `#USE`.
 const LINE_LIMIT: usize = 65_535;
@@ -238,32 +237,13 @@ fn note(alloc: Global, project: &Project, hint: usize, unit: FileName) -> Result
     Ok(noted)
 }
 
-/// Units in order of name, each once. They are those of one line.
-fn in_order(
-    alloc: Global,
-    unit: FileName,
-    units: Items<FileName>,
-) -> Result<Items<FileName>, AllocError>
-    ensures { IfOk result (λ ordered. ordered ≡ names_in_order units) }
-{
-    if units.is_empty() {
-        return Ok(units);
-    }
-    let line = ExpandedLine {
-        file: unit,
-        line: 0,
-        depth: 0,
-        body: ExpandedBody::Uses(Shared::new(alloc, units)?),
-    };
-    used_units(alloc, slice::from_ref(&line))
-}
-
-/// What a unit, which is looked for at an index first, reads and uses.
+/// What a unit, which is looked for at an index first, reads and uses. What was put in order last spares time.
 pub fn skim(
     alloc: Global,
     project: &Project,
     hint: usize,
     unit: FileName,
+    last: &mut Option<Ordered>,
 ) -> Result<Facts, AllocError>
     ensures reads { IfOk result (λ facts. facts.reads ≡ (expansion project.now unit).reads) }
     ensures uses { IfOk result (λ facts. facts.uses ≡ used_in (expansion project.now unit).lines) }
@@ -271,6 +251,6 @@ pub fn skim(
     let Noted { names, units, .. } = note(alloc, project, hint, unit)?;
     Ok(Facts {
         reads: first_indices(alloc, names.as_slice())?,
-        uses: in_order(alloc, unit, units)?,
+        uses: in_order(alloc, unit, units, last)?,
     })
 }

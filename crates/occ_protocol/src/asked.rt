@@ -25,7 +25,7 @@ pub(super) enum Asked<'a> {
 }
 
 /// What is asked of items after this tag, of which the protocol says this.
-fn following<'a>(name: &'a Name, tag: Option<&'a Tag>) -> Asked<'a>
+pub(super) fn following<'a>(name: &'a Name, tag: Option<&'a Tag>) -> Asked<'a>
     ensures { asked_seen result ≡ spec_after name.now (tag_seen tag.entry) }
 {
     let Some(tag) = tag else {

@@ -64,24 +64,29 @@ fn carried(protocol: &Protocol) -> Carrier<'_>
 pub(super) fn tag_named<'a>(tags: &'a [Tag], name: &Name) -> Option<&'a Tag>
     ensures { tag_seen result ≡ spec_tag_named tags.now name.now }
 {
+    let (_, tag) = found(tags, name);
+    tag
+}
+
+/// The place of the first tag of this name, and that tag.
+pub(super) fn found<'a>(tags: &'a [Tag], name: &Name) -> (Option<usize>, Option<&'a Tag>)
+    ensures place { result.0 ≡ spec_place_named tags.now name.now }
+    ensures tag { tag_seen result.1 ≡ spec_tag_named tags.now name.now }
+{
+    let mut place = 0;
     for tag in tags {
         if tag.name == *name {
-            return Some(tag);
+            return (Some(place), Some(tag));
         }
+        place += 1;
     }
-    None
+    (None, None)
 }
 
 /// The place of the first tag of this name.
 pub(super) fn place_named(tags: &[Tag], name: &Name) -> Option<usize>
     ensures { result ≡ spec_place_named tags.now name.now }
 {
-    let mut place = 0;
-    for tag in tags {
-        if tag.name == *name {
-            return Some(place);
-        }
-        place += 1;
-    }
-    None
+    let (place, _) = found(tags, name);
+    place
 }

@@ -6,8 +6,8 @@ ghost use Rattle.occ_typing_operands.specs.Settling.{int as spec_int};
 ghost use Rattle.occ_protocol.specs.Carrying.{carrier as spec_carrier, name_seen};
 ghost use Rattle.occ_protocol.specs.Lines.{alternative as spec_alternative, awaited as spec_awaited, cased as spec_cased, exchanged as spec_exchanged, is_timer as spec_is_timer, lacks as spec_lacks, received as spec_received, tag_place as spec_tag_place, takes_tag as spec_takes_tag};
 
-use super::asked::asked_of;
-use super::carrier::{Carrier, carrier_of, place_named, tag_named};
+use super::asked::{asked_of, following};
+use super::carrier::{Carrier, carrier_of, found, place_named, tag_named};
 use super::given::Given;
 use super::matching::{against, report_named, reported};
 use occ_base::{Code, Fault, Items, Name};
@@ -125,7 +125,8 @@ pub fn cased(
     }
 }
 
-/// What is reported of a variant of a case input: of its tag, and of the items after it.
+/// What is reported of a variant of a case input: of its tag, and of the items after it. The answer is the place of the tag
+/// in the protocol, as `tag_place` gives it: the tags are gone through once for both.
 ///
 /// # Errors
 ///
@@ -137,14 +138,16 @@ pub fn alternative(
     tag: &Name,
     given: &[Given],
     faults: &mut Items<Fault>,
-) -> Result<(), AllocError>
-    ensures { OnOk result (faults.new ≡ faults.old ++ spec_alternative (spec_carrier channel.now) root.now tag.now given.now) }
+) -> Result<Option<usize>, AllocError>
+    ensures place { IfOk result (λ place. place ≡ spec_tag_place (spec_carrier channel.now) tag.now) }
+    ensures faults { OnOk result (faults.new ≡ faults.old ++ spec_alternative (spec_carrier channel.now) root.now tag.now given.now) }
 {
-    let carrier = carrier_of(channel);
-    match carrier {
-        Carrier::Variant(_) => reported(alloc, root, asked_of(carrier, Some(tag)), given, faults),
-        _ => Ok(()),
-    }
+    let Carrier::Variant(tags) = carrier_of(channel) else {
+        return Ok(None);
+    };
+    let (place, found) = found(tags, tag);
+    reported(alloc, root, following(tag, found), given, faults)?;
+    Ok(place)
 }
 
 /// Whether a tag is none of the protocol's, so that P2 reports of it, and not T8 where it stands among the variants of a

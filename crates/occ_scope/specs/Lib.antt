@@ -1,4 +1,4 @@
 pub mod Nearest
-pub mod Kept
+pub mod inside
 pub mod Visible
 pub mod Lookup

@@ -1,6 +1,6 @@
 //! The specifications that were entered and not left, and the nearest of each name. `docs/LANGUAGE.md, Names in scope`.
 ghost use Rattle.std.specs.Prelude.{IfOk, IsSome, OnErr, OnOk, [], length, take, ◌++◌, ◌-◌, ◌∷◌, ◌≡◌};
-ghost use Rattle.occ_scope.specs.Kept.{Puts, place_held};
+ghost use Rattle.occ_scope.specs.inside.Kept.{Puts, Restores, names_of, place_held, standing as spec_standing};
 ghost use Rattle.occ_scope.specs.Nearest.{nearest};
 
 use occ_base::{Items, Name};
@@ -23,6 +23,7 @@ struct Entry {
 #[derive(Drop)]
 pub struct Scopes {
     entries: Items<Entry>,
+    /// The place of the last of each name. It stays where that is left, so that leaving costs no search.
     newest: BTreeMap<Name, usize>,
 }
 
@@ -34,7 +35,7 @@ impl Model for Scopes {
 
     ghost coded = { coded_list (coded_list coded_ℕ) };
 
-    ghost use Rattle.occ_scope.specs.Kept.{IsKept, entered};
+    ghost use Rattle.occ_scope.specs.inside.Kept.{IsKept, entered};
 
     ghost view = { entered };
 
@@ -57,7 +58,7 @@ impl Scopes {
         ensures { result ≡ nearest self.now name.now }
     {
         let place = self.newest.get(name);
-        place.copied()
+        standing(&self.entries, name, place.copied())
     }
 
     /// A specification of this name is entered. Where memory is refused nothing changes.
@@ -67,14 +68,26 @@ impl Scopes {
         ensures err { OnErr result (self.new ≡ self.old) }
     {
         let place = self.entries.len();
+        self.enter_over(alloc, name)?;
+        Ok(place)
+    }
+
+    /// The same, and the answer is the nearest of its name before it. Where memory is refused nothing changes.
+    pub fn enter_over(&mut self, alloc: Global, name: &Name) -> Result<Option<SpecId>, AllocError>
+        ensures hidden { IfOk result (λ hidden. hidden ≡ nearest self.old name.now) }
+        ensures ok { OnOk result (self.new ≡ self.old ++ name.now ∷ []) }
+        ensures err { OnErr result (self.new ≡ self.old) }
+    {
+        let place = self.entries.len();
         let key = name.copied(alloc)?;
         let copy = name.copied(alloc)?;
-        let hidden = put(&mut self.newest, key, place)?;
+        let held = put(&mut self.newest, key, place)?;
+        let hidden = standing(&self.entries, name, held);
         if let Err(refused) = self.entries.push(Entry { name: copy, hidden }) {
             restore(&mut self.newest, name, hidden);
             return Err(refused);
         }
-        Ok(place)
+        Ok(hidden)
     }
 
     /// The specification that was entered last is left.
@@ -85,6 +98,19 @@ impl Scopes {
             return;
         };
         restore(&mut self.newest, &last.name, last.hidden);
+    }
+}
+
+/// The place that is held of a name, if an entry of this name is there. Else the last of its name was left.
+fn standing(entries: &Items<Entry>, name: &Name, held: Option<usize>) -> Option<usize>
+    ensures { result ≡ spec_standing (names_of entries.now) name.now held }
+{
+    let place = held?;
+    let entry = entries.get(place)?;
+    if entry.name == *name {
+        Some(place)
+    } else {
+        None
     }
 }
 
@@ -102,19 +128,15 @@ fn put(
     Ok(hidden)
 }
 
-/// The newest of a name, of which there is one, is at a place again, or there is none any more.
+/// The newest of a name, of which one is held, is at a place again. Where there is none any more, what is held stays: no
+/// entry of the name is there.
 fn restore(newest: &mut BTreeMap<Name, usize>, name: &Name, hidden: Option<usize>)
     requires { IsSome (place_held newest.old name.now) }
-    ensures { Puts newest.old newest.new name.now hidden }
+    ensures { Restores newest.old newest.new name.now hidden }
 {
-    match hidden {
-        Some(place) => {
-            if let Some(held) = newest.get_mut(name) {
-                *held = place;
-            }
-        }
-        None => {
-            newest.remove(name);
-        }
+    if let Some(place) = hidden
+        && let Some(held) = newest.get_mut(name)
+    {
+        *held = place;
     }
 }

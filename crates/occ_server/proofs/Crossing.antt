@@ -720,10 +720,10 @@ links_field_sync : IsSync links.the_field.row
 links_field_sync = search (sendable, Vec-sync, row_sync, number_sync) depth 30
 
 graph_field_send : IsSend graph.the_field.row
-graph_field_send = search (sendable, Vec-send, project_field_send, shared_facts_send, links_field_send, numbers_send) depth 30
+graph_field_send = search (sendable, Vec-send, project_field_send, shared_facts_send, links_field_send, numbers_send, row_send) depth 30
 
 graph_field_sync : IsSync graph.the_field.row
-graph_field_sync = search (sendable, Vec-sync, project_field_sync, shared_facts_sync, links_field_sync, numbers_sync) depth 30
+graph_field_sync = search (sendable, Vec-sync, project_field_sync, shared_facts_sync, links_field_sync, numbers_sync, row_sync) depth 30
 
 graph_send : IsSend graph.the_row
 graph_send = search (sendable, graph_field_send) depth 10

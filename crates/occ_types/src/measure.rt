@@ -57,8 +57,8 @@ impl Measure {
     }
 }
 
-/// The measure of a type. It goes once through the type as it is written out; `Measure::above` and `Measure::beside`
-/// make that of a larger type from those of its parts.
+/// The measure of a type. It goes once through the type as it is written out, without a call for a name of a primitive type;
+/// `Measure::above` and `Measure::beside` make that of a larger type from those of its parts.
 #[cycle(measure)]
 pub fn measure_of(of: &OccType) -> Measure
     ensures { result ≡ held (measure_of of.now) }
@@ -68,7 +68,10 @@ pub fn measure_of(of: &OccType) -> Measure
         OccType::Unknown => Measure::none(),
         OccType::Array(_, inner) => measure_of(inner.get()).above(),
         OccType::Record(_, fields) => measure_fields(fields.as_slice()).above(),
-        OccType::Named(_, inner) => measure_of(inner.get()).above(),
+        OccType::Named(_, inner) => match inner.get() {
+            OccType::Primitive(_) => Measure::one().above(),
+            defined => measure_of(defined).above(),
+        },
         OccType::Channel(carried) => measure_protocol(carried.get()).above(),
     }
 }

@@ -34,7 +34,7 @@ fn within(extent: Option<u64>) -> Option<u32>
     }
 }
 
-/// The bytes of a type, or 2,147,483,648 where they are more.
+/// The bytes of a type, or 2,147,483,648 where they are more. A name of a primitive type takes no call.
 #[cycle(extent)]
 fn extent(of: &OccType) -> Option<u64>
     ensures value { result ≡ capped (size_of of.now) }
@@ -44,7 +44,10 @@ fn extent(of: &OccType) -> Option<u64>
         OccType::Primitive(primitive) => Some(primitive_bytes(*primitive)),
         OccType::Array(dimension, inner) => array_extent(*dimension, extent(inner.get())),
         OccType::Record(_, fields) => fields_extent(fields.as_slice()),
-        OccType::Named(_, inner) => extent(inner.get()),
+        OccType::Named(_, inner) => match inner.get() {
+            OccType::Primitive(primitive) => Some(primitive_bytes(*primitive)),
+            defined => extent(defined),
+        },
         OccType::Channel(_) | OccType::Timer | OccType::Unknown => None,
     }
 }

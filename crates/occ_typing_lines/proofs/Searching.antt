@@ -3,7 +3,7 @@ use Rattle.std.proofs.Common.{◌≡◌, ◌∙◌, ◌<◌, ◌≤◌, ℕ, zer
 use Rattle.std.proofs.lemmas.Bool.{cases_lt}
 use Rattle.std.proofs.lemmas.Cmp.{nat_list_cmp_total}
 use Rattle.std.proofs.lemmas.Map.Text.{is_eq-slice_cmp}
-use Rattle.std.specs.Cmp.{IsTotalOrder}
+use Rattle.std.specs.Cmp.{IsTotalOrder, tied_itself}
 use Rattle.std.specs.Cmp.Lexicographic.{same_text}
 use Rattle.std.specs.List.{AllByRecursion, HoldsAt}
 use Rattle.std.specs.List.Sorted.{IsBinarySearchResult, IsNonDecreasingBy, IsSearchInRange, IsStrictlySortedBy}
@@ -15,7 +15,7 @@ use Rattle.occ_project.specs.Reads.{name_cmp}
 use Rattle.occ_types.specs.declared.interface.Interface.{Interface}
 use Rattle.occ_typing_lines.specs.Using.{interface_of}
 use Rattle.occ_typing_lines.specs.declared.using.Import.{Import}
-use Rattle.occ_typing_lines.specs.inside.Sorted.{AreSorted, AreSortedAfter, IsAfter}
+use Rattle.occ_typing_lines.specs.inside.Sorted.{AreSorted, AreSortedAfter, HasUnitAt, IsAfter, IsImportAt}
 
 total : IsTotalOrder name_cmp
 total = nat_list_cmp_total
@@ -88,9 +88,13 @@ none_found : (name : List ℕ) (is : List Import) → ((k : ℕ) (d : Import) �
 none_found name [] h = refl
 none_found name (x ∷ is) h = ap (λ (b : Bool). if b then x.interface ∷ [] else interface_of name is) (h 0 x (omega arith)) ∙ none_found name is (λ k d lt. h (suc k) d (omega (arith, lt)))
 
+-- one that has the unit stands where the unit's import is found
+pub standing_at : (name : List ℕ) (is : List Import) (at : ℕ) → AreSorted is → HasUnitAt name is at → IsImportAt name is at
+standing_at name is at sorted has = (has.0, λ d. found_at name is at d sorted has.0 (λ e. subst (λ (n : List ℕ). name_cmp n name ≡ Equal) (sym (has.1 e)) (tied_itself total name)))
+
 pub searched_so : (name : List ℕ) (is : List Import) → AreSorted is → (r : Result ℕ ℕ) → IsSearchInRange r (length is) → IsBinarySearchResult (λ i. name_cmp i.unit name) is r
-    → MatchResult r (λ at. (d : Import) → interface_of name is ≡ (get_or is at d).interface ∷ []) (λ at. interface_of name is ≡ [])
-searched_so name is sorted (Ok at) within equal = λ d. found_at name is at d sorted within equal
+    → MatchResult r (λ at. IsImportAt name is at) (λ at. interface_of name is ≡ [])
+searched_so name is sorted (Ok at) within equal = (within, λ d. found_at name is at d sorted within equal)
 searched_so name is sorted (Err at) within parted =
     let parts = parted (comparisons_rise name is sorted) in
     none_found name is (λ k d lt. elim (cases_lt k at) [

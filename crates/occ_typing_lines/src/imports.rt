@@ -1,7 +1,7 @@
 //! The imports of a unit. One is found by halves where they stand in order of unit, as those of a job do.
 ghost use Rattle.std.specs.Prelude.{◌≡◌, [], ◌∷◌, IsTrue, MatchOption};
 ghost use Rattle.occ_typing_lines.specs.Using.{interface_of as spec_interface_of};
-ghost use Rattle.occ_typing_lines.specs.inside.Sorted.{AreSorted, IsAfter};
+ghost use Rattle.occ_typing_lines.specs.inside.Sorted.{AreSorted, HasUnitAt, IsAfter, IsImportAt};
 
 use super::using::Import;
 use occ_base::{FileName, Shared};
@@ -56,13 +56,26 @@ fn are_sorted(imports: &[Import]) -> bool
     true
 }
 
-/// What the first import of this unit shows, of those that stand in order.
-fn searched(imports: &[Import], unit: FileName) -> Option<&Shared<Interface>>
-    requires { AreSorted imports.now }
-    ensures { MatchOption result (spec_interface_of unit imports.now ≡ []) (λ interface. spec_interface_of unit imports.now ≡ interface.now ∷ []) }
+/// Whether the import at a place, if there is one, is of this unit.
+fn is_at(imports: &[Import], at: usize, unit: FileName) -> bool
+    ensures { IsTrue result → HasUnitAt unit imports.now at }
 {
+    match imports.get(at) {
+        Some(import) => import.unit == unit,
+        None => false,
+    }
+}
+
+/// Where the import of this unit stands, of those that stand in order. It is looked for at `near` first.
+fn place_near(imports: &[Import], unit: FileName, near: usize) -> Option<usize>
+    requires { AreSorted imports.now }
+    ensures { MatchOption result (spec_interface_of unit imports.now ≡ []) (λ at. IsImportAt unit imports.now at) }
+{
+    if is_at(imports, near, unit) {
+        return Some(near);
+    }
     match imports.binary_search_by_key(&unit, |import| import.unit) {
-        Ok(at) => Some(&imports[at].interface),
+        Ok(at) => Some(at),
         Err(_at) => None,
     }
 }
@@ -89,14 +102,20 @@ impl<'a> Imports<'a> {
         }
     }
 
-    /// What the first import of this unit shows; a unit of which there is none shows nothing.
-    pub(crate) fn interface_of(&self, unit: FileName) -> Option<&Shared<Interface>>
+    /// What the first import of this unit shows; a unit of which there is none shows nothing. Where they stand in order it is
+    /// looked for at `near` first, which is then the place behind it.
+    pub(crate) fn interface_near(
+        &self,
+        unit: FileName,
+        near: &mut usize,
+    ) -> Option<&Shared<Interface>>
         ensures { MatchOption result (spec_interface_of unit self.now ≡ []) (λ interface. spec_interface_of unit self.now ≡ interface.now ∷ []) }
     {
-        if self.are_sorted {
-            searched(self.all, unit)
-        } else {
-            first_of(self.all, unit)
+        if !self.are_sorted {
+            return first_of(self.all, unit);
         }
+        let at = place_near(self.all, unit, *near)?;
+        *near = at + 1;
+        Some(&self.all[at].interface)
     }
 }

@@ -19,7 +19,7 @@ pub struct Import {
 pub fn shared_formals(alloc: Global, formals: &[Formal]) -> Result<Items<Formal>, AllocError>
     ensures { IfOk result (λ shared. shared ≡ formals.now) }
 {
-    let mut shared = Items::new(alloc);
+    let mut shared = Items::from_vec(Vec::with_capacity(alloc, formals.len())?);
     for formal in formals {
         let of = formal.of.share()?;
         shared.push(Formal {
@@ -37,7 +37,7 @@ pub fn shared_types(
 ) -> Result<Items<Shared<OccType>>, AllocError>
     ensures { IfOk result (λ shared. shared ≡ types.now) }
 {
-    let mut shared = Items::new(alloc);
+    let mut shared = Items::from_vec(Vec::with_capacity(alloc, types.len())?);
     for of in types {
         shared.push(of.share()?)?;
     }
@@ -82,15 +82,16 @@ fn push_exports(
     Ok(())
 }
 
-/// Adds what the import of this unit shows, if there is one.
+/// Adds what the import of this unit shows, if there is one. It is looked for at `near` first, which is then the place behind it.
 fn push_interface(
     imports: &Imports<'_>,
     unit: FileName,
+    near: &mut usize,
     found: &mut Items<Shared<Interface>>,
 ) -> Result<(), AllocError>
     ensures { OnOk result (found.new ≡ found.old ++ spec_interface_of unit imports.now) }
 {
-    match imports.interface_of(unit) {
+    match imports.interface_near(unit, near) {
         Some(interface) => found.push(interface.share()?),
         None => Ok(()),
     }
@@ -104,9 +105,10 @@ pub fn interfaces_of(
 ) -> Result<Items<Shared<Interface>>, AllocError>
     ensures { IfOk result (λ found. found ≡ spec_interfaces_of units.now imports.now) }
 {
-    let mut found = Items::new(alloc);
+    let mut found = Items::from_vec(Vec::with_capacity(alloc, units.len())?);
+    let mut near = 0;
     for unit in units {
-        push_interface(imports, *unit, &mut found)?;
+        push_interface(imports, *unit, &mut near, &mut found)?;
     }
     Ok(found)
 }
@@ -118,7 +120,7 @@ pub fn imported(
 ) -> Result<Items<ScopeEntry>, AllocError>
     ensures { IfOk result (λ entries. entries ≡ spec_imported interfaces.now) }
 {
-    let mut entries = Items::new(alloc);
+    let mut entries = Items::from_vec(Vec::with_capacity(alloc, interfaces.len())?);
     for interface in interfaces {
         push_exports(alloc, interface.get().exports.as_slice(), &mut entries)?;
     }

@@ -38,8 +38,8 @@ pub fn repeated(
     ensures faults { OnOk result (faults.new ≡ faults.old ++ repetitions before.old names.now) }
 {
     for name in names {
-        repeated_name(alloc, name, before.find(name), faults)?;
-        before.enter(alloc, name)?;
+        let place = before.enter_over(alloc, name)?;
+        repeated_name(alloc, name, place, faults)?;
     }
     Ok(())
 }

@@ -17,7 +17,7 @@ fn is_too_large(protocol: &Shared<Protocol>) -> Result<bool, AllocError>
 {
     let channel = OccType::Channel(protocol.share()?);
     let measure = measure_protocol(protocol.get());
-    Ok(!holds_unknown(&channel) && (measure.levels > 128 || measure.types > 4096))
+    Ok((measure.levels > 128 || measure.types > 4096) && !holds_unknown(&channel))
 }
 
 /// A protocol, if it is not too large: else T9 is reported.

@@ -13,7 +13,7 @@ use occ_base::{Fault, Items, Name};
 use occ_expr::element;
 use occ_forms::Detail;
 use occ_forms_expressions::Element;
-use occ_protocol::{alternative, cased, lacks, tag_place};
+use occ_protocol::{alternative, cased, lacks};
 use occ_scope::{Scope, Scopes};
 use occ_typing_operands::Kind;
 use occ_typing_rules::{TypedElement, repeated};
@@ -65,7 +65,7 @@ fn report_repeated(
     ensures tags { OnOk result (tags.new ≡ tags.old ++ tag.now ∷ []) }
     ensures faults { OnOk result (faults.new ≡ faults.old ++ spec_repeated (spec_carrier channel.now) tags.old tag.now) }
 {
-    if lacks(channel, tag) {
+    if tags.find(tag).is_none() || lacks(channel, tag) {
         tags.enter(alloc, tag)?;
         return Ok(());
     }
@@ -118,7 +118,7 @@ pub fn variant(
     let all = nothing_received(alloc);
     let all = details_received(alloc, first, all, scope, faults)?;
     let all = details_received(alloc, more, all, scope, faults)?;
-    alternative(
+    let place = alternative(
         alloc,
         &input.channel,
         &input.root,
@@ -127,5 +127,5 @@ pub fn variant(
         faults,
     )?;
     report_repeated(alloc, &input.channel, &mut input.tags, tag, faults)?;
-    variant_at(alloc, tag_place(&input.channel, tag), tag, all.trees)
+    variant_at(alloc, place, tag, all.trees)
 }

@@ -29,11 +29,12 @@ fn is_too_wide(of: &OccType) -> bool
 }
 
 /// Whether a type is too large: it, or a type that it is an array of, has over 2,147,483,647 bytes, or it has over 128
-/// levels or over 4,096 types. Levels and types are not asked of a type that holds a field with a faulty line.
+/// levels or over 4,096 types. Levels and types are not asked of a type that holds a field with a faulty line: such a field
+/// is looked for where they are too many alone.
 pub fn is_too_large(of: &OccType) -> bool
     ensures { result ≡ spec_is_too_large of.now }
 {
-    is_oversized(of) || !holds_unknown(of) && is_too_wide(of)
+    is_oversized(of) || is_too_wide(of) && !holds_unknown(of)
 }
 
 /// An array of so many components of a data type, as the type of an operand: T9 is reported where it is too large.

@@ -238,7 +238,7 @@ fn exported_uses(
 ) -> Result<Items<Use>, AllocError>
     ensures { IfOk result (λ made. made ≡ spec_exported_uses number line.now uses.now) }
 {
-    let mut made = Items::new(alloc);
+    let mut made = Items::from_vec(Vec::with_capacity(alloc, uses.len())?);
     for found in uses {
         made.push(exported_use(alloc, number, line, found)?)?;
     }

@@ -5,7 +5,7 @@ ghost use Rattle.clap.specs.declared.error.kind.ErrorKind.TheVariants as kinds;
 ghost use Rattle.occheck_words.specs.Line.{IsRefusal, asked, asked_in, asked_of, either_of, has_steps, is_few as spec_few, line as spec_line, scripts_in, scripts_rule, sessions_of, steps_of, steps_rule, view, workers_in, workers_rule};
 ghost use Rattle.occheck_words.specs.Modes.{IsAllowed, inputs};
 ghost use Rattle.occheck_words.specs.declared.words.WordsFault.TheVariants as words_fault;
-ghost use Rattle.std.specs.Prelude.{◌≡◌, ◌∷◌, ◌⊎◌, ◌≤◌, [], IfErr, IfOk, List, Some, codes, false, map};
+ghost use Rattle.std.specs.Prelude.{◌≡◌, ◌↔◌, ◌∷◌, ◌⊎◌, ◌≤◌, [], IfErr, IfOk, List, Some, codes, false, map};
 ghost use Rattle.std.specs.String.{string_bytes};
 
 use clap::error::ErrorKind;
@@ -140,7 +140,7 @@ fn matched<'a>(alloc: Global, words: &'a [&'a str]) -> Result<ArgMatches<'a>, Er
 
 /// A line that clap refuses, with its text.
 fn refused(alloc: Global, error: &Error) -> Result<WordsFault, AllocError>
-    ensures { IfOk result (λ fault. kind_of error.now ≡ kinds.OutOfMemory → fault ≡ words_fault.Memory) }
+    ensures { IfOk result (λ fault. (fault ≡ words_fault.Memory) ↔ (kind_of error.now ≡ kinds.OutOfMemory)) }
 {
     if error.kind() == ErrorKind::OutOfMemory {
         return Ok(WordsFault::Memory);
@@ -149,7 +149,9 @@ fn refused(alloc: Global, error: &Error) -> Result<WordsFault, AllocError>
 }
 
 /// A line that asks for what there is not.
-fn refusal(alloc: Global, why: &str) -> Result<WordsFault, AllocError> {
+fn refusal(alloc: Global, why: &str) -> Result<WordsFault, AllocError>
+    ensures { IfOk result (λ fault. fault ≡ words_fault.Memory → ⊥) }
+{
     Ok(WordsFault::Refused(format!(in alloc;
         "error: {why}\n\nFor more information, try '--help'.\n"
     )?))

@@ -1,6 +1,6 @@
 -- What is kept of a graph, and what of it is made anew where one node more comes to an index.
 use Rattle.std.specs.Global.{Global}
-use Rattle.std.specs.Prelude.{◌≡◌, ◌<◌, ◌≤◌, ◌+◌, ◌-◌, ◌++◌, ◌==◌, ℕ, Bool, false, true, List, [], ◌∷◌, None, Option, Some, Vec, cond, get_or, length, map, nat_lt, not, slice_set}
+use Rattle.std.specs.Prelude.{◌≡◌, ◌<◌, ◌+◌, ◌-◌, ◌++◌, ◌==◌, ℕ, Bool, false, true, List, [], ◌∷◌, None, Option, Some, Vec, cond, get_or, length, map, nat_lt, not, slice_set}
 use Rattle.std.specs.List.{filter}
 use Rattle.occ_project_graph.specs.Graph.{Graph, all_rests}
 use Rattle.occ_project_graph.specs.Sources.{once_each, sources}
@@ -62,9 +62,20 @@ pub record AreLedRows (indices : List ℕ) (marks : List Bool) (at number : ℕ)
   pub led : (n : ℕ) → n < length before → IsLedRow indices at number (get_or marks (index_at indices n) false) (get_or before n []) (get_or rows n [])
   pub last : get_or rows (length before) [] ≡ []
 
+-- the rows of these nodes, with the new one added to each
+pub record AreLed (indices : List ℕ) (at number : ℕ) (before : Graph) (nodes : List ℕ) (rows : Graph) : Type 0 where
+  pub len : length rows ≡ length nodes
+  pub led : (i : ℕ) → i < length nodes → IsSourceRow indices at number 1 (get_or before (get_or nodes i 0) []) (get_or rows i [])
+
+-- these are put, and a row for the new node, from which no edge leads
+pub record IsLed (indices : List ℕ) (at number : ℕ) (nodes : List ℕ) (before rows : Graph) : Type 0 where
+  pub found : Graph
+  pub are : AreLed indices at number before nodes found
+  pub is : rows ≡ with_rows (before ++ [] ∷ []) nodes found
+
 -- the same of what is kept of what nodes rest on, if something is
-abbrev pub AreLedRests : List ℕ → List Bool → ℕ → ℕ → Option (Vec (List ℕ) Global) → Option (Vec (List ℕ) Global) → Type 0
-AreLedRests indices marks at number None None = Unit {0}
-AreLedRests indices marks at number None (Some rows) = ⊥
-AreLedRests indices marks at number (Some before) None = ⊥
-AreLedRests indices marks at number (Some before) (Some rows) = AreLedRows indices marks at number before.items rows.items
+abbrev pub AreLedRests : List ℕ → ℕ → ℕ → List ℕ → Option (Vec (List ℕ) Global) → Option (Vec (List ℕ) Global) → Type 0
+AreLedRests indices at number nodes None None = Unit {0}
+AreLedRests indices at number nodes None (Some rows) = ⊥
+AreLedRests indices at number nodes (Some before) None = ⊥
+AreLedRests indices at number nodes (Some before) (Some rows) = IsLed indices at number nodes before.items rows.items

@@ -1,10 +1,9 @@
 -- What a graph keeps.
 use Rattle.std.specs.List.{insert}
-use Rattle.std.specs.Prelude.{◌≡◌, ◌<◌, ◌≤◌, ℕ, Bool, false, true, List, [], cond, get_or, length, map, slice_get, Option, Some, None}
+use Rattle.std.specs.Prelude.{◌≡◌, ◌<◌, ◌≤◌, ◌⊎◌, ℕ, false, true, List, [], get_or, length, map, slice_get, Option, Some, None}
 use Rattle.std.specs.Str.{bytes_eq}
-use Rattle.occ_base.specs.FileName.{is_unit}
-use Rattle.occ_project_graph.specs.Adding.{IsParted, with_used_node}
-use Rattle.occ_project_graph.specs.Graph.{Graph, targets}
+use Rattle.occ_project_graph.specs.Adding.{IsParted, raised, with_used_node}
+use Rattle.occ_project_graph.specs.Graph.{Graph, is_among as is_index, targets}
 use Rattle.occ_project.specs.declared.reads.Read.{Read}
 use Rattle.occ_project.specs.Entries.{is_among}
 use Rattle.occ_project.specs.Reads.{index}
@@ -35,15 +34,25 @@ AreReaders files (Some rows) = (p : ℕ) → p < length files → get_or rows p 
 abbrev pub IsLookingForNone : List Read → List ℕ → Type 0
 IsLookingForNone files unit = (name : List ℕ) → index name files ≡ None → (is_among (read_names files unit) name ≡ false) × (is_among (used_units files unit) name ≡ false)
 
--- this holds of each of these
-abbrev pub IsSettled : List Read → Type 0
-IsSettled files = (p : ℕ) → p < length files → IsLookingForNone files (name_at files p)
+-- all do but those at these indices, if that is known
+abbrev pub AreLacking : List Read → Option (List ℕ) → Type 0
+AreLacking files None = Unit {0}
+AreLacking files (Some lacking) = (p : ℕ) → p < length files → (is_index lacking p ≡ true) ⊎ IsLookingForNone files (name_at files p)
 
-pub record IsGraph (files : List Read) (facts : List Facts) (links : Graph) (readers : Option Graph) (settled : Bool) : Type 0 where
+-- and will, once a file comes to an index
+pub record AreLackingThen (files : List Read) (at : ℕ) (lacking : List ℕ) : Type 0 where
+  pub new : is_index lacking at ≡ true
+  pub others : (p : ℕ) → p < length files → (is_index lacking (raised at p) ≡ true) ⊎ IsLookingForNone files (name_at files p)
+
+abbrev pub AreLackingWith : List Read → ℕ → Option (List ℕ) → Type 0
+AreLackingWith files at None = Unit {0}
+AreLackingWith files at (Some lacking) = AreLackingThen files at lacking
+
+pub record IsGraph (files : List Read) (facts : List Facts) (links : Graph) (readers : Option Graph) (lacking : Option (List ℕ)) : Type 0 where
   pub facts_are : facts ≡ all_facts files
   pub links_are : links ≡ graph_of files
   pub readers_are : AreReaders files readers
-  pub settled_is : settled ≡ true → IsSettled files
+  pub lacking_are : AreLacking files lacking
 
 -- what is known of a file reads and uses what it did before
 abbrev pub IsAsBefore : Option Facts → Option Facts → Type 0

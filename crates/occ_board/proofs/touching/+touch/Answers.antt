@@ -1,13 +1,15 @@
 use Rattle.std.proofs.Common.{arith, ◌<◌, ◌+◌, ◌∙◌, ◌∷◌, ap, drop, ℕ, List, subst, sym, ◌≡◌, true}
 use Rattle.std.proofs.lemmas.List.{drop_more}
-use Rattle.occ_board.proofs.Marked.{touch_begun, touch_more}
+use Rattle.occ_board.proofs.Marked.{touch_alone, touch_begun, touch_more}
+use Rattle.occ_board.proofs.Settled.{set_fewer}
 use Rattle.occ_board.proofs.Spread.{among_there}
 use Rattle.occ_board.proofs.touching.+touch.Goals as goal
+use Rattle.occ_board.specs.inside.Flagged.{unflagged}
 use Rattle.occ_project_graph.specs.Graph.{is_among}
 
 pub loop-place-init : goal.loop-place-init
 loop-place-init t c =
-    touch_begun c.args.graph.now (c.users_law.ensures.users c.args.graph.now) c.users-users.result c.args.touched.now _ c.args.index c.users-users.ensures c.in_ok-mark.ensures c.requires.len c.requires.within (sym c.if-has.ensures)
+    touch_begun c.args.graph.now c.args.flags.now c.args.all (c.users_law.ensures.users c.args.graph.now) c.users-users.result c.args.touched.now _ c.args.index c.users-users.ensures c.in_ok-mark.ensures c.requires.len c.requires.within (sym c.if-has.ensures)
 
 pub touch-requires : goal.touch-requires
 touch-requires t c =
@@ -23,6 +25,17 @@ pub loop-place-preserved : goal.loop-place-preserved
 loop-place-preserved t c =
     let users : List ℕ = c.users-users.result in
     let i : ℕ = c.loop-place.place in
-    touch_more c.args.graph.now users c.args.touched.now c.loop-place.touched c.touch.new.touched c.args.index i c.at.result c.loop-place.invariant
+    touch_more c.args.graph.now c.args.flags.now c.args.all users c.args.touched.now c.loop-place.touched c.touch.new.touched c.args.index i c.at.result c.loop-place.invariant
     (drop_more users i 0 (subst (λ (n : ℕ). c.loop-place.place < n) c.count-place-end.ensures c.loop-place-test.true) ∙ ap (λ (p : ℕ). p ∷ drop (i + 1) users) (sym c.at.ensures))
     c.in_ok-touch.ensures.len c.in_ok-touch.ensures.least c.in_ok-touch.ensures.more c.in_ok-touch.ensures.here c.in_ok-touch.ensures.closed
+
+pub returns-then-not-goes_on-clause-least : goal.returns-then-not-goes_on-clause-least
+returns-then-not-goes_on-clause-least t c =
+    let within = c.requires.within in
+    let len = c.requires.len in
+    let fewer = set_fewer c.args.touched.now c.args.index (omega (arith, within, len)) (sym c.if-has.ensures) in
+    let same = ap unflagged c.in_ok-mark.ensures in
+    omega (arith, fewer, same)
+
+pub returns-then-not-goes_on-clause-closed : goal.returns-then-not-goes_on-clause-closed
+returns-then-not-goes_on-clause-closed t c = touch_alone c.args.graph.now c.args.flags.now c.args.all c.args.touched.now c.mark.new.self c.args.index c.in_ok-mark.ensures (sym c.if-not-goes_on.ensures)

@@ -6,4 +6,4 @@ abbrev pub decreases-touch : goal.decreases-touch
 decreases-touch l = unflagged l.touched.now
 
 abbrev pub invariant-loop-place : goal.invariant-loop-place
-invariant-loop-place l = IsTouch l.graph l.users l.fn.touched l.touched l.fn.index l.place
+invariant-loop-place l = IsTouch l.graph l.flags l.all l.users l.fn.touched l.touched l.fn.index l.place

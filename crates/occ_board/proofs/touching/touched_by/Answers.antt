@@ -12,4 +12,4 @@ touch_also-requires-in-loop-reader-clause-within c =
     (subst (λ (ws : List ℕ). is_among ws (get_or readers i 0) ≡ true) c.requires.readers (among_there readers i c.loop-reader-test.true))
 
 pub returns-clause-readers : goal.returns-clause-readers
-returns-clause-readers c = λ p. touched_all c.args.graph.now c.args.index c.args.readers.now c.loop-reader.touched c.loop-reader.reader-index c.loop-reader.invariant (search rules) p
+returns-clause-readers c = λ p. touched_all c.args.graph.now c.args.flags.now c.args.all c.args.index c.args.readers.now c.loop-reader.touched c.loop-reader.reader-index c.loop-reader.invariant (search rules) p

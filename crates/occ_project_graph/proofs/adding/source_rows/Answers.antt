@@ -1,6 +1,5 @@
-use Rattle.std.proofs.Common.{rules, ◌≡◌, ◌∙◌, List, get_or, subst, sym, take, ℕ, ◌+◌, ◌++◌, ◌∷◌, []}
+use Rattle.std.proofs.Common.{rules, ◌≡◌, List, get_or, subst, sym, take, ℕ, ◌+◌, ◌++◌, ◌∷◌, []}
 use Rattle.std.proofs.lemmas.List.{take_more}
-use Rattle.occ_project_graph.specs.Graph.{Graph}
 use Rattle.occ_project_graph.specs.inside.Numbering.{AreSourceRows, IsSourceRow}
 use Rattle.occ_project_graph.proofs.Numbered.{rows_push}
 use Rattle.occ_project_graph.proofs.adding.source_rows.Goals as goal

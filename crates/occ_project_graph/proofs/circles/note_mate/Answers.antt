@@ -1,4 +1,4 @@
-use Rattle.std.proofs.Common.{rules, ◌≡◌, ◌+◌, ◌<◌, List, Option, ℕ, length, subst, sym}
+use Rattle.std.proofs.Common.{rules, ◌+◌, ◌<◌, List, Option, ℕ, length, subst, sym}
 use Rattle.occ_project_graph.specs.inside.Circling.{AreMates}
 use Rattle.occ_project_graph.proofs.Mates.{mates_more}
 use Rattle.occ_project_graph.proofs.circles.note_mate.Goals as goal

@@ -1,7 +1,6 @@
-use Rattle.std.proofs.Common.{◌≡◌, ◌<◌, ℕ, [], false, get_or, length}
-use Rattle.occ_project_graph.specs.inside.Linking.{IsLedRow}
-use Rattle.occ_project_graph.specs.inside.Numbering.{index_at}
+use Rattle.std.proofs.Common.{take}
+use Rattle.occ_project_graph.specs.inside.Linking.{AreLed}
 use Rattle.occ_project_graph.proofs.joining.led_rows.Given as goal
 
 abbrev pub invariant-loop-node : goal.invariant-loop-node
-invariant-loop-node l = (length l.rows.items ≡ l.node) × ((m : ℕ) → m < l.node → IsLedRow l.indices l.at l.number (get_or l.marks (index_at l.indices m) false) (get_or l.before m []) (get_or l.rows.items m []))
+invariant-loop-node l = AreLed l.indices l.at l.number l.before (take l.node-index l.nodes) l.rows.items

@@ -1,6 +1,5 @@
-use Rattle.std.proofs.Common.{◌∙◌, ap, arith, get_or, rules}
+use Rattle.std.proofs.Common.{◌∙◌}
 use Rattle.std.proofs.lemmas.Bool.{le-ltb}
-use Rattle.occ_project_graph.specs.Graph.{is_among}
 use Rattle.occ_project_graph.proofs.Numbered.{node_past, node_there}
 use Rattle.occ_project_graph.proofs.linked.has_node.Goals as goal
 

@@ -4,7 +4,7 @@ use Rattle.std.specs.List.{insert, remove}
 use Rattle.occ_project_graph.specs.Adding.{with_node}
 use Rattle.occ_project_graph.specs.Graph.{Graph}
 use Rattle.occ_project.specs.declared.reads.Read.{Read}
-use Rattle.occ_project_units.proofs.Added.{facts_then, graph_then, name_new, put_back, put_long, settled_then}
+use Rattle.occ_project_units.proofs.Added.{facts_then, graph_then, name_new, put_back, put_long}
 use Rattle.occ_project_units.proofs.Edges.{graph_long}
 use Rattle.occ_project_units.proofs.adding.add_file.Goals as goal
 use Rattle.occ_project_units.specs.Along.{name_at}
@@ -12,7 +12,7 @@ use Rattle.occ_project_units.specs.Indices.{graph_of, indices_of}
 use Rattle.occ_project_units.specs.Project.{IsProject, put}
 use Rattle.occ_project_units.specs.Units.{used_units}
 use Rattle.occ_project_units.specs.declared.facts.Facts.{Facts}
-use Rattle.occ_project_units.specs.inside.Keeping.{IsLookingForNone, IsSettled, all_facts, facts_of}
+use Rattle.occ_project_units.specs.inside.Keeping.{all_facts, facts_of}
 
 pub add_known-requires-clause-within : goal.add_known-requires-clause-within
 add_known-requires-clause-within c =
@@ -75,9 +75,3 @@ returns-in-Ok-clause-links c =
     ∙ ap (λ (name : List ℕ). with_node (graph_of files) at (indices_of (put files c.args.file) (used_units (put files c.args.file) name))) (name_new files c.args.file at c.requires.new)
     ∙ graph_then files c.args.file at c.requires.new
     ∙ sym (ap graph_of c.in_ok-insert.ensures.ok)
-
-pub returns-in-Ok-clause-settled : goal.returns-in-Ok-clause-settled
-returns-in-Ok-clause-settled c = λ still.
-    let both = c.in-Ok.ensures.settled still in
-    let own = subst (λ (files : List Read). IsLookingForNone files (name_at files c.args.at)) c.in_ok-insert.ensures.ok both.1 in
-    subst IsSettled (sym c.in_ok-insert.ensures.ok) (settled_then c.args.project.now c.args.file c.args.at c.requires.new c.requires.project (c.requires.settled both.0) own)

@@ -30,8 +30,8 @@ measure_of-returns-in-Array t c = grind (arith, measure_array, held_above)
 pub measure_of-returns-in-Record : goal.measure_of-returns-in-Record
 measure_of-returns-in-Record t c = grind (arith, measure_record, held_above)
 
-pub measure_of-returns-in-Named : goal.measure_of-returns-in-Named
-measure_of-returns-in-Named t c = grind (arith, measure_named, held_above)
+pub measure_of-returns-in_default : goal.measure_of-returns-in_default
+measure_of-returns-in_default t c = grind (arith, measure_named, held_above)
 
 pub measure_of-returns-in-Channel : goal.measure_of-returns-in-Channel
 measure_of-returns-in-Channel t c = grind (arith, measure_channel, held_above)

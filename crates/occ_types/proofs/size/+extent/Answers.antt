@@ -11,9 +11,6 @@ extent-returns-in-Array-clause-most t c = grind (arith, common_steps)
 pub extent-returns-in-Record-clause-most : goal.extent-returns-in-Record-clause-most
 extent-returns-in-Record-clause-most t c = grind (arith, common_steps)
 
-pub extent-returns-in-Named-clause-most : goal.extent-returns-in-Named-clause-most
-extent-returns-in-Named-clause-most t c = grind (arith, common_steps)
-
 pub extent-returns-in-Channel-clause-most : goal.extent-returns-in-Channel-clause-most
 extent-returns-in-Channel-clause-most t c = grind (arith, common_steps)
 

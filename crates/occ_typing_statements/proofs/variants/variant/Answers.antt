@@ -11,6 +11,6 @@ returns-clause-faults c =
     variant_reported c.variant_at.result c.args.scope.now c.args.input.now c.args.tag.now c.args.first.now c.args.more.now _ _ _ _ _ _
     c.in_ok-all.ensures.faults
     c.in_ok-all-2.ensures.faults
-    c.in_ok-alternative.ensures
+    c.in_ok-place.ensures.faults
     c.in_ok-report_repeated.ensures.faults
     (c.as_slice.ensures ∙ c.in_ok-all-2.ensures.givens ∙ ap (λ (z : List Given). z ++ more) (c.in_ok-all.ensures.givens ∙ ap (λ (z : List Given). z ++ first) c.nothing_received-all.ensures.givens))

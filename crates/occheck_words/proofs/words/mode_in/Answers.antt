@@ -10,4 +10,4 @@ returns-in-Ok c =
     record { allowed = answer.allowed; asked = fit.0; refused = fit.1 }
 
 pub returns-in_ok-refused-in-Err-clause-refused : goal.returns-in_ok-refused-in-Err-clause-refused
-returns-in_ok-refused-in-Err-clause-refused c = refuses (map (λ word. word.now) c.args.line.now) _ _ c.in-Err.ensures.refused c.in_ok-refused-in-Err.ensures
+returns-in_ok-refused-in-Err-clause-refused c = refuses (map (λ word. word.now) c.args.line.now) _ _ c.in-Err.ensures.refused c.in_ok-refused-in-Err.ensures.1

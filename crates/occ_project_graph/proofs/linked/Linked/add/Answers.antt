@@ -1,19 +1,16 @@
-use Rattle.std.proofs.Common.{◌≡◌, ◌∙◌, ◌+◌, ◌≤◌, ◌<◌, ◌++◌, ◌∷◌, ℕ, List, [], ap, arith, get_or, length, map, subst, sym, true}
+use Rattle.std.proofs.Common.{◌≡◌, ◌∙◌, ◌≤◌, ◌++◌, ◌∷◌, ℕ, List, [], ap, arith, get_or, length, map, subst, sym, true}
 use Rattle.std.specs.List.{insert}
 use Rattle.occ_project_graph.specs.Adding.{raised}
 use Rattle.occ_project_graph.specs.Graph.{Graph, is_among}
 use Rattle.occ_project_graph.specs.inside.Linking.{others, rests_kept, with_rows}
-use Rattle.occ_project_graph.specs.inside.Numbering.{AreSourceRows}
-use Rattle.occ_project_graph.proofs.Numbered.{by_long, indices_few, rows_many}
+use Rattle.occ_project_graph.specs.inside.Numbering.{AreSourceRows, IsNumbered}
+use Rattle.occ_project_graph.proofs.Numbered.{by_long, rows_many}
 use Rattle.occ_project_graph.proofs.Renumbered.{add_few, add_linked, add_view}
 use Rattle.occ_project_graph.proofs.linked.Linked.add.Goals as goal
 
-pub insert_node-requires-clause-within : goal.insert_node-requires-clause-within
-insert_node-requires-clause-within c = λ v h.
-    let few = indices_few c.self.inside.numbers.items c.self.inside.indices.items c.self.invariant.numbered v (ap (λ (ns : List ℕ). is_among ns v) (sym c.reserve-2.ensures.items) ∙ h) in
-    let long = ap (length {A = ℕ}) c.reserve.ensures.items in
-    let len = c.reserve.new.self.ok.0 in
-    omega (arith, few, long, len)
+pub insert_node-requires-clause-numbered : goal.insert_node-requires-clause-numbered
+insert_node-requires-clause-numbered c =
+    subst (λ (ns : List ℕ). IsNumbered ns c.reserve-2.new.self.items) (sym c.reserve.ensures.items) (subst (IsNumbered c.self.inside.numbers.items) (sym c.reserve-2.ensures.items) c.self.invariant.numbered)
 
 pub put_rows-requires : goal.put_rows-requires
 put_rows-requires c =

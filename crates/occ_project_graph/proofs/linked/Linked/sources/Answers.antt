@@ -1,10 +1,8 @@
-use Rattle.std.proofs.Common.{◌≡◌, ◌∙◌, ◌<◌, List, [], ap, get_or, length, subst, sym, ℕ}
-use Rattle.occ_project_graph.specs.Graph.{Graph, is_among, rests}
+use Rattle.std.proofs.Common.{◌≡◌, ◌∙◌, ◌<◌, List, ap, length, subst, sym, ℕ}
+use Rattle.occ_project_graph.specs.Graph.{Graph}
 use Rattle.occ_project_graph.specs.Sources.{sources}
-use Rattle.occ_project_graph.specs.inside.Linking.{rests_kept}
 use Rattle.occ_project_graph.specs.inside.Numbering.{indexed, row_by}
-use Rattle.occ_project_graph.proofs.Added.{rests_there}
-use Rattle.occ_project_graph.proofs.Numbered.{by_long, row_few, row_is}
+use Rattle.occ_project_graph.proofs.Numbered.{by_long, row_is}
 use Rattle.occ_project_graph.proofs.linked.Linked.sources.Goals as goal
 
 pub returns : goal.returns

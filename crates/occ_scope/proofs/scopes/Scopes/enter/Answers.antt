@@ -1,45 +1,8 @@
-use Rattle.std.proofs.Common.{◌∙◌, sym, ap, subst, ◌≡◌, length, ◌++◌, ◌∷◌, [], ℕ, List, Some, rules}
-use Rattle.occ_scope.specs.declared.scopes.Entry.{Entry}
-use Rattle.occ_scope.specs.Kept.{IsKept, names_of, place_held, Puts}
-use Rattle.occ_scope.proofs.Stacked.{inside, kept_back, kept_more, names_snoc, names_length, put_is_held}
+use Rattle.std.proofs.Common.{◌∙◌, sym, ap, ◌≡◌, length, rules}
+use Rattle.occ_scope.proofs.Stacked.{names_length}
 use Rattle.occ_scope.proofs.scopes.Scopes.enter.Goals as goal
-
-pub invariant_of-self-in_default : goal.invariant_of-self-in_default
-invariant_of-self-in_default c =
-    let e : Entry = record { name = c.in_ok-copy.copy; hidden = c.in_ok-hidden.hidden } in
-    let copy : c.in_ok-copy.copy ≡ c.args.name.now = search rules in
-    let key : c.in_ok-key.key ≡ c.args.name.now = search rules in
-    let puts : Puts c.self.inside.newest c.put.new.newest c.in_ok-key.key (Some c.len-place.result) = search rules in
-    kept_more c.self.inside.entries c.push.new.self c.self.inside.newest c.put.new.newest e c.len-place.result
-    c.self.invariant.chained c.self.invariant.newest (search rules)
-    (c.in_ok-hidden.ensures.hidden ∙ ap (place_held c.self.inside.newest) (key ∙ sym copy))
-    (search rules)
-    (subst (λ (n : List ℕ). Puts c.self.inside.newest c.put.new.newest n (Some c.len-place.result)) (key ∙ sym copy) puts)
 
 pub returns-clause-place : goal.returns-clause-place
 returns-clause-place c =
     let e : c.len-place.result ≡ length c.self.inside.entries = search rules in
     e ∙ sym (names_length c.self.inside.entries) ∙ ap length c.self.view_is
-
-pub returns-clause-ok : goal.returns-clause-ok
-returns-clause-ok c =
-    let e : Entry = record { name = c.in_ok-copy.copy; hidden = c.in_ok-hidden.hidden } in
-    let is : c.push.new.self ≡ c.self.inside.entries ++ e ∷ [] = search rules in
-    let copy : c.in_ok-copy.copy ≡ c.args.name.now = search rules in
-    ap names_of is ∙ names_snoc c.self.inside.entries e ∙ ap (λ (ns : List (List ℕ)). ns ++ c.in_ok-copy.copy ∷ []) c.self.view_is ∙ ap (λ (n : List ℕ). c.args.self.now ++ n ∷ []) copy
-
-pub restore-requires : goal.restore-requires
-restore-requires c =
-    let key : c.in_ok-key.key ≡ c.args.name.now = search rules in
-    put_is_held c.self.inside.newest c.put.new.newest c.args.name.now c.len-place.result
-    (subst (λ (n : List ℕ). Puts c.self.inside.newest c.put.new.newest n (Some c.len-place.result)) key c.in_ok-hidden.ensures.ok)
-
-pub invariant_of-self-in-Err : goal.invariant_of-self-in-Err
-invariant_of-self-in-Err c =
-    let key : c.in_ok-key.key ≡ c.args.name.now = search rules in
-    subst (λ (es : List Entry). IsKept (inside es c.restore.new.newest)) (sym c.in-Err.ensures.err)
-    (kept_back c.self.inside.entries c.self.inside.newest c.put.new.newest c.restore.new.newest c.args.name.now (Some c.len-place.result) c.in_ok-hidden.hidden
-    c.self.invariant.chained c.self.invariant.newest
-    (c.in_ok-hidden.ensures.hidden ∙ ap (place_held c.self.inside.newest) key)
-    (subst (λ (n : List ℕ). Puts c.self.inside.newest c.put.new.newest n (Some c.len-place.result)) key c.in_ok-hidden.ensures.ok)
-    c.restore.ensures)

@@ -1,0 +1,87 @@
+//! Bytes that are few enough to be held in place: at the front of 16, and zeros after. So they are compared as numbers.
+ghost use Rattle.std.specs.Cmp.Lexicographic.{slice_cmp};
+ghost use Rattle.std.specs.Ordering.{nat_cmp};
+ghost use Rattle.std.specs.Prelude.{◌≡◌, ◌≤◌, length};
+ghost use Rattle.std.specs.Str.{bytes_eq};
+
+use std::cmp::Ordering;
+use std::marker::Model;
+
+/// At most 16 bytes.
+#[derive(Clone, Copy, Debug)]
+pub(super) struct Short {
+    bytes: [u8; 16],
+    len: u8,
+}
+
+impl Model for Short {
+    ghost use Rattle.std.specs.Prelude.{List, ℕ};
+    ghost use Rattle.std.specs.Coded.{coded_list, coded_ℕ};
+
+    ghost Value = { List ℕ };
+
+    ghost coded = { coded_list coded_ℕ };
+
+    ghost use Rattle.occ_base.specs.inside.Short.{IsShort, padded, padded_back, shown};
+
+    ghost view = { shown };
+
+    ghost invariant = { IsShort };
+
+    ghost inverse = { padded };
+
+    ghost inverse_ok = { padded_back };
+}
+
+impl Short {
+    /// These bytes.
+    pub(super) fn new(bytes: &[u8]) -> Short
+        requires { length bytes.now ≤ 16 }
+        ensures { result ≡ bytes.now }
+    {
+        let mut all = [0; 16];
+        let (front, _) = all.split_at_mut(bytes.len());
+        front.copy_from_slice(bytes);
+        Short {
+            bytes: all,
+            len: bytes.len() as u8,
+        }
+    }
+
+    pub(super) fn as_bytes(&self) -> &[u8]
+        ensures { result.now ≡ self.now }
+    {
+        &self.bytes[..self.len as usize]
+    }
+
+    /// Whether the bytes are the same.
+    pub(super) fn is_same(&self, other: &Short) -> bool
+        ensures { result ≡ bytes_eq self.now other.now }
+    {
+        self.len == other.len && are_same(&self.bytes, &other.bytes)
+    }
+
+    /// Which comes first: zeros come before all other bytes, so that the lengths decide where all 16 are the same.
+    pub(super) fn order(&self, other: &Short) -> Ordering
+        ensures { result ≡ slice_cmp nat_cmp self.now other.now }
+    {
+        match order(&self.bytes, &other.bytes) {
+            Ordering::Equal => self.len.cmp(&other.len),
+            decided => decided,
+        }
+    }
+}
+
+/// Whether 16 bytes are the same: the numbers with these digits are.
+fn are_same(a: &[u8; 16], b: &[u8; 16]) -> bool
+    ensures { result ≡ bytes_eq a.now b.now }
+{
+    u128::from_be_bytes(*a) == u128::from_be_bytes(*b)
+}
+
+/// Which of 16 bytes come first: their order is that of the numbers with these digits.
+fn order(a: &[u8; 16], b: &[u8; 16]) -> Ordering
+    ensures { result ≡ slice_cmp nat_cmp a.now b.now }
+{
+    u128::from_be_bytes(*a).cmp(&u128::from_be_bytes(*b))
+}

@@ -1,0 +1,5 @@
+use Rattle.occ_project_graph.proofs.Raising.{IsRaising}
+use Rattle.occ_project_graph.proofs.numbering.raise_from.Given as goal
+
+abbrev pub invariant-loop-place : goal.invariant-loop-place
+invariant-loop-place l = IsRaising l.numbers l.fn.indices l.indices l.at l.place

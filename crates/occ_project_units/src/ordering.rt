@@ -1,0 +1,93 @@
+//! Units in order of name. What was put in order last is remembered, since files that use one library use the same units.
+ghost use Rattle.occ_project.specs.Uses.{names_in_order};
+ghost use Rattle.std.specs.Prelude.{IfOk, ◌≡◌};
+
+use super::following::are_same_names;
+use occ_base::{FileName, Items, Shared};
+use occ_project::{ExpandedBody, ExpandedLine, used_units};
+use std::alloc::{AllocError, Global};
+use std::marker::Model;
+use std::slice;
+
+/// How many units are remembered at least: fewer cost less to put in order than to copy.
+const REMEMBERED_LEAST: usize = 16;
+
+/// Units that were put in order, and what came of it: in contracts the units as they were.
+#[derive(Drop)]
+pub struct Ordered {
+    units: Items<FileName>,
+    ordered: Items<FileName>,
+}
+
+impl Model for Ordered {
+    ghost use Rattle.std.specs.Prelude.{List, ℕ, ◌≡◌};
+    ghost use Rattle.std.specs.Coded.{coded_list, coded_ℕ};
+    ghost use Rattle.occ_project.specs.Uses.{names_in_order};
+
+    ghost Value = { List (List ℕ) };
+
+    ghost coded = { coded_list (coded_list coded_ℕ) };
+
+    ghost view = { λ o. o.units };
+
+    ghost invariant = { λ o. o.ordered ≡ names_in_order o.units };
+}
+
+/// Units in order of name, each once. They are those of one line.
+fn put_in_order(
+    alloc: Global,
+    unit: FileName,
+    units: Items<FileName>,
+) -> Result<Items<FileName>, AllocError>
+    ensures { IfOk result (λ ordered. ordered ≡ names_in_order units) }
+{
+    if units.is_empty() {
+        return Ok(units);
+    }
+    let line = ExpandedLine {
+        file: unit,
+        line: 0,
+        depth: 0,
+        body: ExpandedBody::Uses(Shared::new(alloc, units)?),
+    };
+    used_units(alloc, slice::from_ref(&line))
+}
+
+/// The same, and they are remembered.
+fn put_in_order_and_remember(
+    alloc: Global,
+    unit: FileName,
+    units: Items<FileName>,
+    last: &mut Option<Ordered>,
+) -> Result<Items<FileName>, AllocError>
+    ensures { IfOk result (λ ordered. ordered ≡ names_in_order units) }
+{
+    let before = Items::from_slice(alloc, units.as_slice())?;
+    let ordered = put_in_order(alloc, unit, units)?;
+    *last = Some(Ordered {
+        units: before,
+        ordered: Items::from_slice(alloc, ordered.as_slice())?,
+    });
+    Ok(ordered)
+}
+
+/// The units that a file uses, in order of name, each once. If they are those that were put in order last, nothing is compared with
+/// the others.
+pub fn in_order(
+    alloc: Global,
+    unit: FileName,
+    units: Items<FileName>,
+    last: &mut Option<Ordered>,
+) -> Result<Items<FileName>, AllocError>
+    ensures { IfOk result (λ ordered. ordered ≡ names_in_order units) }
+{
+    if units.len() < REMEMBERED_LEAST {
+        return put_in_order(alloc, unit, units);
+    }
+    match last {
+        Some(found) if are_same_names(found.units.as_slice(), units.as_slice()) => {
+            Items::from_slice(alloc, found.ordered.as_slice())
+        }
+        _ => put_in_order_and_remember(alloc, unit, units, last),
+    }
+}

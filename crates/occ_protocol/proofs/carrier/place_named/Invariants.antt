@@ -1,6 +1,0 @@
-use Rattle.std.proofs.Common.{◌≡◌, drop}
-use Rattle.occ_protocol.specs.Carrying.{place_from}
-use Rattle.occ_protocol.proofs.carrier.place_named.Given as goal
-
-abbrev pub invariant-loop-tag : goal.invariant-loop-tag
-invariant-loop-tag l = (l.place ≡ l.tag-index) × (place_from l.place (drop l.tag-index l.tags) l.name ≡ place_from 0 l.tags l.name)
