@@ -143,7 +143,10 @@ impl Same for Export {
     fn is_same(&self, other: &Export) -> bool {
         self.name == other.name
             && self.kind == other.kind
-            && are_same(self.formals.as_slice(), other.formals.as_slice())
+            && are_same(
+                self.formals.get().as_slice(),
+                other.formals.get().as_slice(),
+            )
             && are_same(self.results.as_slice(), other.results.as_slice())
             && are_same(self.uses.as_slice(), other.uses.as_slice())
             && self.effect == other.effect

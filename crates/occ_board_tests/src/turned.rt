@@ -4,7 +4,7 @@ use occ_base::{FileName, Items, Shared};
 use occ_board::{Board, Job, Outcome, Used, UsedUnit, Verdict, check};
 use occ_forms::prepare;
 use occ_project::{Read, Reads};
-use occ_types::{Export, Formal, FormalUse, Interface};
+use occ_types::{Export, FormalUse, Interface};
 use std::alloc::Global;
 use std::test::Fail;
 
@@ -53,17 +53,10 @@ fn turned_uses(alloc: Global, uses: &[FormalUse]) -> Result<Items<FormalUse>, Fa
 
 /// The export of a PROC, with its uses turned.
 fn turned_export(alloc: Global, export: &Export) -> Result<Export, Fail> {
-    let mut formals = Items::new(alloc);
-    for formal in export.formals.as_slice() {
-        formals.push(Formal {
-            of: formal.of.share()?,
-            passing: formal.passing,
-        })?;
-    }
     Ok(Export {
         name: export.name.copied(alloc)?,
         kind: export.kind,
-        formals,
+        formals: export.formals.share()?,
         results: Items::new(alloc),
         uses: turned_uses(alloc, export.uses.as_slice())?,
         effect: export.effect,

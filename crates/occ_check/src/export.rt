@@ -8,7 +8,7 @@ use super::formal_uses::body_formal_uses;
 use occ_base::{Items, Name, Shared};
 use occ_scope::{Meaning, ScopeEntry};
 use occ_types::{Effect, Export, ExportKind, Formal, Interface, OccType};
-use occ_usage::{TypedForm, TypedLine, number_after, shared_formals, shared_types};
+use occ_usage::{TypedForm, TypedLine, number_after, shared_types};
 use occ_usage_values::{Bound, body_at, effect_at};
 use std::alloc::{AllocError, Global};
 use std::collections::BTreeSet;
@@ -31,7 +31,7 @@ fn export(
     number: usize,
     name: &Name,
     kind: ExportKind,
-    formals: &[Formal],
+    formals: &Shared<Items<Formal>>,
     results: &[Shared<OccType>],
 ) -> Result<Export, AllocError>
     ensures { IfOk result (λ export. export ≡ spec_export env.now number name.now kind formals.now results.now) }
@@ -39,7 +39,7 @@ fn export(
     Ok(Export {
         name: name.copied(alloc)?,
         kind,
-        formals: shared_formals(alloc, formals)?,
+        formals: formals.share()?,
         results: shared_types(alloc, results)?,
         uses: body_formal_uses(alloc, number, body_at(env, number))?,
         effect: effect_if(effect_at(env, number)),
@@ -63,7 +63,7 @@ fn add_entry(
             number,
             &entry.name,
             ExportKind::Process,
-            formals.as_slice(),
+            formals,
             &[],
         )?,
         Meaning::Function(formals, results) => export(
@@ -72,7 +72,7 @@ fn add_entry(
             number,
             &entry.name,
             ExportKind::Function,
-            formals.as_slice(),
+            formals,
             results.as_slice(),
         )?,
         Meaning::Faulty | Meaning::Type(_) | Meaning::Protocol(_) | Meaning::Element(_) => {

@@ -6,7 +6,7 @@ use super::formal_uses::in_order;
 use super::used::{Used, UsedUnit};
 use occ_base::{Items, Shared};
 use occ_types::{Export, FormalUse, Interface};
-use occ_usage::{shared_formals, shared_types};
+use occ_usage::shared_types;
 use occ_usage_parts::copies;
 use std::alloc::{AllocError, Global};
 
@@ -40,7 +40,7 @@ fn export_in_order(alloc: Global, export: &Export) -> Result<Export, AllocError>
     Ok(Export {
         name: export.name.copied(alloc)?,
         kind: export.kind,
-        formals: shared_formals(alloc, export.formals.as_slice())?,
+        formals: export.formals.share()?,
         results: shared_types(alloc, export.results.as_slice())?,
         uses: in_order(alloc, uses)?,
         effect: export.effect,

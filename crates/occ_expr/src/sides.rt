@@ -90,7 +90,7 @@ pub fn side(
             alloc,
             name,
             exprs,
-            formals.as_slice(),
+            formals.get().as_slice(),
             results.as_slice(),
             scope,
             faults,

@@ -590,7 +590,7 @@ fn call(
             alloc,
             name,
             exprs,
-            formals.as_slice(),
+            formals.get().as_slice(),
             results.as_slice(),
             scope,
             faults,

@@ -39,9 +39,9 @@ pub enum Meaning {
     Type(Option<Shared<OccType>>),
     Protocol(Shared<Protocol>),
     /// A procedure with these formals.
-    Procedure(Items<Formal>),
+    Procedure(Shared<Items<Formal>>),
     /// A function with these formals, and the types of its results.
-    Function(Items<Formal>, Items<Shared<OccType>>),
+    Function(Shared<Items<Formal>>, Items<Shared<OccType>>),
     Element(Whole),
 }
 

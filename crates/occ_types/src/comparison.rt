@@ -48,7 +48,7 @@ impl Same for Export {
     fn same(&self, other: &Export) -> bool {
         self.name == other.name
             && self.kind == other.kind
-            && same_formals(&self.formals, &other.formals)
+            && same_formals(self.formals.get(), other.formals.get())
             && same_types(&self.results, &other.results)
             && same_uses(&self.uses, &other.uses)
             && self.effect == other.effect

@@ -19,7 +19,8 @@ impl Drop for Interface {
 pub struct Export {
     pub name: Name,
     pub kind: ExportKind,
-    pub formals: Items<Formal>,
+    /// Shared, so that each unit that imports it takes no copy.
+    pub formals: Shared<Items<Formal>>,
     pub results: Items<Shared<OccType>>,
     /// The uses of single parts of formals. They count as a set: neither their order nor how often each stands here
     /// matters.

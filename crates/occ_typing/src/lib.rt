@@ -6,6 +6,6 @@ mod tree;
 mod unit;
 mod walk;
 
-pub use occ_typing_lines::{BlockKind, Import, TypedForm, shared_formals, shared_types};
+pub use occ_typing_lines::{BlockKind, Import, TypedForm, shared_types};
 pub use tree::TypedLine;
 pub use unit::{TypeFault, Typed, type_unit};

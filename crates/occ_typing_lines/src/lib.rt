@@ -29,4 +29,4 @@ pub use options::TypedOptions;
 pub use parent::{Choosing, Line, Parent, Role};
 pub use placing::place;
 pub use tree::{BlockKind, TypedForm, TypedGuard};
-pub use using::{Import, shared_formals, shared_types};
+pub use using::{Import, shared_types};

@@ -5,7 +5,7 @@ ghost use Rattle.std.specs.Prelude.{◌≡◌, ◌++◌, ◌∷◌, [], IfOk, On
 use super::imports::Imports;
 use occ_base::{FileName, Items, Shared};
 use occ_scope::{Meaning, ScopeEntry};
-use occ_types::{Export, ExportKind, Formal, Interface, OccType};
+use occ_types::{Export, ExportKind, Interface, OccType};
 use std::alloc::{AllocError, Global};
 
 /// A unit that another uses: its file, and what it exports.
@@ -13,21 +13,6 @@ use std::alloc::{AllocError, Global};
 pub struct Import {
     pub unit: FileName,
     pub interface: Shared<Interface>,
-}
-
-/// Formals once more, which share their types.
-pub fn shared_formals(alloc: Global, formals: &[Formal]) -> Result<Items<Formal>, AllocError>
-    ensures { IfOk result (λ shared. shared ≡ formals.now) }
-{
-    let mut shared = Items::from_vec(Vec::with_capacity(alloc, formals.len())?);
-    for formal in formals {
-        let of = formal.of.share()?;
-        shared.push(Formal {
-            of,
-            passing: formal.passing,
-        })?;
-    }
-    Ok(shared)
 }
 
 /// Types once more, shared.
@@ -48,7 +33,7 @@ pub fn shared_types(
 fn meaning_of(alloc: Global, export: &Export) -> Result<Meaning, AllocError>
     ensures { IfOk result (λ meaning. meaning ≡ spec_meaning_of export.now.kind export.now.formals export.now.results) }
 {
-    let formals = shared_formals(alloc, export.formals.as_slice())?;
+    let formals = export.formals.share()?;
     match export.kind {
         ExportKind::Process => Ok(Meaning::Procedure(formals)),
         ExportKind::Function => {

@@ -22,7 +22,7 @@ fn function_meaning(
     ensures { IfOk result (λ meaning. meaning ≡ spec_function_meaning known formals.now types.now) }
 {
     if known {
-        let formals = called_formals(alloc, formals)?;
+        let formals = Shared::new(alloc, called_formals(alloc, formals)?)?;
         let types = known_types(alloc, types)?;
         return Ok(Meaning::Function(formals, types));
     }

@@ -6,7 +6,7 @@ use super::formal::{HeadFormal, all_known, called_formals, entries};
 use super::group::groups;
 use super::heading::{Expected, Heading};
 use super::result_type::unless_reported;
-use occ_base::{Fault, Items};
+use occ_base::{Fault, Items, Shared};
 use occ_forms::FormalGroup;
 use occ_scope::{Meaning, Scope};
 use std::alloc::{AllocError, Global};
@@ -20,7 +20,8 @@ fn procedure_meaning(
     ensures { IfOk result (λ meaning. meaning ≡ spec_procedure_meaning known formals.now) }
 {
     if known {
-        return Ok(Meaning::Procedure(called_formals(alloc, formals)?));
+        let called = called_formals(alloc, formals)?;
+        return Ok(Meaning::Procedure(Shared::new(alloc, called)?));
     }
     Ok(Meaning::Faulty)
 }

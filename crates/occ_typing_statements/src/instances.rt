@@ -79,7 +79,7 @@ fn call(
 {
     match scope.find(name) {
         Some(Meaning::Procedure(formals)) => {
-            let actuals = actuals(alloc, formals.as_slice(), exprs, scope, faults)?;
+            let actuals = actuals(alloc, formals.get().as_slice(), exprs, scope, faults)?;
             Ok(with_callee(scope.referent(name)?, actuals))
         }
         _ => {

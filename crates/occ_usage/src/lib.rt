@@ -12,8 +12,6 @@ mod walk;
 
 pub use function::{Within, function_faults};
 pub use occ_alias::number_after;
-pub use occ_typing::{
-    Import, TypeFault, Typed, TypedForm, TypedLine, shared_formals, shared_types, type_unit,
-};
+pub use occ_typing::{Import, TypeFault, Typed, TypedForm, TypedLine, shared_types, type_unit};
 pub use process::{ProcessId, Summary, uses_of};
 pub use walk::{UnitUses, alias_faults, par_faults, unit_uses};
