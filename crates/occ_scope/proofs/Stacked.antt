@@ -8,11 +8,12 @@ use Rattle.std.specs.declared.cmp.Ordering.TheVariants.{Less, Equal, Greater}
 use Rattle.std.proofs.lemmas.Cmp.{nat_list_cmp_total}
 use Rattle.std.specs.Cmp.{tied_itself}
 use Rattle.std.specs.Cmp.Lexicographic.{slice_cmp}
-use Rattle.std.specs.BTreeMap.{BTreeMap}
 use Rattle.std.proofs.lemmas.Map.Lookups.{exact_bytes}
 use Rattle.std.proofs.lemmas.Map.Text.{is_eq-slice_cmp}
 use Rattle.occ_scope.specs.Nearest.{nearest, last_place_from, later_or, is_same_name}
-use Rattle.occ_scope.specs.inside.Kept.{names_of, AreChained, AreNearest, IsKept, Puts, Restores, if_same, place_held, standing}
+use Rattle.occ_scope.specs.inside.Kept.{names_of, AreChained, AreNearest, IsKept, if_same, standing}
+use Rattle.occ_scope.specs.inside.Places.{Puts, Restores, place_held}
+use Rattle.occ_scope.specs.declared.places.Places.{Places}
 use Rattle.std.specs.List.{slice_get}
 use Rattle.occ_scope.specs.declared.scopes.Entry.{Entry}
 use Rattle.occ_scope.specs.declared.scopes.Scopes.TheInside.{Inside}
@@ -77,7 +78,7 @@ equal Greater h = absurd cc
 pub same_itself : (n : List ℕ) → is_same_name n n ≡ true
 same_itself n = ap is_eq (tied_itself nat_list_cmp_total n)
 
-pub put_is_held : (m m' : BTreeMap (List ℕ) ℕ) (n : List ℕ) (place : ℕ) → Puts m m' n (Some place) → IsSome (place_held m' n)
+pub put_is_held : (m m' : Places) (n : List ℕ) (place : ℕ) → Puts m m' n (Some place) → IsSome (place_held m' n)
 put_is_held m m' n place puts = ap is_some (puts n ∙ ap (λ (b : Bool). cond b (Some place) (place_held m n)) (same_itself n))
 
 -- ---- what is held of a name, where one more name is entered
@@ -168,12 +169,12 @@ put_stands xs n q place held true s at near = ap (λ (k : ℕ). standing (xs ++ 
 put_stands xs n q place held false s at near = other_stands xs n q held s ∙ near
 
 -- what is put, or stays, is the nearest
-back_stands : (xs : List (List ℕ)) (n q : List ℕ) (hidden : Option ℕ) (m m' : BTreeMap (List ℕ) ℕ) → Restores m m' n hidden → hidden ≡ nearest xs n → (b : Bool) → is_same_name n q ≡ b → (b ≡ true → n ≡ q) → (b ≡ true → place_held m q ≡ Some (length xs)) → (b ≡ false → standing xs q (place_held m q) ≡ nearest xs q)
+back_stands : (xs : List (List ℕ)) (n q : List ℕ) (hidden : Option ℕ) (m m' : Places) → Restores m m' n hidden → hidden ≡ nearest xs n → (b : Bool) → is_same_name n q ≡ b → (b ≡ true → n ≡ q) → (b ≡ true → place_held m q ≡ Some (length xs)) → (b ≡ false → standing xs q (place_held m q) ≡ nearest xs q)
     → standing xs q (place_held m' q) ≡ nearest xs q
 back_stands xs n q None m m' restores hides true s same at near =
-    ap (λ (k : BTreeMap (List ℕ) ℕ). standing xs q (place_held k q)) restores ∙ ap (standing xs q) (at refl) ∙ past_stands xs q ∙ hides ∙ ap (nearest xs) (same refl)
+    ap (λ (k : Places). standing xs q (place_held k q)) restores ∙ ap (standing xs q) (at refl) ∙ past_stands xs q ∙ hides ∙ ap (nearest xs) (same refl)
 back_stands xs n q None m m' restores hides false s same at near =
-    ap (λ (k : BTreeMap (List ℕ) ℕ). standing xs q (place_held k q)) restores ∙ near refl
+    ap (λ (k : Places). standing xs q (place_held k q)) restores ∙ near refl
 back_stands xs n q (Some h) m m' restores hides true s same at near =
     let e : Some h ≡ nearest xs q = hides ∙ ap (nearest xs) (same refl) in
     let p : place_held m' q ≡ Some h = restores q ∙ ap (λ (b : Bool). cond b (Some h) (place_held m q)) s in
@@ -184,10 +185,10 @@ back_stands xs n q (Some h) m m' restores hides false s same at near =
 
 -- ---- what is kept
 
-abbrev pub inside : List Entry → BTreeMap (List ℕ) ℕ → Inside
+abbrev pub inside : List Entry → Places → Inside
 inside es m = record { entries = es; newest = m }
 
-pub kept_more : (es all : List Entry) (m m' : BTreeMap (List ℕ) ℕ) (e : Entry) (place : ℕ) → AreChained [] es → AreNearest es m → all ≡ es ++ e ∷ [] → e.hidden ≡ nearest (names_of es) e.name → place ≡ length es → Puts m m' e.name (Some place)
+pub kept_more : (es all : List Entry) (m m' : Places) (e : Entry) (place : ℕ) → AreChained [] es → AreNearest es m → all ≡ es ++ e ∷ [] → e.hidden ≡ nearest (names_of es) e.name → place ≡ length es → Puts m m' e.name (Some place)
     → IsKept (inside all m')
 kept_more es all m m' e place chained near is hides at puts =
     record {
@@ -203,7 +204,7 @@ stood : (xs : List (List ℕ)) (n q : List ℕ) (held : Option ℕ) (b : Bool) �
 stood xs n q held true s h = (λ t. held_is (xs ++ n ∷ []) q held (length xs) h, λ f. absurd cc)
 stood xs n q held false s h = (λ t. absurd cc, λ f. sym (other_stands xs n q held s) ∙ h)
 
-pub kept_less : (es all : List Entry) (m m' : BTreeMap (List ℕ) ℕ) (e : Entry) → AreChained [] all → AreNearest all m → all ≡ es ++ e ∷ [] → Restores m m' e.name e.hidden
+pub kept_less : (es all : List Entry) (m m' : Places) (e : Entry) → AreChained [] all → AreNearest all m → all ≡ es ++ e ∷ [] → Restores m m' e.name e.hidden
     → IsKept (inside es m')
 kept_less es all m m' e chained near is restores =
     let c : AreChained [] (es ++ e ∷ []) = subst (AreChained []) is chained in
@@ -221,7 +222,7 @@ put_at place held x r true h = (λ t. h, λ f. absurd cc)
 put_at place held x r false h = (λ t. absurd cc, λ f. h)
 
 -- what was put is taken back
-pub kept_back : (es : List Entry) (m m' m'' : BTreeMap (List ℕ) ℕ) (name : List ℕ) (place : ℕ) (hidden : Option ℕ) → AreChained [] es → AreNearest es m → hidden ≡ nearest (names_of es) name → place ≡ length es → Puts m m' name (Some place) → Restores m' m'' name hidden
+pub kept_back : (es : List Entry) (m m' m'' : Places) (name : List ℕ) (place : ℕ) (hidden : Option ℕ) → AreChained [] es → AreNearest es m → hidden ≡ nearest (names_of es) name → place ≡ length es → Puts m m' name (Some place) → Restores m' m'' name hidden
     → IsKept (inside es m'')
 kept_back es m m' m'' name place hidden chained near hides at puts restores =
     let put = λ (q : List ℕ). put_at place (place_held m' q) (place_held m q) None (is_same_name name q) (puts q) in
@@ -233,7 +234,7 @@ kept_back es m m' m'' name place hidden chained near hides at puts restores =
           (λ h. ap (standing (names_of es) q) ((put q).1 h) ∙ near q);
     }
 
-pub is_held : (es all : List Entry) (m : BTreeMap (List ℕ) ℕ) (e : Entry) → AreNearest all m → all ≡ es ++ e ∷ [] → IsSome (place_held m e.name)
+pub is_held : (es all : List Entry) (m : Places) (e : Entry) → AreNearest all m → all ≡ es ++ e ∷ [] → IsSome (place_held m e.name)
 is_held es all m e near is =
     ap is_some (held_is (names_of all) e.name (place_held m e.name) (length (names_of es))
     (near e.name ∙ nearest_of_all es all e e.name is ∙ ap (λ (b : Bool). cond b (Some (length (names_of es))) (nearest (names_of es) e.name)) (same_itself e.name)))

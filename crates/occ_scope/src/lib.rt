@@ -4,6 +4,7 @@
 pub mod laws;
 mod lookup;
 mod meaning;
+mod places;
 pub mod rows;
 mod scope;
 mod scopes;

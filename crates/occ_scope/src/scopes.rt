@@ -1,11 +1,11 @@
 //! The specifications that were entered and not left, and the nearest of each name. `docs/LANGUAGE.md, Names in scope`.
 ghost use Rattle.std.specs.Prelude.{IfOk, IsSome, OnErr, OnOk, [], length, take, ◌++◌, ◌-◌, ◌∷◌, ◌≡◌};
-ghost use Rattle.occ_scope.specs.inside.Kept.{Puts, Restores, names_of, place_held, standing as spec_standing};
+ghost use Rattle.occ_scope.specs.inside.Kept.{names_of, standing as spec_standing};
 ghost use Rattle.occ_scope.specs.Nearest.{nearest};
 
+use super::places::Places;
 use occ_base::{Items, Name};
 use std::alloc::{AllocError, Global};
-use std::collections::BTreeMap;
 use std::marker::Model;
 
 /// The place of a specification among those that were entered and not left, from 0.
@@ -24,7 +24,7 @@ struct Entry {
 pub struct Scopes {
     entries: Items<Entry>,
     /// The place of the last of each name. It stays where that is left, so that leaving costs no search.
-    newest: BTreeMap<Name, usize>,
+    newest: Places,
 }
 
 impl Model for Scopes {
@@ -49,7 +49,7 @@ impl Scopes {
     {
         Scopes {
             entries: Items::new(alloc),
-            newest: BTreeMap::new(alloc),
+            newest: Places::new(alloc),
         }
     }
 
@@ -57,8 +57,7 @@ impl Scopes {
     pub fn find(&self, name: &Name) -> Option<SpecId>
         ensures { result ≡ nearest self.now name.now }
     {
-        let place = self.newest.get(name);
-        standing(&self.entries, name, place.copied())
+        standing(&self.entries, name, self.newest.get(name))
     }
 
     /// A specification of this name is entered. Where memory is refused nothing changes.
@@ -79,12 +78,11 @@ impl Scopes {
         ensures err { OnErr result (self.new ≡ self.old) }
     {
         let place = self.entries.len();
-        let key = name.copied(alloc)?;
         let copy = name.copied(alloc)?;
-        let held = put(&mut self.newest, key, place)?;
+        let held = self.newest.put(alloc, name, place)?;
         let hidden = standing(&self.entries, name, held);
         if let Err(refused) = self.entries.push(Entry { name: copy, hidden }) {
-            restore(&mut self.newest, name, hidden);
+            self.newest.restore(name, hidden);
             return Err(refused);
         }
         Ok(hidden)
@@ -97,7 +95,7 @@ impl Scopes {
         let Some(last) = self.entries.pop() else {
             return;
         };
-        restore(&mut self.newest, &last.name, last.hidden);
+        self.newest.restore(&last.name, last.hidden);
     }
 }
 
@@ -111,32 +109,5 @@ fn standing(entries: &Items<Entry>, name: &Name, held: Option<usize>) -> Option<
         Some(place)
     } else {
         None
-    }
-}
-
-/// The newest of a name is at a place: where it was before is told, if there was one.
-fn put(
-    newest: &mut BTreeMap<Name, usize>,
-    name: Name,
-    place: usize,
-) -> Result<Option<usize>, AllocError>
-    ensures hidden { IfOk result (λ hidden. hidden ≡ place_held newest.old name) }
-    ensures ok { OnOk result (Puts newest.old newest.new name (Some place)) }
-    ensures err { OnErr result (newest.new.entries ≡ newest.old.entries) }
-{
-    let hidden = newest.insert(name, place)?;
-    Ok(hidden)
-}
-
-/// The newest of a name, of which one is held, is at a place again. Where there is none any more, what is held stays: no
-/// entry of the name is there.
-fn restore(newest: &mut BTreeMap<Name, usize>, name: &Name, hidden: Option<usize>)
-    requires { IsSome (place_held newest.old name.now) }
-    ensures { Restores newest.old newest.new name.now hidden }
-{
-    if let Some(place) = hidden
-        && let Some(held) = newest.get_mut(name)
-    {
-        *held = place;
     }
 }

@@ -1,12 +1,11 @@
 -- How the names in scope are held: each with what it hides, and the nearest of each name.
 use Rattle.std.specs.Prelude.{ℕ, ◌≡◌, List, [], ◌∷◌, ◌++◌, Option, Some, None, cond}
 use Rattle.std.specs.List.{slice_get}
-use Rattle.std.specs.Ordering.{nat_cmp}
-use Rattle.std.specs.Cmp.Lexicographic.{slice_cmp}
-use Rattle.std.specs.BTreeMap.{BTreeMap, get}
 use Rattle.occ_scope.specs.declared.scopes.Entry.{Entry}
 use Rattle.occ_scope.specs.declared.scopes.Scopes.TheInside.{Inside}
+use Rattle.occ_scope.specs.declared.places.Places.{Places}
 use Rattle.occ_scope.specs.Nearest.{nearest, is_same_name}
+use Rattle.occ_scope.specs.inside.Places.{place_held}
 
 abbrev pub names_of : List Entry → List (List ℕ)
 names_of [] = []
@@ -27,8 +26,8 @@ abbrev pub standing : List (List ℕ) → List ℕ → Option ℕ → Option ℕ
 standing names name None = None
 standing names name (Some place) = if_same name place (slice_get names place)
 
-abbrev pub AreNearest : List Entry → BTreeMap (List ℕ) ℕ → Type 0
-AreNearest es newest = (name : List ℕ) → standing (names_of es) name (get (slice_cmp nat_cmp) newest name) ≡ nearest (names_of es) name
+abbrev pub AreNearest : List Entry → Places → Type 0
+AreNearest es newest = (name : List ℕ) → standing (names_of es) name (place_held newest name) ≡ nearest (names_of es) name
 
 pub record IsKept (a : Inside) : Type 0 where
   pub chained : AreChained [] a.entries
@@ -36,15 +35,3 @@ pub record IsKept (a : Inside) : Type 0 where
 
 abbrev pub entered : Inside → List (List ℕ)
 entered a = names_of a.entries
-
-abbrev pub place_held : BTreeMap (List ℕ) ℕ → List ℕ → Option ℕ
-place_held newest name = get (slice_cmp nat_cmp) newest name
-
--- the place of one name is another, or none, and those of the others are the same
-abbrev pub Puts : BTreeMap (List ℕ) ℕ → BTreeMap (List ℕ) ℕ → List ℕ → Option ℕ → Type 0
-Puts old new name place = (other : List ℕ) → place_held new other ≡ cond (is_same_name name other) place (place_held old other)
-
--- where the name has a place again, that is put; else all stays
-abbrev pub Restores : BTreeMap (List ℕ) ℕ → BTreeMap (List ℕ) ℕ → List ℕ → Option ℕ → Type 0
-Restores old new name None = new ≡ old
-Restores old new name (Some place) = Puts old new name (Some place)

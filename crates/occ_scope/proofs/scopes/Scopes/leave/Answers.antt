@@ -7,7 +7,7 @@ pub restore-requires : goal.restore-requires
 restore-requires c = is_held c.pop.new.self c.self.inside.entries c.self.inside.newest c.in-Some.last c.self.invariant.newest c.in-Some.ensures
 
 pub invariant_of-self-2 : goal.invariant_of-self-2
-invariant_of-self-2 c = kept_less c.pop.new.self c.self.inside.entries c.self.inside.newest c.restore.new.newest c.in-Some.last c.self.invariant.chained c.self.invariant.newest c.in-Some.ensures c.restore.ensures
+invariant_of-self-2 c = kept_less c.pop.new.self c.self.inside.entries c.self.inside.newest c.restore.new.self c.in-Some.last c.self.invariant.chained c.self.invariant.newest c.in-Some.ensures c.restore.ensures
 
 pub returns : goal.returns
 returns c = front_of c.pop.new.self c.self.inside.entries c.in-Some.last c.in-Some.ensures ∙ ap (λ (ns : List (List ℕ)). take (length ns - 1) ns) c.self.view_is
