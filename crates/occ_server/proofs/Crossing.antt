@@ -428,14 +428,20 @@ formal_field_sync = search (sendable, shared.the_sync, occ_type_sync, occ_type_s
 formal_sync : IsSync formal.the_row
 formal_sync = search (sendable, formal_field_sync) depth 10
 
+formals_send : IsSend (shared_of.the_row (items_of.the_row formal.the_row))
+formals_send = shared.the_send (items_of.the_row formal.the_row) (items.the_send formal.the_row formal_send) (items.the_sync formal.the_row formal_sync)
+
+formals_sync : IsSync (shared_of.the_row (items_of.the_row formal.the_row))
+formals_sync = shared.the_sync (items_of.the_row formal.the_row) (items.the_send formal.the_row formal_send) (items.the_sync formal.the_row formal_sync)
+
 export_field_send : IsSend export.the_field.row
-export_field_send = search (sendable, items.the_send, shared.the_send, Vec-send, name_send, export_kind_cross.the_field_send, formal_send, occ_type_send, occ_type_sync, formal_use_cross.the_send, effect_cross.the_field_send) depth 30
+export_field_send = search (sendable, items.the_send, shared.the_send, name_send, export_kind_cross.the_field_send, formals_send, occ_type_send, occ_type_sync, formal_use_cross.the_send, effect_cross.the_field_send) depth 30
 
 export_send : IsSend export.the_row
 export_send = search (sendable, export_field_send) depth 10
 
 export_field_sync : IsSync export.the_field.row
-export_field_sync = search (sendable, items.the_sync, shared.the_sync, Vec-sync, name_sync, export_kind_cross.the_field_sync, formal_sync, occ_type_sync, occ_type_send, formal_use_cross.the_sync, effect_cross.the_field_sync) depth 30
+export_field_sync = search (sendable, items.the_sync, shared.the_sync, name_sync, export_kind_cross.the_field_sync, formals_sync, occ_type_sync, occ_type_send, formal_use_cross.the_sync, effect_cross.the_field_sync) depth 30
 
 export_sync : IsSync export.the_row
 export_sync = search (sendable, export_field_sync) depth 10
