@@ -37,13 +37,13 @@ or_true false = refl
 
 -- ---- what is in a list
 
-at_head : {X : Type 0} (x : X) (xs : List X) → Contains (x ∷ xs) x
+pub at_head : {X : Type 0} (x : X) (xs : List X) → Contains (x ∷ xs) x
 at_head x xs = (0, omega arith, refl)
 
-at_tail : {X : Type 0} (x : X) (xs : List X) (y : X) → Contains xs y → Contains (x ∷ xs) y
+pub at_tail : {X : Type 0} (x : X) (xs : List X) (y : X) → Contains xs y → Contains (x ∷ xs) y
 at_tail x xs y h = let less = h.1 in (suc h.0, omega (arith, less), h.2)
 
-cases : {X : Type 0} (x : X) (xs : List X) (y : X) → Contains (x ∷ xs) y → (x ≡ y) ⊎ Contains xs y
+pub cases : {X : Type 0} (x : X) (xs : List X) (y : X) → Contains (x ∷ xs) y → (x ≡ y) ⊎ Contains xs y
 cases {X} x xs y h = by h.0 h.1 h.2 where
   by : (k : ℕ) → k < length (x ∷ xs) → Rattle.std.specs.List.slice_index_or (x ∷ xs) k y ≡ y → (x ≡ y) ⊎ Contains xs y
   by zero less is = inl is
@@ -85,7 +85,7 @@ filter_there {X} p (y ∷ ys) x h is = by (p y) refl (cases y ys x h) (λ later.
 -- ---- what a room tells
 
 -- it is of a diagnostic in the file
-told_cases : (texts : List Text) (told : List Diag) (path : List ℕ) (head : Head) → Contains (heads_of texts told (text_at texts path)) head → (d : Diag) × Contains told d × IsIn texts path d × (located (path_of texts d.file) d ≡ head)
+pub told_cases : (texts : List Text) (told : List Diag) (path : List ℕ) (head : Head) → Contains (heads_of texts told (text_at texts path)) head → (d : Diag) × Contains told d × IsIn texts path d × (located (path_of texts d.file) d ≡ head)
 told_cases texts told path head h = by (text_at texts path) refl h where
   by : (o : Option Text) → text_at texts path ≡ o → Contains (heads_of texts told o) head → (d : Diag) × Contains told d × IsIn texts path d × (located (path_of texts d.file) d ≡ head)
   by None e k = let less = k.1 in absurd (omega (arith, less))
@@ -94,7 +94,7 @@ told_cases texts told path head h = by (text_at texts path) refl h where
       let in_told = filter_cases (λ (d : Diag). bytes_eq d.file t.name) told found.0 found.1 in
       (found.0, in_told.0, (t, e, same_bytes found.0.file t.name in_told.1), found.2)
 
-told_there : (texts : List Text) (told : List Diag) (path : List ℕ) (head : Head) (d : Diag) → Contains told d → IsIn texts path d → located (path_of texts d.file) d ≡ head → Contains (heads_of texts told (text_at texts path)) head
+pub told_there : (texts : List Text) (told : List Diag) (path : List ℕ) (head : Head) (d : Diag) → Contains told d → IsIn texts path d → located (path_of texts d.file) d ≡ head → Contains (heads_of texts told (text_at texts path)) head
 told_there texts told path head d h at is =
     let t : Text = at.0 in
     let here : Contains (diags_in t.name told) d = filter_there (λ (x : Diag). bytes_eq x.file t.name) told d h ((bytes_eq-Decides d.file t.name).1 at.2) in

@@ -3,6 +3,7 @@ use Rattle.std.specs.Prelude.{◌≡◌, ◌⊎◌, ◌↔◌, ℕ, Bool, false,
 use Rattle.std.specs.List.{Contains, list_any}
 use Rattle.std.specs.Str.{bytes_eq}
 use Rattle.std.specs.String.{string_bytes}
+use Rattle.occ_base.specs.declared.code.Code.{Code}
 use Rattle.occ_base.specs.declared.diag.Diag.{Diag}
 use Rattle.occ_editor.specs.declared.editor.Published.{Published}
 use Rattle.occ_editor.specs.declared.room.Room.{Room}
@@ -30,6 +31,10 @@ told_at room path = heads_of room.texts.items room.told (text_at room.texts.item
 abbrev pub IsTold : List Room → List ℕ → Head → Type 0
 IsTold [] path head = ⊥
 IsTold (room ∷ rooms) path head = Contains (told_at room path) head ⊎ IsTold rooms path head
+
+-- one of these heads has the code at the line
+abbrev pub HasCode : (Head → Type 0) → ℕ → Code → Type 0
+HasCode IsOne line code = (head : Head) × IsOne head × (head.line ≡ line) × (head.code ≡ code)
 
 -- why a file at a path is not checked, if it is among these
 abbrev pub refusal_at : List Refusal → List ℕ → Option Why

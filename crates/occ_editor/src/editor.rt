@@ -6,10 +6,11 @@ ghost use Rattle.occ_editor.specs.Standing.{AreServed, IsStanding, IsUpToDate};
 ghost use Rattle.occ_editor_edits.specs.declared.documents.Document.{Document as ADocument};
 ghost use Rattle.occ_editor.specs.inside.Followed.{AreSettled, HaveFollowed};
 ghost use Rattle.occ_editor.specs.inside.Placed.{AreAsked};
+ghost use Rattle.occ_base.specs.declared.code.Code.{Code as ACode};
 ghost use Rattle.occ_editor_edits.specs.Messages.{said};
 ghost use Rattle.occ_editor_edits.specs.Texts.{after_saying};
 ghost use Rattle.std.specs.String.{string_bytes};
-ghost use Rattle.occ_editor.specs.Publishing.{AreWhole, IsPublished, TellSame, why_of};
+ghost use Rattle.occ_editor.specs.Publishing.{AreWhole, HasCode, IsPublished, IsTold, TellSame, why_of};
 ghost use Rattle.occ_editor.specs.inside.Shown.{AllTellBut, AllTellSame, Grows, TellsSame};
 ghost use Rattle.occ_messages.specs.Located.{Head, head_of};
 ghost use Rattle.std.specs.List.{All, Contains, filter};
@@ -225,13 +226,15 @@ impl Editor {
         self.rooms.retain(|room| !room.is_empty());
     }
 
-    /// The codes that are told of a line of a file, from 1.
+    /// The codes that are told of a line of a file, from 1, and no others.
     pub fn codes_at(
         &self,
         alloc: Global,
         path: &str,
         line: u32,
-    ) -> Result<BTreeSet<Code>, AllocError> {
+    ) -> Result<BTreeSet<Code>, AllocError>
+        ensures { IfOk result (λ codes. (code : ACode) → Contains codes.keys code ↔ HasCode (IsTold self.now.rooms.items path.now) line code) }
+    {
         let mut codes = BTreeSet::new(alloc);
         for room in &self.rooms {
             room.add_codes(path, line, &mut codes)?;

@@ -1,20 +1,22 @@
 //! The files of one folder that are open, with all that they use and include, on a board of their own.
 ghost use Rattle.occ_editor_edits.specs.Documents.{ChangesAt};
-ghost use Rattle.occ_editor.specs.Publishing.{refusal_at, text_at as spec_text_at, told_at};
+ghost use Rattle.occ_editor.specs.Publishing.{HasCode, refusal_at, text_at as spec_text_at, told_at};
 ghost use Rattle.occ_messages.specs.Located.{head_of};
 ghost use Rattle.occ_editor.specs.Rooms.{IsSettled, Knows, Stands, is_of as spec_is_of, is_unit as spec_is_unit, is_vacant};
 ghost use Rattle.occ_files.specs.Paths.{folder_of as spec_folder_of};
+ghost use Rattle.occ_base.specs.declared.code.Code.{Code as ACode};
 ghost use Rattle.occ_base.specs.declared.diag.Diag.{Diag as ADiag};
 ghost use Rattle.occ_files.specs.Gathering.{are_apart};
 ghost use Rattle.std.specs.Str.{bytes_eq};
 ghost use Rattle.std.specs.String.{string_bytes};
 ghost use Rattle.occ_editor_edits.specs.declared.documents.Document.{Document as ADocument};
+ghost use Rattle.occ_editor.specs.inside.Codes.{IsAt};
 ghost use Rattle.occ_editor.specs.inside.Placed.{AreAsked, AreFound, HasAt, place_at};
 ghost use Rattle.occ_editor.specs.inside.Shown.{Grows, HasFile, IsIn, IsQuiet, TellsSame, has_key, text_named};
 ghost use Rattle.occ_files.specs.declared.gathering.Text.{Text as AText};
 ghost use Rattle.std.specs.List.{Contains, slice_get};
 ghost use Rattle.std.specs.Option.{option_copied};
-ghost use Rattle.std.specs.Prelude.{◌≡◌, ◌↔◌, IfOk, IfSome, IsTrue, List, None, OnOk, Some, false, map, option_map, slice_set, true, ℕ};
+ghost use Rattle.std.specs.Prelude.{◌≡◌, ◌⊎◌, ◌↔◌, IfOk, IfSome, IsTrue, List, None, OnOk, Some, false, map, option_map, slice_set, true, ℕ};
 
 use super::bringing::{brought, put_one};
 use super::found::name_alike;
@@ -146,7 +148,7 @@ impl Room {
             return Ok(());
         };
         let name = text.name;
-        let is_alike = name_alike(text.source.get(), source.get());
+        let is_alike = name_alike(alloc, text.source.get(), source.get())?;
         put_one(alloc, &mut self.board, name, source.share()?)?;
         put_source(&mut self.texts, place, source);
         self.is_loose |= !is_alike;
@@ -401,14 +403,14 @@ impl Room {
         path: &str,
         line: u32,
         codes: &mut BTreeSet<Code>,
-    ) -> Result<(), AllocError> {
+    ) -> Result<(), AllocError>
+        ensures { OnOk result ((code : ACode) → Contains codes.new.keys code ↔ (Contains codes.old.keys code ⊎ HasCode (Contains (told_at self.now path.now)) line code)) }
+    {
         let Some(text) = self.text_at(path) else {
             return Ok(());
         };
-        for diag in of_file(self.told.as_slice(), text.name) {
-            if diag.line == line {
-                codes.insert(diag.code)?;
-            }
+        for diag in self.told.as_slice() {
+            add_code(diag, text.name, line, codes)?;
         }
         Ok(())
     }
@@ -434,11 +436,19 @@ fn put_source(texts: &mut Vec<Text>, place: usize, source: Shared<Source>)
     }
 }
 
-/// The diagnostics of a file, among those that stand in order.
-fn of_file(diags: &[Diag], name: FileName) -> &[Diag] {
-    let from = diags.partition_point(|diag| diag.file < name);
-    let to = diags.partition_point(|diag| diag.file <= name);
-    diags.get(from..to).unwrap_or(&[])
+/// Adds the code of a diagnostic, if that is at the line of the file.
+fn add_code(
+    diag: &Diag,
+    file: FileName,
+    line: u32,
+    codes: &mut BTreeSet<Code>,
+) -> Result<(), AllocError>
+    ensures { OnOk result ((code : ACode) → Contains codes.new.keys code ↔ (Contains codes.old.keys code ⊎ IsAt file line code diag.now)) }
+{
+    if diag.file == file && diag.line == line {
+        codes.insert(diag.code)?;
+    }
+    Ok(())
 }
 
 /// Whether a diagnostic is among those that stand in order.
