@@ -12,11 +12,11 @@ use Rattle.std.specs.Str.{bytes_eq}
 use Rattle.std.specs.String.{string_bytes}
 use Rattle.occ_base.specs.declared.diag.Diag.{Diag}
 use Rattle.occ_editor.proofs.Placed.{other_source}
-use Rattle.occ_editor.specs.Publishing.{IsTold, TellSame, TellsAt, first_of, heads_of, is_published, refusal_at, text_at, told_at, why_of}
+use Rattle.occ_editor.specs.Publishing.{IsTold, BoardsTellSame, TellsAt, first_of, heads_of, is_published, refusal_at, text_at, told_at, why_of}
 use Rattle.occ_editor.specs.Rooms.{is_vacant}
 use Rattle.occ_editor.specs.declared.editor.Published.{Published}
 use Rattle.occ_editor.specs.declared.room.Room.{Room}
-use Rattle.occ_editor.specs.inside.Shown.{AllAt, IsIn, Grows, HasFile, IsQuiet, TellsSame, AllTellBut, has_key, text_named}
+use Rattle.occ_editor.specs.inside.Shown.{AllAt, IsIn, Grows, HasFile, IsQuiet, RoomTellsSame, AllTellBut, has_key, text_named}
 use Rattle.occ_files.specs.Gathering.{are_apart, has_name}
 use Rattle.occ_files.specs.declared.gathering.Text.{Text}
 use Rattle.occ_files.specs.declared.refusal.Refusal.{Refusal}
@@ -182,13 +182,13 @@ key_insert before now k path e = ap (list_any (λ key. bytes_eq (string_bytes ke
 
 -- ---- what stays
 
-pub tells_itself : (room : Room) (path : List ℕ) → TellsSame room room path
+pub tells_itself : (room : Room) (path : List ℕ) → RoomTellsSame room room path
 tells_itself room path = record { heads = λ head. (λ h. h, λ h. h); why = refl }
 
-pub tells_both : (a b c : Room) (path : List ℕ) → TellsSame a b path → TellsSame b c path → TellsSame a c path
+pub tells_both : (a b c : Room) (path : List ℕ) → RoomTellsSame a b path → RoomTellsSame b c path → RoomTellsSame a c path
 tells_both a b c path one two = record { heads = λ head. (λ h. (two.heads head).0 ((one.heads head).0 h), λ h. (one.heads head).1 ((two.heads head).1 h)); why = one.why ∙ two.why }
 
-pub quiet_both : (a b : Room) (path : List ℕ) → IsQuiet a path → IsQuiet b path → TellsSame a b path
+pub quiet_both : (a b : Room) (path : List ℕ) → IsQuiet a path → IsQuiet b path → RoomTellsSame a b path
 quiet_both a b path one two = record { heads = λ head. (λ h. absurd (one.heads head h), λ h. absurd (two.heads head h)); why = one.why ∙ sym two.why }
 
 -- another source at a place leaves what is told
@@ -277,12 +277,12 @@ all_both (x ∷ xs) [] zs path one two = absurd one
 all_both (x ∷ xs) (y ∷ ys) [] path one two = absurd two
 all_both (x ∷ xs) (y ∷ ys) (z ∷ zs) path one two = (tells_both x y z path one.0 two.0, all_both xs ys zs path one.1 two.1)
 
-pub all_set : (rooms : List Room) (i : ℕ) (r n : Room) (path : List ℕ) → slice_get rooms i ≡ Some r → TellsSame r n path → AllAt rooms (slice_set rooms i n) path
+pub all_set : (rooms : List Room) (i : ℕ) (r n : Room) (path : List ℕ) → slice_get rooms i ≡ Some r → RoomTellsSame r n path → AllAt rooms (slice_set rooms i n) path
 all_set [] i r n path e same = absurd cc
-all_set (x ∷ xs) zero r n path e same = let is : x ≡ r = cc in (subst (λ (y : Room). TellsSame y n path) (sym is) same, all_themselves xs path)
+all_set (x ∷ xs) zero r n path e same = let is : x ≡ r = cc in (subst (λ (y : Room). RoomTellsSame y n path) (sym is) same, all_themselves xs path)
 all_set (x ∷ xs) (suc i) r n path e same = (tells_itself x path, all_set xs i r n path e same)
 
-at_next : (b n : Room) (bs ns : List Room) (path : List ℕ) → TellsSame b n path → TellsAt bs ns path → TellsAt (b ∷ bs) (n ∷ ns) path
+at_next : (b n : Room) (bs ns : List Room) (path : List ℕ) → RoomTellsSame b n path → TellsAt bs ns path → TellsAt (b ∷ bs) (n ∷ ns) path
 at_next b n bs ns path one rest = record {
   heads = λ head. (there head, back head);
   why = ap (λ (o : Option Why). first_of o (why_of bs path)) one.why ∙ ap (first_of (refusal_at n.refusals.items path)) rest.why;
@@ -335,7 +335,7 @@ vacant_quiet room path vacant = by room.texts.items refl room.refusals.items ref
   by [] e (r ∷ rs) f h = absurd (let no : (length (r ∷ rs) == 0) ≡ false = grind arith in cc)
   by (t ∷ ts) e rs f h = absurd (let no : (length (t ∷ ts) == 0) ≡ false = grind arith in cc)
 
-pub without_vacant : (rooms : List Room) → TellSame rooms (filter (λ room. not (is_vacant room)) rooms)
+pub without_vacant : (rooms : List Room) → BoardsTellSame rooms (filter (λ room. not (is_vacant room)) rooms)
 without_vacant [] path = record { heads = λ head. (λ h. h, λ h. h); why = refl }
 without_vacant (r ∷ rs) path = by (is_vacant r) refl (without_vacant rs path) where
   left : List Room

@@ -61,9 +61,9 @@ pub record TellsAt (before now : List Room) (path : List ℕ) : Type 0 where
   pub heads : (head : Head) → IsTold before path head ↔ IsTold now path head
   pub why : why_of before path ≡ why_of now path
 
--- so they do of each
-abbrev pub TellSame : List Room → List Room → Type 0
-TellSame before now = (path : List ℕ) → TellsAt before now path
+-- so they do of each file
+abbrev pub BoardsTellSame : List Room → List Room → Type 0
+BoardsTellSame before now = (path : List ℕ) → TellsAt before now path
 
 -- something is published of the file at a path
 abbrev pub is_published : List Published → List ℕ → Bool

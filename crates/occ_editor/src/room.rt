@@ -12,7 +12,7 @@ ghost use Rattle.std.specs.String.{string_bytes};
 ghost use Rattle.occ_editor_edits.specs.declared.documents.Document.{Document as ADocument};
 ghost use Rattle.occ_editor.specs.inside.Codes.{IsAt};
 ghost use Rattle.occ_editor.specs.inside.Placed.{AreAsked, AreFound, HasAt, place_at};
-ghost use Rattle.occ_editor.specs.inside.Shown.{Grows, HasFile, IsIn, IsQuiet, TellsSame, has_key, text_named};
+ghost use Rattle.occ_editor.specs.inside.Shown.{Grows, HasFile, IsIn, IsQuiet, RoomTellsSame, has_key, text_named};
 ghost use Rattle.occ_files.specs.declared.gathering.Text.{Text as AText};
 ghost use Rattle.std.specs.List.{Contains, slice_get};
 ghost use Rattle.std.specs.Option.{option_copied};
@@ -109,7 +109,7 @@ impl Room {
     /// again.
     pub fn follow(&mut self, alloc: Global, path: &str, bytes: &[u8]) -> Result<(), CheckFault>
         ensures stands { OnOk result ((before now : List ADocument) → ChangesAt before now path.now (Some bytes.now) → Stands before self.old → Stands now self.new) }
-        ensures told { OnOk result ((path : List ℕ) → TellsSame self.old self.new path) }
+        ensures told { OnOk result ((path : List ℕ) → RoomTellsSame self.old self.new path) }
         ensures folder { self.new.folder ≡ self.old.folder }
     {
         if self.refusal_of(path).is_some() {
@@ -142,7 +142,7 @@ impl Room {
     ) -> Result<(), CheckFault>
         ensures folder { self.new.folder ≡ self.old.folder }
         ensures stands { OnOk result ((before now : List ADocument) (path : List ℕ) → place_at self.old.texts.items path ≡ Some place → refusal_at self.old.refusals.items path ≡ None → ChangesAt before now path (Some source.text) → Stands before self.old → Stands now self.new) }
-        ensures told { OnOk result ((path : List ℕ) → TellsSame self.old self.new path) }
+        ensures told { OnOk result ((path : List ℕ) → RoomTellsSame self.old self.new path) }
     {
         let Some(text) = self.texts.get(place) else {
             return Ok(());
@@ -162,7 +162,7 @@ impl Room {
         ensures folder { self.new.folder ≡ self.old.folder }
         ensures closed { bytes.entry ≡ None → self.new.is_loose ≡ true }
         ensures stands { (before now : List ADocument) → ChangesAt before now path.now (option_map (λ text. text.now) bytes.entry) → Stands before self.old → Stands now self.new }
-        ensures told { (path : List ℕ) → TellsSame self.old self.new path }
+        ensures told { (path : List ℕ) → RoomTellsSame self.old self.new path }
     {
         if self.refusal_of(path).is_some() || !self.has(path, bytes) {
             self.is_loose = true;
@@ -197,7 +197,7 @@ impl Room {
         ensures folder { OnOk result (self.new.folder ≡ self.old.folder) }
         ensures settled { OnOk result ((documents : List ADocument) → Knows (D.known disk.now) documents → AreAsked documents self.old paths.now → Stands documents self.old → IsSettled documents self.new) }
         ensures grows { OnOk result (Grows stale.old stale.new) }
-        ensures told { OnOk result ((documents : List ADocument) → Stands documents self.old → (path : List ℕ) → has_key stale.new path ≡ false → TellsSame self.old self.new path) }
+        ensures told { OnOk result ((documents : List ADocument) → Stands documents self.old → (path : List ℕ) → has_key stale.new path ≡ false → RoomTellsSame self.old self.new path) }
     {
         if self.is_loose {
             self.find_anew(alloc, disk, folders, paths, stale)?;
@@ -219,7 +219,7 @@ impl Room {
         ensures folder { OnOk result (self.new.folder ≡ self.old.folder) }
         ensures settled { OnOk result ((documents : List ADocument) → Knows (D.known disk.now) documents → AreAsked documents self.old paths.now → Stands documents self.old → IsSettled documents self.new) }
         ensures grows { OnOk result (Grows stale.old stale.new) }
-        ensures told { OnOk result ((documents : List ADocument) → Stands documents self.old → (path : List ℕ) → has_key stale.new path ≡ false → TellsSame self.old self.new path) }
+        ensures told { OnOk result ((documents : List ADocument) → Stands documents self.old → (path : List ℕ) → has_key stale.new path ≡ false → RoomTellsSame self.old self.new path) }
     {
         self.add_shown(alloc, stale)?;
         self.find(alloc, disk, folders, paths)?;
@@ -236,7 +236,7 @@ impl Room {
         ensures folder { OnOk result (self.new.folder ≡ self.old.folder) }
         ensures settled { OnOk result ((documents : List ADocument) → Stands documents self.old → IsSettled documents self.new) }
         ensures grows { OnOk result (Grows stale.old stale.new) }
-        ensures told { OnOk result ((documents : List ADocument) → Stands documents self.old → (path : List ℕ) → has_key stale.new path ≡ false → TellsSame self.old self.new path) }
+        ensures told { OnOk result ((documents : List ADocument) → Stands documents self.old → (path : List ℕ) → has_key stale.new path ≡ false → RoomTellsSame self.old self.new path) }
     {
         let now = told(alloc, &mut self.board)?;
         let before = mem::replace(&mut self.told, now);
