@@ -17,6 +17,7 @@ use Rattle.occ_editor.specs.Rooms.{is_vacant}
 use Rattle.occ_editor.specs.declared.editor.Published.{Published}
 use Rattle.occ_editor.specs.declared.room.Room.{Room}
 use Rattle.occ_editor.specs.inside.Shown.{AllAt, IsIn, Grows, HasFile, IsQuiet, RoomTellsSame, AllTellBut, has_key, text_named}
+use Rattle.occ_files.proofs.Kept.{or_true}
 use Rattle.occ_files.specs.Gathering.{are_apart, has_name}
 use Rattle.occ_files.specs.declared.gathering.Text.{Text}
 use Rattle.occ_files.specs.declared.refusal.Refusal.{Refusal}
@@ -25,15 +26,8 @@ use Rattle.occ_files_check.specs.Told.{diags_in, heads, path_of}
 use Rattle.occ_forms.specs.Prepared.{Prepared}
 use Rattle.occ_messages.specs.Located.{Head, located}
 
-same_bytes : (a b : List ℕ) → bytes_eq a b ≡ true → a ≡ b
-same_bytes a b h = (bytes_eq-Decides a b).0 h
-
 is_itself : (a : List ℕ) → bytes_eq a a ≡ true
 is_itself a = (bytes_eq-Decides a a).1 refl
-
-or_true : (b : Bool) → b || true ≡ true
-or_true true = refl
-or_true false = refl
 
 -- ---- what is in a list
 
@@ -92,7 +86,7 @@ told_cases texts told path head h = by (text_at texts path) refl h where
   by (Some t) e k =
       let found = map_cases (λ (d : Diag). located (path_of texts d.file) d) (diags_in t.name told) head k in
       let in_told = filter_cases (λ (d : Diag). bytes_eq d.file t.name) told found.0 found.1 in
-      (found.0, in_told.0, (t, e, same_bytes found.0.file t.name in_told.1), found.2)
+      (found.0, in_told.0, (t, e, (bytes_eq-Decides found.0.file t.name).0 in_told.1), found.2)
 
 pub told_there : (texts : List Text) (told : List Diag) (path : List ℕ) (head : Head) (d : Diag) → Contains told d → IsIn texts path d → located (path_of texts d.file) d ≡ head → Contains (heads_of texts told (text_at texts path)) head
 told_there texts told path head d h at is =
@@ -137,7 +131,7 @@ at_name (u ∷ us) path t apart e = by (bytes_eq (string_bytes u.path) path) e (
   by true k true f rest = k
   by true k false f rest = let same : u ≡ t = cc in let yes : bytes_eq u.name t.name ≡ true = ap (λ (v : Text). bytes_eq v.name t.name) same ∙ is_itself t.name in absurd cc
   by false k true f rest =
-      let none : has_name us t.name ≡ false = ap (has_name us) (sym (same_bytes u.name t.name f)) ∙ (apart_rest u us apart).0 in
+      let none : has_name us t.name ≡ false = ap (has_name us) (sym ((bytes_eq-Decides u.name t.name).0 f)) ∙ (apart_rest u us apart).0 in
       let some : has_name us t.name ≡ true = has_it us path t k in
       absurd cc
   by false k false f rest = rest k
@@ -146,7 +140,7 @@ pub at_path : (ts : List Text) (path : List ℕ) (t : Text) → text_at ts path 
 at_path [] path t e = absurd cc
 at_path (u ∷ us) path t e = by (bytes_eq (string_bytes u.path) path) refl e (at_path us path t) where
   by : (b : Bool) → bytes_eq (string_bytes u.path) path ≡ b → (if b then Some u else text_at us path) ≡ Some t → (text_at us path ≡ Some t → string_bytes t.path ≡ path) → string_bytes t.path ≡ path
-  by true f k rest = let same : u ≡ t = cc in ap (λ (v : Text). string_bytes v.path) (sym same) ∙ same_bytes (string_bytes u.path) path f
+  by true f k rest = let same : u ≡ t = cc in ap (λ (v : Text). string_bytes v.path) (sym same) ∙ (bytes_eq-Decides (string_bytes u.path) path).0 f
   by false f k rest = rest k
 
 -- ---- paths
@@ -173,7 +167,7 @@ any_insert path (x ∷ xs) k = by (slice_cmp nat_cmp (string_bytes k) (string_by
   by ordering.Less e more = refl
   by ordering.Equal e more =
       let tied : bytes_eq (string_bytes k) (string_bytes x) ≡ true = sym (is_eq-slice_cmp (string_bytes k) (string_bytes x)) ∙ ap is_eq e in
-      let same : q k ≡ q x = ap (λ (bs : List ℕ). bytes_eq bs path) (same_bytes (string_bytes k) (string_bytes x) tied) in
+      let same : q k ≡ q x = ap (λ (bs : List ℕ). bytes_eq bs path) ((bytes_eq-Decides (string_bytes k) (string_bytes x)).0 tied) in
       twice (q x) (list_any q xs) ∙ ap (λ (b : Bool). b || (q x || list_any q xs)) (sym same)
   by ordering.Greater e more = ap (λ (b : Bool). q x || b) more ∙ swapped (q x) (q k) (list_any q xs)
 
@@ -417,7 +411,7 @@ pub next_refused : (r : Refusal) (rs : List Refusal) (before now : BTreeSet (Str
 next_refused r rs before now k path same e none rest = by (bytes_eq (string_bytes r.path) path) refl where
   by : (b : Bool) → bytes_eq (string_bytes r.path) path ≡ b → (if b then Some r.why else refusal_at rs path) ≡ None
   by true h =
-      let is : string_bytes k ≡ path = same ∙ same_bytes (string_bytes r.path) path h in
+      let is : string_bytes k ≡ path = same ∙ (bytes_eq-Decides (string_bytes r.path) path).0 h in
       let some : has_key now path ≡ true = ap (has_key now) (sym is) ∙ has_insert before now k e in
       absurd cc
   by false h = rest
