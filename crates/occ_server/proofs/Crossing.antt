@@ -108,17 +108,8 @@ bool_send = search sendable depth 20
 bool_sync : IsSync bool-field.row
 bool_sync = search sendable depth 20
 
-bounds_field_send : IsSend bounds.the_field.row
-bounds_field_send = tree.send-Bounds boxed.the_send primitive_word_cross.the_field_send channel_words_cross.the_field_send items.the_send data_base_cross.the_field_send name_send run_operator_cross.the_field_send pair_operator_cross.the_field_send monadic_operator_cross.the_field_send extreme_cross.the_field_send literal_cross.the_field_send bool_send
-
-bounds_send : IsSend bounds.the_row
-bounds_send = search (sendable, bounds_field_send) depth 10
-
 builtin_field_send : IsSend builtin.the_field.row
 builtin_field_send = tree.send-Builtin boxed.the_send primitive_word_cross.the_field_send channel_words_cross.the_field_send items.the_send data_base_cross.the_field_send name_send run_operator_cross.the_field_send pair_operator_cross.the_field_send monadic_operator_cross.the_field_send extreme_cross.the_field_send literal_cross.the_field_send bool_send
-
-builtin_send : IsSend builtin.the_row
-builtin_send = search (sendable, builtin_field_send) depth 10
 
 dimension_field_send : IsSend dimension.the_field.row
 dimension_field_send = tree.send-Dimension boxed.the_send primitive_word_cross.the_field_send channel_words_cross.the_field_send items.the_send data_base_cross.the_field_send name_send run_operator_cross.the_field_send pair_operator_cross.the_field_send monadic_operator_cross.the_field_send extreme_cross.the_field_send literal_cross.the_field_send bool_send
@@ -138,35 +129,14 @@ expr_field_send = tree.send-Expr boxed.the_send primitive_word_cross.the_field_s
 expr_send : IsSend expr.the_row
 expr_send = search (sendable, expr_field_send) depth 10
 
-named_operand_field_send : IsSend named_operand.the_field.row
-named_operand_field_send = tree.send-NamedOperand boxed.the_send primitive_word_cross.the_field_send channel_words_cross.the_field_send items.the_send data_base_cross.the_field_send name_send run_operator_cross.the_field_send pair_operator_cross.the_field_send monadic_operator_cross.the_field_send extreme_cross.the_field_send literal_cross.the_field_send bool_send
-
-named_operand_send : IsSend named_operand.the_row
-named_operand_send = search (sendable, named_operand_field_send) depth 10
-
-operand_field_send : IsSend operand.the_field.row
-operand_field_send = tree.send-Operand boxed.the_send primitive_word_cross.the_field_send channel_words_cross.the_field_send items.the_send data_base_cross.the_field_send name_send run_operator_cross.the_field_send pair_operator_cross.the_field_send monadic_operator_cross.the_field_send extreme_cross.the_field_send literal_cross.the_field_send bool_send
-
-operand_send : IsSend operand.the_row
-operand_send = search (sendable, operand_field_send) depth 10
-
 type_form_field_send : IsSend type_form.the_field.row
 type_form_field_send = tree.send-TypeForm boxed.the_send primitive_word_cross.the_field_send channel_words_cross.the_field_send items.the_send data_base_cross.the_field_send name_send run_operator_cross.the_field_send pair_operator_cross.the_field_send monadic_operator_cross.the_field_send extreme_cross.the_field_send literal_cross.the_field_send bool_send
 
 type_form_send : IsSend type_form.the_row
 type_form_send = search (sendable, type_form_field_send) depth 10
 
-bounds_field_sync : IsSync bounds.the_field.row
-bounds_field_sync = tree.sync-Bounds boxed.the_sync primitive_word_cross.the_field_sync channel_words_cross.the_field_sync items.the_sync data_base_cross.the_field_sync name_sync run_operator_cross.the_field_sync pair_operator_cross.the_field_sync monadic_operator_cross.the_field_sync extreme_cross.the_field_sync literal_cross.the_field_sync bool_sync
-
-bounds_sync : IsSync bounds.the_row
-bounds_sync = search (sendable, bounds_field_sync) depth 10
-
 builtin_field_sync : IsSync builtin.the_field.row
 builtin_field_sync = tree.sync-Builtin boxed.the_sync primitive_word_cross.the_field_sync channel_words_cross.the_field_sync items.the_sync data_base_cross.the_field_sync name_sync run_operator_cross.the_field_sync pair_operator_cross.the_field_sync monadic_operator_cross.the_field_sync extreme_cross.the_field_sync literal_cross.the_field_sync bool_sync
-
-builtin_sync : IsSync builtin.the_row
-builtin_sync = search (sendable, builtin_field_sync) depth 10
 
 dimension_field_sync : IsSync dimension.the_field.row
 dimension_field_sync = tree.sync-Dimension boxed.the_sync primitive_word_cross.the_field_sync channel_words_cross.the_field_sync items.the_sync data_base_cross.the_field_sync name_sync run_operator_cross.the_field_sync pair_operator_cross.the_field_sync monadic_operator_cross.the_field_sync extreme_cross.the_field_sync literal_cross.the_field_sync bool_sync
@@ -186,18 +156,6 @@ expr_field_sync = tree.sync-Expr boxed.the_sync primitive_word_cross.the_field_s
 expr_sync : IsSync expr.the_row
 expr_sync = search (sendable, expr_field_sync) depth 10
 
-named_operand_field_sync : IsSync named_operand.the_field.row
-named_operand_field_sync = tree.sync-NamedOperand boxed.the_sync primitive_word_cross.the_field_sync channel_words_cross.the_field_sync items.the_sync data_base_cross.the_field_sync name_sync run_operator_cross.the_field_sync pair_operator_cross.the_field_sync monadic_operator_cross.the_field_sync extreme_cross.the_field_sync literal_cross.the_field_sync bool_sync
-
-named_operand_sync : IsSync named_operand.the_row
-named_operand_sync = search (sendable, named_operand_field_sync) depth 10
-
-operand_field_sync : IsSync operand.the_field.row
-operand_field_sync = tree.sync-Operand boxed.the_sync primitive_word_cross.the_field_sync channel_words_cross.the_field_sync items.the_sync data_base_cross.the_field_sync name_sync run_operator_cross.the_field_sync pair_operator_cross.the_field_sync monadic_operator_cross.the_field_sync extreme_cross.the_field_sync literal_cross.the_field_sync bool_sync
-
-operand_sync : IsSync operand.the_row
-operand_sync = search (sendable, operand_field_sync) depth 10
-
 type_form_field_sync : IsSync type_form.the_field.row
 type_form_field_sync = tree.sync-TypeForm boxed.the_sync primitive_word_cross.the_field_sync channel_words_cross.the_field_sync items.the_sync data_base_cross.the_field_sync name_sync run_operator_cross.the_field_sync pair_operator_cross.the_field_sync monadic_operator_cross.the_field_sync extreme_cross.the_field_sync literal_cross.the_field_sync bool_sync
 
@@ -207,14 +165,8 @@ type_form_sync = search (sendable, type_form_field_sync) depth 10
 data_form_field_send : IsSend data_form.the_field.row
 data_form_field_send = search (sendable, items.the_send, dimension_send, data_base_cross.the_field_send) depth 30
 
-data_form_send : IsSend data_form.the_row
-data_form_send = search (sendable, data_form_field_send) depth 10
-
 data_form_field_sync : IsSync data_form.the_field.row
 data_form_field_sync = search (sendable, items.the_sync, dimension_sync, data_base_cross.the_field_sync) depth 30
-
-data_form_sync : IsSync data_form.the_row
-data_form_sync = search (sendable, data_form_field_sync) depth 10
 
 item_form_field_send : IsSend item_form.the_field.row
 item_form_field_send = search (sendable, data_form_field_send) depth 30
@@ -255,50 +207,26 @@ formal_group_sync = search (sendable, formal_group_field_sync) depth 10
 function_head_field_send : IsSend function_head.the_field.row
 function_head_field_send = search (sendable, items.the_send, Vec-send, type_form_field_send, type_form_send, name_send, value_group_send) depth 30
 
-function_head_send : IsSend function_head.the_row
-function_head_send = search (sendable, function_head_field_send) depth 10
-
 function_head_field_sync : IsSync function_head.the_field.row
 function_head_field_sync = search (sendable, items.the_sync, Vec-sync, type_form_field_sync, type_form_sync, name_sync, value_group_sync) depth 30
-
-function_head_sync : IsSync function_head.the_row
-function_head_sync = search (sendable, function_head_field_sync) depth 10
 
 specification_field_send : IsSend specification.the_field.row
 specification_field_send = search (sendable, items.the_send, Vec-send, type_form_field_send, type_form_send, name_send, expr_field_send, expr_send, element_field_send, item_form_field_send, item_form_send, function_head_field_send) depth 30
 
-specification_send : IsSend specification.the_row
-specification_send = search (sendable, specification_field_send) depth 10
-
 specification_field_sync : IsSync specification.the_field.row
 specification_field_sync = search (sendable, items.the_sync, Vec-sync, type_form_field_sync, type_form_sync, name_sync, expr_field_sync, expr_sync, element_field_sync, item_form_field_sync, item_form_sync, function_head_field_sync) depth 30
-
-specification_sync : IsSync specification.the_row
-specification_sync = search (sendable, specification_field_sync) depth 10
 
 head_field_send : IsSend head.the_field.row
 head_field_send = search (sendable, items.the_send, name_send, formal_group_send, function_head_field_send) depth 30
 
-head_send : IsSend head.the_row
-head_send = search (sendable, head_field_send) depth 10
-
 head_field_sync : IsSync head.the_field.row
 head_field_sync = search (sendable, items.the_sync, name_sync, formal_group_sync, function_head_field_sync) depth 30
-
-head_sync : IsSync head.the_row
-head_sync = search (sendable, head_field_sync) depth 10
 
 specified_field_send : IsSend specified.the_field.row
 specified_field_send = search (sendable, specification_field_send, head_field_send) depth 30
 
-specified_send : IsSend specified.the_row
-specified_send = search (sendable, specified_field_send) depth 10
-
 specified_field_sync : IsSync specified.the_field.row
 specified_field_sync = search (sendable, specification_field_sync, head_field_sync) depth 30
-
-specified_sync : IsSync specified.the_row
-specified_sync = search (sendable, specified_field_sync) depth 10
 
 output_item_field_send : IsSend output_item.the_field.row
 output_item_field_send = search (sendable, expr_field_send) depth 30
@@ -327,26 +255,14 @@ input_item_sync = search (sendable, input_item_field_sync) depth 10
 input_field_send : IsSend input.the_field.row
 input_field_send = search (sendable, items.the_send, Vec-send, element_field_send, input_item_field_send, input_item_send, expr_field_send, name_send) depth 30
 
-input_send : IsSend input.the_row
-input_send = search (sendable, input_field_send) depth 10
-
 input_field_sync : IsSync input.the_field.row
 input_field_sync = search (sendable, items.the_sync, Vec-sync, element_field_sync, input_item_field_sync, input_item_sync, expr_field_sync, name_sync) depth 30
-
-input_sync : IsSync input.the_row
-input_sync = search (sendable, input_field_sync) depth 10
 
 action_field_send : IsSend action.the_field.row
 action_field_send = search (sendable, items.the_send, Vec-send, element_field_send, element_send, expr_field_send, expr_send, output_item_field_send, output_item_send, input_field_send) depth 30
 
-action_send : IsSend action.the_row
-action_send = search (sendable, action_field_send) depth 10
-
 action_field_sync : IsSync action.the_field.row
 action_field_sync = search (sendable, items.the_sync, Vec-sync, element_field_sync, element_sync, expr_field_sync, expr_sync, output_item_field_sync, output_item_sync, input_field_sync) depth 30
-
-action_sync : IsSync action.the_row
-action_sync = search (sendable, action_field_sync) depth 10
 
 replicator_field_send : IsSend replicator.the_field.row
 replicator_field_send = search (sendable, name_send, expr_field_send) depth 30
@@ -363,38 +279,20 @@ replicator_sync = search (sendable, replicator_field_sync) depth 10
 construct_field_send : IsSend construct.the_field.row
 construct_field_send = search (sendable, construct_kind_cross.the_field_send, replicator_send, expr_field_send, element_field_send) depth 30
 
-construct_send : IsSend construct.the_row
-construct_send = search (sendable, construct_field_send) depth 10
-
 construct_field_sync : IsSync construct.the_field.row
 construct_field_sync = search (sendable, construct_kind_cross.the_field_sync, replicator_sync, expr_field_sync, element_field_sync) depth 30
-
-construct_sync : IsSync construct.the_row
-construct_sync = search (sendable, construct_field_sync) depth 10
 
 guarded_field_send : IsSend guarded.the_field.row
 guarded_field_send = search (sendable, input_field_send, element_field_send) depth 30
 
-guarded_send : IsSend guarded.the_row
-guarded_send = search (sendable, guarded_field_send) depth 10
-
 guarded_field_sync : IsSync guarded.the_field.row
 guarded_field_sync = search (sendable, input_field_sync, element_field_sync) depth 30
-
-guarded_sync : IsSync guarded.the_row
-guarded_sync = search (sendable, guarded_field_sync) depth 10
 
 part_field_send : IsSend part.the_field.row
 part_field_send = search (sendable, items.the_send, Vec-send, expr_field_send, expr_send, guarded_field_send) depth 30
 
-part_send : IsSend part.the_row
-part_send = search (sendable, part_field_send) depth 10
-
 part_field_sync : IsSync part.the_field.row
 part_field_sync = search (sendable, items.the_sync, Vec-sync, expr_field_sync, expr_sync, guarded_field_sync) depth 30
-
-part_sync : IsSync part.the_row
-part_sync = search (sendable, part_field_sync) depth 10
 
 detail_field_send : IsSend detail.the_field.row
 detail_field_send = search (sendable, items.the_send, element_field_send, dimension_field_send, dimension_send, name_send, builtin_field_send, data_form_field_send) depth 30
@@ -423,14 +321,8 @@ form_sync = search (sendable, form_field_sync) depth 10
 line_body_field_send : IsSend line_body.the_field.row
 line_body_field_send = search (sendable, shared.the_send, form_send, form_sync, file_name_cross.the_send, code_cross.the_field_send) depth 30
 
-line_body_send : IsSend line_body.the_row
-line_body_send = search (sendable, line_body_field_send) depth 10
-
 line_body_field_sync : IsSync line_body.the_field.row
 line_body_field_sync = search (sendable, shared.the_sync, form_sync, form_send, file_name_cross.the_sync, code_cross.the_field_sync) depth 30
-
-line_body_sync : IsSync line_body.the_row
-line_body_sync = search (sendable, line_body_field_sync) depth 10
 
 source_line_field_send : IsSend source_line.the_field.row
 source_line_field_send = search (sendable, line_body_field_send) depth 30
@@ -485,14 +377,8 @@ shared_lines_sync = shared.the_sync (items_of.the_row source_line.the_row) sourc
 source_field_send : IsSend source.the_field.row
 source_field_send = search (sendable, bytes_send, shared_lines_send, shared_names_send) depth 30
 
-source_send : IsSend source.the_row
-source_send = search (sendable, source_field_send) depth 10
-
 source_field_sync : IsSync source.the_field.row
 source_field_sync = search (sendable, bytes_sync, shared_lines_sync, shared_names_sync) depth 30
-
-source_sync : IsSync source.the_row
-source_sync = search (sendable, source_field_sync) depth 10
 
 read_field_send : IsSend read.the_field.row
 read_field_send = search (sendable, shared.the_send, file_name_cross.the_send, source_field_send, source_field_sync) depth 30
@@ -500,23 +386,11 @@ read_field_send = search (sendable, shared.the_send, file_name_cross.the_send, s
 read_send : IsSend read.the_row
 read_send = search (sendable, read_field_send) depth 10
 
-read_field_sync : IsSync read.the_field.row
-read_field_sync = search (sendable, shared.the_sync, file_name_cross.the_sync, source_field_sync, source_field_send) depth 30
-
-read_sync : IsSync read.the_row
-read_sync = search (sendable, read_field_sync) depth 10
-
 expanded_body_field_send : IsSend expanded_body.the_field.row
 expanded_body_field_send = search (sendable, shared.the_send, shared_names_send, form_send, form_sync, code_cross.the_field_send) depth 30
 
-expanded_body_send : IsSend expanded_body.the_row
-expanded_body_send = search (sendable, expanded_body_field_send) depth 10
-
 expanded_body_field_sync : IsSync expanded_body.the_field.row
 expanded_body_field_sync = search (sendable, shared.the_sync, shared_names_sync, form_sync, form_send, code_cross.the_field_sync) depth 30
-
-expanded_body_sync : IsSync expanded_body.the_row
-expanded_body_sync = search (sendable, expanded_body_field_sync) depth 10
 
 expanded_line_field_send : IsSend expanded_line.the_field.row
 expanded_line_field_send = search (sendable, file_name_cross.the_send, expanded_body_field_send) depth 30
@@ -533,26 +407,14 @@ expanded_line_sync = search (sendable, expanded_line_field_sync) depth 10
 expanded_field_send : IsSend expanded.the_field.row
 expanded_field_send = search (sendable, items.the_send, Vec-send, file_name_cross.the_send, expanded_line_send, diag_cross.the_send) depth 30
 
-expanded_send : IsSend expanded.the_row
-expanded_send = search (sendable, expanded_field_send) depth 10
-
 expanded_field_sync : IsSync expanded.the_field.row
 expanded_field_sync = search (sendable, items.the_sync, Vec-sync, file_name_cross.the_sync, expanded_line_sync, diag_cross.the_sync) depth 30
-
-expanded_sync : IsSync expanded.the_row
-expanded_sync = search (sendable, expanded_field_sync) depth 10
 
 occ_type_send : IsSend occ_type.the_row
 occ_type_send = search (sendable, types.crosses_both, shared.the_send, shared.the_sync, items.the_send, items.the_sync, name_cross.the_send, name_cross.the_sync) depth 30
 
-occ_type_field_send : IsSend occ_type.the_field.row
-occ_type_field_send = search (sendable, types.crosses_both, shared.the_send, shared.the_sync, items.the_send, items.the_sync, name_cross.the_send, name_cross.the_sync) depth 30
-
 occ_type_sync : IsSync occ_type.the_row
 occ_type_sync = search (sendable, types.crosses_both, shared.the_send, shared.the_sync, items.the_send, items.the_sync, name_cross.the_send, name_cross.the_sync) depth 30
-
-occ_type_field_sync : IsSync occ_type.the_field.row
-occ_type_field_sync = search (sendable, types.crosses_both, shared.the_send, shared.the_sync, items.the_send, items.the_sync, name_cross.the_send, name_cross.the_sync) depth 30
 
 formal_field_send : IsSend formal.the_field.row
 formal_field_send = search (sendable, shared.the_send, occ_type_send, occ_type_sync, passing_cross.the_field_send) depth 30
@@ -593,38 +455,14 @@ interface_sync = search (sendable, interface_field_sync) depth 10
 used_field_send : IsSend used.the_field.row
 used_field_send = search (sendable, shared.the_send, interface_send, interface_sync) depth 30
 
-used_send : IsSend used.the_row
-used_send = search (sendable, used_field_send) depth 10
-
-used_field_sync : IsSync used.the_field.row
-used_field_sync = search (sendable, shared.the_sync, interface_sync, interface_send) depth 30
-
-used_sync : IsSync used.the_row
-used_sync = search (sendable, used_field_sync) depth 10
-
 used_unit_field_send : IsSend used_unit.the_field.row
 used_unit_field_send = search (sendable, file_name_cross.the_send, used_field_send) depth 30
 
 used_unit_send : IsSend used_unit.the_row
 used_unit_send = search (sendable, used_unit_field_send) depth 10
 
-used_unit_field_sync : IsSync used_unit.the_field.row
-used_unit_field_sync = search (sendable, file_name_cross.the_sync, used_field_sync) depth 30
-
-used_unit_sync : IsSync used_unit.the_row
-used_unit_sync = search (sendable, used_unit_field_sync) depth 10
-
 job_field_send : IsSend job.the_field.row
 job_field_send = search (sendable, items.the_send, file_name_cross.the_send, read_send, used_unit_send) depth 30
-
-job_send : IsSend job.the_row
-job_send = search (sendable, job_field_send) depth 10
-
-job_field_sync : IsSync job.the_field.row
-job_field_sync = search (sendable, items.the_sync, file_name_cross.the_sync, read_sync, used_unit_sync) depth 30
-
-job_sync : IsSync job.the_row
-job_sync = search (sendable, job_field_sync) depth 10
 
 diags_send : IsSend (items_of.the_row diag_of.the_row)
 diags_send = items.the_send diag_of.the_row diag_cross.the_send
@@ -638,20 +476,8 @@ shared_diags_send = shared.the_send (items_of.the_row diag_of.the_row) diags_sen
 outcome_field_send : IsSend outcome.the_field.row
 outcome_field_send = search (sendable, shared.the_send, job_field_send, shared_diags_send, interface_send, interface_sync) depth 30
 
-outcome_send : IsSend outcome.the_row
-outcome_send = search (sendable, outcome_field_send) depth 10
-
 edit_field_send : IsSend edit.the_field.row
 edit_field_send = search (sendable, shared.the_send, file_name_cross.the_send, source_field_send, source_field_sync) depth 30
-
-edit_send : IsSend edit.the_row
-edit_send = search (sendable, edit_field_send) depth 10
-
-edit_field_sync : IsSync edit.the_field.row
-edit_field_sync = search (sendable, shared.the_sync, file_name_cross.the_sync, source_field_sync, source_field_send) depth 30
-
-edit_sync : IsSync edit.the_row
-edit_sync = search (sendable, edit_field_sync) depth 10
 
 entry_field_send : IsSend entry.the_field.row
 entry_field_send = search (sendable, edit_field_send) depth 30
@@ -659,23 +485,8 @@ entry_field_send = search (sendable, edit_field_send) depth 30
 entry_send : IsSend entry.the_row
 entry_send = search (sendable, entry_field_send) depth 10
 
-entry_field_sync : IsSync entry.the_field.row
-entry_field_sync = search (sendable, edit_field_sync) depth 30
-
-entry_sync : IsSync entry.the_row
-entry_sync = search (sendable, entry_field_sync) depth 10
-
 project_field_send : IsSend project.the_field.row
 project_field_send = search (sendable, Vec-send, read_send) depth 30
-
-project_send : IsSend project.the_row
-project_send = search (sendable, project_field_send) depth 10
-
-project_field_sync : IsSync project.the_field.row
-project_field_sync = search (sendable, Vec-sync, read_sync) depth 30
-
-project_sync : IsSync project.the_row
-project_sync = search (sendable, project_field_sync) depth 10
 
 facts_field_send : IsSend facts.the_field.row
 facts_field_send = search (sendable, items.the_send, shared.the_send, Vec-send, expanded_field_send, expanded_field_sync, file_name_cross.the_send) depth 30
@@ -701,32 +512,11 @@ row_send = items.the_send usize number_send
 numbers_send : IsSend (items_of.the_row (items_of.the_row usize))
 numbers_send = items.the_send (items_of.the_row usize) row_send
 
-shared_facts_sync : IsSync (shared_of.the_row facts.the_row)
-shared_facts_sync = shared.the_sync facts.the_row facts_send facts_sync
-
-number_sync : IsSync usize
-number_sync = search sendable depth 10
-
-row_sync : IsSync (items_of.the_row usize)
-row_sync = items.the_sync usize number_sync
-
-numbers_sync : IsSync (items_of.the_row (items_of.the_row usize))
-numbers_sync = items.the_sync (items_of.the_row usize) row_sync
-
 links_field_send : IsSend links.the_field.row
 links_field_send = search (sendable, Vec-send, row_send, number_send) depth 30
 
-links_field_sync : IsSync links.the_field.row
-links_field_sync = search (sendable, Vec-sync, row_sync, number_sync) depth 30
-
 graph_field_send : IsSend graph.the_field.row
 graph_field_send = search (sendable, Vec-send, project_field_send, shared_facts_send, links_field_send, numbers_send, row_send) depth 30
-
-graph_field_sync : IsSync graph.the_field.row
-graph_field_sync = search (sendable, Vec-sync, project_field_sync, shared_facts_sync, links_field_sync, numbers_sync, row_sync) depth 30
-
-graph_send : IsSend graph.the_row
-graph_send = search (sendable, graph_field_send) depth 10
 
 cached_field_send : IsSend cached.the_field.row
 cached_field_send = search (sendable, Vec-send, BTreeMap-send, outcome_field_send, file_name_cross.the_send) depth 30
@@ -737,18 +527,12 @@ flags_field_send = search (sendable, items.the_send) depth 30
 base_field_send : IsSend base.the_field.row
 base_field_send = search (sendable, items.the_send, read_send) depth 30
 
-base_send : IsSend base.the_row
-base_send = search (sendable, base_field_send) depth 10
-
 -- the last fields of a board: its flags and counts
 counts_send : IsSend flags.the_field.row × (IsSend flags.the_field.row × (IsSend usize × (IsSend usize × (IsSend usize × Unit {0}))))
 counts_send = (flags_field_send, (flags_field_send, (number_send, (number_send, (number_send, tt)))))
 
 board_field_send : IsSend board.the_field.row
 board_field_send = search (sendable, base_field_send, Vec-send, entry_send, cached_field_send, job_field_send, graph_field_send, counts_send) depth 30
-
-board_send : IsSend board.the_row
-board_send = search (sendable, board_field_send) depth 10
 
 locked_field_send : IsSend locked.the_field.row
 locked_field_send = search (sendable, board_field_send) depth 20
@@ -777,5 +561,3 @@ receipt_send = search (sendable, receipt_field_send) depth 10
 pub snapshot_field_send : IsSend snapshot.the_field.row
 snapshot_field_send = search (sendable, base_field_send, items.the_send, entry_send, row_cross.the_send) depth 30
 
-snapshot_send : IsSend snapshot.the_row
-snapshot_send = search (sendable, snapshot_field_send) depth 10
