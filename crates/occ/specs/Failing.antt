@@ -1,5 +1,5 @@
 -- What makes the program fail, and its exit status.
-use Rattle.std.specs.Prelude.{ℕ, Bool, true, false, if◌then◌else◌}
+use Rattle.std.specs.Prelude.{◌≤◌, ℕ, Bool, true, false, if◌then◌else◌}
 use Rattle.occ_base.specs.declared.code.Code.{Code}
 use Rattle.occ_base.specs.declared.code.Code.TheVariants.{U1, U2, U3, A1, A2, A3, A4}
 use Rattle.occ_base.specs.declared.code.Grade.{Grade}
@@ -24,3 +24,7 @@ fails race_free Check code = if race_free then is_race code else false
 -- 2 where something was not read, else 1 where a diagnostic fails, else 0
 abbrev pub status_of : Bool → Bool → ℕ
 status_of trouble fails = if trouble then 2 else if fails then 1 else 0
+
+-- so it is one of these three
+abbrev pub IsStatus : ℕ → Type 0
+IsStatus status = status ≤ 2

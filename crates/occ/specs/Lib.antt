@@ -1,1 +1,3 @@
 pub mod Failing
+pub mod Printing
+pub mod Reading

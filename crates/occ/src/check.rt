@@ -1,4 +1,7 @@
 //! Checks files and prints what is wrong with them.
+ghost use Rattle.occ.specs.Failing.{IsStatus};
+ghost use Rattle.std.specs.Prelude.{IfOk};
+
 use super::disk::{Machine, read_text};
 use super::failing::{does_fail, status};
 use super::printing::print_all;
@@ -25,8 +28,11 @@ pub struct Findings {
     is_trouble: bool,
 }
 
-/// Checks what is asked for, prints what is wrong, and gives the exit status.
-pub fn check(rt: &HostRuntime, asked: &Checking) -> io::Result<u8> {
+/// Checks what is asked for, prints what is wrong, and gives the exit status. Files and devices are in no contract: what is told
+/// of texts is promised by `check_texts`, what is printed by `printed`, and when the program fails by `status`.
+pub fn check(rt: &HostRuntime, asked: &Checking) -> io::Result<u8>
+    ensures { IfOk result IsStatus }
+{
     let alloc = rt.alloc();
     let paths = paths(alloc, asked)?;
     let machine = machine(rt, asked)?;

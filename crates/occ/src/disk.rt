@@ -1,5 +1,6 @@
 //! The files of the machine, and standard input as one of them.
-ghost use Rattle.std.specs.Prelude.{None};
+ghost use Rattle.occ.specs.Reading.{read_of};
+ghost use Rattle.std.specs.Prelude.{◌≡◌, IfOk, IfSome, None};
 
 use occ_files::{Disk, DiskFault, Seen};
 use std::alloc::Global;
@@ -30,8 +31,11 @@ fn is_absence(error: &io::Error) -> bool {
     matches!(error.kind(), ErrorKind::NotFound | ErrorKind::NotADirectory)
 }
 
-/// All bytes of a text, or one more than any may have.
-pub fn read_text<R: Read + Drop>(alloc: Global, reader: R) -> io::Result<Vec<u8>> {
+/// All bytes of a text, or one more than any may have. Which these are is said of a reader whose bytes are known. A file of the
+/// machine is none.
+pub fn read_text<R: Read + Drop>(alloc: Global, reader: R) -> io::Result<Vec<u8>>
+    ensures { IfOk result (λ bytes. IfSome (R.remaining reader) (λ all. bytes.items ≡ read_of all)) }
+{
     let mut bytes = Vec::new(alloc);
     reader.take(MOST_BYTES + 1).read_to_end(&mut bytes)?;
     Ok(bytes)

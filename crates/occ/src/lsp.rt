@@ -1,4 +1,7 @@
 //! The server for editors, over standard input and output.
+ghost use Rattle.occ.specs.Failing.{IsStatus};
+ghost use Rattle.std.specs.Prelude.{◌≤◌, IfOk};
+
 use super::disk::Machine;
 use super::failing::TROUBLE;
 use occ_editor_edits::{FrameFault, read_frame};
@@ -36,8 +39,10 @@ impl From<std::alloc::AllocError> for Broken {
     }
 }
 
-/// Serves an editor until it ends that, and gives the exit status.
-pub fn lsp(rt: &HostRuntime, folders: &[String]) -> io::Result<u8> {
+/// Serves an editor until it ends that, and gives the exit status. What is sent is promised by the calls of `Server`.
+pub fn lsp(rt: &HostRuntime, folders: &[String]) -> io::Result<u8>
+    ensures { IfOk result IsStatus }
+{
     let alloc = rt.alloc();
     let mut input = BufReader::new(alloc, rt.stdin())?;
     let disk = Machine { rt, input: None };
@@ -82,7 +87,9 @@ fn serve<R: Read, P: Print>(
     input: &mut BufReader<R>,
     output: &P,
     server: &mut Server<Machine<'_>>,
-) -> Result<u8, Broken> {
+) -> Result<u8, Broken>
+    ensures { IfOk result (λ status. status ≤ 1) }
+{
     for _ in 0..u64::MAX {
         let next = match read_frame(alloc, input, MOST) {
             Ok(Some(message)) => server.take(message.as_slice())?,

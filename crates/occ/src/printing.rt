@@ -1,9 +1,13 @@
 //! Prints what was found, in the format that is asked for.
+ghost use Rattle.occ.specs.Printing.{IsEnd, IsPrinted, IsWritten};
+ghost use Rattle.std.specs.Prelude.{IfOk};
+ghost use Rattle.std.specs.String.{string_bytes};
+
 use super::check::Findings;
 use occ_files_words::Checking;
 use occ_messages::{Format, Hiding, Message, hidden_by};
 use occ_messages_formats::{
-    Extent, count_line, github_text, json_text, long_text, sarif_text, short_text,
+    Extent, Tally, count_line, github_text, json_text, long_text, sarif_text, short_text,
 };
 use std::alloc::{AllocError, Global};
 use std::io;
@@ -19,30 +23,61 @@ const TYPES_HIDE: &str =
 /// How many messages before one are looked at for the same words.
 const REPEAT_LIMIT: usize = 32;
 
-/// Prints all messages, and in words for people what there is besides.
+/// Prints all messages, and in words for people what there is besides. What a device was given is in no contract: this gives it
+/// what `printed` gives.
 pub fn print_all(rt: &HostRuntime, asked: &Checking, findings: &Findings) -> io::Result<()> {
-    let alloc = rt.alloc();
     let messages = findings.messages.as_slice();
-    let text = match asked.format {
-        Format::Text => long_texts(alloc, messages, asked.quiet)?,
-        Format::Short => short_text(alloc, messages)?,
-        Format::Github => github_text(alloc, messages)?,
-        Format::Json => json_text(alloc, messages)?,
-        Format::Sarif => sarif_text(alloc, messages)?,
-    };
+    let text = printed(rt.alloc(), asked, messages, findings.tally)?;
+    print!(rt; "{text}")
+}
+
+/// What is printed.
+fn printed(
+    alloc: Global,
+    asked: &Checking,
+    messages: &[Message],
+    tally: Tally,
+) -> Result<String, AllocError>
+    ensures { IfOk result (λ text. IsPrinted asked.now.format asked.now.quiet messages.now (string_bytes text)) }
+{
+    let mut text = written(alloc, asked, messages)?;
+    let end = end(alloc, asked, messages, tally)?;
+    text.push_str(end.as_str())?;
+    Ok(text)
+}
+
+/// The messages, in the format that is asked for.
+fn written(alloc: Global, asked: &Checking, messages: &[Message]) -> Result<String, AllocError>
+    ensures { IfOk result (λ text. IsWritten asked.now.format messages.now (string_bytes text)) }
+{
     match asked.format {
-        Format::Json | Format::Sarif => println!(rt; "{text}"),
-        Format::Github => print!(rt; "{text}"),
-        Format::Text | Format::Short if asked.quiet => print!(rt; "{text}"),
+        Format::Text => long_texts(alloc, messages, asked.quiet),
+        Format::Short => short_text(alloc, messages),
+        Format::Github => github_text(alloc, messages),
+        Format::Json => json_text(alloc, messages),
+        Format::Sarif => sarif_text(alloc, messages),
+    }
+}
+
+/// What comes after the messages.
+fn end(
+    alloc: Global,
+    asked: &Checking,
+    messages: &[Message],
+    tally: Tally,
+) -> Result<String, AllocError>
+    ensures { IfOk result (λ end. IsEnd asked.now.format asked.now.quiet (string_bytes end)) }
+{
+    match asked.format {
+        Format::Json | Format::Sarif => String::from_str(alloc, "\n"),
+        Format::Github => Ok(String::new(alloc)),
+        Format::Text | Format::Short if asked.quiet => Ok(String::new(alloc)),
         Format::Text => {
-            let notes = notes(alloc, messages)?;
-            let count = count_line(alloc, findings.tally)?;
-            print!(rt; "{text}{notes}{count}")
+            let mut text = notes(alloc, messages)?;
+            text.push_str(count_line(alloc, tally)?.as_str())?;
+            Ok(text)
         }
-        Format::Short => {
-            let count = count_line(alloc, findings.tally)?;
-            print!(rt; "{text}{count}")
-        }
+        Format::Short => count_line(alloc, tally),
     }
 }
 

@@ -1,5 +1,7 @@
 pub mod Brought
+pub mod Codes
 pub mod Heads
+pub mod Named
 pub mod Placed
 pub mod Replayed
 pub mod Right

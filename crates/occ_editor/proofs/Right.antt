@@ -6,7 +6,7 @@ use Rattle.std.specs.Str.{bytes_eq}
 use Rattle.std.specs.String.{string_bytes}
 use Rattle.occ_editor.proofs.Placed.{other_source}
 use Rattle.occ_editor.specs.Publishing.{refusal_at}
-use Rattle.occ_editor.specs.Rooms.{Knows}
+use Rattle.occ_editor.specs.Rooms.{Knows, RefusesRightly}
 use Rattle.occ_editor.specs.inside.Bringing.{Before, shared_by}
 use Rattle.occ_editor_edits.specs.Documents.{ChangesAt, text_in}
 use Rattle.occ_editor_edits.specs.declared.documents.Document.{Document}
@@ -19,19 +19,12 @@ use Rattle.occ_files.specs.declared.refusal.Refusal.{Refusal}
 use Rattle.occ_files.specs.declared.refusal.Why.{Why}
 use Rattle.occ_forms.specs.Prepared.{Prepared}
 
-same_bytes : (a b : List ℕ) → bytes_eq a b ≡ true → a ≡ b
-same_bytes a b h = (bytes_eq-Decides a b).0 h
-
--- of the open files that are refused, the reason is right
-abbrev pub AreOpenRight : List Document → List Text → List Refusal → Type 0
-AreOpenRight documents texts refusals = (path bytes : List ℕ) (why : Why) → text_in documents path ≡ Some bytes → refusal_at refusals path ≡ Some why → IsRight (Some (Some bytes)) texts path why
-
-pub right_open : (known : Known) (documents : List Document) (texts : List Text) (refusals : List Refusal) → Knows known documents → AreRight known texts refusals → AreOpenRight documents texts refusals
+pub right_open : (known : Known) (documents : List Document) (texts : List Text) (refusals : List Refusal) → Knows known documents → AreRight known texts refusals → RefusesRightly documents texts refusals
 right_open known documents texts [] knows are path bytes why e f = absurd cc
 right_open known documents texts (r ∷ rs) knows are path bytes why e f = by (bytes_eq (string_bytes r.path) path) refl f (right_open known documents texts rs knows are.1 path bytes why e) where
   by : (b : Bool) → bytes_eq (string_bytes r.path) path ≡ b → (if b then Some r.why else refusal_at rs path) ≡ Some why → (refusal_at rs path ≡ Some why → IsRight (Some (Some bytes)) texts path why) → IsRight (Some (Some bytes)) texts path why
   by true h is rest =
-      let same : string_bytes r.path ≡ path = same_bytes (string_bytes r.path) path h in
+      let same : string_bytes r.path ≡ path = (bytes_eq-Decides (string_bytes r.path) path).0 h in
       let reason : r.why ≡ why = cc in
       let held : known (string_bytes r.path) ≡ Some (Some bytes) = ap known same ∙ knows path bytes e in
       subst (IsRight (Some (Some bytes)) texts path) reason (subst (λ (p : List ℕ). IsRight (Some (Some bytes)) texts p r.why) same (subst (λ (o : Held). IsRight o texts (string_bytes r.path) r.why) held are.0))
@@ -46,11 +39,11 @@ reason (r ∷ rs) path h = by (bytes_eq (string_bytes r.path) path) h (reason rs
   by false k rest = rest k
 
 -- where a file that is not refused changes, the others stay right
-pub right_beside : (before now : List Document) (path : List ℕ) (text : Option (List ℕ)) (ts us : List Text) (refusals : List Refusal) → ChangesAt before now path text → refusal_at refusals path ≡ None → Grows ts us → AreOpenRight before ts refusals → AreOpenRight now us refusals
+pub right_beside : (before now : List Document) (path : List ℕ) (text : Option (List ℕ)) (ts us : List Text) (refusals : List Refusal) → ChangesAt before now path text → refusal_at refusals path ≡ None → Grows ts us → RefusesRightly before ts refusals → RefusesRightly now us refusals
 right_beside before now path text ts us refusals changes none grows are p bytes why e f = by (bytes_eq path p) refl (sym (changes p) ∙ e) where
   by : (b : Bool) → bytes_eq path p ≡ b → cond b text (text_in before p) ≡ Some bytes → IsRight (Some (Some bytes)) us p why
   by true h is =
-      let same : path ≡ p = same_bytes path p h in
+      let same : path ≡ p = (bytes_eq-Decides path p).0 h in
       let no_reason : refusal_at refusals p ≡ None = ap (refusal_at refusals) (sym same) ∙ none in
       absurd cc
   by false h is = right_grows (Some (Some bytes)) ts us p why grows (are p bytes why is f)

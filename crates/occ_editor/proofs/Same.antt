@@ -31,7 +31,7 @@ same_name None (Some b) h = absurd cc
 same_name (Some a) None h = absurd cc
 same_name (Some a) (Some b) h = ap Some (equal_names a b h)
 
-same_code : (a b : Code) → (code_ord.ghosts).cmp a b ≡ Equal → a ≡ b
+pub same_code : (a b : Code) → (code_ord.ghosts).cmp a b ≡ Equal → a ≡ b
 same_code a b h = same_true the_type tt a b (laws.matches_eq-law a b ∙ ap is_eq h)
 
 same_grade : (a b : Grade) → (grade_ord.ghosts).cmp a b ≡ Equal → a ≡ b

@@ -12,11 +12,12 @@ use Rattle.std.specs.Str.{bytes_eq}
 use Rattle.std.specs.String.{string_bytes}
 use Rattle.occ_base.specs.declared.diag.Diag.{Diag}
 use Rattle.occ_editor.proofs.Placed.{other_source}
-use Rattle.occ_editor.specs.Publishing.{IsTold, TellSame, TellsAt, first_of, heads_of, is_published, refusal_at, text_at, told_at, why_of}
+use Rattle.occ_editor.specs.Publishing.{IsTold, BoardsTellSame, TellsAt, first_of, heads_of, is_published, refusal_at, text_at, told_at, why_of}
 use Rattle.occ_editor.specs.Rooms.{is_vacant}
 use Rattle.occ_editor.specs.declared.editor.Published.{Published}
 use Rattle.occ_editor.specs.declared.room.Room.{Room}
-use Rattle.occ_editor.specs.inside.Shown.{AllAt, IsIn, Grows, HasFile, IsQuiet, TellsSame, AllTellBut, has_key, text_named}
+use Rattle.occ_editor.specs.inside.Shown.{AllAt, IsIn, Grows, HasFile, IsQuiet, RoomTellsSame, AllTellBut, has_key, text_named}
+use Rattle.occ_files.proofs.Kept.{or_true}
 use Rattle.occ_files.specs.Gathering.{are_apart, has_name}
 use Rattle.occ_files.specs.declared.gathering.Text.{Text}
 use Rattle.occ_files.specs.declared.refusal.Refusal.{Refusal}
@@ -25,25 +26,18 @@ use Rattle.occ_files_check.specs.Told.{diags_in, heads, path_of}
 use Rattle.occ_forms.specs.Prepared.{Prepared}
 use Rattle.occ_messages.specs.Located.{Head, located}
 
-same_bytes : (a b : List ℕ) → bytes_eq a b ≡ true → a ≡ b
-same_bytes a b h = (bytes_eq-Decides a b).0 h
-
 is_itself : (a : List ℕ) → bytes_eq a a ≡ true
 is_itself a = (bytes_eq-Decides a a).1 refl
 
-or_true : (b : Bool) → b || true ≡ true
-or_true true = refl
-or_true false = refl
-
 -- ---- what is in a list
 
-at_head : {X : Type 0} (x : X) (xs : List X) → Contains (x ∷ xs) x
+pub at_head : {X : Type 0} (x : X) (xs : List X) → Contains (x ∷ xs) x
 at_head x xs = (0, omega arith, refl)
 
-at_tail : {X : Type 0} (x : X) (xs : List X) (y : X) → Contains xs y → Contains (x ∷ xs) y
+pub at_tail : {X : Type 0} (x : X) (xs : List X) (y : X) → Contains xs y → Contains (x ∷ xs) y
 at_tail x xs y h = let less = h.1 in (suc h.0, omega (arith, less), h.2)
 
-cases : {X : Type 0} (x : X) (xs : List X) (y : X) → Contains (x ∷ xs) y → (x ≡ y) ⊎ Contains xs y
+pub cases : {X : Type 0} (x : X) (xs : List X) (y : X) → Contains (x ∷ xs) y → (x ≡ y) ⊎ Contains xs y
 cases {X} x xs y h = by h.0 h.1 h.2 where
   by : (k : ℕ) → k < length (x ∷ xs) → Rattle.std.specs.List.slice_index_or (x ∷ xs) k y ≡ y → (x ≡ y) ⊎ Contains xs y
   by zero less is = inl is
@@ -85,16 +79,16 @@ filter_there {X} p (y ∷ ys) x h is = by (p y) refl (cases y ys x h) (λ later.
 -- ---- what a room tells
 
 -- it is of a diagnostic in the file
-told_cases : (texts : List Text) (told : List Diag) (path : List ℕ) (head : Head) → Contains (heads_of texts told (text_at texts path)) head → (d : Diag) × Contains told d × IsIn texts path d × (located (path_of texts d.file) d ≡ head)
+pub told_cases : (texts : List Text) (told : List Diag) (path : List ℕ) (head : Head) → Contains (heads_of texts told (text_at texts path)) head → (d : Diag) × Contains told d × IsIn texts path d × (located (path_of texts d.file) d ≡ head)
 told_cases texts told path head h = by (text_at texts path) refl h where
   by : (o : Option Text) → text_at texts path ≡ o → Contains (heads_of texts told o) head → (d : Diag) × Contains told d × IsIn texts path d × (located (path_of texts d.file) d ≡ head)
   by None e k = let less = k.1 in absurd (omega (arith, less))
   by (Some t) e k =
       let found = map_cases (λ (d : Diag). located (path_of texts d.file) d) (diags_in t.name told) head k in
       let in_told = filter_cases (λ (d : Diag). bytes_eq d.file t.name) told found.0 found.1 in
-      (found.0, in_told.0, (t, e, same_bytes found.0.file t.name in_told.1), found.2)
+      (found.0, in_told.0, (t, e, (bytes_eq-Decides found.0.file t.name).0 in_told.1), found.2)
 
-told_there : (texts : List Text) (told : List Diag) (path : List ℕ) (head : Head) (d : Diag) → Contains told d → IsIn texts path d → located (path_of texts d.file) d ≡ head → Contains (heads_of texts told (text_at texts path)) head
+pub told_there : (texts : List Text) (told : List Diag) (path : List ℕ) (head : Head) (d : Diag) → Contains told d → IsIn texts path d → located (path_of texts d.file) d ≡ head → Contains (heads_of texts told (text_at texts path)) head
 told_there texts told path head d h at is =
     let t : Text = at.0 in
     let here : Contains (diags_in t.name told) d = filter_there (λ (x : Diag). bytes_eq x.file t.name) told d h ((bytes_eq-Decides d.file t.name).1 at.2) in
@@ -137,7 +131,7 @@ at_name (u ∷ us) path t apart e = by (bytes_eq (string_bytes u.path) path) e (
   by true k true f rest = k
   by true k false f rest = let same : u ≡ t = cc in let yes : bytes_eq u.name t.name ≡ true = ap (λ (v : Text). bytes_eq v.name t.name) same ∙ is_itself t.name in absurd cc
   by false k true f rest =
-      let none : has_name us t.name ≡ false = ap (has_name us) (sym (same_bytes u.name t.name f)) ∙ (apart_rest u us apart).0 in
+      let none : has_name us t.name ≡ false = ap (has_name us) (sym ((bytes_eq-Decides u.name t.name).0 f)) ∙ (apart_rest u us apart).0 in
       let some : has_name us t.name ≡ true = has_it us path t k in
       absurd cc
   by false k false f rest = rest k
@@ -146,7 +140,7 @@ pub at_path : (ts : List Text) (path : List ℕ) (t : Text) → text_at ts path 
 at_path [] path t e = absurd cc
 at_path (u ∷ us) path t e = by (bytes_eq (string_bytes u.path) path) refl e (at_path us path t) where
   by : (b : Bool) → bytes_eq (string_bytes u.path) path ≡ b → (if b then Some u else text_at us path) ≡ Some t → (text_at us path ≡ Some t → string_bytes t.path ≡ path) → string_bytes t.path ≡ path
-  by true f k rest = let same : u ≡ t = cc in ap (λ (v : Text). string_bytes v.path) (sym same) ∙ same_bytes (string_bytes u.path) path f
+  by true f k rest = let same : u ≡ t = cc in ap (λ (v : Text). string_bytes v.path) (sym same) ∙ (bytes_eq-Decides (string_bytes u.path) path).0 f
   by false f k rest = rest k
 
 -- ---- paths
@@ -173,7 +167,7 @@ any_insert path (x ∷ xs) k = by (slice_cmp nat_cmp (string_bytes k) (string_by
   by ordering.Less e more = refl
   by ordering.Equal e more =
       let tied : bytes_eq (string_bytes k) (string_bytes x) ≡ true = sym (is_eq-slice_cmp (string_bytes k) (string_bytes x)) ∙ ap is_eq e in
-      let same : q k ≡ q x = ap (λ (bs : List ℕ). bytes_eq bs path) (same_bytes (string_bytes k) (string_bytes x) tied) in
+      let same : q k ≡ q x = ap (λ (bs : List ℕ). bytes_eq bs path) ((bytes_eq-Decides (string_bytes k) (string_bytes x)).0 tied) in
       twice (q x) (list_any q xs) ∙ ap (λ (b : Bool). b || (q x || list_any q xs)) (sym same)
   by ordering.Greater e more = ap (λ (b : Bool). q x || b) more ∙ swapped (q x) (q k) (list_any q xs)
 
@@ -182,13 +176,13 @@ key_insert before now k path e = ap (list_any (λ key. bytes_eq (string_bytes ke
 
 -- ---- what stays
 
-pub tells_itself : (room : Room) (path : List ℕ) → TellsSame room room path
+pub tells_itself : (room : Room) (path : List ℕ) → RoomTellsSame room room path
 tells_itself room path = record { heads = λ head. (λ h. h, λ h. h); why = refl }
 
-pub tells_both : (a b c : Room) (path : List ℕ) → TellsSame a b path → TellsSame b c path → TellsSame a c path
+pub tells_both : (a b c : Room) (path : List ℕ) → RoomTellsSame a b path → RoomTellsSame b c path → RoomTellsSame a c path
 tells_both a b c path one two = record { heads = λ head. (λ h. (two.heads head).0 ((one.heads head).0 h), λ h. (one.heads head).1 ((two.heads head).1 h)); why = one.why ∙ two.why }
 
-pub quiet_both : (a b : Room) (path : List ℕ) → IsQuiet a path → IsQuiet b path → TellsSame a b path
+pub quiet_both : (a b : Room) (path : List ℕ) → IsQuiet a path → IsQuiet b path → RoomTellsSame a b path
 quiet_both a b path one two = record { heads = λ head. (λ h. absurd (one.heads head h), λ h. absurd (two.heads head h)); why = one.why ∙ sym two.why }
 
 -- another source at a place leaves what is told
@@ -277,12 +271,12 @@ all_both (x ∷ xs) [] zs path one two = absurd one
 all_both (x ∷ xs) (y ∷ ys) [] path one two = absurd two
 all_both (x ∷ xs) (y ∷ ys) (z ∷ zs) path one two = (tells_both x y z path one.0 two.0, all_both xs ys zs path one.1 two.1)
 
-pub all_set : (rooms : List Room) (i : ℕ) (r n : Room) (path : List ℕ) → slice_get rooms i ≡ Some r → TellsSame r n path → AllAt rooms (slice_set rooms i n) path
+pub all_set : (rooms : List Room) (i : ℕ) (r n : Room) (path : List ℕ) → slice_get rooms i ≡ Some r → RoomTellsSame r n path → AllAt rooms (slice_set rooms i n) path
 all_set [] i r n path e same = absurd cc
-all_set (x ∷ xs) zero r n path e same = let is : x ≡ r = cc in (subst (λ (y : Room). TellsSame y n path) (sym is) same, all_themselves xs path)
+all_set (x ∷ xs) zero r n path e same = let is : x ≡ r = cc in (subst (λ (y : Room). RoomTellsSame y n path) (sym is) same, all_themselves xs path)
 all_set (x ∷ xs) (suc i) r n path e same = (tells_itself x path, all_set xs i r n path e same)
 
-at_next : (b n : Room) (bs ns : List Room) (path : List ℕ) → TellsSame b n path → TellsAt bs ns path → TellsAt (b ∷ bs) (n ∷ ns) path
+at_next : (b n : Room) (bs ns : List Room) (path : List ℕ) → RoomTellsSame b n path → TellsAt bs ns path → TellsAt (b ∷ bs) (n ∷ ns) path
 at_next b n bs ns path one rest = record {
   heads = λ head. (there head, back head);
   why = ap (λ (o : Option Why). first_of o (why_of bs path)) one.why ∙ ap (first_of (refusal_at n.refusals.items path)) rest.why;
@@ -335,7 +329,7 @@ vacant_quiet room path vacant = by room.texts.items refl room.refusals.items ref
   by [] e (r ∷ rs) f h = absurd (let no : (length (r ∷ rs) == 0) ≡ false = grind arith in cc)
   by (t ∷ ts) e rs f h = absurd (let no : (length (t ∷ ts) == 0) ≡ false = grind arith in cc)
 
-pub without_vacant : (rooms : List Room) → TellSame rooms (filter (λ room. not (is_vacant room)) rooms)
+pub without_vacant : (rooms : List Room) → BoardsTellSame rooms (filter (λ room. not (is_vacant room)) rooms)
 without_vacant [] path = record { heads = λ head. (λ h. h, λ h. h); why = refl }
 without_vacant (r ∷ rs) path = by (is_vacant r) refl (without_vacant rs path) where
   left : List Room
@@ -417,7 +411,7 @@ pub next_refused : (r : Refusal) (rs : List Refusal) (before now : BTreeSet (Str
 next_refused r rs before now k path same e none rest = by (bytes_eq (string_bytes r.path) path) refl where
   by : (b : Bool) → bytes_eq (string_bytes r.path) path ≡ b → (if b then Some r.why else refusal_at rs path) ≡ None
   by true h =
-      let is : string_bytes k ≡ path = same ∙ same_bytes (string_bytes r.path) path h in
+      let is : string_bytes k ≡ path = same ∙ (bytes_eq-Decides (string_bytes r.path) path).0 h in
       let some : has_key now path ≡ true = ap (has_key now) (sym is) ∙ has_insert before now k e in
       absurd cc
   by false h = rest

@@ -15,18 +15,12 @@ use Rattle.occ_editor.specs.inside.Bringing.{Before, shared_by}
 use Rattle.occ_editor.specs.inside.Placed.{AreAsked, wanted}
 use Rattle.occ_editor_edits.specs.Documents.{ChangesAt, text_in}
 use Rattle.occ_editor_edits.specs.declared.documents.Document.{Document}
+use Rattle.occ_files.proofs.Kept.{or_true}
 use Rattle.occ_files.specs.Gathering.{has_path, is_met, is_refused}
 use Rattle.occ_files.specs.Paths.{folder_of, name_of}
 use Rattle.occ_files.specs.declared.gathering.Text.{Text}
 use Rattle.occ_files.specs.declared.refusal.Refusal.{Refusal}
 use Rattle.occ_forms.specs.Prepared.{Prepared}
-
-same_bytes : (a b : List ℕ) → bytes_eq a b ≡ true → a ≡ b
-same_bytes a b h = (bytes_eq-Decides a b).0 h
-
-or_true : (b : Bool) → b || true ≡ true
-or_true true = refl
-or_true false = refl
 
 -- one of these is that
 abbrev pub among : List (List ℕ) → List ℕ → Bool
@@ -46,7 +40,7 @@ among_filter p [] x h q = absurd cc
 among_filter p (y ∷ ys) x h q = by (bytes_eq y x) refl (p y) refl h (λ k. among_filter p ys x k q) where
   by : (b : Bool) → bytes_eq y x ≡ b → (c : Bool) → p y ≡ c → b || among ys x ≡ true → (among ys x ≡ true → among (filter p ys) x ≡ true) → among (cond c (y ∷ filter p ys) (filter p ys)) x ≡ true
   by true e true f k rest = ap (λ (b : Bool). b || among (filter p ys) x) e
-  by true e false f k rest = let is : p y ≡ true = ap p (same_bytes y x e) ∙ q in absurd cc
+  by true e false f k rest = let is : p y ≡ true = ap p ((bytes_eq-Decides y x).0 e) ∙ q in absurd cc
   by false e true f k rest = ap (λ (b : Bool). bytes_eq y x || b) (rest k) ∙ or_true (bytes_eq y x)
   by false e false f k rest = rest k
 
@@ -54,7 +48,7 @@ met_among : (texts : List Text) (refusals : List Refusal) (paths : List (String 
 met_among texts refusals [] x h all = absurd cc
 met_among texts refusals (p ∷ ps) x h all = by (bytes_eq (string_bytes p) x) refl h (λ k. met_among texts refusals ps x k (All-tail (λ path. is_met texts refusals (string_bytes path) ≡ true) p ps all)) where
   by : (b : Bool) → bytes_eq (string_bytes p) x ≡ b → b || among (map string_bytes ps) x ≡ true → (among (map string_bytes ps) x ≡ true → is_met texts refusals x ≡ true) → is_met texts refusals x ≡ true
-  by true e k rest = subst (λ (y : List ℕ). is_met texts refusals y ≡ true) (same_bytes (string_bytes p) x e) (All-head (λ path. is_met texts refusals (string_bytes path) ≡ true) p ps all)
+  by true e k rest = subst (λ (y : List ℕ). is_met texts refusals y ≡ true) ((bytes_eq-Decides (string_bytes p) x).0 e) (All-head (λ path. is_met texts refusals (string_bytes path) ≡ true) p ps all)
   by false e k rest = rest k
 
 of_same : (one other : Room) (path : List ℕ) → one.folder ≡ other.folder → is_of one path ≡ is_of other path
@@ -75,7 +69,7 @@ pub met_beside : (before now : List Document) (path : List ℕ) (text : Option (
 met_beside before now path text old new changes same keeps here met p bytes e of = keeps p (by (bytes_eq path p) refl (sym (changes p) ∙ e) (sym (of_same new old p same) ∙ of)) where
   by : (b : Bool) → bytes_eq path p ≡ b → cond b text (text_in before p) ≡ Some bytes → is_of old p ≡ true → is_met old.texts.items old.refusals.items p ≡ true
   by true h is of_old =
-      let at : path ≡ p = same_bytes path p h in
+      let at : path ≡ p = (bytes_eq-Decides path p).0 h in
       subst (λ (q : List ℕ). is_met old.texts.items old.refusals.items q ≡ true) at (here (ap (is_of old) at ∙ of_old))
   by false h is of_old = met p bytes is of_old
 
@@ -221,5 +215,5 @@ folders_set (r ∷ rs) (suc i) old new e same = ap (λ (xs : List (List ℕ)). s
 pub room_for : (rooms : List Room) (new : Room) (one path : List ℕ) → (bytes_eq one path ≡ false → has_folder rooms (folder_of path) ≡ true) → string_bytes new.folder ≡ folder_of one → has_folder (rooms ++ new ∷ []) (folder_of path) ≡ true
 room_for rooms new one path others folder = folder_more rooms new (folder_of path) ∙ by (bytes_eq one path) refl where
   by : (b : Bool) → bytes_eq one path ≡ b → has_folder rooms (folder_of path) || bytes_eq (string_bytes new.folder) (folder_of path) ≡ true
-  by true h = ap (λ (b : Bool). has_folder rooms (folder_of path) || b) ((bytes_eq-Decides (string_bytes new.folder) (folder_of path)).1 (folder ∙ ap folder_of (same_bytes one path h))) ∙ or_true (has_folder rooms (folder_of path))
+  by true h = ap (λ (b : Bool). has_folder rooms (folder_of path) || b) ((bytes_eq-Decides (string_bytes new.folder) (folder_of path)).1 (folder ∙ ap folder_of ((bytes_eq-Decides one path).0 h))) ∙ or_true (has_folder rooms (folder_of path))
   by false h = ap (λ (b : Bool). b || bytes_eq (string_bytes new.folder) (folder_of path)) (others h)

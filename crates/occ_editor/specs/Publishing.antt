@@ -3,6 +3,7 @@ use Rattle.std.specs.Prelude.{◌≡◌, ◌⊎◌, ◌↔◌, ℕ, Bool, false,
 use Rattle.std.specs.List.{Contains, list_any}
 use Rattle.std.specs.Str.{bytes_eq}
 use Rattle.std.specs.String.{string_bytes}
+use Rattle.occ_base.specs.declared.code.Code.{Code}
 use Rattle.occ_base.specs.declared.diag.Diag.{Diag}
 use Rattle.occ_editor.specs.declared.editor.Published.{Published}
 use Rattle.occ_editor.specs.declared.room.Room.{Room}
@@ -31,6 +32,10 @@ abbrev pub IsTold : List Room → List ℕ → Head → Type 0
 IsTold [] path head = ⊥
 IsTold (room ∷ rooms) path head = Contains (told_at room path) head ⊎ IsTold rooms path head
 
+-- one of these heads has the code at the line
+abbrev pub HasCode : (Head → Type 0) → ℕ → Code → Type 0
+HasCode IsOne line code = (head : Head) × IsOne head × (head.line ≡ line) × (head.code ≡ code)
+
 -- why a file at a path is not checked, if it is among these
 abbrev pub refusal_at : List Refusal → List ℕ → Option Why
 refusal_at [] path = None
@@ -56,9 +61,9 @@ pub record TellsAt (before now : List Room) (path : List ℕ) : Type 0 where
   pub heads : (head : Head) → IsTold before path head ↔ IsTold now path head
   pub why : why_of before path ≡ why_of now path
 
--- so they do of each
-abbrev pub TellSame : List Room → List Room → Type 0
-TellSame before now = (path : List ℕ) → TellsAt before now path
+-- so they do of each file
+abbrev pub BoardsTellSame : List Room → List Room → Type 0
+BoardsTellSame before now = (path : List ℕ) → TellsAt before now path
 
 -- something is published of the file at a path
 abbrev pub is_published : List Published → List ℕ → Bool

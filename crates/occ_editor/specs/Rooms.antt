@@ -13,6 +13,7 @@ use Rattle.occ_files.specs.Gathering.{AreNamed, are_apart, is_met}
 use Rattle.occ_files.specs.Paths.{Known, folder_of, name_of}
 use Rattle.occ_files.specs.Refusals.{IsRight}
 use Rattle.occ_files.specs.declared.gathering.Text.{Text}
+use Rattle.occ_files.specs.declared.refusal.Refusal.{Refusal}
 use Rattle.occ_files.specs.declared.refusal.Why.{Why}
 use Rattle.occ_forms.specs.Prepared.{Prepared}
 
@@ -46,9 +47,9 @@ is_of room path = is_unit path && bytes_eq (string_bytes room.folder) (folder_of
 abbrev pub MeetsOpen : List Document → Room → Type 0
 MeetsOpen documents room = (path bytes : List ℕ) → text_in documents path ≡ Some bytes → is_of room path ≡ true → is_met room.texts.items room.refusals.items path ≡ true
 
--- of an open file that is not checked, the reason is right
-abbrev pub RefusesRightly : List Document → Room → Type 0
-RefusesRightly documents room = (path bytes : List ℕ) (why : Why) → text_in documents path ≡ Some bytes → refusal_at room.refusals.items path ≡ Some why → IsRight (Some (Some bytes)) room.texts.items path why
+-- of an open file that is not checked beside these, the reason is right
+abbrev pub RefusesRightly : List Document → List Text → List Refusal → Type 0
+RefusesRightly documents texts refusals = (path bytes : List ℕ) (why : Why) → text_in documents path ≡ Some bytes → refusal_at refusals path ≡ Some why → IsRight (Some (Some bytes)) texts path why
 
 -- the board of a room has its files, of which no two have one name. If they need not be found again, open files have their
 -- texts there, open units of the folder are among them or rightly refused, and if none of them has changed since, what was told
@@ -59,7 +60,7 @@ pub record Stands (documents : List Document) (room : Room) : Type 0 where
   pub has : HasTexts room.board room.texts.items
   pub opened : room.is_loose ≡ false → AreOpen documents room.texts.items
   pub met : room.is_loose ≡ false → MeetsOpen documents room
-  pub right : room.is_loose ≡ false → RefusesRightly documents room
+  pub right : room.is_loose ≡ false → RefusesRightly documents room.texts.items room.refusals.items
   pub told : room.is_loose ≡ false → room.is_changed ≡ false → room.told ≡ told_of (files_of room.board)
 
 -- so it is up to date

@@ -6,11 +6,12 @@ ghost use Rattle.occ_editor.specs.Standing.{AreServed, IsStanding, IsUpToDate};
 ghost use Rattle.occ_editor_edits.specs.declared.documents.Document.{Document as ADocument};
 ghost use Rattle.occ_editor.specs.inside.Followed.{AreSettled, HaveFollowed};
 ghost use Rattle.occ_editor.specs.inside.Placed.{AreAsked};
+ghost use Rattle.occ_base.specs.declared.code.Code.{Code as ACode};
 ghost use Rattle.occ_editor_edits.specs.Messages.{said};
 ghost use Rattle.occ_editor_edits.specs.Texts.{after_saying};
 ghost use Rattle.std.specs.String.{string_bytes};
-ghost use Rattle.occ_editor.specs.Publishing.{AreWhole, IsPublished, TellSame, why_of};
-ghost use Rattle.occ_editor.specs.inside.Shown.{AllTellBut, AllTellSame, Grows, TellsSame};
+ghost use Rattle.occ_editor.specs.Publishing.{AreWhole, HasCode, IsPublished, IsTold, BoardsTellSame, why_of};
+ghost use Rattle.occ_editor.specs.inside.Shown.{AllTellBut, AllTellSame, Grows, RoomTellsSame};
 ghost use Rattle.occ_messages.specs.Located.{Head, head_of};
 ghost use Rattle.std.specs.List.{All, Contains, filter};
 ghost use Rattle.std.specs.Prelude.{◌≡◌, ◌⊎◌, ◌↔◌, ◌+◌, [], IfOk, IsTrue, List, OnOk, length, map, not, option_map, ℕ};
@@ -64,7 +65,7 @@ impl Editor {
         ensures documents { OnOk result (IsAfter self.old.documents.all.items note self.new.documents.all.items) }
         ensures texts { OnOk result ((path : List ℕ) → text_in self.new.documents.all.items path ≡ after_saying (text_in self.old.documents.all.items) (said note) path) }
         ensures boards { OnOk result (IsStanding self.old → IsStanding self.new) }
-        ensures told { OnOk result (TellSame self.old.rooms.items self.new.rooms.items) }
+        ensures told { OnOk result (BoardsTellSame self.old.rooms.items self.new.rooms.items) }
     {
         let path = String::from_str(alloc, note.path())?;
         let is_change = matches!(&note, Note::Changed(_, _));
@@ -114,7 +115,7 @@ impl Editor {
         ensures documents { self.new.documents ≡ self.old.documents }
         ensures rooms { OnOk result (HaveOthers path.now self.old.documents.all.items self.old.rooms.items → HaveRooms self.old.documents.all.items self.new.rooms.items) }
         ensures boards { OnOk result ((documents : List ADocument) → AllStand documents self.old.rooms.items → AllStand documents self.new.rooms.items) }
-        ensures told { OnOk result (TellSame self.old.rooms.items self.new.rooms.items) }
+        ensures told { OnOk result (BoardsTellSame self.old.rooms.items self.new.rooms.items) }
     {
         let is_open = is_unit(path) && self.documents.text_of(path).is_some();
         if is_open && !self.has_room(path) {
@@ -139,7 +140,7 @@ impl Editor {
     pub fn look_again(&mut self)
         ensures documents { self.new.documents ≡ self.old.documents }
         ensures boards { IsStanding self.old → IsStanding self.new }
-        ensures told { TellSame self.old.rooms.items self.new.rooms.items }
+        ensures told { BoardsTellSame self.old.rooms.items self.new.rooms.items }
     {
         for index in 0..self.rooms.len() {
             self.loosen(index);
@@ -220,18 +221,20 @@ impl Editor {
         ensures folders { (documents : List ADocument) → AllSettled documents self.old.rooms.items → HaveRooms documents self.old.rooms.items → HaveRooms documents self.new.rooms.items }
         ensures boards { (documents : List ADocument) → AllSettled documents self.old.rooms.items → AllSettled documents self.new.rooms.items }
         ensures stale { self.new.stale ≡ self.old.stale }
-        ensures told { TellSame self.old.rooms.items self.new.rooms.items }
+        ensures told { BoardsTellSame self.old.rooms.items self.new.rooms.items }
     {
         self.rooms.retain(|room| !room.is_empty());
     }
 
-    /// The codes that are told of a line of a file, from 1.
+    /// The codes that are told of a line of a file, from 1, and no others.
     pub fn codes_at(
         &self,
         alloc: Global,
         path: &str,
         line: u32,
-    ) -> Result<BTreeSet<Code>, AllocError> {
+    ) -> Result<BTreeSet<Code>, AllocError>
+        ensures { IfOk result (λ codes. (code : ACode) → Contains codes.keys code ↔ HasCode (IsTold self.now.rooms.items path.now) line code) }
+    {
         let mut codes = BTreeSet::new(alloc);
         for room in &self.rooms {
             room.add_codes(path, line, &mut codes)?;
@@ -250,7 +253,7 @@ fn told(
 ) -> Result<(), CheckFault>
     ensures folder { room.new.folder ≡ room.old.folder }
     ensures stands { OnOk result ((before now : List ADocument) → ChangesAt before now path.now (option_map (λ text. text.now) text.entry) → Stands before room.old → Stands now room.new) }
-    ensures told { OnOk result ((path : List ℕ) → TellsSame room.old room.new path) }
+    ensures told { OnOk result ((path : List ℕ) → RoomTellsSame room.old room.new path) }
 {
     match text {
         Some(bytes) if is_change => room.follow(alloc, path, bytes)?,

@@ -1,20 +1,22 @@
 //! The files of one folder that are open, with all that they use and include, on a board of their own.
 ghost use Rattle.occ_editor_edits.specs.Documents.{ChangesAt};
-ghost use Rattle.occ_editor.specs.Publishing.{refusal_at, text_at as spec_text_at, told_at};
+ghost use Rattle.occ_editor.specs.Publishing.{HasCode, refusal_at, text_at as spec_text_at, told_at};
 ghost use Rattle.occ_messages.specs.Located.{head_of};
 ghost use Rattle.occ_editor.specs.Rooms.{IsSettled, Knows, Stands, is_of as spec_is_of, is_unit as spec_is_unit, is_vacant};
 ghost use Rattle.occ_files.specs.Paths.{folder_of as spec_folder_of};
+ghost use Rattle.occ_base.specs.declared.code.Code.{Code as ACode};
 ghost use Rattle.occ_base.specs.declared.diag.Diag.{Diag as ADiag};
 ghost use Rattle.occ_files.specs.Gathering.{are_apart};
 ghost use Rattle.std.specs.Str.{bytes_eq};
 ghost use Rattle.std.specs.String.{string_bytes};
 ghost use Rattle.occ_editor_edits.specs.declared.documents.Document.{Document as ADocument};
+ghost use Rattle.occ_editor.specs.inside.Codes.{IsAt};
 ghost use Rattle.occ_editor.specs.inside.Placed.{AreAsked, AreFound, HasAt, place_at};
-ghost use Rattle.occ_editor.specs.inside.Shown.{Grows, HasFile, IsIn, IsQuiet, TellsSame, has_key, text_named};
+ghost use Rattle.occ_editor.specs.inside.Shown.{Grows, HasFile, IsIn, IsQuiet, RoomTellsSame, has_key, text_named};
 ghost use Rattle.occ_files.specs.declared.gathering.Text.{Text as AText};
 ghost use Rattle.std.specs.List.{Contains, slice_get};
 ghost use Rattle.std.specs.Option.{option_copied};
-ghost use Rattle.std.specs.Prelude.{◌≡◌, ◌↔◌, IfOk, IfSome, IsTrue, List, None, OnOk, Some, false, map, option_map, slice_set, true, ℕ};
+ghost use Rattle.std.specs.Prelude.{◌≡◌, ◌⊎◌, ◌↔◌, IfOk, IfSome, IsTrue, List, None, OnOk, Some, false, map, option_map, slice_set, true, ℕ};
 
 use super::bringing::{brought, put_one};
 use super::found::name_alike;
@@ -107,7 +109,7 @@ impl Room {
     /// again.
     pub fn follow(&mut self, alloc: Global, path: &str, bytes: &[u8]) -> Result<(), CheckFault>
         ensures stands { OnOk result ((before now : List ADocument) → ChangesAt before now path.now (Some bytes.now) → Stands before self.old → Stands now self.new) }
-        ensures told { OnOk result ((path : List ℕ) → TellsSame self.old self.new path) }
+        ensures told { OnOk result ((path : List ℕ) → RoomTellsSame self.old self.new path) }
         ensures folder { self.new.folder ≡ self.old.folder }
     {
         if self.refusal_of(path).is_some() {
@@ -140,13 +142,13 @@ impl Room {
     ) -> Result<(), CheckFault>
         ensures folder { self.new.folder ≡ self.old.folder }
         ensures stands { OnOk result ((before now : List ADocument) (path : List ℕ) → place_at self.old.texts.items path ≡ Some place → refusal_at self.old.refusals.items path ≡ None → ChangesAt before now path (Some source.text) → Stands before self.old → Stands now self.new) }
-        ensures told { OnOk result ((path : List ℕ) → TellsSame self.old self.new path) }
+        ensures told { OnOk result ((path : List ℕ) → RoomTellsSame self.old self.new path) }
     {
         let Some(text) = self.texts.get(place) else {
             return Ok(());
         };
         let name = text.name;
-        let is_alike = name_alike(text.source.get(), source.get());
+        let is_alike = name_alike(alloc, text.source.get(), source.get())?;
         put_one(alloc, &mut self.board, name, source.share()?)?;
         put_source(&mut self.texts, place, source);
         self.is_loose |= !is_alike;
@@ -160,7 +162,7 @@ impl Room {
         ensures folder { self.new.folder ≡ self.old.folder }
         ensures closed { bytes.entry ≡ None → self.new.is_loose ≡ true }
         ensures stands { (before now : List ADocument) → ChangesAt before now path.now (option_map (λ text. text.now) bytes.entry) → Stands before self.old → Stands now self.new }
-        ensures told { (path : List ℕ) → TellsSame self.old self.new path }
+        ensures told { (path : List ℕ) → RoomTellsSame self.old self.new path }
     {
         if self.refusal_of(path).is_some() || !self.has(path, bytes) {
             self.is_loose = true;
@@ -195,7 +197,7 @@ impl Room {
         ensures folder { OnOk result (self.new.folder ≡ self.old.folder) }
         ensures settled { OnOk result ((documents : List ADocument) → Knows (D.known disk.now) documents → AreAsked documents self.old paths.now → Stands documents self.old → IsSettled documents self.new) }
         ensures grows { OnOk result (Grows stale.old stale.new) }
-        ensures told { OnOk result ((documents : List ADocument) → Stands documents self.old → (path : List ℕ) → has_key stale.new path ≡ false → TellsSame self.old self.new path) }
+        ensures told { OnOk result ((documents : List ADocument) → Stands documents self.old → (path : List ℕ) → has_key stale.new path ≡ false → RoomTellsSame self.old self.new path) }
     {
         if self.is_loose {
             self.find_anew(alloc, disk, folders, paths, stale)?;
@@ -217,7 +219,7 @@ impl Room {
         ensures folder { OnOk result (self.new.folder ≡ self.old.folder) }
         ensures settled { OnOk result ((documents : List ADocument) → Knows (D.known disk.now) documents → AreAsked documents self.old paths.now → Stands documents self.old → IsSettled documents self.new) }
         ensures grows { OnOk result (Grows stale.old stale.new) }
-        ensures told { OnOk result ((documents : List ADocument) → Stands documents self.old → (path : List ℕ) → has_key stale.new path ≡ false → TellsSame self.old self.new path) }
+        ensures told { OnOk result ((documents : List ADocument) → Stands documents self.old → (path : List ℕ) → has_key stale.new path ≡ false → RoomTellsSame self.old self.new path) }
     {
         self.add_shown(alloc, stale)?;
         self.find(alloc, disk, folders, paths)?;
@@ -234,7 +236,7 @@ impl Room {
         ensures folder { OnOk result (self.new.folder ≡ self.old.folder) }
         ensures settled { OnOk result ((documents : List ADocument) → Stands documents self.old → IsSettled documents self.new) }
         ensures grows { OnOk result (Grows stale.old stale.new) }
-        ensures told { OnOk result ((documents : List ADocument) → Stands documents self.old → (path : List ℕ) → has_key stale.new path ≡ false → TellsSame self.old self.new path) }
+        ensures told { OnOk result ((documents : List ADocument) → Stands documents self.old → (path : List ℕ) → has_key stale.new path ≡ false → RoomTellsSame self.old self.new path) }
     {
         let now = told(alloc, &mut self.board)?;
         let before = mem::replace(&mut self.told, now);
@@ -401,14 +403,14 @@ impl Room {
         path: &str,
         line: u32,
         codes: &mut BTreeSet<Code>,
-    ) -> Result<(), AllocError> {
+    ) -> Result<(), AllocError>
+        ensures { OnOk result ((code : ACode) → Contains codes.new.keys code ↔ (Contains codes.old.keys code ⊎ HasCode (Contains (told_at self.now path.now)) line code)) }
+    {
         let Some(text) = self.text_at(path) else {
             return Ok(());
         };
-        for diag in of_file(self.told.as_slice(), text.name) {
-            if diag.line == line {
-                codes.insert(diag.code)?;
-            }
+        for diag in self.told.as_slice() {
+            add_code(diag, text.name, line, codes)?;
         }
         Ok(())
     }
@@ -434,11 +436,19 @@ fn put_source(texts: &mut Vec<Text>, place: usize, source: Shared<Source>)
     }
 }
 
-/// The diagnostics of a file, among those that stand in order.
-fn of_file(diags: &[Diag], name: FileName) -> &[Diag] {
-    let from = diags.partition_point(|diag| diag.file < name);
-    let to = diags.partition_point(|diag| diag.file <= name);
-    diags.get(from..to).unwrap_or(&[])
+/// Adds the code of a diagnostic, if that is at the line of the file.
+fn add_code(
+    diag: &Diag,
+    file: FileName,
+    line: u32,
+    codes: &mut BTreeSet<Code>,
+) -> Result<(), AllocError>
+    ensures { OnOk result ((code : ACode) → Contains codes.new.keys code ↔ (Contains codes.old.keys code ⊎ IsAt file line code diag.now)) }
+{
+    if diag.file == file && diag.line == line {
+        codes.insert(diag.code)?;
+    }
+    Ok(())
 }
 
 /// Whether a diagnostic is among those that stand in order.

@@ -7,7 +7,7 @@ use Rattle.serde_json.specs.Data.{Data, array}
 use Rattle.serde_json.specs.View.{items_of}
 use Rattle.serde_json.specs.Written.{has_float, items_have_float}
 use Rattle.occ_editor.specs.declared.editor.Published.{Published}
-use Rattle.occ_editor_messages.specs.Sent.{AreTold, IsFirst, IsTold, diagnostic_data, other_data, params_data, refusal_data}
+use Rattle.occ_editor_messages.specs.Sent.{AreTold, IsTold, diagnostic_data, first_data, other_data}
 use Rattle.occ_files.specs.declared.refusal.Why.{Why}
 use Rattle.occ_messages.specs.declared.message.Message.{Message}
 use Rattle.occ_messages.specs.declared.told.Quoted.{Quoted}
@@ -81,10 +81,10 @@ messages_plain : (uri : List ℕ) (ms : List Message) → items_have_float (item
 messages_plain uri [] = refl
 messages_plain uri (m ∷ ms) = ap (λ (b : Bool). (b || false) || items_have_float (items_of (map (diagnostic_data uri) ms))) (others_plain uri m.others.items) ∙ messages_plain uri ms
 
-first_plain : (refusal : Option Why) (first : List Data) (uri : List ℕ) (ms : List Message) → IsFirst refusal first → items_have_float (items_of (first ++ map (diagnostic_data uri) ms)) ≡ false
-first_plain None first uri ms is = ap (λ (ds : List Data). items_have_float (items_of (ds ++ map (diagnostic_data uri) ms))) is ∙ messages_plain uri ms
-first_plain (Some why) first uri ms is = ap (λ (ds : List Data). items_have_float (items_of (ds ++ map (diagnostic_data uri) ms))) is.1 ∙ messages_plain uri ms
+first_plain : (refusal : Option Why) (uri : List ℕ) (ms : List Message) → items_have_float (items_of (first_data refusal ++ map (diagnostic_data uri) ms)) ≡ false
+first_plain None uri ms = messages_plain uri ms
+first_plain (Some why) uri ms = messages_plain uri ms
 
 pub told_plain : (p : Published) (d : Data) → IsTold p d → has_float d ≡ false
 told_plain p d told =
-    ap has_float told.4 ∙ ap (λ (b : Bool). b || false) (first_plain p.refusal told.1 told.0 p.messages.items told.3)
+    ap has_float told.2 ∙ ap (λ (b : Bool). b || false) (first_plain p.refusal told.0 p.messages.items)

@@ -1,10 +1,12 @@
 -- What a client is sent of files.
-use Rattle.std.specs.Prelude.{◌≡◌, ◌+◌, ◌-◌, ℕ, Bool, true, false, codes, List, [], ◌∷◌, ◌++◌, map, Option, Some, None, if◌then◌else◌}
+use Rattle.std.specs.Prelude.{◌≡◌, ◌≤◌, ◌+◌, ◌-◌, ℕ, ℤ, Bool, true, false, codes, List, [], ◌∷◌, ◌++◌, map, Option, Some, None, if◌then◌else◌}
 use Rattle.std.specs.List.{All, flat_map}
 use Rattle.std.specs.String.{string_bytes}
-use Rattle.serde_json.specs.Data.{Data, Items, array, member, no_members, number, object, string, unsigned}
+use Rattle.serde_json.specs.Data.{Data, Items, array, depth, member, no_members, number, object, string, unsigned}
+use Rattle.serde_json.specs.Find.{of_integer}
+use Rattle.serde_json.specs.Read.{max_depth, read}
 use Rattle.serde_json.specs.View.{items_of}
-use Rattle.serde_json.specs.Written.{compact_text}
+use Rattle.serde_json.specs.Written.{compact_text, has_float}
 use Rattle.occ_base.specs.Diag.{code_text}
 use Rattle.occ_base.specs.declared.code.Grade.{Grade}
 use Rattle.occ_base.specs.declared.code.Grade.TheVariants as grade
@@ -14,6 +16,7 @@ use Rattle.occ_editor_edits.specs.Frames.{framed}
 use Rattle.occ_editor_edits.specs.Places.{goes_on, units}
 use Rattle.occ_editor_edits.specs.Uris.{IsUriOf}
 use Rattle.occ_editor_messages.specs.declared.server.Server.{Server}
+use Rattle.occ_files.specs.Words.{why_words}
 use Rattle.occ_files.specs.declared.refusal.Why.{Why}
 use Rattle.occ_messages.specs.declared.message.Message.{Message}
 use Rattle.occ_messages.specs.declared.told.Quoted.{Quoted}
@@ -67,10 +70,10 @@ refusal_data words =
     (member (codes "severity") (number (unsigned 1))
     (member (codes "source") (string (codes "occ")) no_members))))
 
--- where there is a reason, it is told first
-abbrev pub IsFirst : Option Why → List Data → Type 0
-IsFirst None first = first ≡ []
-IsFirst (Some why) first = (words : List ℕ) × (first ≡ refusal_data words ∷ [])
+-- where there is a reason, it is told first, in its words
+abbrev pub first_data : Option Why → List Data
+first_data None = []
+first_data (Some why) = refusal_data (why_words why) ∷ []
 
 -- a note of a file that has these diagnostics
 abbrev pub params_data : List ℕ → Data → Data
@@ -79,8 +82,8 @@ params_data uri diagnostics = object (member (codes "diagnostics") diagnostics (
 -- this tells what is published of a file
 abbrev pub IsTold : Published → Data → Type 0
 IsTold p params =
-    (uri : List ℕ) × (first : List Data) × IsUriOf (string_bytes p.path) uri × IsFirst p.refusal first
-    × (params ≡ params_data uri (array (items_of (first ++ map (diagnostic_data uri) p.messages.items))))
+    (uri : List ℕ) × IsUriOf (string_bytes p.path) uri
+    × (params ≡ params_data uri (array (items_of (first_data p.refusal ++ map (diagnostic_data uri) p.messages.items))))
 
 abbrev pub AreTold : List Published → List Data → Type 0
 AreTold [] [] = Unit {0}
@@ -92,6 +95,28 @@ AreTold (p ∷ ps) (d ∷ ds) = IsTold p d × AreTold ps ds
 
 abbrev pub note_data : List ℕ → Data → Data
 note_data method params = object (member (codes "jsonrpc") (string (codes "2.0")) (member (codes "method") (string method) (member (codes "params") params no_members)))
+
+-- the answer to the request of that id
+abbrev pub answer_data : Data → Data → Data
+answer_data id told = object (member (codes "id") id (member (codes "jsonrpc") (string (codes "2.0")) (member (codes "result") told no_members)))
+
+-- why a request is refused: a number of the protocol and words
+abbrev pub error_data : ℤ → List ℕ → Data
+error_data code words = object (member (codes "code") (number (of_integer code)) (member (codes "message") (string words) no_members))
+
+-- that the request of that id is refused
+abbrev pub refused_data : Data → ℤ → List ℕ → Data
+refused_data id code words = object (member (codes "error") (error_data code words) (member (codes "id") id (member (codes "jsonrpc") (string (codes "2.0")) no_members)))
+
+-- a request of the server's own
+abbrev pub request_data : List ℕ → Data → Data
+request_data method params = object (member (codes "id") (string (codes "watch")) (member (codes "jsonrpc") (string (codes "2.0")) (member (codes "method") (string method) (member (codes "params") params no_members))))
+
+-- the message stands in its frame behind what was to be sent before: a text that reads as the message, and this one where it has no
+-- fraction
+abbrev pub IsAdded : Data → List ℕ → List ℕ → Type 0
+IsAdded message before now =
+    (text : List ℕ) × (now ≡ before ++ framed text) × (depth message ≤ max_depth → read text ≡ Some message) × (has_float message ≡ false → text ≡ compact_text message)
 
 -- a note in its frame
 abbrev pub note_bytes : List ℕ → Data → List ℕ

@@ -1,8 +1,8 @@
 //! What is told of a file, as the protocol has it.
-ghost use Rattle.occ_editor_messages.specs.Sent.{IsFirst, IsTold, diagnostic_data, line_data, location_data, other_data, params_data, place_data, range_data, refusal_data, units_in, words_of};
-ghost use Rattle.serde_json.specs.Data.{Data, array};
+ghost use Rattle.occ_editor_messages.specs.Sent.{IsTold, diagnostic_data, first_data, line_data, location_data, other_data, params_data, place_data, range_data, refusal_data, units_in, words_of};
+ghost use Rattle.serde_json.specs.Data.{array};
 ghost use Rattle.serde_json.specs.View.{items_of, view};
-ghost use Rattle.std.specs.Prelude.{◌≡◌, ◌++◌, IfOk, List, map};
+ghost use Rattle.std.specs.Prelude.{◌≡◌, ◌++◌, IfOk, map};
 ghost use Rattle.std.specs.String.{string_bytes};
 
 use occ_base::Grade;
@@ -31,7 +31,7 @@ fn note_of(alloc: Global, uri: &str, list: &Value) -> Result<Value, AllocError>
 
 /// The diagnostics of a file.
 fn diagnostics(alloc: Global, told: &Published, uri: &str) -> Result<Value, AllocError>
-    ensures { IfOk result (λ value. (first : List Data) × IsFirst told.now.refusal first × (view value ≡ array (items_of (first ++ map (diagnostic_data uri.now) told.now.messages.items)))) }
+    ensures { IfOk result (λ value. view value ≡ array (items_of (first_data told.now.refusal ++ map (diagnostic_data uri.now) told.now.messages.items))) }
 {
     let mut list = first(alloc, told.refusal)?;
     for message in &told.messages {
@@ -42,7 +42,7 @@ fn diagnostics(alloc: Global, told: &Published, uri: &str) -> Result<Value, Allo
 
 /// Why a file is not checked, if there is a reason.
 fn first(alloc: Global, refusal: Option<Why>) -> Result<Vec<Value>, AllocError>
-    ensures { IfOk result (λ list. IsFirst refusal (map view list.items)) }
+    ensures { IfOk result (λ list. map view list.items ≡ first_data refusal) }
 {
     let mut list = Vec::new(alloc);
     if let Some(why) = refusal {

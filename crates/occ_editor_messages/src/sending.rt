@@ -1,9 +1,9 @@
 //! Messages that are sent, in their frames.
-ghost use Rattle.occ_editor_edits.specs.Frames.{framed};
-ghost use Rattle.occ_editor_messages.specs.Sent.{note_bytes, note_data};
+ghost use Rattle.occ_editor_messages.specs.Sent.{IsAdded, answer_data, error_data, note_bytes, note_data, refused_data, request_data};
+ghost use Rattle.serde_json.specs.Data.{null};
 ghost use Rattle.serde_json.specs.View.{view};
-ghost use Rattle.serde_json.specs.Written.{compact_text, has_float};
-ghost use Rattle.std.specs.Prelude.{◌≡◌, ◌++◌, [], IfOk, OnOk, false};
+ghost use Rattle.serde_json.specs.Written.{has_float};
+ghost use Rattle.std.specs.Prelude.{◌≡◌, ◌++◌, [], IfOk, OnErr, OnOk, false, option_map, unwrap_or};
 
 use occ_editor_edits::frame;
 use serde_json::{Value, json};
@@ -29,7 +29,9 @@ pub struct Sending {
 
 impl Sending {
     /// Nothing.
-    pub fn new(alloc: Global) -> Sending {
+    pub fn new(alloc: Global) -> Sending
+        ensures { result.bytes.items ≡ [] }
+    {
         Sending {
             alloc,
             bytes: Vec::new(alloc),
@@ -50,9 +52,10 @@ impl Sending {
         self.bytes.clear();
     }
 
-    /// Adds a message.
+    /// Adds a message. Where memory is refused nothing is added.
     fn add(&mut self, message: &Value) -> Result<(), AllocError>
-        ensures { OnOk result (has_float (view message.now) ≡ false → self.new.bytes.items ≡ self.old.bytes.items ++ framed (compact_text (view message.now))) }
+        ensures sent { OnOk result (IsAdded (view message.now) self.old.bytes.items self.new.bytes.items) }
+        ensures err { OnErr result (self.new.bytes.items ≡ self.old.bytes.items) }
     {
         let text = message.to_string(self.alloc)?;
         let framed = frame(self.alloc, text.as_str())?;
@@ -60,19 +63,22 @@ impl Sending {
         Ok(())
     }
 
-    /// Adds the answer to a request.
-    pub fn answer(&mut self, id: &Value, told: &Value) -> Result<(), AllocError> {
-        let message = json!(in self.alloc; {"jsonrpc": "2.0", "id": id, "result": told})?;
+    /// Adds the answer to a request. Where memory is refused nothing is added.
+    pub fn answer(&mut self, id: &Value, told: &Value) -> Result<(), AllocError>
+        ensures sent { OnOk result (IsAdded (answer_data (view id.now) (view told.now)) self.old.bytes.items self.new.bytes.items) }
+        ensures err { OnErr result (self.new.bytes.items ≡ self.old.bytes.items) }
+    {
+        let message = answer(self.alloc, id, told)?;
         self.add(&message)
     }
 
-    /// Adds that a request is refused, or, without one, what came in its place.
-    pub fn refuse(&mut self, id: Option<&Value>, code: i32, words: &str) -> Result<(), AllocError> {
-        let error = json!(in self.alloc; {"code": code, "message": words})?;
-        let message = match id {
-            Some(id) => json!(in self.alloc; {"jsonrpc": "2.0", "id": id, "error": &error})?,
-            None => json!(in self.alloc; {"jsonrpc": "2.0", "id": null, "error": &error})?,
-        };
+    /// Adds that a request is refused, or, without one, what came in its place. Where memory is refused nothing is added.
+    pub fn refuse(&mut self, id: Option<&Value>, code: i32, words: &str) -> Result<(), AllocError>
+        ensures sent { OnOk result (IsAdded (refused_data (unwrap_or (option_map (λ id. view id.now) id.entry) null) code words.now) self.old.bytes.items self.new.bytes.items) }
+        ensures err { OnErr result (self.new.bytes.items ≡ self.old.bytes.items) }
+    {
+        let none = Value::Null;
+        let message = refused(self.alloc, id.unwrap_or(&none), code, words)?;
         self.add(&message)
     }
 
@@ -85,13 +91,43 @@ impl Sending {
         Ok(())
     }
 
-    /// Adds a request of the server's own, whose answer tells nothing.
-    pub fn request(&mut self, method: &str, params: &Value) -> Result<(), AllocError> {
-        let message = json!(in self.alloc;
-            {"jsonrpc": "2.0", "id": "watch", "method": method, "params": params}
-        )?;
+    /// Adds a request of the server's own, whose answer tells nothing. Where memory is refused nothing is added.
+    pub fn request(&mut self, method: &str, params: &Value) -> Result<(), AllocError>
+        ensures sent { OnOk result (IsAdded (request_data method.now (view params.now)) self.old.bytes.items self.new.bytes.items) }
+        ensures err { OnErr result (self.new.bytes.items ≡ self.old.bytes.items) }
+    {
+        let message = request(self.alloc, method, params)?;
         self.add(&message)
     }
+}
+
+/// The answer to a request.
+fn answer(alloc: Global, id: &Value, told: &Value) -> Result<Value, AllocError>
+    ensures { IfOk result (λ message. view message ≡ answer_data (view id.now) (view told.now)) }
+{
+    json!(in alloc; {"jsonrpc": "2.0", "id": id, "result": told})
+}
+
+/// Why a request is refused.
+fn error(alloc: Global, code: i32, words: &str) -> Result<Value, AllocError>
+    ensures { IfOk result (λ error. view error ≡ error_data code words.now) }
+{
+    json!(in alloc; {"code": code, "message": words})
+}
+
+/// That a request is refused.
+fn refused(alloc: Global, id: &Value, code: i32, words: &str) -> Result<Value, AllocError>
+    ensures { IfOk result (λ message. view message ≡ refused_data (view id.now) code words.now) }
+{
+    let error = error(alloc, code, words)?;
+    json!(in alloc; {"jsonrpc": "2.0", "id": id, "error": &error})
+}
+
+/// A request of a method.
+fn request(alloc: Global, method: &str, params: &Value) -> Result<Value, AllocError>
+    ensures { IfOk result (λ message. view message ≡ request_data method.now (view params.now)) }
+{
+    json!(in alloc; {"jsonrpc": "2.0", "id": "watch", "method": method, "params": params})
 }
 
 /// A note of a method.

@@ -6,11 +6,11 @@ ghost use Rattle.occ_editor_messages.specs.Sent.{Tells};
 ghost use Rattle.occ_editor_messages.specs.inside.Sending.{AreSent};
 ghost use Rattle.occ_editor_messages.specs.Talks.{HasHeard, IsJson, IsNoJson, Talk, asks, heard, next_of, silence, status_of, texts_after};
 ghost use Rattle.occ_editor_messages.specs.inside.Phases.{phase_by};
-ghost use Rattle.occ_editor_messages.specs.declared.server.Next.TheVariants.{Goes};
+ghost use Rattle.occ_editor_messages.specs.declared.server.Next.TheVariants.{Ends, Goes};
 ghost use Rattle.occ_editor_messages.specs.declared.server.Phase.TheVariants.{Begun};
 ghost use Rattle.serde_json.specs.Data.{Data};
 ghost use Rattle.serde_json.specs.View.{view};
-ghost use Rattle.std.specs.Prelude.{◌≡◌, [], IfOk, List, OnOk, is_some, ℕ};
+ghost use Rattle.std.specs.Prelude.{◌≡◌, ◌⊎◌, [], IfOk, List, OnOk, is_some, ℕ};
 
 use super::diagnostics::published;
 use super::sending::{NO_JSON, NO_MEMBERS, NO_METHOD, NO_REQUEST, NOT_BEGUN, Sending};
@@ -104,12 +104,14 @@ impl<D: Disk + Drop> Server<D> {
         )
     }
 
-    /// Takes a message. Whatever it is, the boards stand after it, and the open files have the texts that it gives them.
+    /// Takes a message. Whatever it is, the boards stand after it, and the open files have the texts that it gives them. If it ends
+    /// the server, that has the status of what was asked for before.
     pub fn take(&mut self, message: &[u8]) -> Result<Next, CheckFault>
         ensures boards { OnOk result (IsStanding self.old.editor → IsStanding self.new.editor) }
         ensures heard { OnOk result ((talk : Talk) (value : Data) → IsJson message.now value → HasHeard self.old talk → HasHeard self.new (heard talk value)) }
         ensures next { IfOk result (λ next. (talk : Talk) (value : Data) → IsJson message.now value → HasHeard self.old talk → next ≡ next_of talk value) }
         ensures goes { IfOk result (λ next. IsNoJson message.now → next ≡ Goes) }
+        ensures ends { IfOk result (λ next. (next ≡ Goes) ⊎ (next ≡ Ends (status_of self.old.phase))) }
         ensures unheard { OnOk result ((talk : Talk) → IsNoJson message.now → HasHeard self.old talk → HasHeard self.new talk) }
     {
         self.is_lost = false;
@@ -129,6 +131,7 @@ impl<D: Disk + Drop> Server<D> {
         ensures boards { OnOk result (IsStanding self.old.editor → IsStanding self.new.editor) }
         ensures heard { OnOk result ((talk : Talk) → HasHeard self.old talk → HasHeard self.new (heard talk (view message.now))) }
         ensures next { IfOk result (λ next. (talk : Talk) → HasHeard self.old talk → next ≡ next_of talk (view message.now)) }
+        ensures ends { IfOk result (λ next. (next ≡ Goes) ⊎ (next ≡ Ends (status_of self.old.phase))) }
     {
         let call = call_of(self.alloc, message)?;
         if matches!(&call, Call::Exit) {

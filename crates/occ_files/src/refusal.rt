@@ -1,5 +1,6 @@
 //! Files that are not checked, and why.
 ghost use Rattle.occ_files.specs.Refusals.{Held, IsRight, MayFail};
+ghost use Rattle.occ_files.specs.Words.{why_words};
 ghost use Rattle.occ_files.specs.declared.gathering.Text.{Text as AText};
 ghost use Rattle.std.specs.Prelude.{◌≡◌, IfOk, List, ℕ};
 ghost use Rattle.std.specs.String.{string_bytes};
@@ -61,7 +62,9 @@ impl Why {
     }
 
     /// The same in words.
-    pub fn as_str(self) -> &'static str {
+    pub fn as_str(self) -> &'static str
+        ensures { result.now ≡ why_words self }
+    {
         match self {
             Why::NotThere => "there is no such file",
             Why::NoUnit => "no unit: the name of a unit ends in .occ",

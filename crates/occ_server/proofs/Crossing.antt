@@ -1,6 +1,5 @@
 -- A server may be shared by threads.
 use denote.Param.Send.{IsSend, IsSync, sendable}
-use denote.RattleType.{RattleType}
 use denote.Struct.Field.{bool-field}
 use Rattle.sqlite_items.proofs.items.Items.TheSendSync as items
 use Rattle.sqlite_items.proofs.boxed.Boxed.TheSendSync as boxed
@@ -26,16 +25,12 @@ use Rattle.occ_base.proofs.diag.Diag.TheSendSync as diag_cross
 use Rattle.occ_base.proofs.file_name.FileName.TheSendSync as file_name_cross
 use Rattle.occ_forms.proofs.tree.ConstructKind.TheSendSync as construct_kind_cross
 use Rattle.occ_board.proofs.report.Row.TheSendSync as row_cross
-use Rattle.occ_board.proofs.entry.EditFault.TheSendSync as edit_fault_cross
 use Rattle.occ_forms_expressions.proofs.tree.Bounds.TheLaws.TheKnot as tree
 use Rattle.occ_types.proofs.types.Item.TheLaws.TheKnot as types
-use Rattle.occ_forms_expressions.specs.contracts.tree.Bounds as bounds
 use Rattle.occ_forms_expressions.specs.contracts.tree.Builtin as builtin
 use Rattle.occ_forms_expressions.specs.contracts.tree.Dimension as dimension
 use Rattle.occ_forms_expressions.specs.contracts.tree.Element as element
 use Rattle.occ_forms_expressions.specs.contracts.tree.Expr as expr
-use Rattle.occ_forms_expressions.specs.contracts.tree.NamedOperand as named_operand
-use Rattle.occ_forms_expressions.specs.contracts.tree.Operand as operand
 use Rattle.occ_forms_expressions.specs.contracts.tree.TypeForm as type_form
 use Rattle.occ_forms_expressions.specs.contracts.tree.DataForm as data_form
 use Rattle.occ_forms.specs.contracts.specification_tree.ItemForm as item_form
@@ -91,8 +86,6 @@ use Rattle.occ_server.specs.contracts.locked.Locked as locked
 use Rattle.occ_server.specs.contracts.server.Server as server
 use Rattle.std.specs.contracts.sync.Mutex as mutex_of
 use Rattle.std.specs.contracts.sync.Condvar as condvar_of
-use denote.Struct.Declared.{shape}
-use denote.Param.Send.{struct_sync, recorded_sync, view_sync}
 use Rattle.occ_server.specs.contracts.receipt.Receipt as receipt
 use Rattle.occ_server.specs.contracts.snapshot.Snapshot as snapshot
 
@@ -566,4 +559,3 @@ receipt_send = search (sendable, receipt_field_send) depth 10
 
 pub snapshot_field_send : IsSend snapshot.the_field.row
 snapshot_field_send = search (sendable, base_field_send, items.the_send, entry_send, row_cross.the_send) depth 30
-

@@ -1,5 +1,5 @@
 -- What is handed out of the lock: a journal over a base, and a report of the files that they make.
-use Rattle.std.specs.Prelude.{◌≡◌, ◌≤◌, ◌<◌, ◌⊎◌, ℕ, All, List, map, Option, Some, None}
+use Rattle.std.specs.Prelude.{◌≡◌, ◌≤◌, ◌<◌, ◌⊎◌, All, List, map, Option, Some, None}
 use Rattle.occ_board.specs.Journal.{IsBase, IsLegal, replay}
 use Rattle.occ_board.specs.declared.base.Base.{Base}
 use Rattle.occ_board.specs.declared.entry.Entry.{Entry}

@@ -5,16 +5,12 @@ use Rattle.std.specs.declared.alloc.Global.{Global}
 use Rattle.std.specs.List.{All, filter}
 use Rattle.std.specs.String.{string_bytes}
 use Rattle.occ_board.specs.Machine.{State}
-use Rattle.occ_editor.specs.Rooms.{AreOpen, HasTexts, is_of, source_at}
+use Rattle.occ_editor.specs.Rooms.{AreOpen, HasTexts, RefusesRightly, is_of, source_at}
 use Rattle.occ_editor.specs.declared.room.Room.{Room}
 use Rattle.occ_editor_edits.specs.declared.documents.Document.{Document}
-use Rattle.occ_editor.specs.Publishing.{refusal_at}
-use Rattle.occ_editor_edits.specs.Documents.{text_in}
 use Rattle.occ_files.specs.Gathering.{AreNamed, are_apart, is_met}
-use Rattle.occ_files.specs.Refusals.{IsRight}
 use Rattle.occ_files.specs.declared.gathering.Text.{Text}
 use Rattle.occ_files.specs.declared.refusal.Refusal.{Refusal}
-use Rattle.occ_files.specs.declared.refusal.Why.{Why}
 use Rattle.occ_forms.specs.Prepared.{Prepared}
 
 -- its place, where the first of them has this one
@@ -35,7 +31,7 @@ pub record AreFound (documents : List Document) (board : State) (texts : List Te
   pub has : HasTexts board texts
   pub opened : AreOpen documents texts
   pub named : AreNamed texts
-  pub right : (path bytes : List ℕ) (why : Why) → text_in documents path ≡ Some bytes → refusal_at refusals path ≡ Some why → IsRight (Some (Some bytes)) texts path why
+  pub right : RefusesRightly documents texts refusals
   pub met : All (λ path. is_met texts refusals (string_bytes path) ≡ true) paths
 
 -- the paths of the open units that are of a room

@@ -37,17 +37,17 @@ pub record IsQuiet (room : Room) (path : List ℕ) : Type 0 where
   pub heads : (head : Head) → Contains (told_at room path) head → ⊥
   pub why : refusal_at room.refusals.items path ≡ None
 
--- it tells the same of it
-pub record TellsSame (before now : Room) (path : List ℕ) : Type 0 where
+-- the room tells the same of the file at a path
+pub record RoomTellsSame (before now : Room) (path : List ℕ) : Type 0 where
   pub heads : (head : Head) → Contains (told_at before path) head ↔ Contains (told_at now path) head
   pub why : refusal_at before.refusals.items path ≡ refusal_at now.refusals.items path
 
--- each room tells the same of the file at a path
+-- each of the rooms does
 abbrev pub AllAt : List Room → List Room → List ℕ → Type 0
 AllAt [] [] path = Unit {0}
 AllAt [] (n ∷ ns) path = ⊥
 AllAt (b ∷ bs) [] path = ⊥
-AllAt (b ∷ bs) (n ∷ ns) path = TellsSame b n path × AllAt bs ns path
+AllAt (b ∷ bs) (n ∷ ns) path = RoomTellsSame b n path × AllAt bs ns path
 
 -- so it does of each file, or of each that is none of these
 abbrev pub AllTellSame : List Room → List Room → Type 0

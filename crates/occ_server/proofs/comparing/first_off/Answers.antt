@@ -2,7 +2,7 @@ use Rattle.std.proofs.Common.{◌≡◌, ◌+◌, ◌<◌, ◌≤◌, ◌∙◌,
 use Rattle.std.proofs.lemmas.Option.{slice_get_past, slice_get_read}
 use Rattle.occ_server.proofs.Offs.{all_there, more_there, none_there, one_more, other_there}
 use Rattle.occ_server.proofs.comparing.first_off.Goals as goal
-use Rattle.occ_server.specs.Receipts.{IsLeastOff, Numbered, receipts_of}
+use Rattle.occ_server.specs.Receipts.{IsLeastOff, receipts_of}
 use Rattle.std.proofs.Common.{take}
 
 pub returns-in-None-clause-off : goal.returns-in-None-clause-off

@@ -5,7 +5,7 @@ use Rattle.occ_editor.proofs.Rooms.{where_true}
 use Rattle.occ_editor.proofs.Shown.{without_vacant}
 use Rattle.occ_editor.proofs.Wanted.{rooms_filter}
 use Rattle.occ_editor.proofs.editor.Editor.leave_empty.Goals as goal
-use Rattle.occ_editor.specs.Publishing.{TellSame}
+use Rattle.occ_editor.specs.Publishing.{BoardsTellSame}
 use Rattle.occ_editor.specs.Rooms.{HaveRooms, is_vacant}
 use Rattle.occ_editor.specs.declared.room.Room.{Room}
 
@@ -22,4 +22,4 @@ pub returns-clause-folders : goal.returns-clause-folders
 returns-clause-folders c = λ documents settled have. subst (HaveRooms documents) (sym (returns-clause-rooms c)) (rooms_filter documents c.args.self.now.rooms.items settled have)
 
 pub returns-clause-told : goal.returns-clause-told
-returns-clause-told c = subst (TellSame c.args.self.now.rooms.items) (sym (returns-clause-rooms c)) (without_vacant c.args.self.now.rooms.items)
+returns-clause-told c = subst (BoardsTellSame c.args.self.now.rooms.items) (sym (returns-clause-rooms c)) (without_vacant c.args.self.now.rooms.items)

@@ -4,13 +4,13 @@ use Rattle.std.specs.List.{Contains, slice_get}
 use Rattle.std.specs.Prelude.{nat_lt, slice_set}
 use Rattle.std.specs.Str.{bytes_eq}
 use Rattle.occ_editor.proofs.Placed.{IsAt, apart_set, has_set, is_at, open_put, or_left, other_source, source_at_set, text_at}
-use Rattle.occ_editor.proofs.Right.{AreOpenRight, grows_set, named_set, right_beside}
+use Rattle.occ_editor.proofs.Right.{grows_set, named_set, right_beside}
 use Rattle.occ_editor.proofs.Shown.{told_set}
 use Rattle.occ_editor.proofs.Wanted.{met_beside, met_set, source_met}
 use Rattle.occ_editor.proofs.room.Room.change.Goals as goal
 use Rattle.occ_editor.specs.Publishing.{heads_of, text_at as text_in}
 use Rattle.occ_editor.specs.Placing.{source_on}
-use Rattle.occ_editor.specs.Rooms.{AreOpen, HasTexts}
+use Rattle.occ_editor.specs.Rooms.{AreOpen, HasTexts, RefusesRightly}
 use Rattle.occ_files.specs.Gathering.{AreNamed, are_apart, is_met}
 use Rattle.occ_files.specs.declared.gathering.Text.{Text}
 use Rattle.occ_forms.specs.Prepared.{Prepared}
@@ -35,7 +35,7 @@ returns-clause-stands c = λ before now path e none changes stands.
     let put : c.put_source.new.texts.items ≡ slice_set texts place (other_source text source) = c.put_source.ensures text there in
     record {
       named = subst AreNamed (sym put) (named_set texts place text source there stands.named);
-      right = λ found. subst (λ (ts : List Text). AreOpenRight now ts c.args.self.now.refusals.items) (sym put) (right_beside before now path (Some source.text) texts (slice_set texts place (other_source text source)) c.args.self.now.refusals.items changes none (grows_set texts place text source there) (stands.right (or_left c.args.self.now.is_loose _ found)));
+      right = λ found. subst (λ (ts : List Text). RefusesRightly now ts c.args.self.now.refusals.items) (sym put) (right_beside before now path (Some source.text) texts (slice_set texts place (other_source text source)) c.args.self.now.refusals.items changes none (grows_set texts place text source there) (stands.right (or_left c.args.self.now.is_loose _ found)));
       apart = ap are_apart put ∙ apart_set texts place text source there ∙ stands.apart;
       has = subst (HasTexts c.put_one.new.board) (sym put)
           (has_set c.args.self.now.board c.put_one.new.board texts place text source there stands.apart stands.has
