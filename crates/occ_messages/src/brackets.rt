@@ -15,6 +15,11 @@ const OPERATORS: [&str; 7] = [
     "TIMES", "REM", "BITAND", "BITOR", "BITNOT", "MOSTPOS", "MOSTNEG",
 ];
 
+/// Signs of operators, and quotes.
+const SIGNS: [u8; 11] = [
+    b'+', b'-', b'*', b'/', b'\\', b'<', b'>', b'=', b'~', b'"', b'\'',
+];
+
 /// Tells what is wrong with the brackets of a line.
 pub fn brackets(alloc: Global, place: Place<'_>, told: &mut Told) -> Result<(), AllocError> {
     unbalanced(alloc, place.said, [b'(', b')'], told)?;
@@ -178,14 +183,24 @@ fn mixed_in(alloc: Global, expression: &[u8], told: &mut Told) -> Result<(), All
         "two operators stand beside one another without brackets, and none comes before the other",
     )?);
     let operands = [first.left, second.left, second.right];
-    if !are_operands(alloc, operands)? {
-        return Ok(());
+    if are_operands(alloc, operands)? {
+        either_way(alloc, operands, [one, two], told)?;
     }
-    let [left, middle, right] = operands;
+    Ok(())
+}
+
+/// Tells the two ways in which two operators may have brackets.
+fn either_way(
+    alloc: Global,
+    operands: [&[u8]; 3],
+    operators: [&str; 2],
+    told: &mut Told,
+) -> Result<(), AllocError> {
+    let ([left, middle, right], [one, two]) = (operands, operators);
     let (left, middle, right) = (trimmed(left), trimmed(middle), trimmed(right));
-    told.help(format!(in alloc;
-        "brackets say which is meant: `{left} {one} ({middle} {two} {right})` or `({left} {one} {middle}) {two} {right}`"
-    )?)
+    let behind = format!(in alloc; "{left} {one} ({middle} {two} {right})")?;
+    let before = format!(in alloc; "({left} {one} {middle}) {two} {right}")?;
+    told.help(format!(in alloc; "brackets say which is meant: `{behind}` or `{before}`")?)
 }
 
 /// Whether all of these are operands.
@@ -200,12 +215,7 @@ fn are_operands(alloc: Global, all: [&[u8]; 3]) -> Result<bool, AllocError> {
 
 /// Whether what is in no brackets of some bytes is one operand: no operator and no word of occam is there.
 fn is_operand(outside: &[u8]) -> bool {
-    !outside.iter().any(|b| {
-        matches!(
-            b,
-            b'+' | b'-' | b'*' | b'/' | b'\\' | b'<' | b'>' | b'=' | b'~' | b'"' | b'\''
-        )
-    }) && !has_operator(outside)
+    !outside.iter().any(|b| SIGNS.contains(b)) && !has_operator(outside)
 }
 
 /// Whether one of the words is an operator or another word of occam.

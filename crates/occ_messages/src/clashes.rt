@@ -6,7 +6,7 @@ use super::rounds::{Rounds, common, elements, rounds_of};
 use super::spelling::is_reserved;
 use super::text::{
     Lines, Numbered, after_word, closed, column, has, has_word, is_skipped, last_word, next_item,
-    next_word, statement, whole_statement,
+    next_word, number_of, split_once,
 };
 use super::told::{Place, Told, shown};
 use super::uses::{Use, is_of, uses};
@@ -85,25 +85,22 @@ fn headline(
     picked: &[Use],
     told: &mut Told,
 ) -> Result<(), AllocError> {
-    let name = shown(alloc, place.name)?;
+    let name = shown(place.name);
     let are_rounds = picked.len() == 1 && has_word(place.said, b"FOR");
     let parts = if are_rounds { "rounds" } else { "components" };
     let changed = picked.iter().filter(|one| one.deeds.changes).count();
-    match place.code {
-        Code::U2 => told.say(format!(in alloc;
-            "`{name}` is input from in two {parts} of this PAR"
-        )?),
-        Code::U3 => told.say(format!(in alloc;
-            "`{name}` is output to in two {parts} of this PAR"
-        )?),
-        _ if changed > 1 => told.say(format!(in alloc;
-            "`{name}` is changed in two {parts} of this PAR"
-        )?),
-        _ if are_rounds => told.say(format!(in alloc;
-            "`{name}` is changed in one round of this PAR and used in another"
-        )?),
-        _ => {}
-    }
+    let deed = match place.code {
+        Code::U2 => "is input from in two",
+        Code::U3 => "is output to in two",
+        _ if changed > 1 => "is changed in two",
+        _ if are_rounds => "is changed in one round of this PAR and used in another",
+        _ => return Ok(()),
+    };
+    told.say(if deed.ends_with("two") {
+        format!(in alloc; "`{name}` {deed} {parts} of this PAR")?
+    } else {
+        format!(in alloc; "`{name}` {deed}")?
+    });
     Ok(())
 }
 
@@ -114,14 +111,9 @@ fn shared(
     picked: &[Use],
     told: &mut Told,
 ) -> Result<(), AllocError> {
-    let mut known = constants(alloc, place.lines, place.number)?;
-    let hint = match index(place.said) {
-        Some(name) => rounds(alloc, place, picked, name, &mut known)?,
-        None => components(alloc, place, picked, known.as_slice())?,
-    };
-    match hint {
+    match shared_element(alloc, place, picked)? {
         Some(hint) => told.help(hint),
-        None if has_unknown(alloc, place, picked)? => told.help(String::from_str(
+        None if has_unknown(place, picked) => told.help(String::from_str(
             alloc,
             "parts of an array whose subscripts are not known count as one: only constants, and indices of replicators over constants, are known",
         )?),
@@ -129,10 +121,23 @@ fn shared(
     }
 }
 
+/// Which element is shared, if that is known.
+fn shared_element(
+    alloc: Global,
+    place: Place<'_>,
+    picked: &[Use],
+) -> Result<Option<String>, AllocError> {
+    let mut known = constants(alloc, place.lines, place.number)?;
+    match index(place.said) {
+        Some(name) => rounds(alloc, place, picked, name, &mut known),
+        None => components(alloc, place, picked, known.as_slice()),
+    }
+}
+
 /// The index of a replicator.
 fn index(said: &[u8]) -> Option<&[u8]> {
-    let at = said.iter().position(|b| *b == b'=')?;
-    let name = last_word(said.get(..at)?);
+    let (front, _) = split_once(said, b"=")?;
+    let name = last_word(front);
     if is_replicator_of(said, name) {
         Some(name)
     } else {
@@ -158,15 +163,26 @@ fn rounds<'a>(
         let parts = all_parts(alloc, place, picked, known.as_slice())?;
         known.pop();
         if let Some(element) = meeting(last.as_slice(), parts.as_slice()) {
-            let (array, index) = (shown(alloc, place.name)?, shown(alloc, name)?);
-            let before = value.saturating_sub(1);
-            return Ok(Some(format!(in alloc;
-                "`{array}[{element}]` is in the part of {index} = {before} and in that of {index} = {value}"
-            )?));
+            return Ok(Some(in_two_rounds(alloc, place, name, element, value)?));
         }
         last = parts;
     }
     Ok(None)
+}
+
+/// That an element is in the part of a round of a replicator and in that of the round before it.
+fn in_two_rounds(
+    alloc: Global,
+    place: Place<'_>,
+    name: &[u8],
+    element: i64,
+    value: i64,
+) -> Result<String, AllocError> {
+    let (array, index) = (shown(place.name), shown(name));
+    let before = value.saturating_sub(1);
+    format!(in alloc;
+        "`{array}[{element}]` is in the part of {index} = {before} and in that of {index} = {value}"
+    )
 }
 
 /// The known parts that some lines use.
@@ -191,8 +207,7 @@ fn parts_at(
     one: Use,
     known: &[Constant<'_>],
 ) -> Result<Vec<Part>, AllocError> {
-    let said = whole_statement(alloc, place.lines, one.number)?;
-    parts(alloc, said.as_slice(), place.name, known)
+    parts(alloc, place.lines.statement(one.number), place.name, known)
 }
 
 /// Which element two components share, if that is known.
@@ -205,16 +220,32 @@ fn components<'a>(
     let [one, two, ..] = picked else {
         return Ok(None);
     };
-    let name = shown(alloc, place.name)?;
-    if let Some(element) = shared_part(alloc, place, *one, *two, known)? {
-        return Ok(Some(format!(in alloc; "both have `{name}[{element}]`")?));
+    match shared_part(alloc, place, *one, *two, known)? {
+        Some(element) => {
+            let name = shown(place.name);
+            Ok(Some(format!(in alloc; "both have `{name}[{element}]`")?))
+        }
+        None => shared_round(alloc, place, *one, *two, known),
     }
-    let some = elements_at(alloc, place, *one, known)?;
-    let others = elements_at(alloc, place, *two, known)?;
-    if let Some(element) = common(some.as_slice(), others.as_slice()) {
-        return Ok(Some(format!(in alloc; "both have `{name}{element}`")?));
+}
+
+/// Which element two lines share in the rounds around them, or by selectors that are written alike.
+fn shared_round<'a>(
+    alloc: Global,
+    place: Place<'a>,
+    one: Use,
+    two: Use,
+    known: &[Constant<'a>],
+) -> Result<Option<String>, AllocError> {
+    let some = elements_at(alloc, place, one, known)?;
+    let others = elements_at(alloc, place, two, known)?;
+    match common(some.as_slice(), others.as_slice()) {
+        Some(element) => {
+            let name = shown(place.name);
+            Ok(Some(format!(in alloc; "both have `{name}{element}`")?))
+        }
+        None => same_selectors(alloc, place, one, two),
     }
-    same_selectors(alloc, place, *one, *two)
 }
 
 /// The first element that two lines both use a part with, if these parts are known.
@@ -254,17 +285,13 @@ fn same_selectors(
     one: Use,
     two: Use,
 ) -> Result<Option<String>, AllocError> {
-    let name = shown(alloc, place.name)?;
-    let said = whole_statement(alloc, place.lines, one.number)?;
-    let other = whole_statement(alloc, place.lines, two.number)?;
-    let (a, b) = (
-        selectors(said.as_slice(), place.name),
-        selectors(other.as_slice(), place.name),
-    );
+    let name = shown(place.name);
+    let a = selectors(place.lines.statement(one.number), place.name);
+    let b = selectors(place.lines.statement(two.number), place.name);
     if a.is_empty() || a != b {
         return Ok(None);
     }
-    let selectors = shown(alloc, a)?;
+    let selectors = shown(a);
     Ok(Some(format!(in alloc; "both have `{name}{selectors}`")?))
 }
 
@@ -286,44 +313,35 @@ fn selectors<'a>(said: &'a [u8], name: &[u8]) -> &'a [u8] {
 }
 
 /// Whether one of some lines has a subscript that is not known.
-fn has_unknown(alloc: Global, place: Place<'_>, picked: &[Use]) -> Result<bool, AllocError> {
-    for one in picked {
-        let said = whole_statement(alloc, place.lines, one.number)?;
-        let found = selectors(said.as_slice(), place.name);
-        if is_unknown(alloc, place.lines, one.number, found)? {
-            return Ok(true);
-        }
-    }
-    Ok(false)
+fn has_unknown(place: Place<'_>, picked: &[Use]) -> bool {
+    picked.iter().any(|one| {
+        let found = selectors(place.lines.statement(one.number), place.name);
+        is_unknown(place.lines, one.number, found)
+    })
 }
 
 /// Whether a name among selectors is that of a variable.
-fn is_unknown(
-    alloc: Global,
-    lines: Lines<'_>,
-    number: u32,
-    selectors: &[u8],
-) -> Result<bool, AllocError> {
+fn is_unknown(lines: Lines<'_>, number: u32, selectors: &[u8]) -> bool {
     let mut rest = selectors;
     for _ in 0..selectors.len() {
         let Some((word, more)) = next_word(rest) else {
             break;
         };
         rest = more;
-        if !is_reserved(word) && varies(alloc, lines, number, word)? {
-            return Ok(true);
+        if !is_reserved(word) && varies(lines, number, word) {
+            return true;
         }
     }
-    Ok(false)
+    false
 }
 
 /// Whether a name is that of a variable or a formal.
-fn varies(alloc: Global, lines: Lines<'_>, number: u32, name: &[u8]) -> Result<bool, AllocError> {
-    let Some(found) = specified_by(alloc, lines, number, name)? else {
-        return Ok(false);
+fn varies(lines: Lines<'_>, number: u32, name: &[u8]) -> bool {
+    let Some(found) = specified_by(lines, number, name) else {
+        return false;
     };
-    let said = statement(alloc, found.line)?;
-    Ok(!is_replicator_of(said.as_slice(), name) && !has_word(said.as_slice(), b"IS"))
+    let said = lines.said(found.number);
+    !is_replicator_of(said, name) && !has_word(said, b"IS")
 }
 
 /// Tells that two channels of a call are perhaps swapped: nothing else is at the other end of either.
@@ -335,13 +353,13 @@ fn swapped(
 ) -> Result<(), AllocError> {
     if place.code == Code::U1
         || has_end(alloc, place, place.name, place.code == Code::U3)?
-        || !is_within(alloc, place, place.name)?
+        || !is_within(place, place.name)
     {
         return Ok(());
     }
     for one in picked {
-        let said = whole_statement(alloc, place.lines, one.number)?;
-        if let Some((_, actuals)) = call(said.as_slice()) {
+        let said = place.lines.statement(one.number);
+        if let Some((_, actuals)) = call(said) {
             let name = other_end(alloc, place, actuals)?;
             if !name.is_empty() {
                 return tell_swapped(alloc, place, *one, name, told);
@@ -369,16 +387,13 @@ fn has_end(
 }
 
 /// Whether a channel is declared before a PAR, and no line outside of that uses it.
-fn is_within(alloc: Global, place: Place<'_>, name: &[u8]) -> Result<bool, AllocError> {
-    let Some(found) = specified_by(alloc, place.lines, place.number, name)? else {
-        return Ok(false);
+fn is_within(place: Place<'_>, name: &[u8]) -> bool {
+    let Some(found) = specified_by(place.lines, place.number, name) else {
+        return false;
     };
-    let said = statement(alloc, found.line)?;
-    if !is_declaration(said.as_slice()) {
-        return Ok(false);
-    }
-    let between = place.lines.between(found.number, place.number);
-    Ok(!any_has(alloc, between, name)? && !is_used_behind(alloc, place, found, name)?)
+    is_declaration(place.lines.said(found.number))
+        && !is_used_between(place, found.number, name)
+        && !is_used_behind(place, found, name)
 }
 
 /// Whether a statement declares channels.
@@ -386,25 +401,15 @@ fn is_declaration(said: &[u8]) -> bool {
     has_word(said, b"CHAN") && said.ends_with(b":") && !has_word(said, b"IS")
 }
 
-/// Whether one of some lines has a name.
-fn any_has(alloc: Global, lines: &[&[u8]], name: &[u8]) -> Result<bool, AllocError> {
-    for line in lines {
-        if has_word(statement(alloc, line)?.as_slice(), name) {
-            return Ok(true);
-        }
-    }
-    Ok(false)
+/// Whether a line between one and a PAR has a name.
+fn is_used_between(place: Place<'_>, first: u32, name: &[u8]) -> bool {
+    (first.saturating_add(1)..place.number).any(|number| has_word(place.lines.said(number), name))
 }
 
 /// Whether a line behind a PAR has a name that a line before it declares.
-fn is_used_behind(
-    alloc: Global,
-    place: Place<'_>,
-    declared: Numbered<'_>,
-    name: &[u8],
-) -> Result<bool, AllocError> {
+fn is_used_behind(place: Place<'_>, declared: Numbered<'_>, name: &[u8]) -> bool {
     let mut is_behind = false;
-    for line in place.lines.after(place.number) {
+    for (at, line) in place.lines.after(place.number).iter().enumerate() {
         if is_skipped(line) {
             continue;
         }
@@ -412,11 +417,12 @@ fn is_used_behind(
             break;
         }
         is_behind = is_behind || column(line) <= column(place.line);
-        if is_behind && has_word(statement(alloc, line)?.as_slice(), name) {
-            return Ok(true);
+        let number = number_of(at).saturating_add(place.number);
+        if is_behind && has_word(place.lines.said(number), name) {
+            return true;
         }
     }
-    Ok(false)
+    false
 }
 
 /// Another actual of a call that has two of the ends that the reported channel lacks, and none of the others.
@@ -436,10 +442,7 @@ fn other_end<'a>(
             continue;
         }
         let has_lacking = has_end(alloc, place, actual, is_input)?;
-        if has_lacking
-            && !has_end(alloc, place, actual, !is_input)?
-            && is_within(alloc, place, actual)?
-        {
+        if has_lacking && !has_end(alloc, place, actual, !is_input)? && is_within(place, actual) {
             return Ok(actual);
         }
     }
@@ -454,56 +457,89 @@ fn tell_swapped(
     other: &[u8],
     told: &mut Told,
 ) -> Result<(), AllocError> {
-    let (name, other) = (shown(alloc, place.name)?, shown(alloc, other)?);
+    let (name, other) = (shown(place.name), shown(other));
     let number = one.number;
-    if place.code == Code::U2 {
-        told.help(format!(in alloc;
-            "nothing outputs to `{name}` and nothing inputs from `{other}`: perhaps they are swapped in line {number}"
-        )?)
+    let (lacks, has) = if place.code == Code::U2 {
+        ("outputs to", "inputs from")
     } else {
-        told.help(format!(in alloc;
-            "nothing inputs from `{name}` and nothing outputs to `{other}`: perhaps they are swapped in line {number}"
-        )?)
-    }
+        ("inputs from", "outputs to")
+    };
+    told.help(format!(in alloc;
+        "nothing {lacks} `{name}` and nothing {has} `{other}`: perhaps they are swapped in line {number}"
+    )?)
 }
 
-/// Tells which element two actuals of a call share.
+/// Tells that a call is given one thing twice, or that its body uses what it is given.
 pub fn actuals(alloc: Global, place: Place<'_>, told: &mut Told) -> Result<(), AllocError> {
-    let name = shown(alloc, place.name)?;
     let Some((called, actuals)) = call(place.said) else {
         return Ok(());
     };
-    if let Some(head) = specified_by(alloc, place.lines, place.number, called)? {
+    if let Some(head) = specified_by(place.lines, place.number, called) {
         told.show(alloc, head, called, "")?;
     }
-    let count = mentions(actuals, place.name);
-    let called = shown(alloc, called)?;
-    if count < 2 {
-        let perhaps = match place.grade {
-            Grade::Error => "",
-            Grade::Check => "perhaps ",
-        };
-        told.say(format!(in alloc;
-            "`{name}` is given to `{called}`, whose body {perhaps}uses it too"
-        )?);
-        return Ok(());
+    if mentions(actuals, place.name) < 2 {
+        given_once(alloc, place, called, told)
+    } else {
+        given_twice(alloc, place, actuals, told)
     }
+}
+
+/// Tells that the body of what is called uses what it is given.
+fn given_once(
+    alloc: Global,
+    place: Place<'_>,
+    called: &[u8],
+    told: &mut Told,
+) -> Result<(), AllocError> {
+    let (name, called) = (shown(place.name), shown(called));
+    let perhaps = match place.grade {
+        Grade::Error => "",
+        Grade::Check => "perhaps ",
+    };
+    told.say(format!(in alloc;
+        "`{name}` is given to `{called}`, whose body {perhaps}uses it too"
+    )?);
+    Ok(())
+}
+
+/// Tells that a call is given one thing twice, and which element is in both parts of it, if that is known.
+fn given_twice(
+    alloc: Global,
+    place: Place<'_>,
+    actuals: &[u8],
+    told: &mut Told,
+) -> Result<(), AllocError> {
     let known = constants(alloc, place.lines, place.number)?;
     let found = parts(alloc, actuals, place.name, known.as_slice())?;
+    if let [one, two, ..] = found.as_slice()
+        && let Some(element) = one.meets(*two)
+    {
+        return meet_in(alloc, place, [*one, *two], element, told);
+    }
+    let name = shown(place.name);
     let meet = match place.grade {
         Grade::Error => "",
         Grade::Check => ", and the two parts perhaps meet",
     };
     told.say(format!(in alloc; "`{name}` is given to this call twice{meet}")?);
-    if let [one, two, ..] = found.as_slice()
-        && let Some(element) = one.meets(*two)
-    {
-        let last = [one.end().saturating_sub(1), two.end().saturating_sub(1)];
-        let (from, then, [end, until]) = (one.from, two.from, last);
-        told.say(format!(in alloc;
-            "`{name}[{element}]` is given to this call twice: in {from} to {end}, and in {then} to {until}"
-        )?);
-    }
+    Ok(())
+}
+
+/// Tells which element is in both parts that a call is given.
+fn meet_in(
+    alloc: Global,
+    place: Place<'_>,
+    both: [Part; 2],
+    element: i64,
+    told: &mut Told,
+) -> Result<(), AllocError> {
+    let [one, two] = both;
+    let (from, end) = (one.from, one.end().saturating_sub(1));
+    let (then, until) = (two.from, two.end().saturating_sub(1));
+    let name = shown(place.name);
+    told.say(format!(in alloc;
+        "`{name}[{element}]` is given to this call twice: in {from} to {end}, and in {then} to {until}"
+    )?);
     Ok(())
 }
 

@@ -2,17 +2,18 @@
 use super::spelling::is_reserved;
 use super::text::{
     Lines, Numbered, after_word, around_word, closed, column, cut, first_word, has, has_word,
-    is_skipped, last_word, next_item, number_of, statement, whole_statement,
+    is_skipped, last_word, next_item, number_of, split_once,
 };
+use bstr::BStr;
 use std::alloc::{AllocError, Global};
 
 /// How many selectors are looked at.
 const SELECTOR_LIMIT: usize = 8;
 
 /// The type of something, and the line that says it.
-#[derive(Drop)]
-pub struct Typed {
-    pub text: Vec<u8>,
+#[derive(Clone, Copy)]
+pub struct Typed<'a> {
+    pub text: &'a [u8],
     pub number: u32,
 }
 
@@ -28,12 +29,7 @@ enum Reach {
 }
 
 /// The nearest line above that specifies a name which is seen from there.
-pub fn specified_by<'a>(
-    alloc: Global,
-    lines: Lines<'a>,
-    number: u32,
-    name: &[u8],
-) -> Result<Option<Numbered<'a>>, AllocError> {
+pub fn specified_by<'a>(lines: Lines<'a>, number: u32, name: &[u8]) -> Option<Numbered<'a>> {
     let mut depth = column(lines.line(number));
     for (at, line) in lines.before(number).iter().enumerate().rev() {
         if is_skipped(line) {
@@ -42,15 +38,14 @@ pub fn specified_by<'a>(
         let here = column(line);
         if here <= depth && has(line, name) {
             let number = number_of(at);
-            let said = whole_statement(alloc, lines, number)?;
-            let seen = seen_from(said.as_slice(), name);
+            let seen = seen_from(lines.statement(number), name);
             if seen == Reach::After || (seen == Reach::Under && here < depth) {
-                return Ok(Some(Numbered { number, line }));
+                return Some(Numbered { number, line });
             }
         }
         depth = depth.min(here);
     }
-    Ok(None)
+    None
 }
 
 /// Whether a statement specifies a name.
@@ -98,16 +93,16 @@ pub fn head_name(said: &[u8]) -> &[u8] {
     if first_word(said) == b"DATA".as_slice() {
         return after_word(said, b"TYPE").map_or(&[], |rest| first_word(rest.trim_ascii()));
     }
-    match said.iter().position(|b| *b == b'(') {
-        Some(at) => last_word(said.get(..at).unwrap_or(&[])),
+    match split_once(said, b"(") {
+        Some((front, _)) => last_word(front),
         None => &[],
     }
 }
 
 /// The formals of a head.
 pub fn formals(said: &[u8]) -> &[u8] {
-    match said.iter().position(|b| *b == b'(') {
-        Some(at) => closed(said.get(at.saturating_add(1)..).unwrap_or(&[])).0,
+    match split_once(said, b"(") {
+        Some((_, inside)) => closed(inside).0,
         None => &[],
     }
 }
@@ -115,8 +110,8 @@ pub fn formals(said: &[u8]) -> &[u8] {
 /// Whether a statement has a replicator with that index.
 pub fn is_replicator_of(said: &[u8], name: &[u8]) -> bool {
     matches!(first_word(said), b"SEQ" | b"PAR" | b"PRI" | b"ALT" | b"IF")
-        && match said.iter().position(|b| *b == b'=') {
-            Some(at) => last_word(said.get(..at).unwrap_or(&[])) == name,
+        && match split_once(said, b"=") {
+            Some((front, _)) => last_word(front) == name,
             None => false,
         }
 }
@@ -207,8 +202,8 @@ fn literal_type(value: &[u8]) -> &[u8] {
     let value = value.strip_suffix(b":").unwrap_or(value).trim_ascii();
     match value.first() {
         Some(b'\'') => b"BYTE",
-        Some(b'0'..=b'9') => match value.iter().position(|b| *b == b'(') {
-            Some(at) => closed(value.get(at.saturating_add(1)..).unwrap_or(&[])).0,
+        Some(b'0'..=b'9') => match split_once(value, b"(") {
+            Some((_, inside)) => closed(inside).0,
             None => b"INT",
         },
         _ if value == b"TRUE".as_slice() || value == b"FALSE".as_slice() => b"BOOL",
@@ -217,33 +212,16 @@ fn literal_type(value: &[u8]) -> &[u8] {
 }
 
 /// The type of a name at a line, if its specification is found and says it.
-pub fn type_of(
-    alloc: Global,
-    lines: Lines<'_>,
-    number: u32,
-    name: &[u8],
-) -> Result<Option<Typed>, AllocError> {
-    let Some(found) = specified_by(alloc, lines, number, name)? else {
-        return Ok(None);
-    };
-    let said = whole_statement(alloc, lines, found.number)?;
-    let text = without_val(type_in(said.as_slice(), name));
-    if text.is_empty() {
-        return Ok(None);
+pub fn type_of<'a>(lines: Lines<'a>, number: u32, name: &[u8]) -> Option<Typed<'a>> {
+    let number = specified_by(lines, number, name)?.number;
+    match without_val(type_in(lines.statement(number), name)) {
+        [] => None,
+        text => Some(Typed { text, number }),
     }
-    Ok(Some(Typed {
-        text: Vec::from_slice(alloc, text)?,
-        number: found.number,
-    }))
 }
 
 /// The type that is left of one behind so many subscripts and fields.
-pub fn selected(
-    alloc: Global,
-    lines: Lines<'_>,
-    whole: Typed,
-    selectors: &[u8],
-) -> Result<Option<Typed>, AllocError> {
+pub fn selected<'a>(lines: Lines<'a>, whole: Typed<'a>, selectors: &[u8]) -> Option<Typed<'a>> {
     let mut typed = whole;
     let mut rest = selectors.trim_ascii_start();
     for _ in 0..SELECTOR_LIMIT {
@@ -251,41 +229,26 @@ pub fn selected(
             break;
         };
         let (selector, more) = closed(inside);
-        match part(alloc, lines, &typed, selector)? {
-            Some(next) => typed = next,
-            None => return Ok(None),
-        }
+        typed = part(lines, typed, selector)?;
         rest = more;
     }
-    Ok(Some(typed))
+    Some(typed)
 }
 
 /// The type of an element or of a field.
-fn part(
-    alloc: Global,
-    lines: Lines<'_>,
-    whole: &Typed,
-    selector: &[u8],
-) -> Result<Option<Typed>, AllocError> {
-    let number = whole.number;
-    if let Some(inside) = whole.text.as_slice().strip_prefix(b"[") {
-        let (_, element) = closed(inside);
-        let text = Vec::from_slice(alloc, element.trim_ascii())?;
-        return Ok(Some(Typed { text, number }));
+fn part<'a>(lines: Lines<'a>, whole: Typed<'a>, selector: &[u8]) -> Option<Typed<'a>> {
+    match whole.text.strip_prefix(b"[") {
+        Some(inside) => Some(Typed {
+            text: closed(inside).1.trim_ascii(),
+            number: whole.number,
+        }),
+        None => field_type(lines, whole.text, selector.trim_ascii()),
     }
-    field_type(alloc, lines, whole.text.as_slice(), selector.trim_ascii())
 }
 
 /// The type of a field of a record, and its line.
-fn field_type(
-    alloc: Global,
-    lines: Lines<'_>,
-    record: &[u8],
-    field: &[u8],
-) -> Result<Option<Typed>, AllocError> {
-    let Some(head) = definition(lines, record) else {
-        return Ok(None);
-    };
+fn field_type<'a>(lines: Lines<'a>, record: &[u8], field: &[u8]) -> Option<Typed<'a>> {
+    let head = definition(lines, record)?;
     for (at, line) in lines.after(head.number).iter().enumerate() {
         if is_skipped(line) {
             continue;
@@ -293,20 +256,18 @@ fn field_type(
         if column(line) <= column(head.line) {
             break;
         }
-        let said = statement(alloc, line)?;
-        let text = type_in(said.as_slice(), field);
+        let number = number_of(at).saturating_add(head.number);
+        let text = type_in(lines.said(number), field);
         if !text.is_empty() {
-            let text = Vec::from_slice(alloc, text)?;
-            let number = number_of(at).saturating_add(head.number);
-            return Ok(Some(Typed { text, number }));
+            return Some(Typed { text, number });
         }
     }
-    Ok(None)
+    None
 }
 
 /// The line that defines a protocol or a data type.
 pub fn definition<'a>(lines: Lines<'a>, name: &[u8]) -> Option<Numbered<'a>> {
-    for (at, line) in lines.0.iter().enumerate() {
+    for (at, line) in lines.all.iter().enumerate() {
         let said = line.trim_ascii();
         if matches!(first_word(said), b"PROTOCOL" | b"DATA") && head_name(said) == name {
             let number = number_of(at);
@@ -322,15 +283,15 @@ pub fn field_names(alloc: Global, lines: Lines<'_>, record: &[u8]) -> Result<Str
     let Some(head) = definition(lines, record) else {
         return Ok(names);
     };
-    for line in lines.after(head.number) {
+    for (at, line) in lines.after(head.number).iter().enumerate() {
         if is_skipped(line) {
             continue;
         }
         if column(line) <= column(head.line) {
             break;
         }
-        let said = statement(alloc, line)?;
-        if let Some(list) = said.as_slice().strip_suffix(b":") {
+        let number = number_of(at).saturating_add(head.number);
+        if let Some(list) = lines.said(number).strip_suffix(b":") {
             add_names(alloc, list, &mut names)?;
         }
     }
@@ -352,7 +313,7 @@ fn add_names(alloc: Global, list: &[u8], names: &mut String) -> Result<(), Alloc
 
 /// Adds a name to a list of them.
 pub fn add_name(alloc: Global, name: &[u8], names: &mut String) -> Result<(), AllocError> {
-    let name = String::from_utf8_lossy(alloc, name)?;
+    let name = BStr::new(name);
     let comma = if names.is_empty() { "" } else { ", " };
     names.push_str(format!(in alloc; "{comma}`{name}`")?.as_str())
 }
@@ -416,12 +377,7 @@ pub fn is_number(text: &[u8]) -> bool {
 }
 
 /// The type of an expression, as far as looks go; nothing where they do not say it.
-pub fn looks(
-    alloc: Global,
-    lines: Lines<'_>,
-    number: u32,
-    expression: &[u8],
-) -> Result<Option<Typed>, AllocError> {
+pub fn looks<'a>(lines: Lines<'a>, number: u32, expression: &'a [u8]) -> Option<Typed<'a>> {
     let whole = unbracketed(expression);
     let said = first_operand(whole);
     let first = first_word(said);
@@ -436,12 +392,9 @@ pub fn looks(
     } else if said.first() == Some(&b'"') {
         b"[]BYTE"
     } else {
-        return named(alloc, lines, number, said);
+        return named(lines, number, said);
     };
-    Ok(Some(Typed {
-        text: Vec::from_slice(alloc, text)?,
-        number: 0,
-    }))
+    Some(Typed { text, number: 0 })
 }
 
 /// What is in brackets, if all is.
@@ -497,21 +450,13 @@ fn has_comparison(said: &[u8]) -> bool {
 }
 
 /// The type of the first name of an expression.
-fn named(
-    alloc: Global,
-    lines: Lines<'_>,
-    number: u32,
-    said: &[u8],
-) -> Result<Option<Typed>, AllocError> {
+fn named<'a>(lines: Lines<'a>, number: u32, said: &[u8]) -> Option<Typed<'a>> {
     let name = first_word(said);
     if name.is_empty() || is_reserved(name) || name.first().is_some_and(u8::is_ascii_digit) {
-        return Ok(None);
+        return None;
     }
     let rest = said.get(name.len()..).unwrap_or(&[]);
-    match type_of(alloc, lines, number, name)? {
-        Some(typed) => selected(alloc, lines, typed, rest),
-        None => Ok(None),
-    }
+    selected(lines, type_of(lines, number, name)?, rest)
 }
 
 /// Adds the number of a line to a list of them.

@@ -2,7 +2,7 @@
 use super::declared::add_number;
 use super::text::{
     Lines, Numbered, column, first_word, has, has_word, is_skipped, line_after, line_before,
-    line_behind, number_of, parent, statement,
+    line_behind, number_of, parent,
 };
 use super::told::{Place, Told};
 use std::alloc::{AllocError, Global};
@@ -19,54 +19,48 @@ pub fn depth(alloc: Global, place: Place<'_>, told: &mut Told) -> Result<(), All
     if told.is_said() {
         return Ok(());
     }
-    match line_before(place.lines, place.number) {
-        Some(before) if column(before.line) < depth && !takes_lines(before.line.trim_ascii()) => {
-            let number = before.number;
-            told.show(alloc, before, first_word(before.line.trim_ascii()), "")?;
-            told.say(format!(in alloc;
-                "this line is deeper than line {number}, which takes nothing under it"
-            )?);
-        }
-        Some(before) if column(before.line) == depth && is_opener(before.line.trim_ascii()) => {
-            let number = before.number;
-            told.show(alloc, before, first_word(before.line.trim_ascii()), "")?;
-            told.say(format!(in alloc;
-                "what belongs to line {number} stands under it, two blanks further in"
-            )?);
-        }
-        Some(before) if column(before.line).saturating_add(2) < depth => {
-            let number = before.number;
-            told.show(alloc, before, first_word(before.line.trim_ascii()), "")?;
-            told.say(format!(in alloc;
-                "this line is too deep: what is under line {number} begins two blanks further in than that"
-            )?);
-        }
-        _ => {
-            if let Some(words) = around(alloc, place, depth)? {
-                told.say(String::from_str(alloc, words)?);
-            }
-        }
+    if let Some(before) = line_before(place.lines, place.number)
+        && let Some((front, behind)) = beside(before, depth)
+    {
+        let number = before.number;
+        told.show_start(alloc, before)?;
+        told.say(format!(in alloc; "{front} line {number}{behind}")?);
+    } else if let Some(words) = around(place, depth) {
+        told.say(String::from_str(alloc, words)?);
     }
     Ok(())
 }
 
+/// What is wrong with the depth of a line beside the one before it: the words before the number of that and after it.
+fn beside(before: Numbered<'_>, depth: usize) -> Option<(&'static str, &'static str)> {
+    let (said, column) = (before.line.trim_ascii(), column(before.line));
+    if column < depth && !takes_lines(said) {
+        Some(("this line is deeper than", ", which takes nothing under it"))
+    } else if column == depth && is_opener(said) {
+        Some(("what belongs to", " stands under it, two blanks further in"))
+    } else if column.saturating_add(2) < depth {
+        Some((
+            "this line is too deep: what is under",
+            " begins two blanks further in than that",
+        ))
+    } else {
+        None
+    }
+}
+
 /// What is wrong with the lines around one that is not too deep.
-fn around(
-    alloc: Global,
-    place: Place<'_>,
-    depth: usize,
-) -> Result<Option<&'static str>, AllocError> {
-    Ok(if let Some(words) = under_head(place) {
+fn around(place: Place<'_>, depth: usize) -> Option<&'static str> {
+    if let Some(words) = under_head(place) {
         Some(words)
     } else if takes_lines(place.said) && !is_deeper(line_after(place.lines, place.number), depth) {
         Some("what belongs to this line stands under it, two blanks further in, and is missing")
     } else if is_under_choice(place) {
         Some(choice(place))
-    } else if lacks_sequence(alloc, place, depth)? {
+    } else if lacks_sequence(place, depth) {
         Some("no `SEQ` stands over this line and the process before it")
     } else {
         None
-    })
+    }
 }
 
 /// What is wrong with a tab, or with what stands under a head.
@@ -85,19 +79,18 @@ fn under_head(place: Place<'_>) -> Option<&'static str> {
 }
 
 /// Whether a process stands before a line in its column, and nothing over them takes several.
-fn lacks_sequence(alloc: Global, place: Place<'_>, depth: usize) -> Result<bool, AllocError> {
-    if let Some(parent) = parent(place.lines, place.number)
-        && matches!(
+fn lacks_sequence(place: Place<'_>, depth: usize) -> bool {
+    let is_under = parent(place.lines, place.number).is_some_and(|parent| {
+        matches!(
             first_word(parent.line.trim_ascii()),
             b"SEQ" | b"PAR" | b"PRI"
         )
-    {
-        return Ok(false);
-    }
-    match last_in(place.lines, place.number, depth) {
-        Some(before) => Ok(!statement(alloc, before.line)?.as_slice().ends_with(b":")),
-        None => Ok(false),
-    }
+    });
+    !is_under
+        && last_in(place.lines, place.number, depth).is_some_and(|before| !place
+            .lines
+            .said(before.number)
+            .ends_with(b":"))
 }
 
 /// The nearest line above in a column, with no line between that is less far in.
@@ -231,7 +224,7 @@ fn closing(
     match behind {
         Some(behind) => {
             let number = behind.number;
-            told.show(alloc, behind, first_word(behind.line.trim_ascii()), "")?;
+            told.show_start(alloc, behind)?;
             told.help(format!(in alloc;
                 "put it on a line of its own before line {number}, in the column of this line"
             )?)
@@ -263,15 +256,26 @@ fn sequence(alloc: Global, place: Place<'_>, told: &mut Told) -> Result<(), Allo
         let number = number_of(at).saturating_add(first.number);
         add_number(alloc, number, &mut numbers)?;
         let line = Numbered { number, line };
-        told.show(alloc, line, first_word(line.line.trim_ascii()), "")?;
+        told.show_start(alloc, line)?;
         others = others.saturating_add(1);
     }
     if others == 0 {
-        return Ok(());
+        Ok(())
+    } else {
+        no_sequence(alloc, first, numbers.as_str(), told)
     }
-    told.show(alloc, first, first_word(first.line.trim_ascii()), "")?;
-    told.say(format!(in alloc; "no `SEQ` stands over the lines {numbers}")?);
+}
+
+/// Tells that no SEQ stands over some lines, of which this is the first.
+fn no_sequence(
+    alloc: Global,
+    first: Numbered<'_>,
+    numbers: &str,
+    told: &mut Told,
+) -> Result<(), AllocError> {
     let number = first.number;
+    told.show_start(alloc, first)?;
+    told.say(format!(in alloc; "no `SEQ` stands over the lines {numbers}")?);
     told.help(format!(in alloc;
         "put a `SEQ` before line {number}, two blanks less far in than that"
     )?)

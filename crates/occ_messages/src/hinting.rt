@@ -11,7 +11,7 @@ use super::specifics::{
 };
 use super::spelling::written;
 use super::subscripts::outside;
-use super::text::{Lines, statement};
+use super::text::Lines;
 use super::told::{Place, Told};
 use occ_base::{Code, Diag};
 use std::alloc::{AllocError, Global};
@@ -19,7 +19,6 @@ use std::alloc::{AllocError, Global};
 /// What is told of a diagnostic beyond its code, from the lines of its text.
 pub fn told_of(alloc: Global, diag: &Diag, lines: Lines<'_>) -> Result<Told, AllocError> {
     let line = lines.line(diag.line);
-    let said = statement(alloc, line)?;
     let name = match &diag.name {
         Some(name) => name.as_bytes(),
         None => &[],
@@ -29,7 +28,7 @@ pub fn told_of(alloc: Global, diag: &Diag, lines: Lines<'_>) -> Result<Told, All
         grade: diag.grade,
         number: diag.line,
         line,
-        said: said.as_slice(),
+        said: lines.said(diag.line),
         name,
         lines,
     };

@@ -4,7 +4,7 @@ ghost use Rattle.std.specs.Prelude.{◌≡◌, IfOk};
 
 use super::hinting::told_of;
 use super::table::entry_of;
-use super::text::{Lines, lines_of};
+use super::text::Text;
 use super::told::{Mark, Quoted, Told};
 use occ_base::{Code, Diag, Grade, Name};
 use std::alloc::{AllocError, Global};
@@ -36,7 +36,7 @@ pub struct Message {
 /// The text of a file, as it is looked at for messages.
 #[derive(Drop)]
 pub struct Page<'a> {
-    lines: Vec<&'a [u8]>,
+    text: Text<'a>,
     /// Of how many more diagnostics is told more than their code says.
     left: u32,
 }
@@ -45,7 +45,7 @@ impl<'a> Page<'a> {
     /// The page of a text.
     pub fn new(alloc: Global, text: &'a [u8]) -> Result<Page<'a>, AllocError> {
         Ok(Page {
-            lines: lines_of(alloc, text)?,
+            text: Text::new(alloc, text)?,
             left: TOLD_LIMIT,
         })
     }
@@ -56,7 +56,7 @@ impl<'a> Page<'a> {
             return Ok(Told::new(alloc));
         }
         self.left = self.left.saturating_sub(1);
-        told_of(alloc, diag, Lines(self.lines.as_slice()))
+        told_of(alloc, diag, self.text.lines())
     }
 }
 
@@ -80,7 +80,7 @@ pub fn message_of(
         None => graded(alloc, diag.grade, general(alloc, diag)?)?,
     };
     others.sort_by_key(|other| other.number)?;
-    let source = String::from_utf8_lossy(alloc, Lines(page.lines.as_slice()).line(diag.line))?;
+    let source = String::from_utf8_lossy(alloc, page.text.lines().line(diag.line))?;
     Ok(Message {
         path: String::from_str(alloc, path)?,
         line: diag.line,

@@ -6,11 +6,13 @@ use super::declared::{
 use super::spelling::{after_assignment, is_reserved};
 use super::text::{
     Numbered, WORD_LIMIT, after_word, around_word, closed, cut, first_word, has, has_word,
-    item_count, last_word, next_item, next_word, parent, statement, whole_statement,
+    item_count, last_word, next_item, next_word, parent, split_once,
 };
 use super::told::{Place, Told, shown};
+use bstr::BStr;
 use occ_base::Code;
 use std::alloc::{AllocError, Global};
+use std::fmt;
 
 /// How many items of a list, or names of a line, are looked at.
 const ITEM_LIMIT: usize = 8;
@@ -18,26 +20,37 @@ const ITEM_LIMIT: usize = 8;
 /// How many levels there are at most.
 const LEVEL_LIMIT: usize = 64;
 
-/// What an expression is said to be, or its first name: `x` is INT (line 3).
-pub fn said_of(
-    alloc: Global,
-    place: Place<'_>,
-    expression: &[u8],
-    typed: &Typed,
-) -> Result<String, AllocError> {
-    let text = shown(alloc, typed.text.as_slice())?;
-    let number = typed.number;
-    if number == 0 {
-        let whole = place.shown(alloc, expression)?;
-        return format!(in alloc; "`{whole}` is {text}");
+/// What an expression, or its first name, is said to be: `x` is INT (line 3).
+#[derive(Clone, Copy)]
+pub struct Said<'a> {
+    name: BStr<'a>,
+    text: BStr<'a>,
+    number: u32,
+}
+
+impl fmt::Display for Said<'_> {
+    fn fmt<W: fmt::Write>(&self, f: &mut fmt::Formatter<W>) -> fmt::Result {
+        let (name, text, number) = (self.name, self.text, self.number);
+        if number == 0 {
+            write!(f, "`{name}` is {text}")
+        } else {
+            write!(f, "`{name}` is {text} (line {number})")
+        }
     }
-    let name = if is_simple(expression) {
+}
+
+/// What an expression is said to be: all of it, or its first name where a line says the type.
+pub fn said_of<'a>(place: Place<'a>, expression: &'a [u8], typed: Typed<'a>) -> Said<'a> {
+    let name = if typed.number == 0 || is_simple(expression) {
         expression
     } else {
         first_name(expression)
     };
-    let name = place.shown(alloc, name)?;
-    format!(in alloc; "`{name}` is {text} (line {number})")
+    Said {
+        name: place.shown(name),
+        text: shown(typed.text),
+        number: typed.number,
+    }
 }
 
 /// Whether an expression is one name with its selectors.
@@ -72,10 +85,9 @@ pub fn wanted_type(alloc: Global, place: Place<'_>, told: &mut Told) -> Result<(
 fn segments(alloc: Global, place: Place<'_>, told: &mut Told) -> Result<(), AllocError> {
     let mut rest = place.said;
     for _ in 0..place.said.len() {
-        let Some(at) = rest.iter().position(|b| *b == b'[') else {
+        let Some((_, inside)) = split_once(rest, b"[") else {
             break;
         };
-        let inside = rest.get(at.saturating_add(1)..).unwrap_or(&[]);
         let (segment, _) = closed(inside);
         if let Some((_, count)) = around_word(segment, b"FOR") {
             wants_int(alloc, place, told, inside, count, "count")?;
@@ -100,13 +112,13 @@ fn wants_int(
     if told.is_said() {
         return Ok(());
     }
-    let Some(typed) = looks(alloc, place.lines, place.number, expression)? else {
+    let Some(typed) = looks(place.lines, place.number, expression) else {
         return Ok(());
     };
-    if typed.text.as_slice() == b"INT".as_slice() {
+    if typed.text == b"INT".as_slice() {
         return Ok(());
     }
-    let is = said_of(alloc, place, expression, &typed)?;
+    let is = said_of(place, expression, typed);
     told.say(format!(in alloc; "the {what} of a segment has to be INT, and {is}")?);
     let word = if what == "count" {
         b"FOR".as_slice()
@@ -115,7 +127,7 @@ fn wants_int(
     };
     let behind = after_word(rest, word).unwrap_or(rest);
     told.mean_in(place, behind, first_word(expression.trim_ascii()));
-    convert(alloc, place, told, b"INT", expression, &typed)
+    convert(alloc, place, told, b"INT", expression, typed)
 }
 
 /// Says how a number is converted.
@@ -125,17 +137,17 @@ fn convert(
     told: &mut Told,
     wanted: &[u8],
     expression: &[u8],
-    typed: &Typed,
+    typed: Typed<'_>,
 ) -> Result<(), AllocError> {
-    if !is_number(wanted) || !is_number(typed.text.as_slice()) {
+    if !is_number(wanted) || !is_number(typed.text) {
         return Ok(());
     }
     let expression = expression.trim_ascii();
-    let (wanted, said) = (shown(alloc, wanted)?, place.shown(alloc, expression)?);
+    let (wanted, said) = (shown(wanted), place.shown(expression));
     if is_simple(expression) {
         told.help(format!(in alloc; "write `{wanted} {said}`, which converts it")?)
-    } else if typed.text.as_slice() == b"BYTE".as_slice() {
-        let name = place.shown(alloc, first_name(expression))?;
+    } else if typed.text == b"BYTE".as_slice() {
+        let name = place.shown(first_name(expression));
         told.help(format!(in alloc;
             "write `{wanted} {name}` for `{name}`, and so for each operand"
         )?)
@@ -163,8 +175,8 @@ fn given(alloc: Global, place: Place<'_>, told: &mut Told) -> Result<(), AllocEr
     else {
         return Ok(());
     };
-    let said = statement(alloc, head.line)?;
-    let Some((types, _)) = around_word(said.as_slice(), b"FUNCTION") else {
+    let said = place.lines.said(head.number);
+    let Some((types, _)) = around_word(said, b"FUNCTION") else {
         return Ok(());
     };
     let types = types.trim_ascii();
@@ -193,14 +205,14 @@ fn one_value(
     value: &[u8],
     text: &[u8],
 ) -> Result<(), AllocError> {
-    if let Some(typed) = looks(alloc, place.lines, place.number, value)?
-        && do_differ(typed.text.as_slice(), text)
+    if let Some(typed) = looks(place.lines, place.number, value)
+        && do_differ(typed.text, text)
     {
-        let is = said_of(alloc, place, value, &typed)?;
-        let wanted = shown(alloc, text)?;
+        let is = said_of(place, value, typed);
+        let wanted = shown(text);
         told.say(format!(in alloc; "this FUNCTION gives {wanted}, and {is}")?);
         told.mean(place, first_name(value));
-        convert(alloc, place, told, text, value, &typed)?;
+        convert(alloc, place, told, text, value, typed)?;
     }
     Ok(())
 }
@@ -210,20 +222,19 @@ fn counts(alloc: Global, place: Place<'_>, told: &mut Told) -> Result<(), AllocE
     let Some((front, count)) = around_word(place.said, b"FOR") else {
         return Ok(());
     };
-    let index = match front.iter().position(|b| *b == b'=') {
-        Some(at) => last_word(front.get(..at).unwrap_or(&[])),
-        None => return Ok(()),
+    let Some((front, _)) = split_once(front, b"=") else {
+        return Ok(());
     };
-    if !is_replicator_of(place.said, index) {
+    if !is_replicator_of(place.said, last_word(front)) {
         return Ok(());
     }
-    if let Some(typed) = looks(alloc, place.lines, place.number, count)?
-        && do_differ(typed.text.as_slice(), b"INT")
+    if let Some(typed) = looks(place.lines, place.number, count)
+        && do_differ(typed.text, b"INT")
     {
-        let is = said_of(alloc, place, count, &typed)?;
+        let is = said_of(place, count, typed);
         told.say(format!(in alloc; "the count of a replicator has to be INT, and {is}")?);
         told.mean_in(place, count, first_word(count.trim_ascii()));
-        convert(alloc, place, told, b"INT", count, &typed)?;
+        convert(alloc, place, told, b"INT", count, typed)?;
     }
     Ok(())
 }
@@ -254,9 +265,8 @@ fn targets(alloc: Global, place: Place<'_>, told: &mut Told) -> Result<(), Alloc
 
 /// The targets of an assignment, and its values.
 pub fn assigned(said: &[u8]) -> Option<(&[u8], &[u8])> {
-    let at = said.windows(2).position(|two| two == b":=".as_slice())?;
-    let (front, from) = said.split_at(at);
-    Some((front.trim_ascii(), from.get(2..)?.trim_ascii()))
+    let (targets, values) = split_once(said, b":=")?;
+    Some((targets.trim_ascii(), values.trim_ascii()))
 }
 
 /// A target and its value.
@@ -268,22 +278,19 @@ fn pair(
     value: &[u8],
 ) -> Result<(), AllocError> {
     let (Some(left), Some(right)) = (
-        looks(alloc, place.lines, place.number, target)?,
-        looks(alloc, place.lines, place.number, value)?,
+        looks(place.lines, place.number, target),
+        looks(place.lines, place.number, value),
     ) else {
         return Ok(());
     };
-    if !do_differ(left.text.as_slice(), right.text.as_slice()) {
+    if !do_differ(left.text, right.text) {
         return Ok(());
     }
-    let (one, two) = (
-        said_of(alloc, place, target, &left)?,
-        said_of(alloc, place, value, &right)?,
-    );
+    let (one, two) = (said_of(place, target, left), said_of(place, value, right));
     told.say(format!(in alloc; "{one}, and {two}")?);
     let behind = assigned(place.said).map_or(place.said, |(_, values)| values);
     told.mean_in(place, behind, first_name(value));
-    convert(alloc, place, told, left.text.as_slice(), value, &right)
+    convert(alloc, place, told, left.text, value, right)
 }
 
 /// The first name of an expression that is no word of occam.
@@ -316,21 +323,21 @@ fn abbreviation(
     let end = front.trim_ascii_end().len().saturating_sub(name.len());
     let text = without_val(front.get(..end).unwrap_or(&[]).trim_ascii());
     let value = value.strip_suffix(b":").unwrap_or(value);
-    let Some(typed) = looks(alloc, place.lines, place.number, value)? else {
+    let Some(typed) = looks(place.lines, place.number, value) else {
         return Ok(());
     };
-    if text.is_empty() || !do_differ(text, typed.text.as_slice()) {
+    if text.is_empty() || !do_differ(text, typed.text) {
         return Ok(());
     }
-    let (name, wanted) = (shown(alloc, name)?, shown(alloc, text)?);
-    let is = said_of(alloc, place, value, &typed)?;
+    let (name, wanted) = (shown(name), shown(text));
+    let is = said_of(place, value, typed);
     told.say(format!(in alloc; "`{name}` is to be {wanted}, and {is}")?);
     told.mean_in(
         place,
         after_word(place.said, b"IS").unwrap_or(&[]),
         first_name(value),
     );
-    convert(alloc, place, told, text, value, &typed)
+    convert(alloc, place, told, text, value, typed)
 }
 
 /// The name that a line calls, and what it is given.
@@ -353,11 +360,11 @@ pub fn actuals(alloc: Global, place: Place<'_>, told: &mut Told) -> Result<(), A
     let Some((name, actuals)) = call(after_assignment(place.said).trim_ascii()) else {
         return Ok(());
     };
-    let Some(head) = specified_by(alloc, place.lines, place.number, name)? else {
+    let Some(head) = specified_by(place.lines, place.number, name) else {
         return Ok(());
     };
-    let said = whole_statement(alloc, place.lines, head.number)?;
-    let (mut given, mut rest) = (actuals, formals(said.as_slice()));
+    let said = place.lines.statement(head.number);
+    let (mut given, mut rest) = (actuals, formals(said));
     let mut text: &[u8] = &[];
     for _ in 0..said.len().min(WORD_LIMIT) {
         let (Some((actual, more)), Some((formal, others))) = (
@@ -411,7 +418,7 @@ fn changed_actual(
     if wanted.text.starts_with(b"VAL") || is_name || actual.starts_with(b"[") {
         return Ok(());
     }
-    let (value, name) = (place.shown(alloc, actual)?, shown(alloc, wanted.name)?);
+    let (value, name) = (place.shown(actual), shown(wanted.name));
     let number = wanted.number;
     told.say(format!(in alloc;
         "the formal `{name}` is no VAL (line {number}), so it is given a variable, and `{value}` is a value"
@@ -435,35 +442,30 @@ fn one_actual(
     actual: &[u8],
     wanted: Wanted<'_>,
 ) -> Result<(), AllocError> {
-    let Some(typed) = looks(alloc, place.lines, place.number, actual)? else {
+    let Some(typed) = looks(place.lines, place.number, actual) else {
         return Ok(());
     };
     let wants = without_val(wanted.text);
-    if !do_differ(typed.text.as_slice(), wants) || has(actual, b"FOR") {
+    if !do_differ(typed.text, wants) || has(actual, b"FOR") {
         return Ok(());
     }
-    let (name, text) = (shown(alloc, wanted.name)?, shown(alloc, wants)?);
-    let is = said_of(alloc, place, actual, &typed)?;
+    let (name, text) = (shown(wanted.name), shown(wants));
+    let is = said_of(place, actual, typed);
     let number = wanted.number;
     told.say(format!(in alloc; "the formal `{name}` is {text} (line {number}), and {is}")?);
-    let behind = place.said.iter().position(|b| *b == b'(').unwrap_or(0);
-    told.mean_in(
-        place,
-        place.said.get(behind..).unwrap_or(&[]),
-        first_name(actual),
-    );
-    convert(alloc, place, told, wants, actual, &typed)
+    let behind = split_once(place.said, b"(").map_or(place.said, |(_, inside)| inside);
+    told.mean_in(place, behind, first_name(actual));
+    convert(alloc, place, told, wants, actual, typed)
 }
 
 /// The subscripts of a line.
 fn subscripts(alloc: Global, place: Place<'_>, told: &mut Told) -> Result<(), AllocError> {
     let mut rest = place.said;
     for _ in 0..place.said.len() {
-        let Some(at) = rest.iter().position(|b| *b == b'[') else {
+        let Some((front, inside)) = split_once(rest, b"[") else {
             break;
         };
-        let is_after_name = at > 0 && rest.get(..at).is_some_and(|front| !front.ends_with(b" "));
-        let inside = rest.get(at.saturating_add(1)..).unwrap_or(&[]);
+        let is_after_name = !front.is_empty() && !front.ends_with(b" ");
         let (subscript, _) = closed(inside);
         if is_after_name && !told.is_said() && !has_word(subscript, b"FOR") {
             subscript_wants_int(alloc, place, told, inside, subscript)?;
@@ -481,14 +483,14 @@ fn subscript_wants_int(
     inside: &[u8],
     subscript: &[u8],
 ) -> Result<(), AllocError> {
-    if let Some(typed) = looks(alloc, place.lines, place.number, subscript)?
-        && is_number(typed.text.as_slice())
-        && typed.text.as_slice() != b"INT".as_slice()
+    if let Some(typed) = looks(place.lines, place.number, subscript)
+        && is_number(typed.text)
+        && typed.text != b"INT".as_slice()
     {
-        let is = said_of(alloc, place, subscript, &typed)?;
+        let is = said_of(place, subscript, typed);
         told.say(format!(in alloc; "a subscript has to be INT, and {is}")?);
         told.mean_in(place, inside, first_name(subscript));
-        convert(alloc, place, told, b"INT", subscript, &typed)?;
+        convert(alloc, place, told, b"INT", subscript, typed)?;
     }
     Ok(())
 }
@@ -499,33 +501,40 @@ pub fn operands(alloc: Global, place: Place<'_>, told: &mut Told) -> Result<(), 
         Some((_, values)) => values,
         None => place.said,
     };
-    let mut last: Option<(&[u8], Typed)> = None;
+    let mut last: Option<(&[u8], Typed<'_>)> = None;
     let mut rest = said;
     for _ in 0..said.len().min(WORD_LIMIT) {
         let Some((word, more)) = next_word(rest) else {
             break;
         };
         rest = more;
-        let Some(typed) = operand(alloc, place, word, more)? else {
+        let Some(typed) = operand(place, word, more) else {
             continue;
         };
-        if let Some((name, other)) = &last
-            && do_differ(other.text.as_slice(), typed.text.as_slice())
+        if let Some((name, other)) = last
+            && do_differ(other.text, typed.text)
         {
-            let (one, two) = (
-                said_of(alloc, place, name, other)?,
-                said_of(alloc, place, word, &typed)?,
-            );
-            told.say(format!(in alloc; "{one}, and {two}: an operator wants both of one type")?);
+            let (one, two) = (said_of(place, name, other), said_of(place, word, typed));
             told.mean_in(place, said, word);
-            return Ok(());
+            return two_operands(alloc, one, two, told);
         }
         last = Some((word, typed));
     }
     match last {
-        Some((name, typed)) => lone_operand(alloc, place, told, name, &typed),
+        Some((name, typed)) => lone_operand(alloc, place, told, name, typed),
         None => Ok(()),
     }
+}
+
+/// Tells that two operands are of two types.
+fn two_operands(
+    alloc: Global,
+    one: Said<'_>,
+    two: Said<'_>,
+    told: &mut Told,
+) -> Result<(), AllocError> {
+    told.say(format!(in alloc; "{one}, and {two}: an operator wants both of one type")?);
+    Ok(())
 }
 
 /// Tells the type of the one operand that is known.
@@ -534,31 +543,21 @@ fn lone_operand(
     place: Place<'_>,
     told: &mut Told,
     name: &[u8],
-    typed: &Typed,
+    typed: Typed<'_>,
 ) -> Result<(), AllocError> {
-    let is = said_of(alloc, place, name, typed)?;
+    let is = said_of(place, name, typed);
     told.say(format!(in alloc; "{is}: an operator wants two operands of one type that it is for")?);
     told.mean(place, name);
     Ok(())
 }
 
 /// The type of a name that is an operand, if it is a number or a truth.
-fn operand(
-    alloc: Global,
-    place: Place<'_>,
-    word: &[u8],
-    more: &[u8],
-) -> Result<Option<Typed>, AllocError> {
+fn operand<'a>(place: Place<'a>, word: &[u8], more: &[u8]) -> Option<Typed<'a>> {
     if is_reserved(word) || word.first().is_some_and(u8::is_ascii_digit) {
-        return Ok(None);
+        return None;
     }
-    let Some(whole) = type_of(alloc, place.lines, place.number, word)? else {
-        return Ok(None);
-    };
-    match selected(alloc, place.lines, whole, more)? {
-        Some(typed) if is_operand(typed.text.as_slice()) => Ok(Some(typed)),
-        _ => Ok(None),
-    }
+    let whole = type_of(place.lines, place.number, word)?;
+    selected(place.lines, whole, more).filter(|typed| is_operand(typed.text))
 }
 
 /// Whether a type is one of numbers or of truths.
@@ -577,10 +576,7 @@ pub fn numbers(alloc: Global, place: Place<'_>, told: &mut Told) -> Result<(), A
     let wanted = item_count(targets, b',');
     let Some((name, actuals)) = call(values) else {
         let given = item_count(values, b',');
-        let (some, others) = (
-            counted(alloc, wanted, "target")?,
-            counted(alloc, given, "value")?,
-        );
+        let (some, others) = (counted(wanted, "target"), counted(given, "value"));
         told.say(format!(in alloc; "{some} and {others}")?);
         return Ok(());
     };
@@ -592,9 +588,23 @@ pub fn numbers(alloc: Global, place: Place<'_>, told: &mut Told) -> Result<(), A
 }
 
 /// So many of something.
-pub fn counted(alloc: Global, number: usize, what: &str) -> Result<String, AllocError> {
-    let ending = if number == 1 { "" } else { "s" };
-    format!(in alloc; "{number} {what}{ending}")
+#[derive(Clone, Copy)]
+pub struct Several<'a> {
+    number: usize,
+    what: &'a str,
+}
+
+impl fmt::Display for Several<'_> {
+    fn fmt<W: fmt::Write>(&self, f: &mut fmt::Formatter<W>) -> fmt::Result {
+        let (number, what) = (self.number, self.what);
+        let ending = if number == 1 { "" } else { "s" };
+        write!(f, "{number} {what}{ending}")
+    }
+}
+
+/// So many of something.
+pub fn counted(number: usize, what: &str) -> Several<'_> {
+    Several { number, what }
 }
 
 /// Tells that a call gives another number of actuals than there are formals, if so it is.
@@ -605,20 +615,17 @@ fn call_numbers(
     name: &[u8],
     actuals: &[u8],
 ) -> Result<(), AllocError> {
-    let Some(head) = specified_by(alloc, place.lines, place.number, name)? else {
+    let Some(head) = specified_by(place.lines, place.number, name) else {
         return Ok(());
     };
-    let said = whole_statement(alloc, place.lines, head.number)?;
-    let (wanted, given) = (
-        item_count(formals(said.as_slice()), b','),
-        item_count(actuals, b','),
-    );
-    if wanted == given || head_name(said.as_slice()) != name {
+    let said = place.lines.statement(head.number);
+    let (wanted, given) = (item_count(formals(said), b','), item_count(actuals, b','));
+    if wanted == given || head_name(said) != name {
         return Ok(());
     }
     let number = head.number;
-    let wants = counted(alloc, wanted, "actual")?;
-    let shown_name = shown(alloc, name)?;
+    let wants = counted(wanted, "actual");
+    let shown_name = shown(name);
     told.say(format!(in alloc;
         "`{shown_name}` takes {wants} (line {number}), and is given {given}"
     )?);
@@ -634,11 +641,11 @@ fn results(
     wanted: usize,
     name: &[u8],
 ) -> Result<(), AllocError> {
-    let Some(head) = specified_by(alloc, place.lines, place.number, name)? else {
+    let Some(head) = specified_by(place.lines, place.number, name) else {
         return Ok(());
     };
-    let said = whole_statement(alloc, place.lines, head.number)?;
-    let Some((types, _)) = around_word(said.as_slice(), b"FUNCTION") else {
+    let said = place.lines.statement(head.number);
+    let Some((types, _)) = around_word(said, b"FUNCTION") else {
         return Ok(());
     };
     let given = item_count(types, b',');
@@ -646,9 +653,9 @@ fn results(
         return Ok(());
     }
     let number = head.number;
-    let shown_name = shown(alloc, name)?;
-    let gives = counted(alloc, given, "value")?;
-    let targets = counted(alloc, wanted, "target")?;
+    let shown_name = shown(name);
+    let gives = counted(given, "value");
+    let targets = counted(wanted, "target");
     told.say(format!(in alloc; "`{shown_name}` gives {gives} (line {number}) for {targets}")?);
     told.mean(place, name);
     told.show(alloc, head, name, "")
@@ -666,9 +673,9 @@ pub fn conditions(alloc: Global, place: Place<'_>, told: &mut Told) -> Result<()
             cut(place.said, b'&').map_or(place.said, |(front, _)| front),
         )
     };
-    match looks(alloc, place.lines, place.number, said)? {
+    match looks(place.lines, place.number, said) {
         Some(typed) => {
-            let is = said_of(alloc, place, said, &typed)?;
+            let is = said_of(place, said, typed);
             told.say(format!(in alloc; "{what}, and {is}")?);
         }
         None => told.say(String::from_str(alloc, what)?),

@@ -2,7 +2,7 @@
 use super::declared::abbreviated;
 use super::text::{
     Lines, around_word, closed, column, first_word, is_skipped, is_word_byte, last_word, next_word,
-    number_of,
+    number_of, split_once,
 };
 use std::alloc::{AllocError, Global};
 use std::str;
@@ -67,8 +67,8 @@ fn add_constant<'a>(
     line: &'a [u8],
     known: &mut Vec<Constant<'a>>,
 ) -> Result<(), AllocError> {
-    let said = match line.iter().position(|b| *b == b':') {
-        Some(end) => line.get(..end).unwrap_or(line),
+    let said = match split_once(line, b":") {
+        Some((front, _)) => front,
         None => line,
     };
     if let Some((front, expression)) = abbreviated(said)

@@ -1,16 +1,19 @@
 //! What a channel carries, and what is wrong with a message.
 use super::declared::{
-    add_name, carried, definition, do_differ, is_channel, looks, specified_by, type_of,
+    Typed, add_name, carried, definition, do_differ, head_name, is_channel, looks, specified_by,
+    type_of,
 };
 use super::mismatch::{counted, said_of};
 use super::similar::is_like;
 use super::text::{
     Lines, Numbered, after_word, column, cut, first_word, has, is_skipped, item_count, next_item,
-    number_of, parent, statement,
+    number_of, parent, split_once,
 };
 use super::told::{Place, Told, shown};
+use bstr::BStr;
 use occ_base::Code;
 use std::alloc::{AllocError, Global};
+use std::fmt;
 
 /// How many lines above are looked at for the input that an option belongs to.
 const PARENT_LIMIT: usize = 4;
@@ -18,11 +21,19 @@ const PARENT_LIMIT: usize = 4;
 /// What items of a message are parted by.
 const PARTED: &str = "items of a message are parted by `;`";
 
-/// What a channel carries, and the line that says so.
-#[derive(Drop)]
-struct Carried {
-    text: Vec<u8>,
+/// What a channel is said to carry: `c` carries `INT` (line 3).
+#[derive(Clone, Copy)]
+struct Carries<'a> {
+    channel: BStr<'a>,
+    text: BStr<'a>,
     number: u32,
+}
+
+impl fmt::Display for Carries<'_> {
+    fn fmt<W: fmt::Write>(&self, f: &mut fmt::Formatter<W>) -> fmt::Result {
+        let (channel, text, number) = (self.channel, self.text, self.number);
+        write!(f, "`{channel}` carries `{text}` (line {number})")
+    }
 }
 
 /// What is from the sign of an input or output on; nothing where there is none.
@@ -72,24 +83,25 @@ fn channel_in(said: &[u8]) -> &[u8] {
     first_word(said)
 }
 
-/// What a channel carries, if its specification is found.
-fn carried_by(alloc: Global, place: Place<'_>, name: &[u8]) -> Result<Option<Carried>, AllocError> {
-    match type_of(alloc, place.lines, place.number, name)? {
-        Some(typed) if is_channel(typed.text.as_slice()) => Ok(Some(Carried {
-            text: Vec::from_slice(alloc, carried(typed.text.as_slice()))?,
-            number: typed.number,
-        })),
-        _ => Ok(None),
+/// What a channel carries, and the line that says so, if its specification is found.
+fn carried_by<'a>(place: Place<'a>, name: &[u8]) -> Option<Typed<'a>> {
+    let Typed { text, number } = type_of(place.lines, place.number, name)?;
+    if !is_channel(text) {
+        return None;
     }
+    Some(Typed {
+        text: carried(text),
+        number,
+    })
 }
 
 /// Tells what is wrong with a message.
 pub fn message(alloc: Global, place: Place<'_>, told: &mut Told) -> Result<(), AllocError> {
     let channel = channel_of(place);
-    if let Some(found) = carried_by(alloc, place, channel)? {
-        match definition(place.lines, found.text.as_slice()) {
+    if let Some(found) = carried_by(place, channel) {
+        match definition(place.lines, found.text) {
             Some(head) => of_protocol(alloc, place, told, head)?,
-            None => of_items(alloc, place, told, found.text.as_slice(), found.number)?,
+            None => of_items(alloc, place, told, found.text, found.number)?,
         }
     }
     if told.hints.is_empty() && place.said.contains(&b'!') && has_two_words(items(place.said)) {
@@ -116,8 +128,8 @@ fn of_protocol(
     told: &mut Told,
     head: Numbered<'_>,
 ) -> Result<(), AllocError> {
-    let said = statement(alloc, head.line)?;
-    if let Some(wanted) = after_word(said.as_slice(), b"IS") {
+    let said = place.lines.said(head.number);
+    if let Some(wanted) = after_word(said, b"IS") {
         told.show(alloc, head, b"IS", "")?;
         let wanted = wanted.strip_suffix(b":").unwrap_or(wanted).trim_ascii();
         return of_items(alloc, place, told, wanted, head.number);
@@ -141,9 +153,9 @@ fn of_tag(
     let Some(found) = tag_line(place.lines, head, tag) else {
         return Ok(());
     };
-    let wanted = statement(alloc, found.line)?;
+    let wanted = place.lines.said(found.number);
     told.show(alloc, found, tag, "")?;
-    of_items(alloc, place, told, wanted.as_slice(), found.number)
+    of_items(alloc, place, told, wanted, found.number)
 }
 
 /// The line of a tag under the head of its protocol.
@@ -205,27 +217,31 @@ fn no_tag(
     told: &mut Told,
     head: Numbered<'_>,
 ) -> Result<(), AllocError> {
-    let tags = tags(alloc, place.lines, head)?;
-    let name = shown(alloc, place.name)?;
-    let channel = shown(alloc, channel_of(place))?;
-    let (front, number) = (
-        super::declared::head_name(head.line.trim_ascii()),
-        head.number,
-    );
-    let protocol = shown(alloc, front)?;
+    let (name, channel) = (shown(place.name), shown(channel_of(place)));
+    let protocol = shown(head_name(head.line.trim_ascii()));
     told.say(format!(in alloc; "`{name}` is no tag of {protocol}, the protocol of `{channel}`")?);
+    let (tags, number) = (tags(alloc, place.lines, head)?, head.number);
     told.help(format!(in alloc; "the tags of {protocol} are {tags} (line {number})")?)?;
+    meant_tag(alloc, place, told, head)
+}
+
+/// Tells a tag that may be meant by one which a protocol lacks, or that none stands before a name.
+fn meant_tag(
+    alloc: Global,
+    place: Place<'_>,
+    told: &mut Told,
+    head: Numbered<'_>,
+) -> Result<(), AllocError> {
     let like = like_tag(place.lines, head, place.name);
     if !like.is_empty() {
-        let like = shown(alloc, like)?;
+        let like = shown(like);
         return told.help(format!(in alloc; "perhaps `{like}` is meant")?);
     }
-    if place.said.contains(&b'!')
-        && type_of(alloc, place.lines, place.number, place.name)?.is_some()
-    {
-        told.help(format!(in alloc; "a message begins with its tag: `{channel} ! TAG; {name}`")?)?;
+    if !place.said.contains(&b'!') || type_of(place.lines, place.number, place.name).is_none() {
+        return Ok(());
     }
-    Ok(())
+    let (name, channel) = (shown(place.name), shown(channel_of(place)));
+    told.help(format!(in alloc; "a message begins with its tag: `{channel} ! TAG; {name}`")?)
 }
 
 /// Tells that a message of a variant protocol has no tag, or is input without CASE.
@@ -242,7 +258,7 @@ fn no_variant(
         return unparted(alloc, tag, line, told);
     }
     let tags = tags(alloc, place.lines, head)?;
-    let channel = shown(alloc, place.name)?;
+    let channel = shown(place.name);
     let number = head.number;
     if place.said.contains(&b'!') {
         told.say(format!(in alloc;
@@ -266,27 +282,37 @@ fn of_items(
 ) -> Result<(), AllocError> {
     let given = items(place.said);
     let (many, some) = (item_count(wanted, b';'), item_count(given, b';'));
-    let channel = shown(alloc, channel_of(place))?;
-    let text = shown(alloc, wanted)?;
-    if some < many {
-        let missing = counted(alloc, many.saturating_sub(some), "item")?;
-        told.say(format!(in alloc;
-            "`{channel}` carries `{text}` (line {number}), and here {missing} of it is missing"
-        )?);
-    } else if some > many {
-        let more = counted(alloc, some.saturating_sub(many), "item")?;
-        told.say(format!(in alloc;
-            "`{channel}` carries `{text}` (line {number}), and here is {more} more"
-        )?);
-    } else {
-        each_item(alloc, place, told, wanted, given)?;
-        if !told.is_said() {
-            let message = place.shown(alloc, given)?;
-            told.say(format!(in alloc;
-                "`{channel}` carries `{text}` (line {number}), and `{message}` is not that"
-            )?);
-        }
+    let carries = Carries {
+        channel: shown(channel_of(place)),
+        text: shown(wanted),
+        number,
+    };
+    if some != many {
+        return other_count(alloc, carries, many, some, told);
     }
+    each_item(alloc, place, told, wanted, given)?;
+    if !told.is_said() {
+        let message = place.shown(given);
+        told.say(format!(in alloc; "{carries}, and `{message}` is not that")?);
+    }
+    Ok(())
+}
+
+/// Tells that items are missing of those that a channel carries, or that there are more.
+fn other_count(
+    alloc: Global,
+    carries: Carries<'_>,
+    many: usize,
+    some: usize,
+    told: &mut Told,
+) -> Result<(), AllocError> {
+    told.say(if some < many {
+        let missing = counted(many.saturating_sub(some), "item");
+        format!(in alloc; "{carries}, and here {missing} of it is missing")?
+    } else {
+        let more = counted(some.saturating_sub(many), "item");
+        format!(in alloc; "{carries}, and here is {more} more")?
+    });
     Ok(())
 }
 
@@ -327,17 +353,16 @@ fn one_item(
         (None, None) => ("carries", wanted, item),
         _ => return Ok(()),
     };
-    let Some(typed) = looks(alloc, place.lines, place.number, given)? else {
+    let Some(typed) = looks(place.lines, place.number, given) else {
         return Ok(());
     };
-    if !do_differ(text, typed.text.as_slice()) {
+    if !do_differ(text, typed.text) {
         return Ok(());
     }
-    let text = shown(alloc, text)?;
-    let is = said_of(alloc, place, given, &typed)?;
+    let (text, is) = (shown(text), said_of(place, given, typed));
     told.mean_in(place, from_sign(place.said), first_word(given));
     if what == "carries" {
-        let channel = shown(alloc, channel_of(place))?;
+        let channel = shown(channel_of(place));
         told.say(format!(in alloc; "`{channel}` carries {text}, and {is}")?);
     } else {
         told.say(format!(in alloc; "{what} {text}, and {is}")?);
@@ -348,7 +373,7 @@ fn one_item(
 /// Shows where the channel of a line is specified.
 fn show_channel(alloc: Global, place: Place<'_>, told: &mut Told) -> Result<(), AllocError> {
     let channel = channel_of(place);
-    match specified_by(alloc, place.lines, place.number, channel)? {
+    match specified_by(place.lines, place.number, channel) {
         Some(found) => told.show(alloc, found, channel, ""),
         None => Ok(()),
     }
@@ -356,19 +381,19 @@ fn show_channel(alloc: Global, place: Place<'_>, told: &mut Told) -> Result<(), 
 
 /// What is before `::`, if there is one.
 fn counts(item: &[u8]) -> Option<&[u8]> {
-    let at = item.windows(2).position(|two| two == b"::".as_slice())?;
-    Some(item.get(..at)?.trim_ascii())
+    let (count, _) = split_once(item, b"::")?;
+    Some(count.trim_ascii())
 }
 
 /// Tells that a name is no channel.
 pub fn no_channel(alloc: Global, place: Place<'_>, told: &mut Told) -> Result<(), AllocError> {
-    let Some(typed) = type_of(alloc, place.lines, place.number, place.name)? else {
+    let Some(typed) = type_of(place.lines, place.number, place.name) else {
         return Ok(());
     };
-    let name = shown(alloc, place.name)?;
-    let text = shown(alloc, typed.text.as_slice())?;
+    let name = shown(place.name);
+    let text = shown(typed.text);
     let number = typed.number;
-    if has(typed.text.as_slice(), b"TIMER") {
+    if has(typed.text, b"TIMER") {
         told.say(format!(in alloc;
             "`{name}` is a TIMER (line {number}): one reads the time of it, and outputs nothing to it"
         )?);
@@ -387,10 +412,10 @@ pub fn is_tag(alloc: Global, place: Place<'_>, told: &mut Told) -> Result<(), Al
         return Ok(());
     }
     let channel = channel_of(place);
-    let Some(found) = carried_by(alloc, place, channel)? else {
+    let Some(found) = carried_by(place, channel) else {
         return Ok(());
     };
-    let Some(head) = definition(place.lines, found.text.as_slice()) else {
+    let Some(head) = definition(place.lines, found.text) else {
         return Ok(());
     };
     let Some(line) = tag_line(place.lines, head, place.name) else {
@@ -406,7 +431,7 @@ fn unparted(
     line: Numbered<'_>,
     told: &mut Told,
 ) -> Result<(), AllocError> {
-    let name = shown(alloc, tag)?;
+    let name = shown(tag);
     told.say(format!(in alloc;
         "`{name}` is a tag, and no `;` stands between it and what follows"
     )?);

@@ -2,7 +2,7 @@
 use super::declared::is_replicator_of;
 use super::numbers::{Constant, value};
 use super::text::{
-    Lines, around_word, closed, column, is_skipped, last_word, next_word, whole_statement,
+    Lines, around_word, closed, column, is_skipped, last_word, next_word, split_once,
 };
 use std::alloc::{AllocError, Global};
 
@@ -23,14 +23,13 @@ pub fn rounds_of<'a>(
     said: &'a [u8],
     known: &[Constant<'_>],
 ) -> Result<Option<Rounds<'a>>, AllocError> {
-    let (Some((front, count)), Some(at)) = (
-        around_word(said, b"FOR"),
-        said.iter().position(|b| *b == b'='),
-    ) else {
+    let Some((front, count)) = around_word(said, b"FOR") else {
         return Ok(None);
     };
-    let index = last_word(said.get(..at).unwrap_or(&[]));
-    let base = front.get(at.saturating_add(1)..).unwrap_or(&[]);
+    let Some((front, base)) = split_once(front, b"=") else {
+        return Ok(None);
+    };
+    let index = last_word(front);
     if !is_replicator_of(said, index) {
         return Ok(None);
     }
@@ -76,10 +75,10 @@ pub fn elements<'a>(
 ) -> Result<Vec<String>, AllocError> {
     let mut found = Vec::new(alloc);
     let loops = around(alloc, lines, number, outer, known)?;
-    let said = whole_statement(alloc, lines, number)?;
+    let said = lines.statement(number);
     for round in 0..count_of(loops.as_slice()) {
         let values = values(alloc, loops.as_slice(), round, known)?;
-        add_elements(alloc, said.as_slice(), name, values.as_slice(), &mut found)?;
+        add_elements(alloc, said, name, values.as_slice(), &mut found)?;
     }
     Ok(found)
 }

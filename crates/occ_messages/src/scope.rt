@@ -5,7 +5,7 @@ use super::similar::like_in;
 use super::spelling::{is_predefined, is_reserved, is_value_word};
 use super::text::{
     Numbered, WORD_LIMIT, around_word, column, has, is_skipped, last_word, next_word, number_of,
-    whole_statement,
+    split_once,
 };
 use super::told::{Place, Told, shown};
 use std::alloc::{AllocError, Global};
@@ -28,7 +28,7 @@ pub fn not_in_scope(alloc: Global, place: Place<'_>, told: &mut Told) -> Result<
     if told.is_said() {
         return Ok(());
     }
-    let name = shown(alloc, place.name)?;
+    let name = shown(place.name);
     told.say(format!(in alloc; "`{name}` is not in scope")?);
     if is_predefined(place) {
         return told.help(String::from_str(
@@ -49,38 +49,31 @@ fn is_field(alloc: Global, place: Place<'_>, told: &mut Told) -> Result<(), Allo
     if !after.starts_with(b"]") {
         return Ok(());
     }
-    let Some(record) = record_before(alloc, place, front)? else {
+    let Some(record) = record_before(place, front) else {
         return Ok(());
     };
-    let names = field_names(alloc, place.lines, record.text.as_slice())?;
+    let names = field_names(alloc, place.lines, record.text)?;
     if names.is_empty() {
         return Ok(());
     }
-    let (name, text) = (
-        shown(alloc, place.name)?,
-        shown(alloc, record.text.as_slice())?,
-    );
+    let (name, text) = (shown(place.name), shown(record.text));
     told.say(format!(in alloc; "`{name}` is no field of {text}")?);
     told.help(format!(in alloc; "the fields of {text} are {names}")?)
 }
 
 /// Tells how a field is selected, if the name is one of a record with a dot and a field.
 fn is_dotted(alloc: Global, place: Place<'_>, told: &mut Told) -> Result<(), AllocError> {
-    let Some(at) = place.name.iter().position(|b| *b == b'.') else {
+    let Some((name, field)) = split_once(place.name, b".") else {
         return Ok(());
     };
-    let (name, rest) = place.name.split_at(at);
-    let Some(record) = type_of(alloc, place.lines, place.number, name)? else {
+    let Some(record) = type_of(place.lines, place.number, name) else {
         return Ok(());
     };
-    if field_names(alloc, place.lines, record.text.as_slice())?.is_empty() {
+    if field_names(alloc, place.lines, record.text)?.is_empty() {
         return Ok(());
     }
-    let whole = shown(alloc, place.name)?;
-    let (name, field) = (
-        shown(alloc, name)?,
-        shown(alloc, rest.get(1..).unwrap_or(&[]))?,
-    );
+    let whole = shown(place.name);
+    let (name, field) = (shown(name), shown(field));
     told.say(format!(in alloc;
         "`{whole}` is one name, and not in scope; a field is selected by `{name}[{field}]`"
     )?);
@@ -88,50 +81,41 @@ fn is_dotted(alloc: Global, place: Place<'_>, told: &mut Told) -> Result<(), All
 }
 
 /// The type of what stands at the end of some bytes: a name with its selectors.
-fn record_before(
-    alloc: Global,
-    place: Place<'_>,
-    front: &[u8],
-) -> Result<Option<Typed>, AllocError> {
+fn record_before<'a>(place: Place<'a>, front: &[u8]) -> Option<Typed<'a>> {
     let start = match front.iter().rposition(|b| matches!(b, b' ' | b'(' | b',')) {
         Some(at) => front.get(at.saturating_add(1)..).unwrap_or(&[]),
         None => front,
     };
-    let Some((name, selectors)) = next_word(start) else {
-        return Ok(None);
-    };
-    match type_of(alloc, place.lines, place.number, name)? {
-        Some(typed) => selected(alloc, place.lines, typed, selectors),
-        None => Ok(None),
-    }
+    let (name, selectors) = next_word(start)?;
+    let whole = type_of(place.lines, place.number, name)?;
+    selected(place.lines, whole, selectors)
 }
 
 /// Shows a line that specifies the name and is not seen from here.
 fn elsewhere(alloc: Global, place: Place<'_>, told: &mut Told) -> Result<(), AllocError> {
-    for (at, line) in place.lines.0.iter().enumerate() {
+    for (at, line) in place.lines.all.iter().enumerate() {
         let number = number_of(at);
         if number == place.number || is_skipped(line) || !has(line, place.name) {
             continue;
         }
-        let said = whole_statement(alloc, place.lines, number)?;
-        if specifies(said.as_slice(), place.name) {
-            let name = shown(alloc, place.name)?;
-            let hint = if is_around(place, number) {
-                format!(in alloc;
-                    "`{name}` is not seen in its own body: no PROC or FUNCTION calls itself"
-                )
-            } else if number > place.number {
-                format!(in alloc;
-                    "line {number} specifies `{name}`, and is seen from the next line on"
-                )
-            } else {
-                format!(in alloc; "line {number} specifies a `{name}` that is not seen here")
-            };
-            told.help(hint?)?;
+        if specifies(place.lines.statement(number), place.name) {
+            told.help(not_seen(alloc, place, number)?)?;
             return told.show(alloc, Numbered { number, line }, place.name, "");
         }
     }
     Ok(())
+}
+
+/// Why a name is not seen that a line specifies.
+fn not_seen(alloc: Global, place: Place<'_>, number: u32) -> Result<String, AllocError> {
+    let name = shown(place.name);
+    if is_around(place, number) {
+        format!(in alloc; "`{name}` is not seen in its own body: no PROC or FUNCTION calls itself")
+    } else if number > place.number {
+        format!(in alloc; "line {number} specifies `{name}`, and is seen from the next line on")
+    } else {
+        format!(in alloc; "line {number} specifies a `{name}` that is not seen here")
+    }
 }
 
 /// Whether a line is in the body of the head of that line.
@@ -145,16 +129,26 @@ fn is_around(place: Place<'_>, number: u32) -> bool {
             .all(|line| is_skipped(line) || column(line) > depth)
 }
 
-/// Tells a word of the text that is almost the name: of the nearest line above, or else below.
+/// Tells a word of the lines above that is almost the name: of the nearest line that has one.
 fn similar(alloc: Global, place: Place<'_>, told: &mut Told) -> Result<(), AllocError> {
+    match like_above(place) {
+        Some((like, number)) => {
+            let like = shown(like);
+            told.help(format!(in alloc; "there is `{like}` in line {number}")?)
+        }
+        None => Ok(()),
+    }
+}
+
+/// A word of the lines above that is almost the name, and its line: of the nearest line that has one.
+fn like_above<'a>(place: Place<'a>) -> Option<(&'a [u8], u32)> {
     for (at, line) in place.lines.before(place.number).iter().enumerate().rev() {
         let like = like_in(line, place.name);
         if !like.is_empty() && !is_skipped(line) {
-            let (like, number) = (shown(alloc, like)?, number_of(at));
-            return told.help(format!(in alloc; "there is `{like}` in line {number}")?);
+            return Some((like, number_of(at)));
         }
     }
-    Ok(())
+    None
 }
 
 /// Shows where the first few names of a line are specified.
@@ -172,7 +166,7 @@ pub fn operand_lines(alloc: Global, place: Place<'_>, told: &mut Told) -> Result
         if is_reserved(word) || last_word(word).first().is_some_and(u8::is_ascii_digit) {
             continue;
         }
-        if let Some(found) = specified_by(alloc, place.lines, place.number, word)? {
+        if let Some(found) = specified_by(place.lines, place.number, word) {
             told.show(alloc, found, word, "")?;
             left = left.saturating_sub(1);
         }

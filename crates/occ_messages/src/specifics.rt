@@ -5,7 +5,7 @@ use super::numbers::{constants, value};
 use super::spelling::is_reserved;
 use super::text::{
     Numbered, WORD_LIMIT, around_word, closed, column, first_word, has, has_word, is_skipped,
-    last_word, line_after, next_word, number_of, statement, whole_statement,
+    last_word, line_after, next_word, number_of, split_once,
 };
 use super::told::{Place, Told, shown};
 use std::alloc::{AllocError, Global};
@@ -15,11 +15,11 @@ const PAR_LIMIT: i64 = 256;
 
 /// Tells that a library has neither a list nor a unit.
 pub fn library(alloc: Global, place: Place<'_>, told: &mut Told) -> Result<(), AllocError> {
-    let name = shown(alloc, place.name)?;
-    let stem = name.as_str().strip_suffix(".occ").unwrap_or("");
-    if !is_library(place.line, stem.as_bytes()) {
+    let stem = place.name.strip_suffix(b".occ").unwrap_or(&[]);
+    if !is_library(place.line, stem) {
         return Ok(());
     }
+    let stem = shown(stem);
     told.say(format!(in alloc; "neither `{stem}.lbb` nor `{stem}.occ` is there")?);
     Ok(())
 }
@@ -44,7 +44,7 @@ fn is_library(line: &[u8], stem: &[u8]) -> bool {
 
 /// Shows where the reported name is specified.
 pub fn specification(alloc: Global, place: Place<'_>, told: &mut Told) -> Result<(), AllocError> {
-    match specified_by(alloc, place.lines, place.number, place.name)? {
+    match specified_by(place.lines, place.number, place.name) {
         Some(found) => told.show(alloc, found, place.name, "specified here"),
         None => Ok(()),
     }
@@ -55,22 +55,25 @@ pub fn unchanged(alloc: Global, place: Place<'_>, told: &mut Told) -> Result<(),
     if place.name.is_empty() {
         return actuals(alloc, place, told);
     }
-    let Some(found) = specified_by(alloc, place.lines, place.number, place.name)? else {
+    let Some(found) = specified_by(place.lines, place.number, place.name) else {
         return Ok(());
     };
-    let said = whole_statement(alloc, place.lines, found.number)?;
-    let (name, number) = (shown(alloc, place.name)?, found.number);
+    let said = place.lines.statement(found.number);
+    let (name, number) = (shown(place.name), found.number);
     let what = if call(place.said).is_some() {
         "is given to a formal that is no VAL"
     } else {
         "may not be changed"
     };
-    if is_replicator_of(said.as_slice(), place.name) {
-        told.say(format!(in alloc;
-            "`{name}` is the index of a replicator (line {number}), and {what}"
-        )?);
-    } else if is_value(said.as_slice(), place.name) {
-        told.say(format!(in alloc; "`{name}` is a VAL (line {number}), and {what}")?);
+    let sort = if is_replicator_of(said, place.name) {
+        "the index of a replicator"
+    } else if is_value(said, place.name) {
+        "a VAL"
+    } else {
+        ""
+    };
+    if !sort.is_empty() {
+        told.say(format!(in alloc; "`{name}` is {sort} (line {number}), and {what}")?);
     }
     told.show(alloc, found, place.name, "specified here")
 }
@@ -82,12 +85,12 @@ fn is_value(said: &[u8], name: &[u8]) -> bool {
 
 /// Tells of what sort a name is.
 pub fn sort(alloc: Global, place: Place<'_>, told: &mut Told) -> Result<(), AllocError> {
-    let Some(found) = specified_by(alloc, place.lines, place.number, place.name)? else {
+    let Some(found) = specified_by(place.lines, place.number, place.name) else {
         return Ok(());
     };
-    let said = whole_statement(alloc, place.lines, found.number)?;
-    let (name, number) = (shown(alloc, place.name)?, found.number);
-    let kind = sort_in(said.as_slice(), place.name);
+    let said = place.lines.statement(found.number);
+    let (name, number) = (shown(place.name), found.number);
+    let kind = sort_in(said, place.name);
     told.say(format!(in alloc;
         "`{name}` is {kind} (line {number}), and something else is needed here"
     )?);
@@ -117,9 +120,9 @@ pub fn not_constant(alloc: Global, place: Place<'_>, told: &mut Told) -> Result<
     } else {
         ("an option", place.said)
     };
-    match varying(alloc, place, text)? {
+    match varying(place, text) {
         Some((name, found)) => {
-            let word = shown(alloc, name)?;
+            let word = shown(name);
             told.say(format!(in alloc; "{what} has to be constant, and `{word}` varies")?);
             told.mean(place, name);
             told.show(alloc, found, name, "specified here")
@@ -133,38 +136,31 @@ pub fn not_constant(alloc: Global, place: Place<'_>, told: &mut Told) -> Result<
 
 /// What is in the first square brackets of a line.
 fn size_in(said: &[u8]) -> &[u8] {
-    match said.iter().position(|b| *b == b'[') {
-        Some(at) => closed(said.get(at.saturating_add(1)..).unwrap_or(&[])).0,
+    match split_once(said, b"[") {
+        Some((_, inside)) => closed(inside).0,
         None => &[],
     }
 }
 
 /// The first name of an expression that is no constant and no index, and the line that specifies it.
-fn varying<'a>(
-    alloc: Global,
-    place: Place<'a>,
-    text: &'a [u8],
-) -> Result<Option<(&'a [u8], Numbered<'a>)>, AllocError> {
+fn varying<'a>(place: Place<'a>, text: &'a [u8]) -> Option<(&'a [u8], Numbered<'a>)> {
     let mut rest = text;
     for _ in 0..text.len().min(WORD_LIMIT) {
-        let Some((word, more)) = next_word(rest) else {
-            break;
-        };
+        let (word, more) = next_word(rest)?;
         rest = more;
         if word == b"SIZE".as_slice() {
-            return Ok(None);
+            return None;
         }
         if is_reserved(word) {
             continue;
         }
-        if let Some(found) = specified_by(alloc, place.lines, place.number, word)? {
-            let said = statement(alloc, found.line)?;
-            if abbreviated(said.as_slice()).is_none() {
-                return Ok(Some((word, found)));
-            }
+        if let Some(found) = specified_by(place.lines, place.number, word)
+            && abbreviated(place.lines.said(found.number)).is_none()
+        {
+            return Some((word, found));
         }
     }
-    Ok(None)
+    None
 }
 
 /// Tells what of the base and the count of a PAR may not be.
@@ -180,36 +176,42 @@ pub fn replicated(alloc: Global, place: Place<'_>, told: &mut Told) -> Result<()
         told.mean_in(place, count, first_word(count.trim_ascii()));
         return Ok(());
     }
-    let base = match front.iter().position(|b| *b == b'=') {
-        Some(at) => front.get(at.saturating_add(1)..).unwrap_or(&[]),
-        None => return Ok(()),
+    let Some((_, base)) = split_once(front, b"=") else {
+        return Ok(());
     };
-    let found = match varying(alloc, place, count)? {
-        Some(found) => Some(found),
-        None => varying(alloc, place, base)?,
-    };
-    if let Some((name, line)) = found {
-        let word = shown(alloc, name)?;
-        told.say(format!(in alloc;
-            "base and count of a PAR have to be constant, and `{word}` varies"
-        )?);
-        told.mean(place, name);
-        told.show(alloc, line, name, "specified here")?;
+    match varying(place, count).or(varying(place, base)) {
+        Some((name, line)) => varies(alloc, place, name, line, told),
+        None => Ok(()),
     }
-    Ok(())
+}
+
+/// Tells which name in the base or the count of a PAR varies.
+fn varies(
+    alloc: Global,
+    place: Place<'_>,
+    name: &[u8],
+    line: Numbered<'_>,
+    told: &mut Told,
+) -> Result<(), AllocError> {
+    let word = shown(name);
+    told.say(format!(in alloc;
+        "base and count of a PAR have to be constant, and `{word}` varies"
+    )?);
+    told.mean(place, name);
+    told.show(alloc, line, name, "specified here")
 }
 
 /// Tells what of the rest of a line is missing.
 pub fn unfinished(alloc: Global, place: Place<'_>, told: &mut Told) -> Result<(), AllocError> {
     let last = last_part(place.said);
-    let end = shown(alloc, last)?;
+    let end = shown(last);
     match line_after(place.lines, place.number) {
         Some(next) => {
             let number = next.number;
             told.say(format!(in alloc;
                 "what comes after `{end}` is missing, or line {number} is not as far in as this line"
             )?);
-            told.show(alloc, next, first_word(next.line.trim_ascii()), "")
+            told.show_start(alloc, next)
         }
         None => {
             told.say(format!(in alloc; "what comes after `{end}` is missing")?);
@@ -235,12 +237,12 @@ pub fn effect(alloc: Global, place: Place<'_>, told: &mut Told) -> Result<(), Al
     let first = first_word(place.said);
     if place.name.is_empty() {
         if matches!(first, b"PAR" | b"ALT" | b"PRI") {
-            let word = shown(alloc, first)?;
+            let word = shown(first);
             told.say(format!(in alloc; "a FUNCTION has no {word}")?);
         }
         return Ok(());
     }
-    let name = shown(alloc, place.name)?;
+    let name = shown(place.name);
     if assigned(place.said).is_some() {
         told.say(format!(in alloc; "`{name}` is changed by a FUNCTION, and stands outside of it")?);
     } else if place.said.contains(&b'!') || place.said.contains(&b'?') {
@@ -262,6 +264,16 @@ pub fn sizes(alloc: Global, place: Place<'_>, told: &mut Told) -> Result<(), All
 
 /// Shows the line above in the same column that says the same.
 pub fn twice(alloc: Global, place: Place<'_>, told: &mut Told) -> Result<(), AllocError> {
+    let Some(same) = same_above(place) else {
+        return Ok(());
+    };
+    let (said, number) = (shown(same.line), same.number);
+    told.say(format!(in alloc; "`{said}` stands here and in line {number}, in one list")?);
+    told.show_start(alloc, same)
+}
+
+/// The nearest line above in the same column that says the same, with none between that is less far in.
+fn same_above<'a>(place: Place<'a>) -> Option<Numbered<'a>> {
     for (at, line) in place.lines.before(place.number).iter().enumerate().rev() {
         if is_skipped(line) || column(line) > column(place.line) {
             continue;
@@ -270,40 +282,39 @@ pub fn twice(alloc: Global, place: Place<'_>, told: &mut Told) -> Result<(), All
             break;
         }
         if line.trim_ascii() == place.line.trim_ascii() {
-            let (said, number) = (shown(alloc, line)?, number_of(at));
-            told.say(format!(in alloc; "`{said}` stands here and in line {number}, in one list")?);
-            return told.show(
-                alloc,
-                Numbered { number, line },
-                first_word(line.trim_ascii()),
-                "",
-            );
+            let number = number_of(at);
+            return Some(Numbered { number, line });
         }
     }
-    Ok(())
+    None
 }
 
 /// Shows the nearest abbreviation above that reads the name.
 pub fn abbreviation(alloc: Global, place: Place<'_>, told: &mut Told) -> Result<(), AllocError> {
+    match abbreviated_above(place) {
+        Some(found) => told.show(alloc, found, place.name, "abbreviated here"),
+        None => Ok(()),
+    }
+}
+
+/// The nearest abbreviation above that reads the name.
+fn abbreviated_above<'a>(place: Place<'a>) -> Option<Numbered<'a>> {
     let mut depth = column(place.line);
     for (at, line) in place.lines.before(place.number).iter().enumerate().rev() {
         if is_skipped(line) {
             continue;
         }
         let here = column(line);
-        if here <= depth && has(line, b" IS ") {
-            let said = statement(alloc, line)?;
-            if abbreviated(said.as_slice()).is_some_and(|(_, rest)| has_word(rest, place.name)) {
-                let number = number_of(at);
-                return told.show(
-                    alloc,
-                    Numbered { number, line },
-                    place.name,
-                    "abbreviated here",
-                );
-            }
+        let number = number_of(at);
+        if here <= depth && has(line, b" IS ") && reads(place.lines.said(number), place.name) {
+            return Some(Numbered { number, line });
         }
         depth = depth.min(here);
     }
-    Ok(())
+    None
+}
+
+/// Whether what a statement abbreviates has a name in it.
+fn reads(said: &[u8], name: &[u8]) -> bool {
+    abbreviated(said).is_some_and(|(_, rest)| has_word(rest, name))
 }

@@ -1,7 +1,7 @@
 //! What is wrong with how a line is written: words and symbols of other languages, names, and what is missing.
 use super::text::{
     after_word, column, count, cut, first_word, has, has_word, is_skipped, line_after, next_word,
-    parent, word_count,
+    parent, split_once, word_count,
 };
 use super::told::{Mark, Place, Told, indent, shown};
 use occ_base::Code;
@@ -63,32 +63,46 @@ pub fn written(alloc: Global, place: Place<'_>, told: &mut Told) -> Result<(), A
         return Ok(());
     }
     if place.code == Code::L1 {
-        return strange_byte(alloc, place, told);
+        strange_byte(alloc, place, told)
+    } else {
+        misformed(alloc, place, told)
     }
-    if is_equation(place) {
-        told.say(String::from_str(alloc, EQUALS)?);
-        return Ok(());
-    }
-    if place.code == Code::S1 && is_option(place) {
-        told.say(String::from_str(alloc, "a condition, a guard or an option ends without `:`")?);
-    } else if place.code == Code::S1
-        && first_word(place.said) != b"FOR".as_slice()
-        && !is_counted_otherwise(place.said)
-    {
+}
+
+/// Tells what is wrong with the form or the place of a line, if looks say it.
+fn misformed(alloc: Global, place: Place<'_>, told: &mut Told) -> Result<(), AllocError> {
+    if may_be_foreign(place) {
         foreign_word(alloc, place, told)?;
     }
     if told.is_said() {
         return Ok(());
     }
-    let found = if place.code == Code::S2 {
-        shape_hint(place)
-    } else {
-        form_hint(place.said)
-    };
-    if let Some(words) = found {
+    if let Some(words) = hint(place) {
         told.say(String::from_str(alloc, words)?);
     }
     Ok(())
+}
+
+/// Whether a line without a form is none that words of other languages are not looked for in.
+fn may_be_foreign(place: Place<'_>) -> bool {
+    place.code == Code::S1
+        && !is_equation(place)
+        && !is_option(place)
+        && first_word(place.said) != b"FOR".as_slice()
+        && !is_counted_otherwise(place.said)
+}
+
+/// What is wrong with the form or the place of a line, in words that need nothing of it.
+fn hint(place: Place<'_>) -> Option<&'static str> {
+    if is_equation(place) {
+        Some(EQUALS)
+    } else if place.code == Code::S2 {
+        shape_hint(place)
+    } else if place.code == Code::S1 && is_option(place) {
+        Some("a condition, a guard or an option ends without `:`")
+    } else {
+        form_hint(place.said)
+    }
 }
 
 /// Whether a line under a choice ends in `:` and has lines under it.
@@ -111,7 +125,7 @@ fn foreign_word(alloc: Global, place: Place<'_>, told: &mut Told) -> Result<(), 
     if word.is_empty() || any_word(place.said, LEFT_OUT.as_slice()) {
         return Ok(());
     }
-    let text = shown(alloc, word)?;
+    let text = shown(word);
     told.say(format!(in alloc;
         "occam has no `{text}`: no word opens or closes a block, depth says what belongs together"
     )?);
@@ -228,8 +242,17 @@ fn symbol_hint(said: &[u8]) -> Option<&'static str> {
     }
 }
 
-/// What is missing in a line, or too much.
+/// What is missing in a line, or too much: the first that is found.
 fn form_hint(said: &[u8]) -> Option<&'static str> {
+    opening_hint(said)
+        .or(sign_hint(said))
+        .or(joining_hint(said))
+        .or(segment_hint(said))
+        .or(ending_hint(said))
+}
+
+/// What is wrong with how a line begins.
+fn opening_hint(said: &[u8]) -> Option<&'static str> {
     let first = first_word(said);
     if any_word(said, LEFT_OUT.as_slice()) {
         Some("this is left out here: `occ` checks programs without reals, ports and placement")
@@ -241,11 +264,18 @@ fn form_hint(said: &[u8]) -> Option<&'static str> {
         Some("`ELSE` stands alone, and its process a line under it, two blanks in")
     } else if first == b"FOR".as_slice() || is_counted_otherwise(said) {
         Some("a loop over numbers is `SEQ i = 0 FOR 10`: the first number, and how many")
-    } else if has(said, b"&") && has(said, b"!") {
+    } else {
+        None
+    }
+}
+
+/// What is wrong around a sign of a line, or where one is missing.
+fn sign_hint(said: &[u8]) -> Option<&'static str> {
+    if has(said, b"&") && has(said, b"!") {
         Some("a guard is an input or SKIP, no output")
     } else if said.ends_with(b"?") {
         Some("behind `?` stand the variables that are input, or `CASE` for a variant protocol")
-    } else if first == b"PROC".as_slice() && !has(said, b"(") {
+    } else if first_word(said) == b"PROC".as_slice() && !has(said, b"(") {
         Some("the head of a PROC has brackets, also where it has no formals: `PROC p ()`")
     } else if has(said, b":=") && has(said, b";") {
         Some("each process has a line of its own: `;` parts items of a message and nothing else")
@@ -253,23 +283,45 @@ fn form_hint(said: &[u8]) -> Option<&'static str> {
         Some("items of a message are parted by `;`")
     } else if inputs_value(said) {
         Some("behind `?` stands a variable, no expression")
-    } else if compares_bare(said) {
+    } else {
+        None
+    }
+}
+
+/// What is wrong with what AND, OR and NOT join, or with the condition of a guard.
+fn joining_hint(said: &[u8]) -> Option<&'static str> {
+    let (has_and, has_or) = (has_word(said, b"AND"), has_word(said, b"OR"));
+    let is_guard = said.starts_with(b"(") && !has(said, b"&");
+    if compares_bare(said) {
         Some("what AND and OR join stands in brackets: `(a > 0) AND (b > 0)`")
-    } else if has_word(said, b"NOT") && (has_word(said, b"AND") || has_word(said, b"OR")) {
+    } else if has_word(said, b"NOT") && (has_and || has_or) {
         Some("what NOT denies stands in brackets with it: `(NOT a) AND b`")
-    } else if has_word(said, b"AND") && has_word(said, b"OR") {
+    } else if has_and && has_or {
         Some("AND and OR beside one another want brackets: `(a AND b) OR c`")
-    } else if said.ends_with(b"SKIP") && said.starts_with(b"(") && !has(said, b"&") {
+    } else if is_guard && said.ends_with(b"SKIP") {
         Some("no `&` stands between the condition of this guard and what it guards")
-    } else if said.starts_with(b"(") && has(said, b"?") && !has(said, b"&") {
+    } else if is_guard && has(said, b"?") {
         Some("no `&` stands between the condition of this guard and its input")
-    } else if has_word(said, b"FROM") && has(said, b",") && !has_word(said, b"FOR") {
+    } else {
+        None
+    }
+}
+
+/// What is wrong with a segment of a line.
+fn segment_hint(said: &[u8]) -> Option<&'static str> {
+    let has_list = has_word(said, b"FROM") && has(said, b",") && !has_word(said, b"FOR");
+    if has_list || more_from(said) {
         Some("a segment is `[a FROM start FOR count]`")
-    } else if more_from(said) {
-        Some("a segment is `[a FROM start FOR count]`")
-    } else if (first == b"VAL".as_slice() || has_word(said, b"IS") || is_type(first))
-        && !said.ends_with(b":")
-    {
+    } else {
+        None
+    }
+}
+
+/// What is wrong with how a line ends, or with the brackets of a subscript.
+fn ending_hint(said: &[u8]) -> Option<&'static str> {
+    let first = first_word(said);
+    let specifies = first == b"VAL".as_slice() || has_word(said, b"IS") || is_type(first);
+    if specifies && !said.ends_with(b":") {
         Some("a specification ends in `:`")
     } else if has(said, b":=") && is_called(said, first) {
         Some("a subscript stands in square brackets: `a[i]`")
@@ -311,8 +363,8 @@ fn compares_bare(said: &[u8]) -> bool {
 
 /// What is after `:=`, or all.
 pub fn after_assignment(said: &[u8]) -> &[u8] {
-    match said.windows(2).position(|two| two == b":=".as_slice()) {
-        Some(at) => said.get(at.saturating_add(2)..).unwrap_or(&[]),
+    match split_once(said, b":=") {
+        Some((_, values)) => values,
         None => said,
     }
 }
@@ -444,8 +496,8 @@ fn word_hint(
     word: &[u8],
 ) -> Result<(), AllocError> {
     if word.contains(&b'_') && count(word, b'_') < word.len() {
-        let text = shown(alloc, word)?;
-        let dotted = text.as_str().replace(alloc, "_", ".")?;
+        let text = str::from_utf8(word).unwrap_or("");
+        let dotted = text.replace(alloc, "_", ".")?;
         told.say(format!(in alloc; "`{text}` is no name: names have dots and no underscores")?);
         told.mean(place, word);
         return told.help(format!(in alloc; "write `{dotted}`")?);

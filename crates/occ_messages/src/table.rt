@@ -19,13 +19,37 @@ pub struct Entry {
     pub body: &'static str,
 }
 
+/// The words of an entry, as `Entry` has them.
+struct Words {
+    title: &'static str,
+    named: &'static str,
+    why: &'static str,
+    body: &'static str,
+}
+
 /// What is said of a code.
 pub fn entry_of(code: Code) -> Entry
     ensures { result.code ≡ code }
 {
+    let Words {
+        title,
+        named,
+        why,
+        body,
+    } = words_of(code);
+    Entry {
+        code,
+        title,
+        named,
+        why,
+        body,
+    }
+}
+
+/// The words of a code.
+fn words_of(code: Code) -> &'static Words {
     match code {
-        Code::G1 => Entry {
-            code: Code::G1,
+        Code::G1 => &Words {
             title: "the unit of a `#USE` is not there",
             named: "is not there",
             why: "What a unit uses is checked with it, since its PROCs and FUNCTIONs are seen from there. It is looked for beside the file that names it, then in the folders given by -I.",
@@ -34,8 +58,7 @@ pub fn entry_of(code: Code) -> Entry
 #USE "tools"
 ```"#,
         },
-        Code::G2 => Entry {
-            code: Code::G2,
+        Code::G2 => &Words {
             title: "units use one another in a circle",
             named: "uses this unit in turn, in a circle",
             why: "A unit is checked after those that it uses, and in a circle none comes first.",
@@ -44,15 +67,13 @@ pub fn entry_of(code: Code) -> Entry
 #USE "a"
 ```"#,
         },
-        Code::G3 => Entry {
-            code: Code::G3,
+        Code::G3 => &Words {
             title: "the used unit has an error",
             named: "has an error, so nothing of it is seen",
             why: "What a unit exports is known once it has no error.",
             body: r#"The line has this code until the used unit has no diagnostic of the grade `error`; its exports are not seen meanwhile."#,
         },
-        Code::G4 => Entry {
-            code: Code::G4,
+        Code::G4 => &Words {
             title: "the file of an `#INCLUDE` is not there",
             named: "is not there",
             why: "Its lines would stand in the place of the directive. It is looked for beside the file that names it, then in the folders given by -I.",
@@ -61,8 +82,7 @@ pub fn entry_of(code: Code) -> Entry
 #INCLUDE "sizes.inc"
 ```"#,
         },
-        Code::G5 => Entry {
-            code: Code::G5,
+        Code::G5 => &Words {
             title: "a file includes itself, perhaps by way of others",
             named: "is being included already",
             why: "Its lines would never end.",
@@ -71,15 +91,13 @@ pub fn entry_of(code: Code) -> Entry
 #INCLUDE "a.occ"
 ```"#,
         },
-        Code::G6 => Entry {
-            code: Code::G6,
+        Code::G6 => &Words {
             title: "inclusions are too deep, or make a unit too long",
             named: "is included too deep",
             why: "16 inclusions may stand below one another, and a unit has 65,535 lines at most with all that it includes.",
             body: r#"More than 16 inclusions below one another (the name is the file), or more than 65,535 lines in all (no name)."#,
         },
-        Code::G7 => Entry {
-            code: Code::G7,
+        Code::G7 => &Words {
             title: "an open list of a library is none",
             named: "is no list of units",
             why: "`#USE \"z.lib\"` uses the units that the list `z.lbb` names, so each line of the list has to name one.",
@@ -102,8 +120,7 @@ Instead:
 #USE "z.lib"
 ```"#,
         },
-        Code::L1 => Entry {
-            code: Code::L1,
+        Code::L1 => &Words {
             title: "a byte, a token or a directive that there is not",
             named: "",
             why: "Nothing in occam is written so.",
@@ -125,8 +142,7 @@ PROC p ()
 :
 ```"#,
         },
-        Code::L2 => Entry {
-            code: Code::L2,
+        Code::L2 => &Words {
             title: "a line that begins in an odd column",
             named: "",
             why: "Depth says what belongs to what: each level begins two blanks further in.",
@@ -146,8 +162,7 @@ PROC p ()
 :
 ```"#,
         },
-        Code::L3 => Entry {
-            code: Code::L3,
+        Code::L3 => &Words {
             title: "the rest of a line is missing, or begins too far left",
             named: "",
             why: "What an operator, a comma or an assignment still wants stands in the next line, at least as far in.",
@@ -176,8 +191,7 @@ PROC p ()
 :
 ```"#,
         },
-        Code::L4 => Entry {
-            code: Code::L4,
+        Code::L4 => &Words {
             title: "a string is not closed",
             named: "",
             why: "A string ends on its line, or goes on where a `*` ends the line and another begins the next.",
@@ -191,8 +205,7 @@ Instead:
 VAL name IS "occam":
 ```"#,
         },
-        Code::S1 => Entry {
-            code: Code::S1,
+        Code::S1 => &Words {
             title: "no line of occam has this form",
             named: "",
             why: "A line is one process, one specification or one part of a construct.",
@@ -218,8 +231,7 @@ PROC p ()
 :
 ```"#,
         },
-        Code::S2 => Entry {
-            code: Code::S2,
+        Code::S2 => &Words {
             title: "a line that may not be here, or lacks what has to be under or after it",
             named: "",
             why: "Depth says what belongs to what, and each line takes certain lines under it and after it.",
@@ -254,22 +266,19 @@ PROC p ()
 :
 ```"#,
         },
-        Code::S3 => Entry {
-            code: Code::S3,
+        Code::S3 => &Words {
             title: "over 64 open brackets or dimensions",
             named: "",
             why: "Brackets may be open 64 deep, and a type has 64 dimensions at most.",
             body: r#""#,
         },
-        Code::S4 => Entry {
-            code: Code::S4,
+        Code::S4 => &Words {
             title: "over 64 levels",
             named: "",
             why: "Lines may stand 64 levels deep.",
             body: r#""#,
         },
-        Code::N1 => Entry {
-            code: Code::N1,
+        Code::N1 => &Words {
             title: "the name is not in scope, or there is no such field",
             named: "is not in scope, or is no field",
             why: "A name is known from its specification on, to the end of the process that follows it.",
@@ -290,8 +299,7 @@ PROC p ()
 :
 ```"#,
         },
-        Code::N2 => Entry {
-            code: Code::N2,
+        Code::N2 => &Words {
             title: "the name is of another sort than is needed",
             named: "is of another sort than is needed",
             why: "A PROC is no value, and a protocol is no type of a variable.",
@@ -314,8 +322,7 @@ PROC p ()
 :
 ```"#,
         },
-        Code::T1 => Entry {
-            code: Code::T1,
+        Code::T1 => &Words {
             title: "the operands of an operator do not go together",
             named: "",
             why: "Nothing is converted by itself; a type before a value converts it: `INT b`.",
@@ -339,8 +346,7 @@ PROC p ()
 :
 ```"#,
         },
-        Code::T2 => Entry {
-            code: Code::T2,
+        Code::T2 => &Words {
             title: "not the type that is wanted",
             named: "is not of the type that is wanted",
             why: "Nothing is converted by itself; a type before a value converts it: `INT b`.",
@@ -360,8 +366,7 @@ PROC p ()
 :
 ```"#,
         },
-        Code::T3 => Entry {
-            code: Code::T3,
+        Code::T3 => &Words {
             title: "something is changed that may not be",
             named: "may not be changed",
             why: "Values, VAL names and indices of replicators keep their value.",
@@ -383,8 +388,7 @@ PROC p ()
 :
 ```"#,
         },
-        Code::T4 => Entry {
-            code: Code::T4,
+        Code::T4 => &Words {
             title: "not so many as there should be",
             named: "",
             why: "Each target takes one value, and each formal one actual.",
@@ -404,8 +408,7 @@ PROC p ()
 :
 ```"#,
         },
-        Code::T5 => Entry {
-            code: Code::T5,
+        Code::T5 => &Words {
             title: "a size or an option is not constant",
             named: "",
             why: "Arrays are laid out, and options told apart, before the program runs.",
@@ -427,8 +430,7 @@ PROC p ()
 :
 ```"#,
         },
-        Code::T6 => Entry {
-            code: Code::T6,
+        Code::T6 => &Words {
             title: "a constant that cannot be",
             named: "",
             why: "It is too great for its type, divided by zero, shifted too far, or an index outside of its array.",
@@ -450,8 +452,7 @@ PROC p ()
 :
 ```"#,
         },
-        Code::T7 => Entry {
-            code: Code::T7,
+        Code::T7 => &Words {
             title: "a condition that is no BOOL, or a selector that is neither an integer nor a BYTE",
             named: "",
             why: "IF, WHILE and guards ask a BOOL, and CASE an integer or a BYTE.",
@@ -473,8 +474,7 @@ PROC p ()
 :
 ```"#,
         },
-        Code::T8 => Entry {
-            code: Code::T8,
+        Code::T8 => &Words {
             title: "twice the same in one list",
             named: "stands twice in one list",
             why: "Only one of the two could ever be meant.",
@@ -506,8 +506,7 @@ PROC p ()
 :
 ```"#,
         },
-        Code::T9 => Entry {
-            code: Code::T9,
+        Code::T9 => &Words {
             title: "sizes that do not come out even, or a type that is too large",
             named: "",
             why: "RETYPES and RESHAPES take all bytes of a value, no more and no less.",
@@ -527,8 +526,7 @@ PROC p ()
 :
 ```"#,
         },
-        Code::P1 => Entry {
-            code: Code::P1,
+        Code::P1 => &Words {
             title: "what is sent or received is not what the protocol wants",
             named: "carries another message than this",
             why: "Both ends of a channel keep to its protocol: so many items, in that order, each of its type.",
@@ -550,8 +548,7 @@ PROC p ()
 :
 ```"#,
         },
-        Code::P2 => Entry {
-            code: Code::P2,
+        Code::P2 => &Words {
             title: "a tag that the protocol does not have",
             named: "is no tag of this protocol",
             why: "A variant protocol has the tags that its CASE lists, and no others.",
@@ -581,8 +578,7 @@ PROC p ()
 :
 ```"#,
         },
-        Code::P3 => Entry {
-            code: Code::P3,
+        Code::P3 => &Words {
             title: "a variant protocol without its tag or its CASE",
             named: "has a variant protocol, and wants a tag or a `CASE`",
             why: "What follows in the message is known by its tag.",
@@ -618,8 +614,7 @@ PROC p ()
 :
 ```"#,
         },
-        Code::P4 => Entry {
-            code: Code::P4,
+        Code::P4 => &Words {
             title: "no channel, or a timer used as one",
             named: "is no channel, or a timer used as one",
             why: "`!` and `?` are for channels, and of a timer one can only read the time.",
@@ -639,8 +634,7 @@ PROC p ()
 :
 ```"#,
         },
-        Code::R1 => Entry {
-            code: Code::R1,
+        Code::R1 => &Words {
             title: "the base or count of a PAR is not constant, or its count not 0 to 256",
             named: "replicates a PAR whose base or count is not constant, or whose count is not from 0 to 256",
             why: "Its processes are laid out before the program runs.",
@@ -662,8 +656,7 @@ PROC p ()
 :
 ```"#,
         },
-        Code::R2 => Entry {
-            code: Code::R2,
+        Code::R2 => &Words {
             title: "too many copies in all",
             named: "replicates a PAR that makes too many copies in all",
             why: "4,096 processes is the limit.",
@@ -691,8 +684,7 @@ PROC p ()
 :
 ```"#,
         },
-        Code::U1 => Entry {
-            code: Code::U1,
+        Code::U1 => &Words {
             title: "a variable is changed in one component and used in another",
             named: "is changed in one component of this PAR and used in another",
             why: "Components run at once and in any order, so what one changes no other may use. They share values by channels.",
@@ -723,8 +715,7 @@ PROC p ()
 :
 ```"#,
         },
-        Code::U2 => Entry {
-            code: Code::U2,
+        Code::U2 => &Words {
             title: "two components input from one channel",
             named: "is input from in two components of this PAR",
             why: "A channel joins two processes: one outputs, and one inputs.",
@@ -757,8 +748,7 @@ PROC p ()
 :
 ```"#,
         },
-        Code::U3 => Entry {
-            code: Code::U3,
+        Code::U3 => &Words {
             title: "two components output to one channel",
             named: "is output to in two components of this PAR",
             why: "A channel joins two processes: one outputs, and one inputs.",
@@ -791,8 +781,7 @@ PROC p ()
 :
 ```"#,
         },
-        Code::A1 => Entry {
-            code: Code::A1,
+        Code::A1 => &Words {
             title: "a part is used while an abbreviation is its name",
             named: "is used while an abbreviation is its name",
             why: "A thing has one name at a time, so that a change by one is never missed by the other.",
@@ -831,8 +820,7 @@ PROC p (VAL INT i)
 :
 ```"#,
         },
-        Code::A2 => Entry {
-            code: Code::A2,
+        Code::A2 => &Words {
             title: "a subscript of an abbreviated element is changed",
             named: "is changed, and is a subscript of an abbreviated element",
             why: "The abbreviation is of one element, so what selects it keeps its value meanwhile.",
@@ -860,8 +848,7 @@ PROC p ()
 :
 ```"#,
         },
-        Code::A3 => Entry {
-            code: Code::A3,
+        Code::A3 => &Words {
             title: "what a VAL abbreviation reads is changed",
             named: "is changed while a VAL abbreviation reads it",
             why: "A VAL abbreviation has one value as long as it is in scope.",
@@ -883,8 +870,7 @@ PROC p ()
 :
 ```"#,
         },
-        Code::A4 => Entry {
-            code: Code::A4,
+        Code::A4 => &Words {
             title: "two actuals of a call are one, or the body uses what it is given",
             named: "is given to this call twice, or is used by its body too",
             why: "A thing has one name at a time, and formals are names of what they are given.",
@@ -910,8 +896,7 @@ PROC p ()
 :
 ```"#,
         },
-        Code::F1 => Entry {
-            code: Code::F1,
+        Code::F1 => &Words {
             title: "a FUNCTION has an effect",
             named: "is changed or communicated with by a FUNCTION",
             why: "A FUNCTION gives values and changes nothing: no assignment to what is outside, no channel, no PAR and no ALT.",

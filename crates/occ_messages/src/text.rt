@@ -7,9 +7,29 @@ const STATEMENT_LINES: usize = 16;
 /// How many words of a line are looked up in the text.
 pub const WORD_LIMIT: usize = 64;
 
+/// Where a line's part is of what all lines say.
+#[derive(Clone, Copy)]
+struct Span {
+    from: usize,
+    to: usize,
+}
+
+/// A text by its lines, with what each of them says.
+#[derive(Drop)]
+pub struct Text<'a> {
+    lines: Vec<&'a [u8]>,
+    /// What the lines say, in their order, with a blank after each.
+    said: Vec<u8>,
+    spans: Vec<Span>,
+}
+
 /// The lines of a text.
 #[derive(Clone, Copy)]
-pub struct Lines<'a>(pub &'a [&'a [u8]]);
+pub struct Lines<'a> {
+    pub all: &'a [&'a [u8]],
+    said: &'a [u8],
+    spans: &'a [Span],
+}
 
 /// A line of a text with its number, from 1.
 #[derive(Clone, Copy)]
@@ -18,39 +38,89 @@ pub struct Numbered<'a> {
     pub line: &'a [u8],
 }
 
-/// The lines of a text, without what ends them.
-pub fn lines_of<'a>(alloc: Global, text: &'a [u8]) -> Result<Vec<&'a [u8]>, AllocError> {
-    let mut lines = Vec::new(alloc);
-    for line in text.split(|b| *b == b'\n') {
-        lines.push(line.strip_suffix(b"\r").unwrap_or(line))?;
+impl<'a> Text<'a> {
+    /// The lines of a text, without what ends them.
+    pub fn new(alloc: Global, text: &'a [u8]) -> Result<Text<'a>, AllocError> {
+        let mut lines = Vec::new(alloc);
+        let mut said = Vec::new(alloc);
+        let mut spans = Vec::new(alloc);
+        for whole in text.split(|b| *b == b'\n') {
+            let line = whole.strip_suffix(b"\r").unwrap_or(whole);
+            lines.push(line)?;
+            let from = said.len();
+            add_statement(line, &mut said)?;
+            let to = said.len();
+            spans.push(Span { from, to })?;
+            said.push(b' ')?;
+        }
+        Ok(Text { lines, said, spans })
     }
-    Ok(lines)
+
+    /// The lines, to look at.
+    pub fn lines(&self) -> Lines<'_> {
+        Lines {
+            all: self.lines.as_slice(),
+            said: self.said.as_slice(),
+            spans: self.spans.as_slice(),
+        }
+    }
 }
 
 impl<'a> Lines<'a> {
     /// The line of that number, the first of which is line 1; none where there is no such line.
     pub fn line(self, number: u32) -> &'a [u8] {
-        match self.0.get((number as usize).saturating_sub(1)) {
+        match self.all.get((number as usize).saturating_sub(1)) {
             Some(line) => line,
             None => &[],
         }
     }
 
+    /// What the line of that number says without blanks around it and without its comment. Each byte of a string or character
+    /// is a quote there, so that no word is found in one.
+    pub fn said(self, number: u32) -> &'a [u8] {
+        match self.spans.get((number as usize).saturating_sub(1)) {
+            Some(span) => self.part(span.from, span.to),
+            None => &[],
+        }
+    }
+
+    /// A part of what all lines say.
+    fn part(self, from: usize, to: usize) -> &'a [u8] {
+        self.said.get(from..to).unwrap_or(&[])
+    }
+
+    /// What the statement says that begins on that line, with the lines on which it goes on.
+    pub fn statement(self, number: u32) -> &'a [u8] {
+        let from = match self.spans.get((number as usize).saturating_sub(1)) {
+            Some(span) => span.from,
+            None => return &[],
+        };
+        let mut said = self.said(number);
+        let behind = self.spans.get(number as usize..).unwrap_or(&[]);
+        for span in behind.iter().take(STATEMENT_LINES) {
+            if !goes_on(said) {
+                break;
+            }
+            said = self.part(from, span.to);
+        }
+        said
+    }
+
     /// The lines before that one.
     pub fn before(self, number: u32) -> &'a [&'a [u8]] {
         let count = (number as usize).saturating_sub(1);
-        self.0.get(..count).unwrap_or(self.0)
+        self.all.get(..count).unwrap_or(self.all)
     }
 
     /// The lines after one and before another.
     pub fn between(self, first: u32, last: u32) -> &'a [&'a [u8]] {
         let end = (last as usize).saturating_sub(1);
-        self.0.get(first as usize..end).unwrap_or(&[])
+        self.all.get(first as usize..end).unwrap_or(&[])
     }
 
     /// The lines after that one.
     pub fn after(self, number: u32) -> &'a [&'a [u8]] {
-        self.0.get(number as usize..).unwrap_or(&[])
+        self.all.get(number as usize..).unwrap_or(&[])
     }
 }
 
@@ -62,10 +132,9 @@ pub fn number_of(index: usize) -> u32 {
     }
 }
 
-/// What a line says without blanks around it and without its comment. Each byte of a string or character is a quote there, so
-/// that no word is found in one.
-pub fn statement(alloc: Global, line: &[u8]) -> Result<Vec<u8>, AllocError> {
-    let mut said = Vec::new(alloc);
+/// Adds what a line says to what those before it do.
+fn add_statement(line: &[u8], said: &mut Vec<u8>) -> Result<(), AllocError> {
+    let from = said.len();
     let mut quote = b' ';
     let mut last = b' ';
     for b in line.trim_ascii() {
@@ -81,8 +150,9 @@ pub fn statement(alloc: Global, line: &[u8]) -> Result<Vec<u8>, AllocError> {
             *b
         };
     }
-    said.truncate(said.as_slice().trim_ascii().len());
-    Ok(said)
+    let length = said.get(from..).unwrap_or(&[]).trim_ascii().len();
+    said.truncate(from.saturating_add(length));
+    Ok(())
 }
 
 /// The quote within which the next byte is, a blank for none.
@@ -95,24 +165,6 @@ fn quote_after(quote: u8, last: u8, b: u8) -> u8 {
     } else {
         quote
     }
-}
-
-/// What the statement says that begins on that line, with the lines on which it goes on.
-pub fn whole_statement(
-    alloc: Global,
-    lines: Lines<'_>,
-    number: u32,
-) -> Result<Vec<u8>, AllocError> {
-    let mut said = statement(alloc, lines.line(number))?;
-    for line in lines.after(number).iter().take(STATEMENT_LINES) {
-        if !goes_on(said.as_slice()) {
-            break;
-        }
-        said.push(b' ')?;
-        let more = statement(alloc, line)?;
-        said.extend_from_slice(more.as_slice())?;
-    }
-    Ok(said)
 }
 
 /// Whether a statement goes on in the next line.
@@ -293,6 +345,16 @@ pub fn cut(bytes: &[u8], separator: u8) -> Option<(&[u8], &[u8])> {
         }
     }
     None
+}
+
+/// What is before the first of some bytes in others, and what is after it, if they are there.
+pub fn split_once<'a>(bytes: &'a [u8], part: &[u8]) -> Option<(&'a [u8], &'a [u8])> {
+    if part.is_empty() {
+        return None;
+    }
+    let at = bytes.windows(part.len()).position(|there| there == part)?;
+    let behind = at.saturating_add(part.len());
+    Some((bytes.get(..at)?, bytes.get(behind..)?))
 }
 
 /// The first item of a list, and the rest, if there is any item.

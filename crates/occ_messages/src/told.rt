@@ -1,5 +1,6 @@
 //! What is told of a diagnostic beyond its code: better words, the word that is meant, other lines, and what may help.
-use super::text::{Lines, Numbered, after_word};
+use super::text::{Lines, Numbered, after_word, first_word};
+use bstr::BStr;
 use occ_base::{Code, Grade};
 use std::alloc::{AllocError, Global};
 
@@ -20,9 +21,9 @@ pub struct Place<'a> {
 
 impl<'a> Place<'a> {
     /// A part of what the line says, as text, with its strings and characters.
-    pub fn shown(self, alloc: Global, part: &[u8]) -> Result<String, AllocError> {
+    pub fn shown(self, part: &'a [u8]) -> BStr<'a> {
         let part = part.trim_ascii();
-        shown(alloc, self.original(part).unwrap_or(part))
+        shown(self.original(part).unwrap_or(part))
     }
 
     /// The bytes of the line for which a part of what it says stands.
@@ -125,6 +126,11 @@ impl Told {
         }
     }
 
+    /// Shows another line, once, with its first word.
+    pub fn show_start(&mut self, alloc: Global, line: Numbered<'_>) -> Result<(), AllocError> {
+        self.show(alloc, line, first_word(line.line.trim_ascii()), "")
+    }
+
     /// Shows another line, once, with a word of it.
     pub fn show(
         &mut self,
@@ -148,6 +154,6 @@ impl Told {
 }
 
 /// Bytes as text.
-pub fn shown(alloc: Global, bytes: &[u8]) -> Result<String, AllocError> {
-    String::from_utf8_lossy(alloc, bytes.trim_ascii())
+pub fn shown(bytes: &[u8]) -> BStr<'_> {
+    BStr::new(bytes.trim_ascii())
 }

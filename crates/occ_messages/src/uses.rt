@@ -4,7 +4,7 @@ use super::mismatch::{assigned, call};
 use super::spelling::is_reserved;
 use super::text::{
     Lines, after_word, column, cut, first_word, has, has_word, is_skipped, last_word, next_item,
-    number_of, statement, whole_statement,
+    number_of, split_once,
 };
 use super::told::Place;
 use std::alloc::{AllocError, Global};
@@ -32,10 +32,10 @@ pub struct Use {
 }
 
 /// A formal of a PROC whose body is to be looked at.
-#[derive(Drop)]
-struct Formal {
+#[derive(Clone, Copy)]
+struct Formal<'a> {
     head: u32,
-    name: Vec<u8>,
+    name: &'a [u8],
 }
 
 impl Deeds {
@@ -66,7 +66,7 @@ pub fn uses(alloc: Global, place: Place<'_>, name: &[u8]) -> Result<Vec<Use>, Al
             component = component.saturating_add(1);
         }
         let number = number_of(at).saturating_add(place.number);
-        if has(line, name) && has_word(statement(alloc, line)?.as_slice(), name) {
+        if has(line, name) && has_word(place.lines.said(number), name) {
             let deeds = all_deeds(alloc, place.lines, number, name)?;
             found.push(Use {
                 number,
@@ -86,22 +86,21 @@ fn all_deeds(
     name: &[u8],
 ) -> Result<Deeds, AllocError> {
     let mut pending = Vec::new(alloc);
-    let mut all = line_deeds(alloc, lines, number, name, &mut pending)?;
+    let mut all = line_deeds(lines, number, name, &mut pending)?;
     for _ in 0..PROC_LIMIT {
         let Some(formal) = pending.pop() else {
             break;
         };
-        all = all.or(body_deeds(alloc, lines, &formal, &mut pending)?);
+        all = all.or(body_deeds(lines, formal, &mut pending)?);
     }
     Ok(all)
 }
 
 /// What the body of a PROC does with a formal, as far as its own lines say it.
-fn body_deeds(
-    alloc: Global,
-    lines: Lines<'_>,
-    formal: &Formal,
-    pending: &mut Vec<Formal>,
+fn body_deeds<'a>(
+    lines: Lines<'a>,
+    formal: Formal<'a>,
+    pending: &mut Vec<Formal<'a>>,
 ) -> Result<Deeds, AllocError> {
     let mut all = Deeds::default();
     let depth = column(lines.line(formal.head));
@@ -112,45 +111,40 @@ fn body_deeds(
         if column(line) <= depth {
             break;
         }
-        if has(line, formal.name.as_slice()) {
+        if has(line, formal.name) {
             let number = number_of(at).saturating_add(formal.head);
-            all = all.or(line_deeds(alloc, lines, number, formal.name.as_slice(), pending)?);
+            all = all.or(line_deeds(lines, number, formal.name, pending)?);
         }
     }
     Ok(all)
 }
 
 /// What a line does with a name by itself. A formal that stands for the name in a call is added to those to be looked at.
-fn line_deeds(
-    alloc: Global,
-    lines: Lines<'_>,
+fn line_deeds<'a>(
+    lines: Lines<'a>,
     number: u32,
     name: &[u8],
-    pending: &mut Vec<Formal>,
+    pending: &mut Vec<Formal<'a>>,
 ) -> Result<Deeds, AllocError> {
-    let said = whole_statement(alloc, lines, number)?;
-    if let Some((called, actuals)) = call(said.as_slice()) {
-        add_formals(alloc, lines, number, called, actuals, name, pending)?;
-        return Ok(Deeds::default());
+    let said = lines.statement(number);
+    let Some((called, actuals)) = call(said) else {
+        return Ok(own_deeds(said, name));
+    };
+    if let Some(head) = specified_by(lines, number, called) {
+        add_formals(lines, head.number, actuals, name, pending)?;
     }
-    Ok(own_deeds(said.as_slice(), name))
+    Ok(Deeds::default())
 }
 
-/// Adds the formals of a PROC that stand for a name in a call.
-fn add_formals(
-    alloc: Global,
-    lines: Lines<'_>,
-    number: u32,
-    called: &[u8],
+/// Adds the formals of the PROC with a head that stand for a name in a call.
+fn add_formals<'a>(
+    lines: Lines<'a>,
+    head: u32,
     actuals: &[u8],
     name: &[u8],
-    pending: &mut Vec<Formal>,
+    pending: &mut Vec<Formal<'a>>,
 ) -> Result<(), AllocError> {
-    let Some(head) = specified_by(alloc, lines, number, called)? else {
-        return Ok(());
-    };
-    let said = whole_statement(alloc, lines, head.number)?;
-    let list = formals(said.as_slice());
+    let list = formals(lines.statement(head));
     let (mut given, mut wanted) = (actuals, list);
     for _ in 0..actuals.len() {
         let (Some((actual, more)), Some((formal, others))) = (
@@ -161,10 +155,7 @@ fn add_formals(
         };
         let formal = last_word(formal);
         if is_of(actual, name) && !type_among(list, formal).starts_with(b"VAL") {
-            pending.push(Formal {
-                head: head.number,
-                name: Vec::from_slice(alloc, formal)?,
-            })?;
+            pending.push(Formal { head, name: formal })?;
         }
         (given, wanted) = (more, others);
     }
@@ -195,8 +186,8 @@ fn are_of(list: &[u8], separator: u8, name: &[u8]) -> bool {
 
 /// Whether the array of an item with a count is of that name.
 fn counted_of(item: &[u8], name: &[u8]) -> bool {
-    match item.windows(2).position(|two| two == b"::".as_slice()) {
-        Some(at) => is_of(item.get(at.saturating_add(2)..).unwrap_or(&[]), name),
+    match split_once(item, b"::") {
+        Some((_, array)) => is_of(array, name),
         None => false,
     }
 }
