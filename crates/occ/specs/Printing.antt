@@ -16,7 +16,8 @@ IsWritten format.Text messages text = Unit {0}
 IsWritten format.Sarif messages text = Unit {0}
 IsWritten format.Github messages text = Unit {0}
 
--- this comes after them: what programs read ends with a line feed (10), and where only messages are asked for there is no more
+-- this comes after them: in JSON and SARIF a line feed (10), in the words of GitHub nothing, and nothing where only messages are asked
+-- for. Of what else people are told no more is said here
 abbrev pub IsEnd : Format → Bool → List ℕ → Type 0
 IsEnd format.Json quiet end = end ≡ 10 ∷ []
 IsEnd format.Sarif quiet end = end ≡ 10 ∷ []

@@ -108,12 +108,12 @@ error_data code words = object (member (codes "code") (number (of_integer code))
 abbrev pub refused_data : Data → ℤ → List ℕ → Data
 refused_data id code words = object (member (codes "error") (error_data code words) (member (codes "id") id (member (codes "jsonrpc") (string (codes "2.0")) no_members)))
 
--- a request of the server's own
+-- a request of the server's own, whose id is always the word "watch"
 abbrev pub request_data : List ℕ → Data → Data
 request_data method params = object (member (codes "id") (string (codes "watch")) (member (codes "jsonrpc") (string (codes "2.0")) (member (codes "method") (string method) (member (codes "params") params no_members))))
 
--- the message stands in its frame behind what was to be sent before: a text that reads as the message, and this one where it has no
--- fraction
+-- behind what was to be sent before stands one frame. Its text reads as the message, if that is no deeper than a reader goes, and
+-- is the compact text of it, if it has no fraction
 abbrev pub IsAdded : Data → List ℕ → List ℕ → Type 0
 IsAdded message before now =
     (text : List ℕ) × (now ≡ before ++ framed text) × (depth message ≤ max_depth → read text ≡ Some message) × (has_float message ≡ false → text ≡ compact_text message)

@@ -38,7 +38,7 @@ impl Sending {
         }
     }
 
-    /// All bytes, which are to be sent no more.
+    /// All bytes that are to be sent.
     pub fn as_slice(&self) -> &[u8]
         ensures { result.now ≡ self.now.bytes.items }
     {

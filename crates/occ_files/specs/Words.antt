@@ -15,13 +15,13 @@ disk_words kind.PermissionDenied = codes "may not be read"
 disk_words kind.IsADirectory = codes "is a folder"
 disk_words _ = codes "cannot be read"
 
--- why its name is none
+-- why its name is no name of a file
 abbrev pub name_words : NameFault → List ℕ
-name_words name.Length = codes "the name of a file has 64 characters at most"
+name_words name.Length = codes "the name of a file has 1 to 64 bytes"
 name_words name.Byte = codes "the name of a file has letters, digits, '.', '_' and '-' alone"
 name_words name.Suffix = codes "the name of a file ends in .occ, .inc or .lbb"
 
--- why its text is too large
+-- why its text is not taken
 abbrev pub text_words : TextFault → List ℕ
 text_words text.TooLarge = codes "a text has 262,144 bytes at most"
 text_words text.TooManyLines = codes "a text has 16,384 lines at most"

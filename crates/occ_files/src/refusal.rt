@@ -71,7 +71,7 @@ impl Why {
             Why::Disk(ErrorKind::PermissionDenied) => "may not be read",
             Why::Disk(ErrorKind::IsADirectory) => "is a folder",
             Why::Disk(_) => "cannot be read",
-            Why::Name(NameFault::Length) => "the name of a file has 64 characters at most",
+            Why::Name(NameFault::Length) => "the name of a file has 1 to 64 bytes",
             Why::Name(NameFault::Byte) =>
                 "the name of a file has letters, digits, '.', '_' and '-' alone",
             Why::Name(NameFault::Suffix) => "the name of a file ends in .occ, .inc or .lbb",

@@ -7,7 +7,7 @@ use Rattle.occ_base.specs.declared.diag.Diag.{Diag}
 abbrev pub IsAt : List ℕ → ℕ → Code → Diag → Type 0
 IsAt name line code diag = (diag.file ≡ name) × (diag.line ≡ line) × (diag.code ≡ code)
 
--- one of these is and has
+-- one of these is there and has it
 abbrev pub IsOneAt : List Diag → List ℕ → ℕ → Code → Type 0
 IsOneAt [] name line code = ⊥
 IsOneAt (diag ∷ diags) name line code = IsAt name line code diag ⊎ IsOneAt diags name line code
