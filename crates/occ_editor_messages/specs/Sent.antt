@@ -112,6 +112,10 @@ refused_data id code words = object (member (codes "error") (error_data code wor
 abbrev pub request_data : List ℕ → Data → Data
 request_data method params = object (member (codes "id") (string (codes "watch")) (member (codes "jsonrpc") (string (codes "2.0")) (member (codes "method") (string method) (member (codes "params") params no_members))))
 
+-- what was to be sent before is to be sent still, and first
+abbrev pub Extends : List ℕ → List ℕ → Type 0
+Extends before now = (more : List ℕ) × (now ≡ before ++ more)
+
 -- behind what was to be sent before stands one frame. Its text reads as the message, if that is no deeper than a reader goes, and
 -- is the compact text of it, if it has no fraction
 abbrev pub IsAdded : Data → List ℕ → List ℕ → Type 0

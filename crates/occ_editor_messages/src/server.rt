@@ -2,7 +2,7 @@
 ghost use Rattle.occ_editor.specs.Standing.{AreServed, IsStanding, IsUpToDate};
 ghost use Rattle.occ_editor_edits.specs.Calls.{note_in};
 ghost use Rattle.occ_editor_edits.specs.Documents.{text_in};
-ghost use Rattle.occ_editor_messages.specs.Sent.{Tells};
+ghost use Rattle.occ_editor_messages.specs.Sent.{Extends, Tells};
 ghost use Rattle.occ_editor_messages.specs.inside.Sending.{AreSent};
 ghost use Rattle.occ_editor_messages.specs.Talks.{HasHeard, IsJson, IsNoJson, Talk, asks, heard, next_of, silence, status_of, texts_after};
 ghost use Rattle.occ_editor_messages.specs.inside.Phases.{phase_by};
@@ -88,10 +88,11 @@ impl<D: Disk + Drop> Server<D> {
         self.sending.clear();
     }
 
-    /// What came is no message: so much is answered, once until a message comes.
+    /// What came is no message: so much is answered, once until a message comes. What is to be sent already stays in front.
     pub fn lose(&mut self) -> Result<(), AllocError>
         ensures editor { self.new.editor ≡ self.old.editor }
         ensures phase { self.new.phase ≡ self.old.phase }
+        ensures sent { OnOk result (Extends self.old.sending.bytes.items self.new.sending.bytes.items) }
     {
         if self.is_lost {
             return Ok(());
@@ -104,8 +105,8 @@ impl<D: Disk + Drop> Server<D> {
         )
     }
 
-    /// Takes a message. Whatever it is, the boards stand after it, and the open files have the texts that it gives them. If it ends
-    /// the server, that has the status of what was asked for before.
+    /// Takes a message. Whatever it is, the boards stand after it, and the open files have the texts that it gives them. What is to
+    /// be sent already stays in front. If the message ends the server, that has the status of what was asked for before.
     pub fn take(&mut self, message: &[u8]) -> Result<Next, CheckFault>
         ensures boards { OnOk result (IsStanding self.old.editor → IsStanding self.new.editor) }
         ensures heard { OnOk result ((talk : Talk) (value : Data) → IsJson message.now value → HasHeard self.old talk → HasHeard self.new (heard talk value)) }
@@ -113,6 +114,7 @@ impl<D: Disk + Drop> Server<D> {
         ensures goes { IfOk result (λ next. IsNoJson message.now → next ≡ Goes) }
         ensures ends { IfOk result (λ next. (next ≡ Goes) ⊎ (next ≡ Ends (status_of self.old.phase))) }
         ensures unheard { OnOk result ((talk : Talk) → IsNoJson message.now → HasHeard self.old talk → HasHeard self.new talk) }
+        ensures sent { OnOk result (Extends self.old.sending.bytes.items self.new.sending.bytes.items) }
     {
         self.is_lost = false;
         match Value::from_slice(self.alloc, message) {
@@ -132,6 +134,7 @@ impl<D: Disk + Drop> Server<D> {
         ensures heard { OnOk result ((talk : Talk) → HasHeard self.old talk → HasHeard self.new (heard talk (view message.now))) }
         ensures next { IfOk result (λ next. (talk : Talk) → HasHeard self.old talk → next ≡ next_of talk (view message.now)) }
         ensures ends { IfOk result (λ next. (next ≡ Goes) ⊎ (next ≡ Ends (status_of self.old.phase))) }
+        ensures sent { OnOk result (Extends self.old.sending.bytes.items self.new.sending.bytes.items) }
     {
         let call = call_of(self.alloc, message)?;
         if matches!(&call, Call::Exit) {
@@ -149,6 +152,7 @@ impl<D: Disk + Drop> Server<D> {
         ensures boards { OnOk result (IsStanding self.old.editor → IsStanding self.new.editor) }
         ensures documents { OnOk result (self.new.editor.documents ≡ self.old.editor.documents) }
         ensures phase { OnOk result (self.new.phase ≡ phase_by self.old.phase call) }
+        ensures sent { OnOk result (Extends self.old.sending.bytes.items self.new.sending.bytes.items) }
     {
         match (call, self.phase) {
             (Call::Hover(path, line), Phase::Begun) => {
@@ -164,6 +168,7 @@ impl<D: Disk + Drop> Server<D> {
     fn answer_plain(&mut self, id: &Value, call: Call) -> Result<(), AllocError>
         ensures editor { self.new.editor ≡ self.old.editor }
         ensures phase { OnOk result (self.new.phase ≡ phase_by self.old.phase call) }
+        ensures sent { OnOk result (Extends self.old.sending.bytes.items self.new.sending.bytes.items) }
     {
         match (call, self.phase) {
             (Call::Nothing, _) => Ok(()),
@@ -195,6 +200,7 @@ impl<D: Disk + Drop> Server<D> {
     fn answer_begun(&mut self, id: &Value, call: Call) -> Result<(), AllocError>
         ensures editor { self.new.editor ≡ self.old.editor }
         ensures phase { OnOk result (self.old.phase ≡ Begun → self.new.phase ≡ phase_by self.old.phase call) }
+        ensures sent { OnOk result (Extends self.old.sending.bytes.items self.new.sending.bytes.items) }
     {
         match call {
             Call::Shutdown => {
@@ -236,6 +242,7 @@ impl<D: Disk + Drop> Server<D> {
         ensures boards { OnOk result (IsStanding self.old.editor → IsStanding self.new.editor) }
         ensures phase { OnOk result (self.new.phase ≡ self.old.phase) }
         ensures texts { OnOk result ((path : List ℕ) → text_in self.new.editor.documents.all.items path ≡ texts_after self.old.phase (note_in call) (text_in self.old.editor.documents.all.items) path) }
+        ensures sent { OnOk result (Extends self.old.sending.bytes.items self.new.sending.bytes.items) }
     {
         match (call, self.phase) {
             (Call::Initialized, Phase::Begun) if self.watches => Ok(self.watch()?),
@@ -258,6 +265,7 @@ impl<D: Disk + Drop> Server<D> {
     fn watch(&mut self) -> Result<(), AllocError>
         ensures editor { self.new.editor ≡ self.old.editor }
         ensures phase { self.new.phase ≡ self.old.phase }
+        ensures sent { OnOk result (Extends self.old.sending.bytes.items self.new.sending.bytes.items) }
     {
         let watcher = json!(in self.alloc; {"globPattern": "**/*.{occ,inc,lbb}"})?;
         let options = json!(in self.alloc; {"watchers": [&watcher]})?;
@@ -278,6 +286,7 @@ impl<D: Disk + Drop> Server<D> {
         ensures told { OnOk result (IsStanding self.old.editor → Tells self.old self.new) }
         ensures documents { OnOk result (self.new.editor.documents ≡ self.old.editor.documents) }
         ensures phase { self.new.phase ≡ self.old.phase }
+        ensures sent { OnOk result (Extends self.old.sending.bytes.items self.new.sending.bytes.items) }
     {
         let all = self.editor.publish(self.alloc, &self.disk)?;
         self.send_all(all.as_slice())?;
