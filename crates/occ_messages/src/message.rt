@@ -106,9 +106,15 @@ fn graded(alloc: Global, grade: Grade, words: String) -> Result<String, AllocErr
 fn general(alloc: Global, diag: &Diag) -> Result<String, AllocError> {
     let entry = entry_of(diag.code);
     match &diag.name {
+        Some(name) if is_own_circle(diag, name) => String::from_str(alloc, "the unit uses itself"),
         Some(name) => named(alloc, text_of(name), entry.named, entry.title),
         None => String::from_str(alloc, entry.title),
     }
+}
+
+/// Whether a unit is told to use itself.
+fn is_own_circle(diag: &Diag, name: &Name) -> bool {
+    diag.code == Code::G2 && name.as_bytes() == diag.file.as_bytes()
 }
 
 /// A name as text.

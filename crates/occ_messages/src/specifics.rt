@@ -4,42 +4,38 @@ use super::mismatch::{actuals, assigned, call};
 use super::numbers::{constants, value};
 use super::spelling::is_reserved;
 use super::text::{
-    Numbered, WORD_LIMIT, around_word, closed, column, first_word, has, has_word, is_skipped,
+    Numbered, WORD_LIMIT, around_word, closed, column, cut, first_word, has, has_word, is_skipped,
     last_word, line_after, next_word, number_of, split_once,
 };
 use super::told::{Place, Told, shown};
+use occ_base::Code;
 use std::alloc::{AllocError, Global};
 
 /// How many components a PAR may have at most.
 const PAR_LIMIT: i64 = 256;
 
-/// Tells that a library has neither a list nor a unit.
+/// Tells that the list of a library names the reported unit, or which file a library is that is not there.
 pub fn library(alloc: Global, place: Place<'_>, told: &mut Told) -> Result<(), AllocError> {
-    let stem = place.name.strip_suffix(b".occ").unwrap_or(&[]);
-    if !is_library(place.line, stem) {
+    let Some(stem) = library_of(place.line) else {
         return Ok(());
+    };
+    let list = shown(stem);
+    if place.name.strip_suffix(b".occ") != Some(stem) {
+        return told.help(format!(in alloc; "`{list}.lbb` lists it")?);
     }
-    let stem = shown(stem);
-    told.say(format!(in alloc; "neither `{stem}.lbb` nor `{stem}.occ` is there")?);
+    if place.code == Code::G1 {
+        told.help(format!(in alloc;
+            "`{list}.lib` is what `{list}.lbb` lists, and `{list}.occ` where no such list is there"
+        )?)?;
+    }
     Ok(())
 }
 
-/// Whether a line names the library of that stem.
-fn is_library(line: &[u8], stem: &[u8]) -> bool {
-    let mut rest = line;
-    for _ in 0..line.len() {
-        let Some((word, more)) = next_word(rest) else {
-            break;
-        };
-        if word
-            .strip_suffix(b".lib")
-            .is_some_and(|front| front == stem)
-        {
-            return true;
-        }
-        rest = more;
-    }
-    false
+/// The name of the library that a `#USE` names, without `.lib`.
+fn library_of(line: &[u8]) -> Option<&[u8]> {
+    let (_, quoted) = cut(line, b'"')?;
+    let (name, _) = cut(quoted, b'"')?;
+    name.strip_suffix(b".lib")
 }
 
 /// Shows where the reported name is specified.

@@ -52,7 +52,7 @@ fn words_of(code: Code) -> &'static Words {
         Code::G1 => &Words {
             title: "the unit of a `#USE` is not there",
             named: "is not there",
-            why: "What a unit uses is checked with it, since its PROCs and FUNCTIONs are seen from there. It is looked for beside the file that names it, then in the folders given by -I.",
+            why: "What a unit uses is checked with it, since its PROCs and FUNCTIONs are seen from there. It is looked for beside the file with the `#USE`, then in the folders given by -I. `#USE \"z.lib\"` uses the units that the list `z.lbb` names, and else `z.occ`.",
             body: r#"Reported: `a.occ:1 G1 error tools.occ`
 ```occam
 #USE "tools"
@@ -98,10 +98,10 @@ fn words_of(code: Code) -> &'static Words {
             body: r#"More than 16 inclusions below one another (the name is the file), or more than 65,535 lines in all (no name)."#,
         },
         Code::G7 => &Words {
-            title: "an open list of a library is none",
+            title: "a line of the list of a library names no unit",
             named: "is no list of units",
             why: "`#USE \"z.lib\"` uses the units that the list `z.lbb` names, so each line of the list has to name one.",
-            body: r#"The name is the list. A line names one unit; empty lines and lines that begin with `--` are skipped.
+            body: r#"The name is the list. A line names one unit; empty lines and lines that begin with `--` are skipped. So a list of two units has the lines `queues` and `stacks`.
 
 Reported: `a.occ:1 G7 error z.lbb`
 ```z.lbb
