@@ -7,7 +7,7 @@ use super::failing::{does_fail, status};
 use super::printing::print_all;
 use occ_base::Grade;
 use occ_files::{Disk, Gathered, Group, Refusal, gather, groups};
-use occ_files_check::{CheckFault, Checked, check_texts};
+use occ_files_check::{CheckFault, CheckedTexts, check_texts};
 use occ_files_words::Checking;
 use occ_messages::Message;
 use occ_messages_formats::Tally;
@@ -158,7 +158,7 @@ fn check_group(
 fn add(
     alloc: Global,
     asked: &Checking,
-    checked: &mut Checked,
+    checked: &mut CheckedTexts,
     units: usize,
     findings: &mut Findings,
 ) -> Result<(), AllocError> {

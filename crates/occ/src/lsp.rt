@@ -5,7 +5,7 @@ ghost use Rattle.std.specs.Prelude.{◌≤◌, IfOk};
 use super::disk::Machine;
 use super::failing::TROUBLE;
 use occ_editor_edits::{FrameFault, read_frame};
-use occ_editor_messages::{Next, Server};
+use occ_editor_messages::{Flow, LanguageServer};
 use occ_files_check::CheckFault;
 use std::alloc::Global;
 use std::fs;
@@ -39,14 +39,14 @@ impl From<std::alloc::AllocError> for Broken {
     }
 }
 
-/// Serves an editor until it ends that, and gives the exit status. What is sent is promised by the calls of `Server`.
+/// Serves an editor until it ends that, and gives the exit status. What is sent is promised by the calls of `LanguageServer`.
 pub fn lsp(rt: &HostRuntime, folders: &[String]) -> io::Result<u8>
     ensures { IfOk result IsStatus }
 {
     let alloc = rt.alloc();
     let mut input = BufReader::new(alloc, rt.stdin())?;
     let disk = Machine { rt, input: None };
-    let mut server = Server::new(alloc, disk, whole_paths(rt, folders)?);
+    let mut server = LanguageServer::new(alloc, disk, whole_paths(rt, folders)?);
     match serve(alloc, &mut input, &rt.stdout(), &mut server) {
         Ok(status) => Ok(status),
         Err(Broken::Device(error)) => Err(error),
@@ -86,7 +86,7 @@ fn serve<R: Read, P: Print>(
     alloc: Global,
     input: &mut BufReader<R>,
     output: &P,
-    server: &mut Server<Machine<'_>>,
+    server: &mut LanguageServer<Machine<'_>>,
 ) -> Result<u8, Broken>
     ensures { IfOk result (λ status. status ≤ 1) }
 {
@@ -97,15 +97,15 @@ fn serve<R: Read, P: Print>(
             Err(FrameFault::Memory) => return Err(Broken::Check(CheckFault::Memory)),
             Err(FrameFault::LongHead | FrameFault::NoLength | FrameFault::LongMessage) => {
                 server.lose()?;
-                Next::Goes
+                Flow::Goes
             }
         };
-        if next == Next::Goes && !is_more(alloc, input.buffer()) {
+        if next == Flow::Goes && !is_more(alloc, input.buffer()) {
             server.publish()?;
         }
         output.write_all(server.sent())?;
         server.clear();
-        if let Next::Ends(status) = next {
+        if let Flow::Ends(status) = next {
             return Ok(status);
         }
     }

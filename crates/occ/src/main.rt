@@ -11,7 +11,7 @@ use check::check;
 use failing::{CLEAN, ERRORS, TROUBLE};
 use lsp::lsp;
 use occ_base::Code;
-use occ_files_words::{Asked, WordsFault, read_words};
+use occ_files_words::{Subcommand, SubcommandFault, read_words};
 use occ_messages::{CODES, code_named, explained};
 use std::alloc::AllocError;
 use std::env;
@@ -20,12 +20,12 @@ use std::process::ExitCode;
 
 fn main(rt: HostRuntime) -> ExitCode {
     let done = match asked(&rt) {
-        Ok(Asked::Check(asked)) => check(&rt, &asked),
-        Ok(Asked::Serve(folders)) => lsp(&rt, folders.as_slice()),
-        Ok(Asked::Explain(code)) => explain(&rt, code.as_str()),
-        Err(WordsFault::Told(text)) => print!(rt; "{text}").map(|_| CLEAN),
-        Err(WordsFault::Refused(text)) => eprint!(rt; "{text}").map(|_| TROUBLE),
-        Err(WordsFault::Memory) => Ok(TROUBLE),
+        Ok(Subcommand::Check(asked)) => check(&rt, &asked),
+        Ok(Subcommand::Serve(folders)) => lsp(&rt, folders.as_slice()),
+        Ok(Subcommand::Explain(code)) => explain(&rt, code.as_str()),
+        Err(SubcommandFault::Told(text)) => print!(rt; "{text}").map(|_| CLEAN),
+        Err(SubcommandFault::Refused(text)) => eprint!(rt; "{text}").map(|_| TROUBLE),
+        Err(SubcommandFault::Memory) => Ok(TROUBLE),
     };
     ExitCode::from(match done {
         Ok(status) => status,
@@ -45,7 +45,7 @@ fn words(rt: &HostRuntime) -> io::Result<Vec<String>> {
 }
 
 /// What the words ask for.
-fn asked(rt: &HostRuntime) -> Result<Asked, WordsFault> {
+fn asked(rt: &HostRuntime) -> Result<Subcommand, SubcommandFault> {
     let Ok(words) = words(rt) else {
         return Err(unread(rt)?);
     };
@@ -57,9 +57,9 @@ fn asked(rt: &HostRuntime) -> Result<Asked, WordsFault> {
 }
 
 /// Words that cannot be read.
-fn unread(rt: &HostRuntime) -> Result<WordsFault, AllocError> {
+fn unread(rt: &HostRuntime) -> Result<SubcommandFault, AllocError> {
     let text = String::from_str(rt.alloc(), "error: a word is no text in UTF-8\n")?;
-    Ok(WordsFault::Refused(text))
+    Ok(SubcommandFault::Refused(text))
 }
 
 /// Prints the entry of a code, which may be written in small letters.

@@ -7,7 +7,7 @@ use super::check::Findings;
 use occ_files_words::Checking;
 use occ_messages::{Format, Hiding, Message, hidden_by};
 use occ_messages_formats::{
-    Extent, Tally, count_line, github_text, json_text, long_text, sarif_text, short_text,
+    Tally, Verbosity, count_line, github_text, json_text, long_text, sarif_text, short_text,
 };
 use std::alloc::{AllocError, Global};
 use std::io;
@@ -89,12 +89,12 @@ fn long_texts(alloc: Global, messages: &[Message], quiet: bool) -> Result<String
     for (at, message) in messages.iter().enumerate() {
         let (told, _) = messages.split_at(at);
         let extent = if is_repeated(told, message) {
-            Extent::Place
+            Verbosity::Place
         } else if quiet || codes.contains(&message.code) {
-            Extent::Whole
+            Verbosity::Whole
         } else {
             codes.push(message.code)?;
-            Extent::Reason
+            Verbosity::Reason
         };
         text.push_str(long_text(alloc, message, extent)?.as_str())?;
     }

@@ -1,11 +1,11 @@
 -- What was read of a message: a note of a file, and what begins and ends a talk.
 use Rattle.std.specs.Prelude.{◌≡◌, Bool, true, false, ℕ, Option, Some, None}
 use Rattle.occ_editor_edits.specs.Messages.{Saying, said}
-use Rattle.occ_editor_edits.specs.declared.calls.Call.{Call}
-use Rattle.occ_editor_edits.specs.declared.calls.Call.TheVariants as call
+use Rattle.occ_editor_edits.specs.declared.calls.ClientCall.{ClientCall}
+use Rattle.occ_editor_edits.specs.declared.calls.ClientCall.TheVariants as call
 
 -- what it says of a file, if it is a note
-abbrev pub note_in : Call → Option Saying
+abbrev pub note_in : ClientCall → Option Saying
 note_in (call.Initialize watches) = None
 note_in call.Initialized = None
 note_in call.Shutdown = None
@@ -18,7 +18,7 @@ note_in call.Garbled = None
 note_in call.Nothing = None
 
 -- it is to begin
-abbrev pub begins : Call → Bool
+abbrev pub begins : ClientCall → Bool
 begins (call.Initialize watches) = true
 begins call.Initialized = false
 begins call.Shutdown = false
@@ -31,7 +31,7 @@ begins call.Garbled = false
 begins call.Nothing = false
 
 -- it is to answer no more
-abbrev pub ends : Call → Bool
+abbrev pub ends : ClientCall → Bool
 ends (call.Initialize watches) = false
 ends call.Initialized = false
 ends call.Shutdown = true
@@ -44,7 +44,7 @@ ends call.Garbled = false
 ends call.Nothing = false
 
 -- it is to end
-abbrev pub leaves : Call → Bool
+abbrev pub leaves : ClientCall → Bool
 leaves (call.Initialize watches) = false
 leaves call.Initialized = false
 leaves call.Shutdown = false
@@ -57,5 +57,5 @@ leaves call.Garbled = false
 leaves call.Nothing = false
 
 -- it is none of these three
-abbrev pub IsPlain : Call → Type 0
+abbrev pub IsPlain : ClientCall → Type 0
 IsPlain c = (begins c ≡ false) × (ends c ≡ false) × (leaves c ≡ false)

@@ -15,7 +15,7 @@ use std::alloc::{AllocError, Global};
 
 /// What a message asks for.
 #[derive(Drop)]
-pub enum Call {
+pub enum ClientCall {
     /// To begin. The client may watch files for the server, or not.
     Initialize(bool),
     /// To take note that it began.
@@ -39,7 +39,7 @@ pub enum Call {
 }
 
 /// What a message asks for.
-pub fn call_of(alloc: Global, message: &Value) -> Result<Call, AllocError>
+pub fn call_of(alloc: Global, message: &Value) -> Result<ClientCall, AllocError>
     ensures note { IfOk result (λ call. note_in call ≡ saying (view message.now)) }
     ensures begins { IfOk result (λ call. begins call ≡ is_method (codes "initialize") (method_of (view message.now))) }
     ensures ends { IfOk result (λ call. ends call ≡ is_method (codes "shutdown") (method_of (view message.now))) }
@@ -47,22 +47,22 @@ pub fn call_of(alloc: Global, message: &Value) -> Result<Call, AllocError>
 {
     let Some(method) = message.get("method").and_then(Value::as_str) else {
         return Ok(if message.get("id").is_some() && message.get("method").is_none() {
-            Call::Nothing
+            ClientCall::Nothing
         } else {
-            Call::Garbled
+            ClientCall::Garbled
         });
     };
     match method {
-        "initialize" => Ok(Call::Initialize(does_watch(message))),
-        "initialized" => Ok(Call::Initialized),
-        "shutdown" => Ok(Call::Shutdown),
-        "exit" => Ok(Call::Exit),
-        "textDocument/didSave" | "workspace/didChangeWatchedFiles" => Ok(Call::Read),
+        "initialize" => Ok(ClientCall::Initialize(does_watch(message))),
+        "initialized" => Ok(ClientCall::Initialized),
+        "shutdown" => Ok(ClientCall::Shutdown),
+        "exit" => Ok(ClientCall::Exit),
+        "textDocument/didSave" | "workspace/didChangeWatchedFiles" => Ok(ClientCall::Read),
         "textDocument/hover" => Ok(known(hover_of(alloc, message)?)),
         _ if method.starts_with("$/") => Ok(if message.get("id").is_some() {
-            Call::Unknown
+            ClientCall::Unknown
         } else {
-            Call::Nothing
+            ClientCall::Nothing
         }),
         _ => note_of(alloc, method, message),
     }
@@ -77,34 +77,34 @@ fn does_watch(message: &Value) -> bool {
 }
 
 /// What is known, or the word for what has not its members.
-fn known(call: Option<Call>) -> Call
+fn known(call: Option<ClientCall>) -> ClientCall
     ensures note { note_in result ≡ option_and_then note_in call }
     ensures plain { IfSome call IsPlain → IsPlain result }
 {
     match call {
         Some(call) => call,
-        None => Call::Garbled,
+        None => ClientCall::Garbled,
     }
 }
 
 /// What a message of an open file asks for.
-fn note_of(alloc: Global, method: &str, message: &Value) -> Result<Call, AllocError>
+fn note_of(alloc: Global, method: &str, message: &Value) -> Result<ClientCall, AllocError>
     ensures { IfOk result (λ call. IsPlain call × (note_in call ≡ said_by method.now (view message.now))) }
 {
     match method {
         "textDocument/didOpen" => Ok(noted(opened(alloc, message)?)),
         "textDocument/didChange" => Ok(noted(changed(alloc, message)?)),
         "textDocument/didClose" => Ok(noted(path_in(alloc, message)?.map(Note::Closed))),
-        _ => Ok(Call::Unknown),
+        _ => Ok(ClientCall::Unknown),
     }
 }
 
 /// To take a note, if its members were read.
-fn noted(note: Option<Note>) -> Call
+fn noted(note: Option<Note>) -> ClientCall
     ensures note { note_in result ≡ option_map said note }
     ensures plain { IsPlain result }
 {
-    known(note.map(Call::Noted))
+    known(note.map(ClientCall::Noted))
 }
 
 /// The path of the file that a message is of.
@@ -208,11 +208,11 @@ fn number(item: &Value, path: &str) -> Option<u32>
 }
 
 /// A question about a line.
-fn hover_of(alloc: Global, message: &Value) -> Result<Option<Call>, AllocError>
+fn hover_of(alloc: Global, message: &Value) -> Result<Option<ClientCall>, AllocError>
     ensures { IfOk result (λ call. (option_and_then note_in call ≡ None) × IfSome call IsPlain) }
 {
     let Some(path) = path_in(alloc, message)? else {
         return Ok(None);
     };
-    Ok(number(message, "/params/position/line").map(|line| Call::Hover(path, line)))
+    Ok(number(message, "/params/position/line").map(|line| ClientCall::Hover(path, line)))
 }

@@ -11,7 +11,7 @@ mod ranges;
 mod reading;
 mod writing;
 
-pub use calls::{Call, call_of};
+pub use calls::{ClientCall, call_of};
 pub use changes::{Change, changed_all};
 pub use documents::{Document, Documents, Note};
 pub use paths::uri_of;

@@ -15,7 +15,7 @@ use Rattle.occ_editor.specs.declared.editor.Published.{Published}
 use Rattle.occ_editor_edits.specs.Frames.{framed}
 use Rattle.occ_editor_edits.specs.Places.{goes_on, units}
 use Rattle.occ_editor_edits.specs.Uris.{IsUriOf}
-use Rattle.occ_editor_messages.specs.declared.server.Server.{Server}
+use Rattle.occ_editor_messages.specs.declared.server.LanguageServer.{LanguageServer}
 use Rattle.occ_files.specs.Words.{why_words}
 use Rattle.occ_files.specs.declared.refusal.Why.{Why}
 use Rattle.occ_messages.specs.declared.message.Message.{Message}
@@ -127,7 +127,7 @@ abbrev pub note_bytes : List ℕ → Data → List ℕ
 note_bytes method params = framed (compact_text (note_data method params))
 
 -- between these two the server tells of each file what the boards tell of it, but of those of which they tell what they told
-pub record Tells {D : Type 0} (before now : Server D) : Type 0 where
+pub record Tells {D : Type 0} (before now : LanguageServer D) : Type 0 where
   pub all : List Published
   pub params : List Data
   pub published : All (IsPublished now.editor.rooms.items) all

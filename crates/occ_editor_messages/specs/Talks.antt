@@ -7,11 +7,11 @@ use Rattle.serde_json.specs.Read.{read}
 use Rattle.occ_editor_edits.specs.Documents.{text_in}
 use Rattle.occ_editor_edits.specs.Messages.{Saying, is_method, method_of, saying}
 use Rattle.occ_editor_edits.specs.Texts.{Texts, after_saying}
-use Rattle.occ_editor_messages.specs.declared.server.Next.{Next}
-use Rattle.occ_editor_messages.specs.declared.server.Next.TheVariants as next
+use Rattle.occ_editor_messages.specs.declared.server.Flow.{Flow}
+use Rattle.occ_editor_messages.specs.declared.server.Flow.TheVariants as next
 use Rattle.occ_editor_messages.specs.declared.server.Phase.{Phase}
 use Rattle.occ_editor_messages.specs.declared.server.Phase.TheVariants as phase
-use Rattle.occ_editor_messages.specs.declared.server.Server.{Server}
+use Rattle.occ_editor_messages.specs.declared.server.LanguageServer.{LanguageServer}
 
 pub record Talk : Type 0 where
   pub phase : Phase
@@ -62,7 +62,7 @@ abbrev pub silence : Talk
 silence = record { phase = phase.New; texts = λ path. None }
 
 -- the server has heard this talk
-abbrev pub HasHeard : {D : Type 0} → Server D → Talk → Type 0
+abbrev pub HasHeard : {D : Type 0} → LanguageServer D → Talk → Type 0
 HasHeard server talk = (server.phase ≡ talk.phase) × ((path : List ℕ) → text_in server.editor.documents.all.items path ≡ talk.texts path)
 
 -- a server ends well, if it was asked to answer no more
@@ -72,5 +72,5 @@ status_of phase.Begun = 1
 status_of phase.Shut = 0
 
 -- a server ends with a message that asks for it, and goes on behind each other one
-abbrev pub next_of : Talk → Data → Next
+abbrev pub next_of : Talk → Data → Flow
 next_of talk message = if is_method (codes "exit") (method_of message) then next.Ends (status_of talk.phase) else next.Goes

@@ -5,4 +5,4 @@ mod diagnostics;
 mod sending;
 mod server;
 
-pub use server::{Next, Phase, Server};
+pub use server::{Flow, LanguageServer, Phase};

@@ -6,7 +6,7 @@ ghost use Rattle.occ_editor_messages.specs.Sent.{Extends, Tells};
 ghost use Rattle.occ_editor_messages.specs.inside.Sending.{AreSent};
 ghost use Rattle.occ_editor_messages.specs.Talks.{HasHeard, IsJson, IsNoJson, Talk, asks, heard, next_of, silence, status_of, texts_after};
 ghost use Rattle.occ_editor_messages.specs.inside.Phases.{phase_by};
-ghost use Rattle.occ_editor_messages.specs.declared.server.Next.TheVariants.{Ends, Goes};
+ghost use Rattle.occ_editor_messages.specs.declared.server.Flow.TheVariants.{Ends, Goes};
 ghost use Rattle.occ_editor_messages.specs.declared.server.Phase.TheVariants.{Begun};
 ghost use Rattle.serde_json.specs.Data.{Data};
 ghost use Rattle.serde_json.specs.View.{view};
@@ -15,7 +15,7 @@ ghost use Rattle.std.specs.Prelude.{◌≡◌, ◌⊎◌, [], IfOk, List, OnOk, 
 use super::diagnostics::published;
 use super::sending::{NO_JSON, NO_MEMBERS, NO_METHOD, NO_REQUEST, NOT_BEGUN, Sending};
 use occ_editor::{Editor, Published};
-use occ_editor_edits::{Call, call_of};
+use occ_editor_edits::{ClientCall, call_of};
 use occ_files::Disk;
 use occ_files_check::CheckFault;
 use occ_messages::explained;
@@ -24,7 +24,7 @@ use std::alloc::{AllocError, Global};
 
 /// Whether the server goes on.
 #[derive(Clone, Copy, Debug, PartialEq, Eq)]
-pub enum Next {
+pub enum Flow {
     Goes,
     /// It ends with this status.
     Ends(u8),
@@ -43,7 +43,7 @@ pub enum Phase {
 
 /// A server of one client.
 #[derive(Drop)]
-pub struct Server<D: Disk> {
+pub struct LanguageServer<D: Disk> {
     alloc: Global,
     disk: D,
     editor: Editor,
@@ -55,13 +55,13 @@ pub struct Server<D: Disk> {
     sending: Sending,
 }
 
-impl<D: Disk + Drop> Server<D> {
+impl<D: Disk + Drop> LanguageServer<D> {
     /// A server that nothing was asked for. Used and included files are looked for in these folders, too.
-    pub fn new(alloc: Global, disk: D, folders: Vec<String>) -> Server<D>
+    pub fn new(alloc: Global, disk: D, folders: Vec<String>) -> LanguageServer<D>
         ensures boards { IsStanding result.editor }
         ensures heard { HasHeard result silence }
     {
-        Server {
+        LanguageServer {
             alloc,
             disk,
             editor: Editor::new(alloc, folders),
@@ -107,7 +107,7 @@ impl<D: Disk + Drop> Server<D> {
 
     /// Takes a message. Whatever it is, the boards stand after it, and the open files have the texts that it gives them. What is to
     /// be sent already stays in front. If the message ends the server, that has the status of what was asked for before.
-    pub fn take(&mut self, message: &[u8]) -> Result<Next, CheckFault>
+    pub fn take(&mut self, message: &[u8]) -> Result<Flow, CheckFault>
         ensures boards { OnOk result (IsStanding self.old.editor → IsStanding self.new.editor) }
         ensures heard { OnOk result ((talk : Talk) (value : Data) → IsJson message.now value → HasHeard self.old talk → HasHeard self.new (heard talk value)) }
         ensures next { IfOk result (λ next. (talk : Talk) (value : Data) → IsJson message.now value → HasHeard self.old talk → next ≡ next_of talk value) }
@@ -123,13 +123,13 @@ impl<D: Disk + Drop> Server<D> {
             Err(_) => {
                 self.sending
                     .refuse(None, NO_JSON, "the message is no JSON")?;
-                Ok(Next::Goes)
+                Ok(Flow::Goes)
             }
         }
     }
 
     /// Takes a message that is JSON.
-    fn take_value(&mut self, message: &Value) -> Result<Next, CheckFault>
+    fn take_value(&mut self, message: &Value) -> Result<Flow, CheckFault>
         ensures boards { OnOk result (IsStanding self.old.editor → IsStanding self.new.editor) }
         ensures heard { OnOk result ((talk : Talk) → HasHeard self.old talk → HasHeard self.new (heard talk (view message.now))) }
         ensures next { IfOk result (λ next. (talk : Talk) → HasHeard self.old talk → next ≡ next_of talk (view message.now)) }
@@ -137,25 +137,25 @@ impl<D: Disk + Drop> Server<D> {
         ensures sent { OnOk result (Extends self.old.sending.bytes.items self.new.sending.bytes.items) }
     {
         let call = call_of(self.alloc, message)?;
-        if matches!(&call, Call::Exit) {
-            return Ok(Next::Ends(status(self.phase)));
+        if matches!(&call, ClientCall::Exit) {
+            return Ok(Flow::Ends(status(self.phase)));
         }
         match id_of(message) {
             Some(id) => self.answer(id, call)?,
             None => self.note(call)?,
         }
-        Ok(Next::Goes)
+        Ok(Flow::Goes)
     }
 
     /// Answers a request.
-    fn answer(&mut self, id: &Value, call: Call) -> Result<(), CheckFault>
+    fn answer(&mut self, id: &Value, call: ClientCall) -> Result<(), CheckFault>
         ensures boards { OnOk result (IsStanding self.old.editor → IsStanding self.new.editor) }
         ensures documents { OnOk result (self.new.editor.documents ≡ self.old.editor.documents) }
         ensures phase { OnOk result (self.new.phase ≡ phase_by self.old.phase call) }
         ensures sent { OnOk result (Extends self.old.sending.bytes.items self.new.sending.bytes.items) }
     {
         match (call, self.phase) {
-            (Call::Hover(path, line), Phase::Begun) => {
+            (ClientCall::Hover(path, line), Phase::Begun) => {
                 self.publish()?;
                 let told = self.explained(path.as_str(), line)?;
                 Ok(self.sending.answer(id, &told)?)
@@ -165,14 +165,14 @@ impl<D: Disk + Drop> Server<D> {
     }
 
     /// Answers a request for which nothing is checked.
-    fn answer_plain(&mut self, id: &Value, call: Call) -> Result<(), AllocError>
+    fn answer_plain(&mut self, id: &Value, call: ClientCall) -> Result<(), AllocError>
         ensures editor { self.new.editor ≡ self.old.editor }
         ensures phase { OnOk result (self.new.phase ≡ phase_by self.old.phase call) }
         ensures sent { OnOk result (Extends self.old.sending.bytes.items self.new.sending.bytes.items) }
     {
         match (call, self.phase) {
-            (Call::Nothing, _) => Ok(()),
-            (Call::Initialize(watches), Phase::New) => {
+            (ClientCall::Nothing, _) => Ok(()),
+            (ClientCall::Initialize(watches), Phase::New) => {
                 self.watches = watches;
                 self.phase = Phase::Begun;
                 let abilities = abilities(self.alloc)?;
@@ -188,7 +188,7 @@ impl<D: Disk + Drop> Server<D> {
                     "nothing but `exit` comes after `shutdown`",
                 )
             }
-            (Call::Initialize(_), Phase::Begun) => {
+            (ClientCall::Initialize(_), Phase::Begun) => {
                 self.sending
                     .refuse(Some(id), NO_REQUEST, "`initialize` comes once")
             }
@@ -197,17 +197,17 @@ impl<D: Disk + Drop> Server<D> {
     }
 
     /// Answers a request that may come now.
-    fn answer_begun(&mut self, id: &Value, call: Call) -> Result<(), AllocError>
+    fn answer_begun(&mut self, id: &Value, call: ClientCall) -> Result<(), AllocError>
         ensures editor { self.new.editor ≡ self.old.editor }
         ensures phase { OnOk result (self.old.phase ≡ Begun → self.new.phase ≡ phase_by self.old.phase call) }
         ensures sent { OnOk result (Extends self.old.sending.bytes.items self.new.sending.bytes.items) }
     {
         match call {
-            Call::Shutdown => {
+            ClientCall::Shutdown => {
                 self.phase = Phase::Shut;
                 self.sending.answer(id, &Value::Null)
             }
-            Call::Garbled => {
+            ClientCall::Garbled => {
                 self.sending
                     .refuse(Some(id), NO_MEMBERS, "the method has not these members")
             }
@@ -238,20 +238,20 @@ impl<D: Disk + Drop> Server<D> {
     }
 
     /// Takes a note, which is not answered.
-    fn note(&mut self, call: Call) -> Result<(), CheckFault>
+    fn note(&mut self, call: ClientCall) -> Result<(), CheckFault>
         ensures boards { OnOk result (IsStanding self.old.editor → IsStanding self.new.editor) }
         ensures phase { OnOk result (self.new.phase ≡ self.old.phase) }
         ensures texts { OnOk result ((path : List ℕ) → text_in self.new.editor.documents.all.items path ≡ texts_after self.old.phase (note_in call) (text_in self.old.editor.documents.all.items) path) }
         ensures sent { OnOk result (Extends self.old.sending.bytes.items self.new.sending.bytes.items) }
     {
         match (call, self.phase) {
-            (Call::Initialized, Phase::Begun) if self.watches => Ok(self.watch()?),
-            (Call::Noted(note), Phase::Begun) => self.editor.take(self.alloc, note),
-            (Call::Read, Phase::Begun) => {
+            (ClientCall::Initialized, Phase::Begun) if self.watches => Ok(self.watch()?),
+            (ClientCall::Noted(note), Phase::Begun) => self.editor.take(self.alloc, note),
+            (ClientCall::Read, Phase::Begun) => {
                 self.editor.look_again();
                 Ok(())
             }
-            (Call::Garbled, _) => {
+            (ClientCall::Garbled, _) => {
                 Ok(
                     self.sending
                         .refuse(None, NO_REQUEST, "the message is none of the protocol")?,

@@ -38,7 +38,7 @@ impl<T: Drop> From<AllocFailed<T>> for CheckFault {
 
 /// What is told of texts.
 #[derive(Drop)]
-pub struct Checked {
+pub struct CheckedTexts {
     pub messages: Vec<Message>,
     /// Of how many units there is something to tell.
     pub faulty: usize,
@@ -49,12 +49,16 @@ const SESSION: u32 = 0;
 
 /// What is told of these units among texts: the diagnostics that the report of the texts from nothing has of them, in order,
 /// each once, at their paths and lines.
-pub fn check_texts(alloc: Global, texts: &[Text], units: &[FileName]) -> Result<Checked, CheckFault>
+pub fn check_texts(
+    alloc: Global,
+    texts: &[Text],
+    units: &[FileName],
+) -> Result<CheckedTexts, CheckFault>
     ensures { IfOk result (λ checked. map head_of checked.messages.items ≡ heads texts.now (spec_told_diags units.now (whole_rows (project_of texts.now)))) }
 {
     let rows = report_of(alloc, texts)?;
     let diags = told_diags(alloc, rows.as_slice(), units)?;
-    Ok(Checked {
+    Ok(CheckedTexts {
         messages: messages(alloc, diags.as_slice(), texts)?,
         faulty: faulty(rows.as_slice(), units),
     })

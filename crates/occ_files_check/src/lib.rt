@@ -4,5 +4,5 @@
 mod checking;
 mod telling;
 
-pub use checking::{CheckFault, Checked, check_texts};
+pub use checking::{CheckFault, CheckedTexts, check_texts};
 pub use telling::{add_shown, diags_in, messages};

@@ -1,6 +1,6 @@
 //! Tests: a client of the server opens two files, makes a race in one, asks what it is, and mends it.
 use super::finding::List;
-use occ_editor_messages::{Next, Server};
+use occ_editor_messages::{Flow, LanguageServer};
 use std::alloc::Global;
 use std::test::Fail;
 
@@ -62,8 +62,8 @@ fn has(bytes: &[u8], part: &[u8]) -> bool {
 }
 
 /// A server over the files.
-fn server<'a>(alloc: Global) -> Server<List<'a>> {
-    Server::new(alloc, List(FILES.as_slice()), Vec::new(alloc))
+fn server<'a>(alloc: Global) -> LanguageServer<List<'a>> {
+    LanguageServer::new(alloc, List(FILES.as_slice()), Vec::new(alloc))
 }
 
 #[test]
@@ -72,13 +72,13 @@ fn a_client_makes_a_race_and_mends_it(rt: HostRuntime) -> Result<(), Fail> {
     for (message, want) in MESSAGES {
         server.clear();
         assert!(rt;
-            matches!(&server.take(message.as_bytes()), Ok(Next::Goes)),
+            matches!(&server.take(message.as_bytes()), Ok(Flow::Goes)),
             "{message}"
         );
         assert!(rt; server.publish().is_ok());
         assert!(rt; has(server.sent(), want.as_bytes()), "{message}");
     }
     let end = server.take(b"{\"method\":\"exit\"}");
-    assert!(rt; matches!(&end, Ok(Next::Ends(0))));
+    assert!(rt; matches!(&end, Ok(Flow::Ends(0))));
     Ok(())
 }

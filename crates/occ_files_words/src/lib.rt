@@ -3,4 +3,4 @@
 
 mod words;
 
-pub use words::{Asked, Checking, WordsFault, read_words};
+pub use words::{Checking, Subcommand, SubcommandFault, read_words};

@@ -28,7 +28,7 @@ pub struct Checking {
 
 /// What the program is asked to do.
 #[derive(Drop)]
-pub enum Asked {
+pub enum Subcommand {
     /// To check files.
     Check(Checking),
     /// To explain a code.
@@ -39,7 +39,7 @@ pub enum Asked {
 
 /// Why the words ask for nothing.
 #[derive(Drop)]
-pub enum WordsFault {
+pub enum SubcommandFault {
     /// They ask for help or the version: the text goes to standard output.
     Told(String),
     /// They are no line that the program takes: the text goes to standard error.
@@ -48,22 +48,22 @@ pub enum WordsFault {
     Memory,
 }
 
-impl From<AllocError> for WordsFault {
-    fn from(_error: AllocError) -> WordsFault {
-        WordsFault::Memory
+impl From<AllocError> for SubcommandFault {
+    fn from(_error: AllocError) -> SubcommandFault {
+        SubcommandFault::Memory
     }
 }
 
-impl<T: Drop> From<AllocFailed<T>> for WordsFault {
-    fn from(_error: AllocFailed<T>) -> WordsFault {
-        WordsFault::Memory
+impl<T: Drop> From<AllocFailed<T>> for SubcommandFault {
+    fn from(_error: AllocFailed<T>) -> SubcommandFault {
+        SubcommandFault::Memory
     }
 }
 
 const FORMATS: [&str; 5] = ["text", "short", "json", "sarif", "github"];
 
 /// What a line asks for, which begins with the program's name.
-pub fn read_words(alloc: Global, line: &[&str]) -> Result<Asked, WordsFault>
+pub fn read_words(alloc: Global, line: &[&str]) -> Result<Subcommand, SubcommandFault>
     ensures { IfOk result (λ asked. IsAllowed asked) }
 {
     match matched(alloc, line) {
@@ -151,30 +151,30 @@ fn matched<'a>(alloc: Global, line: &'a [&'a str]) -> Result<ArgMatches<'a>, Err
 }
 
 /// What clap tells in place of matches.
-fn told(alloc: Global, error: &Error) -> Result<WordsFault, AllocError> {
+fn told(alloc: Global, error: &Error) -> Result<SubcommandFault, AllocError> {
     if error.kind() == ErrorKind::OutOfMemory {
-        return Ok(WordsFault::Memory);
+        return Ok(SubcommandFault::Memory);
     }
     let text = format!(in alloc; "{error}")?;
     Ok(if error.use_stderr() {
-        WordsFault::Refused(text)
+        SubcommandFault::Refused(text)
     } else {
-        WordsFault::Told(text)
+        SubcommandFault::Told(text)
     })
 }
 
 /// What the arguments ask for.
-fn asked_of(alloc: Global, matches: &ArgMatches<'_>) -> Result<Asked, WordsFault>
+fn asked_of(alloc: Global, matches: &ArgMatches<'_>) -> Result<Subcommand, SubcommandFault>
     ensures { IfOk result (λ asked. IsAllowed asked) }
 {
     match matches.subcommand() {
         Some(("explain", words)) => {
             let code = words.get_str("CODE").unwrap_or("");
-            Ok(Asked::Explain(String::from_str(alloc, code)?))
+            Ok(Subcommand::Explain(String::from_str(alloc, code)?))
         }
         Some(("lsp", words)) => {
             let folders = texts(alloc, words.get_strs("FOLDER").unwrap_or(&[]))?;
-            Ok(Asked::Serve(folders))
+            Ok(Subcommand::Serve(folders))
         }
         Some((_, words)) => check_of(alloc, words),
         None => Err(no_file(alloc)?),
@@ -182,23 +182,23 @@ fn asked_of(alloc: Global, matches: &ArgMatches<'_>) -> Result<Asked, WordsFault
 }
 
 /// A check of no file.
-fn no_file(alloc: Global) -> Result<WordsFault, AllocError> {
-    Ok(WordsFault::Refused(String::from_str(
+fn no_file(alloc: Global) -> Result<SubcommandFault, AllocError> {
+    Ok(SubcommandFault::Refused(String::from_str(
         alloc,
         "error: no FILE\n\nUsage: occ check [OPTIONS] <FILE>...\n",
     )?))
 }
 
 /// A path for standard input, which no file is.
-fn no_input(alloc: Global) -> Result<WordsFault, AllocError> {
-    Ok(WordsFault::Refused(String::from_str(
+fn no_input(alloc: Global) -> Result<SubcommandFault, AllocError> {
+    Ok(SubcommandFault::Refused(String::from_str(
         alloc,
         "error: --stdin-filename is the path of a FILE that is -, and there is none\n\nUsage: occ check [OPTIONS] <FILE>...\n",
     )?))
 }
 
 /// What the words after `check` ask for.
-fn check_of(alloc: Global, words: &ArgMatches<'_>) -> Result<Asked, WordsFault>
+fn check_of(alloc: Global, words: &ArgMatches<'_>) -> Result<Subcommand, SubcommandFault>
     ensures { IfOk result (λ asked. IsAllowed asked) }
 {
     let files = texts(alloc, words.get_strs("FILE").unwrap_or(&[]))?;
@@ -211,7 +211,7 @@ fn check_of(alloc: Global, words: &ArgMatches<'_>) -> Result<Asked, WordsFault>
         return Err(no_input(alloc)?);
     }
     let stdin_path = String::from_str(alloc, name.unwrap_or("stdin.occ"))?;
-    Ok(Asked::Check(Checking {
+    Ok(Subcommand::Check(Checking {
         files,
         folders,
         format: format_of(words.get_str("FORMAT")),

@@ -2,7 +2,7 @@
 ghost use Rattle.occ_base.specs.Diag.{code_text};
 ghost use Rattle.std.specs.Prelude.{◌≡◌, IfSome};
 
-use super::table::{Entry, entry_of};
+use super::table::{CodeEntry, entry_of};
 use occ_base::Code;
 use std::alloc::{AllocError, Global};
 
@@ -65,7 +65,7 @@ pub fn code_named(text: &str) -> Option<Code>
 /// What is said of a code: what it says, why, an example, and what to write instead.
 pub fn explained(alloc: Global, code: Code) -> Result<String, AllocError> {
     let name = code.as_str();
-    let Entry {
+    let CodeEntry {
         title,
         why,
         body,

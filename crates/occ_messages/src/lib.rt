@@ -26,5 +26,5 @@ mod uses;
 pub use explaining::{CODES, Hiding, code_named, explained, hidden_by};
 pub use format::Format;
 pub use message::{Message, Page, message_of};
-pub use table::{Entry, entry_of};
-pub use told::{Mark, Quoted};
+pub use table::{CodeEntry, entry_of};
+pub use told::{Quoted, Underline};

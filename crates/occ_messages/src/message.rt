@@ -5,7 +5,7 @@ ghost use Rattle.std.specs.Prelude.{◌≡◌, IfOk};
 use super::hinting::told_of;
 use super::table::entry_of;
 use super::text::Text;
-use super::told::{Mark, Quoted, Told};
+use super::told::{Quoted, Told, Underline};
 use occ_base::{Code, Diag, Grade, Name};
 use std::alloc::{AllocError, Global};
 use std::str;
@@ -26,7 +26,7 @@ pub struct Message {
     /// That line of the text.
     pub source: String,
     /// The part of it that is meant.
-    pub mark: Option<Mark>,
+    pub mark: Option<Underline>,
     /// Other lines that matter.
     pub others: Vec<Quoted>,
     /// What may help, where the line tells more than the code does.

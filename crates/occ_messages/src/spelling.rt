@@ -3,7 +3,7 @@ use super::text::{
     after_word, column, count, cut, first_word, has, has_word, is_skipped, line_after, next_word,
     parent, split_once, word_count,
 };
-use super::told::{Mark, Place, Told, indent, shown};
+use super::told::{Place, Told, Underline, indent, shown};
 use occ_base::Code;
 use std::alloc::{AllocError, Global};
 use std::str;
@@ -194,7 +194,7 @@ fn literal(alloc: Global, place: Place<'_>, told: &mut Told) -> Result<(), Alloc
     told.say(String::from_str(alloc, words)?);
     let rest = from.get(1..).unwrap_or(&[]);
     let length = rest.iter().position(|b| *b == b'\'').unwrap_or(rest.len());
-    told.mark = Some(Mark {
+    told.mark = Some(Underline {
         from: at,
         to: at.saturating_add(length).saturating_add(2),
     });
@@ -214,7 +214,7 @@ fn strange_byte(alloc: Global, place: Place<'_>, told: &mut Told) -> Result<(), 
     } else {
         told.say(format!(in alloc; "the byte #{b:02X} has no meaning in occam")?);
     }
-    told.mark = Some(Mark {
+    told.mark = Some(Underline {
         from: at,
         to: at.saturating_add(1),
     });

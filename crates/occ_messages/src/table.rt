@@ -6,7 +6,7 @@ use occ_base::Code;
 
 /// What is said of a code.
 #[derive(Clone, Copy)]
-pub struct Entry {
+pub struct CodeEntry {
     /// The code that it is of.
     pub code: Code,
     /// What is wrong.
@@ -19,7 +19,7 @@ pub struct Entry {
     pub body: &'static str,
 }
 
-/// The words of an entry, as `Entry` has them.
+/// The words of an entry, as `CodeEntry` has them.
 struct Words {
     title: &'static str,
     named: &'static str,
@@ -28,7 +28,7 @@ struct Words {
 }
 
 /// What is said of a code.
-pub fn entry_of(code: Code) -> Entry
+pub fn entry_of(code: Code) -> CodeEntry
     ensures { result.code ≡ code }
 {
     let Words {
@@ -37,7 +37,7 @@ pub fn entry_of(code: Code) -> Entry
         why,
         body,
     } = words_of(code);
-    Entry {
+    CodeEntry {
         code,
         title,
         named,

@@ -42,7 +42,7 @@ impl<'a> Place<'a> {
 
 /// A part of a line, by the bytes before its start and before its end.
 #[derive(Clone, Copy, Debug)]
-pub struct Mark {
+pub struct Underline {
     pub from: usize,
     pub to: usize,
 }
@@ -52,7 +52,7 @@ pub struct Mark {
 pub struct Quoted {
     pub number: u32,
     pub source: String,
-    pub mark: Option<Mark>,
+    pub mark: Option<Underline>,
     /// What is said of that part.
     pub label: &'static str,
 }
@@ -63,7 +63,7 @@ pub struct Told {
     /// What is wrong, where the line tells it better than the code does.
     pub words: Option<String>,
     /// The part of the line that is meant.
-    pub mark: Option<Mark>,
+    pub mark: Option<Underline>,
     /// Other lines that matter.
     pub others: Vec<Quoted>,
     /// What may help.
@@ -76,13 +76,13 @@ pub fn indent(line: &[u8]) -> usize {
 }
 
 /// The part of a line that is a word behind another part of what it says.
-pub fn mark_in(line: &[u8], said: &[u8], rest: &[u8], word: &[u8]) -> Option<Mark> {
+pub fn mark_in(line: &[u8], said: &[u8], rest: &[u8], word: &[u8]) -> Option<Underline> {
     let after = after_word(rest, word)?;
     let to = indent(line)
         .saturating_add(said.len())
         .saturating_sub(after.len());
     let from = to.saturating_sub(word.len());
-    Some(Mark { from, to })
+    Some(Underline { from, to })
 }
 
 impl Told {

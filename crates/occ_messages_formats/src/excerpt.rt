@@ -1,5 +1,5 @@
 //! Lines of a text with their numbers, and the parts of them that are meant.
-use occ_messages::{Mark, Message, Quoted};
+use occ_messages::{Message, Quoted, Underline};
 use std::alloc::{AllocError, Global};
 
 /// A line, and what is meant of it.
@@ -7,7 +7,7 @@ use std::alloc::{AllocError, Global};
 struct Row<'a> {
     number: u32,
     source: &'a str,
-    mark: Option<Mark>,
+    mark: Option<Underline>,
     label: &'a str,
     /// With which sign the part is marked.
     sign: char,
@@ -96,7 +96,7 @@ fn add(
 fn add_mark(
     alloc: Global,
     row: Row<'_>,
-    mark: Mark,
+    mark: Underline,
     width: usize,
     text: &mut String,
 ) -> Result<(), AllocError> {
@@ -119,7 +119,7 @@ fn add_mark(
 }
 
 /// What stands under a byte.
-fn under(at: usize, b: u8, mark: Mark, sign: char) -> char {
+fn under(at: usize, b: u8, mark: Underline, sign: char) -> char {
     if at >= mark.from {
         sign
     } else if b == b'\t' {

@@ -12,4 +12,4 @@ pub use counted::{Tally, count_line};
 pub use github::github_text;
 pub use json::json_text;
 pub use sarif::sarif_text;
-pub use text::{Extent, long_text, short_text};
+pub use text::{Verbosity, long_text, short_text};

@@ -33,7 +33,7 @@ fn short_line(alloc: Global, message: &Message) -> Result<String, AllocError>
 
 /// How much of a message is told.
 #[derive(Clone, Copy, Debug, PartialEq, Eq)]
-pub enum Extent {
+pub enum Verbosity {
     /// Also the reason of its code.
     Reason,
     /// All but that.
@@ -43,7 +43,7 @@ pub enum Extent {
 }
 
 /// A message with its line of the text, what may help, and the reason of its code, as far as that is wanted.
-pub fn long_text(alloc: Global, message: &Message, extent: Extent) -> Result<String, AllocError>
+pub fn long_text(alloc: Global, message: &Message, extent: Verbosity) -> Result<String, AllocError>
     ensures { IfOk result (λ text. Begins (string_bytes text) (long_head message.now)) }
 {
     let margin = margin(alloc, message.line)?;
@@ -85,14 +85,14 @@ fn head(alloc: Global, message: &Message, margin: &str) -> Result<String, AllocE
 }
 
 /// What stands under that: lines of the text, what may help, and the reason of the code.
-fn body(alloc: Global, message: &Message, extent: Extent) -> Result<String, AllocError> {
+fn body(alloc: Global, message: &Message, extent: Verbosity) -> Result<String, AllocError> {
     let mut text = String::new(alloc);
     let others: &[Quoted] = match extent {
-        Extent::Place => &[],
-        Extent::Reason | Extent::Whole => message.others.as_slice(),
+        Verbosity::Place => &[],
+        Verbosity::Reason | Verbosity::Whole => message.others.as_slice(),
     };
     let width = excerpt(alloc, message, others, &mut text)?;
-    if extent != Extent::Place {
+    if extent != Verbosity::Place {
         let blanks = margin_of(alloc, width)?;
         remarks(alloc, message, blanks.as_str(), extent, &mut text)?;
     }
@@ -105,13 +105,13 @@ fn remarks(
     alloc: Global,
     message: &Message,
     margin: &str,
-    extent: Extent,
+    extent: Verbosity,
     text: &mut String,
 ) -> Result<(), AllocError> {
     for hint in &message.hints {
         text.push_str(format!(in alloc; "{margin} = help: {hint}\n")?.as_str())?;
     }
-    if extent == Extent::Reason {
+    if extent == Verbosity::Reason {
         let why = entry_of(message.code).why;
         text.push_str(format!(in alloc; "{margin} = note: {why}\n")?.as_str())?;
     }

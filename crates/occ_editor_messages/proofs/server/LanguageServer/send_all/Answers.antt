@@ -3,7 +3,7 @@ use Rattle.serde_json.specs.Data.{Data}
 use Rattle.serde_json.specs.View.{view}
 use Rattle.occ_editor.specs.declared.editor.Published.{Published}
 use Rattle.occ_editor_messages.proofs.Sent.{bytes_next, told_next, told_plain}
-use Rattle.occ_editor_messages.proofs.server.Server.send_all.Goals as goal
+use Rattle.occ_editor_messages.proofs.server.LanguageServer.send_all.Goals as goal
 use Rattle.occ_editor_messages.specs.Sent.{IsTold, note_bytes}
 
 pub loop-told-preserved : goal.loop-told-preserved

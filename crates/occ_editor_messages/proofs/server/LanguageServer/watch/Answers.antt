@@ -1,7 +1,7 @@
 use Rattle.serde_json.specs.View.{view}
 use Rattle.std.proofs.Common.{codes}
 use Rattle.occ_editor_messages.proofs.Extending.{added_extends}
-use Rattle.occ_editor_messages.proofs.server.Server.watch.Goals as goal
+use Rattle.occ_editor_messages.proofs.server.LanguageServer.watch.Goals as goal
 use Rattle.occ_editor_messages.specs.Sent.{request_data}
 
 pub returns-clause-sent : goal.returns-clause-sent

@@ -1,5 +1,5 @@
 use Rattle.std.proofs.Common.{◌≡◌, take}
-use Rattle.occ_editor_messages.proofs.server.Server.send_all.Given as goal
+use Rattle.occ_editor_messages.proofs.server.LanguageServer.send_all.Given as goal
 use Rattle.occ_editor_messages.specs.inside.Sending.{AreSent}
 
 abbrev pub invariant-loop-told : goal.invariant-loop-told

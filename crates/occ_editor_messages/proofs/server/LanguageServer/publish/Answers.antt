@@ -5,7 +5,7 @@ use Rattle.occ_editor.specs.Standing.{AreServed, IsStanding, IsUpToDate}
 use Rattle.occ_editor.specs.declared.editor.Editor.{Editor}
 use Rattle.occ_editor.specs.declared.editor.Published.{Published}
 use Rattle.occ_editor_messages.specs.inside.Sending.{AreSent}
-use Rattle.occ_editor_messages.proofs.server.Server.publish.Goals as goal
+use Rattle.occ_editor_messages.proofs.server.LanguageServer.publish.Goals as goal
 
 pub returns-clause-boards : goal.returns-clause-boards
 returns-clause-boards g c = λ stands. subst IsUpToDate (sym c.send_all.ensures.editor) (c.in_ok-all.ensures.boards stands)
