@@ -43,7 +43,7 @@ pub fn told_of(alloc: Global, diag: &Diag, lines: Lines<'_>) -> Result<Told, All
 /// Tells what a line says more than a code.
 fn tell(alloc: Global, place: Place<'_>, told: &mut Told) -> Result<(), AllocError> {
     match place.code {
-        Code::G1 | Code::G3 => library(alloc, place, told),
+        Code::G1 | Code::G2 | Code::G3 => library(alloc, place, told),
         Code::L1 | Code::S1 => form(alloc, place, told),
         Code::L2 => blanks(alloc, place, told),
         Code::L3 => unfinished(alloc, place, told),
