@@ -38,7 +38,7 @@ fn interface(alloc: Global, written: &[u32]) -> Result<Interface, AllocError> {
     exports.push(Export {
         name: Name::from_slice(alloc, b"p")?,
         kind: ExportKind::Process,
-        formals: Items::new(alloc),
+        formals: Shared::new(alloc, Items::new(alloc))?,
         results: Items::new(alloc),
         uses,
         effect: Effect::None,
