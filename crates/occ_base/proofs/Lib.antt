@@ -6,3 +6,5 @@ pub mod Fronts
 pub mod Indices
 pub mod Digits
 pub mod Zeros
+pub mod Heads
+pub mod Numbers

@@ -1,5 +1,5 @@
 -- Bytes with zeros after them, up to one length: what their order and their equality say of the bytes.
-use Rattle.std.proofs.Common.{◌≡◌, ◌≢◌, ◌≤◌, ◌<◌, ◌+◌, ◌-◌, ℕ, zero, suc, true, ◌&&◌, List, [], ◌∷◌, ◌++◌, length, take, drop, replicate, refl, arith, ap, subst, ◌∙◌, bytes_eq, nat_eq, take-append-drop, length-take}
+use Rattle.std.proofs.Common.{◌≡◌, ◌≢◌, ◌≤◌, ◌<◌, ◌+◌, ◌-◌, ℕ, suc, true, ◌&&◌, List, [], ◌∷◌, ◌++◌, length, take, drop, replicate, refl, arith, ap, subst, ◌∙◌, bytes_eq, nat_eq, take-append-drop, length-take}
 use Rattle.std.proofs.lemmas.Cmp.{ranked}
 use Rattle.std.proofs.lemmas.List.{length-append, length-replicate}
 use Rattle.std.specs.Cmp.Lexicographic.{slice_cmp, bytes_decides}
@@ -45,7 +45,7 @@ one_more : (m n : ℕ) → nat_cmp (suc m) (suc n) ≡ nat_cmp m n
 one_more m n = as_these (suc m) (suc n) m n (λ h. omega (arith, h)) (λ h. omega (arith, h)) (λ h. omega (arith, h))
 
 -- the order of bytes is that of what is filled up, and else that of their lengths
-filled_order : (xs ys : List ℕ) (j k : ℕ) → length xs + j ≡ length ys + k → ordering_then (slice_cmp nat_cmp (xs ++ zeros j) (ys ++ zeros k)) (nat_cmp (length xs) (length ys)) ≡ slice_cmp nat_cmp xs ys
+pub filled_order : (xs ys : List ℕ) (j k : ℕ) → length xs + j ≡ length ys + k → ordering_then (slice_cmp nat_cmp (xs ++ zeros j) (ys ++ zeros k)) (nat_cmp (length xs) (length ys)) ≡ slice_cmp nat_cmp xs ys
 filled_order [] [] j k h = let e : j ≡ k = omega (arith, h) in rw e (rw (level (zeros k)) refl)
 filled_order [] (y ∷ ys) j k h =
     let e : j ≡ length ((y ∷ ys) ++ zeros k) = omega (arith, h, length-append ys (zeros k), length-replicate {A = ℕ} k 0) in
@@ -70,10 +70,10 @@ filled_same (x ∷ xs) (y ∷ ys) j k h e = ap (λ b. nat_eq x y && b) (filled_s
 
 -- ---- as they are held
 
-held : (m : ℕ) (a : List ℕ) → drop m a ≡ zeros (16 - m) → take m a ++ zeros (16 - m) ≡ a
+pub held : (m : ℕ) (a : List ℕ) → drop m a ≡ zeros (16 - m) → take m a ++ zeros (16 - m) ≡ a
 held m a z = rw (← z) (take-append-drop m a)
 
-long : (m : ℕ) (a : List ℕ) → m ≤ 16 → length a ≡ 16 → length (take m a) ≡ m
+pub long : (m : ℕ) (a : List ℕ) → m ≤ 16 → length a ≡ 16 → length (take m a) ≡ m
 long m a l w = omega (arith, length-take m a, l, w)
 
 pub held_same : (m n : ℕ) (a b : List ℕ) → m ≤ 16 → n ≤ 16 → length a ≡ 16 → length b ≡ 16 → drop m a ≡ zeros (16 - m) → drop n b ≡ zeros (16 - n) → m ≡ n → bytes_eq a b ≡ bytes_eq (take m a) (take n b)

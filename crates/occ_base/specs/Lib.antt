@@ -9,3 +9,4 @@ pub mod Errors
 pub mod Reporting
 pub mod Lists
 pub mod inside
+pub mod Numbers

@@ -10,7 +10,9 @@ ghost use Rattle.std.specs.Prelude.{◌≡◌, ◌≤◌, ◌↔◌, IfOk, IsTru
 ghost use Rattle.std.specs.Result.{result_err};
 ghost use Rattle.std.specs.Str.{bytes_eq};
 ghost use Rattle.occ_base.specs.FileName.{IsFileName, has_length as spec_has_length, has_suffix as spec_has_suffix, is_file_byte as spec_is_file_byte, is_unit, name_fault};
+ghost use Rattle.occ_base.specs.inside.Front.{front as spec_front};
 
+use super::short;
 use std::cmp::Ordering;
 use std::marker::Model;
 use thiserror::Error;
@@ -81,6 +83,17 @@ impl FileName {
         ensures { result ≡ is_unit self.now }
     {
         self.as_bytes().ends_with(b".occ")
+    }
+
+    /// The first 16 of the bytes and of the zeros after them.
+    fn front(&self) -> &[u8; 16]
+        ensures value { result.now ≡ spec_front self.now }
+        ensures named { IsFileName self.now }
+    {
+        match self.bytes.split_first_chunk::<16>() {
+            Some((front, _)) => front,
+            None => unreachable!(),
+        }
     }
 }
 
@@ -178,7 +191,9 @@ impl PartialEq for FileName {
     ghost laws = { Prim.search (comparing, rules) };
 
     fn eq(&self, other: &FileName) -> bool {
-        self.len == other.len && are_same(self.as_bytes(), other.as_bytes())
+        self.len == other.len
+            && short::are_same(self.front(), other.front())
+            && (self.len <= 16 || are_same(self.as_bytes(), other.as_bytes()))
     }
 }
 
@@ -217,7 +232,10 @@ impl Ord for FileName {
     ghost matches_eq = { Prim.search (comparing, rules) };
 
     fn cmp(&self, other: &FileName) -> Ordering {
-        order(self.as_bytes(), other.as_bytes())
+        match short::order(self.front(), other.front()) {
+            Ordering::Equal => order(self.as_bytes(), other.as_bytes()),
+            decided => decided,
+        }
     }
 }
 

@@ -8,6 +8,7 @@ ghost use Rattle.std.specs.Cmp.Rules.{comparing};
 ghost use Rattle.std.specs.Ordering.{as_partial_cmp, nat_cmp};
 ghost use Rattle.std.specs.Prelude.{◌≡◌, IfOk};
 ghost use Rattle.std.specs.Str.{bytes_eq};
+ghost use Rattle.occ_base.specs.Numbers.{number_of};
 
 use super::short::Short;
 use std::alloc::{AllocError, Global};
@@ -35,9 +36,11 @@ impl Model for Name {
 
     ghost coded = { coded_list coded_ℕ };
 
-    ghost use Rattle.occ_base.specs.inside.Short.{bytes_of};
+    ghost use Rattle.occ_base.specs.inside.Short.{IsHeld, bytes_of};
 
     ghost view = { λ n. bytes_of n.bytes };
+
+    ghost invariant = { λ n. IsHeld n.bytes };
 }
 
 impl Name {
@@ -72,6 +75,16 @@ impl Name {
         match &self.bytes {
             Bytes::Short(bytes) => bytes.as_bytes(),
             Bytes::Long(bytes) => bytes.as_slice(),
+        }
+    }
+
+    /// The number of a name of at most 15 bytes: its digits are the bytes, zeros after them, and last how many they are.
+    pub fn number(&self) -> Option<u128>
+        ensures { result ≡ number_of self.now }
+    {
+        match &self.bytes {
+            Bytes::Short(bytes) => bytes.number(),
+            Bytes::Long(_) => None,
         }
     }
 }

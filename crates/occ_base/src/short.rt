@@ -1,8 +1,11 @@
 //! Bytes that are few enough to be held in place: at the front of 16, and zeros after. So they are compared as numbers.
 ghost use Rattle.std.specs.Cmp.Lexicographic.{slice_cmp};
 ghost use Rattle.std.specs.Ordering.{nat_cmp};
-ghost use Rattle.std.specs.Prelude.{◌≡◌, ◌≤◌, length};
+ghost use Rattle.std.specs.Int.{from_be_bytes, w128};
+ghost use Rattle.std.specs.List.{list_all};
+ghost use Rattle.std.specs.Prelude.{◌≡◌, ◌≤◌, length, slice_set, true};
 ghost use Rattle.std.specs.Str.{bytes_eq};
+ghost use Rattle.occ_base.specs.Numbers.{is_byte, number_of};
 
 use std::cmp::Ordering;
 use std::marker::Model;
@@ -61,6 +64,16 @@ impl Short {
         self.len == other.len && are_same(&self.bytes, &other.bytes)
     }
 
+    /// The number whose digits are the bytes, zeros after them, and last how many they are, of at most 15 bytes.
+    pub(super) fn number(&self) -> Option<u128>
+        ensures { result ≡ number_of self.now }
+    {
+        if self.len > 15 {
+            return None;
+        }
+        Some(ended(&self.bytes, self.len))
+    }
+
     /// Which comes first: zeros come before all other bytes, so that the lengths decide where all 16 are the same.
     pub(super) fn order(&self, other: &Short) -> Ordering
         ensures { result ≡ slice_cmp nat_cmp self.now other.now }
@@ -73,15 +86,25 @@ impl Short {
 }
 
 /// Whether 16 bytes are the same: the numbers with these digits are.
-fn are_same(a: &[u8; 16], b: &[u8; 16]) -> bool
+pub(super) fn are_same(a: &[u8; 16], b: &[u8; 16]) -> bool
     ensures { result ≡ bytes_eq a.now b.now }
 {
     u128::from_be_bytes(*a) == u128::from_be_bytes(*b)
 }
 
 /// Which of 16 bytes come first: their order is that of the numbers with these digits.
-fn order(a: &[u8; 16], b: &[u8; 16]) -> Ordering
+pub(super) fn order(a: &[u8; 16], b: &[u8; 16]) -> Ordering
     ensures { result ≡ slice_cmp nat_cmp a.now b.now }
 {
     u128::from_be_bytes(*a).cmp(&u128::from_be_bytes(*b))
+}
+
+/// The number with these digits, but for the last, which is another.
+fn ended(digits: &[u8; 16], last: u8) -> u128
+    ensures value { result ≡ from_be_bytes w128 (slice_set digits.now 15 last) }
+    ensures bytes { list_all is_byte digits.now ≡ true }
+{
+    let mut digits = *digits;
+    digits[15] = last;
+    u128::from_be_bytes(digits)
 }

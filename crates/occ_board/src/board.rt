@@ -21,7 +21,7 @@ use super::base::{Base, Cut};
 use super::cached::Cached;
 use super::caching::unhand;
 use super::comparing::is_alike_job;
-use super::copying::{copied_job, copied_reads};
+use super::copying::{copied_files, copied_job};
 use super::entry::{Edit, EditFault, Entry};
 use super::expanding::count_expanded;
 use super::flags::{Flags, settle_cached};
@@ -514,7 +514,7 @@ impl Board {
         ensures err { OnErr result (self.new ≡ self.old) }
     {
         base_law();
-        let files = copied_reads(alloc, self.graph.project().files())?;
+        let files = copied_files(alloc, self.graph.project().files())?;
         let number = self.number() as u32;
         self.base = Base { number, files };
         let entries = mem::replace(&mut self.journal, Vec::new(alloc));

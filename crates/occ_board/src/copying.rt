@@ -2,19 +2,30 @@
 ghost use Rattle.std.specs.Prelude.{◌≡◌, IfOk};
 
 use super::base::Base;
-use occ_base::Items;
+use occ_base::{Items, Shared};
 use occ_check::{Job, Used, UsedUnit};
 use occ_project::{Read, Reads};
 use occ_project_units::share;
 use std::alloc::{AllocError, Global};
 
 /// The same reads.
-pub fn copied_reads(alloc: Global, reads: &[Read]) -> Result<Reads, AllocError>
+fn copied_reads(alloc: Global, reads: &[Read]) -> Result<Reads, AllocError>
     ensures { IfOk result (λ copies. copies ≡ reads.now) }
 {
     let mut copies = Items::new(alloc);
     for read in reads {
         copies.push(share(read)?)?;
+    }
+    Ok(copies)
+}
+
+/// The files of a project, which share their texts.
+pub fn copied_files(alloc: Global, files: &[Shared<Read>]) -> Result<Reads, AllocError>
+    ensures { IfOk result (λ copies. copies ≡ files.now) }
+{
+    let mut copies = Items::from_vec(Vec::with_capacity(alloc, files.len())?);
+    for file in files {
+        copies.push(share(file.get())?)?;
     }
     Ok(copies)
 }

@@ -7,7 +7,7 @@ ghost use Rattle.std.specs.List.{find};
 ghost use Rattle.std.specs.Option.{option_copied};
 ghost use Rattle.std.specs.Prelude.{◌≡◌, ◌<◌, ◌^◌, ◌&&◌, ◌+◌, Some, cond, length, nat_eq, slice_get};
 
-use occ_base::FileName;
+use occ_base::{FileName, Shared};
 use occ_project::Read;
 use occ_project_units::Graph;
 
@@ -34,19 +34,19 @@ fn count_readers(graph: &Graph, name: FileName) -> u32
 {
     let mut count = 0;
     for (index, file) in graph.project().files().iter().enumerate() {
-        let is_one = is_reader(graph, index, file, name);
+        let is_one = is_reader(graph, index, file.get(), name);
         count = counted(count, is_one);
     }
     count
 }
 
 /// The file of the edit with this number.
-fn edited_file(files: &[Read], number: usize) -> Option<&Read>
+fn edited_file(files: &[Shared<Read>], number: usize) -> Option<&Read>
     ensures { option_copied result ≡ find (λ file. nat_eq file.revision number) files.now }
 {
     for file in files {
-        if file.revision as usize == number {
-            return Some(file);
+        if file.get().revision as usize == number {
+            return Some(file.get());
         }
     }
     None

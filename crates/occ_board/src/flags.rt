@@ -16,7 +16,7 @@ ghost use Rattle.std.specs.Str.{bytes_eq};
 use super::cached::Cached;
 use super::laws::{done_law, height_law};
 use super::verified::{is_current, verified_law};
-use occ_base::{FileName, Items};
+use occ_base::{FileName, Items, Shared};
 use occ_project::Read;
 use occ_project_graph::Nodes;
 use occ_project_units::Graph;
@@ -154,17 +154,17 @@ pub fn has_flag(graph: &Graph, flags: &[bool], hint: usize, unit: FileName) -> b
 }
 
 /// Whether the file at an index is absent, or has its flag.
-fn is_rest_flagged(files: &[Read], flags: &[bool], index: usize) -> bool
+fn is_rest_flagged(files: &[Shared<Read>], flags: &[bool], index: usize) -> bool
     ensures { result ≡ rest_flag files.now flags.now index }
 {
     match at(files, index) {
-        Some(file) => file.source.is_none() || is_flagged(flags, index),
+        Some(file) => is_flagged(flags, index) || file.get().source.is_none(),
         None => true,
     }
 }
 
 /// Whether the file at the last of these indices, if there is one, is absent or has its flag.
-fn is_last_flagged(files: &[Read], flags: &[bool], indices: &Nodes<'_>) -> bool
+fn is_last_flagged(files: &[Shared<Read>], flags: &[bool], indices: &Nodes<'_>) -> bool
     ensures { IsFalse result → list_all (rest_flag files.now flags.now) indices.now ≡ false }
 {
     match indices.count().checked_sub(1) {
@@ -175,7 +175,7 @@ fn is_last_flagged(files: &[Read], flags: &[bool], indices: &Nodes<'_>) -> bool
 
 /// Whether the files at these indices are absent, or have their flags. The last is looked at first: in order of name what has no
 /// flag yet often stands at one of both ends.
-fn are_flagged(files: &[Read], flags: &[bool], indices: &Nodes<'_>) -> bool
+fn are_flagged(files: &[Shared<Read>], flags: &[bool], indices: &Nodes<'_>) -> bool
     ensures { result ≡ list_all (rest_flag files.now flags.now) indices.now }
 {
     if !is_last_flagged(files, flags, indices) {
@@ -185,7 +185,7 @@ fn are_flagged(files: &[Read], flags: &[bool], indices: &Nodes<'_>) -> bool
 }
 
 /// The same, from the first on.
-fn are_all_flagged(files: &[Read], flags: &[bool], indices: &Nodes<'_>) -> bool
+fn are_all_flagged(files: &[Shared<Read>], flags: &[bool], indices: &Nodes<'_>) -> bool
     ensures { result ≡ list_all (rest_flag files.now flags.now) indices.now }
 {
     for place in 0..indices.count() {
@@ -246,7 +246,7 @@ fn is_done_by(
 {
     done_law();
     match at(graph.project().files(), index) {
-        Some(file) => is_file_done(graph, cached, flags, verified, index, file),
+        Some(file) => is_file_done(graph, cached, flags, verified, index, file.get()),
         None => false,
     }
 }

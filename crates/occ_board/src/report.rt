@@ -118,7 +118,7 @@ pub fn rows(
     let mut rows = Items::new(alloc);
     for (index, file) in graph.project().files().iter().enumerate() {
         let done = is_flagged(flags, index);
-        add_row(graph, cached, index, done, file, &mut rows)?;
+        add_row(graph, cached, index, done, file.get(), &mut rows)?;
     }
     Ok(rows)
 }

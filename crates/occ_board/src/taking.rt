@@ -170,7 +170,7 @@ pub fn first_ready(graph: &Graph, flags: &[bool], from: usize) -> usize
 {
     let files = graph.project().files();
     for index in first_unflagged(flags, from)..files.len() {
-        if is_ready(graph, flags, index, &files[index]) {
+        if is_ready(graph, flags, index, files[index].get()) {
             return index;
         }
     }
@@ -212,7 +212,7 @@ pub fn next_unit(
 {
     let files = graph.project().files();
     for index in from..files.len() {
-        let file = &files[index];
+        let file = files[index].get();
         if is_next(graph, cached, handed, flags, index, file) {
             return Some(file.name);
         }

@@ -166,7 +166,7 @@ fn push_selectors(selectors: &[PartSelector], numbers: &mut Items<u64>) -> Resul
 pub fn use_code(alloc: Global, found: &FormalUse) -> Result<UseCode, AllocError>
     ensures { IfOk result (λ code. code ≡ spec_use_code found.now) }
 {
-    let mut numbers = Items::new(alloc);
+    let mut numbers = Items::from_vec(Vec::with_capacity(alloc, 8)?);
     numbers.push(u64::from(found.formal))?;
     numbers.push(kind_code(found.kind))?;
     push_selectors(found.selectors.as_slice(), &mut numbers)?;

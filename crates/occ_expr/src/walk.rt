@@ -33,7 +33,7 @@ use occ_forms_expressions::{
     NamedOperand, Operand, TypeForm,
 };
 use occ_scope::{Meaning, Scope, carries, data_type};
-use occ_types::{Formal, OccType, Protocol, fields_of, unnamed};
+use occ_types::{Formal, KnownType, OccType, Protocol, fields_of, unnamed};
 use occ_typing_operands::{Kind, field};
 use occ_typing_rules::{OpenExpr, Selector, TypedExpr, matched};
 use occ_typing_tables::{BoundTerms, Term, report_hidden};
@@ -92,6 +92,7 @@ fn composed(
         }
         Expr::Converted(dims, word, following) => {
             let of = builtin(alloc, word.get(), scope, faults)?;
+            let of = known(of);
             let to = array_over(
                 alloc,
                 dims.as_slice(),
@@ -553,7 +554,7 @@ fn call_of_type(
     alloc: Global,
     name: &Name,
     exprs: &[Expr],
-    to: &Option<Shared<OccType>>,
+    to: &Option<KnownType>,
     scope: &Scope,
     faults: &mut Items<Fault>,
 ) -> Result<Reading, AllocError>
@@ -978,6 +979,7 @@ pub fn type_form(
         }
         TypeForm::Builtin(dims, word) => {
             let of = builtin(alloc, word.get(), scope, faults)?;
+            let of = known(of);
             array_over(
                 alloc,
                 dims.as_slice(),
@@ -1013,7 +1015,7 @@ fn array_over(
     alloc: Global,
     dims: &[Dimension],
     mut extents: Items<Extent>,
-    of: Option<Shared<OccType>>,
+    of: Option<KnownType>,
     opening: Opening,
     scope: &Scope,
     faults: &mut Items<Fault>,
@@ -1067,6 +1069,13 @@ fn dimension(
             extent
         }
     }
+}
+
+/// A type, if there is one, with what is asked of its size.
+fn known(of: Option<Shared<OccType>>) -> Option<KnownType>
+    ensures { result ≡ of }
+{
+    of.map(KnownType::new)
 }
 
 /// A type that begins with a reserved word.
@@ -1175,6 +1184,7 @@ pub fn word_form(
     ensures faults { OnOk result (faults.new ≡ faults.old ++ (spec_array_over (each opening scope.now (dimension_views dims.now)) (builtin_view word.now scope.now)).faults) }
 {
     let of = builtin(alloc, word, scope, faults)?;
+    let of = known(of);
     array_over(alloc, dims, Items::new(alloc), of, opening, scope, faults)
 }
 

@@ -25,7 +25,7 @@ use super::written::{Extent, extent_of};
 use occ_base::{Code, Fault, Items, Name, Shared};
 use occ_forms_expressions::{Element, Expr, Literal, Operand};
 use occ_scope::{Meaning, Referent, Scope, element};
-use occ_types::OccType;
+use occ_types::{KnownType, OccType};
 use occ_typing_operands::{Kind, known, subscripted};
 use occ_typing_rules::{OpenExpr, Selector};
 use occ_typing_tables::{BoundTerms, Term, alone, decorated_table, report_hidden, segment, size};
@@ -273,11 +273,11 @@ pub fn table_as(
 }
 
 /// The type that a name stands for, if it is known.
-pub fn shared_type(of: &Option<Shared<OccType>>) -> Result<Option<Shared<OccType>>, AllocError>
+pub fn shared_type(of: &Option<KnownType>) -> Result<Option<Shared<OccType>>, AllocError>
     ensures { IfOk result (λ shared. shared ≡ of.now) }
 {
     match of {
-        Some(of) => Ok(Some(of.share()?)),
+        Some(of) => Ok(Some(of.of().share()?)),
         None => Ok(None),
     }
 }

@@ -7,9 +7,8 @@ ghost use Rattle.occ_expr_operations.specs.Written.{array_of as spec_array_of, b
 use occ_base::{Code, Fault, Items, Shared, one_item, report};
 use occ_forms_expressions::{DataBase, PrimitiveWord};
 use occ_scope::{Carried, Scope, data_type};
-use occ_types::{Item, OccType, Primitive, Protocol, as_primitive};
+use occ_types::{Item, KnownType, OccType, Primitive, Protocol, as_primitive};
 use occ_typing_operands::number;
-use occ_typing_tables::is_too_large;
 use std::alloc::{AllocError, Global};
 
 /// Whether `[]` may stand in a type.
@@ -50,16 +49,16 @@ pub fn base_type(
     scope: &Scope,
     base: &DataBase,
     faults: &mut Items<Fault>,
-) -> Result<Option<Shared<OccType>>, AllocError>
+) -> Result<Option<KnownType>, AllocError>
     ensures found { IfOk result (λ found. found ≡ (spec_base_type scope.now base.now).found) }
     ensures faults { OnOk result (faults.new ≡ faults.old ++ (spec_base_type scope.now base.now).faults) }
 {
     match base {
         DataBase::Named(name) => data_type(alloc, scope, name, faults),
-        DataBase::Primitive(word) => Ok(Some(Shared::new(
+        DataBase::Primitive(word) => Ok(Some(KnownType::new(Shared::new(
             alloc,
             OccType::Primitive(primitive_of(*word)),
-        )?)),
+        )?))),
     }
 }
 
@@ -88,11 +87,7 @@ pub fn extent_of(size: Option<u32>) -> Extent
 }
 
 /// An array of components of a type, if its dimension has no fault.
-fn array_of(
-    alloc: Global,
-    extent: Extent,
-    of: Shared<OccType>,
-) -> Result<Option<Shared<OccType>>, AllocError>
+fn array_of(alloc: Global, extent: Extent, of: KnownType) -> Result<Option<KnownType>, AllocError>
     ensures { IfOk result (λ array. array ≡ spec_array_of extent of) }
 {
     let count = match extent {
@@ -100,15 +95,15 @@ fn array_of(
         Extent::Open => None,
         Extent::Sized(count) => Some(count),
     };
-    Ok(Some(Shared::new(alloc, OccType::Array(count, of))?))
+    Ok(Some(of.array(alloc, count)?))
 }
 
 /// A type with a dimension in front of it, if neither has a fault.
 fn spanned(
     alloc: Global,
     extent: Extent,
-    of: Option<Shared<OccType>>,
-) -> Result<Option<Shared<OccType>>, AllocError>
+    of: Option<KnownType>,
+) -> Result<Option<KnownType>, AllocError>
     ensures { IfOk result (λ array. array ≡ spec_spanned extent of) }
 {
     match of {
@@ -121,8 +116,8 @@ fn spanned(
 fn spanned_by(
     alloc: Global,
     extents: &[Extent],
-    of: Option<Shared<OccType>>,
-) -> Result<Option<Shared<OccType>>, AllocError>
+    of: Option<KnownType>,
+) -> Result<Option<KnownType>, AllocError>
     ensures { IfOk result (λ array. array ≡ spec_spanned_by extents.now of) }
 {
     match extents.split_first() {
@@ -136,7 +131,7 @@ fn spanned_by(
 
 /// The type, unless it is too large, which is reported.
 fn limited(
-    of: Option<Shared<OccType>>,
+    of: Option<KnownType>,
     faults: &mut Items<Fault>,
 ) -> Result<Option<Shared<OccType>>, AllocError>
     ensures found { IfOk result (λ found. found ≡ (spec_limited of).found) }
@@ -145,18 +140,18 @@ fn limited(
     let Some(of) = of else {
         return Ok(None);
     };
-    if is_too_large(of.get()) {
+    if of.is_too_large() {
         report(faults, Code::T9)?;
         return Ok(None);
     }
-    Ok(Some(of))
+    Ok(Some(of.into_type()))
 }
 
 /// A type with dimensions in front of it, if nothing is wrong with any: T9 is reported where it is too large.
 pub fn array_type(
     alloc: Global,
     extents: &[Extent],
-    of: Option<Shared<OccType>>,
+    of: Option<KnownType>,
     faults: &mut Items<Fault>,
 ) -> Result<Option<Shared<OccType>>, AllocError>
     ensures found { IfOk result (λ found. found ≡ (spec_limited (spec_spanned_by extents.now of)).found) }

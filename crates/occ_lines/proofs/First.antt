@@ -43,6 +43,9 @@ same_front a b x y e n =
     let end : x ≡ y = sym (drop_at a x (length b) n) ∙ ap (drop (length b)) e ∙ drop_at b y (length b) refl in
     (front, end)
 
+pub front_spelled : (text : List ℕ) (n : ℕ) → IsLongest is_lexeme text n → 0 < length (take n text) → is_lexeme (take n text) ≡ true
+front_spelled text n most some = most.passed (omega (arith, length-take n text, some))
+
 pub first_found : (text : List ℕ) (n : ℕ) (token : Token) → IsLongest is_lexeme text n → token_of (take n text) ≡ Some token → IsFirst text token (drop n text)
 first_found text n token most is =
     let size : length (take n text) ≡ n = omega (arith, length-take n text, most.within) in

@@ -10,3 +10,4 @@ pub mod Begun
 pub mod Cut
 pub mod Lists
 pub mod SameLines
+pub mod Words

@@ -197,6 +197,48 @@ pub is_lexeme_symbol : (bytes : List ℕ) → is_symbol bytes ≡ true → is_le
 unfolding is_lexeme
 is_lexeme_symbol bytes h = or_right (is_name bytes) _ (or_right (is_number bytes) _ (or_right (is_hexadecimal bytes) _ h))
 
+-- of a spelling the first bytes say which it is
+pub told_name : (bytes : List ℕ) → (0 < length bytes → is_lexeme bytes ≡ true) → starts_name bytes ≡ true → is_name bytes ≡ true
+told_name [] h s = absurd (false≢true s)
+told_name (b ∷ more) h s = elim (begins (b ∷ more) (h (omega arith))) [
+  | inl name ↦ and_from _ _ name.0 name.1
+  | inr rest ↦ elim rest [
+    | inl number ↦ let e = number_no_name (b ∷ more) number.0 in absurd cc
+    | inr last ↦ elim last [
+      | inl hexadecimal ↦ let e = (hexadecimal_marks (b ∷ more) hexadecimal.0).no_name in absurd cc
+      | inr symbol ↦ let e = (looks (b ∷ more) symbol).no_name in absurd cc
+    ]
+  ]
+]
+
+pub told_number : (bytes : List ℕ) → (0 < length bytes → is_lexeme bytes ≡ true) → starts_number bytes ≡ true → is_number bytes ≡ true
+told_number [] h s = absurd (false≢true s)
+told_number (b ∷ more) h s = elim (begins (b ∷ more) (h (omega arith))) [
+  | inl name ↦ let e = number_no_name (b ∷ more) s in let f = name.0 in absurd cc
+  | inr rest ↦ elim rest [
+    | inl number ↦ and_from _ _ number.0 number.1
+    | inr last ↦ elim last [
+      | inl hexadecimal ↦ let e = (hexadecimal_marks (b ∷ more) hexadecimal.0).no_number in absurd cc
+      | inr symbol ↦ let e = (looks (b ∷ more) symbol).no_number in absurd cc
+    ]
+  ]
+]
+
+pub told_hexadecimal : (bytes : List ℕ) → (0 < length bytes → is_lexeme bytes ≡ true) → starts_hexadecimal bytes ≡ true → is_hexadecimal bytes ≡ true
+told_hexadecimal [] h s = absurd (false≢true s)
+told_hexadecimal (b ∷ more) h s =
+    let marks = hexadecimal_marks (b ∷ more) s in
+    elim (begins (b ∷ more) (h (omega arith))) [
+      | inl name ↦ let e = marks.no_name in let f = name.0 in absurd cc
+      | inr rest ↦ elim rest [
+        | inl number ↦ let e = marks.no_number in let f = number.0 in absurd cc
+        | inr last ↦ elim last [
+          | inl hexadecimal ↦ and_from _ _ hexadecimal.0 hexadecimal.1
+          | inr symbol ↦ absurd (no_marked b more marks.mark symbol)
+        ]
+      ]
+    ]
+
 pub name_longest : (text : List ℕ) → starts_name text ≡ true → IsLongest is_lexeme text (prefix_len is_name_byte text)
 name_longest text starts = record {
   within = prefix_len-le-length is_name_byte text;

@@ -135,7 +135,8 @@ pub fn unit_name(alloc: Global, name: &[u8]) -> Result<Vec<u8>, AllocError>
 fn with_suffix(alloc: Global, name: &[u8], suffix: &[u8]) -> Result<Vec<u8>, AllocError>
     ensures { IfOk result (λ whole. whole.items ≡ spec_without_suffix name.now ++ suffix.now) }
 {
-    let mut whole = Vec::new(alloc);
+    let room = name.len().saturating_add(suffix.len());
+    let mut whole = Vec::with_capacity(alloc, room)?;
     whole.extend_from_slice(without_suffix(name))?;
     whole.extend_from_slice(suffix)?;
     Ok(whole)

@@ -1,10 +1,10 @@
 //! Single spellings: names, numbers and symbols.
-ghost use Rattle.std.specs.Prelude.{◌≡◌, ◌≤◌, ◌+◌, ◌*◌, ◌∷◌, [], SomeIff, drop, map, true};
-ghost use Rattle.std.specs.Char.{is_ascii_digit, is_ascii_hexdigit};
+ghost use Rattle.std.specs.Prelude.{◌≡◌, ◌≤◌, ◌+◌, ◌*◌, ◌∷◌, [], List, ℕ, SomeIff, drop, map, true};
+ghost use Rattle.std.specs.Char.{is_ascii_hexdigit};
 ghost use Rattle.std.specs.List.{list_all};
 ghost use Rattle.std.specs.Str.Parse.{digits_value};
 ghost use Rattle.occ_lines.specs.inside.Scan.{may_end_pair};
-ghost use Rattle.occ_lines.specs.Lexeme.{found_in, greatest, is_hexadecimal as spec_is_hexadecimal, is_name as spec_is_name, is_name_byte as spec_is_name_byte, is_number as spec_is_number, is_symbol as spec_is_symbol, reserved_row as spec_reserved_row, starts_hexadecimal as spec_starts_hexadecimal, starts_name as spec_starts_name, starts_number as spec_starts_number, symbol_row as spec_symbol_row};
+ghost use Rattle.occ_lines.specs.Lexeme.{found_in, greatest, is_name_byte as spec_is_name_byte, is_symbol as spec_is_symbol, reserved_row as spec_reserved_row, starts_hexadecimal as spec_starts_hexadecimal, starts_name as spec_starts_name, starts_number as spec_starts_number, symbol_row as spec_symbol_row};
 
 use super::quoted::digit_value;
 use super::token::{Symbol, Word};
@@ -21,77 +21,6 @@ const PAIRS: [(&[u8], Symbol); 10] = [
     (b">>", Symbol::ShiftRight),
     (b"/\\", Symbol::BitAnd),
     (b"\\/", Symbol::BitOr),
-];
-
-/// The reserved words, each with the word that it is.
-const RESERVED: [(&[u8], Word); 67] = [
-    (b"AFTER", Word::After),
-    (b"ALT", Word::Alt),
-    (b"AND", Word::And),
-    (b"ANY", Word::Any),
-    (b"ASM", Word::Asm),
-    (b"AT", Word::At),
-    (b"BITAND", Word::BitAnd),
-    (b"BITNOT", Word::BitNot),
-    (b"BITOR", Word::BitOr),
-    (b"BOOL", Word::Bool),
-    (b"BYTE", Word::Byte),
-    (b"BYTESIN", Word::BytesIn),
-    (b"CASE", Word::Case),
-    (b"CHAN", Word::Chan),
-    (b"DATA", Word::Data),
-    (b"ELSE", Word::Else),
-    (b"FALSE", Word::False),
-    (b"FOR", Word::For),
-    (b"FROM", Word::From),
-    (b"FUNCTION", Word::Function),
-    (b"GUY", Word::Guy),
-    (b"IF", Word::If),
-    (b"INLINE", Word::Inline),
-    (b"INT", Word::Int),
-    (b"INT16", Word::Int16),
-    (b"INT32", Word::Int32),
-    (b"INT64", Word::Int64),
-    (b"IS", Word::Is),
-    (b"MINUS", Word::Minus),
-    (b"MOSTNEG", Word::MostNeg),
-    (b"MOSTPOS", Word::MostPos),
-    (b"NOT", Word::Not),
-    (b"OF", Word::Of),
-    (b"OFFSETOF", Word::OffsetOf),
-    (b"OR", Word::Or),
-    (b"PACKED", Word::Packed),
-    (b"PAR", Word::Par),
-    (b"PLACE", Word::Place),
-    (b"PLACED", Word::Placed),
-    (b"PLUS", Word::Plus),
-    (b"PORT", Word::Port),
-    (b"PRI", Word::Pri),
-    (b"PROC", Word::Proc),
-    (b"PROCESSOR", Word::Processor),
-    (b"PROTOCOL", Word::Protocol),
-    (b"REAL32", Word::Real32),
-    (b"REAL64", Word::Real64),
-    (b"RECORD", Word::Record),
-    (b"REM", Word::Rem),
-    (b"RESHAPES", Word::Reshapes),
-    (b"RESULT", Word::Result),
-    (b"RETYPES", Word::Retypes),
-    (b"ROUND", Word::Round),
-    (b"SEQ", Word::Seq),
-    (b"SIZE", Word::Size),
-    (b"SKIP", Word::Skip),
-    (b"STOP", Word::Stop),
-    (b"TIMER", Word::Timer),
-    (b"TIMES", Word::Times),
-    (b"TRUE", Word::True),
-    (b"TRUNC", Word::Trunc),
-    (b"TYPE", Word::Type),
-    (b"VAL", Word::Val),
-    (b"VALOF", Word::ValOf),
-    (b"VECSPACE", Word::VecSpace),
-    (b"WHILE", Word::While),
-    (b"WORKSPACE", Word::Workspace),
 ];
 
 /// What stands in the table beside the spelling.
@@ -154,14 +83,111 @@ pub fn symbol_row(bytes: &[u8]) -> Option<Symbol>
     }
 }
 
-/// What the bytes are as a reserved word, if they are one. All of these begin with a capital letter.
+/// The reserved words that begin with a letter, each with the word that it is.
+#[tactic(auto, unfolding(crate::specs::Lexeme::reserved_row))]
+fn words_of(letter: u8) -> &'static [(&'static [u8], Word)]
+    ensures { (more : List ℕ) → found_in (map (λ row. (row.0.now, row.1)) result.now) (letter ∷ more) ≡ spec_reserved_row (letter ∷ more) }
+{
+    match letter {
+        b'A' => &[
+            (b"AFTER", Word::After),
+            (b"ALT", Word::Alt),
+            (b"AND", Word::And),
+            (b"ANY", Word::Any),
+            (b"ASM", Word::Asm),
+            (b"AT", Word::At),
+        ],
+        b'B' => &[
+            (b"BITAND", Word::BitAnd),
+            (b"BITNOT", Word::BitNot),
+            (b"BITOR", Word::BitOr),
+            (b"BOOL", Word::Bool),
+            (b"BYTE", Word::Byte),
+            (b"BYTESIN", Word::BytesIn),
+        ],
+        b'C' => &[(b"CASE", Word::Case), (b"CHAN", Word::Chan)],
+        b'D' => &[(b"DATA", Word::Data)],
+        b'E' => &[(b"ELSE", Word::Else)],
+        b'F' => &[
+            (b"FALSE", Word::False),
+            (b"FOR", Word::For),
+            (b"FROM", Word::From),
+            (b"FUNCTION", Word::Function),
+        ],
+        b'G' => &[(b"GUY", Word::Guy)],
+        b'I' => &[
+            (b"IF", Word::If),
+            (b"INLINE", Word::Inline),
+            (b"INT", Word::Int),
+            (b"INT16", Word::Int16),
+            (b"INT32", Word::Int32),
+            (b"INT64", Word::Int64),
+            (b"IS", Word::Is),
+        ],
+        b'M' => &[
+            (b"MINUS", Word::Minus),
+            (b"MOSTNEG", Word::MostNeg),
+            (b"MOSTPOS", Word::MostPos),
+        ],
+        b'N' => &[(b"NOT", Word::Not)],
+        b'O' => &[
+            (b"OF", Word::Of),
+            (b"OFFSETOF", Word::OffsetOf),
+            (b"OR", Word::Or),
+        ],
+        b'P' => &[
+            (b"PACKED", Word::Packed),
+            (b"PAR", Word::Par),
+            (b"PLACE", Word::Place),
+            (b"PLACED", Word::Placed),
+            (b"PLUS", Word::Plus),
+            (b"PORT", Word::Port),
+            (b"PRI", Word::Pri),
+            (b"PROC", Word::Proc),
+            (b"PROCESSOR", Word::Processor),
+            (b"PROTOCOL", Word::Protocol),
+        ],
+        b'R' => &[
+            (b"REAL32", Word::Real32),
+            (b"REAL64", Word::Real64),
+            (b"RECORD", Word::Record),
+            (b"REM", Word::Rem),
+            (b"RESHAPES", Word::Reshapes),
+            (b"RESULT", Word::Result),
+            (b"RETYPES", Word::Retypes),
+            (b"ROUND", Word::Round),
+        ],
+        b'S' => &[
+            (b"SEQ", Word::Seq),
+            (b"SIZE", Word::Size),
+            (b"SKIP", Word::Skip),
+            (b"STOP", Word::Stop),
+        ],
+        b'T' => &[
+            (b"TIMER", Word::Timer),
+            (b"TIMES", Word::Times),
+            (b"TRUE", Word::True),
+            (b"TRUNC", Word::Trunc),
+            (b"TYPE", Word::Type),
+        ],
+        b'V' => &[
+            (b"VAL", Word::Val),
+            (b"VALOF", Word::ValOf),
+            (b"VECSPACE", Word::VecSpace),
+        ],
+        b'W' => &[(b"WHILE", Word::While), (b"WORKSPACE", Word::Workspace)],
+        _ => &[],
+    }
+}
+
+/// What the bytes are as a reserved word, if they are one.
 #[tactic(auto, unfolding(crate::specs::Lexeme::reserved_row))]
 pub fn reserved_row(bytes: &[u8]) -> Option<Word>
     ensures { result ≡ spec_reserved_row bytes.now }
 {
     match bytes {
-        [first, ..] if first.is_ascii_uppercase() => found_in(&RESERVED, bytes),
-        _ => None,
+        [first, ..] => found_in(words_of(*first), bytes),
+        [] => None,
     }
 }
 
@@ -200,34 +226,6 @@ pub fn starts_number(text: &[u8]) -> bool
     }
 }
 
-/// Whether each byte may stand in a name.
-fn has_name_bytes(bytes: &[u8]) -> bool
-    ensures { result ≡ list_all spec_is_name_byte bytes.now }
-{
-    bytes.iter().all(|b| is_name_byte(*b))
-}
-
-/// Whether each byte is a digit.
-fn has_digits(bytes: &[u8]) -> bool
-    ensures { result ≡ list_all is_ascii_digit bytes.now }
-{
-    bytes.iter().all(|b| b.is_ascii_digit())
-}
-
-/// Whether the bytes are a name.
-pub fn is_name(bytes: &[u8]) -> bool
-    ensures { result ≡ spec_is_name bytes.now }
-{
-    starts_name(bytes) && has_name_bytes(bytes)
-}
-
-/// Whether the bytes are decimal digits.
-pub fn is_number(bytes: &[u8]) -> bool
-    ensures { result ≡ spec_is_number bytes.now }
-{
-    starts_number(bytes) && has_digits(bytes)
-}
-
 /// Whether a `#` and a hexadecimal digit stand first.
 pub fn starts_hexadecimal(text: &[u8]) -> bool
     ensures { result ≡ spec_starts_hexadecimal text.now }
@@ -238,13 +236,6 @@ pub fn starts_hexadecimal(text: &[u8]) -> bool
     }
 }
 
-/// Whether each byte is a hexadecimal digit.
-fn has_hexadecimal_digits(bytes: &[u8]) -> bool
-    ensures { result ≡ list_all is_ascii_hexdigit bytes.now }
-{
-    bytes.iter().all(|b| b.is_ascii_hexdigit())
-}
-
 /// What stands after the first byte.
 pub fn after_first(text: &[u8]) -> &[u8]
     ensures { result.now ≡ drop 1 text.now }
@@ -253,13 +244,6 @@ pub fn after_first(text: &[u8]) -> &[u8]
         [_, rest @ ..] => rest,
         [] => text,
     }
-}
-
-/// Whether the bytes are a `#` and hexadecimal digits.
-pub fn is_hexadecimal(bytes: &[u8]) -> bool
-    ensures { result ≡ spec_is_hexadecimal bytes.now }
-{
-    starts_hexadecimal(bytes) && has_hexadecimal_digits(after_first(bytes))
 }
 
 /// The number with one more digit after it, where a token holds it.

@@ -1,12 +1,12 @@
 //! The tokens of a line of the text.
 ghost use Rattle.std.specs.Prelude.{◌≡◌, ◌<◌, ◌∷◌, List, ℕ, IfErr, IfOk, length, true};
-ghost use Rattle.occ_lines.specs.Lexeme.{IsToken, Lexes, Stops, hexadecimal_token as spec_hexadecimal_token, is_hexadecimal as spec_is_hexadecimal, is_name as spec_is_name, is_number as spec_is_number, name_token as spec_name_token, number_token as spec_number_token, symbol_token as spec_symbol_token, token_of as spec_token_of};
+ghost use Rattle.occ_lines.specs.Lexeme.{IsToken, Lexes, Stops, hexadecimal_token as spec_hexadecimal_token, is_hexadecimal as spec_is_hexadecimal, is_lexeme, is_number as spec_is_number, name_token as spec_name_token, number_token as spec_number_token, symbol_token as spec_symbol_token, token_of as spec_token_of};
 ghost use Rattle.occ_lines.specs.inside.Scan.{IsRead};
 
 use super::blanks::{after_blanks, is_end};
 use super::ending::Ending;
 use super::lexeme::{
-    after_first, is_hexadecimal, is_name, is_number, reserved_row, symbol_row, value,
+    after_first, reserved_row, starts_hexadecimal, starts_name, starts_number, symbol_row, value,
 };
 use super::quoted::{following, gather, string_ending, unit};
 use super::scan::lexeme_len;
@@ -60,16 +60,17 @@ fn symbol_token(bytes: &[u8]) -> Option<Token>
     }
 }
 
-/// The token that the bytes are, if they are one.
-#[tactic(auto, unfolding(crate::specs::Lexeme::token_of))]
+/// The token that a spelling is, if it is one. Its first bytes say of which class it is.
+#[tactic(auto, using(crate::proofs::Longest::told_name, crate::proofs::Longest::told_number, crate::proofs::Longest::told_hexadecimal), unfolding(crate::specs::Lexeme::token_of))]
 fn token_of(alloc: Global, bytes: &[u8]) -> Result<Option<Token>, AllocError>
+    requires { 0 < length bytes.now → is_lexeme bytes.now ≡ true }
     ensures { IfOk result (λ found. found ≡ spec_token_of bytes.now) }
 {
-    if is_name(bytes) {
+    if starts_name(bytes) {
         Ok(Some(name_token(alloc, bytes)?))
-    } else if is_number(bytes) {
+    } else if starts_number(bytes) {
         Ok(number_token(bytes))
-    } else if is_hexadecimal(bytes) {
+    } else if starts_hexadecimal(bytes) {
         Ok(hexadecimal_token(bytes))
     } else {
         Ok(symbol_token(bytes))

@@ -67,7 +67,7 @@ pub fn all_facts(alloc: Global, project: &Project) -> Result<Vec<Shared<Facts>>,
     let mut all = Vec::new(alloc);
     let mut last = None;
     for (index, file) in project.files().iter().enumerate() {
-        let facts = facts_of(alloc, project, index, file.name, &mut last)?;
+        let facts = facts_of(alloc, project, index, file.get().name, &mut last)?;
         all.push(Shared::new(alloc, facts)?)?;
     }
     Ok(all)

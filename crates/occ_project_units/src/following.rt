@@ -14,7 +14,7 @@ use std::alloc::{AllocError, Global};
 
 /// What was known of the file of that name, if it stood at this index.
 fn known_at<'a>(
-    files: &[Read],
+    files: &[Shared<Read>],
     facts: &'a [Shared<Facts>],
     index: usize,
     name: FileName,
@@ -22,7 +22,7 @@ fn known_at<'a>(
     requires { facts.now ≡ all_facts files.now }
     ensures { IfSome (option_copied result) (λ known. known ≡ spec_facts_of files.now name) }
 {
-    if at(files, index)?.name != name {
+    if at(files, index)?.get().name != name {
         return None;
     }
     at(facts, index)
@@ -30,7 +30,7 @@ fn known_at<'a>(
 
 /// What was known of the file of that name, if it stood at this index or at the one before it.
 fn known_near<'a>(
-    files: &[Read],
+    files: &[Shared<Read>],
     facts: &'a [Shared<Facts>],
     index: usize,
     name: FileName,
@@ -46,7 +46,7 @@ fn known_near<'a>(
 
 /// The same, if the file does not read the one that is edited.
 fn still_known<'a>(
-    files: &[Read],
+    files: &[Shared<Read>],
     facts: &'a [Shared<Facts>],
     index: usize,
     name: FileName,
@@ -84,7 +84,7 @@ fn facts_now(
 /// What is known of each file after the edit of one. Only those that read it are expanded anew.
 pub fn all_facts_after(
     alloc: Global,
-    files: &[Read],
+    files: &[Shared<Read>],
     facts: &[Shared<Facts>],
     project: &Project,
     edited: FileName,
@@ -96,8 +96,9 @@ pub fn all_facts_after(
     let mut all = Vec::new(alloc);
     let mut last = None;
     for (index, file) in project.files().iter().enumerate() {
-        let known = still_known(files, facts, index, file.name, edited);
-        all.push(facts_now(alloc, project, index, file.name, known, &mut last)?)?;
+        let name = file.get().name;
+        let known = still_known(files, facts, index, name, edited);
+        all.push(facts_now(alloc, project, index, name, known, &mut last)?)?;
     }
     Ok(all)
 }

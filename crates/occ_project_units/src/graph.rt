@@ -292,7 +292,7 @@ impl Graph {
         ensures err { OnErr result (self.new ≡ self.old) }
     {
         let mut project = self.project.share(alloc)?;
-        project.set(name, revision, source)?;
+        project.set(alloc, name, revision, source)?;
         let facts = all_facts_after(
             alloc,
             self.project.files(),
@@ -551,7 +551,7 @@ impl Graph {
             return Ok(false);
         }
         let _files = self.project.files();
-        let again = share(file)?;
+        let again = Shared::new(alloc, share(file)?)?;
         self.lacking = None;
         let alike = renew(
             alloc,

@@ -199,7 +199,7 @@ pub fn add_used_file(
     ensures links { OnOk result (links.new ≡ graph_of project.new) }
     ensures err { OnErr result (project.new ≡ project.old × (facts.new.items ≡ facts.old.items × links.new ≡ links.old)) }
 {
-    project.insert(at, file)?;
+    project.insert(alloc, at, file)?;
     match add_known(alloc, project, facts, links, at, marks) {
         Ok(()) => Ok(()),
         Err(refused) => {

@@ -18,7 +18,8 @@ use std::marker::Model;
 
 /// Files in order of name, each with the number of the edit that gave it its text or took it away.
 pub struct Project {
-    files: Vec<Read>,
+    /// Each file is shared, so that little is moved where one comes between others.
+    files: Vec<Shared<Read>>,
 }
 
 /// Written out: crates above call it, where each would prove a derived one anew.
@@ -64,12 +65,12 @@ pub fn share(file: &Read) -> Result<Read, AllocError>
 }
 
 /// The same files.
-fn share_all(alloc: Global, files: &[Read]) -> Result<Vec<Read>, AllocError>
+fn share_all(alloc: Global, files: &[Shared<Read>]) -> Result<Vec<Shared<Read>>, AllocError>
     ensures { IfOk result (λ shared. shared.items ≡ files.now) }
 {
-    let mut shared = Vec::new(alloc);
+    let mut shared = Vec::with_capacity(alloc, files.len())?;
     for file in files {
-        shared.push(share(file)?)?;
+        shared.push(file.share()?)?;
     }
     Ok(shared)
 }
@@ -85,7 +86,7 @@ impl Project {
     }
 
     /// Its files, in order of name.
-    pub fn files(&self) -> &[Read]
+    pub fn files(&self) -> &[Shared<Read>]
         ensures files { result.now ≡ self.now }
         ensures in_order { IsProject self.now }
     {
@@ -96,7 +97,8 @@ impl Project {
     fn find(&self, name: FileName) -> Result<usize, usize>
         ensures { MatchResult result (λ at. spec_index name self.now ≡ Some at) (λ at. IsGap name self.now at) }
     {
-        self.files.binary_search_by(|file| file.name.cmp(&name))
+        self.files
+            .binary_search_by(|file| file.get().name.cmp(&name))
     }
 
     /// The place of the file of that name.
@@ -119,7 +121,7 @@ impl Project {
         ensures { IsTrue result → spec_index name self.now ≡ Some index }
     {
         match at(self.files.as_slice(), index) {
-            Some(file) => file.name == name,
+            Some(file) => file.get().name == name,
             None => false,
         }
     }
@@ -139,7 +141,7 @@ impl Project {
             return true;
         }
         match at(self.files.as_slice(), index - 1) {
-            Some(file) => file.name.cmp(&name).is_lt(),
+            Some(file) => file.get().name.cmp(&name).is_lt(),
             None => false,
         }
     }
@@ -149,7 +151,7 @@ impl Project {
         ensures { IsTrue result → (k : ℕ) (d : ARead) → index ≤ k → k < length self.now → name_cmp (get_or self.now k d).name name ≡ Greater }
     {
         match at(self.files.as_slice(), index) {
-            Some(file) => file.name.cmp(&name).is_gt(),
+            Some(file) => file.get().name.cmp(&name).is_gt(),
             None => true,
         }
     }
@@ -171,6 +173,7 @@ impl Project {
     /// Gives the file of that name this text, or takes it away, by the edit of that number.
     pub fn set(
         &mut self,
+        alloc: Global,
         name: FileName,
         revision: u32,
         source: Option<Shared<Source>>,
@@ -183,6 +186,7 @@ impl Project {
             revision,
             source,
         };
+        let file = Shared::new(alloc, file)?;
         match self.find(name) {
             Ok(at) => {
                 self.files[at] = file;
@@ -203,11 +207,12 @@ impl Project {
     }
 
     /// Puts a file of a new name where it stands from then on.
-    pub(crate) fn insert(&mut self, at: usize, file: Read) -> Result<(), AllocError>
+    pub(crate) fn insert(&mut self, alloc: Global, at: usize, file: Read) -> Result<(), AllocError>
         requires { IsGap file.name self.old at }
         ensures ok { OnOk result (self.new ≡ put self.old file) }
         ensures err { OnErr result (self.new ≡ self.old) }
     {
+        let file = Shared::new(alloc, file)?;
         Ok(self.files.insert(at, file)?)
     }
 
@@ -225,11 +230,11 @@ impl Project {
         requires { index < length self.now }
         ensures { result ≡ spec_name_at self.now index }
     {
-        self.files[index].name
+        self.files[index].get().name
     }
 
     /// Puts a file in the place of the one of its name.
-    pub(crate) fn replace(&mut self, index: usize, file: Read)
+    pub(crate) fn replace(&mut self, index: usize, file: Shared<Read>)
         requires { spec_index file.name self.old ≡ Some index }
         ensures { self.new ≡ put self.old file }
     {
@@ -237,7 +242,7 @@ impl Project {
     }
 
     /// The file of that name, which is looked for at an index first.
-    fn file_near(&self, hint: usize, name: FileName) -> Option<&Read>
+    fn file_near(&self, hint: usize, name: FileName) -> Option<&Shared<Read>>
         ensures { option_copied result ≡ member self.now name }
     {
         match self.index_near(hint, name) {
@@ -251,7 +256,7 @@ impl Project {
         ensures { (name : List ℕ) → spec_index name self.now ≡ Some index → result ≡ is_some (file_of self.now name).source }
     {
         match at(self.files.as_slice(), index) {
-            Some(file) => file.source.is_some(),
+            Some(file) => file.get().source.is_some(),
             None => false,
         }
     }
@@ -268,7 +273,7 @@ impl Project {
         ensures { option_copied result ≡ (file_of self.now name).source }
     {
         match self.file_near(hint, name) {
-            Some(file) => file.source.as_ref(),
+            Some(file) => file.get().source.as_ref(),
             None => None,
         }
     }
@@ -285,7 +290,7 @@ impl Project {
         ensures { result ≡ (file_of self.now name).revision }
     {
         match self.file_near(hint, name) {
-            Some(file) => file.revision,
+            Some(file) => file.get().revision,
             None => 0,
         }
     }
@@ -295,12 +300,34 @@ impl Project {
         ensures { IfOk result (λ read. read ≡ file_of self.now name) }
     {
         match self.file_near(hint, name) {
-            Some(file) => share(file),
+            Some(file) => share(file.get()),
             None => Ok(Read {
                 name,
                 revision: 0,
                 source: None,
             }),
+        }
+    }
+
+    /// The same, which is shared.
+    pub(crate) fn shared_near(
+        &self,
+        alloc: Global,
+        hint: usize,
+        name: FileName,
+    ) -> Result<Shared<Read>, AllocError>
+        ensures { IfOk result (λ shared. shared ≡ file_of self.now name) }
+    {
+        match self.file_near(hint, name) {
+            Some(file) => file.share(),
+            None => Shared::new(
+                alloc,
+                Read {
+                    name,
+                    revision: 0,
+                    source: None,
+                },
+            ),
         }
     }
 

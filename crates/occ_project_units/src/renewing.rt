@@ -135,7 +135,7 @@ pub fn renew(
     facts: &mut Vec<Shared<Facts>>,
     index: usize,
     readers: &[usize],
-    file: Read,
+    file: Shared<Read>,
 ) -> Result<bool, AllocError>
     requires project { IsProject project.old }
     requires index { spec_index file.name project.old ≡ Some index }
@@ -146,8 +146,8 @@ pub fn renew(
     ensures err { OnErr result (project.new ≡ project.old × facts.new.items ≡ facts.old.items) }
 {
     sources_law();
-    let before = project.read_near(index, file.name)?;
-    if before.is_alike(&file) {
+    let before = project.shared_near(alloc, index, file.get().name)?;
+    if before.get().is_alike(file.get()) {
         project.replace(index, file);
         return Ok(true);
     }

@@ -81,6 +81,11 @@ tag_place Data tag = None
 tag_place (Sequence items) tag = None
 tag_place (Variant tags) tag = place_named tags tag
 
+-- and that of the tag of a message, if it has one
+abbrev pub place_after : Carrier → Option (List ℕ) → Option ℕ
+place_after c None = None
+place_after c (Some tag) = tag_place c tag
+
 abbrev pub is_timer : Carrier → Bool
 is_timer Hidden = false
 is_timer Nothing = false

@@ -6,6 +6,7 @@ mod carrier;
 mod given;
 mod line;
 mod matching;
+mod message;
 pub mod rows;
 mod want;
 
@@ -13,4 +14,5 @@ pub use given::{Given, Shape, Want, Wanted};
 pub use line::{
     alternative, awaited, cased, exchanged, is_timer, lacks, received, tag_place, takes_tag,
 };
-pub use want::wants;
+pub use matching::report_named;
+pub use message::Message;

@@ -118,7 +118,11 @@ fn any_has_fault(given: &[Given]) -> bool
 }
 
 /// A code is reported with a name.
-pub(super) fn report_named(
+///
+/// # Errors
+///
+/// Where memory is refused.
+pub fn report_named(
     alloc: Global,
     code: Code,
     name: &Name,

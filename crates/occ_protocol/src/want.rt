@@ -2,17 +2,13 @@
 #![tactic(auto, using(crate::proofs::Meeting::wanting_rules))]
 
 ghost use Rattle.std.specs.Prelude.{◌≡◌, IfOk, map};
-ghost use Rattle.occ_protocol.specs.Carrying.{carrier as spec_carrier, name_seen};
-ghost use Rattle.occ_protocol.specs.Matching.{asked as spec_asked};
 ghost use Rattle.occ_protocol.specs.Wanting.{counted_wanted, each_wanted as spec_each_wanted, hidden as spec_hidden, nothing as spec_nothing, wanted_against as spec_wanted_against, wanted_for as spec_wanted_for, wants as spec_wants};
 ghost use Rattle.occ_protocol.specs.inside.Seen.{asked_seen};
 
-use super::asked::{Asked, asked_of};
-use super::carrier::carrier_of;
+use super::asked::Asked;
 use super::given::{Shape, Want, Wanted};
-use occ_base::{Items, Name, Shared};
+use occ_base::{Items, Shared};
 use occ_types::{Item, OccType, Primitive};
-use occ_typing_operands::Kind;
 use std::alloc::{AllocError, Global};
 
 /// A fault hides what is wanted of an item.
@@ -105,7 +101,12 @@ fn wanted_against(
     all_nothing(alloc, shapes)
 }
 
-fn wanted_by(alloc: Global, asked: Asked<'_>, shapes: &[Shape]) -> Result<Items<Wanted>, AllocError>
+/// What is wanted of items of these shapes that are compared with this.
+pub(super) fn wanted_by(
+    alloc: Global,
+    asked: Asked<'_>,
+    shapes: &[Shape],
+) -> Result<Items<Wanted>, AllocError>
     ensures { IfOk result (λ wanted. wanted ≡ spec_wants (asked_seen asked.entry) shapes.now) }
 {
     match asked {
@@ -113,22 +114,4 @@ fn wanted_by(alloc: Global, asked: Asked<'_>, shapes: &[Shape]) -> Result<Items<
         Asked::AnyData => all_nothing(alloc, shapes),
         Asked::These(items) => wanted_against(alloc, items, shapes),
     }
-}
-
-/// What is wanted of each item of an output through `channel`, after a tag or after none: of items of these shapes,
-/// one by one. An item of which something is wanted takes the type if it can (a free one and a table do); that it is then
-/// of another type is reported by `exchanged`, as P1.
-///
-/// # Errors
-///
-/// Where memory is refused.
-pub fn wants(
-    alloc: Global,
-    channel: &Kind,
-    tag: Option<&Name>,
-    shapes: &[Shape],
-) -> Result<Items<Wanted>, AllocError>
-    ensures { IfOk result (λ wanted. wanted ≡ spec_wants (spec_asked (spec_carrier channel.now) (name_seen tag.entry)) shapes.now) }
-{
-    wanted_by(alloc, asked_of(carrier_of(channel), tag), shapes)
 }

@@ -1,5 +1,6 @@
 -- No two short names have one number, so that what is put by number is put by name.
 use Rattle.std.proofs.Common.{◌≡◌, ◌≤◌, ◌<◌, ◌-◌, ℕ, zero, suc, Bool, true, false, ◌&&◌, cond, List, [], ◌∷◌, ◌++◌, length, drop, replicate, Option, Some, None, refl, arith, ap, sym, subst, ◌∙◌, bytes_eq, nat_eq, nat_le, get_or, append_assoc, length-append}
+use Rattle.std.proofs.lemmas.Bool.{and_parts}
 use Rattle.std.proofs.lemmas.Bool.Decides.{nat_tests}
 use Rattle.std.proofs.lemmas.List.{length-replicate}
 use Rattle.std.proofs.lemmas.Map.Lookups.{exact_bytes}
@@ -10,23 +11,14 @@ use Rattle.std.specs.Int.{from_be_bytes, w128}
 use Rattle.std.specs.List.{list_all}
 use Rattle.std.specs.Ordering.{nat_cmp, is_eq}
 use Rattle.occ_base.proofs.Digits.{is_number, same}
+use Rattle.occ_base.proofs.Numbers.{digits_are, filled_long}
+use Rattle.occ_base.specs.Numbers.{digits, is_byte, is_short, number_of}
 use Rattle.occ_scope.proofs.Stacked.{equal}
 use Rattle.occ_scope.specs.Nearest.{is_same_name}
 use Rattle.occ_scope.specs.declared.places.Places.{Places}
-use Rattle.occ_scope.specs.inside.Places.{Puts, digits, held_by, is_byte, is_short, number_of}
+use Rattle.occ_scope.specs.inside.Places.{Puts, held_by}
 
 -- ---- the digits
-
-front_zeros : (n k : ℕ) (l : List ℕ) → n ≤ k → drop n (replicate k 0 ++ l) ≡ replicate (k - n) 0 ++ l
-front_zeros zero k l h = let e : k - 0 ≡ k = omega arith in rw e refl
-front_zeros (suc n) zero l h = absurd (omega (arith, h))
-front_zeros (suc n) (suc k) l h = let e : suc k - suc n ≡ k - n = omega arith in rw e (front_zeros n k l (omega (arith, h)))
-
-digits_are : (n : List ℕ) → length n ≤ 15 → digits n ≡ (n ++ replicate (15 - length n) 0) ++ length n ∷ []
-digits_are n h = ap (λ (l : List ℕ). n ++ l) (front_zeros (length n) 15 (length n ∷ []) h) ∙ sym (append_assoc n (replicate (15 - length n) 0) (length n ∷ []))
-
-filled_long : (n : List ℕ) → length n ≤ 15 → length (n ++ replicate (15 - length n) 0) ≡ 15
-filled_long n h = omega (arith, length-append n (replicate (15 - length n) 0), length-replicate {A = ℕ} (15 - length n) 0, h)
 
 pub digits_long : (n : List ℕ) → length n ≤ 15 → length (digits n) ≡ 16
 digits_long n h = ap length (digits_are n h) ∙ omega (arith, length-append (n ++ replicate (15 - length n) 0) (length n ∷ []), filled_long n h)
@@ -54,11 +46,6 @@ injective a b h k e =
     (parts a b _ _ (ap head_of p.1) p.0).0
 
 -- ---- they are bytes
-
-and_parts : (a b : Bool) → (a && b) ≡ true → (a ≡ true) × (b ≡ true)
-and_parts true true h = (refl, refl)
-and_parts true false h = absurd cc
-and_parts false b h = absurd cc
 
 is_below : (x : ℕ) → is_byte x ≡ true → x < 256
 is_below x h = grind (arith, nat_tests, h)
@@ -89,20 +76,10 @@ short_parts n h =
     let p = and_parts (nat_le (length n) 15) (list_all is_byte n) h in
     (grind (arith, nat_tests, p.0), p.1)
 
-bytes_all : (xs : List ℕ) → ((i : ℕ) → get_or xs i 0 < 256) → list_all is_byte xs ≡ true
-bytes_all [] h = refl
-bytes_all (x ∷ xs) h = let e : is_byte x ≡ true = grind (arith, nat_tests, h 0) in rw e (bytes_all xs (λ i. h (suc i)))
-
 -- ---- the numbers
 
 abbrev number : List ℕ → ℕ
 number n = from_be_bytes w128 (digits n)
-
-pub number_is : (n : List ℕ) → length n ≤ 15 → ((i : ℕ) → get_or n i 0 < 256) → number_of n ≡ Some (number n)
-number_is n h b =
-    let l : nat_le (length n) 15 ≡ true = grind (arith, nat_tests, h) in
-    let s : is_short n ≡ true = rw l (bytes_all n b) in
-    ap (λ (c : Bool). cond c (Some (number n)) None) s
 
 agree : (b c : Bool) → (b ≡ true → c ≡ true) → (c ≡ true → b ≡ true) → b ≡ c
 agree true c f g = sym (f refl)

@@ -6,7 +6,7 @@ ghost use Rattle.occ_scope.specs.Visible.{visible};
 use super::meaning::{Meaning, Whole};
 use super::scope::Scope;
 use occ_base::{Code, Fault, Items, Name, Shared};
-use occ_types::{OccType, Protocol};
+use occ_types::{KnownType, OccType, Protocol};
 use std::alloc::{AllocError, Global};
 
 /// What a channel carries whose type names it.
@@ -62,7 +62,7 @@ pub fn data_type(
     scope: &Scope,
     name: &Name,
     faults: &mut Items<Fault>,
-) -> Result<Option<Shared<OccType>>, AllocError>
+) -> Result<Option<KnownType>, AllocError>
     ensures found { IfOk result (λ found. found ≡ (spec_data_type name.now (visible scope.now name.now)).found) }
     ensures faults { OnOk result (faults.new ≡ faults.old ++ (spec_data_type name.now (visible scope.now name.now)).faults) }
 {
@@ -86,7 +86,7 @@ pub fn carries(
     ensures faults { OnOk result (faults.new ≡ faults.old ++ (spec_carries name.now (visible scope.now name.now)).faults) }
 {
     match scope.find(name) {
-        Some(Meaning::Type(Some(of))) => Ok(Some(Carried::Values(of.share()?))),
+        Some(Meaning::Type(Some(of))) => Ok(Some(Carried::Values(of.of().share()?))),
         Some(Meaning::Protocol(protocol)) => Ok(Some(Carried::Protocol(protocol.share()?))),
         _ => {
             report(alloc, scope, name, faults)?;

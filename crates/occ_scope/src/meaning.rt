@@ -3,7 +3,7 @@ ghost use Rattle.std.specs.Prelude.{◌≡◌, [], ◌∷◌, IfOk};
 
 use super::scopes::SpecId;
 use occ_base::{Items, Name, Shared, one_item};
-use occ_types::{Formal, OccType, Protocol, Value};
+use occ_types::{Formal, KnownType, OccType, Protocol, Value};
 use std::alloc::{AllocError, Global};
 
 /// Whether something may be written through a name.
@@ -36,7 +36,7 @@ pub enum Meaning {
     Faulty,
     /// A data type: none, where the line that specifies it has a fault. Of such a name too nothing is reported, but what
     /// stands after it is converted.
-    Type(Option<Shared<OccType>>),
+    Type(Option<KnownType>),
     Protocol(Shared<Protocol>),
     /// A procedure with these formals.
     Procedure(Shared<Items<Formal>>),

@@ -2,8 +2,8 @@
 ghost use Rattle.std.specs.BTreeMap.{get as map_get};
 ghost use Rattle.std.specs.Cmp.Lexicographic.{slice_cmp};
 ghost use Rattle.std.specs.Ordering.{is_eq, nat_cmp};
-ghost use Rattle.std.specs.Prelude.{IfOk, IsSome, OnErr, OnOk, Some, None, cond, length, ℕ, List, ◌≡◌, ◌≤◌};
-ghost use Rattle.occ_scope.specs.inside.Places.{AreSame, HoldsNone, Puts, Restores, digits as spec_digits, number_of, place_held};
+ghost use Rattle.std.specs.Prelude.{IfOk, IsSome, OnErr, OnOk, Some, None, cond, ℕ, List, ◌≡◌};
+ghost use Rattle.occ_scope.specs.inside.Places.{AreSame, HoldsNone, Puts, Restores, place_held};
 
 use occ_base::Name;
 use std::alloc::{AllocError, Global};
@@ -33,7 +33,7 @@ impl Places {
     pub(crate) fn get(&self, name: &Name) -> Option<usize>
         ensures { result ≡ place_held self.now name.now }
     {
-        match number(name.as_bytes()) {
+        match name.number() {
             Some(number) => self.short.get(&number).copied(),
             None => self.long.get(name).copied(),
         }
@@ -50,7 +50,7 @@ impl Places {
         ensures ok { OnOk result (Puts self.old self.new name.now (Some place)) }
         ensures err { OnErr result (AreSame self.old self.new) }
     {
-        let hidden = match number(name.as_bytes()) {
+        let hidden = match name.number() {
             Some(number) => self.short.insert(number, place)?,
             None => {
                 let key = name.copied(alloc)?;
@@ -68,7 +68,7 @@ impl Places {
         let Some(place) = hidden else {
             return;
         };
-        match number(name.as_bytes()) {
+        match name.number() {
             Some(number) => write_short(&mut self.short, number, place),
             None => write_long(&mut self.long, name, place),
         }
@@ -93,26 +93,4 @@ fn write_long(long: &mut BTreeMap<Name, usize>, name: &Name, place: usize)
     if let Some(held) = long.get_mut(name) {
         *held = place;
     }
-}
-
-/// The number of a name of at most 15 bytes. No two names have one number.
-fn number(name: &[u8]) -> Option<u128>
-    ensures { result ≡ number_of name.now }
-{
-    if name.len() > 15 {
-        return None;
-    }
-    Some(u128::from_be_bytes(digits(name)))
-}
-
-/// The bytes of a name in front of zeros, and last how many they are.
-fn digits(name: &[u8]) -> [u8; 16]
-    requires { length name.now ≤ 15 }
-    ensures { result ≡ spec_digits name.now }
-{
-    let mut all = [0; 16];
-    all[15] = name.len() as u8;
-    let (front, _) = all.split_at_mut(name.len());
-    front.copy_from_slice(name);
-    all
 }

@@ -72,7 +72,7 @@ impl<T: Drop> Stack<T> {
         ensures { IfOk result (λ items. items ≡ self) }
     {
         let mut stack = self;
-        let mut items = Items::new(alloc);
+        let mut items = Items::from_vec(Vec::with_capacity(alloc, stack.items.len())?);
         while let Some(top) = stack.pop() {
             items.push(top)?;
         }

@@ -5,3 +5,5 @@ pub mod Interface
 pub mod View
 pub mod Fits
 pub mod Unknown
+pub mod Large
+pub mod inside

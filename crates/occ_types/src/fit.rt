@@ -102,7 +102,7 @@ fn field_fits(a: &Field, b: &Field) -> bool
 fn tag_fits(a: &Tag, b: &Tag) -> bool
     ensures { result ≡ spec_tag_fits a.now b.now }
 {
-    a.name == b.name
+    a.name.name() == b.name.name()
         && (is_faulty_tag(a)
             || is_faulty_tag(b)
             || items_fit(a.items.as_slice(), b.items.as_slice()))

@@ -5,12 +5,14 @@ mod comparison;
 mod constant;
 mod fit;
 mod interface;
+mod known_type;
 mod literal;
 mod measure;
 mod range;
 pub mod rows;
 mod same;
 mod size;
+mod tag_name;
 pub mod type_rows;
 mod types;
 mod unknown;
@@ -26,10 +28,12 @@ pub use interface::{
     Effect, Export, ExportKind, Formal, FormalUse, Interface, Interval, Mark, PartSelector,
     Passing, Places, UseKind,
 };
+pub use known_type::{KnownType, is_too_large};
 pub use literal::{value_of_number, value_of_pattern};
 pub use measure::{Measure, measure_of, measure_protocol};
 pub use same::{same_protocol, same_type};
 pub use size::{bytes_of, is_oversized};
+pub use tag_name::{SoughtTag, TagName};
 pub use types::{Field, Item, OccType, Packing, Protocol, Tag};
 pub use unknown::holds_unknown;
 pub use value::{Primitive, Value};

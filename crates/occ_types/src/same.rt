@@ -70,7 +70,7 @@ fn same_item(a: &Item, b: &Item) -> bool
 fn same_tag(a: &Tag, b: &Tag) -> bool
     ensures { IsTrue result ↔ (a.now ≡ b.now) }
 {
-    a.name == b.name && same_items(a.items.as_slice(), b.items.as_slice())
+    a.name.name() == b.name.name() && same_items(a.items.as_slice(), b.items.as_slice())
 }
 
 #[cycle(same)]

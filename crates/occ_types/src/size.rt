@@ -36,7 +36,7 @@ fn within(extent: Option<u64>) -> Option<u32>
 
 /// The bytes of a type, or 2,147,483,648 where they are more. A name of a primitive type takes no call.
 #[cycle(extent)]
-fn extent(of: &OccType) -> Option<u64>
+pub(super) fn extent(of: &OccType) -> Option<u64>
     ensures value { result ≡ capped (size_of of.now) }
     ensures most { IfSome result (λ bytes. bytes ≤ 2147483648) }
 {
@@ -67,7 +67,7 @@ fn fields_extent(fields: &[Field]) -> Option<u64>
 }
 
 /// So many elements of one extent.
-fn array_extent(dimension: Option<u32>, inner: Option<u64>) -> Option<u64>
+pub(super) fn array_extent(dimension: Option<u32>, inner: Option<u64>) -> Option<u64>
     requires { IfSome inner (λ bytes. bytes ≤ 2147483648) }
     ensures value { result ≡ capped (product_of dimension inner) }
     ensures most { IfSome result (λ bytes. bytes ≤ 2147483648) }

@@ -1,4 +1,5 @@
 //! Types and protocols, with every name resolved to its definition. Parts are shared.
+use super::tag_name::TagName;
 use super::value::Primitive;
 use occ_base::{Items, Name, Shared};
 
@@ -59,6 +60,6 @@ pub enum Item {
 #[cycle(types)]
 #[derive(Drop)]
 pub struct Tag {
-    pub name: Name,
+    pub name: TagName,
     pub items: Items<Item>,
 }

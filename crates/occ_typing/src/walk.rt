@@ -304,7 +304,7 @@ pub fn lines_kept(
 {
     let outer = scope.len();
     let mut parent = parent;
-    let mut typed = Items::new(alloc);
+    let mut typed = Items::from_vec(Vec::with_capacity(alloc, nodes.len())?);
     for node in nodes {
         parent = line(
             alloc, imports, node, parent, outer, scope, &mut typed, found,

@@ -19,11 +19,11 @@ use occ_forms::{Construct, ConstructKind, Replicator};
 use occ_forms_expressions::{Element, Expr};
 use occ_scope::Scope;
 use occ_typing_operands::Kind;
+use occ_typing_rules::OptionNumbers;
 use occ_typing_statements::{
     Replicating, ReplicatorLine, case_input, condition, replicator, selector,
 };
 use std::alloc::{AllocError, Global};
-use std::collections::BTreeSet;
 
 /// What a construct says of the lines under it.
 fn role_of(word: ConstructKind) -> Role
@@ -107,7 +107,7 @@ fn choosing(alloc: Global, selector: Kind) -> Result<Role, AllocError>
 {
     let choosing = Choosing {
         selector,
-        numbers: BTreeSet::new(alloc),
+        numbers: OptionNumbers::new(alloc),
         otherwise: false,
     };
     Ok(Role::Selection(Boxed::new(alloc, choosing)?))

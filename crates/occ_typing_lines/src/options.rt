@@ -11,16 +11,15 @@ ghost use Rattle.occ_typing_statements.specs.StatementTrees.{options_trees as sp
 ghost use Rattle.occ_typing_statements.specs.Statements.{options as spec_options, said};
 
 use occ_base::{Fault, Items, Shared};
-use occ_expr_operations::Readings;
 use occ_forms::Form;
 use occ_forms_expressions::{Expr, Literal, Operand};
 use occ_scope::Scope;
 use occ_types::OccType;
-use occ_typing_operands::Kind;
-use occ_typing_rules::{TypedExpr, options as choose};
+use occ_typing_operands::{Kind, UntypedConstant};
+use occ_typing_rules::{OptionNumbers, TypedExpr, options as choose};
 use occ_typing_statements::options;
+use occ_typing_tables::Term;
 use std::alloc::{AllocError, Global};
-use std::collections::BTreeSet;
 use std::marker::Model;
 
 /// How typed options are kept.
@@ -65,44 +64,45 @@ fn decimal(expr: &Expr) -> Option<u64>
     }
 }
 
-/// Adds what is read of an expression, if it is a literal in decimal digits alone.
-fn push_decimal(expr: &Expr, readings: &mut Readings) -> Result<bool, AllocError>
+/// Adds the term of an expression, if it is a literal in decimal digits alone.
+fn push_decimal(expr: &Expr, terms: &mut Items<Term>) -> Result<bool, AllocError>
     ensures decimals { IfOk result (λ pushed. IsTrue pushed → AreDecimals (expr.now ∷ [])) }
-    ensures terms { IfOk result (λ pushed. IsTrue pushed → (s : Scope) → readings.new.terms ≡ readings.old.terms ++ spec_terms (said s (expr.now ∷ []))) }
+    ensures terms { IfOk result (λ pushed. IsTrue pushed → (s : Scope) → terms.new ≡ terms.old ++ spec_terms (said s (expr.now ∷ []))) }
 {
     let Some(n) = decimal(expr) else {
         return Ok(false);
     };
-    readings.push_decimal(n)?;
+    let constant = UntypedConstant::decimal(n);
+    terms.push(Term::Single(Kind::Untyped(constant)))?;
     Ok(true)
 }
 
-/// Adds what is read of expressions, if each is a literal in decimal digits alone.
-fn push_decimals(exprs: &[Expr], readings: &mut Readings) -> Result<bool, AllocError>
+/// Adds the terms of expressions, if each is a literal in decimal digits alone.
+fn push_decimals(exprs: &[Expr], terms: &mut Items<Term>) -> Result<bool, AllocError>
     ensures decimals { IfOk result (λ pushed. IsTrue pushed → AreDecimals exprs.now) }
-    ensures terms { IfOk result (λ pushed. IsTrue pushed → (s : Scope) → readings.new.terms ≡ readings.old.terms ++ spec_terms (said s exprs.now)) }
+    ensures terms { IfOk result (λ pushed. IsTrue pushed → (s : Scope) → terms.new ≡ terms.old ++ spec_terms (said s exprs.now)) }
 {
     for expr in exprs {
-        if !push_decimal(expr, readings)? {
+        if !push_decimal(expr, terms)? {
             return Ok(false);
         }
     }
     Ok(true)
 }
 
-/// What is read of options, if each is a literal in decimal digits alone.
-fn decimals(alloc: Global, first: &Expr, more: &[Expr]) -> Result<Option<Readings>, AllocError>
-    ensures decimals { IfOk result (λ found. IfSome found (λ readings. AreDecimals (first.now ∷ more.now))) }
-    ensures terms { IfOk result (λ found. IfSome found (λ readings. (s : Scope) → readings.terms ≡ spec_terms (said s (first.now ∷ more.now)))) }
+/// The terms of options, if each is a literal in decimal digits alone.
+fn decimals(alloc: Global, first: &Expr, more: &[Expr]) -> Result<Option<Items<Term>>, AllocError>
+    ensures decimals { IfOk result (λ found. IfSome found (λ terms. AreDecimals (first.now ∷ more.now))) }
+    ensures terms { IfOk result (λ found. IfSome found (λ terms. (s : Scope) → terms ≡ spec_terms (said s (first.now ∷ more.now)))) }
 {
-    let mut readings = Readings::new(alloc);
-    if !push_decimal(first, &mut readings)? {
+    let mut terms = Items::new(alloc);
+    if !push_decimal(first, &mut terms)? {
         return Ok(None);
     }
-    if !push_decimals(more, &mut readings)? {
+    if !push_decimals(more, &mut terms)? {
         return Ok(None);
     }
-    Ok(Some(readings))
+    Ok(Some(terms))
 }
 
 /// The options of one line of a `CASE` with this selector, of which the trees are kept.
@@ -111,7 +111,7 @@ fn listed(
     first: &Expr,
     more: &[Expr],
     selector: &Kind,
-    before: &mut BTreeSet<i64>,
+    before: &mut OptionNumbers,
     scope: &Scope,
     faults: &mut Items<Fault>,
 ) -> Result<Option<TypedOptions>, AllocError>
@@ -134,7 +134,7 @@ pub fn typed_options(
     first: &Expr,
     more: &[Expr],
     selector: &Kind,
-    before: &mut BTreeSet<i64>,
+    before: &mut OptionNumbers,
     scope: &Scope,
     faults: &mut Items<Fault>,
 ) -> Result<Option<TypedOptions>, AllocError>
@@ -146,10 +146,10 @@ pub fn typed_options(
     let Kind::Known(known) = selector else {
         return listed(alloc, first, more, selector, before, scope, faults);
     };
-    let Some(readings) = decimals(alloc, first, more)? else {
+    let Some(terms) = decimals(alloc, first, more)? else {
         return listed(alloc, first, more, selector, before, scope, faults);
     };
-    choose(alloc, &known.of, readings.terms.as_slice(), before, faults)?;
+    choose(alloc, &known.of, terms.as_slice(), before, faults)?;
     Ok(Some(TypedOptions {
         kept: Kept::Decimals(form.share()?, known.of.share()?),
     }))

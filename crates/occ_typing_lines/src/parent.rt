@@ -4,9 +4,9 @@ use super::tree::TypedForm;
 use occ_base::{Boxed, Items};
 use occ_scope::ScopeEntry;
 use occ_typing_operands::Kind;
+use occ_typing_rules::OptionNumbers;
 use occ_typing_specifications::Expected;
 use occ_typing_statements::CaseInput;
-use std::collections::BTreeSet;
 
 /// What is known of a `CASE` after some of its options.
 #[derive(Drop)]
@@ -14,7 +14,7 @@ pub struct Choosing {
     /// What is known of its selector.
     pub selector: Kind,
     /// The numbers of the options.
-    pub numbers: BTreeSet<i64>,
+    pub numbers: OptionNumbers,
     /// Whether an `ELSE` is among them.
     pub otherwise: bool,
 }

@@ -1,5 +1,7 @@
 //! Operands of which a type is wanted (T2), and conversions.
 ghost use Rattle.std.specs.Prelude.{◌≡◌, ◌++◌, IfOk, OnOk};
+ghost use Rattle.occ_base.specs.declared.code.Code.TheVariants as code;
+ghost use Rattle.occ_typing_operands.specs.Settling.{fault_of};
 ghost use Rattle.occ_typing_operands.specs.Wanting.{are_there, cast as spec_cast, conversion, converted_from as spec_converted_from, converts as spec_converts, fitted as spec_fitted, wanted as spec_wanted};
 
 use super::kind::{Kind, Known, TypedValue};
@@ -8,6 +10,15 @@ use super::settle::{int, known, landed, settled};
 use occ_base::{Code, Fault, Items, Shared, report};
 use occ_types::{OccType, Primitive, Value, alike, as_primitive, base_of, convert, fits};
 use std::alloc::{AllocError, Global};
+
+/// An operand is of another type than the one that is wanted.
+fn unfit(faults: &mut Items<Fault>) -> Result<Kind, AllocError>
+    ensures kind { IfOk result (λ kind. kind ≡ (fault_of code.T2).kind) }
+    ensures faults { OnOk result (faults.new ≡ faults.old ++ (fault_of code.T2).faults) }
+{
+    report(faults, Code::T2)?;
+    Ok(Kind::Faulty)
+}
 
 /// A settled operand must be of the type.
 pub fn fitted(
@@ -23,8 +34,23 @@ pub fn fitted(
             if fits(of.get(), found.of.get()) {
                 return known(&found.of, found.value);
             }
-            report(faults, Code::T2)?;
-            Ok(Kind::Faulty)
+            unfit(faults)
+        }
+        _ => Ok(Kind::Faulty),
+    }
+}
+
+/// The same of an operand that is given away: it is the answer, if it is of the type.
+fn kept(of: &Shared<OccType>, kind: Kind, faults: &mut Items<Fault>) -> Result<Kind, AllocError>
+    ensures kind { IfOk result (λ kept. kept ≡ (spec_fitted of.now kind).kind) }
+    ensures faults { OnOk result (faults.new ≡ faults.old ++ (spec_fitted of.now kind).faults) }
+{
+    match kind {
+        Kind::Known(found) => {
+            if !fits(of.get(), found.of.get()) {
+                return unfit(faults);
+            }
+            Ok(Kind::Known(found))
         }
         _ => Ok(Kind::Faulty),
     }
@@ -41,7 +67,7 @@ pub fn wanted(
     ensures faults { OnOk result (faults.new ≡ faults.old ++ (spec_wanted of.now kind.now).faults) }
 {
     let kind = settled(alloc, of, kind, faults)?;
-    fitted(of, &kind, faults)
+    kept(of, kind, faults)
 }
 
 fn both(a: Option<Primitive>, b: Option<Primitive>) -> bool

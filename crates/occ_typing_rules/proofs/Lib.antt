@@ -4,3 +4,4 @@ pub mod OpenPlacing
 pub mod Fronts
 pub mod Counting
 pub mod Agreeing
+pub mod Numbers

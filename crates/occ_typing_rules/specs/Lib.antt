@@ -9,3 +9,4 @@ pub mod Resulting
 pub mod Calling
 pub mod Abbreviating
 pub mod Listing
+pub mod inside

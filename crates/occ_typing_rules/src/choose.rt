@@ -5,12 +5,12 @@ ghost use Rattle.occ_typing_operands.specs.Settling.{number as spec_number};
 ghost use Rattle.occ_typing_rules.specs.Choosing.{chosen as spec_chosen, condition as spec_condition, no_condition as spec_no_condition, option as spec_option, option_of as spec_option_of, options as spec_options, selecting as spec_selecting, selector as spec_selector};
 ghost use Rattle.occ_typing_tables.specs.Terms.{judged, judged_all};
 
+use super::option_numbers::OptionNumbers;
 use occ_base::{Code, Fault, Items, Shared, report};
 use occ_types::{OccType, Primitive, Value, as_primitive};
 use occ_typing_operands::{Kind, number};
 use occ_typing_tables::{Term, alone, under};
 use std::alloc::{AllocError, Global};
-use std::collections::BTreeSet;
 
 /// Whether a primitive type is BOOL.
 fn is_bool(base: Option<Primitive>) -> bool
@@ -77,8 +77,9 @@ pub fn selector(alloc: Global, term: &Term, faults: &mut Items<Fault>) -> Result
 
 /// An option of the selector's type, with its value, if it is constant.
 fn option_of(
+    alloc: Global,
     value: Option<Value>,
-    before: &mut BTreeSet<i64>,
+    before: &mut OptionNumbers,
     faults: &mut Items<Fault>,
 ) -> Result<(), AllocError>
     ensures numbers { OnOk result (before.new ≡ (spec_option_of before.old value).numbers) }
@@ -87,7 +88,7 @@ fn option_of(
     let Some(value) = value else {
         return report(faults, Code::T5);
     };
-    if before.insert(value.number())? {
+    if before.insert(alloc, value.number())? {
         return Ok(());
     }
     report(faults, Code::T8)
@@ -95,15 +96,16 @@ fn option_of(
 
 /// A settled option.
 fn chosen(
+    alloc: Global,
     kind: &Kind,
-    before: &mut BTreeSet<i64>,
+    before: &mut OptionNumbers,
     faults: &mut Items<Fault>,
 ) -> Result<(), AllocError>
     ensures numbers { OnOk result (before.new ≡ (spec_chosen before.old kind.now).numbers) }
     ensures faults { OnOk result (faults.new ≡ faults.old ++ (spec_chosen before.old kind.now).faults) }
 {
     match kind {
-        Kind::Known(known) => option_of(known.value, before, faults),
+        Kind::Known(known) => option_of(alloc, known.value, before, faults),
         _ => Ok(()),
     }
 }
@@ -113,14 +115,14 @@ fn option(
     alloc: Global,
     of: &Shared<OccType>,
     term: &Term,
-    before: &mut BTreeSet<i64>,
+    before: &mut OptionNumbers,
     faults: &mut Items<Fault>,
 ) -> Result<(), AllocError>
     ensures numbers { OnOk result (before.new ≡ (spec_option of.now before.old (judged term.now)).numbers) }
     ensures faults { OnOk result (faults.new ≡ faults.old ++ (spec_option of.now before.old (judged term.now)).faults) }
 {
     let kind = under(alloc, term, of, faults)?;
-    chosen(&kind, before, faults)
+    chosen(alloc, &kind, before, faults)
 }
 
 /// Options of a CASE with a selector of this type, after options with these numbers, to which theirs are added.
@@ -128,7 +130,7 @@ pub fn options(
     alloc: Global,
     of: &Shared<OccType>,
     terms: &[Term],
-    before: &mut BTreeSet<i64>,
+    before: &mut OptionNumbers,
     faults: &mut Items<Fault>,
 ) -> Result<(), AllocError>
     ensures numbers { OnOk result (before.new ≡ (spec_options of.now before.old (judged_all terms.now)).numbers) }

@@ -11,7 +11,7 @@ use occ_expr::type_form;
 use occ_expr_operations::Opening;
 use occ_forms_expressions::TypeForm;
 use occ_scope::{Meaning, Scope, ScopeEntry, one_entry};
-use occ_types::OccType;
+use occ_types::{KnownType, OccType};
 use occ_typing_rules::of_data;
 use occ_typing_tables::is_too_large;
 use std::alloc::{AllocError, Global};
@@ -126,5 +126,5 @@ pub fn data_type(
     ensures faults { OnOk result (faults.new ≡ faults.old ++ (spec_data_type scope.now name.now form.now).faults) }
 {
     let of = type_of_name(alloc, name, form, scope, faults)?;
-    one_entry(alloc, name, Meaning::Type(of))
+    one_entry(alloc, name, Meaning::Type(of.map(|of| KnownType::new(of))))
 }

@@ -5,7 +5,7 @@ ghost use Rattle.occ_typing_specifications.specs.Recording.{recorded};
 use super::defining::with_name;
 use occ_base::{Fault, Items, Name, Shared};
 use occ_scope::Meaning;
-use occ_types::{Field, OccType, Packing};
+use occ_types::{Field, KnownType, OccType, Packing};
 use std::alloc::{AllocError, Global};
 
 /// The head of a record with these fields: its type is judged whole, its name counted. What the name stands for.
@@ -22,5 +22,5 @@ pub fn record(
 {
     let of = Shared::new(alloc, OccType::Record(packing, fields))?;
     let of = with_name(alloc, name, Some(of), faults)?;
-    Ok(Meaning::Type(of))
+    Ok(Meaning::Type(of.map(|of| KnownType::new(of))))
 }

@@ -3,10 +3,12 @@
 
 ghost use Rattle.std.specs.Prelude.{◌≡◌, ◌++◌, [], IfOk, OnOk};
 ghost use Rattle.occ_base.specs.Lists.{joined};
-ghost use Rattle.occ_protocol.specs.Carrying.{carrier as spec_carrier, name_seen};
+ghost use Rattle.occ_protocol.specs.Carrying.{Carrier, carrier as spec_carrier, name_seen};
+ghost use Rattle.occ_protocol.specs.Lines.{place_after};
+ghost use Rattle.occ_protocol.specs.Wanting.{wants as spec_wants};
 ghost use Rattle.occ_typing_tables.specs.Terms.{judged};
 ghost use Rattle.occ_types.specs.View.{as_array};
-ghost use Rattle.occ_typing_statements.specs.Sending.{after_tag as spec_after_tag, count_want as spec_count_want, counted_output as spec_counted_output, givens as spec_givens, item_faults as spec_item_faults, item_read as spec_item_read, item_sent as spec_item_sent, items_after as spec_items_after, items_faults as spec_items_faults, items_read as spec_items_read, items_sent as spec_items_sent, name_sent as spec_name_sent, operand_as as spec_operand_as, operand_under as spec_operand_under, output_faults as spec_output_faults, output_tree as spec_output_tree, outputs_after as spec_outputs_after, sending_of as spec_sending_of, sent_faults as spec_sent_faults, sent_through as spec_sent_through, sent_trees as spec_sent_trees, shape_of as spec_shape_of, shapes_of as spec_shapes_of, table_as as spec_table_as, tag_at as spec_tag_at, tag_of as spec_tag_of, tag_tree as spec_tag_tree, value_output as spec_value_output, value_want as spec_value_want};
+ghost use Rattle.occ_typing_statements.specs.Sending.{after_tag as spec_after_tag, count_want as spec_count_want, counted_output as spec_counted_output, givens as spec_givens, item_faults as spec_item_faults, item_read as spec_item_read, item_sent as spec_item_sent, items_after as spec_items_after, items_faults as spec_items_faults, items_read as spec_items_read, items_sent as spec_items_sent, name_sent as spec_name_sent, operand_as as spec_operand_as, operand_under as spec_operand_under, output_faults as spec_output_faults, output_tree as spec_output_tree, outputs_after as spec_outputs_after, sending_of as spec_sending_of, sent_faults as spec_sent_faults, sent_trees as spec_sent_trees, shape_of as spec_shape_of, shapes_of as spec_shapes_of, table_as as spec_table_as, tag_at as spec_tag_at, tag_of as spec_tag_of, tag_tree as spec_tag_tree, value_output as spec_value_output, value_want as spec_value_want};
 
 use super::exchange_tree::TypedOutput;
 use super::through::root_of;
@@ -15,7 +17,7 @@ use occ_expr::{element, expression};
 use occ_expr_operations::{Reading, name_alone};
 use occ_forms::OutputItem;
 use occ_forms_expressions::Element;
-use occ_protocol::{Given, Shape, Want, Wanted, exchanged, tag_place, takes_tag, wants};
+use occ_protocol::{Given, Message, Shape, Want, Wanted, takes_tag};
 use occ_scope::Scope;
 use occ_types::{OccType, array_of};
 use occ_typing_operands::{Kind, settled};
@@ -297,20 +299,19 @@ fn items_sent(
     Ok(SentAll { givens, trees })
 }
 
-/// Items that are sent through `channel` after a tag or after none, each with what is wanted of it.
+/// Items that are sent in this message, each with what is wanted of it.
 fn sent_through(
     alloc: Global,
-    channel: &Kind,
-    tag: Option<&Name>,
+    message: &Message<'_>,
     items: &[SentItem],
     faults: &mut Items<Fault>,
 ) -> Result<SentAll, AllocError>
-    ensures givens { IfOk result (λ all. all.givens ≡ spec_givens (spec_sent_through (spec_carrier channel.now) (name_seen tag.entry) items.now)) }
-    ensures trees { IfOk result (λ all. all.trees ≡ spec_sent_trees (spec_sent_through (spec_carrier channel.now) (name_seen tag.entry) items.now)) }
-    ensures faults { OnOk result (faults.new ≡ faults.old ++ spec_sent_faults (spec_sent_through (spec_carrier channel.now) (name_seen tag.entry) items.now)) }
+    ensures givens { IfOk result (λ all. all.givens ≡ spec_givens (spec_items_sent (spec_wants message.now.0 (spec_shapes_of items.now)) items.now)) }
+    ensures trees { IfOk result (λ all. all.trees ≡ spec_sent_trees (spec_items_sent (spec_wants message.now.0 (spec_shapes_of items.now)) items.now)) }
+    ensures faults { OnOk result (faults.new ≡ faults.old ++ spec_sent_faults (spec_items_sent (spec_wants message.now.0 (spec_shapes_of items.now)) items.now)) }
 {
     let shapes = shapes_of(alloc, items)?;
-    let wanted = wants(alloc, channel, tag, shapes.as_slice())?;
+    let wanted = message.wants(alloc, shapes.as_slice())?;
     items_sent(alloc, wanted.as_slice(), items, faults)
 }
 
@@ -329,17 +330,17 @@ fn tag_at(
     Ok(Some(one_item(alloc, tag)?))
 }
 
-/// The tree of a tag; no items without one.
+/// The tree of a tag, of which this is the place in the protocol; no items without one.
 fn tag_tree(
     alloc: Global,
-    channel: &Kind,
     tag: Option<&Name>,
+    place: Option<usize>,
 ) -> Result<Option<Items<TypedOutput>>, AllocError>
-    ensures { IfOk result (λ tree. tree ≡ spec_tag_tree (spec_carrier channel.now) (name_seen tag.entry)) }
+    ensures { (c : Carrier) → place ≡ place_after c (name_seen tag.entry) → IfOk result (λ tree. tree ≡ spec_tag_tree c (name_seen tag.entry)) }
 {
     match tag {
         None => Ok(Some(Items::new(alloc))),
-        Some(name) => tag_at(alloc, name, tag_place(channel, name)),
+        Some(name) => tag_at(alloc, name, place),
     }
 }
 
@@ -372,9 +373,10 @@ fn after_tag(
     ensures faults { OnOk result (faults.new ≡ faults.old ++ spec_after_tag scope.now (spec_carrier channel.now) root.now (name_seen tag.entry) (spec_items_after (name_seen tag.entry) first.now more.now)) }
 {
     let items = items_after(alloc, tag, first, more, scope, faults)?;
-    let sent = sent_through(alloc, channel, tag, items.as_slice(), faults)?;
-    exchanged(alloc, channel, root, tag, sent.givens.as_slice(), faults)?;
-    with_outputs(tag_tree(alloc, channel, tag)?, sent.trees)
+    let message = Message::new(channel, tag);
+    let sent = sent_through(alloc, &message, items.as_slice(), faults)?;
+    message.report(alloc, root, sent.givens.as_slice(), faults)?;
+    with_outputs(tag_tree(alloc, tag, message.place())?, sent.trees)
 }
 
 /// An output: what it sends through, and what it sends, a tag first.

@@ -21,13 +21,12 @@ use occ_scope::Scope;
 use occ_types::{OccType, Primitive};
 use occ_typing_operands::{Kind, int};
 use occ_typing_rules::{
-    OpenExpr, TypedElement, TypedExpr, all_placed, assigned, condition as judge_condition,
-    each_placed, hidden_results as count_results, options as choose, placed, results as compare,
-    selector as select,
+    OpenExpr, OptionNumbers, TypedElement, TypedExpr, all_placed, assigned,
+    condition as judge_condition, each_placed, hidden_results as count_results, options as choose,
+    placed, results as compare, selector as select,
 };
 use occ_typing_tables::{any_has_fault, report_hidden};
 use std::alloc::{AllocError, Global};
-use std::collections::BTreeSet;
 
 /// An assignment: its targets, and the value for each. Of a call with several results each value is the call.
 #[derive(Drop)]
@@ -196,7 +195,7 @@ pub fn options(
     first: &Expr,
     more: &[Expr],
     selector: &Kind,
-    before: &mut BTreeSet<i64>,
+    before: &mut OptionNumbers,
     scope: &Scope,
     faults: &mut Items<Fault>,
 ) -> Result<Option<Items<Shared<TypedExpr>>>, AllocError>

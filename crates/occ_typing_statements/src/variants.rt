@@ -9,16 +9,15 @@ ghost use Rattle.occ_typing_statements.specs.Variants.{begun as spec_begun, repe
 use super::exchange_tree::TypedTarget;
 use super::receiving::{details_received, nothing_received};
 use super::through::root_of;
-use occ_base::{Fault, Items, Name};
+use occ_base::{Code, Fault, Items, Name};
 use occ_expr::element;
 use occ_forms::Detail;
 use occ_forms_expressions::Element;
-use occ_protocol::{alternative, cased, lacks};
+use occ_protocol::{alternative, cased, lacks, report_named};
 use occ_scope::{Scope, Scopes};
 use occ_typing_operands::Kind;
-use occ_typing_rules::{TypedElement, repeated};
+use occ_typing_rules::TypedElement;
 use std::alloc::{AllocError, Global};
-use std::slice;
 
 /// What is known of a case input after some of its variants.
 #[derive(Drop)]
@@ -65,11 +64,11 @@ fn report_repeated(
     ensures tags { OnOk result (tags.new ≡ tags.old ++ tag.now ∷ []) }
     ensures faults { OnOk result (faults.new ≡ faults.old ++ spec_repeated (spec_carrier channel.now) tags.old tag.now) }
 {
-    if tags.find(tag).is_none() || lacks(channel, tag) {
-        tags.enter(alloc, tag)?;
+    let before = tags.enter_over(alloc, tag)?;
+    if before.is_none() || lacks(channel, tag) {
         return Ok(());
     }
-    repeated(alloc, slice::from_ref(tag), tags, faults)
+    report_named(alloc, Code::T8, tag, faults)
 }
 
 /// A variant: the place of its tag in the protocol and its name, and the targets.

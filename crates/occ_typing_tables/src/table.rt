@@ -4,7 +4,7 @@
 
 ghost use Rattle.std.specs.Prelude.{◌≡◌, ◌++◌, ◌∷◌, [], false, IfOk, OnOk, Some, map, true};
 ghost use Rattle.std.specs.List.{list_any};
-ghost use Rattle.occ_typing_operands.specs.Settling.{settled as spec_settled};
+ghost use Rattle.occ_typing_operands.specs.Settling.{int as spec_int, settled as spec_settled};
 ghost use Rattle.occ_typing_operands.specs.Operators.{all_faults, is_faulty as spec_is_faulty, kinds as spec_kinds};
 ghost use Rattle.occ_typing_tables.specs.Terms.{after_first as spec_after_first, all_settled as spec_all_settled, all_under as spec_all_under, alone as spec_alone, each_own_or_alone as spec_each_own_or_alone, each_under as spec_each_under, first_settled as spec_first_settled, fitted_or_alone as spec_fitted_or_alone, fitted_to as spec_fitted_to, is_faulty_settled, others_faults, own_or_alone as spec_own_or_alone, stands as spec_stands, settled_itself as spec_settled_itself, settled_under as spec_settled_under, first_type as spec_first_type, items_type as spec_items_type, judged, judged_all, merged_all as spec_merged_all, merged_next as spec_merged_next, so_many as spec_so_many, table_alone as spec_table_alone, table_settled as spec_table_settled, table_type as spec_table_type, table_under as spec_table_under, under as spec_under, unless_faulty};
 
@@ -229,6 +229,18 @@ fn is_untyped(term: &Term) -> bool
     matches!(term, Term::Single(Kind::Untyped(_)))
 }
 
+/// An operand that is no table, of which no type is wanted. INT takes memory, so it is made where one is free alone.
+fn single_alone(alloc: Global, kind: &Kind, faults: &mut Items<Fault>) -> Result<Kind, AllocError>
+    ensures kind { IfOk result (λ alone. alone ≡ (spec_settled spec_int kind.now).kind) }
+    ensures faults { OnOk result (faults.new ≡ faults.old ++ (spec_settled spec_int kind.now).faults) }
+{
+    match kind {
+        Kind::Faulty => Ok(Kind::Faulty),
+        Kind::Untyped(_) => settled(alloc, &int(alloc)?, kind, faults),
+        Kind::Known(found) => known(&found.of, found.value),
+    }
+}
+
 /// An operand of which no type is wanted.
 #[cycle(judge)]
 pub fn alone(alloc: Global, term: &Term, faults: &mut Items<Fault>) -> Result<Kind, AllocError>
@@ -236,7 +248,7 @@ pub fn alone(alloc: Global, term: &Term, faults: &mut Items<Fault>) -> Result<Ki
     ensures faults { OnOk result (faults.new ≡ faults.old ++ (spec_alone (judged term.now)).faults) }
 {
     match term {
-        Term::Single(kind) => settled(alloc, &int(alloc)?, kind, faults),
+        Term::Single(kind) => single_alone(alloc, kind, faults),
         Term::Table(items) => table_alone(alloc, items.as_slice(), faults),
     }
 }

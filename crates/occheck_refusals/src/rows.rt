@@ -22,7 +22,7 @@ pub fn entered(alloc: Global) -> Result<(), Off> {
 pub fn set(alloc: Global) -> Result<(), Off> {
     let file = read(alloc, "a.occ", "")?;
     let mut project = Project::new(alloc);
-    let set = project.set(file.name, file.revision, file.source);
+    let set = project.set(alloc, file.name, file.revision, file.source);
     let is_there = project.get(file.name).is_some() && project.revision(file.name) == 1;
     let is_nowhere = project.get(file.name).is_none() && project.revision(file.name) == 0;
     wanted(if set.is_ok() { is_there } else { is_nowhere })?;
@@ -41,7 +41,7 @@ pub fn circle(alloc: Global) -> Result<(), Off> {
     let mut project = Project::new(alloc);
     for (name, text) in CIRCLE {
         let file = read(alloc, name, text)?;
-        project.set(file.name, file.revision, file.source)?;
+        project.set(alloc, file.name, file.revision, file.source)?;
     }
     let graph = Graph::of(alloc, &project)?;
     let first = FileName::read(b"a.occ")?;

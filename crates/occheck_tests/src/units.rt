@@ -27,7 +27,7 @@ fn set(alloc: Global, project: &mut Project, name: &str, text: &str) -> Result<(
         revision,
         source,
     } = open(alloc, name, text)?;
-    project.set(name, revision, source)?;
+    project.set(alloc, name, revision, source)?;
     Ok(())
 }
 

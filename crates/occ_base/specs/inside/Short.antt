@@ -1,5 +1,5 @@
 -- How few bytes are held: at the front of 16, and zeros after; and a name, whose bytes are these or more.
-use Rattle.std.specs.Prelude.{ℕ, ◌≡◌, ◌≤◌, ◌-◌, List, take, drop, length, ◌++◌, replicate}
+use Rattle.std.specs.Prelude.{ℕ, ◌≡◌, ◌≤◌, ◌<◌, ◌-◌, List, take, drop, length, ◌++◌, replicate}
 use Rattle.std.proofs.Common.{arith, ap, ◌∙◌, length-take, take-append-drop}
 use Rattle.occ_base.specs.declared.short.Short.TheInside.{Inside}
 use Rattle.occ_base.specs.declared.name.Bytes.{Bytes}
@@ -27,3 +27,8 @@ padded_back a h =
 abbrev pub bytes_of : Bytes → List ℕ
 bytes_of (b.Short bytes) = bytes
 bytes_of (b.Long bytes) = bytes.items
+
+-- the bytes of a long one are too many for a short one
+abbrev pub IsHeld : Bytes → Type 0
+IsHeld (b.Short bytes) = Unit {0}
+IsHeld (b.Long bytes) = 16 < length bytes.items

@@ -1,26 +1,11 @@
 -- A place for each name: of short names by numbers, of which no two have one.
-use Rattle.std.specs.Prelude.{ℕ, ◌≡◌, ◌-◌, nat_le, nat_lt, ◌&&◌, Bool, cond, List, [], ◌∷◌, ◌++◌, drop, length, replicate, Option, Some, None}
+use Rattle.std.specs.Prelude.{ℕ, ◌≡◌, cond, List, Option, Some, None}
 use Rattle.std.specs.BTreeMap.{BTreeMap, get}
 use Rattle.std.specs.Cmp.Lexicographic.{slice_cmp}
-use Rattle.std.specs.Int.{from_be_bytes, w128}
-use Rattle.std.specs.List.{list_all}
 use Rattle.std.specs.Ordering.{nat_cmp}
+use Rattle.occ_base.specs.Numbers.{number_of}
 use Rattle.occ_scope.specs.Nearest.{is_same_name}
 use Rattle.occ_scope.specs.declared.places.Places.{Places}
-
--- 16 bytes: those of the name, zeros, and last how many are of the name
-abbrev pub digits : List ℕ → List ℕ
-digits name = name ++ drop (length name) (replicate 15 0 ++ length name ∷ [])
-
-abbrev pub is_byte : ℕ → Bool
-is_byte n = nat_lt n 256
-
-abbrev pub is_short : List ℕ → Bool
-is_short name = nat_le (length name) 15 && list_all is_byte name
-
--- the number of which these are the digits, of a short name
-abbrev pub number_of : List ℕ → Option ℕ
-number_of name = cond (is_short name) (Some (from_be_bytes w128 (digits name))) None
 
 abbrev pub held_by : Places → List ℕ → Option ℕ → Option ℕ
 held_by p name (Some number) = get nat_cmp p.short number

@@ -14,7 +14,7 @@ returns-in-Some-clause-done c = λ h.
     let project : IsProject files = subst IsProject c.project.ensures c.files.ensures.in_order in
     let got : slice_get files c.args.index ≡ Some c.in-Some.file.now = ap (λ (fs : List Read). slice_get fs c.args.index) (sym (c.files.ensures.files ∙ c.project.ensures)) ∙ sym c.in-Some.ensures in
     step_done files c.args.cached.now (λ u. c.done_law.ensures.done files c.args.cached.now u project) c.args.flags.now _ c.requires.sound
-    (ap (λ (n : List ℕ). done_step files c.args.cached.now n (flag_of files c.args.flags.now)) (named files c.args.index c.in-Some.file.now got) ∙ sym c.is_file_done.ensures ∙ h)
+    (ap (λ (n : List ℕ). done_step files c.args.cached.now n (flag_of files c.args.flags.now)) (named files c.args.index c.in-Some.file.now got) ∙ ap (λ (file : Read). done_step files c.args.cached.now file.name (flag_of files c.args.flags.now)) (sym c.get.ensures) ∙ sym c.is_file_done.ensures ∙ h)
 
 pub returns-in-None-clause-value : goal.returns-in-None-clause-value
 returns-in-None-clause-value c =

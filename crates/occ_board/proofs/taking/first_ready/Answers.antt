@@ -1,4 +1,5 @@
-use Rattle.std.proofs.Common.{◌∙◌, ◌≤◌, ap, arith, length, sym}
+use Rattle.std.proofs.Common.{◌≡◌, ◌∙◌, ◌≤◌, ap, arith, get_or, length, subst, sym}
+use Rattle.occ_project.specs.declared.reads.Read.{Read}
 use Rattle.occ_board.proofs.Nexts.{file_there}
 use Rattle.occ_board.proofs.Indices.{within}
 use Rattle.occ_board.proofs.Waits.{fewer_wait, one_waits, ready_there}
@@ -6,14 +7,14 @@ use Rattle.occ_board.proofs.taking.first_ready.Goals as goal
 
 pub loop-index-preserved : goal.loop-index-preserved
 loop-index-preserved c =
-    one_waits c.args.graph.now c.args.flags.now c.loop-index.index c.index-files-index.result
-    (file_there c.args.graph.now c.files-files.result.now c.loop-index.index c.index-files-index.result (c.files-files.ensures.files ∙ c.project.ensures) c.loop-index-test.true c.index-files-index.is)
+    one_waits c.args.graph.now c.args.flags.now c.loop-index.index c.get.result.now
+    (file_there c.args.graph.now c.files-files.result.now c.loop-index.index c.get.result.now (c.files-files.ensures.files ∙ c.project.ensures) c.loop-index-test.true (subst (λ (file : Read). file ≡ get_or c.files-files.result.now c.loop-index.index file) (sym c.get.ensures) c.index-files-index.is))
     (sym c.if-is_ready.ensures) c.loop-index.invariant
 
 pub returns-then-is_ready-clause-ready : goal.returns-then-is_ready-clause-ready
 returns-then-is_ready-clause-ready c = λ file is.
-    ready_there c.args.graph.now c.args.flags.now c.loop-index.index c.index-files-index.result file
-    (file_there c.args.graph.now c.files-files.result.now c.loop-index.index c.index-files-index.result (c.files-files.ensures.files ∙ c.project.ensures) c.loop-index-test.true c.index-files-index.is)
+    ready_there c.args.graph.now c.args.flags.now c.loop-index.index c.get.result.now file
+    (file_there c.args.graph.now c.files-files.result.now c.loop-index.index c.get.result.now (c.files-files.ensures.files ∙ c.project.ensures) c.loop-index-test.true (subst (λ (file : Read). file ≡ get_or c.files-files.result.now c.loop-index.index file) (sym c.get.ensures) c.index-files-index.is))
     (sym c.if-is_ready.ensures) is
 
 pub returns-clause-ready : goal.returns-clause-ready

@@ -1,4 +1,4 @@
-use Rattle.std.proofs.Common.{arith, ap, sym, subst, ◌∙◌, ◌≤◌, length, Option}
+use Rattle.std.proofs.Common.{arith, ap, get_or, sym, subst, ◌≡◌, ◌∙◌, ◌≤◌, length, Option}
 use Rattle.std.specs.Option.{option_map}
 use Rattle.occ_board.proofs.Nexts.{first_found, first_none, first_passed, job_there, next_from, next_is}
 use Rattle.occ_board.proofs.taking.next_unit.Goals as goal
@@ -15,17 +15,17 @@ returns-then-is_next-clause-next c =
     sym (
     next_is c.args.graph.now c.args.cached.now c.args.handed.now
     ∙ ap (λ (o : Option Read). option_map (λ (file : Read). input c.args.graph.now file.name) o)
-    (first_found (is_next c.args.graph.now c.args.cached.now c.args.handed.now) c.args.graph.now c.files-files.result.now (c.files-files.ensures.files ∙ c.project.ensures) c.loop-index.index c.loop-index.invariant c.index-files-index.result c.loop-index-test.true c.index-files-index.is
+    (first_found (is_next c.args.graph.now c.args.cached.now c.args.handed.now) c.args.graph.now c.files-files.result.now (c.files-files.ensures.files ∙ c.project.ensures) c.loop-index.index c.loop-index.invariant c.get-file.result.now c.loop-index-test.true (subst (λ (file : Read). file ≡ get_or c.files-files.result.now c.loop-index.index file) (sym c.get-file.ensures) c.index-files-index.is)
     (sym c.if-is_next.ensures)))
 
 pub returns-then-is_next-clause-job : goal.returns-then-is_next-clause-job
 returns-then-is_next-clause-job c =
-    job_there c.args.graph.now c.files-files.result.now c.args.cached.now c.args.handed.now c.loop-index.index c.index-files-index.result (subst IsProject c.project.ensures c.files-files.ensures.in_order) (c.files-files.ensures.files ∙ c.project.ensures) c.loop-index-test.true
-    c.index-files-index.is (sym c.if-is_next.ensures)
+    job_there c.args.graph.now c.files-files.result.now c.args.cached.now c.args.handed.now c.loop-index.index c.get-file.result.now (subst IsProject c.project.ensures c.files-files.ensures.in_order) (c.files-files.ensures.files ∙ c.project.ensures) c.loop-index-test.true
+    (subst (λ (file : Read). file ≡ get_or c.files-files.result.now c.loop-index.index file) (sym c.get-file.ensures) c.index-files-index.is) (sym c.if-is_next.ensures)
 
 pub loop-index-preserved : goal.loop-index-preserved
 loop-index-preserved c =
-    first_passed (is_next c.args.graph.now c.args.cached.now c.args.handed.now) c.args.graph.now c.files-files.result.now (c.files-files.ensures.files ∙ c.project.ensures) c.loop-index.index c.loop-index.invariant c.index-files-index.result c.loop-index-test.true c.index-files-index.is
+    first_passed (is_next c.args.graph.now c.args.cached.now c.args.handed.now) c.args.graph.now c.files-files.result.now (c.files-files.ensures.files ∙ c.project.ensures) c.loop-index.index c.loop-index.invariant c.get-file.result.now c.loop-index-test.true (subst (λ (file : Read). file ≡ get_or c.files-files.result.now c.loop-index.index file) (sym c.get-file.ensures) c.index-files-index.is)
     (sym c.if-is_next.ensures)
 
 pub returns-clause-next : goal.returns-clause-next

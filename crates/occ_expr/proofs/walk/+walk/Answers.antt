@@ -27,7 +27,7 @@ type_form-returns-in_ok-of-in-Named-clause-found t c =
 
 pub type_form-returns-in_ok-of-in-Builtin-clause-faults : goal.type_form-returns-in_ok-of-in-Builtin-clause-faults
 type_form-returns-in_ok-of-in-Builtin-clause-faults t c =
-    step.built_in_type_faults c.array_over-in-Builtin.result _ _ _ _ _ _ _ _ _ _ (c.in-Builtin.is ∙ ap (λ z. tv.Builtin z c.in-Builtin.word) (sym c.as_slice-in-Builtin.ensures) ∙ ap (λ z. tv.Builtin c.as_slice-in-Builtin.result.now z) (sym c.get.ensures)) c.in_ok-of-in-Builtin.ensures.faults c.in_ok-of-in-Builtin.ensures.found c.new-in-Builtin.ensures c.array_over-in-Builtin.ensures.faults
+    step.built_in_type_faults c.array_over-in-Builtin.result _ _ _ _ _ _ _ _ _ _ (c.in-Builtin.is ∙ ap (λ z. tv.Builtin z c.in-Builtin.word) (sym c.as_slice-in-Builtin.ensures) ∙ ap (λ z. tv.Builtin c.as_slice-in-Builtin.result.now z) (sym c.get.ensures)) c.in_ok-of-in-Builtin.ensures.faults (c.known-of.ensures ∙ c.in_ok-of-in-Builtin.ensures.found) c.new-in-Builtin.ensures c.array_over-in-Builtin.ensures.faults
 
 pub builtin-returns-in-Channel-clause-found : goal.builtin-returns-in-Channel-clause-found
 builtin-returns-in-Channel-clause-found t c =
@@ -784,7 +784,7 @@ composed-returns-in_ok-second-in-Pair-clause-faults t c =
 
 pub composed-returns-in_ok-reading-in-Converted-clause-faults : goal.composed-returns-in_ok-reading-in-Converted-clause-faults
 composed-returns-in_ok-reading-in-Converted-clause-faults t c =
-    step.conversion_faults c.converted.result _ _ _ _ _ _ _ _ _ _ _ _ _ _ (c.in-Converted.is ∙ ap (λ z. xv.Converted z c.in-Converted.word c.in-Converted.following) (sym c.as_slice-in-Converted.ensures) ∙ ap (λ z. xv.Converted c.as_slice-in-Converted.result.now z c.in-Converted.following) (sym c.get-in-Converted.ensures) ∙ ap (λ z. xv.Converted c.as_slice-in-Converted.result.now c.get-in-Converted.result.now z) (sym c.get-in-Converted-2.ensures)) c.in_ok-of-in-Converted.ensures.faults c.in_ok-of-in-Converted.ensures.found c.new.ensures c.in_ok-to-in-Converted.ensures.faults c.in_ok-to-in-Converted.ensures.found c.in_ok-reading-in-Converted.ensures.faults c.in_ok-reading-in-Converted.ensures.term c.converted.ensures.faults
+    step.conversion_faults c.converted.result _ _ _ _ _ _ _ _ _ _ _ _ _ _ (c.in-Converted.is ∙ ap (λ z. xv.Converted z c.in-Converted.word c.in-Converted.following) (sym c.as_slice-in-Converted.ensures) ∙ ap (λ z. xv.Converted c.as_slice-in-Converted.result.now z c.in-Converted.following) (sym c.get-in-Converted.ensures) ∙ ap (λ z. xv.Converted c.as_slice-in-Converted.result.now c.get-in-Converted.result.now z) (sym c.get-in-Converted-2.ensures)) c.in_ok-of-in-Converted.ensures.faults (c.known-of.ensures ∙ c.in_ok-of-in-Converted.ensures.found) c.new.ensures c.in_ok-to-in-Converted.ensures.faults c.in_ok-to-in-Converted.ensures.found c.in_ok-reading-in-Converted.ensures.faults c.in_ok-reading-in-Converted.ensures.term c.converted.ensures.faults
 
 pub composed-returns-in_ok-reading-in-ArrayConverted-clause-faults : goal.composed-returns-in_ok-reading-in-ArrayConverted-clause-faults
 composed-returns-in_ok-reading-in-ArrayConverted-clause-faults t c =

@@ -17,7 +17,7 @@ loop-expr-preserved c =
       (λ h. c.loop-expr.invariant.0 (subst AreDecimals (sym split) ((c.in_ok-push_decimal.ensures.decimals c.if-not-branch.false).0, h))),
       (λ s.
           ap (λ (xs : List Term). xs ++ terms (said s after)) (c.in_ok-push_decimal.ensures.terms c.if-not-branch.false s)
-          ∙ append_assoc c.loop-expr.readings.terms (terms (said s (e ∷ []))) (terms (said s after))
-          ∙ ap (λ (es : List Expr). c.loop-expr.readings.terms ++ terms (said s es)) (sym split)
+          ∙ append_assoc c.loop-expr.terms (terms (said s (e ∷ []))) (terms (said s after))
+          ∙ ap (λ (es : List Expr). c.loop-expr.terms ++ terms (said s es)) (sym split)
           ∙ c.loop-expr.invariant.1 s),
     )

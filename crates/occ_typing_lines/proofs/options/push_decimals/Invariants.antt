@@ -8,4 +8,4 @@ use Rattle.occ_typing_statements.specs.Statements.{said}
 abbrev pub invariant-loop-expr : goal.invariant-loop-expr
 invariant-loop-expr l =
     (AreDecimals (drop l.expr-index l.exprs) → AreDecimals l.exprs)
-    × ((s : Scope) → l.readings.terms ++ terms (said s (drop l.expr-index l.exprs)) ≡ l.fn.readings.terms ++ terms (said s l.exprs))
+    × ((s : Scope) → l.terms ++ terms (said s (drop l.expr-index l.exprs)) ≡ l.fn.terms ++ terms (said s l.exprs))

@@ -14,4 +14,4 @@ returns-clause-alike c = λ h.
     let opened = c.is_tried.ensures c.if-not-is_tried.false in
     let was : is_some (file_of files c.args.file.now.name).source ≡ true = ap (λ (fs : List Read). is_some (file_of fs c.args.file.now.name).source) c.self.view_is ∙ opened.1 in
     subst (λ (fs : List Read). AreAlike fs c.renew.new.project) c.self.view_is
-    (alike_after files c.renew.new.project c.args.file.now (done.1.0 ∙ ap (put files) c.in_ok-again.ensures) (ap graph_of done.1.0 ∙ done.0.graph) was opened.0)
+    (alike_after files c.renew.new.project c.args.file.now (done.1.0 ∙ ap (put files) (c.in_ok-again.ensures ∙ c.in_ok-share.ensures)) (ap graph_of done.1.0 ∙ done.0.graph) was opened.0)

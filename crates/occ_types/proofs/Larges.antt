@@ -9,7 +9,7 @@ use Rattle.occ_types.specs.declared.types.OccType.TheVariants as t
 use Rattle.occ_types.specs.Size.{is_over, size_of}
 use Rattle.occ_types.specs.View.{Layer, of_component}
 use Rattle.occ_types.proofs.Agreeing.{as_array_at_array}
-use Rattle.occ_typing_tables.specs.Extents.{is_oversized, oversized_step}
+use Rattle.occ_types.specs.Large.{is_oversized, oversized_step}
 
 abbrev oversized_fold : OccType → OccType → Bool
 oversized_fold = fold-OccType (Unit {0}) (OccType → Bool) (Unit {0}) (Unit {0}) (Unit {0}) (λ _. tt) oversized_step (λ _. tt) (λ _. tt) (λ _. tt)
@@ -36,4 +36,4 @@ is_oversized_itself u h =
     ∙ is_oversized_layer (out-OccType u) (λ n inner e. h n inner (sym (roll-out-OccType u) ∙ e))
     ∙ ap (λ (v : OccType). is_over (size_of v)) (roll-out-OccType u)
 
-pub ruleset dimension_rules = (is_oversized_array, is_oversized_itself)
+pub ruleset large_rules = (is_oversized_array, is_oversized_itself)

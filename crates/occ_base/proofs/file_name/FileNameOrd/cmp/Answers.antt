@@ -1,0 +1,14 @@
+use Rattle.std.proofs.Common.{◌≡◌, ◌∙◌}
+use Rattle.std.specs.Cmp.Lexicographic.{slice_cmp}
+use Rattle.std.specs.Ordering.{nat_cmp}
+use Rattle.occ_base.specs.inside.Front.{front}
+use Rattle.occ_base.proofs.Heads.{front_decides}
+use Rattle.occ_base.proofs.Names.{is_short}
+use Rattle.occ_base.proofs.file_name.FileNameOrd.cmp.Goals as goal
+
+pub returns-in_default : goal.returns-in_default
+returns-in_default c =
+    let a = c.args.self.now in
+    let b = c.args.other.now in
+    let is : c.order.result ≡ slice_cmp nat_cmp (front a) (front b) = rw (← c.front.ensures.value) (rw (← c.front-2.ensures.value) c.order.ensures) in
+    is ∙ front_decides a b (is_short a c.front.ensures.named) (is_short b c.front-2.ensures.named) (λ e. c.in_default.not-Equal (is ∙ e))

@@ -1,0 +1,5 @@
+-- what no contract of a public call rests on
+pub mod KnownTypes
+pub mod Digests
+pub mod TagNames
+pub mod SoughtTags

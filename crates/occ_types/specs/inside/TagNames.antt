@@ -1,0 +1,7 @@
+-- What is kept of the name of a tag beside it.
+use Rattle.std.specs.Prelude.{◌≡◌}
+use Rattle.occ_types.specs.declared.tag_name.TagName.TheInside.{Inside}
+use Rattle.occ_types.specs.inside.Digests.{digest}
+
+abbrev pub IsNumbered : Inside → Type 0
+IsNumbered a = a.digest ≡ digest a.name

@@ -1,0 +1,151 @@
+//! When a type is too large (T9): by bytes, levels or number of types. A type with what is asked of it for that, found once.
+#![tactic(auto, using(crate::proofs::Larges::large_rules, crate::proofs::Sizes::size_rules, crate::proofs::Measures::measure_rules, crate::proofs::Unknowns::unknown_rules))]
+
+ghost use Rattle.std.specs.Prelude.{IfOk, ◌≡◌};
+ghost use Rattle.occ_types.specs.Large.{is_oversized as spec_is_oversized, is_too_large as spec_is_too_large, is_too_wide as spec_is_too_wide};
+ghost use Rattle.occ_types.specs.Measure.{held, measure_of as spec_measure_of};
+ghost use Rattle.occ_types.specs.Size.{capped, is_over as spec_is_over, size_of};
+ghost use Rattle.occ_types.specs.Unknown.{holds_unknown as spec_holds_unknown};
+ghost use Rattle.occ_types.specs.declared.types.OccType.TheVariants as t;
+ghost use Rattle.std.specs.Prelude.{ℕ, Option};
+
+use super::measure::{Measure, measure_of};
+use super::size::{array_extent, extent, is_oversized as has_too_many_bytes};
+use super::types::OccType;
+use super::unknown::holds_unknown;
+use occ_base::Shared;
+use std::alloc::{AllocError, Global};
+use std::marker::Model;
+
+/// A type with what is asked of its size: in contracts the type.
+#[derive(Drop)]
+pub struct KnownType {
+    of: Shared<OccType>,
+    /// Its bytes, or 2,147,483,648 where they are more.
+    extent: Option<u64>,
+    measure: Measure,
+    holds_unknown: bool,
+    /// Whether it, or a type that it is an array of, has over 2,147,483,647 bytes.
+    is_oversized: bool,
+}
+
+impl Model for KnownType {
+    ghost use Rattle.occ_types.specs.contracts.types.OccType as types;
+    ghost use Rattle.occ_types.specs.declared.types.OccType.{OccType};
+    ghost use Rattle.occ_types.specs.inside.KnownTypes.{IsKnown};
+
+    ghost Value = { OccType };
+
+    ghost coded = { types.the_row.coded };
+
+    ghost view = { λ known. known.of };
+
+    ghost invariant = { IsKnown };
+}
+
+/// Whether a type, or one that it is an array of, has over 2,147,483,647 bytes.
+fn is_oversized(of: &OccType) -> bool
+    ensures { result ≡ spec_is_oversized of.now }
+{
+    match of {
+        OccType::Array(_, inner) => has_too_many_bytes(of) || is_oversized(inner.get()),
+        _ => has_too_many_bytes(of),
+    }
+}
+
+/// Whether the extent of a type is over 2,147,483,647 bytes.
+fn is_over(extent: Option<u64>) -> bool
+    ensures { (size : Option ℕ) → extent ≡ capped size → result ≡ spec_is_over size }
+{
+    match extent {
+        Some(bytes) => bytes > 2_147_483_647,
+        None => false,
+    }
+}
+
+/// Whether a measure has over 128 levels or over 4,096 types.
+fn is_too_wide(measure: Measure) -> bool
+    ensures { result ≡ spec_is_too_wide measure }
+{
+    measure.levels > 128 || measure.types > 4096
+}
+
+/// Whether a type is too large: it, or a type that it is an array of, has over 2,147,483,647 bytes, or it has over 128
+/// levels or over 4,096 types. Levels and types are not asked of a type that holds a field with a faulty line: such a field
+/// is looked for where they are too many alone.
+pub fn is_too_large(of: &OccType) -> bool
+    ensures { result ≡ spec_is_too_large of.now }
+{
+    is_oversized(of) || is_too_wide(measure_of(of)) && !holds_unknown(of)
+}
+
+impl KnownType {
+    /// A type. It is gone through once.
+    pub fn new(of: Shared<OccType>) -> KnownType
+        ensures { result ≡ of }
+    {
+        KnownType {
+            extent: extent(of.get()),
+            measure: measure_of(of.get()),
+            holds_unknown: holds_unknown(of.get()),
+            is_oversized: is_oversized(of.get()),
+            of,
+        }
+    }
+
+    /// The same type, shared.
+    pub fn share(&self) -> Result<KnownType, AllocError>
+        ensures { IfOk result (λ shared. shared ≡ self.now) }
+    {
+        Ok(KnownType {
+            of: self.of.share()?,
+            extent: self.extent,
+            measure: self.measure,
+            holds_unknown: self.holds_unknown,
+            is_oversized: self.is_oversized,
+        })
+    }
+
+    /// The type.
+    pub fn of(&self) -> &Shared<OccType>
+        ensures { result.now ≡ self.now }
+    {
+        &self.of
+    }
+
+    /// The type alone.
+    pub fn into_type(self) -> Shared<OccType>
+        ensures { result ≡ self }
+    {
+        let KnownType { of, .. } = self;
+        of
+    }
+
+    /// An array of so many components of this type.
+    pub fn array(self, alloc: Global, count: Option<u32>) -> Result<KnownType, AllocError>
+        ensures { IfOk result (λ array. array ≡ t.Array count self) }
+    {
+        let KnownType {
+            of,
+            extent,
+            measure,
+            holds_unknown,
+            is_oversized,
+        } = self;
+        let extent = array_extent(count, extent);
+        Ok(KnownType {
+            of: Shared::new(alloc, OccType::Array(count, of))?,
+            extent,
+            measure: measure.above(),
+            holds_unknown,
+            is_oversized: is_over(extent) || is_oversized,
+        })
+    }
+
+    /// Whether it is too large, as `is_too_large` says of a type.
+    pub fn is_too_large(&self) -> bool
+        ensures { result ≡ spec_is_too_large self.now }
+    {
+        self.is_oversized || is_too_wide(self.measure) && !self.holds_unknown
+    }
+}
