@@ -379,6 +379,15 @@ read_field_send = search (sendable, shared.the_send, file_name_cross.the_send, s
 read_send : IsSend read.the_row
 read_send = search (sendable, read_field_send) depth 10
 
+read_field_sync : IsSync read.the_field.row
+read_field_sync = search (sendable, shared.the_sync, file_name_cross.the_sync, source_field_sync, source_field_send) depth 30
+
+read_sync : IsSync read.the_row
+read_sync = search (sendable, read_field_sync) depth 10
+
+shared_read_send : IsSend (shared_of.the_row read.the_row)
+shared_read_send = shared.the_send read.the_row read_send read_sync
+
 expanded_body_field_send : IsSend expanded_body.the_field.row
 expanded_body_field_send = search (sendable, shared.the_send, shared_names_send, form_send, form_sync, code_cross.the_field_send) depth 30
 
@@ -485,7 +494,7 @@ entry_send : IsSend entry.the_row
 entry_send = search (sendable, entry_field_send) depth 10
 
 project_field_send : IsSend project.the_field.row
-project_field_send = search (sendable, Vec-send, read_send) depth 30
+project_field_send = search (sendable, Vec-send, shared_read_send) depth 30
 
 facts_field_send : IsSend facts.the_field.row
 facts_field_send = search (sendable, items.the_send, shared.the_send, Vec-send, expanded_field_send, expanded_field_sync, file_name_cross.the_send) depth 30
