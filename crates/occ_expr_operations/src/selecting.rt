@@ -221,8 +221,7 @@ fn element_open(alloc: Global, tree: Option<TypedElement>) -> Result<OpenExpr, A
     let Some(tree) = tree else {
         return Ok(OpenExpr::Faulty);
     };
-    let tree = TypedExpr::Element(Shared::new(alloc, tree)?);
-    Ok(OpenExpr::Typed(Shared::new(alloc, tree)?))
+    Ok(OpenExpr::Typed(Shared::new(alloc, TypedExpr::Element(tree))?))
 }
 
 /// An element as an expression.

@@ -13,7 +13,7 @@ pub fn known_of(tree: &TypedExpr) -> &Known
 {
     match tree {
         TypedExpr::Literal(known) => known,
-        TypedExpr::Element(element) => &element.get().known,
+        TypedExpr::Element(element) => &element.known,
         TypedExpr::Operation(known, _, _) => known,
         TypedExpr::Applied(known, _, _) => known,
         TypedExpr::Size(known, _) => known,

@@ -12,7 +12,7 @@ pub enum TypedExpr {
     /// A literal, with its type or without, and with the `-` that makes one literal with it; `TRUE` or `FALSE`; the greatest
     /// or the least value of a type.
     Literal(Known),
-    Element(Shared<TypedElement>),
+    Element(TypedElement),
     /// Operands with one operator between each two, a shift and its count among them.
     Operation(Known, Operator, Items<Shared<TypedExpr>>),
     /// An operator in front of its operand.

@@ -133,11 +133,23 @@ expr_element_calls el env line = ap (λ (v : ExprView). v.calls env line) (expr_
 pub expr_element_effect : (el : TypedElement) (env : Env) → (expr_view (tv.Element el)).effect env ≡ (expr_step (TypedExpr-F.Element (element_view el))).effect env
 expr_element_effect el env = ap (λ (v : ExprView). v.effect env) (expr_element el)
 
+-- the same of an element whose parts are told
+pub expr_element_value_of : (k : Known) (n : List ℕ) (r : Referent) (xs : List Selector) (env : Env) → (expr_view (tv.Element (record { known = k; name = n; referent = r; selectors = xs }))).value env ≡ (expr_step (TypedExpr-F.Element (element_view (record { known = k; name = n; referent = r; selectors = xs })))).value env
+expr_element_value_of k n r xs env = expr_element_value (record { known = k; name = n; referent = r; selectors = xs }) env
+
 pub expr_operation_value : (x : Known) (op : Operator) (es : List TypedExpr) (env : Env) → (expr_view (tv.Operation x op es)).value env ≡ (expr_step (TypedExpr-F.Operation x op (expr_views es))).value env
 expr_operation_value x op es env = ap (λ (v : ExprView). v.value env) (expr_operation x op es)
 
+-- the same of an element whose parts are told
+pub expr_element_size_of : (k : Known) (n : List ℕ) (r : Referent) (xs : List Selector) (env : Env) → (expr_view (tv.Element (record { known = k; name = n; referent = r; selectors = xs }))).size env ≡ (expr_step (TypedExpr-F.Element (element_view (record { known = k; name = n; referent = r; selectors = xs })))).size env
+expr_element_size_of k n r xs env = expr_element_size (record { known = k; name = n; referent = r; selectors = xs }) env
+
 pub expr_operation_size : (x : Known) (op : Operator) (es : List TypedExpr) (env : Env) → (expr_view (tv.Operation x op es)).size env ≡ (expr_step (TypedExpr-F.Operation x op (expr_views es))).size env
 expr_operation_size x op es env = ap (λ (v : ExprView). v.size env) (expr_operation x op es)
+
+-- the same of an element whose parts are told
+pub expr_element_uses_of : (k : Known) (n : List ℕ) (r : Referent) (xs : List Selector) (env : Env) (line : Location) → (expr_view (tv.Element (record { known = k; name = n; referent = r; selectors = xs }))).uses env line ≡ (expr_step (TypedExpr-F.Element (element_view (record { known = k; name = n; referent = r; selectors = xs })))).uses env line
+expr_element_uses_of k n r xs env line = expr_element_uses (record { known = k; name = n; referent = r; selectors = xs }) env line
 
 pub expr_operation_uses : (x : Known) (op : Operator) (es : List TypedExpr) (env : Env) (line : Location) → (expr_view (tv.Operation x op es)).uses env line ≡ (expr_step (TypedExpr-F.Operation x op (expr_views es))).uses env line
 expr_operation_uses x op es env line = ap (λ (v : ExprView). v.uses env line) (expr_operation x op es)
@@ -340,11 +352,11 @@ element_calls el env line = ap (λ (v : ElementView). v.calls env line) (element
 pub element_effect : (el : TypedElement) (env : Env) → (element_view el).effect env ≡ (element_step (element_layer el)).effect env
 element_effect el env = ap (λ (v : ElementView). v.effect env) (element_view_of el)
 
-pub ruleset expr_value_rules = (expr_literal_value, expr_element_value, expr_operation_value, expr_applied_value, expr_size_value, expr_converted_value, expr_table_value, expr_call_value)
+pub ruleset expr_value_rules = (expr_literal_value, expr_element_value, expr_element_value_of, expr_operation_value, expr_applied_value, expr_size_value, expr_converted_value, expr_table_value, expr_call_value)
 
-pub ruleset expr_size_rules = (expr_literal_size, expr_element_size, expr_operation_size, expr_applied_size, expr_size_size, expr_converted_size, expr_table_size, expr_call_size)
+pub ruleset expr_size_rules = (expr_literal_size, expr_element_size, expr_element_size_of, expr_operation_size, expr_applied_size, expr_size_size, expr_converted_size, expr_table_size, expr_call_size)
 
-pub ruleset expr_uses_rules = (expr_literal_uses, expr_element_uses, expr_operation_uses, expr_applied_uses, expr_size_uses, expr_converted_uses, expr_table_uses, expr_call_uses)
+pub ruleset expr_uses_rules = (expr_literal_uses, expr_element_uses, expr_element_uses_of, expr_operation_uses, expr_applied_uses, expr_size_uses, expr_converted_uses, expr_table_uses, expr_call_uses)
 
 pub ruleset expr_calls_rules = (expr_literal_calls, expr_element_calls, expr_operation_calls, expr_applied_calls, expr_size_calls, expr_converted_calls, expr_table_calls, expr_call_calls)
 

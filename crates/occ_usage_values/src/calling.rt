@@ -54,7 +54,7 @@ pub fn expression_calls(
 {
     match expr {
         TypedExpr::Literal(_) => Ok(()),
-        TypedExpr::Element(element) => element_calls(alloc, element.get(), env, line, calls),
+        TypedExpr::Element(element) => element_calls(alloc, element, env, line, calls),
         TypedExpr::Operation(_, _, operands) => {
             each_calls(alloc, operands.as_slice(), env, line, calls)
         }
@@ -91,7 +91,7 @@ fn each_calls(
     for expr in exprs {
         match expr.get() {
             TypedExpr::Literal(_) => {}
-            TypedExpr::Element(element) => element_calls(alloc, element.get(), env, line, calls)?,
+            TypedExpr::Element(element) => element_calls(alloc, element, env, line, calls)?,
             one => expression_calls(alloc, one, env, line, calls)?,
         }
     }

@@ -14,7 +14,7 @@ pub fn expression_effect(expr: &TypedExpr, env: &[Bound]) -> bool
 {
     match expr {
         TypedExpr::Literal(_) => false,
-        TypedExpr::Element(element) => element_effect(element.get(), env),
+        TypedExpr::Element(element) => element_effect(element, env),
         TypedExpr::Operation(_, _, operands) => each_effect(operands.as_slice(), env),
         TypedExpr::Applied(_, _, operand) => expression_effect(operand.get(), env),
         TypedExpr::Size(_, _) => false,

@@ -13,7 +13,7 @@ pub fn expression_names(expr: &TypedExpr, number: usize) -> bool
 {
     match expr {
         TypedExpr::Literal(_) => false,
-        TypedExpr::Element(element) => element_names(element.get(), number),
+        TypedExpr::Element(element) => element_names(element, number),
         TypedExpr::Operation(_, _, operands) => expressions_name(operands.as_slice(), number),
         TypedExpr::Applied(_, _, operand) => expression_names(operand.get(), number),
         TypedExpr::Size(_, operand) => expression_names(operand.get(), number),

@@ -80,8 +80,8 @@ pub fn expression_uses(
     match expr {
         TypedExpr::Literal(_) => Ok(()),
         TypedExpr::Element(element) => {
-            element_uses(alloc, element.get(), env, line, uses)?;
-            use_of(alloc, UseKind::Read, element.get(), env, line, uses)
+            element_uses(alloc, element, env, line, uses)?;
+            use_of(alloc, UseKind::Read, element, env, line, uses)
         }
         TypedExpr::Operation(_, _, operands) => {
             each_uses(alloc, operands.as_slice(), env, line, uses)

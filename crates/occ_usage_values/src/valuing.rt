@@ -100,7 +100,7 @@ pub fn value(expr: &TypedExpr, env: &[Bound]) -> Option<Value>
 {
     match expr {
         TypedExpr::Literal(known) => known.value,
-        TypedExpr::Element(element) => element_value(element.get(), env),
+        TypedExpr::Element(element) => element_value(element, env),
         TypedExpr::Operation(known, operator, operands) => match known.value {
             Some(value) => Some(value),
             None => operation(*operator, operands.as_slice(), env),
@@ -168,7 +168,7 @@ pub fn size(expr: &TypedExpr, env: &[Bound]) -> Option<i64>
     ensures { result ≡ (expr_view expr.now).size env.now }
 {
     match expr {
-        TypedExpr::Element(element) => element_size(element.get(), env),
+        TypedExpr::Element(element) => element_size(element, env),
         _ => None,
     }
 }
