@@ -18,4 +18,4 @@ mod sources;
 
 pub use linked::Linked;
 pub use nodes::Nodes;
-pub use sources::find_sources;
+pub use sources::{add_sources, no_sources};

@@ -5,11 +5,11 @@ ghost use Rattle.occ_project_graph.specs.Sources.{once_each, sources};
 use sqlite_items::Items;
 use std::alloc::{AllocError, Global};
 
-/// So many empty lists.
-fn no_sources(alloc: Global, count: usize) -> Result<Vec<Items<usize>>, AllocError>
+/// None, for each of so many nodes.
+pub fn no_sources(alloc: Global, count: usize) -> Result<Vec<Items<usize>>, AllocError>
     ensures { IfOk result (λ rows. rows.items ≡ replicate count []) }
 {
-    let mut rows = Vec::new(alloc);
+    let mut rows = Vec::with_capacity(alloc, count)?;
     for _ in 0..count {
         rows.push(Items::new(alloc))?;
     }
@@ -27,7 +27,7 @@ fn add_source(rows: &mut Vec<Items<usize>>, node: usize, source: usize) -> Resul
 }
 
 /// Edges lead from the source to these nodes.
-fn add_sources(
+pub fn add_sources(
     rows: &mut Vec<Items<usize>>,
     nodes: &[usize],
     source: usize,

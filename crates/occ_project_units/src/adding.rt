@@ -11,6 +11,7 @@ ghost use Rattle.std.specs.List.{insert};
 ghost use Rattle.std.specs.Prelude.{◌≡◌, ◌<◌, ◌≤◌, ◌+◌, ◌⊎◌, IfOk, IsFalse, IsTrue, OnErr, OnOk, false, length, true};
 
 use super::facts::{Facts, facts_of, indices_of, is_name_among};
+use super::inserting::insert_at;
 use super::project::Project;
 use occ_base::{FileName, Shared};
 use occ_project::Read;
@@ -40,7 +41,7 @@ pub fn is_whole(facts: &Facts, edges: usize) -> bool
     facts.reads.len() <= 1 && edges == facts.uses.len()
 }
 
-/// Adds what is known of the file at an index, which is new. All memory is taken before the first change.
+/// Adds what is known of the file at an index, which is new.
 fn add_known(
     alloc: Global,
     project: &Project,
@@ -58,10 +59,14 @@ fn add_known(
     let known = facts_of(alloc, project, at, project.name_at(at), &mut None)?;
     let targets = indices_of(alloc, project, 0, None, known.uses.as_slice())?;
     let shared = Shared::new(alloc, known)?;
-    facts.reserve(1)?;
-    links.add(alloc, at, targets)?;
-    let _ = facts.insert(at, shared);
-    Ok(())
+    insert_at(facts, at, shared)?;
+    match links.add(alloc, at, targets) {
+        Ok(()) => Ok(()),
+        Err(refused) => {
+            facts.remove(at);
+            Err(refused)
+        }
+    }
 }
 
 /// Puts a file into a project that is new to it and that no file looks for, with what is then known. What is known of the others

@@ -158,19 +158,3 @@ pub fn edges(
     }
     Ok(edges)
 }
-
-/// An edge from each unit to each file that its expansion looks up and that is in the project.
-pub fn read_edges(
-    alloc: Global,
-    project: &Project,
-    all: &[Shared<Facts>],
-) -> Result<Items<Items<usize>>, AllocError>
-    ensures { IfOk result (λ edges. edges ≡ map (λ facts. spec_indices_of project.now facts.reads) all.now) }
-{
-    let mut edges = Items::new(alloc);
-    for (index, facts) in all.iter().enumerate() {
-        let reads = facts.get().reads.as_slice();
-        edges.push(indices_of(alloc, project, index, None, reads)?)?;
-    }
-    Ok(edges)
-}

@@ -11,6 +11,7 @@ ghost use Rattle.std.specs.List.{insert};
 ghost use Rattle.std.specs.Prelude.{◌≡◌, ◌<◌, ◌≤◌, ℕ, IfOk, IsTrue, OnErr, OnOk, cond, false, get_or, length, map, slice_set, true};
 
 use super::facts::{Facts, facts_of, indices_of, is_name_among};
+use super::inserting::insert_at;
 use super::links::links_of;
 use super::project::Project;
 use occ_base::{FileName, Items, Shared};
@@ -117,7 +118,7 @@ fn add_known_anew(
     ensures links { OnOk result (links.new ≡ graph_of project.now) }
     ensures err { OnErr result (facts.new.items ≡ facts.old.items × links.new ≡ links.old) }
 {
-    facts.insert(at, known)?;
+    insert_at(facts, at, known)?;
     match links_of(alloc, project, facts.as_slice(), Some(links), at) {
         Ok(found) => {
             *links = found;
@@ -146,14 +147,17 @@ fn add_known_used(
     ensures links { OnOk result (links.new ≡ with_used_node links.old at marks.now) }
     ensures err { OnErr result (facts.new.items ≡ facts.old.items × links.new ≡ links.old) }
 {
-    facts.reserve(1)?;
-    links.add_used(alloc, at, marks)?;
-    let _ = facts.insert(at, known);
-    Ok(())
+    insert_at(facts, at, known)?;
+    match links.add_used(alloc, at, marks) {
+        Ok(()) => Ok(()),
+        Err(refused) => {
+            facts.remove(at);
+            Err(refused)
+        }
+    }
 }
 
-/// Adds what is known of the file at an index, which is new and used by those that have a mark. All memory is taken before the first
-/// change.
+/// Adds what is known of the file at an index, which is new and used by those that have a mark.
 fn add_known(
     alloc: Global,
     project: &Project,

@@ -5,6 +5,7 @@ mod adding;
 mod facts;
 mod following;
 mod graph;
+mod inserting;
 mod joining;
 pub mod laws;
 mod links;

@@ -9,6 +9,7 @@ ghost use Rattle.std.specs.Option.{is_some, option_copied};
 ghost use Rattle.std.specs.Prelude.{[], map, get_or, IfOk, IfSome, IsTrue, MatchResult, List, None, OnErr, OnOk, Some, length, ℕ, ◌≡◌, ◌<◌, ◌≤◌};
 ghost use Rattle.std.specs.declared.cmp.Ordering.TheVariants.{Less, Greater};
 
+use super::inserting::insert_at;
 use occ_base::{FileName, Items, Shared};
 use occ_forms::Source;
 use occ_project::{Read, Reads};
@@ -192,7 +193,10 @@ impl Project {
                 self.files[at] = file;
                 Ok(())
             }
-            Err(at) => Ok(self.files.insert(at, file)?),
+            Err(at) => {
+                insert_at(&mut self.files, at, file)?;
+                Ok(())
+            }
         }
     }
 
@@ -213,7 +217,8 @@ impl Project {
         ensures err { OnErr result (self.new ≡ self.old) }
     {
         let file = Shared::new(alloc, file)?;
-        Ok(self.files.insert(at, file)?)
+        insert_at(&mut self.files, at, file)?;
+        Ok(())
     }
 
     /// Takes away the file at an index.

@@ -8,13 +8,13 @@ ghost use Rattle.occ_project_units.specs.inside.Keeping.{AreAsBefore, AreReaders
 ghost use Rattle.std.specs.Option.{option_copied};
 ghost use Rattle.std.specs.Prelude.{get_or, false, IfOk, IsTrue, length, map, OnErr, slice_get, slice_set, Some, true, ℕ, ◌≡◌, ◌<◌, ◌⊎◌};
 
-use super::facts::{Facts, facts_of, read_edges};
+use super::facts::{Facts, facts_of, indices_of};
 use super::following::are_same_names;
 use super::project::Project;
 use occ_base::{Items, Shared};
 use occ_project::Read;
-use occ_project_graph::find_sources;
 use occ_project_graph::laws::sources_law;
+use occ_project_graph::{add_sources, no_sources};
 use std::alloc::{AllocError, Global};
 
 /// Of each file the indices of those that read it.
@@ -26,8 +26,12 @@ pub fn find_readers(
     requires { facts.now ≡ spec_all_facts project.now }
     ensures { IfOk result (λ rows. AreReaders project.now (Some rows)) }
 {
-    let edges = read_edges(alloc, project, facts)?;
-    let rows = find_sources(alloc, edges.as_slice())?;
+    let mut rows = no_sources(alloc, facts.len())?;
+    for (index, known) in facts.iter().enumerate() {
+        let reads = known.get().reads.as_slice();
+        let nodes = indices_of(alloc, project, index, None, reads)?;
+        add_sources(&mut rows, nodes.as_slice(), index)?;
+    }
     Ok(Items::from_vec(rows))
 }
 

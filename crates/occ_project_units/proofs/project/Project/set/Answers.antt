@@ -26,7 +26,7 @@ invariant_of-self-in-Err c =
     let files = c.self.inside.files.items in
     let file : Read = record { name = c.args.name; revision = c.args.revision; source = c.args.source } in
     let gap : IsGap c.args.name files c.in-Err.at = subst (λ (fs : List Read). IsGap c.args.name fs c.in-Err.at) (sym c.self.view_is) c.in-Err.ensures in
-    subst IsProject (sym (c.in_ok-insert-in-Err.ensures.items ∙ ap (insert files c.in-Err.at) c.in_ok-file.ensures ∙ put_gap files file c.in-Err.at gap)) (put_rises files file c.self.invariant)
+    subst IsProject (sym (c.in_ok-insert_at-in-Err.ensures.ok ∙ ap (insert files c.in-Err.at) c.in_ok-file.ensures ∙ put_gap files file c.in-Err.at gap)) (put_rises files file c.self.invariant)
 
 pub returns-in-Ok-clause-ok : goal.returns-in-Ok-clause-ok
 returns-in-Ok-clause-ok c =
@@ -35,9 +35,9 @@ returns-in-Ok-clause-ok c =
     let found : index c.args.name files ≡ Some c.in-Ok.at = ap (index c.args.name) c.self.view_is ∙ c.in-Ok.ensures in
     ap (set files c.in-Ok.at) c.in_ok-file.ensures ∙ put_at files file c.in-Ok.at c.self.invariant found ∙ ap (λ (fs : List Read). put fs file) c.self.view_is
 
-pub returns-in_ok-insert-in-Err-clause-ok : goal.returns-in_ok-insert-in-Err-clause-ok
-returns-in_ok-insert-in-Err-clause-ok c =
+pub returns-in_ok-insert_at-in-Err-clause-ok : goal.returns-in_ok-insert_at-in-Err-clause-ok
+returns-in_ok-insert_at-in-Err-clause-ok c =
     let files = c.self.inside.files.items in
     let file : Read = record { name = c.args.name; revision = c.args.revision; source = c.args.source } in
     let gap : IsGap c.args.name files c.in-Err.at = subst (λ (fs : List Read). IsGap c.args.name fs c.in-Err.at) (sym c.self.view_is) c.in-Err.ensures in
-    c.in_ok-insert-in-Err.ensures.items ∙ ap (insert files c.in-Err.at) c.in_ok-file.ensures ∙ put_gap files file c.in-Err.at gap ∙ ap (λ (fs : List Read). put fs file) c.self.view_is
+    c.in_ok-insert_at-in-Err.ensures.ok ∙ ap (insert files c.in-Err.at) c.in_ok-file.ensures ∙ put_gap files file c.in-Err.at gap ∙ ap (λ (fs : List Read). put fs file) c.self.view_is
