@@ -15,6 +15,9 @@ use std::alloc::{AllocError, Global};
 use std::cmp::Ordering;
 use std::marker::Model;
 
+/// For so many numbers there is room where a code begins: most uses have fewer.
+const ROOM: usize = 8;
+
 /// A use of a formal written as numbers: in contracts and in order the list of them.
 #[derive(Drop)]
 pub struct UseCode {
@@ -166,7 +169,7 @@ fn push_selectors(selectors: &[PartSelector], numbers: &mut Items<u64>) -> Resul
 pub fn use_code(alloc: Global, found: &FormalUse) -> Result<UseCode, AllocError>
     ensures { IfOk result (λ code. code ≡ spec_use_code found.now) }
 {
-    let mut numbers = Items::from_vec(Vec::with_capacity(alloc, 8)?);
+    let mut numbers = Items::from_vec(Vec::with_capacity(alloc, ROOM)?);
     numbers.push(u64::from(found.formal))?;
     numbers.push(kind_code(found.kind))?;
     push_selectors(found.selectors.as_slice(), &mut numbers)?;

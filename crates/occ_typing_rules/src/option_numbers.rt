@@ -4,7 +4,7 @@
 ghost use Rattle.std.specs.BTreeSet.{contains};
 ghost use Rattle.std.specs.List.Sorted.{IsStrictlySortedBy};
 ghost use Rattle.std.specs.Ordering.{int_cmp};
-ghost use Rattle.std.specs.Prelude.{◌≡◌, IfOk, IsTrue, OnOk, [], not};
+ghost use Rattle.std.specs.Prelude.{◌≡◌, IfOk, IsTrue, OnErr, OnOk, [], not};
 ghost use Rattle.occ_typing_rules.specs.Choosing.{with_number};
 ghost use Rattle.occ_typing_rules.specs.inside.Numbers.{IsLastBelow};
 
@@ -74,6 +74,7 @@ impl OptionNumbers {
     pub fn insert(&mut self, alloc: Global, number: i64) -> Result<bool, AllocError>
         ensures added { IfOk result (λ added. added ≡ not (contains int_cmp self.old number)) }
         ensures numbers { OnOk result (self.new ≡ with_number self.old number) }
+        ensures err { OnErr result (self.new ≡ self.old) }
     {
         let rising = match &mut self.numbers {
             Numbers::Rising(rising) => rising,

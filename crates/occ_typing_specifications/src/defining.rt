@@ -126,5 +126,5 @@ pub fn data_type(
     ensures faults { OnOk result (faults.new ≡ faults.old ++ (spec_data_type scope.now name.now form.now).faults) }
 {
     let of = type_of_name(alloc, name, form, scope, faults)?;
-    one_entry(alloc, name, Meaning::Type(of.map(|of| KnownType::new(of))))
+    one_entry(alloc, name, Meaning::Type(of.map(KnownType::new)))
 }

@@ -22,5 +22,5 @@ pub fn record(
 {
     let of = Shared::new(alloc, OccType::Record(packing, fields))?;
     let of = with_name(alloc, name, Some(of), faults)?;
-    Ok(Meaning::Type(of.map(|of| KnownType::new(of))))
+    Ok(Meaning::Type(of.map(KnownType::new)))
 }
