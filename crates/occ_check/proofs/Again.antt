@@ -1,5 +1,5 @@
 -- Jobs with one expansion that use the same units have one outcome.
-use Rattle.std.proofs.Common.{◌≡◌, ◌∙◌, ◌++◌, List, Option, ap}
+use Rattle.std.proofs.Common.{◌≡◌, ◌∙◌, ◌++◌, List, ap}
 use Rattle.occ_base.specs.declared.diag.Diag.{Diag}
 use Rattle.occ_check.specs.Diagnostics.{diags_of, interface_of, judged}
 use Rattle.occ_check.specs.Faults.{line_faults}
@@ -10,7 +10,6 @@ use Rattle.occ_check.specs.declared.language.Judgement.{Judgement}
 use Rattle.occ_check.specs.declared.used.UsedUnit.{UsedUnit}
 use Rattle.occ_base.specs.Errors.{has_error}
 use Rattle.occ_project.specs.Expansion.{Expansion}
-use Rattle.occ_types.specs.declared.interface.Interface.{Interface}
 use Rattle.std.specs.Prelude.{None, if◌then◌else◌}
 
 abbrev judged_by : Expansion → List UsedUnit → Judgement

@@ -1,5 +1,5 @@
 -- A used unit is found by halves.
-use Rattle.std.proofs.Common.{◌≡◌, ◌∙◌, ◌<◌, ◌≤◌, ℕ, zero, suc, Bool, true, false, cond, List, [], ◌∷◌, length, map, get_or, Result, Ok, Err, MatchResult, refl, sym, ap, subst, inl, inr, arith}
+use Rattle.std.proofs.Common.{◌≡◌, ◌∙◌, ◌<◌, ◌≤◌, ℕ, zero, suc, Bool, false, cond, List, [], ◌∷◌, length, map, get_or, Result, Ok, Err, MatchResult, refl, sym, ap, subst, inl, inr, arith}
 use Rattle.std.proofs.lemmas.Bool.{cases_lt}
 use Rattle.std.proofs.lemmas.Cmp.{nat_list_cmp_total}
 use Rattle.std.specs.Cmp.{tied_itself}
@@ -10,13 +10,11 @@ use Rattle.std.specs.Str.{bytes_eq}
 use Rattle.std.specs.declared.cmp.Ordering.{Ordering}
 use Rattle.std.specs.declared.cmp.Ordering.TheVariants.{Less, Equal, Greater}
 use Rattle.occ_check.specs.Faults.{standing}
-use Rattle.occ_check.specs.Input.{HasUsed, Input}
-use Rattle.occ_check.specs.declared.used.Used.{Used}
 use Rattle.occ_check.specs.declared.used.Used.TheVariants as how
 use Rattle.occ_check.specs.declared.used.UsedUnit.{UsedUnit}
 use Rattle.occ_check.specs.inside.Sorted.{AreSorted}
 use Rattle.occ_project.specs.Reads.{name_cmp}
-use Rattle.occ_project.specs.Uses.{names_in_order, units_of, used_in}
+use Rattle.occ_project.specs.Uses.{names_in_order}
 use Rattle.occ_project_units.proofs.Rising.{apart, equal_names, equal_test, insert_rising, less_joined}
 
 -- the units of an input stand so

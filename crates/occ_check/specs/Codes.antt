@@ -1,7 +1,6 @@
 -- A use of a formal written as numbers, each in its own way: by them uses have an order.
 use Rattle.std.specs.Prelude.{ℕ, ℤ, pos, negsuc, List, [], ◌∷◌, ◌++◌, length}
 use Rattle.occ_types.specs.declared.interface.FormalUse.{FormalUse}
-use Rattle.occ_types.specs.declared.interface.Interval.{Interval}
 use Rattle.occ_types.specs.declared.interface.Mark.{Mark}
 use Rattle.occ_types.specs.declared.interface.Mark.TheVariants as mark
 use Rattle.occ_types.specs.declared.interface.PartSelector.{PartSelector}

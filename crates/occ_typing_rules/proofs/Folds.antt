@@ -1,5 +1,5 @@
 -- Dimensions of types, and records in them, form by form.
-use Rattle.std.proofs.Common.{◌≡◌, ℕ, List, [], ◌∷◌, map, Option, Some, None, Bool, true, false, refl, ap, sym, ◌∙◌}
+use Rattle.std.proofs.Common.{◌≡◌, ℕ, List, [], ◌∷◌, map, Option, Some, Bool, false, refl, ap, sym, ◌∙◌}
 use Rattle.occ_types.specs.Unknown.{any_of}
 use Rattle.occ_types.specs.View.{array_layer, as_array, of_component}
 use Rattle.occ_types.specs.declared.types.Field.{Field, out-Field}
