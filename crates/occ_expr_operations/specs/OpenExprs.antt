@@ -1,6 +1,6 @@
 -- The open expressions of expressions from those of their parts. An open expression has the parts of an expression in their order, without its
 -- parentheses; what is known of the whole decides whether it is typed already, still free, or faulty.
-use Rattle.std.specs.Prelude.{ℕ, Option, Some, None, List, [], ◌∷◌, if◌then◌else◌}
+use Rattle.std.specs.Prelude.{ℕ, Option, Some, None, List, [], ◌∷◌}
 use Rattle.occ_scope.specs.declared.meaning.Referent.{Referent}
 use Rattle.occ_typing_operands.specs.Settling.{int}
 use Rattle.occ_typing_operands.specs.declared.kind.Untyped.{Untyped}

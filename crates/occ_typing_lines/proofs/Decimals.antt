@@ -1,10 +1,9 @@
 -- What is read of literals in decimal digits, and what their trees are.
-use Rattle.std.proofs.Common.{◌≡◌, ◌∙◌, ◌++◌, ℕ, pos, Option, Some, None, List, [], ◌∷◌, refl, sym, ap, subst}
+use Rattle.std.proofs.Common.{◌≡◌, ◌∙◌, ◌++◌, ℕ, pos, Option, Some, List, [], ◌∷◌, refl, sym, ap}
 use Rattle.std.specs.Option.{unwrap_or}
-use Rattle.occ_base.specs.declared.fault.Fault.{Fault}
-use Rattle.occ_expr_operations.specs.Parts.{ExprView, Said, own_faults, terms}
+use Rattle.occ_expr_operations.specs.Parts.{Said, own_faults, terms}
 use Rattle.occ_expr_operations.specs.Literals.{literal}
-use Rattle.occ_expr_operations.specs.Views.{OperandView, expr_view, operand_view}
+use Rattle.occ_expr_operations.specs.Views.{expr_view}
 use Rattle.occ_expr_operations.proofs.Views.{expr_alone_open, expr_alone_said, operand_literal_digits, operand_literal_whole, operand_literal_whole_open}
 use Rattle.occ_expr_operations.proofs.Layers.{expr_alone}
 use Rattle.occ_forms_expressions.specs.declared.tree.Bounds.{Bounds}
@@ -31,7 +30,6 @@ use Rattle.occ_typing_rules.specs.declared.open_expr.OpenExpr.{OpenExpr}
 use Rattle.occ_typing_rules.specs.declared.open_expr.OpenExpr.TheVariants as d
 use Rattle.occ_typing_statements.specs.StatementTrees.{open_exprs}
 use Rattle.occ_typing_statements.specs.Statements.{said}
-use Rattle.occ_typing_tables.specs.declared.term.Term.{Term}
 use Rattle.occ_typing_tables.specs.declared.term.Term.TheVariants as v
 
 abbrev decimal_expr : ℕ → Expr

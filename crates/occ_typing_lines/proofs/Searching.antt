@@ -1,5 +1,5 @@
 -- An import is found by halves.
-use Rattle.std.proofs.Common.{◌≡◌, ◌∙◌, ◌<◌, ◌≤◌, ℕ, zero, suc, Bool, true, false, Option, None, Some, List, [], ◌∷◌, length, map, get_or, Result, Ok, Err, MatchResult, if◌then◌else◌, refl, sym, ap, subst, inl, inr, arith}
+use Rattle.std.proofs.Common.{◌≡◌, ◌∙◌, ◌<◌, ◌≤◌, ℕ, zero, suc, Bool, false, Option, None, Some, List, [], ◌∷◌, length, map, get_or, Result, Ok, Err, MatchResult, if◌then◌else◌, refl, sym, ap, subst, inl, inr, arith}
 use Rattle.std.proofs.lemmas.Bool.{cases_lt}
 use Rattle.std.proofs.lemmas.Cmp.{nat_list_cmp_total}
 use Rattle.std.proofs.lemmas.Map.Text.{is_eq-slice_cmp}
@@ -12,7 +12,6 @@ use Rattle.std.specs.Str.{bytes_eq}
 use Rattle.std.specs.declared.cmp.Ordering.{Ordering}
 use Rattle.std.specs.declared.cmp.Ordering.TheVariants.{Less, Equal, Greater}
 use Rattle.occ_project.specs.Reads.{name_cmp}
-use Rattle.occ_types.specs.declared.interface.Interface.{Interface}
 use Rattle.occ_typing_lines.specs.Using.{interface_of}
 use Rattle.occ_typing_lines.specs.declared.using.Import.{Import}
 use Rattle.occ_typing_lines.specs.inside.Sorted.{AreSorted, AreSortedAfter, HasUnitAt, IsAfter, IsImportAt}

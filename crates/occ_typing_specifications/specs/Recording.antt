@@ -3,7 +3,6 @@ use Rattle.std.specs.Prelude.{ℕ, Some, List}
 use Rattle.occ_types.specs.declared.types.Field.{Field}
 use Rattle.occ_types.specs.declared.types.OccType.TheVariants as t
 use Rattle.occ_types.specs.declared.types.Packing.{Packing}
-use Rattle.occ_scope.specs.declared.meaning.Meaning.{Meaning}
 use Rattle.occ_scope.specs.declared.meaning.Meaning.TheVariants as m
 use Rattle.occ_typing_specifications.specs.Defining.{with_name, Defined}
 

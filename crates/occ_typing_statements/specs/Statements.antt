@@ -1,6 +1,6 @@
 -- What a line of a process reports by its elements and expressions, from what stands in scope.
 use Rattle.std.specs.List.{list_any}
-use Rattle.std.specs.Prelude.{ℕ, ℤ, Bool, List, [], ◌++◌}
+use Rattle.std.specs.Prelude.{ℕ, ℤ, Bool, List, ◌++◌}
 use Rattle.std.specs.BTreeSet.{BTreeSet}
 use Rattle.occ_types.specs.declared.types.OccType.{OccType}
 use Rattle.occ_typing_operands.specs.Operators.{all_faults, kinds}

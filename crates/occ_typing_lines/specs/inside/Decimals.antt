@@ -1,5 +1,5 @@
 -- Options that are literals in decimal digits: their trees, from the line and the type.
-use Rattle.std.specs.Prelude.{◌≡◌, ℕ, pos, Option, Some, None, List, [], ◌∷◌}
+use Rattle.std.specs.Prelude.{◌≡◌, ℕ, pos, Option, None, List, [], ◌∷◌}
 use Rattle.std.specs.Option.{unwrap_or}
 use Rattle.occ_expr_operations.specs.Views.{operand_view}
 use Rattle.occ_forms.specs.declared.tree.Form.{Form}

@@ -6,11 +6,9 @@ use Rattle.occ_forms_expressions.specs.declared.tree.Expr.TheVariants as xv
 use Rattle.occ_forms_expressions.specs.declared.tree.NamedOperand.TheVariants as nv
 use Rattle.occ_forms_expressions.specs.declared.tree.Operand.TheVariants as ov
 use Rattle.occ_forms_expressions.specs.declared.tree.TypeForm.TheVariants as tv
-use Rattle.occ_typing_tables.specs.Terms.{judged_all}
-use Rattle.occ_expr_operations.specs.Operations.{operation}
 use Rattle.occ_expr_operations.specs.Elements.{selector}
 use Rattle.occ_expr_operations.specs.Parts.{after_a_fault, call, component, function_call, in_scope, named_element, no_call, part, subscript, terms, whole_element}
-use Rattle.occ_expr_operations.specs.Views.{call_open, expr_views, named_tree, operand_view, operand_views, operands, whole_element_open}
+use Rattle.occ_expr_operations.specs.Views.{call_open, expr_views, named_tree, operand_views, operands, whole_element_open}
 use Rattle.occ_expr_operations.specs.Written.{array_after, channel, data_form}
 use Rattle.occ_expr_operations.proofs.Fields.{front_rules}
 use Rattle.occ_expr.proofs.Walking as step

@@ -1,7 +1,7 @@
 use Rattle.std.proofs.Common.{◌≡◌, ◌≤◌, ◌∙◌, ◌+◌, ◌∷◌, List, length, ap, arith, drop, subst, sym}
 use Rattle.std.proofs.lemmas.List.{drop_all, drop_more}
 use Rattle.occ_typing_lines.specs.declared.using.Import.{Import}
-use Rattle.occ_typing_lines.specs.inside.Sorted.{AreSorted, AreSortedAfter}
+use Rattle.occ_typing_lines.specs.inside.Sorted.{AreSortedAfter}
 use Rattle.occ_typing_lines.proofs.Searching.{more_sorted, none_sorted}
 use Rattle.occ_typing_lines.proofs.imports.are_sorted.Goals as goal
 

@@ -1,4 +1,4 @@
-use Rattle.std.proofs.Common.{◌≡◌, ◌∙◌, Err, Ok, ap, rules, sym}
+use Rattle.std.proofs.Common.{Err, Ok, rules}
 use Rattle.std.proofs.lemmas.List.Sorted.{answers_always}
 use Rattle.occ_typing_lines.proofs.Searching.{searched_so, standing_at}
 use Rattle.occ_typing_lines.proofs.imports.place_near.Goals as goal

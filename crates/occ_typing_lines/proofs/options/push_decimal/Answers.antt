@@ -1,4 +1,4 @@
-use Rattle.std.proofs.Common.{◌≡◌, ◌∙◌, ◌++◌, ◌∷◌, [], List, ap, sym}
+use Rattle.std.proofs.Common.{◌∙◌, ◌++◌, ◌∷◌, [], List, ap, sym}
 use Rattle.occ_typing_lines.proofs.Decimals.{one_term}
 use Rattle.occ_typing_lines.proofs.options.push_decimal.Goals as goal
 use Rattle.occ_typing_operands.specs.declared.kind.Kind.TheVariants as kind

@@ -1,4 +1,4 @@
-use Rattle.std.proofs.Common.{◌≡◌, ◌++◌, ◌∙◌, List, ap}
+use Rattle.std.proofs.Common.{◌++◌, ◌∙◌, List, ap}
 use Rattle.occ_protocol.specs.declared.given.Given.{Given}
 use Rattle.occ_typing_statements.specs.Receiving.{details_received, givens}
 use Rattle.occ_typing_statements.proofs.Both.{variant_reported}
