@@ -745,8 +745,8 @@ fn named_element(
 {
     let referent = scope.referent(name)?;
     let whole = referred(alloc, scope, name, &referent, faults)?;
-    let selectors = Some(Items::new(alloc));
-    let (kind, selectors) = subscripts(alloc, exprs, whole, selectors, scope, faults)?;
+    let room = Items::from_vec(Vec::with_capacity(alloc, exprs.len())?);
+    let (kind, selectors) = subscripts(alloc, exprs, whole, Some(room), scope, faults)?;
     let tree = element_of(&kind, name.copied(alloc)?, referent, selectors)?;
     Ok(ElementReading { kind, tree })
 }

@@ -70,6 +70,7 @@ pub fn all_targets(
 {
     let read = target_of(alloc, first, scope, faults)?;
     let kinds = one_item(alloc, read.kind)?;
-    let trees = with_target(Some(Items::new(alloc)), read.tree)?;
+    let room = Items::from_vec(Vec::with_capacity(alloc, more.len().saturating_add(1))?);
+    let trees = with_target(Some(room), read.tree)?;
     more_targets(alloc, more, Targets { kinds, trees }, scope, faults)
 }
