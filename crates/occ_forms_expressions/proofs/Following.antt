@@ -19,9 +19,10 @@ use Rattle.occ_forms_expressions.specs.declared.tree.NamedOperand.{NamedOperand}
 use Rattle.occ_forms_expressions.specs.declared.tree.Operand.{Operand}
 use Rattle.occ_forms_expressions.specs.declared.tree.Operand.TheVariants as ov
 use Rattle.occ_forms_expressions.specs.inside.Brackets.{Fits, IsBracketed, bounds_begin, closing_then, narrow_of}
-use Rattle.occ_forms_expressions.specs.Reading.{IsAfter, IsEnd, IsEndOfRun, IsNot, Reads, begin_of, is_plain_begin}
+use Rattle.occ_forms_expressions.specs.Reading.{IsAfter, IsEndOfRun, IsNot, Reads, begin_of, is_plain_begin}
 use Rattle.occ_forms_expressions.specs.Spelling.{arguments_of, element_then, expr_then, many, operand_then, subscript_of, type_form_then}
 use Rattle.occ_forms_expressions.specs.inside.Tails.{joined, tail_then}
+use Rattle.occ_forms_expressions.proofs.Arguments.{IsFirstRead}
 use Rattle.occ_forms_expressions.proofs.Cases.{element_named_spells, operand_element_spells}
 use Rattle.occ_forms_expressions.proofs.Classes.{ExprAt, at_named, expr_at, run_at_name}
 use Rattle.occ_forms_expressions.proofs.Closings.{bounds_begins, closing_ends}
@@ -174,10 +175,7 @@ index_found n first closing tokens (Ok (Some y)) is found = ap (λ (c : Closing)
 abbrev pub IsBracketRead : List Token → Bracket → List Token → Type 0
 IsBracketRead tokens found rest = (i : Expr) (c : Closing) (k : List Token) → Fits c k → tokens ≡ expr_then i (closing_then c k) → (found ≡ br.Closed i c) × (rest ≡ k)
 
--- the first expression in brackets is read, and what is after it
-abbrev pub IsFirstRead : List Token → Expr → List Token → Type 0
-IsFirstRead tokens first rest = (i : Expr) (k : List Token) → IsEnd k → tokens ≡ expr_then i k → (first ≡ i) × (rest ≡ k)
-
+-- what is after the first expression in brackets is read, and this is left
 abbrev pub IsClosingRead : List Token → Closing → List Token → Type 0
 IsClosingRead tokens closing rest = (c : Closing) (k : List Token) → Fits c k → tokens ≡ closing_then c k → (closing ≡ c) × (rest ≡ k)
 
