@@ -53,7 +53,7 @@ pub fn expression(
     ensures faults { OnOk result (faults.new ≡ faults.old ++ ((expr_view expr.now).said scope.now).faults) }
 {
     match expr {
-        Expr::Alone(following) => whole_operand(alloc, following.get(), scope, faults),
+        Expr::Alone(following) => whole_operand(alloc, following, scope, faults),
         _ => composed(alloc, expr, scope, faults),
     }
 }
@@ -72,7 +72,7 @@ fn composed(
     ensures faults { OnOk result (faults.new ≡ faults.old ++ ((expr_view expr.now).said scope.now).faults) }
 {
     match expr {
-        Expr::Alone(following) => whole_operand(alloc, following.get(), scope, faults),
+        Expr::Alone(following) => whole_operand(alloc, following, scope, faults),
         Expr::Run(operator, first, second, more) => {
             let mut readings = Readings::with_room(alloc, more.len().saturating_add(2))?;
             let first = operand(alloc, first.get(), scope, faults)?;
@@ -196,7 +196,7 @@ fn operand(
     ensures faults { OnOk result (faults.new ≡ faults.old ++ ((operand_view operand.now).said scope.now).faults) }
 {
     match operand {
-        Operand::Element(part) => element_operand(alloc, part.get(), scope, faults),
+        Operand::Element(part) => element_operand(alloc, part, scope, faults),
         Operand::Literal(written) => literal_operand(alloc, written, faults),
         Operand::Decorated(written, of) => {
             decorated_operand(alloc, written, of.get(), scope, faults)
@@ -352,7 +352,7 @@ fn whole_operand(
     ensures faults { OnOk result (faults.new ≡ faults.old ++ ((operand_view whole.now).whole scope.now).faults) }
 {
     match whole {
-        Operand::Element(part) => whole_element(alloc, part.get(), scope, faults),
+        Operand::Element(part) => whole_element(alloc, part, scope, faults),
         Operand::Literal(_) => operand(alloc, whole, scope, faults),
         Operand::Decorated(_, _) => operand(alloc, whole, scope, faults),
         Operand::Truth(_) => operand(alloc, whole, scope, faults),
@@ -377,7 +377,7 @@ fn named_operand(
     ensures faults { OnOk result (faults.new ≡ faults.old ++ ((named_operand_view operand.now).said scope.now).faults) }
 {
     match operand {
-        NamedOperand::Element(part) => element_operand(alloc, part.get(), scope, faults),
+        NamedOperand::Element(part) => element_operand(alloc, part, scope, faults),
         NamedOperand::Literal(written) => literal_operand(alloc, written, faults),
         NamedOperand::Decorated(written, of) => {
             decorated_operand(alloc, written, of.get(), scope, faults)

@@ -41,7 +41,7 @@ pub fn call_in(expr: &Expr) -> Option<(&Name, &[Expr])>
     ensures { MatchOption result (spec_call_in expr.now ≡ None) (λ call. spec_call_in expr.now ≡ Some (call.0.now, call.1.now)) }
 {
     match expr {
-        Expr::Alone(operand) => call_in_operand(operand.get()),
+        Expr::Alone(operand) => call_in_operand(operand),
         Expr::Run(_, _, _, _) => None,
         Expr::Pair(_, _, _) => None,
         Expr::Applied(_, _) => None,

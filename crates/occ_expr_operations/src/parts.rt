@@ -61,7 +61,7 @@ fn operand_name(operand: &Operand) -> Option<&Name>
     ensures { MatchOption result ((operand_view operand.now).name ≡ None) (λ name. (operand_view operand.now).name ≡ Some name.now) }
 {
     match operand {
-        Operand::Element(element) => element_name(element.get()),
+        Operand::Element(element) => element_name(element),
         Operand::Literal(_) => None,
         Operand::Decorated(_, _) => None,
         Operand::Truth(_) => None,
@@ -77,7 +77,7 @@ pub fn name_alone(expr: &Expr) -> Option<&Name>
     ensures { MatchOption result ((expr_view expr.now).name ≡ None) (λ name. (expr_view expr.now).name ≡ Some name.now) }
 {
     match expr {
-        Expr::Alone(operand) => operand_name(operand.get()),
+        Expr::Alone(operand) => operand_name(operand),
         Expr::Run(_, _, _, _) => None,
         Expr::Pair(_, _, _) => None,
         Expr::Applied(_, _) => None,

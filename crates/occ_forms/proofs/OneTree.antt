@@ -39,7 +39,7 @@ comma_ends = record { ends = refl; no_more = λ r q. absurd cc }
 semicolon_ends : ListEnds s.Semicolon IsNotCounted colon
 semicolon_ends = record { ends = refl; no_more = λ r q. absurd cc }
 
-binding_once : (b c : Binding) (j k : List Token) → t.Word (binding_word b) ∷ j ≡ t.Word (binding_word c) ∷ k → (b ≡ c) × (j ≡ k)
+pub binding_once : (b c : Binding) (j k : List Token) → t.Word (binding_word b) ∷ j ≡ t.Word (binding_word c) ∷ k → (b ≡ c) × (j ≡ k)
 binding_once bi.Is bi.Is j k e = (refl, same_after _ _ _ e)
 binding_once bi.Is (bi.Recast rc.Retypes) j k e = absurd cc
 binding_once bi.Is (bi.Recast rc.Reshapes) j k e = absurd cc

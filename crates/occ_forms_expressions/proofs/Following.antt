@@ -18,13 +18,16 @@ use Rattle.occ_forms_expressions.specs.declared.tree.Expr.TheVariants as xv
 use Rattle.occ_forms_expressions.specs.declared.tree.NamedOperand.{NamedOperand}
 use Rattle.occ_forms_expressions.specs.declared.tree.Operand.{Operand}
 use Rattle.occ_forms_expressions.specs.declared.tree.Operand.TheVariants as ov
-use Rattle.occ_forms_expressions.specs.inside.Brackets.{Fits, IsBracketed, closing_then, narrow_of}
+use Rattle.occ_forms_expressions.specs.inside.Brackets.{Fits, IsBracketed, bounds_begin, closing_then, narrow_of}
 use Rattle.occ_forms_expressions.specs.Reading.{IsAfter, IsEndOfRun, IsNot, Reads, begin_of, is_plain_begin}
-use Rattle.occ_forms_expressions.specs.Spelling.{arguments_of, element_then, expr_then, many, operand_then, subscript_of}
+use Rattle.occ_forms_expressions.specs.Spelling.{arguments_of, element_then, expr_then, many, operand_then, subscript_of, type_form_then}
 use Rattle.occ_forms_expressions.specs.inside.Tails.{joined, tail_then}
+use Rattle.occ_forms_expressions.proofs.Arguments.{IsFirstRead}
 use Rattle.occ_forms_expressions.proofs.Cases.{element_named_spells, operand_element_spells}
 use Rattle.occ_forms_expressions.proofs.Classes.{ExprAt, at_named, expr_at, run_at_name}
+use Rattle.occ_forms_expressions.proofs.Closings.{bounds_begins, closing_ends}
 use Rattle.occ_forms_expressions.proofs.Conversions.{widen}
+use Rattle.occ_forms_expressions.proofs.Lists.{after_same}
 use Rattle.occ_forms_expressions.proofs.Narrow.{narrow_of_table, narrow_parens}
 use Rattle.occ_forms_expressions.proofs.Operands.{OperandAt, after_no_index, after_no_open, at_bracket, at_call, at_decorated, at_element, at_literal, at_parens, at_truth, operand_at}
 use Rattle.occ_forms_expressions.proofs.Tailed.{end_after, tail_after}
@@ -172,30 +175,56 @@ index_found n first closing tokens (Ok (Some y)) is found = ap (λ (c : Closing)
 abbrev pub IsBracketRead : List Token → Bracket → List Token → Type 0
 IsBracketRead tokens found rest = (i : Expr) (c : Closing) (k : List Token) → Fits c k → tokens ≡ expr_then i (closing_then c k) → (found ≡ br.Closed i c) × (rest ≡ k)
 
-pub element_after : (n : List ℕ) (tokens rest : List Token) (found : Bracket) (first : Expr) (closing : Closing) (result : Result (Option (Expr × Bor (List Token))) AllocError) → found ≡ br.Closed first closing → IsBracketRead tokens found rest
-    → IfOk result (λ r. (es : List Expr) (x : Tail) (k : List Token) → IsEndOfRun k → closing ≡ cl.Items [] None → rest ≡ many subscript_of es (tail_then x k) → Reads r (joined (ov.Element (ev.Named n (first ∷ es))) x) k)
-    → IfOk result (λ r. (i : Expr) (es : List Expr) (x : Tail) (k : List Token) → IsEndOfRun k → tokens ≡ expr_then i (t.Symbol s.CloseIndex ∷ many subscript_of es (tail_then x k)) → Reads r (joined (ov.Element (ev.Named n (i ∷ es))) x) k)
-element_after n tokens rest found first closing (Err e) is read element = tt
-element_after n tokens rest found first closing (Ok r) is read element = λ i es x k ends e.
-    let h = read i (cl.Items [] None) (many subscript_of es (tail_then x k)) (subscripts_fit es x k ends) e in
-    let j : br.Closed first closing ≡ br.Closed i (cl.Items [] None) = sym is ∙ h.0 in
-    let m : first ≡ i = (cc) in
-    let c : closing ≡ cl.Items [] None = (cc) in
-    subst (λ (y : Expr). Reads r (joined (ov.Element (ev.Named n (y ∷ es))) x) k) m (element es x k ends c h.1)
+-- what is after the first expression in brackets is read, and this is left
+abbrev pub IsClosingRead : List Token → Closing → List Token → Type 0
+IsClosingRead tokens closing rest = (c : Closing) (k : List Token) → Fits c k → tokens ≡ closing_then c k → (closing ≡ c) × (rest ≡ k)
 
-pub type_after : (n : List ℕ) (tokens rest : List Token) (found : Bracket) (first : Expr) (closing : Closing) (result : Result (Option (Expr × Bor (List Token))) AllocError) → found ≡ br.Closed first closing → IsBracketRead tokens found rest
-    → IfOk result (λ r. (p : Operand) (q : NamedOperand) → IsBracketed first closing (Some p) → narrow_of p ≡ Some q → Reads r (xv.Named n q) rest)
+-- where one item is closed and no type follows, no other closing is spelled
+single_is : (c : Closing) (k next : List Token) → t.Symbol s.CloseIndex ∷ next ≡ closing_then c k → IsNot s.Open next → c ≡ cl.Items [] None
+single_is (cl.Items [] None) k next e plain = refl
+single_is (cl.Items [] (Some type)) k next e plain = absurd (plain _ (after_same (t.Symbol s.CloseIndex) (t.Symbol s.CloseIndex ∷ next) next (t.Symbol s.Open ∷ type_form_then type (t.Symbol s.Close ∷ k)) refl e))
+single_is (cl.Items (i ∷ more) type) k next e plain = absurd cc
+single_is (cl.Segment b es) k next e plain = let h : false ≡ true = ap bounds_begin e ∙ bounds_begins b _ in absurd cc
+
+pub single_found : (n : List ℕ) (tokens rest next : List Token) (first : Expr) (result : Result (Option (Expr × Bor (List Token))) AllocError) → tokens ≡ expr_then first rest → rest ≡ t.Symbol s.CloseIndex ∷ next
+    → IfOk result (λ r. IfSome r (λ y. t.Name n ∷ subscript_of first next ≡ expr_then y.0 y.1.now))
+    → IfOk result (λ r. IfSome r (λ y. t.Name n ∷ t.Symbol s.OpenIndex ∷ tokens ≡ expr_then y.0 y.1.now))
+single_found n tokens rest next first (Err e) read is found = tt
+single_found n tokens rest next first (Ok None) read is found = tt
+single_found n tokens rest next first (Ok (Some y)) read is found = ap (λ (z : List Token). t.Name n ∷ t.Symbol s.OpenIndex ∷ z) (read ∙ ap (λ (z : List Token). expr_then first z) is) ∙ found
+
+pub single_element : (n : List ℕ) (tokens rest next : List Token) (first : Expr) (result : Result (Option (Expr × Bor (List Token))) AllocError) → IsFirstRead tokens first rest → rest ≡ t.Symbol s.CloseIndex ∷ next
+    → IfOk result (λ r. (es : List Expr) (x : Tail) (k : List Token) → IsEndOfRun k → next ≡ many subscript_of es (tail_then x k) → Reads r (joined (ov.Element (ev.Named n (first ∷ es))) x) k)
+    → IfOk result (λ r. (i : Expr) (es : List Expr) (x : Tail) (k : List Token) → IsEndOfRun k → tokens ≡ expr_then i (t.Symbol s.CloseIndex ∷ many subscript_of es (tail_then x k)) → Reads r (joined (ov.Element (ev.Named n (i ∷ es))) x) k)
+single_element n tokens rest next first (Err e) read is element = tt
+single_element n tokens rest next first (Ok r) read is element = λ i es x k ends e.
+    let h = read i (t.Symbol s.CloseIndex ∷ many subscript_of es (tail_then x k)) refl e in
+    subst (λ (y : Expr). Reads r (joined (ov.Element (ev.Named n (y ∷ es))) x) k) h.0 (element es x k ends (after_same _ _ _ _ is h.1))
+
+pub single_type : (n : List ℕ) (tokens rest next : List Token) (first : Expr) (result : Result (Option (Expr × Bor (List Token))) AllocError) → IsFirstRead tokens first rest → rest ≡ t.Symbol s.CloseIndex ∷ next → IsNot s.Open next
     → IfOk result (λ r. (i : Expr) (c : Closing) (p : Operand) (q : NamedOperand) (k : List Token) → IsAfter k → IsBracketed i c (Some p) → narrow_of p ≡ Some q → tokens ≡ expr_then i (closing_then c k) → Reads r (xv.Named n q) k)
-type_after n tokens rest found first closing (Err e) is read converted = tt
-type_after n tokens rest found first closing (Ok r) is read converted = λ i c p q k after operand narrows e.
-    let h = read i c k (fitting c k after) e in
-    let j : br.Closed i c ≡ br.Closed first closing = sym h.0 ∙ is in
-    let m : i ≡ first = (cc) in
-    let l : c ≡ closing = (cc) in
-    subst (λ (y : List Token). Reads r (xv.Named n q) y) h.1 (converted p q (subst (λ (y : Closing). IsBracketed first y (Some p)) l (subst (λ (y : Expr). IsBracketed y c (Some p)) m operand)) narrows)
+single_type n tokens rest next first (Err e) read is plain = tt
+single_type n tokens rest next first (Ok r) read is plain = λ i c p q k after operand narrows e.
+    let h = read i (closing_then c k) (closing_ends c k) e in
+    single_no_type i c p q (single_is c k next (sym is ∙ h.1) plain) operand narrows
+
+pub element_after : (n : List ℕ) (tokens rest left : List Token) (first : Expr) (closing : Closing) (result : Result (Option (Expr × Bor (List Token))) AllocError) → IsFirstRead tokens first rest → IsClosingRead rest closing left
+    → IfOk result (λ r. (es : List Expr) (x : Tail) (k : List Token) → IsEndOfRun k → closing ≡ cl.Items [] None → left ≡ many subscript_of es (tail_then x k) → Reads r (joined (ov.Element (ev.Named n (first ∷ es))) x) k)
+    → IfOk result (λ r. (i : Expr) (es : List Expr) (x : Tail) (k : List Token) → IsEndOfRun k → tokens ≡ expr_then i (t.Symbol s.CloseIndex ∷ many subscript_of es (tail_then x k)) → Reads r (joined (ov.Element (ev.Named n (i ∷ es))) x) k)
+element_after n tokens rest left first closing (Err e) read closed element = tt
+element_after n tokens rest left first closing (Ok r) read closed element = λ i es x k ends e.
+    let h = read i (t.Symbol s.CloseIndex ∷ many subscript_of es (tail_then x k)) refl e in
+    let m = closed (cl.Items [] None) (many subscript_of es (tail_then x k)) (subscripts_fit es x k ends) h.1 in
+    subst (λ (y : Expr). Reads r (joined (ov.Element (ev.Named n (y ∷ es))) x) k) h.0 (element es x k ends m.0 m.1)
+
+pub type_after : (n : List ℕ) (tokens rest left : List Token) (first : Expr) (closing : Closing) (result : Result (Option (Expr × Bor (List Token))) AllocError) → IsFirstRead tokens first rest → IsClosingRead rest closing left
+    → IfOk result (λ r. (p : Operand) (q : NamedOperand) → IsBracketed first closing (Some p) → narrow_of p ≡ Some q → Reads r (xv.Named n q) left)
+    → IfOk result (λ r. (i : Expr) (c : Closing) (p : Operand) (q : NamedOperand) (k : List Token) → IsAfter k → IsBracketed i c (Some p) → narrow_of p ≡ Some q → tokens ≡ expr_then i (closing_then c k) → Reads r (xv.Named n q) k)
+type_after n tokens rest left first closing (Err e) read closed converted = tt
+type_after n tokens rest left first closing (Ok r) read closed converted = λ i c p q k after operand narrows e.
+    let h = read i (closing_then c k) (closing_ends c k) e in
+    let m = closed c k (fitting c k after) h.1 in
+    subst (λ (y : List Token). Reads r (xv.Named n q) y) m.1 (converted p q (subst (λ (y : Closing). IsBracketed first y (Some p)) (sym m.0) (subst (λ (y : Expr). IsBracketed y c (Some p)) (sym h.0) operand)) narrows)
 
 pub none_converted : {Z : Type 0} (n : List ℕ) (q : NamedOperand) → None ≡ Some (xv.Named n q) → Z
 none_converted n q e = absurd cc
-
-pub no_index : {Z : Type 0} (found : Bracket) (i : Expr) (c : Closing) → found ≡ br.Open → found ≡ br.Closed i c → Z
-no_index found i c none some = let h : br.Open ≡ br.Closed i c = sym none ∙ some in absurd cc

@@ -38,7 +38,7 @@ pub enum Bracket {
     /// `[]`
     Open,
     /// An expression, and what is after it.
-    Closed(Boxed<Expr>, Closing),
+    Closed(Expr, Closing),
 }
 
 /// The bounds of a segment of which `FROM` is read, and their bracket.
@@ -179,7 +179,6 @@ pub fn in_brackets<'a, F: Fn(Global, &[Token]) -> Result<Option<(Expr, &[Token])
     let Some((first, rest)) = inner(alloc, tokens)? else {
         return Ok(None);
     };
-    let first = Boxed::new(alloc, first)?;
     let Some((closing, rest)) = after_first(alloc, rest, inner)? else {
         return Ok(None);
     };

@@ -51,7 +51,7 @@ fn is_dimension(closing: &Closing, tokens: &[Token]) -> bool
 /// else a table or a segment, and what stands after it.
 pub fn after_brackets<'a, F: Fn(Global, &[Token]) -> Result<Option<(Expr, &[Token])>, AllocError>>(
     alloc: Global,
-    first: Boxed<Expr>,
+    first: Expr,
     closing: Closing,
     tokens: &'a [Token],
     inner: &F,
@@ -64,7 +64,8 @@ pub fn after_brackets<'a, F: Fn(Global, &[Token]) -> Result<Option<(Expr, &[Toke
     ensures builtin { IfOk result (λ r. (ds : List ADimension) (b : ABuiltin) (o : AnOperand) (k : List AToken) → IsAfter k → closing ≡ cl.Items [] None → tokens.now ≡ many dimension_then ds (builtin_then b (operand_then o k)) → Reads r (x.Converted (d.Sized first ∷ ds) b o) k) }
 {
     if is_dimension(&closing, tokens) {
-        return after_dimension(alloc, Dimension::Sized(first), tokens, inner);
+        let size = Boxed::new(alloc, first)?;
+        return after_dimension(alloc, Dimension::Sized(size), tokens, inner);
     }
     let Some(operand) = bracket_operand(alloc, first, closing)? else {
         return Ok(None);

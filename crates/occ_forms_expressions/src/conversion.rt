@@ -114,7 +114,7 @@ pub fn name_converted<'a, F: Fn(Global, &[Token]) -> Result<Option<(Expr, &[Toke
 pub fn bracket_converted(
     alloc: Global,
     name: Name,
-    first: Boxed<Expr>,
+    first: Expr,
     closing: Closing,
 ) -> Result<Option<Expr>, AllocError>
     ensures found { IfOk result (λ r. IfSome r (λ e. (k : List AToken) → t.Name name ∷ t.Symbol s.OpenIndex ∷ expr_then first (closing_then closing k) ≡ expr_then e k)) }

@@ -55,9 +55,8 @@ pub fn expr_has_many_dimensions(expr: &Expr) -> bool
     ensures { IsTrue result ↔ (64 < expr_dimensions expr.now) }
 {
     match expr {
-        Expr::Alone(operand) | Expr::Applied(_, operand) => {
-            operand_has_many_dimensions(operand.get())
-        }
+        Expr::Alone(operand) => operand_has_many_dimensions(operand),
+        Expr::Applied(_, operand) => operand_has_many_dimensions(operand.get()),
         Expr::Run(_, first, second, more) => {
             operand_has_many_dimensions(first.get())
                 || operand_has_many_dimensions(second.get())
@@ -101,7 +100,7 @@ fn operand_has_many_dimensions(operand: &Operand) -> bool
     ensures { IsTrue result ↔ (64 < operand_dimensions operand.now) }
 {
     match operand {
-        Operand::Element(element) => element_has_many_dimensions(element.get()),
+        Operand::Element(element) => element_has_many_dimensions(element),
         Operand::Literal(_) | Operand::Truth(_) => false,
         Operand::Decorated(_, of) => type_form_has_many_dimensions(of.get()),
         Operand::Parens(expr) => expr_has_many_dimensions(expr.get()),
@@ -136,7 +135,7 @@ fn named_operand_has_many_dimensions(operand: &NamedOperand) -> bool
     ensures { IsTrue result ↔ (64 < named_operand_dimensions operand.now) }
 {
     match operand {
-        NamedOperand::Element(element) => element_has_many_dimensions(element.get()),
+        NamedOperand::Element(element) => element_has_many_dimensions(element),
         NamedOperand::Literal(_) | NamedOperand::Truth(_) => false,
         NamedOperand::Decorated(_, of) => type_form_has_many_dimensions(of.get()),
         NamedOperand::Table(first, second, more) => {

@@ -1,6 +1,6 @@
 //! Parses expressions that begin with a name: an element, a call, or a conversion to the type of that name.
 ghost use Rattle.occ_forms_expressions.specs.inside.Brackets.{IsBracketed, closing_then, narrow_of};
-ghost use Rattle.occ_forms_expressions.specs.Reading.{IsAfter, IsEndOfRun, Reads, ReadsExpr, begin_of, is_plain_begin};
+ghost use Rattle.occ_forms_expressions.specs.Reading.{IsAfter, IsEndOfRun, IsNot, Reads, ReadsExpr, begin_of, is_plain_begin};
 ghost use Rattle.occ_forms_expressions.specs.Spelling.{arguments_of, expr_then, many, operand_then, subscript_of};
 ghost use Rattle.occ_forms_expressions.specs.inside.Tails.{joined, tail_then};
 ghost use Rattle.occ_forms_expressions.specs.declared.begin.Begin.TheVariants as be;
@@ -19,14 +19,14 @@ ghost use Rattle.occ_lines.specs.declared.token.Token.{Token as AToken};
 ghost use Rattle.std.specs.Prelude.{IfOk, IfSome, IsTrue, List, None, Some, [], length, ℕ, ◌+◌, ◌∷◌, ◌≡◌, ◌≤◌, ◌<◌, ◌↔◌};
 
 use super::begin::{Begin, begins};
-use super::bracket::{Bracket, Closing, in_brackets};
+use super::bracket::{self, Closing};
 use super::conversion::{bracket_converted, name_converted};
 use super::list::subscripts;
 use super::operand::after_name;
 use super::tail::after_first;
 use super::token_reader::{after, name};
 use super::tree::{Element, Expr, Operand};
-use occ_base::{Boxed, Items, Name};
+use occ_base::{Name, one_item};
 use occ_lines::{Symbol, Token};
 use std::alloc::{AllocError, Global};
 
@@ -62,13 +62,12 @@ pub fn after_subscript<'a, F: Fn(Global, &[Token]) -> Result<Option<(Expr, &[Tok
     ensures shorter { IfOk result (λ r. IfSome r (λ y. length y.1.now ≤ length tokens.now)) }
     ensures only { IfOk result (λ r. (es : List AnExpr) (z : ATail) (k : List AToken) → IsEndOfRun k → tokens.now ≡ many subscript_of es (tail_then z k) → Reads r (joined (o.Element (e.Named name (index ∷ es))) z) k) }
 {
-    let mut all = Items::new(alloc);
-    all.push(index)?;
+    let mut all = one_item(alloc, index)?;
     let Some((more, rest)) = subscripts(alloc, tokens, inner)? else {
         return Ok(None);
     };
     all.append(more)?;
-    let element = Boxed::new(alloc, Element::Named(name, all))?;
+    let element = Element::Named(name, all);
     after_first(alloc, Operand::Element(element), rest, inner)
 }
 
@@ -82,12 +81,24 @@ pub fn is_single(closing: &Closing) -> bool
     }
 }
 
+/// What follows the bracket that closes one item alone, where no type follows it.
+fn after_single(tokens: &[Token]) -> Option<&[Token]>
+    ensures closed { IfSome result (λ rest. tokens.now ≡ t.Symbol s.CloseIndex ∷ rest.now) }
+    ensures plain { IfSome result (λ rest. IsNot s.Open rest.now) }
+{
+    let rest = after(tokens, Symbol::CloseIndex)?;
+    match after(rest, Symbol::Open) {
+        Some(_) => None,
+        None => Some(rest),
+    }
+}
+
 /// An expression that begins with a name and brackets, which are read: the subscript of an element, or a conversion of
 /// what stands in the brackets.
 pub fn after_index<'a, F: Fn(Global, &[Token]) -> Result<Option<(Expr, &[Token])>, AllocError>>(
     alloc: Global,
     name: Name,
-    first: Boxed<Expr>,
+    first: Expr,
     closing: Closing,
     tokens: &'a [Token],
     inner: &F,
@@ -99,7 +110,7 @@ pub fn after_index<'a, F: Fn(Global, &[Token]) -> Result<Option<(Expr, &[Token])
     ensures converted { IfOk result (λ r. (p : AnOperand) (q : ANamedOperand) → IsBracketed first closing (Some p) → narrow_of p ≡ Some q → Reads r (x.Named name q) tokens.now) }
 {
     if is_single(&closing) {
-        return after_subscript(alloc, name, first.into_inner(), tokens, inner);
+        return after_subscript(alloc, name, first, tokens, inner);
     }
     let Some(found) = bracket_converted(alloc, name, first, closing)? else {
         return Ok(None);
@@ -121,13 +132,16 @@ pub fn subscripted<'a, F: Fn(Global, &[Token]) -> Result<Option<(Expr, &[Token])
     ensures element { IfOk result (λ r. (i : AnExpr) (es : List AnExpr) (z : ATail) (k : List AToken) → IsEndOfRun k → tokens.now ≡ expr_then i (t.Symbol s.CloseIndex ∷ many subscript_of es (tail_then z k)) → Reads r (joined (o.Element (e.Named name (i ∷ es))) z) k) }
     ensures converted { IfOk result (λ r. (i : AnExpr) (c : SomeClosing) (p : AnOperand) (q : ANamedOperand) (k : List AToken) → IsAfter k → IsBracketed i c (Some p) → narrow_of p ≡ Some q → tokens.now ≡ expr_then i (closing_then c k) → Reads r (x.Named name q) k) }
 {
-    let Some((found, rest)) = in_brackets(alloc, tokens, inner)? else {
+    let Some((first, rest)) = inner(alloc, tokens)? else {
         return Ok(None);
     };
-    match found {
-        Bracket::Open => Ok(None),
-        Bracket::Closed(first, closing) => { after_index(alloc, name, first, closing, rest, inner) }
+    if let Some(next) = after_single(rest) {
+        return after_subscript(alloc, name, first, next, inner);
     }
+    let Some((closing, rest)) = bracket::after_first(alloc, rest, inner)? else {
+        return Ok(None);
+    };
+    after_index(alloc, name, first, closing, rest, inner)
 }
 
 /// Whether a name, a literal, TRUE or FALSE stands first.

@@ -34,34 +34,35 @@ pub fn element_in(expr: Expr) -> Option<Element>
     let Expr::Alone(operand) = expr else {
         return None;
     };
-    let Operand::Element(element) = operand.into_inner() else {
+    let Operand::Element(element) = operand else {
         return None;
     };
-    Some(element.into_inner())
+    Some(element)
 }
 
 /// The operand that stands in square brackets: a table, or a segment if the first expression is an element.
 pub fn bracket_operand(
     alloc: Global,
-    first: Boxed<Expr>,
+    first: Expr,
     closing: Closing,
 ) -> Result<Option<Operand>, AllocError>
     ensures { IfOk result (λ r. IsBracketed first closing r) }
 {
     match closing {
         Closing::Items(more, decoration) => {
+            let first = Boxed::new(alloc, first)?;
             let Some(form) = decoration else {
                 return Ok(Some(Operand::Table(first, more)));
             };
             Ok(Some(Operand::DecoratedTable(first, more, form)))
         }
         Closing::Segment(bounds, found) => {
-            let Some(element) = element_in(first.into_inner()) else {
+            let Some(element) = element_in(first) else {
                 return Ok(None);
             };
             let element = Boxed::new(alloc, element)?;
             let segment = Element::Segment(element, bounds, found);
-            Ok(Some(Operand::Element(Boxed::new(alloc, segment)?)))
+            Ok(Some(Operand::Element(segment)))
         }
     }
 }
@@ -113,7 +114,7 @@ pub fn after_name<'a, F: Fn(Global, &[Token]) -> Result<Option<(Expr, &[Token])>
     let Some((found, rest)) = subscripts(alloc, tokens, inner)? else {
         return Ok(None);
     };
-    let element = Boxed::new(alloc, Element::Named(name, found))?;
+    let element = Element::Named(name, found);
     Ok(Some((Operand::Element(element), rest)))
 }
 

@@ -98,13 +98,19 @@ pub fn operator(tokens: &[Token]) -> Option<(Dyadic, &[Token])>
 }
 
 /// The expression of its first operand and of what stands after it.
-fn together(first: Boxed<Operand>, tail: Tail) -> Expr
-    ensures { result ≡ joined first tail }
+fn together(alloc: Global, first: Operand, tail: Tail) -> Result<Expr, AllocError>
+    ensures { IfOk result (λ whole. whole ≡ joined first tail) }
 {
     match tail {
-        Tail::Nothing => Expr::Alone(first),
-        Tail::Pair(operator, second) => Expr::Pair(first, operator, second),
-        Tail::Run(operator, second, more) => Expr::Run(operator, first, second, more),
+        Tail::Nothing => Ok(Expr::Alone(first)),
+        Tail::Pair(operator, second) => {
+            let first = Boxed::new(alloc, first)?;
+            Ok(Expr::Pair(first, operator, second))
+        }
+        Tail::Run(operator, second, more) => {
+            let first = Boxed::new(alloc, first)?;
+            Ok(Expr::Run(operator, first, second, more))
+        }
     }
 }
 
@@ -120,11 +126,11 @@ pub fn after_first<'a, F: Fn(Global, &[Token]) -> Result<Option<(Expr, &[Token])
     ensures shorter { IfOk result (λ r. IfSome r (λ y. length y.1.now ≤ length tokens.now)) }
     ensures only { IfOk result (λ r. (x : ATail) (k : List AToken) → IsEndOfRun k → tokens.now ≡ tail_then x k → Reads r (joined first x) k) }
 {
-    let first = Boxed::new(alloc, first)?;
     let Some((tail, rest)) = after_operand(alloc, tokens, inner)? else {
         return Ok(None);
     };
-    Ok(Some((together(first, tail), rest)))
+    let whole = together(alloc, first, tail)?;
+    Ok(Some((whole, rest)))
 }
 
 /// An expression that begins with an operand.

@@ -196,7 +196,7 @@ pub enum Element {
 #[cycle(tree)]
 #[derive(Drop)]
 pub enum Operand {
-    Element(Boxed<Element>),
+    Element(Element),
     Literal(Literal),
     /// `5 (T)`: a literal with its type.
     Decorated(Literal, Boxed<TypeForm>),
@@ -217,7 +217,7 @@ pub enum Operand {
 #[cycle(tree)]
 #[derive(Drop)]
 pub enum NamedOperand {
-    Element(Boxed<Element>),
+    Element(Element),
     Literal(Literal),
     Decorated(Literal, Boxed<TypeForm>),
     Truth(bool),
@@ -231,7 +231,7 @@ pub enum NamedOperand {
 #[cycle(tree)]
 #[derive(Drop)]
 pub enum Expr {
-    Alone(Boxed<Operand>),
+    Alone(Operand),
     /// Operands with one and the same operator between each two: the first, the second, and perhaps more.
     Run(RunOperator, Boxed<Operand>, Boxed<Operand>, Items<Operand>),
     Pair(Boxed<Operand>, PairOperator, Boxed<Operand>),

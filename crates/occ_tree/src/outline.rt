@@ -37,7 +37,7 @@ fn sort_of_operand(operand: &Operand) -> Sort
 {
     match operand {
         Operand::Element(element) => {
-            if is_name(element.get()) {
+            if is_name(element) {
                 Sort::Name
             } else {
                 Sort::Expression
@@ -58,7 +58,7 @@ fn sort_of_expression(expr: &Expr) -> Sort
     ensures { result ≡ expression_sort expr.now }
 {
     match expr {
-        Expr::Alone(operand) => sort_of_operand(operand.get()),
+        Expr::Alone(operand) => sort_of_operand(operand),
         Expr::Run(_, _, _, _)
         | Expr::Pair(_, _, _)
         | Expr::Applied(_, _)

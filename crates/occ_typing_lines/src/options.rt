@@ -58,7 +58,7 @@ fn decimal(expr: &Expr) -> Option<u64>
     let Expr::Alone(operand) = expr else {
         return None;
     };
-    match operand.get() {
+    match operand {
         Operand::Literal(Literal::Decimal(n)) => Some(*n),
         _ => None,
     }

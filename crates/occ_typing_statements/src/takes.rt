@@ -53,10 +53,10 @@ fn element_in_operand<'a>(scope: &Scope, operand: &'a Operand) -> Option<&'a Ele
 {
     match operand {
         Operand::Element(element) => {
-            if is_conversion(scope, element.get()) {
+            if is_conversion(scope, element) {
                 None
             } else {
-                Some(element.get())
+                Some(element)
             }
         }
         Operand::Literal(_) => None,
@@ -74,7 +74,7 @@ pub fn element_in<'a>(scope: &Scope, expr: &'a Expr) -> Option<&'a Element>
     ensures { MatchOption result (spec_element_in scope.now expr.now ≡ None) (λ element. spec_element_in scope.now expr.now ≡ Some element.now) }
 {
     match expr {
-        Expr::Alone(operand) => element_in_operand(scope, operand.get()),
+        Expr::Alone(operand) => element_in_operand(scope, operand),
         Expr::Run(_, _, _, _) => None,
         Expr::Pair(_, _, _) => None,
         Expr::Applied(_, _) => None,

@@ -790,7 +790,7 @@ composed-returns-in_ok-reading-in-ArrayConverted-clause-faults t c =
 
 pub composed-returns-in_ok-operands-in-Run-clause-faults : goal.composed-returns-in_ok-operands-in-Run-clause-faults
 composed-returns-in_ok-operands-in-Run-clause-faults t c =
-    step.run_faults c.operation_of.result _ _ _ _ _ _ _ _ _ _ _ _ _ _ _ _ (c.in-Run.is ∙ ap (λ z. xv.Run c.in-Run.operator z c.in-Run.second c.in-Run.more) (sym c.get-in-Run.ensures) ∙ ap (λ z. xv.Run c.in-Run.operator c.get-in-Run.result.now z c.in-Run.more) (sym c.get-in-Run-2.ensures) ∙ ap (λ z. xv.Run c.in-Run.operator c.get-in-Run.result.now c.get-in-Run-2.result.now z) (sym c.as_slice.ensures)) c.in_ok-first-in-Run.ensures.faults c.in_ok-first-in-Run.ensures.term c.in_ok-second-in-Run.ensures.faults c.in_ok-second-in-Run.ensures.term c.in_ok-operands-in-Run.ensures.faults (c.in_ok-operands-in-Run.ensures.terms ∙ ap (λ z. z ++ terms (operands c.args.scope.now (operand_views c.as_slice.result.now))) (c.in_ok-push-in-Run-2.ensures.terms ∙ ap (λ z. z ++ c.in_ok-second-in-Run.second.term ∷ []) (c.in_ok-push-in-Run.ensures.terms ∙ ap (λ z. z ++ c.in_ok-first-in-Run.first.term ∷ []) c.in_ok-readings-in-Run.ensures.terms))) refl c.run_operator.ensures c.operation_of.ensures.faults
+    step.run_faults c.operation_of.result _ _ _ _ _ _ _ _ _ _ _ _ _ _ _ _ (c.in-Run.is ∙ ap (λ z. xv.Run c.in-Run.operator z c.in-Run.second c.in-Run.more) (sym c.get.ensures) ∙ ap (λ z. xv.Run c.in-Run.operator c.get.result.now z c.in-Run.more) (sym c.get-in-Run.ensures) ∙ ap (λ z. xv.Run c.in-Run.operator c.get.result.now c.get-in-Run.result.now z) (sym c.as_slice.ensures)) c.in_ok-first-in-Run.ensures.faults c.in_ok-first-in-Run.ensures.term c.in_ok-second-in-Run.ensures.faults c.in_ok-second-in-Run.ensures.term c.in_ok-operands-in-Run.ensures.faults (c.in_ok-operands-in-Run.ensures.terms ∙ ap (λ z. z ++ terms (operands c.args.scope.now (operand_views c.as_slice.result.now))) (c.in_ok-push-in-Run-2.ensures.terms ∙ ap (λ z. z ++ c.in_ok-second-in-Run.second.term ∷ []) (c.in_ok-push-in-Run.ensures.terms ∙ ap (λ z. z ++ c.in_ok-first-in-Run.first.term ∷ []) c.in_ok-readings-in-Run.ensures.terms))) refl c.run_operator.ensures c.operation_of.ensures.faults
 
 pub segment_reading-returns-in_ok-tree-in-Segment-clause-kind : goal.segment_reading-returns-in_ok-tree-in-Segment-clause-kind
 segment_reading-returns-in_ok-tree-in-Segment-clause-kind t c =

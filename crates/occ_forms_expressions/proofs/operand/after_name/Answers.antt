@@ -1,4 +1,4 @@
-use Rattle.std.proofs.Common.{arith}
+use Rattle.std.proofs.Common.{arith, refl}
 use Rattle.std.proofs.lemmas.Grind.{common_steps}
 use Rattle.occ_forms_expressions.proofs.Named.{call_found, element_found, no_call}
 use Rattle.occ_forms_expressions.proofs.operand.after_name.Goals as goal
@@ -13,7 +13,7 @@ pub returns-in-Some-clause-element : goal.returns-in-Some-clause-element
 returns-in-Some-clause-element g c es k after e = absurd (no_call es k _ _ after c.in-Some.ensures e)
 
 pub returns-clause-found : goal.returns-clause-found
-returns-clause-found g c = element_found _ _ _ _ _ c.in_ok-element.ensures (rw c.in-Some-3.is at c.in_ok-found-2.ensures.found)
+returns-clause-found g c = element_found _ _ _ _ _ refl (rw c.in-Some-3.is at c.in_ok-found-2.ensures.found)
 
 pub returns-clause-shorter : goal.returns-clause-shorter
 returns-clause-shorter g c = grind (arith, common_steps)

@@ -1,8 +1,5 @@
-use Rattle.std.proofs.Common.{◌∙◌, ap}
-use Rattle.occ_forms_expressions.specs.declared.tree.Operand.{Operand}
-use Rattle.occ_forms_expressions.specs.inside.Tails.{joined}
 use Rattle.occ_forms_expressions.proofs.Tailed.{joined_found}
 use Rattle.occ_forms_expressions.proofs.tail.after_first.Goals as goal
 
 pub returns-clause-found : goal.returns-clause-found
-returns-clause-found g c = joined_found _ _ _ _ _ (rw c.in-Some.is at c.in_ok-tail.ensures.found) (c.together.ensures ∙ ap (λ (o : Operand). joined o c.in-Some.tail) c.in_ok-first.ensures)
+returns-clause-found g c = joined_found _ _ _ _ _ (rw c.in-Some.is at c.in_ok-tail.ensures.found) c.in_ok-whole.ensures
