@@ -130,14 +130,14 @@ fn input_calls(
         }
         TypedInput::Time(timer, to) => {
             element_calls(alloc, timer, env, line, calls)?;
-            element_calls(alloc, to, env, line, calls)
+            element_calls(alloc, to.get(), env, line, calls)
         }
         TypedInput::After(timer, time) => {
             element_calls(alloc, timer, env, line, calls)?;
             expression_calls(alloc, time.get(), env, line, calls)
         }
         TypedInput::Tagged(channel, _, _, to) => {
-            element_calls(alloc, channel, env, line, calls)?;
+            element_calls(alloc, channel.get(), env, line, calls)?;
             targets_calls(alloc, to.as_slice(), env, line, calls)
         }
     }
@@ -213,7 +213,7 @@ pub fn form_calls(
         TypedForm::Condition(expr) => expression_calls(alloc, expr.get(), env, line, calls),
         TypedForm::Guard(expr, found) => {
             expression_calls(alloc, expr.get(), env, line, calls)?;
-            guard_calls(alloc, found, env, line, calls)
+            guard_calls(alloc, found.get(), env, line, calls)
         }
         TypedForm::Variant(_, _, to) => targets_calls(alloc, to.as_slice(), env, line, calls),
         TypedForm::Results(values) => each_calls(alloc, values.as_slice(), env, line, calls),

@@ -12,8 +12,8 @@ fn named(body: &LineBody) -> Option<(FileName, Option<FileName>)>
     ensures { result ≡ named_by body.now }
 {
     match body {
-        LineBody::Include(file) => Some((*file, None)),
-        LineBody::Uses(unit, list) => Some((*unit, *list)),
+        LineBody::Include(file) => Some((*file.get(), None)),
+        LineBody::Uses(unit, list) => Some((*unit.get(), list.as_ref().map(|list| *list.get()))),
         LineBody::Form(_) | LineBody::Fault(_) => None,
     }
 }

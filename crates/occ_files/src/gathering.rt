@@ -131,8 +131,8 @@ fn is_read(reads: &Reads, name: FileName) -> bool {
 /// Whether a line of a text names that file: to include it, or as the list of a library.
 fn does_name(source: &Source, name: FileName) -> bool {
     source.lines().iter().any(|line| match &line.body {
-        LineBody::Include(file) => *file == name,
-        LineBody::Uses(_, Some(list)) => *list == name,
+        LineBody::Include(file) => *file.get() == name,
+        LineBody::Uses(_, Some(list)) => *list.get() == name,
         LineBody::Uses(_, None) | LineBody::Form(_) | LineBody::Fault(_) => false,
     })
 }

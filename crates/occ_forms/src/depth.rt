@@ -17,7 +17,7 @@ impl Measured for OutputItem {
         match self {
             OutputItem::Plain(expr) => expr.has_many_dimensions(),
             OutputItem::Counted(count, array) => {
-                count.has_many_dimensions() || array.has_many_dimensions()
+                count.get().has_many_dimensions() || array.get().has_many_dimensions()
             }
         }
     }
@@ -30,7 +30,7 @@ impl Measured for InputItem {
         match self {
             InputItem::Plain(element) => element.has_many_dimensions(),
             InputItem::Counted(count, array) => {
-                count.has_many_dimensions() || array.has_many_dimensions()
+                count.get().has_many_dimensions() || array.get().has_many_dimensions()
             }
         }
     }
@@ -146,7 +146,7 @@ impl Measured for PartForm {
                 expr.has_many_dimensions() || any_has_many_dimensions(more.as_slice())
             }
             PartForm::Guard(expr, guarded) => {
-                expr.has_many_dimensions() || guarded.has_many_dimensions()
+                expr.has_many_dimensions() || guarded.get().has_many_dimensions()
             }
         }
     }

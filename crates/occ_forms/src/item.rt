@@ -4,6 +4,7 @@ ghost use Rattle.occ_forms.specs.Spelling.{input_item_then, output_item_then};
 
 use super::from_tokens::FromTokens;
 use super::tree::{InputItem, OutputItem};
+use occ_base::Boxed;
 use occ_forms_expressions::{after, element, expression};
 use occ_lines::{Symbol, Token};
 use std::alloc::{AllocError, Global};
@@ -20,10 +21,12 @@ impl FromTokens for InputItem {
         let Some(begun) = after(rest, Symbol::Counted) else {
             return Ok(Some((InputItem::Plain(first), rest)));
         };
+        let count = Boxed::new(alloc, first)?;
         let Some((array, rest)) = element(alloc, begun)? else {
             return Ok(None);
         };
-        Ok(Some((InputItem::Counted(first, array), rest)))
+        let array = Boxed::new(alloc, array)?;
+        Ok(Some((InputItem::Counted(count, array), rest)))
     }
 }
 
@@ -39,9 +42,11 @@ impl FromTokens for OutputItem {
         let Some(begun) = after(rest, Symbol::Counted) else {
             return Ok(Some((OutputItem::Plain(first), rest)));
         };
+        let count = Boxed::new(alloc, first)?;
         let Some((array, rest)) = expression(alloc, begun)? else {
             return Ok(None);
         };
-        Ok(Some((OutputItem::Counted(first, array), rest)))
+        let array = Boxed::new(alloc, array)?;
+        Ok(Some((OutputItem::Counted(count, array), rest)))
     }
 }

@@ -11,6 +11,7 @@ use super::end::word_alone;
 use super::from_tokens::{alone, list};
 use super::input::{Received, reception};
 use super::tree::{Form, Guarded, PartForm};
+use occ_base::Boxed;
 use occ_forms_expressions::{after, after_word, expression, name};
 use occ_lines::{Symbol, Token, Word};
 use std::alloc::{AllocError, Global};
@@ -63,6 +64,17 @@ pub fn after_guard(alloc: Global, tokens: &[Token]) -> Result<Option<Guarded>, A
     }
 }
 
+/// The same, in its box.
+fn boxed_after_guard(alloc: Global, tokens: &[Token]) -> Result<Option<Boxed<Guarded>>, AllocError>
+    ensures found { IfOk result (λ r. IfSome r (λ x. tokens.now ≡ guarded_then x [])) }
+    ensures only { IfOk result (λ r. (x : SomeGuarded) → tokens.now ≡ guarded_then x [] → r ≡ Some x) }
+{
+    match after_guard(alloc, tokens)? {
+        Some(guarded) => Ok(Some(Boxed::new(alloc, guarded)?)),
+        None => Ok(None),
+    }
+}
+
 /// A guard with a condition.
 pub fn guard(alloc: Global, tokens: &[Token]) -> Result<Option<Form>, AllocError>
     ensures found { IfOk result (λ answer. IfSome answer (λ form. tokens.now ≡ form_tokens form)) }
@@ -74,7 +86,7 @@ pub fn guard(alloc: Global, tokens: &[Token]) -> Result<Option<Form>, AllocError
     let Some(rest) = after(rest, Symbol::Ampersand) else {
         return Ok(None);
     };
-    let Some(guarded) = after_guard(alloc, rest)? else {
+    let Some(guarded) = boxed_after_guard(alloc, rest)? else {
         return Ok(None);
     };
     Ok(Some(Form::Part(PartForm::Guard(condition, guarded))))

@@ -10,7 +10,7 @@ ghost use Rattle.std.specs.Prelude.{IfOk, IsErrOf, List, length, ◌↔◌, ◌�
 
 use super::parse::{LineFault, form};
 use super::source::{LineBody, Source, SourceLine};
-use occ_base::{Code, FileName, Items, Shared};
+use occ_base::{Boxed, Code, FileName, Items, Shared};
 use occ_lines::{Body, Logical, TextFault, Token, listed, logical};
 use std::alloc::{AllocError, Global};
 
@@ -34,8 +34,15 @@ fn line_body(alloc: Global, body: &Body) -> Result<LineBody, AllocError>
 {
     match body {
         Body::Fault(fault) => Ok(LineBody::Fault(*fault)),
-        Body::Include(name) => Ok(LineBody::Include(*name)),
-        Body::Uses(name, list) => Ok(LineBody::Uses(*name, *list)),
+        Body::Include(name) => Ok(LineBody::Include(Boxed::new(alloc, *name)?)),
+        Body::Uses(name, list) => {
+            let name = Boxed::new(alloc, *name)?;
+            let list = match list {
+                Some(list) => Some(Boxed::new(alloc, *list)?),
+                None => None,
+            };
+            Ok(LineBody::Uses(name, list))
+        }
         Body::Tokens(tokens) => formed(alloc, tokens.as_slice()),
     }
 }

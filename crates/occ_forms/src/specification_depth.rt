@@ -84,7 +84,7 @@ impl Measured for Specification {
             }
             Specification::DataType(_, form) => form.has_many_dimensions(),
             Specification::Function(head, expr, more) => {
-                head.has_many_dimensions()
+                head.get().has_many_dimensions()
                     || expr.has_many_dimensions()
                     || any_has_many_dimensions(more.as_slice())
             }

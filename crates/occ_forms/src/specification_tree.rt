@@ -1,5 +1,5 @@
 //! The trees of lines of specification and of heads, as tokens spell them.
-use occ_base::{Items, Name};
+use occ_base::{Boxed, Items, Name};
 use occ_forms_expressions::{DataForm, Element, Expr, TypeForm};
 
 /// Whether `INLINE` stands directly before `PROC` or `FUNCTION`.
@@ -73,8 +73,8 @@ pub enum Specification {
     Protocol(Name, ItemForm, Items<ItemForm>),
     /// `DATA TYPE n IS t:`
     DataType(Name, TypeForm),
-    /// `t, .. FUNCTION n (formals) IS e, ..:`
-    Function(FunctionHead, Expr, Items<Expr>),
+    /// `t, .. FUNCTION n (formals) IS e, ..:`. Its head has a box: with a result beside it, this would be the largest form.
+    Function(Boxed<FunctionHead>, Expr, Items<Expr>),
 }
 
 /// The head of a specification, whose body and close are lines of their own.

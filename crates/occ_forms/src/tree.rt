@@ -1,6 +1,6 @@
 //! The trees of all line forms but those of specification.
 use super::specification_tree::Specified;
-use occ_base::{Items, Name};
+use occ_base::{Boxed, Items, Name};
 use occ_forms_expressions::{Builtin, DataForm, Dimension, Element, Expr};
 
 /// The form of a line.
@@ -54,8 +54,8 @@ pub enum Action {
 pub enum OutputItem {
     /// `e`
     Plain(Expr),
-    /// `e::e`: how many components, and the array.
-    Counted(Expr, Expr),
+    /// `e::e`: how many components, and the array. Each has a box: else every output would have room for two.
+    Counted(Boxed<Expr>, Boxed<Expr>),
 }
 
 /// An input that is a process by itself.
@@ -74,8 +74,8 @@ pub enum Input {
 pub enum InputItem {
     /// `el`
     Plain(Element),
-    /// `el::el`: where the number of components goes, and where they go.
-    Counted(Element, Element),
+    /// `el::el`: where the number of components goes, and where they go. Each has a box, as in an output.
+    Counted(Boxed<Element>, Boxed<Element>),
 }
 
 /// The head of a construct.
@@ -131,8 +131,8 @@ pub enum PartForm {
     Record,
     /// `PACKED RECORD`
     PackedRecord,
-    /// `e & g`
-    Guard(Expr, Guarded),
+    /// `e & g`. What is guarded has a box: with an input beside its condition, this would be the largest form.
+    Guard(Expr, Boxed<Guarded>),
 }
 
 /// What stands after the `&` of a guard.

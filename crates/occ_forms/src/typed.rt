@@ -21,7 +21,7 @@ use super::from_tokens::{alone, ended, list_to_end, to_end};
 use super::function::function_head;
 use super::names::{more_names, name_is};
 use super::specification_tree::{Head, Specification, Specified};
-use occ_base::Name;
+use occ_base::{Boxed, Name};
 use occ_forms_expressions::{Element, Expr, TypeForm, after_word, name, type_form};
 use occ_lines::{Symbol, Token, Word};
 use std::alloc::{AllocError, Global};
@@ -76,6 +76,7 @@ fn function(
     let Some((first, more)) = list_to_end::<Expr>(alloc, rest, Symbol::Comma)? else {
         return Ok(None);
     };
+    let head = Boxed::new(alloc, head)?;
     let line = Specification::Function(head, first, more);
     Ok(Some(Specified::Line(line)))
 }

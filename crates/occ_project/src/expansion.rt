@@ -12,7 +12,7 @@ use super::expanded::{Expanded, ExpandedBody};
 use super::files::Files;
 use super::making::Made;
 use super::reads::Reads;
-use occ_base::{FileName, Items, Shared, first_indices, one_item};
+use occ_base::{Boxed, FileName, Items, Shared, first_indices, one_item};
 use occ_forms::{LineBody, SourceLine};
 use std::alloc::{AllocError, Global};
 use thiserror::Error;
@@ -84,12 +84,12 @@ fn use_line(
     files: &Files<'_>,
     depth: u64,
     unit: FileName,
-    list: Option<FileName>,
+    list: &Option<Boxed<FileName>>,
 ) -> Result<Held, AllocError>
-    ensures { IfOk result (λ held. held ≡ spec_use_line files.now.reads.now depth unit list) }
+    ensures { IfOk result (λ held. held ≡ spec_use_line files.now.reads.now depth unit list.now) }
 {
     match list {
-        Some(list) => library(alloc, files, depth, unit, list),
+        Some(list) => library(alloc, files, depth, unit, *list.get()),
         None => {
             let units = Shared::new(alloc, one_item(alloc, unit)?)?;
             Ok(Held::Line(depth, ExpandedBody::Uses(units)))
@@ -112,16 +112,14 @@ fn held<'a>(
     let body = match body {
         LineBody::Form(form) => ExpandedBody::Form(form.share()?),
         LineBody::Uses(unit, list) => {
-            return Ok((use_line(alloc, files, depth, *unit, *list)?, None));
+            return Ok((use_line(alloc, files, depth, *unit.get(), list)?, None));
         }
         LineBody::Fault(fault) => ExpandedBody::Fault(*fault),
         LineBody::Include(name) => {
-            return Ok(match files.included(way, left, *name) {
-                Ok(lines) => (
-                    Held::Include(*name, None),
-                    Some(Inner { name: *name, lines }),
-                ),
-                Err(fault) => (Held::Include(*name, Some(fault)), None),
+            let name = *name.get();
+            return Ok(match files.included(way, left, name) {
+                Ok(lines) => (Held::Include(name, None), Some(Inner { name, lines })),
+                Err(fault) => (Held::Include(name, Some(fault)), None),
             });
         }
     };

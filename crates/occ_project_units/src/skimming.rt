@@ -14,7 +14,7 @@ ghost use Rattle.std.specs.Result.{result_err, result_ok};
 use super::facts::Facts;
 use super::ordering::{Ordered, in_order};
 use super::project::Project;
-use occ_base::{FileName, Items, first_indices, one_item};
+use occ_base::{Boxed, FileName, Items, first_indices, one_item};
 use occ_forms::{LineBody, SourceLine};
 use std::alloc::{AllocError, Global};
 
@@ -101,7 +101,7 @@ fn found_in<'a>(
     ensures { option_map {U = List ℕ × List SourceLine} (λ inner. (inner.name, inner.lines.now)) result ≡ put_in (included project.now way.now left) body.now }
 {
     match body {
-        LineBody::Include(name) => file_put_in(project, way, left, *name),
+        LineBody::Include(name) => file_put_in(project, way, left, *name.get()),
         _ => None,
     }
 }
@@ -145,16 +145,17 @@ fn note_use(
     alloc: Global,
     project: &Project,
     unit: FileName,
-    list: Option<FileName>,
+    list: &Option<Boxed<FileName>>,
     noted: &mut Noted,
 ) -> Result<(), AllocError>
-    ensures { OnOk result ((depth : ℕ) → noted.new ≡ step noted.old (use_line project.now depth unit list)) }
+    ensures { OnOk result ((depth : ℕ) → noted.new ≡ step noted.old (use_line project.now depth unit list.now)) }
 {
     if !noted.takes_one() {
         return Ok(());
     }
     match list {
         Some(list) => {
+            let list = *list.get();
             noted.names.push(list)?;
             noted.units.append(listing(alloc, project, unit, list)?)
         }
@@ -193,8 +194,8 @@ fn note_line(
             noted.takes_one();
             Ok(())
         }
-        LineBody::Uses(unit, list) => note_use(alloc, project, *unit, *list, noted),
-        LineBody::Include(name) => note_include(way, left, *name, noted),
+        LineBody::Uses(unit, list) => note_use(alloc, project, *unit.get(), list, noted),
+        LineBody::Include(name) => note_include(way, left, *name.get(), noted),
     }
 }
 

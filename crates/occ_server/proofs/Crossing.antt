@@ -200,14 +200,20 @@ formal_group_sync = search (sendable, formal_group_field_sync) depth 10
 function_head_field_send : IsSend function_head.the_field.row
 function_head_field_send = search (sendable, items.the_send, Vec-send, type_form_field_send, type_form_send, name_send, value_group_send) depth 30
 
+function_head_send : IsSend function_head.the_row
+function_head_send = search (sendable, function_head_field_send) depth 10
+
 function_head_field_sync : IsSync function_head.the_field.row
 function_head_field_sync = search (sendable, items.the_sync, Vec-sync, type_form_field_sync, type_form_sync, name_sync, value_group_sync) depth 30
 
+function_head_sync : IsSync function_head.the_row
+function_head_sync = search (sendable, function_head_field_sync) depth 10
+
 specification_field_send : IsSend specification.the_field.row
-specification_field_send = search (sendable, items.the_send, Vec-send, type_form_field_send, type_form_send, name_send, expr_field_send, expr_send, element_field_send, item_form_field_send, item_form_send, function_head_field_send) depth 30
+specification_field_send = search (sendable, items.the_send, Vec-send, type_form_field_send, type_form_send, name_send, expr_field_send, expr_send, element_field_send, item_form_field_send, item_form_send, boxed.the_send, function_head_send) depth 30
 
 specification_field_sync : IsSync specification.the_field.row
-specification_field_sync = search (sendable, items.the_sync, Vec-sync, type_form_field_sync, type_form_sync, name_sync, expr_field_sync, expr_sync, element_field_sync, item_form_field_sync, item_form_sync, function_head_field_sync) depth 30
+specification_field_sync = search (sendable, items.the_sync, Vec-sync, type_form_field_sync, type_form_sync, name_sync, expr_field_sync, expr_sync, element_field_sync, item_form_field_sync, item_form_sync, boxed.the_sync, function_head_sync) depth 30
 
 head_field_send : IsSend head.the_field.row
 head_field_send = search (sendable, items.the_send, name_send, formal_group_send, function_head_field_send) depth 30
@@ -222,25 +228,25 @@ specified_field_sync : IsSync specified.the_field.row
 specified_field_sync = search (sendable, specification_field_sync, head_field_sync) depth 30
 
 output_item_field_send : IsSend output_item.the_field.row
-output_item_field_send = search (sendable, expr_field_send) depth 30
+output_item_field_send = search (sendable, expr_field_send, boxed.the_send, expr_send) depth 30
 
 output_item_send : IsSend output_item.the_row
 output_item_send = search (sendable, output_item_field_send) depth 10
 
 output_item_field_sync : IsSync output_item.the_field.row
-output_item_field_sync = search (sendable, expr_field_sync) depth 30
+output_item_field_sync = search (sendable, expr_field_sync, boxed.the_sync, expr_sync) depth 30
 
 output_item_sync : IsSync output_item.the_row
 output_item_sync = search (sendable, output_item_field_sync) depth 10
 
 input_item_field_send : IsSend input_item.the_field.row
-input_item_field_send = search (sendable, element_field_send) depth 30
+input_item_field_send = search (sendable, element_field_send, boxed.the_send, element_send) depth 30
 
 input_item_send : IsSend input_item.the_row
 input_item_send = search (sendable, input_item_field_send) depth 10
 
 input_item_field_sync : IsSync input_item.the_field.row
-input_item_field_sync = search (sendable, element_field_sync) depth 30
+input_item_field_sync = search (sendable, element_field_sync, boxed.the_sync, element_sync) depth 30
 
 input_item_sync : IsSync input_item.the_row
 input_item_sync = search (sendable, input_item_field_sync) depth 10
@@ -278,14 +284,20 @@ construct_field_sync = search (sendable, construct_kind_cross.the_field_sync, re
 guarded_field_send : IsSend guarded.the_field.row
 guarded_field_send = search (sendable, input_field_send, element_field_send) depth 30
 
+guarded_send : IsSend guarded.the_row
+guarded_send = search (sendable, guarded_field_send) depth 10
+
 guarded_field_sync : IsSync guarded.the_field.row
 guarded_field_sync = search (sendable, input_field_sync, element_field_sync) depth 30
 
+guarded_sync : IsSync guarded.the_row
+guarded_sync = search (sendable, guarded_field_sync) depth 10
+
 part_field_send : IsSend part.the_field.row
-part_field_send = search (sendable, items.the_send, Vec-send, expr_field_send, expr_send, guarded_field_send) depth 30
+part_field_send = search (sendable, items.the_send, Vec-send, expr_field_send, expr_send, boxed.the_send, guarded_send) depth 30
 
 part_field_sync : IsSync part.the_field.row
-part_field_sync = search (sendable, items.the_sync, Vec-sync, expr_field_sync, expr_sync, guarded_field_sync) depth 30
+part_field_sync = search (sendable, items.the_sync, Vec-sync, expr_field_sync, expr_sync, boxed.the_sync, guarded_sync) depth 30
 
 detail_field_send : IsSend detail.the_field.row
 detail_field_send = search (sendable, items.the_send, element_field_send, dimension_field_send, dimension_send, name_send, builtin_field_send, data_form_field_send) depth 30
@@ -312,10 +324,10 @@ form_sync : IsSync form.the_row
 form_sync = search (sendable, form_field_sync) depth 10
 
 line_body_field_send : IsSend line_body.the_field.row
-line_body_field_send = search (sendable, shared.the_send, form_send, form_sync, file_name_cross.the_send, code_cross.the_field_send) depth 30
+line_body_field_send = search (sendable, shared.the_send, form_send, form_sync, boxed.the_send, file_name_cross.the_send, code_cross.the_field_send) depth 30
 
 line_body_field_sync : IsSync line_body.the_field.row
-line_body_field_sync = search (sendable, shared.the_sync, form_sync, form_send, file_name_cross.the_sync, code_cross.the_field_sync) depth 30
+line_body_field_sync = search (sendable, shared.the_sync, form_sync, form_send, boxed.the_sync, file_name_cross.the_sync, code_cross.the_field_sync) depth 30
 
 source_line_field_send : IsSend source_line.the_field.row
 source_line_field_send = search (sendable, line_body_field_send) depth 30

@@ -229,7 +229,7 @@ fn sort_of_part(part: &PartForm) -> Sort
         PartForm::ValueOf => Sort::ValueOf,
         PartForm::Result(_, _) => Sort::Result,
         PartForm::Record | PartForm::PackedRecord => Sort::Record,
-        PartForm::Guard(_, guarded) => sort_of_guarded(guarded),
+        PartForm::Guard(_, guarded) => sort_of_guarded(guarded.get()),
     }
 }
 

@@ -54,12 +54,16 @@ fn guarded(
 }
 
 /// A guard, if its condition and what stands after it have trees.
-fn guarded_form(condition: Option<Shared<TypedExpr>>, guard: Option<TypedGuard>) -> TypedForm
-    ensures { result ≡ spec_guarded_form condition guard }
+fn guarded_form(
+    alloc: Global,
+    condition: Option<Shared<TypedExpr>>,
+    guard: Option<TypedGuard>,
+) -> Result<TypedForm, AllocError>
+    ensures { IfOk result (λ form. form ≡ spec_guarded_form condition guard) }
 {
     match condition.zip(guard) {
-        Some((condition, guard)) => TypedForm::Guard(condition, guard),
-        None => TypedForm::Unknown,
+        Some((condition, guard)) => { Ok(TypedForm::Guard(condition, Boxed::new(alloc, guard)?)) }
+        None => Ok(TypedForm::Unknown),
     }
 }
 
@@ -78,5 +82,6 @@ pub fn guarding(
     let tree = condition(alloc, expr, scope, faults)?;
     let (role, guard) = guarded(alloc, following, scope, faults)?;
     let under = with_role(role, &next);
-    plain(alloc, under, guarded_form(tree, guard), next)
+    let form = guarded_form(alloc, tree, guard)?;
+    plain(alloc, under, form, next)
 }

@@ -246,7 +246,7 @@ pub fn part(
         PartForm::Record => main(alloc, TypedForm::Member, parent),
         PartForm::PackedRecord => main(alloc, TypedForm::Member, parent),
         PartForm::Guard(condition, following) => {
-            guarding(alloc, condition, following, scope, parent, faults)
+            guarding(alloc, condition, following.get(), scope, parent, faults)
         }
     }
 }

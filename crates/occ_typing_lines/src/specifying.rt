@@ -167,6 +167,7 @@ pub fn one_line(
         }
         Specification::DataType(name, of) => data_type_line(alloc, name, of, scope, next, faults),
         Specification::Function(head, first, more) => {
+            let head = head.get();
             function_line(alloc, head, first, more.as_slice(), scope, next, faults)
         }
         Specification::Abbreviation(of, name, element) => {

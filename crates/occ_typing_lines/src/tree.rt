@@ -1,6 +1,6 @@
 //! Typed forms: what each line of a unit is, once its names and expressions are typed.
 use super::options::TypedOptions;
-use occ_base::{Items, Name, Shared};
+use occ_base::{Boxed, Items, Name, Shared};
 use occ_scope::{Referent, ScopeEntry};
 use occ_types::Interface;
 use occ_typing_rules::{TypedActual, TypedElement, TypedExpr};
@@ -89,7 +89,7 @@ pub enum TypedForm {
     /// `ELSE`
     Otherwise,
     /// `e & g`
-    Guard(Shared<TypedExpr>, TypedGuard),
+    Guard(Shared<TypedExpr>, Boxed<TypedGuard>),
     /// `n; i; ..`, a variant of a case input: the place of the tag in its protocol and its name, and the targets.
     Variant(usize, Name, Items<TypedTarget>),
     /// `VALOF`

@@ -1,5 +1,5 @@
 //! Typed outputs, targets and inputs.
-use occ_base::{Items, Name, Shared};
+use occ_base::{Boxed, Items, Name, Shared};
 use occ_typing_rules::{TypedElement, TypedExpr};
 
 /// What an output sends as one.
@@ -26,9 +26,9 @@ pub enum TypedInput {
     /// `el ? i; ..` of a channel.
     Plain(TypedElement, Items<TypedTarget>),
     /// `el ? i` of a timer.
-    Time(TypedElement, TypedElement),
+    Time(TypedElement, Boxed<TypedElement>),
     /// `el ? AFTER e`
     After(TypedElement, Shared<TypedExpr>),
     /// `el ? CASE n; i; ..`: the channel, the place of the tag in its protocol and its name, and the targets.
-    Tagged(TypedElement, usize, Name, Items<TypedTarget>),
+    Tagged(Boxed<TypedElement>, usize, Name, Items<TypedTarget>),
 }

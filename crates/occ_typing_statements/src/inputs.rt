@@ -13,7 +13,7 @@ ghost use Rattle.occ_typing_statements.specs.Inputs.{after_faults as spec_after_
 use super::exchange_tree::{TypedInput, TypedTarget};
 use super::receiving::{items_received, nothing_received};
 use super::through::root_of;
-use occ_base::{Fault, Items, Name, Shared};
+use occ_base::{Boxed, Fault, Items, Name, Shared};
 use occ_expr::{element, expression};
 use occ_expr_operations::Reading;
 use occ_forms::{Input, InputItem};
@@ -37,40 +37,48 @@ fn only<T: Drop>(mut items: Items<T>) -> Option<T>
 
 /// The one target of an input from a timer.
 #[tactic(auto, using(crate::proofs::Times::time_rules))]
-fn time_of(timer: TypedElement, targets: Items<TypedTarget>) -> Option<TypedInput>
-    ensures { result ≡ spec_time_of timer targets }
+fn time_of(
+    alloc: Global,
+    timer: TypedElement,
+    targets: Items<TypedTarget>,
+) -> Result<Option<TypedInput>, AllocError>
+    ensures { IfOk result (λ input. input ≡ spec_time_of timer targets) }
 {
-    match only(targets)? {
-        TypedTarget::Single(target) => Some(TypedInput::Time(timer, target)),
-        TypedTarget::Counted(_, _) => None,
-    }
+    let Some(TypedTarget::Single(target)) = only(targets) else {
+        return Ok(None);
+    };
+    Ok(Some(TypedInput::Time(timer, Boxed::new(alloc, target)?)))
 }
 
 /// An input with these targets, from a timer or from a channel.
 fn plain_of(
+    alloc: Global,
     of_timer: bool,
     channel: TypedElement,
     targets: Items<TypedTarget>,
-) -> Option<TypedInput>
-    ensures { result ≡ spec_plain_of of_timer channel targets }
+) -> Result<Option<TypedInput>, AllocError>
+    ensures { IfOk result (λ input. input ≡ spec_plain_of of_timer channel targets) }
 {
     if of_timer {
-        time_of(channel, targets)
+        time_of(alloc, channel, targets)
     } else {
-        Some(TypedInput::Plain(channel, targets))
+        Ok(Some(TypedInput::Plain(channel, targets)))
     }
 }
 
 /// An input, if its channel or timer and its targets have trees.
 fn plain_input(
+    alloc: Global,
     of_timer: bool,
     channel: Option<TypedElement>,
     targets: Option<Items<TypedTarget>>,
-) -> Option<TypedInput>
-    ensures { result ≡ spec_plain_input of_timer channel targets }
+) -> Result<Option<TypedInput>, AllocError>
+    ensures { IfOk result (λ input. input ≡ spec_plain_input of_timer channel targets) }
 {
-    let (channel, targets) = channel.zip(targets)?;
-    plain_of(of_timer, channel, targets)
+    let Some((channel, targets)) = channel.zip(targets) else {
+        return Ok(None);
+    };
+    plain_of(alloc, of_timer, channel, targets)
 }
 
 /// The targets of `el ? i; ..` and what is reported of them and of what they are received through, of which this is known.
@@ -110,7 +118,7 @@ fn plain(
     let read = element(alloc, channel, scope, faults)?;
     let root = root_of(scope, channel);
     let targets = plain_targets(alloc, &read.kind, root, first, more, scope, faults)?;
-    Ok(plain_input(is_timer(&read.kind), read.tree, targets))
+    plain_input(alloc, is_timer(&read.kind), read.tree, targets)
 }
 
 /// `el ? AFTER e`, if the timer and the INT have trees.
@@ -201,6 +209,7 @@ fn tagged_at(
         return Ok(None);
     };
     let tag = tag.copied(alloc)?;
+    let channel = Boxed::new(alloc, channel)?;
     Ok(Some(TypedInput::Tagged(channel, place, tag, targets)))
 }
 

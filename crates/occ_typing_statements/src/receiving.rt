@@ -89,7 +89,7 @@ fn item_received(
 {
     match item {
         InputItem::Plain(target) => single(alloc, target, scope, faults),
-        InputItem::Counted(count, array) => counted(alloc, count, array, scope, faults),
+        InputItem::Counted(count, array) => counted(alloc, count.get(), array.get(), scope, faults),
     }
 }
 

@@ -66,8 +66,8 @@ fn item_read(
     match item {
         OutputItem::Plain(expr) => Ok(SentItem::Plain(expression(alloc, expr, scope, faults)?)),
         OutputItem::Counted(count, array) => {
-            let count = expression(alloc, count, scope, faults)?;
-            let array = expression(alloc, array, scope, faults)?;
+            let count = expression(alloc, count.get(), scope, faults)?;
+            let array = expression(alloc, array.get(), scope, faults)?;
             Ok(SentItem::Counted(count, array))
         }
     }

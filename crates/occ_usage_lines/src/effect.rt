@@ -100,7 +100,7 @@ fn communicates(form: &TypedForm) -> bool
         TypedForm::Input(_) => true,
         TypedForm::CaseInput(_) => true,
         TypedForm::Block(block, _) => is_communicating(*block),
-        TypedForm::Guard(_, guard) => is_input(guard),
+        TypedForm::Guard(_, guard) => is_input(guard.get()),
         _ => false,
     }
 }

@@ -147,14 +147,14 @@ fn input(
         }
         TypedInput::Time(timer, to) => {
             used(alloc, UseKind::Input, timer, env, line, uses)?;
-            used(alloc, UseKind::Write, to, env, line, uses)
+            used(alloc, UseKind::Write, to.get(), env, line, uses)
         }
         TypedInput::After(timer, time) => {
             used(alloc, UseKind::Input, timer, env, line, uses)?;
             expression_uses(alloc, time.get(), env, line, uses)
         }
         TypedInput::Tagged(channel, _, _, to) => {
-            used(alloc, UseKind::Input, channel, env, line, uses)?;
+            used(alloc, UseKind::Input, channel.get(), env, line, uses)?;
             targets(alloc, to.as_slice(), env, line, uses)
         }
     }
@@ -230,7 +230,7 @@ pub fn form_uses(
         TypedForm::Condition(expr) => expression_uses(alloc, expr.get(), env, line, uses),
         TypedForm::Guard(expr, found) => {
             expression_uses(alloc, expr.get(), env, line, uses)?;
-            guard(alloc, found, env, line, uses)
+            guard(alloc, found.get(), env, line, uses)
         }
         TypedForm::Variant(_, _, to) => targets(alloc, to.as_slice(), env, line, uses),
         TypedForm::Results(values) => each_uses(alloc, values.as_slice(), env, line, uses),

@@ -77,12 +77,12 @@ fn input_names(input: &TypedInput, number: usize) -> bool
             element_names(element, number) || targets_name(to.as_slice(), number)
         }
         TypedInput::Time(element, to) => element_names(element, number)
-            || element_names(to, number),
+            || element_names(to.get(), number),
         TypedInput::After(element, expr) => {
             element_names(element, number) || expression_names(expr.get(), number)
         }
         TypedInput::Tagged(element, _, _, to) => {
-            element_names(element, number) || targets_name(to.as_slice(), number)
+            element_names(element.get(), number) || targets_name(to.as_slice(), number)
         }
     }
 }
@@ -135,7 +135,7 @@ pub fn form_names(form: &TypedForm, number: usize) -> bool
         TypedForm::CaseInput(element) => element_names(element, number),
         TypedForm::Condition(expr) => expression_names(expr.get(), number),
         TypedForm::Guard(expr, guard) => {
-            expression_names(expr.get(), number) || guard_names(guard, number)
+            expression_names(expr.get(), number) || guard_names(guard.get(), number)
         }
         TypedForm::Variant(_, _, to) => targets_name(to.as_slice(), number),
         TypedForm::Results(values) => expressions_name(values.as_slice(), number),

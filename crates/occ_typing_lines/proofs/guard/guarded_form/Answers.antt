@@ -16,8 +16,8 @@ neither None g is = cc
 neither (Some e) None is = cc
 neither (Some e) (Some g) is = absurd cc
 
-pub returns-in-Some : goal.returns-in-Some
-returns-in-Some c = both _ _ _ _ (sym c.zip.ensures ∙ c.in-Some.is)
+pub returns-in_ok-new-in-Some : goal.returns-in_ok-new-in-Some
+returns-in_ok-new-in-Some c = ap (λ (g : TypedGuard). t.Guard c.in-Some.condition g) c.in_ok-new-in-Some.ensures ∙ both _ _ _ _ (sym c.zip.ensures ∙ c.in-Some.is)
 
 pub returns-in-None : goal.returns-in-None
 returns-in-None c = neither _ _ (sym c.zip.ensures ∙ c.in-None.is)
