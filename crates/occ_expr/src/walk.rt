@@ -219,6 +219,7 @@ fn operand(
 }
 
 /// What is read of an element as an operand.
+#[tactic(auto, using(occ_expr_operations::proofs::Views::element_rules))]
 #[cycle(walk)]
 fn element_operand(
     alloc: Global,
@@ -230,8 +231,32 @@ fn element_operand(
     ensures open_expr { IfOk result (λ whole. whole.open_expr ≡ spec_element_open ((element_view part.now).tree scope.now)) }
     ensures faults { OnOk result (faults.new ≡ faults.old ++ ((element_view part.now).reported scope.now).faults) }
 {
-    let read = element(alloc, part, scope, faults)?;
-    element_reading(alloc, read)
+    match part {
+        Element::Named(name, exprs) if exprs.is_empty() => name_reading(alloc, name, scope, faults),
+        _ => {
+            let read = element(alloc, part, scope, faults)?;
+            element_reading(alloc, read)
+        }
+    }
+}
+
+/// What is read of a name without subscripts.
+#[tactic(auto, using(occ_expr_operations::proofs::Fields::front_rules), unfolding(occ_expr_operations::specs::Parts::named_element, occ_expr_operations::specs::Views::named_tree))]
+fn name_reading(
+    alloc: Global,
+    name: &Name,
+    scope: &Scope,
+    faults: &mut Items<Fault>,
+) -> Result<Reading, AllocError>
+    ensures term { IfOk result (λ whole. whole.term ≡ v.Single (spec_named_element scope.now name.now []).kind) }
+    ensures open_expr { IfOk result (λ whole. whole.open_expr ≡ spec_element_open (spec_named_tree scope.now name.now [])) }
+    ensures faults { OnOk result (faults.new ≡ faults.old ++ (spec_named_element scope.now name.now []).faults) }
+{
+    let referent = scope.referent(name)?;
+    let kind = referred(alloc, scope, name, &referent, faults)?;
+    let name = name.copied(alloc)?;
+    let tree = element_of(&kind, name, referent, Some(Items::new(alloc)))?;
+    element_reading(alloc, ElementReading { kind, tree })
 }
 
 /// What is read of a literal without a type of its own.
@@ -720,6 +745,9 @@ fn whole_named_element(
     ensures open_expr { IfOk result (λ read. read.open_expr ≡ spec_whole_element_open scope.now name.now (expr_views exprs.now)) }
     ensures faults { OnOk result (faults.new ≡ faults.old ++ (spec_whole_element scope.now name.now (expr_views exprs.now)).faults) }
 {
+    if exprs.is_empty() {
+        return name_reading(alloc, name, scope, faults);
+    }
     let (Some(Meaning::Type(to)), Some(expr)) = (scope.find(name), only(exprs)) else {
         let read = named_element(alloc, name, exprs, scope, faults)?;
         return element_reading(alloc, read);

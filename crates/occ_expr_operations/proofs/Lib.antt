@@ -3,3 +3,4 @@ pub mod Fields
 pub mod OpenTypes
 pub mod Layers
 pub mod Referring
+pub mod Pairs

@@ -26,17 +26,6 @@ pub fn two_items<T: Drop>(alloc: Global, first: T, second: T) -> Result<Items<T>
     Ok(items)
 }
 
-/// The same once more.
-fn shared(known: &Known) -> Result<Known, AllocError>
-    ensures { IfOk result (λ shared. shared ≡ known.now) }
-{
-    let of = known.of.share()?;
-    Ok(Known {
-        of,
-        value: known.value,
-    })
-}
-
 /// A typed tree as an open expression, for all that share it.
 fn typed(alloc: Global, tree: TypedExpr) -> Result<OpenExpr, AllocError>
     ensures { IfOk result (λ open_expr. open_expr ≡ spec_opened (Some tree)) }
@@ -51,7 +40,7 @@ pub fn literal_open(alloc: Global, kind: &Kind) -> Result<OpenExpr, AllocError>
     match kind {
         Kind::Faulty => Ok(OpenExpr::Faulty),
         Kind::Untyped(untyped) => Ok(OpenExpr::Literal(untyped.share()?)),
-        Kind::Known(known) => typed(alloc, TypedExpr::Literal(shared(known)?)),
+        Kind::Known(known) => typed(alloc, TypedExpr::Literal(known.share()?)),
     }
 }
 
@@ -107,7 +96,7 @@ fn known_operation(
     let Some(trees) = all_placed(alloc, operands, &of)? else {
         return Ok(OpenExpr::Faulty);
     };
-    typed(alloc, TypedExpr::Operation(shared(known)?, operator, trees))
+    typed(alloc, TypedExpr::Operation(known.share()?, operator, trees))
 }
 
 /// Operands with one operator between each two, of whose whole this is known.
@@ -134,7 +123,10 @@ pub fn place_tree(
 ) -> Result<Option<Shared<TypedExpr>>, AllocError>
     ensures { IfOk result (λ tree. tree ≡ spec_placed open_expr.now spec_int) }
 {
-    placed(alloc, open_expr, &int(alloc)?)
+    match open_expr {
+        OpenExpr::Typed(tree) => Ok(Some(tree.share()?)),
+        _ => placed(alloc, open_expr, &int(alloc)?),
+    }
 }
 
 /// A shift of an untyped operand.
@@ -170,7 +162,7 @@ fn known_shift(
     let operands = two_items(alloc, shifted, count)?;
     typed(
         alloc,
-        TypedExpr::Operation(shared(known)?, operator, operands),
+        TypedExpr::Operation(known.share()?, operator, operands),
     )
 }
 
@@ -228,7 +220,7 @@ fn applied_as(
     let Some(tree) = placed(alloc, operand, &known.of)? else {
         return Ok(OpenExpr::Faulty);
     };
-    typed(alloc, TypedExpr::Applied(shared(known)?, operator, tree))
+    typed(alloc, TypedExpr::Applied(known.share()?, operator, tree))
 }
 
 /// An operator in front of an operand, of whose whole this is known.
@@ -275,7 +267,7 @@ pub fn size_open(
             let Some(tree) = placed(alloc, operand, &of)? else {
                 return Ok(OpenExpr::Faulty);
             };
-            typed(alloc, TypedExpr::Size(shared(known)?, tree))
+            typed(alloc, TypedExpr::Size(known.share()?, tree))
         }
     }
 }
@@ -297,7 +289,7 @@ pub fn converted_open(
             let Some(tree) = placed(alloc, operand, &of)? else {
                 return Ok(OpenExpr::Faulty);
             };
-            typed(alloc, TypedExpr::Converted(shared(known)?, tree))
+            typed(alloc, TypedExpr::Converted(known.share()?, tree))
         }
     }
 }
@@ -360,7 +352,7 @@ pub fn decorated_open(
             let Some(trees) = items_placed(alloc, items, known.of.get())? else {
                 return Ok(OpenExpr::Faulty);
             };
-            typed(alloc, TypedExpr::Table(shared(known)?, trees))
+            typed(alloc, TypedExpr::Table(known.share()?, trees))
         }
     }
 }

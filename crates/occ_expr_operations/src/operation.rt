@@ -15,7 +15,8 @@ use occ_base::{Fault, Items, Shared};
 use occ_forms_expressions::{Extreme, MonadicOperator, PairOperator, RunOperator};
 use occ_types::{Monadic, OccType, Operator};
 use occ_typing_operands::{
-    Kind, Untyped, applied as applied_to, converted as converted_to, operated, shifted, untyped,
+    Kind, Untyped, applied as applied_to, converted as converted_to, operated, operated_pair,
+    shifted, untyped,
 };
 use occ_typing_tables::{Limit, Term, alone, has_fault, most, operand, sized};
 use std::alloc::{AllocError, Global};
@@ -110,7 +111,7 @@ fn each_among(
 }
 
 /// What the operator gives on the operands between which it stands.
-#[tactic(auto, unfolding(crate::specs::Operations::operation))]
+#[tactic(auto, using(crate::proofs::Pairs::pair_operated), unfolding(crate::specs::Operations::operation))]
 fn operation(
     alloc: Global,
     operands: &[Term],
@@ -120,8 +121,15 @@ fn operation(
     ensures kind { IfOk result (λ kind. kind ≡ (spec_operation operator (judged_all operands.now)).kind) }
     ensures faults { OnOk result (faults.new ≡ faults.old ++ (spec_operation operator (judged_all operands.now)).faults) }
 {
-    let kinds = each_among(alloc, operands, number_of_faulty(operands), faults)?;
-    operated(alloc, operator, kinds.as_slice(), faults)
+    match operands {
+        [Term::Single(first), Term::Single(second)] => {
+            operated_pair(alloc, operator, first, second, faults)
+        }
+        _ => {
+            let kinds = each_among(alloc, operands, number_of_faulty(operands), faults)?;
+            operated(alloc, operator, kinds.as_slice(), faults)
+        }
+    }
 }
 
 /// An operand by itself.

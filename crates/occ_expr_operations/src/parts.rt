@@ -199,6 +199,7 @@ fn bounds_alone(
 }
 
 /// The component at a place of which this is read.
+#[tactic(auto, using(crate::proofs::Pairs::plain_single))]
 pub fn component_of(
     alloc: Global,
     place: &Reading,
@@ -209,8 +210,13 @@ pub fn component_of(
     ensures selector { IfOk result (λ r. r.1 ≡ spec_component_at (spec_placed place.now.open_expr spec_int)) }
     ensures faults { OnOk result (faults.new ≡ faults.old ++ (and_then (spec_plain (judged place.now.term)) (spec_subscripted of.now)).faults) }
 {
-    let index = plain(alloc, &place.term, faults)?;
-    let kind = subscripted(alloc, of, &index, faults)?;
+    let kind = match &place.term {
+        Term::Single(index) => subscripted(alloc, of, index, faults)?,
+        _ => {
+            let index = plain(alloc, &place.term, faults)?;
+            subscripted(alloc, of, &index, faults)?
+        }
+    };
     let selector = component_at(alloc, &place.open_expr)?;
     Ok((kind, selector))
 }

@@ -33,17 +33,6 @@ pub struct BoundsReading {
     pub selector: Option<Selector>,
 }
 
-/// The same once more.
-fn shared(known: &Known) -> Result<Known, AllocError>
-    ensures { IfOk result (λ shared. shared ≡ known.now) }
-{
-    let of = known.of.share()?;
-    Ok(Known {
-        of,
-        value: known.value,
-    })
-}
-
 /// The component at a place.
 pub fn component_at(alloc: Global, place: &OpenExpr) -> Result<Option<Selector>, AllocError>
     ensures { IfOk result (λ selector. selector ≡ spec_component_at (spec_placed place.now spec_int)) }
@@ -170,7 +159,7 @@ pub fn element_of(
         return Ok(None);
     };
     Ok(Some(TypedElement {
-        known: shared(known)?,
+        known: known.share()?,
         name,
         referent,
         selectors,

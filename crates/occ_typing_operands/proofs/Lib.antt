@@ -1,3 +1,5 @@
+pub mod Varying
+pub mod Places
 pub mod Plain
 pub mod Runs
 pub mod Sums

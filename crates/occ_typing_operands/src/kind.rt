@@ -1,14 +1,30 @@
 //! What is known of an operand before a type is wanted of it: faulty, of a type, or free. A free one has what it comes to
 //! in each type.
+ghost use Rattle.std.specs.Prelude.{◌≡◌, IfOk};
+
 use super::untyped_constant::UntypedConstant;
 use occ_base::Shared;
 use occ_types::{OccType, Value};
+use std::alloc::AllocError;
 
 /// The type of an operand, and its value where it is constant.
 #[derive(Drop)]
 pub struct Known {
     pub of: Shared<OccType>,
     pub value: Option<Value>,
+}
+
+impl Known {
+    /// The same once more.
+    pub fn share(&self) -> Result<Known, AllocError>
+        ensures { IfOk result (λ shared. shared ≡ self.now) }
+    {
+        let of = self.of.share()?;
+        Ok(Known {
+            of,
+            value: self.value,
+        })
+    }
 }
 
 /// What is wrong with an expression in a type that each of its literals fits.
@@ -54,4 +70,17 @@ pub enum Kind {
     /// It takes the type that is wanted of it.
     Untyped(UntypedConstant),
     Known(Known),
+}
+
+impl Kind {
+    /// The same once more.
+    pub fn share(&self) -> Result<Kind, AllocError>
+        ensures { IfOk result (λ shared. shared ≡ self.now) }
+    {
+        match self {
+            Kind::Faulty => Ok(Kind::Faulty),
+            Kind::Untyped(untyped) => Ok(Kind::Untyped(untyped.share()?)),
+            Kind::Known(known) => Ok(Kind::Known(known.share()?)),
+        }
+    }
 }

@@ -13,7 +13,8 @@ mod want;
 
 pub use kind::{Kind, Known, TypedValue, Untyped, Wrong};
 pub use operate::{
-    applied, is_faulty, is_of, needs_faulty, operand_type, operated, shifted, type_in,
+    applied, is_faulty, is_of, needs_faulty, operand_type, operated, operated_pair, shifted,
+    type_in,
 };
 pub use part::{field, mismatched, subscripted};
 pub use settle::{int, known, landed, number, settled, untyped};

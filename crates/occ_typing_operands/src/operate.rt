@@ -1,6 +1,6 @@
 //! Operators over operands: faults, the type of the result, and its value if it is constant. `docs/LANGUAGE.md, Operands
 //! and operators`.
-ghost use Rattle.std.specs.Prelude.{◌≡◌, ◌++◌, IfOk, MatchOption, None, OnOk, Some, map};
+ghost use Rattle.std.specs.Prelude.{◌≡◌, ◌∷◌, ◌++◌, [], IfOk, MatchOption, None, OnOk, Some, map};
 ghost use Rattle.std.specs.List.{list_all, list_any};
 ghost use Rattle.occ_typing_operands.specs.Operators.{allows as spec_allows, class_of as spec_class_of, decided as spec_decided, first_bound as spec_first_bound, front_operated as spec_front_operated, given as spec_given, is_arithmetic as spec_is_arithmetic, is_faulty as spec_is_faulty, is_int as spec_is_int, is_of as spec_is_of, faulty_count as spec_faulty_count, known_count as spec_known_count, needs_faulty as spec_needs_faulty, not_untyped as spec_not_untyped, not_number as spec_not_number, operated as spec_operated, operand_type as spec_operand_type, operated_from as spec_operated_from, outcome_in as spec_outcome_in, run_in as spec_run_in, shift_operated as spec_shift_operated, shifted_by as spec_shifted_by, takes as spec_takes, type_in as spec_type_in, value_outcome as spec_value_outcome, verdict as spec_verdict};
 ghost use Rattle.occ_typing_operands.specs.Outcomes.{applied as spec_applied, if_constant, in_each, in_type, misshifted, run, shifted as spec_shifted, worst};
@@ -9,6 +9,8 @@ ghost use Rattle.occ_typing_operands.specs.declared.kind.Wrong.TheVariants as w;
 ghost use Rattle.occ_types.specs.declared.value.Value.{Value as AValue};
 ghost use Rattle.occ_typing_operands.specs.declared.kind.Kind.TheVariants as k;
 ghost use Rattle.occ_types.specs.View.{as_primitive as spec_as_primitive};
+ghost use Rattle.occ_typing_operands.specs.inside.Varying.{is_varying, takes_type as spec_takes_type, settles as spec_settles, varies as spec_varies};
+ghost use Rattle.occ_typing_operands.specs.Settling.{known as spec_known};
 
 use super::kind::{Kind, Known, TypedValue, Untyped, Wrong};
 use super::outcome::{apply, misshift, shift, worse};
@@ -321,6 +323,87 @@ fn unbound(
     decided(alloc, op, &int(alloc)?, kinds, faults)
 }
 
+/// Whether an operand is of a type, or takes it and has a value in it.
+fn settles(of: &OccType, kind: &Kind) -> bool
+    ensures { result ≡ spec_settles of.now kind.now }
+{
+    match kind {
+        Kind::Faulty => false,
+        Kind::Untyped(untyped) => match number(base_of(of)) {
+            Some(base) => {
+                !untyped.is_faulty() && matches!(untyped.in_type(base), TypedValue::Constant(_))
+            }
+            None => false,
+        },
+        Kind::Known(known) => fits(of, known.of.get()),
+    }
+}
+
+/// Whether an operand is of a type and has no value.
+fn varies(kind: &Kind) -> bool
+    ensures { result ≡ spec_varies kind.now }
+{
+    match kind {
+        Kind::Known(known) => known.value.is_none(),
+        _ => false,
+    }
+}
+
+/// Whether the operator takes operands of a type.
+fn takes_type(op: Operator, of: &OccType) -> bool
+    ensures { result ≡ spec_takes_type op of.now }
+{
+    allows(class_of(op), base_of(of)) && fits(of, of)
+}
+
+fn some_varies(kinds: &[Kind]) -> bool
+    ensures { result ≡ list_any spec_varies kinds.now }
+{
+    kinds.iter().any(|kind| varies(kind))
+}
+
+fn all_settle(of: &OccType, kinds: &[Kind]) -> bool
+    ensures { result ≡ list_all (spec_settles of.now) kinds.now }
+{
+    kinds.iter().all(|kind| settles(of, kind))
+}
+
+/// Whether the operator takes operands of a type, each of these settles in it, and one of them has no value.
+fn vary(op: Operator, of: &OccType, kinds: &[Kind]) -> bool
+    ensures { result ≡ is_varying op of.now kinds.now }
+{
+    takes_type(op, of) && some_varies(kinds) && all_settle(of, kinds)
+}
+
+/// Whether one of two operands is of a type and has no value.
+fn either_varies(first: &Kind, second: &Kind) -> bool
+    ensures { result ≡ list_any spec_varies (first.now ∷ second.now ∷ []) }
+{
+    varies(first) || varies(second)
+}
+
+/// Whether two operands are of a type, or take it and have values in it.
+fn both_settle(of: &OccType, first: &Kind, second: &Kind) -> bool
+    ensures { result ≡ list_all (spec_settles of.now) (first.now ∷ second.now ∷ []) }
+{
+    settles(of, first) && settles(of, second)
+}
+
+/// The same of two operands, which are in no list.
+fn vary_both(op: Operator, of: &OccType, first: &Kind, second: &Kind) -> bool
+    ensures { result ≡ is_varying op of.now (first.now ∷ second.now ∷ []) }
+{
+    takes_type(op, of) && either_varies(first, second) && both_settle(of, first, second)
+}
+
+/// What an operator gives on operands of a type, one of which has no value.
+fn varying(alloc: Global, op: Operator, of: &Shared<OccType>) -> Result<Kind, AllocError>
+    ensures { IfOk result (λ kind. kind ≡ spec_known (spec_given (spec_class_of op) of.now) None) }
+{
+    let of = given(alloc, class_of(op), of)?;
+    Ok(Kind::Known(Known { of, value: None }))
+}
+
 /// What an operator gives that stands between each two of these operands; not for shifts.
 pub fn operated(
     alloc: Global,
@@ -332,9 +415,59 @@ pub fn operated(
     ensures faults { OnOk result (faults.new ≡ faults.old ++ (spec_operated op kinds.now).faults) }
 {
     match first_bound(kinds) {
+        Some(Kind::Known(known)) if vary(op, known.of.get(), kinds) => {
+            varying(alloc, op, &known.of)
+        }
         Some(Kind::Known(known)) => decided(alloc, op, &known.of, kinds, faults),
         Some(_) => Ok(Kind::Faulty),
         None => unbound(alloc, op, kinds, faults),
+    }
+}
+
+/// The first of two operands that is not free.
+fn bound_of_two<'a>(first: &'a Kind, second: &'a Kind) -> Option<&'a Kind>
+    ensures { MatchOption result (spec_first_bound (first.now ∷ second.now ∷ []) ≡ None) (λ kind. spec_first_bound (first.now ∷ second.now ∷ []) ≡ Some kind.now) }
+{
+    match (first, second) {
+        (Kind::Untyped(_), Kind::Untyped(_)) => None,
+        (Kind::Untyped(_), _) => Some(second),
+        _ => Some(first),
+    }
+}
+
+/// What an operator gives on these two operands, which are in no list.
+fn operated_two(
+    alloc: Global,
+    op: Operator,
+    first: &Kind,
+    second: &Kind,
+    faults: &mut Items<Fault>,
+) -> Result<Kind, AllocError>
+    ensures kind { IfOk result (λ kind. kind ≡ (spec_operated op (first.now ∷ second.now ∷ [])).kind) }
+    ensures faults { OnOk result (faults.new ≡ faults.old ++ (spec_operated op (first.now ∷ second.now ∷ [])).faults) }
+{
+    let mut kinds = Items::from_vec(Vec::with_capacity(alloc, 2)?);
+    kinds.push(first.share()?)?;
+    kinds.push(second.share()?)?;
+    operated(alloc, op, kinds.as_slice(), faults)
+}
+
+/// What an operator gives that stands between two operands; not for shifts.
+pub fn operated_pair(
+    alloc: Global,
+    op: Operator,
+    first: &Kind,
+    second: &Kind,
+    faults: &mut Items<Fault>,
+) -> Result<Kind, AllocError>
+    ensures kind { IfOk result (λ kind. kind ≡ (spec_operated op (first.now ∷ second.now ∷ [])).kind) }
+    ensures faults { OnOk result (faults.new ≡ faults.old ++ (spec_operated op (first.now ∷ second.now ∷ [])).faults) }
+{
+    match bound_of_two(first, second) {
+        Some(Kind::Known(known)) if vary_both(op, known.of.get(), first, second) => {
+            varying(alloc, op, &known.of)
+        }
+        _ => operated_two(alloc, op, first, second, faults),
     }
 }
 

@@ -1,12 +1,14 @@
 //! Subscripts and fields: what they select of a value, and N1, T2 or T6.
 ghost use Rattle.std.specs.Prelude.{◌≡◌, ◌++◌, IfOk, MatchOption, None, OnOk, Some};
+ghost use Rattle.occ_types.specs.View.{as_primitive as spec_as_primitive};
+ghost use Rattle.occ_typing_operands.specs.Operators.{is_int as spec_is_int};
 ghost use Rattle.occ_typing_operands.specs.Parts.{component as spec_component, component_at as spec_component_at, field as spec_field, field_named as spec_field_named, field_reported, is_constant_outside, mismatched as spec_mismatched, not_subscripted as spec_not_subscripted, subscripted as spec_subscripted};
 
 use super::kind::Kind;
 use super::settle::{int, known, settled};
 use super::want::wanted;
 use occ_base::{Code, Fault, Items, Name, Shared, report};
-use occ_types::{Field, OccType, Value, array_of, is_unknown, unnamed};
+use occ_types::{Field, OccType, Primitive, Value, array_of, as_primitive, is_unknown, unnamed};
 use std::alloc::{AllocError, Global};
 
 /// Whether a constant is no place of an array of so many components.
@@ -45,7 +47,15 @@ fn component_at(
     }
 }
 
+/// Whether a type is INT without a name.
+fn is_int(of: &OccType) -> bool
+    ensures { result ≡ spec_is_int (spec_as_primitive of.now) }
+{
+    matches!(as_primitive(of), Some(Primitive::Int))
+}
+
 /// The component of an array at a place, which must be an INT, and lie in the array if it is constant.
+#[tactic(auto, using(crate::proofs::Places::settled_place))]
 fn component(
     alloc: Global,
     count: Option<u32>,
@@ -56,8 +66,13 @@ fn component(
     ensures kind { IfOk result (λ kind. kind ≡ (spec_component count of.now index.now).kind) }
     ensures faults { OnOk result (faults.new ≡ faults.old ++ (spec_component count of.now index.now).faults) }
 {
-    let place = wanted(alloc, &int(alloc)?, index, faults)?;
-    component_at(count, of, &place, faults)
+    match index {
+        Kind::Known(found) if is_int(found.of.get()) => component_at(count, of, index, faults),
+        _ => {
+            let place = wanted(alloc, &int(alloc)?, index, faults)?;
+            component_at(count, of, &place, faults)
+        }
+    }
 }
 
 /// T2 is reported of a settled operand that stands where none of its type may.

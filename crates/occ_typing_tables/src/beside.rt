@@ -4,7 +4,7 @@
 ghost use Rattle.std.specs.Prelude.{◌≡◌, ◌++◌, IfOk, OnOk};
 ghost use Rattle.occ_typing_tables.specs.Terms.{judged, judged_all, table_alone as spec_table_alone};
 
-use super::hiding::{shared, table_hidden};
+use super::hiding::table_hidden;
 use super::table::table_alone;
 use super::term::Term;
 use occ_base::{Fault, Items};
@@ -31,7 +31,7 @@ pub fn operand(
     ensures faults { OnOk result (faults.new ≡ faults.old ++ ((judged term.now).beside other_has_fault).faults) }
 {
     match term {
-        Term::Single(kind) => shared(kind),
+        Term::Single(kind) => kind.share(),
         Term::Table(items) if other_has_fault => {
             table_hidden(alloc, items.as_slice(), faults)?;
             silent_table(alloc, items.as_slice())

@@ -12,17 +12,6 @@ use occ_types::OccType;
 use occ_typing_operands::{Kind, known};
 use std::alloc::{AllocError, Global};
 
-/// The same once more.
-pub(super) fn shared(kind: &Kind) -> Result<Kind, AllocError>
-    ensures { IfOk result (λ shared. shared ≡ kind.now) }
-{
-    match kind {
-        Kind::Faulty => Ok(Kind::Faulty),
-        Kind::Untyped(untyped) => Ok(Kind::Untyped(untyped.share()?)),
-        Kind::Known(found) => known(&found.of, found.value),
-    }
-}
-
 /// The type of the first item that has one.
 fn first_known(kinds: &[Kind]) -> Result<Option<Shared<OccType>>, AllocError>
     ensures { IfOk result (λ found. found ≡ spec_first_known kinds.now) }
@@ -69,7 +58,7 @@ pub fn hidden(alloc: Global, term: &Term, faults: &mut Items<Fault>) -> Result<K
     ensures faults { OnOk result (faults.new ≡ faults.old ++ (spec_hidden (judged term.now)).faults) }
 {
     match term {
-        Term::Single(kind) => shared(kind),
+        Term::Single(kind) => kind.share(),
         Term::Table(items) => table_hidden(alloc, items.as_slice(), faults),
     }
 }
