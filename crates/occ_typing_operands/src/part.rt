@@ -1,10 +1,12 @@
 //! Subscripts and fields: what they select of a value, and N1, T2 or T6.
-ghost use Rattle.std.specs.Prelude.{◌≡◌, ◌++◌, IfOk, MatchOption, None, OnOk, Some};
+ghost use Rattle.std.specs.Prelude.{◌≡◌, ◌++◌, ℕ, IfOk, MatchOption, None, OnOk, Option, Some};
+ghost use Rattle.occ_types.specs.declared.types.OccType.{OccType};
+ghost use Rattle.occ_typing_operands.specs.Settling.{int as spec_int, known as spec_known};
 ghost use Rattle.occ_types.specs.View.{as_primitive as spec_as_primitive};
 ghost use Rattle.occ_typing_operands.specs.Operators.{is_int as spec_is_int};
 ghost use Rattle.occ_typing_operands.specs.Parts.{component as spec_component, component_at as spec_component_at, field as spec_field, field_named as spec_field_named, field_reported, is_constant_outside, mismatched as spec_mismatched, not_subscripted as spec_not_subscripted, subscripted as spec_subscripted};
 
-use super::kind::Kind;
+use super::kind::{Kind, TypedValue};
 use super::settle::{int, known, settled};
 use super::want::wanted;
 use occ_base::{Code, Fault, Items, Name, Shared, report};
@@ -25,25 +27,37 @@ fn is_outside(count: Option<u32>, place: Option<Value>) -> bool
     }
 }
 
-/// The component at a settled place.
+/// The component at an INT of this value.
 fn component_at(
     count: Option<u32>,
     of: &Shared<OccType>,
-    place: &Kind,
+    place: Option<Value>,
     faults: &mut Items<Fault>,
 ) -> Result<Kind, AllocError>
-    ensures kind { IfOk result (λ kind. kind ≡ (spec_component_at count of.now place.now).kind) }
-    ensures faults { OnOk result (faults.new ≡ faults.old ++ (spec_component_at count of.now place.now).faults) }
+    ensures kind { IfOk result (λ kind. kind ≡ (spec_component_at count of.now (spec_known spec_int place)).kind) }
+    ensures faults { OnOk result (faults.new ≡ faults.old ++ (spec_component_at count of.now (spec_known spec_int place)).faults) }
 {
-    match place {
-        Kind::Known(found) => {
-            if is_outside(count, found.value) {
-                report(faults, Code::T6)?;
-                return Ok(Kind::Faulty);
-            }
-            known(of, None)
-        }
-        _ => Ok(Kind::Faulty),
+    if is_outside(count, place) {
+        report(faults, Code::T6)?;
+        return Ok(Kind::Faulty);
+    }
+    known(of, None)
+}
+
+/// The value that a free place has as an INT, if it has one.
+#[tactic(auto, using(crate::proofs::Places::literal_place))]
+fn literal_place(index: &Kind) -> Option<Value>
+    ensures { MatchOption result (Unit {0}) (λ value. (count : Option ℕ) → (of : OccType) → spec_component count of index.now ≡ spec_component_at count of (spec_known spec_int (Some value))) }
+{
+    let Kind::Untyped(untyped) = index else {
+        return None;
+    };
+    if untyped.is_faulty() {
+        return None;
+    }
+    match untyped.in_type(Primitive::Int) {
+        TypedValue::Constant(value) => Some(value),
+        _ => None,
     }
 }
 
@@ -52,6 +66,23 @@ fn is_int(of: &OccType) -> bool
     ensures { result ≡ spec_is_int (spec_as_primitive of.now) }
 {
     matches!(as_primitive(of), Some(Primitive::Int))
+}
+
+/// The component of an array at a place of which an INT is wanted.
+fn component_wanted(
+    alloc: Global,
+    count: Option<u32>,
+    of: &Shared<OccType>,
+    index: &Kind,
+    faults: &mut Items<Fault>,
+) -> Result<Kind, AllocError>
+    ensures kind { IfOk result (λ kind. kind ≡ (spec_component count of.now index.now).kind) }
+    ensures faults { OnOk result (faults.new ≡ faults.old ++ (spec_component count of.now index.now).faults) }
+{
+    match wanted(alloc, &int(alloc)?, index, faults)? {
+        Kind::Known(found) => component_at(count, of, found.value, faults),
+        _ => Ok(Kind::Faulty),
+    }
 }
 
 /// The component of an array at a place, which must be an INT, and lie in the array if it is constant.
@@ -66,12 +97,14 @@ fn component(
     ensures kind { IfOk result (λ kind. kind ≡ (spec_component count of.now index.now).kind) }
     ensures faults { OnOk result (faults.new ≡ faults.old ++ (spec_component count of.now index.now).faults) }
 {
+    if let Some(value) = literal_place(index) {
+        return component_at(count, of, Some(value), faults);
+    }
     match index {
-        Kind::Known(found) if is_int(found.of.get()) => component_at(count, of, index, faults),
-        _ => {
-            let place = wanted(alloc, &int(alloc)?, index, faults)?;
-            component_at(count, of, &place, faults)
+        Kind::Known(found) if is_int(found.of.get()) => {
+            component_at(count, of, found.value, faults)
         }
+        _ => component_wanted(alloc, count, of, index, faults),
     }
 }
 
