@@ -232,12 +232,34 @@ fn element_operand(
     ensures faults { OnOk result (faults.new ≡ faults.old ++ ((element_view part.now).reported scope.now).faults) }
 {
     match part {
-        Element::Named(name, exprs) if exprs.is_empty() => name_reading(alloc, name, scope, faults),
-        _ => {
-            let read = element(alloc, part, scope, faults)?;
+        Element::Named(name, exprs) => {
+            element_named(alloc, name, exprs.as_slice(), scope, faults)
+        }
+        Element::Segment(_, _, _) => {
+            let read = segment_reading(alloc, part, scope, faults)?;
             element_reading(alloc, read)
         }
     }
+}
+
+/// What is read of a name with subscripts, or without, as an operand.
+#[cycle(walk)]
+fn element_named(
+    alloc: Global,
+    name: &Name,
+    exprs: &[Expr],
+    scope: &Scope,
+    faults: &mut Items<Fault>,
+) -> Result<Reading, AllocError>
+    ensures term { IfOk result (λ whole. whole.term ≡ v.Single (spec_named_element scope.now name.now (expr_views exprs.now)).kind) }
+    ensures open_expr { IfOk result (λ whole. whole.open_expr ≡ spec_element_open (spec_named_tree scope.now name.now (expr_views exprs.now))) }
+    ensures faults { OnOk result (faults.new ≡ faults.old ++ (spec_named_element scope.now name.now (expr_views exprs.now)).faults) }
+{
+    if exprs.is_empty() {
+        return name_reading(alloc, name, scope, faults);
+    }
+    let read = named_element(alloc, name, exprs, scope, faults)?;
+    element_reading(alloc, read)
 }
 
 /// What is read of a name without subscripts.
@@ -749,8 +771,7 @@ fn whole_named_element(
         return name_reading(alloc, name, scope, faults);
     }
     let (Some(Meaning::Type(to)), Some(expr)) = (scope.find(name), only(exprs)) else {
-        let read = named_element(alloc, name, exprs, scope, faults)?;
-        return element_reading(alloc, read);
+        return element_named(alloc, name, exprs, scope, faults);
     };
     let to = shared_type(to)?;
     let item = expression(alloc, expr, scope, faults)?;

@@ -198,8 +198,27 @@ fn bounds_alone(
     }
 }
 
-/// The component at a place of which this is read.
+/// What a place of which this is known selects of a value of a type.
 #[tactic(auto, using(crate::proofs::Pairs::plain_single))]
+fn selected(
+    alloc: Global,
+    place: &Term,
+    of: &OccType,
+    faults: &mut Items<Fault>,
+) -> Result<Kind, AllocError>
+    ensures kind { IfOk result (λ kind. kind ≡ (and_then (spec_plain (judged place.now)) (spec_subscripted of.now)).kind) }
+    ensures faults { OnOk result (faults.new ≡ faults.old ++ (and_then (spec_plain (judged place.now)) (spec_subscripted of.now)).faults) }
+{
+    match place {
+        Term::Single(index) => subscripted(alloc, of, index, faults),
+        _ => {
+            let index = plain(alloc, place, faults)?;
+            subscripted(alloc, of, &index, faults)
+        }
+    }
+}
+
+/// The component at a place of which this is read.
 pub fn component_of(
     alloc: Global,
     place: &Reading,
@@ -210,13 +229,7 @@ pub fn component_of(
     ensures selector { IfOk result (λ r. r.1 ≡ spec_component_at (spec_placed place.now.open_expr spec_int)) }
     ensures faults { OnOk result (faults.new ≡ faults.old ++ (and_then (spec_plain (judged place.now.term)) (spec_subscripted of.now)).faults) }
 {
-    let kind = match &place.term {
-        Term::Single(index) => subscripted(alloc, of, index, faults)?,
-        _ => {
-            let index = plain(alloc, &place.term, faults)?;
-            subscripted(alloc, of, &index, faults)?
-        }
-    };
+    let kind = selected(alloc, &place.term, of, faults)?;
     let selector = component_at(alloc, &place.open_expr)?;
     Ok((kind, selector))
 }

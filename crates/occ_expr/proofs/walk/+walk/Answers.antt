@@ -352,14 +352,14 @@ whole_element-returns-in-Segment-clause-faults t c = grind (arith, common_steps,
 pub whole_element-returns-in-Segment-clause-open_expr : goal.whole_element-returns-in-Segment-clause-open_expr
 whole_element-returns-in-Segment-clause-open_expr t c = grind (arith, common_steps, element_segment_whole_open, element_segment_tree)
 
-pub element_operand-returns-clause-term : goal.element_operand-returns-clause-term
-element_operand-returns-clause-term t c = grind (arith, common_steps)
+pub element_operand-returns-in-Named-clause-term : goal.element_operand-returns-in-Named-clause-term
+element_operand-returns-in-Named-clause-term t c = grind (arith, common_steps, element_named_reported)
 
-pub element_operand-returns-clause-open_expr : goal.element_operand-returns-clause-open_expr
-element_operand-returns-clause-open_expr t c = grind (arith, common_steps)
+pub element_operand-returns-in-Named-clause-open_expr : goal.element_operand-returns-in-Named-clause-open_expr
+element_operand-returns-in-Named-clause-open_expr t c = grind (arith, common_steps, element_named_tree)
 
-pub element_operand-returns-clause-faults : goal.element_operand-returns-clause-faults
-element_operand-returns-clause-faults t c = grind (arith, common_steps)
+pub element_operand-returns-in-Named-clause-faults : goal.element_operand-returns-in-Named-clause-faults
+element_operand-returns-in-Named-clause-faults t c = grind (arith, common_steps, element_named_reported)
 
 pub decorated_operand-returns-clause-term : goal.decorated_operand-returns-clause-term
 decorated_operand-returns-clause-term t c = grind (arith, common_steps)

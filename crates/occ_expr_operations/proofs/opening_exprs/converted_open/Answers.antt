@@ -12,5 +12,5 @@ returns-in-Untyped c = grind (arith, common_steps, type_rules)
 pub returns-in_default : goal.returns-in_default
 returns-in_default c = grind (arith, common_steps, type_rules)
 
-pub returns-in_ok-shared-in-Known : goal.returns-in_ok-shared-in-Known
-returns-in_ok-shared-in-Known c = grind (arith, common_steps, type_rules)
+pub returns-in_ok-share-in-Known : goal.returns-in_ok-share-in-Known
+returns-in_ok-share-in-Known c = grind (arith, common_steps, type_rules)

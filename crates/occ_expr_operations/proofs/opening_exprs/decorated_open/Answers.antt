@@ -15,6 +15,6 @@ pub returns-in_default : goal.returns-in_default
 unfolding decorated_open
 returns-in_default c = grind (arith, common_steps)
 
-pub returns-in_ok-shared-in-Known : goal.returns-in_ok-shared-in-Known
+pub returns-in_ok-share-in-Known : goal.returns-in_ok-share-in-Known
 unfolding decorated_open
-returns-in_ok-shared-in-Known c = grind (arith, common_steps)
+returns-in_ok-share-in-Known c = grind (arith, common_steps)

@@ -9,5 +9,5 @@ returns-in-Faulty c = grind (arith, common_steps, type_rules)
 pub returns-in_ok-share-in-Untyped : goal.returns-in_ok-share-in-Untyped
 returns-in_ok-share-in-Untyped c = grind (arith, common_steps, type_rules)
 
-pub returns-in_ok-shared-in-Known : goal.returns-in_ok-shared-in-Known
-returns-in_ok-shared-in-Known c = grind (arith, common_steps, type_rules)
+pub returns-in_ok-share-in-Known : goal.returns-in_ok-share-in-Known
+returns-in_ok-share-in-Known c = grind (arith, common_steps, type_rules)
