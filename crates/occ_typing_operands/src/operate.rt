@@ -531,7 +531,7 @@ fn untyped_misshift(untyped: &Untyped) -> Untyped
     }
 }
 
-fn is_int(of: &OccType) -> bool
+pub(super) fn is_int(of: &OccType) -> bool
     ensures { result ≡ spec_is_int (spec_as_primitive of.now) }
 {
     matches!(as_primitive(of), Some(Primitive::Int))

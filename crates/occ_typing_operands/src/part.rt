@@ -2,15 +2,14 @@
 ghost use Rattle.std.specs.Prelude.{◌≡◌, ◌++◌, ℕ, IfOk, MatchOption, None, OnOk, Option, Some};
 ghost use Rattle.occ_types.specs.declared.types.OccType.{OccType};
 ghost use Rattle.occ_typing_operands.specs.Settling.{int as spec_int, known as spec_known};
-ghost use Rattle.occ_types.specs.View.{as_primitive as spec_as_primitive};
-ghost use Rattle.occ_typing_operands.specs.Operators.{is_int as spec_is_int};
 ghost use Rattle.occ_typing_operands.specs.Parts.{component as spec_component, component_at as spec_component_at, field as spec_field, field_named as spec_field_named, field_reported, is_constant_outside, mismatched as spec_mismatched, not_subscripted as spec_not_subscripted, subscripted as spec_subscripted};
 
 use super::kind::{Kind, TypedValue};
+use super::operate::is_int;
 use super::settle::{int, known, settled};
 use super::want::wanted;
 use occ_base::{Code, Fault, Items, Name, Shared, report};
-use occ_types::{Field, OccType, Primitive, Value, array_of, as_primitive, is_unknown, unnamed};
+use occ_types::{Field, OccType, Primitive, Value, array_of, is_unknown, unnamed};
 use std::alloc::{AllocError, Global};
 
 /// Whether a constant is no place of an array of so many components.
@@ -59,13 +58,6 @@ fn literal_place(index: &Kind) -> Option<Value>
         TypedValue::Constant(value) => Some(value),
         _ => None,
     }
-}
-
-/// Whether a type is INT without a name.
-fn is_int(of: &OccType) -> bool
-    ensures { result ≡ spec_is_int (spec_as_primitive of.now) }
-{
-    matches!(as_primitive(of), Some(Primitive::Int))
 }
 
 /// The component of an array at a place of which an INT is wanted.
