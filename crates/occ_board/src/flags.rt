@@ -197,6 +197,7 @@ fn are_all_flagged(files: &[Shared<Read>], flags: &[bool], indices: &Nodes<'_>) 
 }
 
 /// Whether all units that the one at an index rests on have their flags.
+#[inline(always)]
 pub fn are_rests_flagged(graph: &Graph, flags: &[bool], index: usize) -> bool
     requires { index < length graph.now }
     ensures { result ≡ list_all (flag_of graph.now flags.now) (rest_units graph.now (name_at graph.now index)) }

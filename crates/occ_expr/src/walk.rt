@@ -221,6 +221,7 @@ fn operand(
 /// What is read of an element as an operand.
 #[tactic(auto, using(occ_expr_operations::proofs::Views::element_rules))]
 #[cycle(walk)]
+#[inline(always)]
 fn element_operand(
     alloc: Global,
     part: &Element,
@@ -388,6 +389,7 @@ fn operand_more(
 /// What is read of an operand that is a whole expression.
 #[tactic(auto, using(occ_expr_operations::proofs::Views::operand_rules))]
 #[cycle(walk)]
+#[inline(always)]
 fn whole_operand(
     alloc: Global,
     whole: &Operand,

@@ -152,6 +152,7 @@ fn named(
 
 /// The same of a name whose nearest specification is found already, if it has one.
 #[tactic(auto, using(crate::proofs::Referring::seen))]
+#[inline(always)]
 pub fn referred(
     alloc: Global,
     scope: &Scope,

@@ -52,6 +52,7 @@ impl Readings {
     }
 
     /// Of one expression.
+    #[inline(always)]
     pub fn one(alloc: Global, first: Reading) -> Result<Readings, AllocError>
         ensures terms { IfOk result (λ all. all.terms ≡ first.term ∷ []) }
         ensures open_exprs { IfOk result (λ all. all.open_exprs ≡ first.open_expr ∷ []) }

@@ -147,6 +147,7 @@ pub fn from_for_of(
 
 /// An element of which this is known, with its specification and its selectors, if none of these is missing.
 #[tactic(auto, unfolding(crate::specs::Elements::element_of))]
+#[inline(always)]
 pub fn element_of(
     kind: &Kind,
     name: Name,

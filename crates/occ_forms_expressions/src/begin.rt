@@ -24,6 +24,7 @@ pub enum Begin {
 }
 
 /// What the first token says.
+#[inline(always)]
 pub fn begins(tokens: &[Token]) -> Begin
     ensures { result ≡ begin_of tokens.now }
 {

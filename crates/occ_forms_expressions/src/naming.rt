@@ -31,6 +31,7 @@ use occ_lines::{Symbol, Token};
 use std::alloc::{AllocError, Global};
 
 /// An expression that begins with a call, or with an element that has no subscript, of which the name is read.
+#[inline(always)]
 pub fn plain_name<'a, F: Fn(Global, &[Token]) -> Result<Option<(Expr, &[Token])>, AllocError>>(
     alloc: Global,
     name: Name,

@@ -77,6 +77,7 @@ fn dyadic_word(word: Word) -> Option<Dyadic>
 }
 
 /// The operator between two operands that the token is.
+#[inline(always)]
 pub fn dyadic_operator(token: &Token) -> Option<Dyadic>
     ensures value { result ≡ dyadic_of token.now }
     ensures found { IfSome result (λ operator. token.now ≡ dyadic_token operator) }

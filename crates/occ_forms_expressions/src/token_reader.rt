@@ -45,6 +45,7 @@ pub fn after_word(tokens: &[Token], word: Word) -> Option<&[Token]>
 }
 
 /// The name that stands first, and what follows it.
+#[inline(always)]
 pub fn name(alloc: Global, tokens: &[Token]) -> Result<Option<(Name, &[Token])>, AllocError>
     ensures { IfOk result (λ r. MatchOption r ((n : List ℕ) (k : List AToken) → tokens.now ≢ t.Name n ∷ k) (λ x. tokens.now ≡ t.Name x.0 ∷ x.1.now)) }
 {

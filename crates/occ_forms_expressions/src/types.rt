@@ -285,6 +285,7 @@ pub fn type_form<'a, F: Fn(Global, &[Token]) -> Result<Option<(Expr, &[Token])>,
 }
 
 /// A type in brackets, or nothing where no bracket is open.
+#[inline(always)]
 pub fn perhaps_decoration<
     'a,
     F: Fn(Global, &[Token]) -> Result<Option<(Expr, &[Token])>, AllocError>,

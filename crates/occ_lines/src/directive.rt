@@ -34,6 +34,7 @@ const DIRECTIVES: [(&[u8], Directive); 5] = [
 
 /// The directive that begins the text.
 #[tactic(auto, unfolding(crate::specs::Directive::directive_of))]
+#[inline(always)]
 pub fn directive_of(text: &[u8]) -> Option<Directive>
     ensures { result ≡ spec_directive_of text.now }
 {

@@ -73,6 +73,7 @@ fn ends_pair(byte: u8) -> bool
 
 /// What the bytes are as a symbol, if they spell one.
 #[tactic(auto, unfolding(crate::specs::Lexeme::symbol_row))]
+#[inline(always)]
 pub fn symbol_row(bytes: &[u8]) -> Option<Symbol>
     ensures { result ≡ spec_symbol_row bytes.now }
 {

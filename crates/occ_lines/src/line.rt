@@ -40,6 +40,7 @@ fn settle(found: Items<Logical>, reached: Reached) -> Result<Found, AllocError>
 }
 
 /// The line as it goes on with a statement.
+#[inline(always)]
 fn continued(
     alloc: Global,
     found: Items<Logical>,

@@ -113,6 +113,7 @@ fn goes_on(tokens: &[Token]) -> bool
 }
 
 /// The logical line that begins on that line and in that column.
+#[inline(always)]
 pub fn logical_of(line: u32, column: u32, body: Body) -> Logical
     ensures { result ≡ spec_logical_of line column body }
 {

@@ -95,6 +95,7 @@ impl Project {
     }
 
     /// Where a file of that name stands, or where one would.
+    #[inline(always)]
     fn find(&self, name: FileName) -> Result<usize, usize>
         ensures { MatchResult result (λ at. spec_index name self.now ≡ Some at) (λ at. IsGap name self.now at) }
     {

@@ -217,6 +217,7 @@ fn under_main(row: Row) -> Row
 }
 
 /// What may stand under a line that itself stands under the row.
+#[inline(always)]
 pub fn row_under(row: Row, sort: Sort) -> Row
     ensures { result ≡ spec_row_under row sort }
 {

@@ -350,6 +350,7 @@ fn varies(kind: &Kind) -> bool
 }
 
 /// Whether the operator takes operands of a type.
+#[inline(always)]
 fn takes_type(op: Operator, of: &OccType) -> bool
     ensures { result ≡ spec_takes_type op of.now }
 {

@@ -27,6 +27,7 @@ fn is_outside(count: Option<u32>, place: Option<Value>) -> bool
 }
 
 /// The component at an INT of this value.
+#[inline(always)]
 fn component_at(
     count: Option<u32>,
     of: &Shared<OccType>,

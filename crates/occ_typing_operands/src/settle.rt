@@ -58,6 +58,7 @@ pub(super) fn report_wrong(wrong: Wrong, faults: &mut Items<Fault>) -> Result<()
 }
 
 /// Of this type, it comes to that.
+#[inline(always)]
 pub fn landed(
     of: &Shared<OccType>,
     outcome: TypedValue,
@@ -122,6 +123,7 @@ fn faulty_if(needs_faulty: bool, kind: Kind) -> Kind
 
 /// What an operand is where this type is wanted of it: a free one takes the type, if that is a number under its names
 /// which each of its literals fits, and else INT.
+#[inline(always)]
 pub fn settled(
     alloc: Global,
     of: &Shared<OccType>,

@@ -64,6 +64,7 @@ impl UntypedConstant {
     }
 
     /// What it comes to in a type.
+    #[inline(always)]
     pub fn in_type(&self, of: Primitive) -> TypedValue
         ensures { result ≡ spec_in_type self.now of }
     {

@@ -21,6 +21,7 @@ fn silent_table(alloc: Global, items: &[Term]) -> Result<Kind, AllocError>
 
 /// An operand beside others, of which perhaps one has a fault. No type is wanted of a table there, and a fault hides what
 /// is.
+#[inline(always)]
 pub fn operand(
     alloc: Global,
     term: &Term,

@@ -51,6 +51,7 @@ fn of_meaning(alloc: Global, name: &Name, meaning: &Meaning) -> Result<Bound, Al
 }
 
 /// Enters names of which their line says nothing more.
+#[inline(always)]
 pub fn enter_all(
     alloc: Global,
     entries: &[ScopeEntry],

@@ -296,6 +296,7 @@ fn noted(lists: &[Items<usize>], root: usize) -> &[usize]
 
 /// Adds numbers.
 #[tactic(auto, using(crate::proofs::Choosing::in_both))]
+#[inline(always)]
 fn add(numbers: &mut Vec<usize>, more: &[usize]) -> Result<(), AllocError>
     ensures { OnOk result ((n : ℕ) → is_in numbers.new.items n ≡ (is_in numbers.old.items n || is_in more.now n)) }
 {

@@ -113,6 +113,7 @@ impl Chain {
     }
 
     /// The same.
+    #[inline(always)]
     pub fn share(&self, alloc: Global) -> Result<Chain, AllocError>
         ensures { IfOk result (λ chain. chain ≡ self.now) }
     {

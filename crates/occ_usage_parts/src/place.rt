@@ -126,6 +126,7 @@ impl SelectedPart {
     }
 
     /// The part that it is.
+    #[inline(always)]
     pub fn into_part(mut self) -> Result<Part, AllocError>
         ensures { IfOk result (λ part. part ≡ part_of self) }
     {

@@ -201,6 +201,7 @@ fn size_after(selectors: &[Selector], size: Option<i64>, env: &[Bound]) -> Optio
 /// The number of components of what is selected from so many.
 #[tactic(auto, using(crate::proofs::Views::selector_size_rules))]
 #[cycle(values)]
+#[inline(always)]
 pub(crate) fn size_within(selector: &Selector, size: Option<i64>, env: &[Bound]) -> Option<i64>
     ensures { result ≡ (selector_view selector.now).size env.now size }
 {
