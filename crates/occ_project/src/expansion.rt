@@ -2,7 +2,9 @@
 //! gets the units of its list. `docs/LANGUAGE.md, Expansion`.
 ghost use Rattle.occ_project.specs.Entries.{entries, held as spec_held, included, put_in, use_line as spec_use_line};
 ghost use Rattle.occ_project.specs.Expansion.{expansion, not_given};
-ghost use Rattle.occ_project.specs.inside.Making.{after};
+ghost use Rattle.occ_project.specs.inside.Making.{after, step};
+ghost use Rattle.occ_project.specs.declared.entry.Held.TheVariants as holds;
+ghost use Rattle.occ_project.specs.declared.expanded.ExpandedBody.TheVariants as to;
 ghost use Rattle.occ_project.specs.declared.expansion.ExpandFault.TheVariants.{Memory, NotGiven};
 ghost use Rattle.std.specs.Option.{option_map};
 ghost use Rattle.std.specs.Prelude.{Err, IfOk, List, None, OnOk, Some, ℕ, ◌*◌, ◌+◌, ◌^◌, ◌≡◌, ◌≤◌};
@@ -13,7 +15,7 @@ use super::files::Files;
 use super::making::Made;
 use super::reads::Reads;
 use occ_base::{Boxed, FileName, Items, Shared, first_indices, one_item};
-use occ_forms::{LineBody, SourceLine};
+use occ_forms::{Form, LineBody, SourceLine};
 use std::alloc::{AllocError, Global};
 use thiserror::Error;
 
@@ -97,6 +99,14 @@ fn use_line(
     }
 }
 
+/// What the entry of a line with this form holds.
+#[inline(always)]
+fn held_form(depth: u64, form: &Shared<Form>) -> Result<Held, AllocError>
+    ensures { IfOk result (λ held. held ≡ holds.Line depth (to.Form form.now)) }
+{
+    Ok(Held::Line(depth, ExpandedBody::Form(form.share()?)))
+}
+
 /// What the entry of a line holds, and the file that the line puts in.
 fn held<'a>(
     alloc: Global,
@@ -109,21 +119,35 @@ fn held<'a>(
     ensures entry { IfOk result (λ found. found.0 ≡ spec_held files.now.reads.now (included files.now.reads.now way.now left) depth body.now) }
     ensures inner { IfOk result (λ found. option_map (λ inner. (inner.name, inner.lines.now)) found.1 ≡ put_in (included files.now.reads.now way.now left) body.now) }
 {
-    let body = match body {
-        LineBody::Form(form) => ExpandedBody::Form(form.share()?),
+    match body {
+        LineBody::Form(form) => Ok((held_form(depth, form)?, None)),
         LineBody::Uses(unit, list) => {
-            return Ok((use_line(alloc, files, depth, *unit.get(), list)?, None));
+            Ok((use_line(alloc, files, depth, *unit.get(), list)?, None))
         }
-        LineBody::Fault(fault) => ExpandedBody::Fault(*fault),
+        LineBody::Fault(fault) => Ok((Held::Line(depth, ExpandedBody::Fault(*fault)), None)),
         LineBody::Include(name) => {
             let name = *name.get();
-            return Ok(match files.included(way, left, name) {
+            Ok(match files.included(way, left, name) {
                 Ok(lines) => (Held::Include(name, None), Some(Inner { name, lines })),
                 Err(fault) => (Held::Include(name, Some(fault)), None),
-            });
+            })
         }
-    };
-    Ok((Held::Line(depth, body), None))
+    }
+}
+
+/// Adds the entry of a line with this form. By itself, since most lines have one and put no file in.
+fn add_form(
+    alloc: Global,
+    file: FileName,
+    line: u32,
+    depth: u64,
+    form: &Shared<Form>,
+    made: &mut Made,
+) -> Result<(), AllocError>
+    ensures { OnOk result (made.new ≡ step made.old (record { file = file; line = line; held = holds.Line depth (to.Form form.now) })) }
+{
+    let held = held_form(depth, form)?;
+    made.add(alloc, ExpansionEntry { file, line, held })
 }
 
 /// Adds the entries of the lines of a file, each with those of the file that it puts in.
@@ -144,6 +168,10 @@ fn add_file(
             return Ok(());
         }
         let depth = opened.raise + u64::from(line.depth);
+        if let LineBody::Form(form) = &line.body {
+            add_form(alloc, opened.file, line.line, depth, form, made)?;
+            continue;
+        }
         let (held, found) = held(alloc, files, way.as_slice(), opened.left, depth, &line.body)?;
         made.add(
             alloc,

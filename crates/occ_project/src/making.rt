@@ -78,6 +78,7 @@ impl Made {
     }
 
     /// Adds an entry, or ends the expansion before it if there is no room.
+    #[inline(always)]
     pub fn add(&mut self, alloc: Global, entry: ExpansionEntry) -> Result<(), AllocError>
         ensures { OnOk result (self.new ≡ step self.old entry) }
     {

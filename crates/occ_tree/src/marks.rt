@@ -64,7 +64,7 @@ pub fn wrong_lines(alloc: Global, lines: &[Outline]) -> Result<Stack<bool>, Allo
 {
     let mut places = find_places(alloc, lines)?;
     let mut roots = Stack::new(alloc);
-    let mut found = Stack::new(alloc);
+    let mut found = Stack::with_room(alloc, lines.len())?;
     while let Some(place) = places.pop() {
         found.push(is_wrong(alloc, place, &mut roots)?)?;
         roots.push(place.line)?;

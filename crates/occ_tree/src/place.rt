@@ -106,7 +106,7 @@ impl Open {
 pub fn find_places(alloc: Global, lines: &[Outline]) -> Result<Stack<Place>, AllocError>
     ensures { IfOk result (λ found. found ≡ places (turned lines.now [])) }
 {
-    let mut found = Stack::new(alloc);
+    let mut found = Stack::with_room(alloc, lines.len())?;
     let mut open = Open {
         innermost: Frame::new(None, Row::File),
         outer: Stack::new(alloc),

@@ -255,15 +255,19 @@ fn go_under(
         opened,
         own,
     } = begun;
-    let under = inner(
-        alloc,
-        imports,
-        nodes,
-        parent,
-        opened.enters.as_slice(),
-        scope,
-        found,
-    )?;
+    let under = if nodes.is_empty() {
+        Items::new(alloc)
+    } else {
+        inner(
+            alloc,
+            imports,
+            nodes,
+            parent,
+            opened.enters.as_slice(),
+            scope,
+            found,
+        )?
+    };
     found.append(own)?;
     close(alloc, opened, under, outer, scope, typed)
 }

@@ -187,6 +187,9 @@ fn add_inner(
     ensures parallel { OnOk result (reported.new.parallel ≡ reported.old.parallel ++ reported_of parallel_at (spec_under line.now) (spec_inner env.old (head_of line.now))) }
     ensures abbreviations { OnOk result (reported.new.abbreviations ≡ reported.old.abbreviations ++ reported_of abbreviation_at (spec_under line.now) (spec_inner env.old (head_of line.now))) }
 {
+    if line.under.is_empty() {
+        return Ok(());
+    }
     let depth = env.len();
     enter_all(alloc, line.enters.as_slice(), env)?;
     add_items(alloc, line.under.as_slice(), env, uses, reported)?;
