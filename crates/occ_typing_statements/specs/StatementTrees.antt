@@ -55,10 +55,13 @@ assignment_tree s els es = assigned (target_trees s els) (side s es).open_exprs
 abbrev pub condition_tree : Scope → Expr → Option TypedExpr
 condition_tree s e = placed ((expr_view e).open_expr s) (t.Primitive p.Bool)
 
+abbrev pub options_placed : Kind → List OpenExpr → Option (List TypedExpr)
+options_placed k.Faulty xs = None
+options_placed (k.Untyped f) xs = None
+options_placed (k.Known x) xs = all_placed xs x.of
+
 abbrev pub options_trees : Scope → Kind → List Expr → Option (List TypedExpr)
-options_trees s k.Faulty es = None
-options_trees s (k.Untyped f) es = None
-options_trees s (k.Known x) es = all_placed (open_exprs s es) x.of
+options_trees s kind es = options_placed kind (open_exprs s es)
 
 -- ---- results of a FUNCTION, each of the type at its place
 

@@ -9,7 +9,7 @@ use Rattle.occ_base.specs.declared.fault.Fault.{Fault}
 use Rattle.occ_typing_operands.specs.declared.kind.Kind.{Kind}
 use Rattle.occ_typing_operands.specs.declared.kind.Kind.TheVariants as k
 use Rattle.occ_scope.specs.declared.scope.Scope.{Scope}
-use Rattle.occ_typing_tables.specs.Terms.{has_fault, hidden_faults, judged, judged_all}
+use Rattle.occ_typing_tables.specs.Terms.{Judged, has_fault, hidden_faults, judged, judged_all}
 use Rattle.occ_forms_expressions.specs.declared.tree.Element.{Element}
 use Rattle.occ_forms_expressions.specs.declared.tree.Expr.{Expr}
 use Rattle.occ_expr_operations.specs.Parts.{Said, after, in_scope, own_faults, terms}
@@ -47,16 +47,16 @@ abbrev pub selector : Scope → Expr → Finding
 selector s e = selector_by ((expr_view e).said s)
 
 -- a faulty selector hides what is wanted of its options
-abbrev pub options_hidden : BTreeSet ℤ → List Said → Chosen
-options_hidden before xs = record { faults = hidden_faults (judged_all (terms xs)); numbers = before }
+abbrev pub options_hidden : BTreeSet ℤ → List Judged → Chosen
+options_hidden before xs = record { faults = hidden_faults xs; numbers = before }
 
-abbrev pub options_under : Kind → BTreeSet ℤ → List Said → Chosen
+abbrev pub options_under : Kind → BTreeSet ℤ → List Judged → Chosen
 options_under k.Faulty before xs = options_hidden before xs
 options_under (k.Untyped f) before xs = options_hidden before xs
-options_under (k.Known x) before xs = chosen x.of before (judged_all (terms xs))
+options_under (k.Known x) before xs = chosen x.of before xs
 
 abbrev pub options_by : Kind → BTreeSet ℤ → List Said → Chosen
-options_by kind before xs = let y = options_under kind before xs in record { faults = own_faults xs ++ y.faults; numbers = y.numbers }
+options_by kind before xs = let y = options_under kind before (judged_all (terms xs)) in record { faults = own_faults xs ++ y.faults; numbers = y.numbers }
 
 abbrev pub options : Scope → Kind → BTreeSet ℤ → List Expr → Chosen
 options s kind before es = options_by kind before (said s es)

@@ -1,21 +1,22 @@
 //! Lines of processes: `el, .. := e, ..`, conditions, selectors, options, results. They give faults and typed trees.
 //! `docs/LANGUAGE.md, What lines ask of operands`.
-ghost use Rattle.std.specs.Prelude.{◌≡◌, ◌∷◌, ◌++◌, IfOk, OnOk};
+ghost use Rattle.std.specs.Prelude.{◌≡◌, ◌∷◌, ◌++◌, [], IfOk, None, OnOk, Some};
 ghost use Rattle.occ_expr_operations.specs.Parts.{own_faults, terms as spec_terms};
+ghost use Rattle.occ_expr_operations.specs.Sides.{one_call as spec_one_call};
 ghost use Rattle.occ_expr.specs.Trees.{int_tree as spec_int_tree};
 ghost use Rattle.occ_typing_operands.specs.Settling.{int as spec_int};
-ghost use Rattle.occ_typing_tables.specs.Terms.{judged};
+ghost use Rattle.occ_typing_tables.specs.Terms.{judged, judged_all};
 ghost use Rattle.occ_typing_rules.specs.Choosing.{condition as reported_no_condition, selector as reported_selecting};
 ghost use Rattle.occ_typing_rules.specs.Placing.{placed as spec_placed};
 ghost use Rattle.occ_types.specs.declared.types.OccType.TheVariants as t;
 ghost use Rattle.occ_types.specs.declared.value.Primitive.TheVariants as p;
-ghost use Rattle.occ_typing_statements.specs.StatementTrees.{assigned as spec_assigned, assignment_tree as spec_assignment_tree, condition_tree as spec_condition_tree, open_exprs as spec_opens, options_trees as spec_options_trees, results_trees as spec_results_trees, types_of as spec_types_of};
-ghost use Rattle.occ_typing_statements.specs.Statements.{assignment as spec_assignment, condition as reported_condition, hidden_results as spec_hidden_results, is_any_faulty, options as spec_options, results as spec_results, said, selector as reported_selector};
+ghost use Rattle.occ_typing_statements.specs.StatementTrees.{assigned as spec_assigned, assignment_tree as spec_assignment_tree, condition_tree as spec_condition_tree, one_element, open_exprs as spec_opens, options_placed as spec_options_placed, options_trees as spec_options_trees, results_trees as spec_results_trees, types_of as spec_types_of, with_elements};
+ghost use Rattle.occ_typing_statements.specs.Statements.{assignment as spec_assignment, condition as reported_condition, hidden_results as spec_hidden_results, is_any_faulty, options as spec_options, options_under as spec_options_under, results as spec_results, said, selector as reported_selector};
 
 use super::target::all_targets;
-use occ_base::{Fault, Items, Shared};
-use occ_expr::{expression, side};
-use occ_expr_operations::{Reading, Readings};
+use occ_base::{Fault, Items, Shared, one_item};
+use occ_expr::{expression, side, target_of};
+use occ_expr_operations::{Reading, Readings, one_call};
 use occ_forms_expressions::{Element, Expr};
 use occ_scope::Scope;
 use occ_types::{OccType, Primitive};
@@ -25,8 +26,9 @@ use occ_typing_rules::{
     condition as judge_condition, each_placed, hidden_results as count_results, options as choose,
     placed, results as compare, selector as select,
 };
-use occ_typing_tables::{any_has_fault, report_hidden};
+use occ_typing_tables::{Term, any_has_fault, report_hidden};
 use std::alloc::{AllocError, Global};
+use std::slice;
 
 /// An assignment: its targets, and the value for each. Of a call with several results each value is the call.
 #[derive(Drop)]
@@ -102,6 +104,51 @@ fn assignment_tree(
     Ok(Some(TypedAssignment { targets, values }))
 }
 
+/// The one target of an assignment and the value for it, if neither has a fault.
+fn single_tree(
+    alloc: Global,
+    target: Option<TypedElement>,
+    value: &OpenExpr,
+) -> Result<Option<TypedAssignment>, AllocError>
+    ensures { IfOk result (λ tree. tree ≡ spec_assigned (with_elements (one_element target) (Some [])) (value.now ∷ [])) }
+{
+    let Some(target) = target else {
+        return Ok(None);
+    };
+    let Some(value) = placed(alloc, value, &target.known.of)? else {
+        return Ok(None);
+    };
+    Ok(Some(TypedAssignment {
+        targets: one_item(alloc, target)?,
+        values: one_item(alloc, value)?,
+    }))
+}
+
+/// `el := e`, where the expression is no call by itself. Most assignments are so, and nothing is listed for them but what
+/// their tree has.
+#[tactic(auto, using(crate::proofs::Elements::front_rules), unfolding(occ_expr_operations::specs::Sides::side))]
+fn single_assignment(
+    alloc: Global,
+    target: &Element,
+    value: &Expr,
+    scope: &Scope,
+    faults: &mut Items<Fault>,
+) -> Result<Option<TypedAssignment>, AllocError>
+    requires { spec_one_call (value.now ∷ []) ≡ None }
+    ensures tree { IfOk result (λ tree. tree ≡ spec_assignment_tree scope.now (target.now ∷ []) (value.now ∷ [])) }
+    ensures faults { OnOk result (faults.new ≡ faults.old ++ spec_assignment scope.now (target.now ∷ []) (value.now ∷ [])) }
+{
+    let target = target_of(alloc, target, scope, faults)?;
+    let value = expression(alloc, value, scope, faults)?;
+    assigned(
+        alloc,
+        slice::from_ref(&target.kind),
+        slice::from_ref(&value.term),
+        faults,
+    )?;
+    single_tree(alloc, target.tree, &value.open_expr)
+}
+
 /// `el, .. := e, ..`: the targets, the values, and each value for its target.
 pub fn assignment(
     alloc: Global,
@@ -115,6 +162,12 @@ pub fn assignment(
     ensures tree { IfOk result (λ tree. tree ≡ spec_assignment_tree scope.now (first_target.now ∷ more_targets.now) (first_value.now ∷ more_values.now)) }
     ensures faults { OnOk result (faults.new ≡ faults.old ++ spec_assignment scope.now (first_target.now ∷ more_targets.now) (first_value.now ∷ more_values.now)) }
 {
+    if more_targets.is_empty()
+        && more_values.is_empty()
+        && one_call(first_value, more_values).is_none()
+    {
+        return single_assignment(alloc, first_target, first_value, scope, faults);
+    }
     let targets = all_targets(alloc, first_target, more_targets, scope, faults)?;
     let values = side(alloc, first_value, more_values, scope, faults)?;
     assigned(
@@ -189,6 +242,31 @@ pub fn selector(
     selected
 }
 
+/// The options of one line of a `CASE` of which this is read.
+fn options_of(
+    alloc: Global,
+    terms: &[Term],
+    open_exprs: &[OpenExpr],
+    selector: &Kind,
+    before: &mut OptionNumbers,
+    faults: &mut Items<Fault>,
+) -> Result<Option<Items<Shared<TypedExpr>>>, AllocError>
+    ensures trees { IfOk result (λ trees. trees ≡ spec_options_placed selector.now open_exprs.now) }
+    ensures faults { OnOk result (faults.new ≡ faults.old ++ (spec_options_under selector.now before.old (judged_all terms.now)).faults) }
+    ensures numbers { OnOk result (before.new ≡ (spec_options_under selector.now before.old (judged_all terms.now)).numbers) }
+{
+    match selector {
+        Kind::Known(known) => {
+            choose(alloc, &known.of, terms, before, faults)?;
+            all_placed(alloc, open_exprs, &known.of)
+        }
+        Kind::Faulty | Kind::Untyped(_) => {
+            report_hidden(alloc, terms, faults)?;
+            Ok(None)
+        }
+    }
+}
+
 /// The options of one line of a `CASE` with this selector; `before` holds the numbers of those on the lines before.
 pub fn options(
     alloc: Global,
@@ -203,17 +281,26 @@ pub fn options(
     ensures faults { OnOk result (faults.new ≡ faults.old ++ (spec_options scope.now selector.now before.old (first.now ∷ more.now)).faults) }
     ensures numbers { OnOk result (before.new ≡ (spec_options scope.now selector.now before.old (first.now ∷ more.now)).numbers) }
 {
-    let read = expressions(alloc, first, more, scope, faults)?;
-    match selector {
-        Kind::Known(known) => {
-            choose(alloc, &known.of, read.terms.as_slice(), before, faults)?;
-            all_placed(alloc, read.open_exprs.as_slice(), &known.of)
-        }
-        Kind::Faulty | Kind::Untyped(_) => {
-            report_hidden(alloc, read.terms.as_slice(), faults)?;
-            Ok(None)
-        }
+    if more.is_empty() {
+        let read = expression(alloc, first, scope, faults)?;
+        return options_of(
+            alloc,
+            slice::from_ref(&read.term),
+            slice::from_ref(&read.open_expr),
+            selector,
+            before,
+            faults,
+        );
     }
+    let read = expressions(alloc, first, more, scope, faults)?;
+    options_of(
+        alloc,
+        read.terms.as_slice(),
+        read.open_exprs.as_slice(),
+        selector,
+        before,
+        faults,
+    )
 }
 
 /// The results of a FUNCTION with results of these types, whose head has no fault: whether one of them has a fault, and
