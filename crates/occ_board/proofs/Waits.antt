@@ -1,6 +1,8 @@
 -- Places before which no unit is ready, as far as flags report.
 use Rattle.std.proofs.Common.{◌≡◌, ◌∙◌, ◌<◌, ◌≤◌, ◌+◌, ◌&&◌, ◌||◌, ◌⊎◌, ℕ, suc, Bool, true, false, not, List, [], ◌∷◌, drop, length, get_or, Some, refl, sym, ap, subst, arith, inl, inr}
+use Rattle.std.specs.BTreeSet.{BTreeSet, contains}
 use Rattle.std.specs.List.{list_all, slice_get}
+use Rattle.std.specs.Ordering.{nat_cmp}
 use Rattle.std.specs.Prelude.{◌==◌, slice_set}
 use Rattle.std.proofs.lemmas.Bool.{eqb-true}
 use Rattle.std.specs.Str.{bytes_eq}
@@ -10,7 +12,7 @@ use Rattle.occ_board.proofs.Indices.{within}
 use Rattle.occ_board.proofs.Settled.{flag_at, last_or_less}
 use Rattle.occ_board.proofs.Spread.{placed_there, rests_same, set_stays, some_is}
 use Rattle.occ_board.specs.inside.Flagged.{AreFlags, IsFullAt, IsSound, flag_of, flagged}
-use Rattle.occ_board.specs.inside.Ready.{NoneIsReady, is_ready}
+use Rattle.occ_board.specs.inside.Ready.{AreAwaited, NoneIsReady, is_ready}
 use Rattle.occ_check.specs.Input.{Input}
 use Rattle.occ_project_graph.specs.Graph.{is_among, rests}
 use Rattle.occ_project.specs.Reads.{index}
@@ -19,10 +21,6 @@ use Rattle.occ_check.specs.Report.{is_open_unit}
 use Rattle.occ_project_units.specs.Along.{name_at}
 use Rattle.occ_project_units.specs.Indices.{graph_of, rest_units, users_at}
 use Rattle.occ_project_units.specs.Project.{IsProject}
-
--- before the first index there is none
-pub first_waits : (files : List Read) (flags : List Bool) → NoneIsReady files flags 0
-first_waits files flags p file lt e = absurd (omega (arith, lt))
 
 -- one index more
 pub one_waits : (files : List Read) (flags : List Bool) (n : ℕ) (here : Read) → slice_get files n ≡ Some here → is_ready files flags n here ≡ false → NoneIsReady files flags n → NoneIsReady files flags (n + 1)
@@ -93,14 +91,28 @@ module _ (files : List Read) (cached : List Input) (project : IsProject files) w
       let at = placed_there files cached project p (omega (arith, long, len)) in
       sym (flag_at files next (name_at files p) p at) ∙ (are (name_at files p) ∙ sound (name_at files p) (flag_at files flags (name_at files p) p at ∙ h))
 
-  -- with one flag more no unit is ready but what rests on that one
-  pub still_waits : ((p q : ℕ) → is_among (rests (graph_of files) p) q ≡ true → is_among (users_at files q) p ≡ true) → (flags next : List Bool) (w from n : ℕ) → next ≡ slice_set flags w true → NoneIsReady files flags from → n ≤ from
-      → ((p : ℕ) → is_among (users_at files w) p ≡ true → n ≤ p) → NoneIsReady files next n
-  still_waits users flags next w from n same before most least p file lt e =
-      let none : is_among (users_at files w) p ≡ false = no_truth (is_among (users_at files w) p) (λ h. let k = least p h in omega (arith, k, lt)) in
-      ap (λ (fs : List Bool). is_ready files fs p file) same
-      ∙ still_unready (get_or flags p false) (get_or (slice_set flags w true) p false) (list_all (flag_of files flags) (rest_units files (name_at files p))) (list_all (flag_of files (slice_set flags w true)) (rest_units files (name_at files p))) (is_open_unit file)
-      (set_stays flags w p) (rests_same files cached project users flags w p (within files p file e) none) (before p file (omega (arith, lt, most)) e)
+  -- with one flag more a unit is ready that was so before, or that rests on that one
+  ready_more : ((p q : ℕ) → is_among (rests (graph_of files) p) q ≡ true → is_among (users_at files q) p ≡ true) → (flags next : List Bool) (w p : ℕ) (file : Read) → next ≡ slice_set flags w true → slice_get files p ≡ Some file
+      → is_ready files next p file ≡ true → (is_ready files flags p file ≡ true) ⊎ (is_among (users_at files w) p ≡ true)
+  ready_more users flags next w p file same e ready = by (is_ready files flags p file) refl (is_among (users_at files w) p) refl where
+    by : (b : Bool) → is_ready files flags p file ≡ b → (c : Bool) → is_among (users_at files w) p ≡ c → (is_ready files flags p file ≡ true) ⊎ (is_among (users_at files w) p ≡ true)
+    by true h c k = inl h
+    by false h true k = inr k
+    by false h false k =
+        let none : is_ready files next p file ≡ false =
+        ap (λ (fs : List Bool). is_ready files fs p file) same
+        ∙ still_unready (get_or flags p false) (get_or (slice_set flags w true) p false) (list_all (flag_of files flags) (rest_units files (name_at files p))) (list_all (flag_of files (slice_set flags w true)) (rest_units files (name_at files p))) (is_open_unit file)
+        (set_stays flags w p) (rests_same files cached project users flags w p (within files p file e) k) h
+        in
+        absurd (cc (none, ready))
+
+  -- so a ready unit is among those that are awaited, or rests on that one
+  pub awaited_more : ((p q : ℕ) → is_among (rests (graph_of files) p) q ≡ true → is_among (users_at files q) p ≡ true) → (flags next : List Bool) (w : ℕ) (early : BTreeSet ℕ) (from : ℕ) → next ≡ slice_set flags w true → AreAwaited files flags early from
+      → (p : ℕ) (file : Read) → p < from → slice_get files p ≡ Some file → is_ready files next p file ≡ true → (contains nat_cmp early p ≡ true) ⊎ (is_among (users_at files w) p ≡ true)
+  awaited_more users flags next w early from same before p file lt e ready = elim (ready_more users flags next w p file same e ready) [
+    | inl h ↦ inl (before p file lt e h)
+    | inr k ↦ inr k
+  ]
 
   -- of each index a flag is not missing, or it is that of the unit
   pub full_or : (flags : List Bool) (unit : List ℕ) (at : ℕ) → index unit files ≡ Some at → ((p : ℕ) → p < length files → bytes_eq unit (name_at files p) ≡ false → IsFullAt files cached flags p)
@@ -113,18 +125,6 @@ module _ (files : List Read) (cached : List Input) (project : IsProject files) w
         inr (some_is files cached project at p here)
     by false h = inl (others p lt h)
 
--- the least of the indices that were gone through is no more than each
-pub least_more : (ws vs : List ℕ) (x p m n : ℕ) → ws ≡ x ∷ vs → n ≤ m → n ≤ x → (m ≤ p) ⊎ (is_among ws p ≡ true) → (n ≤ p) ⊎ (is_among vs p ≡ true)
-least_more ws vs x p m n split less here h = elim h [
-  | inl k ↦ inl (omega (arith, k, less))
-  | inr k ↦ by (x == p) refl (sym (ap (λ (zs : List ℕ). is_among zs p) split) ∙ k)
-] where
-  by : (b : Bool) → (x == p) ≡ b → (b || is_among vs p) ≡ true → (n ≤ p) ⊎ (is_among vs p ≡ true)
-  by true e k = let same = eqb-true x p e in inl (omega (arith, same, here))
-  by false e k = inr k
-
-pub least_over : (ws : List ℕ) (i p n : ℕ) → length ws ≤ i → (n ≤ p) ⊎ (is_among (drop i ws) p ≡ true) → n ≤ p
-least_over ws i p n over h = elim h [
-  | inl k ↦ k
-  | inr k ↦ let none = none_following ws i p over in absurd (cc (none, k))
-]
+-- before index 0 none is awaited
+pub none_awaited : (files : List Read) (flags : List Bool) (early : BTreeSet ℕ) (from : ℕ) → from ≡ 0 → AreAwaited files flags early from
+none_awaited files flags early from zero_is p file lt e ready = absurd (omega (arith, lt, zero_is))

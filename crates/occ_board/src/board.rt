@@ -33,6 +33,7 @@ use super::taking::{first_ready, job_now, next_unit};
 use super::touching::renew;
 use super::verdict::Verdict;
 use super::verified::{forget_users, verified_law};
+use super::waiting::Waiting;
 use super::working::working_law;
 use occ_base::{FileName, Items, Shared};
 use occ_check::{Job, Outcome, check};
@@ -64,8 +65,10 @@ pub struct Board {
     opened: usize,
     /// How many units are open.
     units: usize,
-    /// An index before which no unit is ready.
-    waiting: usize,
+    /// The units that may be ready.
+    waiting: Waiting,
+    /// Where the last job stood that was looked for. It promises nothing: an index that is wrong costs time.
+    near: usize,
 }
 
 /// Written out: crates above call it, where each would prove a derived one anew.
@@ -82,6 +85,7 @@ impl Drop for Board {
             opened: _,
             units: _,
             waiting: _,
+            near: _,
         } = self;
     }
 }
@@ -102,11 +106,11 @@ impl Model for Board {
 
     ghost use Rattle.occ_board.specs.inside.Verified.{AreVerified};
     ghost use Rattle.occ_board.specs.inside.Holding.{IsBoard};
-    ghost use Rattle.occ_board.specs.inside.Ready.{NoneIsReady};
+    ghost use Rattle.occ_board.specs.inside.Ready.{AreAwaited};
 
     ghost view = { λ b. record { base = b.base; journal = b.journal.items; cached = b.cached; handed = b.handed.items } };
 
-    ghost invariant = { λ b. IsBoard b.base b.journal.items b.cached b.graph b.flags b.opened b.units × NoneIsReady b.graph b.flags b.waiting × AreVerified b.graph b.cached b.verified };
+    ghost invariant = { λ b. IsBoard b.base b.journal.items b.cached b.graph b.flags b.opened b.units × AreAwaited b.graph b.flags b.waiting.early b.waiting.from × AreVerified b.graph b.cached b.verified };
 }
 
 /// The text that a file had before its last edit, if that is one of the last of all. It promises nothing: a text that is left out costs
@@ -148,7 +152,8 @@ impl Board {
             verified: Flags::new(alloc),
             opened: 0,
             units: 0,
-            waiting: 0,
+            waiting: Waiting::new(alloc),
+            near: 0,
         }
     }
 
@@ -256,7 +261,7 @@ impl Board {
         }
         self.opened = opened;
         self.units = units;
-        self.waiting = 0;
+        self.waiting.forget();
         self.cached.follow(self.graph.project(), name);
         Ok(number)
     }
@@ -287,11 +292,20 @@ impl Board {
         if self.pending() == 0 {
             return Ok(None);
         }
-        self.waiting = first_ready(&self.graph, self.flags.as_slice(), self.waiting);
-        let Some(unit) = self.next_unit() else {
-            return Ok(None);
-        };
-        Ok(Some(self.job(alloc, self.waiting, unit)?))
+        let from = first_ready(&self.graph, self.flags.as_slice(), self.waiting.least());
+        self.waiting.pass(from);
+        self.near = from;
+        let next = next_unit(
+            &self.graph,
+            &self.cached,
+            self.handed.as_slice(),
+            self.flags.as_slice(),
+            from,
+        );
+        match next {
+            Some(unit) => Ok(Some(self.job(alloc, from, unit)?)),
+            None => Ok(None),
+        }
     }
 
     /// Takes the next job, checks it and caches its outcome, and says whether there was one: what a take and a finish come to
@@ -310,25 +324,11 @@ impl Board {
         let Ok(outcome) = self.check(alloc, job) else {
             return Err(AllocError);
         };
-        let file = self.waiting;
+        let file = self.near;
         match self.accept_outcome(file, outcome) {
             Ok(()) => Ok(true),
             Err(_refused) => Err(AllocError),
         }
-    }
-
-    /// The least unit that is ready and whose present job is not handed out.
-    fn next_unit(&self) -> Option<FileName>
-        ensures next { option_map (input (files_of self.now)) result ≡ take_answer self.now }
-        ensures job { IfSome result (λ unit. HasJob (files_of self.now) self.now.cached unit) }
-    {
-        next_unit(
-            &self.graph,
-            &self.cached,
-            self.handed.as_slice(),
-            self.flags.as_slice(),
-            self.waiting,
-        )
     }
 
     /// The job of an open unit, which is looked for at an index first, that looks at what is so at present.
@@ -426,7 +426,7 @@ impl Board {
 
     /// Where a unit is looked for first. It promises nothing: an index that is wrong costs time.
     fn hint(&self, unit: FileName) -> usize {
-        match self.graph.project().index_near(self.waiting, unit) {
+        match self.graph.project().index_near(self.near, unit) {
             Some(index) => index,
             None => 0,
         }
@@ -448,12 +448,12 @@ impl Board {
         let job = self.cached.at(found.0).job();
         unhand(&mut self.handed, job);
         forget_users(&self.graph, &mut self.verified, file, job.unit(), found.1);
-        self.waiting = settle_cached(
+        settle_cached(
             &self.graph,
             &self.cached,
             &mut self.flags,
             &mut self.verified,
-            self.waiting,
+            &mut self.waiting,
             file,
             job.unit(),
         );

@@ -3,7 +3,7 @@
 ghost use Rattle.occ_board.specs.Done.{done, done_step};
 ghost use Rattle.occ_board.specs.inside.Verified.{AreVerified};
 ghost use Rattle.occ_board.specs.inside.Flagged.{AreFlags, IsFull, IsFullAt, IsSound, flag_of, flagged, rest_flag, unflagged};
-ghost use Rattle.occ_board.specs.inside.Ready.{NoneIsReady};
+ghost use Rattle.occ_board.specs.inside.Ready.{AreAwaited};
 ghost use Rattle.occ_board.specs.inside.Revisions.{AllGivenByRevision};
 ghost use Rattle.occ_project_graph.specs.Graph.{is_among as spec_is_among, rests};
 ghost use Rattle.occ_project_units.specs.Along.{name_at};
@@ -16,6 +16,7 @@ ghost use Rattle.std.specs.Str.{bytes_eq};
 use super::cached::Cached;
 use super::laws::{done_law, height_law};
 use super::verified::{is_current, verified_law};
+use super::waiting::Waiting;
 use occ_base::{FileName, Items, Shared};
 use occ_project::Read;
 use occ_project_graph::Nodes;
@@ -175,6 +176,7 @@ fn is_last_flagged(files: &[Shared<Read>], flags: &[bool], indices: &Nodes<'_>) 
 
 /// Whether the files at these indices are absent, or have their flags. The last is looked at first: in order of name what has no
 /// flag yet often stands at one of both ends.
+#[inline(always)]
 fn are_flagged(files: &[Shared<Read>], flags: &[bool], indices: &Nodes<'_>) -> bool
     ensures { result ≡ list_all (rest_flag files.now flags.now) indices.now }
 {
@@ -409,61 +411,41 @@ fn settle_done(
     flags.count() == count
 }
 
-/// The lower of two indices.
-fn lower(a: usize, b: usize) -> usize
-    ensures first { result ≤ a }
-    ensures second { result ≤ b }
-{
-    if a < b { a } else { b }
-}
-
-/// The least of these indices, or this one, if it is less.
-fn least_of(indices: &Nodes<'_>, least: usize) -> usize
-    ensures most { result ≤ least }
-    ensures each { (p : ℕ) → spec_is_among indices.now p ≡ true → result ≤ p }
-{
-    let mut found = least;
-    for place in 0..indices.count() {
-        found = lower(indices.at(place), found);
-    }
-    found
-}
-
 /// Sets the flags of all units that are done, where none was missing but that of this unit, which is done and looked for at a
-/// index first, and those of units that rest on it. No unit before an index was ready; it reports one before which none is then.
-/// It takes no memory.
+/// index first, and those of units that rest on it. What is known of ready units follows.
 pub fn settle_cached(
     graph: &Graph,
     cached: &Cached,
     flags: &mut Flags,
     verified: &mut Flags,
-    from: usize,
+    waiting: &mut Waiting,
     hint: usize,
     unit: FileName,
-) -> usize
+)
     requires len { length flags.old ≡ length graph.now }
     requires sound { IsSound graph.now cached.now flags.old }
     requires reported { AllGivenByRevision graph.now cached.now }
     requires verified { AreVerified graph.now cached.now verified.old }
-    requires from { NoneIsReady graph.now flags.old from }
+    requires awaited { AreAwaited graph.now flags.old waiting.old.early waiting.old.from }
     requires done { done graph.now cached.now unit ≡ true }
     requires full { (p : ℕ) → p < length graph.now → bytes_eq unit (name_at graph.now p) ≡ false → IsFullAt graph.now cached.now flags.old p }
     ensures len { length flags.new ≡ length graph.now }
     ensures flags { AreFlags graph.now cached.now flags.new }
     ensures verified { AreVerified graph.now cached.now verified.new }
-    ensures from { NoneIsReady graph.now flags.new result }
+    ensures awaited { AreAwaited graph.now flags.new waiting.new.early waiting.new.from }
 {
     let _files = graph.project().files();
     done_law();
     height_law();
     users_law();
     let Some(index) = graph.project().index_near(hint, unit) else {
-        return 0;
+        waiting.forget();
+        return;
     };
     if settle_done(graph, cached, flags, verified, index) {
-        least_of(&graph.users(index), from)
+        waiting.follow(graph, flags.as_slice(), index, &graph.users(index));
     } else {
-        0
+        waiting.forget();
     }
 }
 
@@ -489,6 +471,9 @@ pub fn settle_from(
     let _files = graph.project().files();
     done_law();
     height_law();
+    if cached.is_empty() {
+        return;
+    }
     let Some(index) = graph.project().index_near(hint, unit) else {
         return;
     };

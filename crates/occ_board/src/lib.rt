@@ -22,6 +22,7 @@ mod touched;
 mod touching;
 mod verdict;
 mod verified;
+mod waiting;
 mod working;
 
 pub use base::{Base, Cut};

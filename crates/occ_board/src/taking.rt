@@ -21,6 +21,7 @@ use occ_check::{Job, Used, UsedUnit};
 use occ_project::Read;
 use occ_project_units::{Graph, Standing};
 use occ_types::Interface;
+use sqlite_items::at;
 use std::alloc::{AllocError, Global};
 
 /// So many flags are looked at together.
@@ -118,6 +119,7 @@ fn is_handed(graph: &Graph, cached: &Cached, handed: &[Job], hint: usize, unit: 
 }
 
 /// Whether the file at an index is a unit that is ready, as far as the flags report.
+#[inline(always)]
 fn is_ready(graph: &Graph, flags: &[bool], index: usize, file: &Read) -> bool
     requires { slice_get graph.now index ≡ Some file.now }
     ensures { result ≡ spec_is_ready graph.now flags.now index file.now }
@@ -125,12 +127,22 @@ fn is_ready(graph: &Graph, flags: &[bool], index: usize, file: &Read) -> bool
     !is_flagged(flags, index) && are_rests_flagged(graph, flags, index) && is_pending(file, false)
 }
 
+/// The same of an index.
+pub fn is_ready_at(graph: &Graph, flags: &[bool], index: usize) -> bool
+    ensures { (file : ARead) → slice_get graph.now index ≡ Some file → result ≡ spec_is_ready graph.now flags.now index file }
+{
+    match at(graph.project().files(), index) {
+        Some(file) => is_ready(graph, flags, index, file.get()),
+        None => false,
+    }
+}
+
 /// Whether the flags of a run that begins at an index are all set. Of fewer it is not said.
 fn is_run_set(flags: &[bool], from: usize) -> bool
     ensures within { IsTrue result → from + 64 ≤ length flags.now }
     ensures set { IsTrue result → (p : ℕ) → from ≤ p → p < from + 64 → get_or flags.now p false ≡ true }
 {
-    if flags.len() < RUN || flags.len() - RUN < from {
+    if !is_flagged(flags, from) || flags.len() < RUN || flags.len() - RUN < from {
         return false;
     }
     let (_, rest) = flags.split_at(from);

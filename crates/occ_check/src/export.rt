@@ -158,6 +158,9 @@ fn add_lines(
 fn last_of_each(alloc: Global, mut exports: Vec<Export>) -> Result<Items<Export>, AllocError>
     ensures { IfOk result (λ last. last ≡ with_exports [] exports.items) }
 {
+    if exports.len() < 2 {
+        return Ok(Items::from_vec(exports));
+    }
     let mut names = BTreeSet::new(alloc);
     let mut last = Vec::new(alloc);
     while let Some(export) = exports.pop() {

@@ -11,6 +11,9 @@ use std::collections::BTreeSet;
 pub fn in_order(alloc: Global, mut found: Items<Diag>) -> Result<Items<Diag>, AllocError>
     ensures { IfOk result (λ diags. diags ≡ spec_in_order found) }
 {
+    if found.len() < 2 {
+        return Ok(found);
+    }
     let mut set = BTreeSet::new(alloc);
     while let Some(diag) = found.pop() {
         set.insert(diag)?;

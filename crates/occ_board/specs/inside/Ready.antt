@@ -1,6 +1,8 @@
 -- Units for which there may be a job.
 use Rattle.std.specs.Prelude.{◌≡◌, ◌<◌, ◌&&◌, ℕ, Bool, true, false, not, List, get_or, slice_get, Some}
+use Rattle.std.specs.BTreeSet.{BTreeSet, contains}
 use Rattle.std.specs.List.{list_all}
+use Rattle.std.specs.Ordering.{nat_cmp}
 use Rattle.occ_base.specs.FileName.{is_unit}
 use Rattle.occ_board.specs.Done.{done, is_input_among, is_cached}
 use Rattle.occ_board.specs.Journal.{is_open}
@@ -44,3 +46,7 @@ is_ready files flags p file = not (get_or flags p false) && (list_all (flag_of f
 -- none before this index is
 abbrev pub NoneIsReady : List Read → List Bool → ℕ → Type 0
 NoneIsReady files flags n = (p : ℕ) (file : Read) → p < n → slice_get files p ≡ Some file → is_ready files flags p file ≡ false
+
+-- each ready unit before this index is among these
+abbrev pub AreAwaited : List Read → List Bool → BTreeSet ℕ → ℕ → Type 0
+AreAwaited files flags early n = (p : ℕ) (file : Read) → p < n → slice_get files p ≡ Some file → is_ready files flags p file ≡ true → contains nat_cmp early p ≡ true

@@ -1,8 +1,9 @@
-use Rattle.std.proofs.Common.{rules, ◌≡◌, ◌∙◌, ◌++◌, ◌∷◌, [], cond, not, true, false, ap, refl, subst, sym, List, ℕ}
+use Rattle.std.proofs.Common.{arith, length, rules, ◌<◌, ◌≡◌, ◌∙◌, ◌++◌, ◌∷◌, [], cond, not, true, false, ap, refl, subst, sym, List, ℕ}
 use Rattle.std.specs.BTreeSet.{contains}
 use Rattle.std.specs.Cmp.Lexicographic.{slice_cmp}
 use Rattle.std.specs.Ordering.{is_eq, nat_cmp}
 use Rattle.occ_check.proofs.Exported.{IsPassed, all_passed, is_known, is_new, none_passed, passes_known, passes_new}
+use Rattle.occ_check.specs.Exports.{with_exports}
 use Rattle.occ_types.specs.declared.interface.Export.{Export}
 use Rattle.occ_check.proofs.export.last_of_each.Goals as goal
 
@@ -39,4 +40,11 @@ returns c =
     let none : c.loop-export.exports.items ≡ [] = search rules in
     let passed : IsPassed c.args.exports.items [] c.loop-export.last.items (contains (slice_cmp nat_cmp) c.loop-export.names)
     = subst (λ (es : List Export). IsPassed c.args.exports.items es c.loop-export.last.items (contains (slice_cmp nat_cmp) c.loop-export.names)) none c.loop-export.invariant in
-    c.from_vec.ensures ∙ c.reverse.ensures.items ∙ all_passed c.args.exports.items c.loop-export.last.items (contains (slice_cmp nat_cmp) c.loop-export.names) passed
+    c.from_vec-2.ensures ∙ c.reverse.ensures.items ∙ all_passed c.args.exports.items c.loop-export.last.items (contains (slice_cmp nat_cmp) c.loop-export.names) passed
+
+pub returns-then-len-lt2 : goal.returns-then-len-lt2
+returns-then-len-lt2 c = c.from_vec.ensures ∙ few c.args.exports.items (omega (arith, c.len.ensures, c.if-len-lt2.true)) where
+  few : (es : List Export) → length es < 2 → es ≡ with_exports [] es
+  few [] h = refl
+  few (e ∷ []) h = refl
+  few (e ∷ f ∷ es) h = absurd (omega (arith, h))

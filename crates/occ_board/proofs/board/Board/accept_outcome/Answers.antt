@@ -14,25 +14,25 @@ use Rattle.occ_project_units.specs.Along.{name_at}
 pub at-requires : goal.at-requires
 at-requires c = within c.cache.new.self c.in_ok-found.found.0 c.args.outcome c.in_ok-found.ensures.index
 
-pub settle_cached-self-inside-requires-clause-sound : goal.settle_cached-self-inside-requires-clause-sound
-settle_cached-self-inside-requires-clause-sound c =
+pub settle_cached-requires-clause-sound : goal.settle_cached-requires-clause-sound
+settle_cached-requires-clause-sound c =
     sound_still c.self.inside.base c.self.inside.journal.items c.self.inside.cached c.self.inside.handed.items c.args.self.now c.args.outcome c.self.view_is c.requires c.cache.new.self c.in_ok-found.ensures.cached c.done_law.ensures.done (c.done_law.ensures.project c.self.inside.base c.self.inside.journal.items c.self.invariant.0.based) c.height_law.ensures c.self.inside.graph c.self.inside.flags c.self.inside.opened c.self.inside.units
     c.self.invariant.0
 
-pub settle_cached-self-inside-requires-clause-done : goal.settle_cached-self-inside-requires-clause-done
-settle_cached-self-inside-requires-clause-done c =
+pub settle_cached-requires-clause-done : goal.settle_cached-requires-clause-done
+settle_cached-requires-clause-done c =
     let job : c.job-job.result.now ≡ c.args.outcome = c.job-job.ensures ∙ same_there c.cache.new.self c.in_ok-found.found.0 c.at.result.now c.args.outcome c.at.ensures c.in_ok-found.ensures.index in
     let unit : c.unit-2.result ≡ c.args.outcome.unit = c.unit-2.ensures.value ∙ ap (λ (i : Input). i.unit) job in
     subst (λ (n : List ℕ). done c.self.inside.graph c.cache.new.self n ≡ true) (sym unit)
     (done_now c.self.inside.base c.self.inside.journal.items c.self.inside.cached c.self.inside.handed.items c.args.self.now c.args.outcome c.self.view_is c.requires c.cache.new.self c.in_ok-found.ensures.cached c.done_law.ensures.done (c.done_law.ensures.project c.self.inside.base c.self.inside.journal.items c.self.invariant.0.based) c.height_law.ensures c.self.inside.graph c.self.inside.flags c.self.inside.opened c.self.inside.units
     c.self.invariant.0)
 
-pub settle_cached-self-inside-requires-clause-reported : goal.settle_cached-self-inside-requires-clause-reported
-settle_cached-self-inside-requires-clause-reported c =
+pub settle_cached-requires-clause-reported : goal.settle_cached-requires-clause-reported
+settle_cached-requires-clause-reported c =
     reported_still c.self.inside.base c.self.inside.journal.items c.self.inside.cached c.self.inside.handed.items c.args.self.now c.args.outcome c.self.view_is c.requires c.cache.new.self c.in_ok-found.ensures.cached c.self.inside.graph c.self.inside.flags c.self.inside.opened c.self.inside.units c.self.invariant.0
 
-pub settle_cached-self-inside-requires-clause-full : goal.settle_cached-self-inside-requires-clause-full
-settle_cached-self-inside-requires-clause-full c = λ p lt other.
+pub settle_cached-requires-clause-full : goal.settle_cached-requires-clause-full
+settle_cached-requires-clause-full c = λ p lt other.
     let job : c.job-job.result.now ≡ c.args.outcome = c.job-job.ensures ∙ same_there c.cache.new.self c.in_ok-found.found.0 c.at.result.now c.args.outcome c.at.ensures c.in_ok-found.ensures.index in
     let unit : c.unit-2.result ≡ c.args.outcome.unit = c.unit-2.ensures.value ∙ ap (λ (i : Input). i.unit) job in
     full_still c.self.inside.base c.self.inside.journal.items c.self.inside.cached c.self.inside.handed.items c.args.self.now c.args.outcome c.self.view_is c.requires c.cache.new.self c.in_ok-found.ensures.cached c.done_law.ensures.done (c.done_law.ensures.project c.self.inside.base c.self.inside.journal.items c.self.invariant.0.based) c.height_law.ensures c.self.inside.graph c.self.inside.flags c.self.inside.opened c.self.inside.units
@@ -44,8 +44,8 @@ forget_users-requires c =
     opened_still c.self.inside.base c.self.inside.journal.items c.self.inside.cached c.self.inside.handed.items c.args.self.now c.args.outcome c.self.view_is c.requires c.cache.new.self c.in_ok-found.ensures.cached c.self.inside.graph c.self.inside.flags c.self.inside.opened c.self.inside.units c.self.invariant.0
     c.unit.result (c.unit.ensures.value ∙ ap (λ (i : Input). i.unit) job)
 
-pub settle_cached-self-inside-requires-clause-verified : goal.settle_cached-self-inside-requires-clause-verified
-settle_cached-self-inside-requires-clause-verified c =
+pub settle_cached-requires-clause-verified : goal.settle_cached-requires-clause-verified
+settle_cached-requires-clause-verified c =
     let job : c.job-job.result.now ≡ c.args.outcome = c.job-job.ensures ∙ same_there c.cache.new.self c.in_ok-found.found.0 c.at.result.now c.args.outcome c.at.ensures c.in_ok-found.ensures.index in
     verified_still c.self.inside.base c.self.inside.journal.items c.self.inside.cached c.self.inside.handed.items c.args.self.now c.args.outcome c.self.view_is c.requires c.cache.new.self c.in_ok-found.ensures.cached c.done_law.ensures.done (c.done_law.ensures.project c.self.inside.base c.self.inside.journal.items c.self.invariant.0.based) c.height_law.ensures c.self.inside.graph c.self.inside.flags c.self.inside.opened c.self.inside.units
     c.self.invariant.0 c.self.inside.verified c.forget_users.new.verified c.in_ok-found.found.1 c.unit.result (c.unit.ensures.value ∙ ap (λ (i : Input). i.unit) job) c.verified_law.ensures.done c.self.invariant.2 c.forget_users.ensures
@@ -68,8 +68,8 @@ invariant_of-self-2 c = (
     legal = c.self.invariant.0.legal;
     files_are = c.self.invariant.0.files_are;
     spelled = c.self.invariant.0.spelled;
-    len = c.settle_cached-self-inside.ensures.len;
-    flags_are = c.settle_cached-self-inside.ensures.flags;
+    len = c.settle_cached.ensures.len;
+    flags_are = c.settle_cached.ensures.flags;
     of_units = subst AreUnits (sym c.in_ok-found.ensures.cached) (units_with c.self.inside.cached c.args.outcome c.self.invariant.0.of_units c.requires.job.unit);
     reported =
         reported_still c.self.inside.base c.self.inside.journal.items c.self.inside.cached c.self.inside.handed.items c.args.self.now c.args.outcome c.self.view_is c.requires c.cache.new.self c.in_ok-found.ensures.cached c.self.inside.graph c.self.inside.flags c.self.inside.opened c.self.inside.units c.self.invariant.0;
@@ -79,6 +79,6 @@ invariant_of-self-2 c = (
     opened_are = c.self.invariant.0.opened_are;
     units_are = c.self.invariant.0.units_are;
   },
-  c.settle_cached-self-inside.ensures.from,
-  c.settle_cached-self-inside.ensures.verified,
+  c.settle_cached.ensures.awaited,
+  c.settle_cached.ensures.verified,
 )
