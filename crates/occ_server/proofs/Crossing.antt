@@ -70,6 +70,7 @@ use Rattle.occ_board.specs.contracts.entry.Edit as edit
 use Rattle.occ_board.specs.contracts.entry.Entry as entry
 use Rattle.occ_board.specs.contracts.flags.Flags as flags
 use Rattle.occ_board.specs.contracts.cached.Cached as cached
+use Rattle.occ_board.specs.contracts.waiting.Waiting as waiting
 use Rattle.occ_project_units.specs.contracts.project.Project as project
 use Rattle.occ_project_units.specs.contracts.facts.Facts as facts
 use Rattle.occ_project_graph.specs.contracts.linked.Linked as links
@@ -547,9 +548,12 @@ flags_field_send = search (sendable, items.the_send) depth 30
 base_field_send : IsSend base.the_field.row
 base_field_send = search (sendable, items.the_send, read_send) depth 30
 
--- the last fields of a board: its flags and counts
-counts_send : IsSend flags.the_field.row × (IsSend flags.the_field.row × (IsSend usize × (IsSend usize × (IsSend usize × Unit {0}))))
-counts_send = (flags_field_send, (flags_field_send, (number_send, (number_send, (number_send, tt)))))
+waiting_field_send : IsSend waiting.the_field.row
+waiting_field_send = search (sendable, BTreeMap-send, number_send) depth 30
+
+-- the last fields of a board: its flags and counts, and what may be ready
+counts_send : IsSend flags.the_field.row × (IsSend flags.the_field.row × (IsSend usize × (IsSend usize × (IsSend waiting.the_field.row × (IsSend usize × Unit {0})))))
+counts_send = (flags_field_send, (flags_field_send, (number_send, (number_send, (waiting_field_send, (number_send, tt))))))
 
 board_field_send : IsSend board.the_field.row
 board_field_send = search (sendable, base_field_send, Vec-send, entry_send, cached_field_send, job_field_send, graph_field_send, counts_send) depth 30
