@@ -255,14 +255,17 @@ impl Board {
             number,
             source,
         );
-        if let Err(refused) = renewed {
-            self.journal.pop();
-            return Err(refused);
-        }
+        let file = match renewed {
+            Ok(file) => file,
+            Err(refused) => {
+                self.journal.pop();
+                return Err(refused);
+            }
+        };
         self.opened = opened;
         self.units = units;
         self.waiting.forget();
-        self.cached.follow(self.graph.project(), name);
+        self.cached.follow(self.graph.project(), file);
         Ok(number)
     }
 
@@ -357,13 +360,14 @@ impl Board {
         Ok(verdict)
     }
 
-    /// Checks a job. Where an outcome of its unit is cached that looked at the same lines and used units, its diagnostics and its
-    /// interface are those. Where memory is refused the job comes back.
+    /// Checks a job. Where an outcome of its unit is cached that looked at the same lines and used units, and stands where it is
+    /// looked for first, its diagnostics and its interface are those. Where memory is refused the job comes back.
     pub fn check(&self, alloc: Global, job: Job) -> Result<Outcome, (Job, AllocError)>
         ensures ok { IfOk result (λ outcome. outcome ≡ job) }
         ensures err { IfErr result (λ refused. refused.0 ≡ job) }
     {
-        match self.cached.get_near(self.hint(job.unit()), job.unit()) {
+        let unit = job.unit();
+        match self.cached.get_hinted(self.hint(unit), unit) {
             Some(before) if is_alike_job(before.job(), &job) => before.again(job),
             _ => check(alloc, job),
         }

@@ -69,14 +69,13 @@ impl Cached {
         self.outcomes.is_empty()
     }
 
-    /// Lets the indices where outcomes are looked for first follow the indices of a project after an edit of a file, which may
-    /// be new to it.
-    pub fn follow(&mut self, project: &Project, edited: FileName)
+    /// Lets the indices where outcomes are looked for first follow the indices of a project after an edit of the file at one,
+    /// which may be new to it.
+    pub fn follow(&mut self, project: &Project, edited: usize)
         ensures { self.new ≡ self.old }
     {
-        let file = project.index_or_first(edited);
-        if self.hints.len() < project.files().len() && file <= self.hints.len() {
-            let _ = self.hints.insert(file, 0);
+        if self.hints.len() < project.files().len() && edited <= self.hints.len() {
+            let _ = self.hints.insert(edited, 0);
         }
     }
 
@@ -120,6 +119,14 @@ impl Cached {
             Some(index) => at(self.outcomes.as_slice(), index),
             None => None,
         }
+    }
+
+    /// The outcome that is cached of a unit, if it stands where it is looked for first.
+    pub fn get_hinted(&self, file: usize, unit: FileName) -> Option<&Outcome>
+        ensures { IfSome result (λ outcome. cached_of self.now unit ≡ Some outcome.now) }
+    {
+        let index = self.hinted(file, unit)?;
+        at(self.outcomes.as_slice(), index)
     }
 
     /// What a unit, which is looked for at a place of the project first, shows by the outcome that is cached of it.

@@ -158,8 +158,11 @@ pub fn has_flag(graph: &Graph, flags: &[bool], hint: usize, unit: FileName) -> b
 fn is_rest_flagged(files: &[Shared<Read>], flags: &[bool], index: usize) -> bool
     ensures { result ≡ rest_flag files.now flags.now index }
 {
+    if is_flagged(flags, index) {
+        return true;
+    }
     match at(files, index) {
-        Some(file) => is_flagged(flags, index) || file.get().source.is_none(),
+        Some(file) => file.get().source.is_none(),
         None => true,
     }
 }
@@ -205,6 +208,15 @@ pub fn are_rests_flagged(graph: &Graph, flags: &[bool], index: usize) -> bool
     ensures { result ≡ list_all (flag_of graph.now flags.now) (rest_units graph.now (name_at graph.now index)) }
 {
     are_flagged(graph.project().files(), flags, &graph.rests(index))
+}
+
+/// Whether the last unit that the one at an index rests on, if there is one, is open and has no flag. That one is not done then.
+#[inline(always)]
+fn is_waiting(graph: &Graph, flags: &[bool], index: usize) -> bool
+    requires { index < length graph.now }
+    ensures { IsTrue result → list_all (flag_of graph.now flags.now) (rest_units graph.now (name_at graph.now index)) ≡ false }
+{
+    !is_last_flagged(graph.project().files(), flags, &graph.rests(index))
 }
 
 /// Whether the file at an index is done, as far as the flags report.
@@ -349,8 +361,29 @@ fn spread(graph: &Graph, cached: &Cached, flags: &mut Flags, verified: &mut Flag
     }
     let users = graph.users(index);
     for place in 0..users.count() {
-        spread(graph, cached, flags, verified, users.at(place));
+        spread_to(graph, cached, flags, verified, users.at(place));
     }
+}
+
+/// The same. Most units that are not done by the flags wait for one unit, which is looked at first.
+#[cycle(spread)]
+#[inline(always)]
+fn spread_to(graph: &Graph, cached: &Cached, flags: &mut Flags, verified: &mut Flags, index: usize)
+    requires within { index < length graph.now }
+    requires len { length flags.old ≡ length graph.now }
+    requires sound { IsSound graph.now cached.now flags.old }
+    requires reported { AllGivenByRevision graph.now cached.now }
+    requires verified { AreVerified graph.now cached.now verified.old }
+    ensures len { length flags.new ≡ length graph.now }
+    ensures sound { IsSound graph.now cached.now flags.new }
+    ensures verified { AreVerified graph.now cached.now verified.new }
+    ensures least { unflagged flags.new ≤ unflagged flags.old }
+    ensures full { (p : ℕ) → p < length graph.now → IsFullAt graph.now cached.now flags.old p ⊎ (index ≡ p) → IsFullAt graph.now cached.now flags.new p }
+{
+    if is_waiting(graph, flags.as_slice(), index) {
+        return;
+    }
+    spread(graph, cached, flags, verified, index);
 }
 
 /// Sets the flags of all units that are done, where none was missing but those of the units at these indices. It takes no
@@ -376,7 +409,7 @@ pub fn settle_among(
     done_law();
     height_law();
     for place in 0..indices.count() {
-        spread(graph, cached, flags, verified, indices.at(place));
+        spread_to(graph, cached, flags, verified, indices.at(place));
     }
 }
 

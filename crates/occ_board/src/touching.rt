@@ -57,6 +57,7 @@ fn goes_on(flags: &Flags, all: bool, index: usize) -> bool
 /// Marks the unit at an index, unless it is marked, and then so each that uses it: where not all are to be marked that reach it, if
 /// it has its flag, since without it none has one that rests on it. It goes no deeper than there are units.
 #[cycle(touch)]
+#[inline(always)]
 fn touch(
     graph: &Graph,
     flags: &Flags,
@@ -72,10 +73,31 @@ fn touch(
     ensures here { OnOk result (get_or touched.new index false ≡ true) }
     ensures closed { OnOk result ((p q : ℕ) → has_edge (graph_of graph.now) p q ≡ true → (all || get_or flags.now q false) ≡ true → get_or touched.old q false ≡ false → get_or touched.new q false ≡ true → get_or touched.new p false ≡ true) }
 {
-    users_law();
     if touched.has(index) {
         return Ok(());
     }
+    touch_first(graph, flags, all, touched, index)
+}
+
+/// The same of a unit that is not marked.
+#[cycle(touch)]
+fn touch_first(
+    graph: &Graph,
+    flags: &Flags,
+    all: bool,
+    touched: &mut Touched,
+    index: usize,
+) -> Result<(), AllocError>
+    requires within { index < length graph.now }
+    requires len { length touched.old ≡ length graph.now }
+    requires unmarked { get_or touched.old index false ≡ false }
+    ensures len { OnOk result (length touched.new ≡ length graph.now) }
+    ensures least { OnOk result (unflagged touched.new ≤ unflagged touched.old) }
+    ensures more { OnOk result ((p : ℕ) → get_or touched.old p false ≡ true → get_or touched.new p false ≡ true) }
+    ensures here { OnOk result (get_or touched.new index false ≡ true) }
+    ensures closed { OnOk result ((p q : ℕ) → has_edge (graph_of graph.now) p q ≡ true → (all || get_or flags.now q false) ≡ true → get_or touched.old q false ≡ false → get_or touched.new q false ≡ true → get_or touched.new p false ≡ true) }
+{
+    users_law();
     touched.mark(index)?;
     if !goes_on(flags, all, index) {
         return Ok(());
@@ -196,7 +218,9 @@ fn renew_new(
     graph.add(alloc, index, name, revision, source)?;
     *flags = next;
     *verified = known;
-    settle_from(graph, cached, flags, verified, index, name);
+    if !name.is_unit() {
+        settle_from(graph, cached, flags, verified, index, name);
+    }
     Ok(())
 }
 
@@ -348,7 +372,7 @@ fn renew_at(
 }
 
 /// Gives a file this text, or takes it away, by the edit of that number. Where these were the flags of the units that are
-/// done, they are so after it.
+/// done, they are so after it. It says where the file is looked for first, which promises nothing.
 pub fn renew(
     alloc: Global,
     graph: &mut Graph,
@@ -358,7 +382,7 @@ pub fn renew(
     name: FileName,
     revision: u32,
     source: Option<Shared<Source>>,
-) -> Result<(), AllocError>
+) -> Result<usize, AllocError>
     requires spelled { AreSpelled graph.old }
     requires len { length flags.old ≡ length graph.old }
     requires flags { AreFlags graph.old cached.now flags.old }
@@ -377,14 +401,17 @@ pub fn renew(
             revision,
             source,
         };
-        return renew_at(alloc, graph, cached, flags, verified, index, file);
+        renew_at(alloc, graph, cached, flags, verified, index, file)?;
+        return Ok(index);
     }
-    match graph.index_for(name) {
-        Some(index) => renew_new(
+    if let Some(index) = graph.index_for(name) {
+        renew_new(
             alloc, graph, cached, flags, verified, index, name, revision, source,
-        ),
-        None => renew_all(
-            alloc, graph, cached, flags, verified, name, revision, source,
-        ),
+        )?;
+        return Ok(index);
     }
+    renew_all(
+        alloc, graph, cached, flags, verified, name, revision, source,
+    )?;
+    Ok(graph.project().index_or_first(name))
 }
