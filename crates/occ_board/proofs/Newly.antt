@@ -1,21 +1,26 @@
 -- The flags after an edit of a file that is new, and that no file looks for.
-use Rattle.std.proofs.Common.{◌≡◌, ◌∙◌, ◌<◌, ◌≤◌, ◌+◌, ◌&&◌, ◌||◌, ℕ, Bool, true, false, cond, List, [], ◌∷◌, length, get_or, replicate, Option, Some, None, refl, sym, ap, subst, inl, inr, arith}
+use Rattle.std.proofs.Common.{◌≡◌, ◌∙◌, ◌<◌, ◌≤◌, ◌+◌, ◌&&◌, ◌||◌, ℕ, Bool, true, false, cond, List, [], ◌∷◌, length, map, get_or, replicate, Option, Some, None, refl, sym, ap, subst, inl, inr, arith}
 use Rattle.std.proofs.lemmas.Bool.{cases_lt}
 use Rattle.std.proofs.lemmas.List.{length-replicate}
 use Rattle.std.proofs.lemmas.List.Edits.{get_or-insert_above, get_or-insert_at, get_or-insert_below, length-insert}
 use Rattle.std.proofs.lemmas.Slice.Eq.{bytes_eq-Decides}
-use Rattle.std.specs.List.{insert}
-use Rattle.std.specs.Option.{is_some, option_map}
+use Rattle.std.specs.List.{insert, slice_get}
+use Rattle.std.specs.Option.{is_some, option_and_then, option_map}
 use Rattle.std.specs.Str.{bytes_eq}
 use Rattle.occ_base.specs.FileName.{is_unit}
+use Rattle.occ_board.proofs.Caches.{cached_there}
 use Rattle.occ_board.proofs.Marked.{no_unit_step, reads_by}
 use Rattle.occ_board.proofs.Indices.{name_there}
-use Rattle.occ_board.proofs.Settled.{flag_at, no_flag, step_done}
+use Rattle.occ_board.proofs.Settled.{flag_at, no_flag, step_cached, step_done}
 use Rattle.occ_board.proofs.Spread.{placed_there}
-use Rattle.occ_board.specs.Done.{done, done_step, is_cached}
+use Rattle.occ_board.proofs.Stands.{cached_that}
+use Rattle.occ_board.specs.Done.{cached_of, done, done_step, is_cached, is_that}
 use Rattle.occ_board.specs.Edits.{IsApart}
 use Rattle.occ_board.specs.Journal.{is_open}
 use Rattle.occ_board.specs.inside.Flagged.{AreFlags, IsFullAt, IsSound, flag_of}
+use Rattle.occ_board.specs.inside.Holding.{index_in}
+use Rattle.occ_board.specs.inside.Revisions.{AreBefore}
+use Rattle.occ_check.specs.Checks.{input}
 use Rattle.occ_check.specs.Input.{Input}
 use Rattle.occ_project_graph.specs.Adding.{raised}
 use Rattle.occ_project_graph.proofs.Added.{raised_above, raised_below}
@@ -72,6 +77,25 @@ module _ (files : List Read) (name : List ℕ) (at : ℕ) (new : IsNew files nam
 
 pub swapped : (a b : List ℕ) → bytes_eq a b ≡ false → bytes_eq b a ≡ false
 swapped a b h = none_by (bytes_eq b a) (λ k. let here : bytes_eq a b ≡ true = (bytes_eq-Decides a b).1 (sym ((bytes_eq-Decides b a).0 k)) in cc (h, here))
+
+-- no outcome that is cached looked at the file, since its revision is later than all of those
+pub new_uncached : (later : List Read) (file : Read) (cached : List Input) → is_unit file.name ≡ true → file_of later file.name ≡ file → AreBefore file.revision cached → is_cached cached (input later file.name) ≡ false
+unfolding expansion
+new_uncached later file cached unit there before = by (cached_of cached file.name) refl where
+  own : slice_get (input later file.name).reads 0 ≡ Some file
+  own = ap (λ (b : Bool). slice_get (map (file_of later) (cond b (expansion later file.name).reads [])) 0) unit ∙ ap (λ (f : Read). Some f) there
+
+  later_than : (j : Input) → cached_of cached file.name ≡ Some j → j ≡ input later file.name → ⊥
+  later_than j e same = at (index_in cached file.name) (cached_there cached file.name ∙ e) where
+    at : (o : Option ℕ) → option_and_then (slice_get cached) o ≡ Some j → ⊥
+    at None h = cc
+    at (Some k) h =
+        let less = before k j h 0 file (ap (λ (i : Input). slice_get i.reads 0) same ∙ own) in
+        omega (arith, less)
+
+  by : (o : Option Input) → cached_of cached file.name ≡ o → is_cached cached (input later file.name) ≡ false
+  by None e = ap (λ (o : Option Input). is_that o (input later file.name)) e
+  by (Some j) e = sym (cached_that false cached (input later file.name) j file.name refl (sym e) ((λ h. absurd cc), (λ same. absurd (later_than j e same))))
 
 module _ (files later : List Read) (file : Read) (at : ℕ) (project : IsProject files) (new : IsNew files file.name at) (put_is : later ≡ put files file) (cached : List Input) (flags next : List Bool) (len : length flags ≡ length files) (are : AreFlags files cached flags) (n : next ≡ insert flags at false)
     (spelled : AreSpelled files) (units : (fs : List Read) (u v : List ℕ) → AreSpelled fs → Uses fs u v → is_unit v ≡ true)
@@ -138,6 +162,17 @@ module _ (files later : List Read) (file : Read) (at : ℕ) (project : IsProject
         let there : index u later ≡ Some (raised at q) = placed_then u other ∙ ap (option_map (raised at)) e in
         let same : raised at q ≡ p = cc (there, here) in
         ap (λ (x : ℕ). get_or next x false) (sym same) ∙ flag_there u q e ∙ sym (same_done u other) ∙ is
+
+  -- so the flags are right where the file is a unit, of which no outcome is cached
+  pub new_unit : is_unit file.name ≡ true → AreBefore file.revision cached → (p : ℕ) → p < length later → IsFullAt later cached next p
+  new_unit unit before p lt h = by (bytes_eq file.name (name_at later p)) refl where
+    by : (b : Bool) → bytes_eq file.name (name_at later p) ≡ b → get_or next p false ≡ true
+    by false other = new_full p lt other h
+    by true same =
+        let its : is_cached cached (input later (name_at later p)) ≡ true = step_cached later cached (name_at later p) (flag_of later next) h in
+        let there : file_of later file.name ≡ file = ap (λ (fs : List Read). file_of fs file.name) put_is ∙ files_put files file file.name ∙ ap (λ (b : Bool). cond b file (file_of files file.name)) ((bytes_eq-Decides file.name file.name).1 refl) in
+        let none : is_cached cached (input later (name_at later p)) ≡ false = ap (λ (u : List ℕ). is_cached cached (input later u)) (sym ((bytes_eq-Decides file.name (name_at later p)).0 same)) ∙ new_uncached later file cached unit there before in
+        absurd (cc (none, its))
 
 -- no flag is set where all are found anew
 pub all_long : (files later : List Read) (file : Read) (flags : List Bool) (count : ℕ) → flags ≡ replicate count false → count ≡ length files + 1 → later ≡ put files file → index file.name files ≡ None → length flags ≡ length later

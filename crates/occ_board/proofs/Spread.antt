@@ -7,6 +7,7 @@ use Rattle.std.proofs.lemmas.Slice.Eq.{bytes_eq-Decides}
 use Rattle.std.specs.Str.{bytes_eq}
 use Rattle.occ_board.proofs.Indices.{named, placed, there_is}
 use Rattle.occ_board.proofs.Rests.{rests_flagged}
+use Rattle.occ_board.proofs.Settled.{step_rests}
 use Rattle.occ_board.specs.Done.{done_step, is_cached}
 use Rattle.occ_board.specs.Journal.{is_open}
 use Rattle.occ_board.specs.inside.Flagged.{IsFull, IsFullAt, IsSound, absent_or, flag_of, rest_flag, unflagged}
@@ -173,3 +174,12 @@ module _ (files : List Read) (cached : List Input) (project : IsProject files) w
     | inl k ↦ subst (λ (fs : List Bool). IsFullAt files cached fs p) (sym same) k
     | inr k ↦ subst (IsFullAt files cached next) k here
   ]
+
+-- a unit that rests on one without a flag is not done by the flags
+pub waiting_full : (files : List Read) (cached : List Input) (flags : List Bool) (at : ℕ) → list_all (flag_of files flags) (rest_units files (name_at files at)) ≡ false → (p : ℕ) → IsFullAt files cached flags p ⊎ (at ≡ p) → IsFullAt files cached flags p
+waiting_full files cached flags at none p full = elim full [
+  | inl k ↦ k
+  | inr k ↦ subst (IsFullAt files cached flags) k (λ h.
+      let rests : list_all (flag_of files flags) (rest_units files (name_at files at)) ≡ true = step_rests files cached (name_at files at) (flag_of files flags) h in
+      absurd (cc (none, rests)))
+]

@@ -212,6 +212,7 @@ fn renew_new(
     apart_law();
     put_law();
     done_law();
+    height_law();
     names_law();
     let next = flags.with_index(alloc, index)?;
     let known = verified_with_index(alloc, verified, index)?;

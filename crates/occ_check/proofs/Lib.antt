@@ -5,4 +5,5 @@ pub mod Firsts
 pub mod Local
 pub mod Inputs
 pub mod Again
+pub mod Rising
 pub mod Sorted

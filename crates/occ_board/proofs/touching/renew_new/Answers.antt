@@ -1,7 +1,8 @@
-use Rattle.std.proofs.Common.{arith, subst}
+use Rattle.std.proofs.Common.{arith, subst, sym}
 use Rattle.occ_board.proofs.Looked.{verified_new}
-use Rattle.occ_board.proofs.Newly.{new_full, new_long, new_sound}
+use Rattle.occ_board.proofs.Newly.{new_full, new_long, new_sound, new_unit}
 use Rattle.occ_board.proofs.Revisions.{reported_then}
+use Rattle.occ_board.proofs.Settled.{are_flags}
 use Rattle.occ_board.proofs.touching.renew_new.Goals as goal
 use Rattle.occ_project.specs.declared.reads.Read.{Read}
 use Rattle.occ_project_units.specs.Project.{IsProject}
@@ -39,5 +40,33 @@ settle_from-requires-clause-reported c =
 
 pub settle_from-requires-clause-verified : goal.settle_from-requires-clause-verified
 settle_from-requires-clause-verified c =
+    verified_new c.args.graph.now c.add.new.self (record { name = c.args.name; revision = c.args.revision; source = c.args.source }) c.args.index c.args.cached.now c.args.verified.now c.in_ok-known.known (subst IsProject c.project.ensures c.files-files.ensures.in_order) c.requires.new c.in_ok-add.ensures.ok
+    c.requires.spelled c.names_law.ensures c.apart_law.ensures.looked c.requires.verified c.in_ok-known.ensures.known
+
+pub returns-else-not-is_unit-clause-len : goal.returns-else-not-is_unit-clause-len
+returns-else-not-is_unit-clause-len c =
+    new_long
+    c.args.graph.now c.add.new.self (record { name = c.args.name; revision = c.args.revision; source = c.args.source }) c.args.index (subst IsProject c.project.ensures c.files-files.ensures.in_order) c.requires.new c.in_ok-add.ensures.ok
+    c.args.cached.now c.args.flags.now c.in_ok-next.next c.requires.len c.requires.flags c.in_ok-next.ensures
+    c.requires.spelled c.names_law.ensures c.apart_law.ensures.done c.put_law.ensures.files c.put_law.ensures.in_order c.done_law.ensures.done
+
+pub returns-else-not-is_unit-clause-flags : goal.returns-else-not-is_unit-clause-flags
+returns-else-not-is_unit-clause-flags c =
+    let file : Read = record { name = c.args.name; revision = c.args.revision; source = c.args.source } in
+    let project : IsProject c.add.new.self = subst IsProject (sym c.in_ok-add.ensures.ok) (c.put_law.ensures.in_order c.args.graph.now file (subst IsProject c.project.ensures c.files-files.ensures.in_order)) in
+    let high = c.height_law.ensures c.add.new.self project in
+    are_flags c.add.new.self c.args.cached.now (λ u. c.done_law.ensures.done c.add.new.self c.args.cached.now u project) c.in_ok-next.next high.0 high.1
+    (new_sound
+    c.args.graph.now c.add.new.self (record { name = c.args.name; revision = c.args.revision; source = c.args.source }) c.args.index (subst IsProject c.project.ensures c.files-files.ensures.in_order) c.requires.new c.in_ok-add.ensures.ok
+    c.args.cached.now c.args.flags.now c.in_ok-next.next c.requires.len c.requires.flags c.in_ok-next.ensures
+    c.requires.spelled c.names_law.ensures c.apart_law.ensures.done c.put_law.ensures.files c.put_law.ensures.in_order c.done_law.ensures.done)
+    (new_unit
+    c.args.graph.now c.add.new.self (record { name = c.args.name; revision = c.args.revision; source = c.args.source }) c.args.index (subst IsProject c.project.ensures c.files-files.ensures.in_order) c.requires.new c.in_ok-add.ensures.ok
+    c.args.cached.now c.args.flags.now c.in_ok-next.next c.requires.len c.requires.flags c.in_ok-next.ensures
+    c.requires.spelled c.names_law.ensures c.apart_law.ensures.done c.put_law.ensures.files c.put_law.ensures.in_order c.done_law.ensures.done
+    (sym c.if-not-is_unit.ensures) c.requires.before)
+
+pub returns-else-not-is_unit-clause-verified : goal.returns-else-not-is_unit-clause-verified
+returns-else-not-is_unit-clause-verified c =
     verified_new c.args.graph.now c.add.new.self (record { name = c.args.name; revision = c.args.revision; source = c.args.source }) c.args.index c.args.cached.now c.args.verified.now c.in_ok-known.known (subst IsProject c.project.ensures c.files-files.ensures.in_order) c.requires.new c.in_ok-add.ensures.ok
     c.requires.spelled c.names_law.ensures c.apart_law.ensures.looked c.requires.verified c.in_ok-known.ensures.known

@@ -1,11 +1,7 @@
-use Rattle.std.proofs.Common.{arith, length, ◌<◌, ◌≡◌, ◌∷◌, [], List, refl}
-use Rattle.occ_base.specs.declared.diag.Diag.{Diag}
-use Rattle.occ_check.specs.Order.{in_order}
+use Rattle.std.proofs.Common.{sym, ◌∙◌, ap}
+use Rattle.occ_base.specs.Order.{is_rising}
+use Rattle.occ_check.proofs.Rising.{rising_in_order}
 use Rattle.occ_check.proofs.order.in_order.Goals as goal
 
-pub returns-then-len-lt2 : goal.returns-then-len-lt2
-returns-then-len-lt2 c = few c.args.found (omega (arith, c.len.ensures, c.if-len-lt2.true)) where
-  few : (ds : List Diag) → length ds < 2 → ds ≡ in_order ds
-  few [] h = refl
-  few (d ∷ []) h = refl
-  few (d ∷ e ∷ ds) h = absurd (omega (arith, h))
+pub returns-then-is_rising : goal.returns-then-is_rising
+returns-then-is_rising c = sym (rising_in_order c.args.found (ap is_rising (sym c.as_slice.ensures) ∙ sym c.if-is_rising.ensures))

@@ -26,11 +26,11 @@ invariant_of-self-2 c =
     let number : c.number.result + 1 ≡ last_number c.self.inside.base c.self.inside.journal.items + 1 = ap (λ (n : ℕ). n + 1) (c.number.ensures ∙ ap (λ (s : State). number_of s) (sym c.self.view_is)) in (
       subst (λ (ks : List Input). IsBoard c.self.inside.base c.push.new.self.items ks c.renew-renewed.new.graph c.renew-renewed.new.flags c.count_after-opened.result c.count_after-units.result) (sym c.follow.ensures)
           (accepts c.self.inside.base c.self.inside.journal.items c.push.new.self.items c.self.inside.cached c.self.inside.graph c.renew-renewed.new.graph c.self.inside.flags c.renew-renewed.new.flags c.self.inside.opened c.self.inside.units c.count_after-opened.result c.count_after-units.result (c.number.result + 1)
-          c.args.session c.args.edit c.name-name.result c.in_ok-source.source c.self.invariant.0 (ap (λ (s : State). refusal s.base s.journal c.args.edit) c.self.view_is ∙ c.requires) c.in_default.ensures.graph number c.name-name.ensures c.in_ok-source.ensures.value c.in_ok-push.ensures.items
-          c.put_law.ensures.spelled c.put_law.ensures.files c.in_ok-source.ensures.spelled c.in_default.ensures.len c.in_default.ensures.flags c.count_after-opened.ensures (c.count_after-units.ensures ∙ ap (λ (b : Bool). count_then b c.self.inside.units c.args.edit) c.is_unit.ensures)
+          c.args.session c.args.edit c.name-name.result c.in_ok-source.source c.self.invariant.0 (ap (λ (s : State). refusal s.base s.journal c.args.edit) c.self.view_is ∙ c.requires) c.in-Ok.ensures.graph number c.name-name.ensures c.in_ok-source.ensures.value c.in_ok-push.ensures.items
+          c.put_law.ensures.spelled c.put_law.ensures.files c.in_ok-source.ensures.spelled c.in-Ok.ensures.len c.in-Ok.ensures.flags c.count_after-opened.ensures (c.count_after-units.ensures ∙ ap (λ (b : Bool). count_then b c.self.inside.units c.args.edit) c.is_unit.ensures)
           (subst IsProject (sym c.self.invariant.0.files_are) (c.done_law.ensures.project c.self.inside.base c.self.inside.journal.items c.self.invariant.0.based))),
       none_awaited _ _ _ _ c.forget.ensures,
-      subst (λ (ks : List Input). AreVerified c.renew-renewed.new.graph ks c.renew-renewed.new.verified) (sym c.follow.ensures) c.in_default.ensures.verified,
+      subst (λ (ks : List Input). AreVerified c.renew-renewed.new.graph ks c.renew-renewed.new.verified) (sym c.follow.ensures) c.in-Ok.ensures.verified,
     )
 
 pub count_after-opened-requires-clause-most : goal.count_after-opened-requires-clause-most
