@@ -7,8 +7,6 @@ use Rattle.occ_base.specs.declared.code.Code.TheVariants as code
 use Rattle.occ_lines.specs.declared.directive.Directive.{Directive}
 use Rattle.occ_lines.specs.declared.ending.Ending.{Ending}
 use Rattle.occ_lines.specs.declared.ending.Ending.TheVariants as ending
-use Rattle.occ_lines.specs.declared.statement.Reached.{Reached}
-use Rattle.occ_lines.specs.declared.statement.Reached.TheVariants as reached
 use Rattle.occ_lines.specs.declared.statement.Statement.{Statement}
 use Rattle.occ_lines.specs.declared.statement.Wants.{Wants}
 use Rattle.occ_lines.specs.declared.statement.Wants.TheVariants as wants
@@ -21,7 +19,7 @@ use Rattle.occ_lines.specs.Directive.{directive_body, directive_of}
 use Rattle.occ_lines.specs.Lexeme.{after_blanks, string_ending}
 use Rattle.occ_lines.specs.Lines.{ArePieces, GoesOn, Holds, IsHeld, IsBegun, IsLines, IsPiece, LexesString, column, continues, directive_lines, goes_on, is_skipped, joined, logical_of, next_passes, resumes, takes}
 use Rattle.occ_lines.specs.Quoted.{IsQuoted}
-use Rattle.occ_lines.specs.inside.Walk.{AreLogical, AreRead, IsFresh, IsWanted, Settles, Speaks, broken_off, settled}
+use Rattle.occ_lines.specs.inside.Walk.{AreLogical, AreRead, IsFresh, IsWanted, Reached, Settles, Speaks, broken_off, settled}
 use Rattle.occ_lines.proofs.Begun.{begins_with, from_shorter, lexing, quoting}
 use Rattle.occ_lines.proofs.Reading.{one_list, other_match, same_match, whole_end}
 use Rattle.occ_lines.proofs.Spelled.{one_read}
@@ -34,27 +32,27 @@ Steps holds number lines xs = (ended : List Logical) × (next : Option Statement
 
 -- a statement is read so far, and then the lines after
 abbrev Onward : Reached → ℕ → List (List ℕ) → List Logical → Type 0
-Onward (reached.Open statement) number lines xs = AreLogical (Some statement) number lines xs
-Onward (reached.Done x) number lines xs = (more : List Logical) × AreLogical None number lines more × (xs ≡ x ∷ more)
+Onward (Reached.Open statement) number lines xs = AreLogical (Some statement) number lines xs
+Onward (Reached.Done x) number lines xs = (more : List Logical) × AreLogical None number lines more × (xs ≡ x ∷ more)
 
 settles : (r : Reached) (number : ℕ) (lines : List (List ℕ)) (xs : List Logical) → Onward r (number + 1) lines xs → Steps (Settles r) number lines xs
-settles (reached.Open statement) number lines xs h = ([], Some statement, xs, (refl, refl), refl, h)
-settles (reached.Done x) number lines xs h = (x ∷ [], None, h.0, (refl, refl), h.2, h.1)
+settles (Reached.Open statement) number lines xs h = ([], Some statement, xs, (refl, refl), refl, h)
+settles (Reached.Done x) number lines xs h = (x ∷ [], None, h.0, (refl, refl), h.2, h.1)
 
 -- what is open stays open where a line is skipped
-stays : (r : Reached) (statement : Statement) (number : ℕ) (line : List ℕ) (lines : List (List ℕ)) (xs : List Logical) → r ≡ reached.Open statement → IsWanted statement.wants statement number line [] (Some statement) → Onward r (number + 1) lines xs → Onward r number (line ∷ lines) xs
+stays : (r : Reached) (statement : Statement) (number : ℕ) (line : List ℕ) (lines : List (List ℕ)) (xs : List Logical) → r ≡ Reached.Open statement → IsWanted statement.wants statement number line [] (Some statement) → Onward r (number + 1) lines xs → Onward r number (line ∷ lines) xs
 stays r statement number line lines xs is same h =
     let following : AreLogical (Some statement) (number + 1) lines xs = subst (λ (s : Reached). Onward s (number + 1) lines xs) is h in
     subst (λ (s : Reached). Onward s number (line ∷ lines) xs) (sym is) ([], Some statement, xs, same, refl, following)
 
-goes : (r : Reached) (statement : Statement) (s : Reached) (number : ℕ) (line : List ℕ) (lines : List (List ℕ)) (xs : List Logical) → r ≡ reached.Open statement
+goes : (r : Reached) (statement : Statement) (s : Reached) (number : ℕ) (line : List ℕ) (lines : List (List ℕ)) (xs : List Logical) → r ≡ Reached.Open statement
     → ((ended : List Logical) (next : Option Statement) → Settles s ended next → IsWanted statement.wants statement number line ended next) → Onward s (number + 1) lines xs → Onward r number (line ∷ lines) xs
 goes r statement s number line lines xs is wanted h =
     let steps = settles s number lines xs h in
     subst (λ (s : Reached). Onward s number (line ∷ lines) xs) (sym is) (steps.0, steps.1, steps.2, wanted steps.0 steps.1 steps.3, steps.4, steps.5)
 
 -- a statement that wants something and is not gone on with
-breaks : (r : Reached) (statement : Statement) (number : ℕ) (following : List (List ℕ)) (more : List Logical) → r ≡ reached.Open statement
+breaks : (r : Reached) (statement : Statement) (number : ℕ) (following : List (List ℕ)) (more : List Logical) → r ≡ Reached.Open statement
     → ((line : List ℕ) (lines : List (List ℕ)) → following ≡ line ∷ lines → (ended : List Logical) (next : Option Statement) → IsFresh number line ended next → IsWanted statement.wants statement number line (broken_off statement ∷ ended) next)
     → AreLogical None number following more → Onward r number following (broken_off statement ∷ more)
 breaks r statement number [] more is wanted h = subst (λ (s : Reached). Onward s number [] (broken_off statement ∷ more)) (sym is) (ap (λ (xs : List Logical). broken_off statement ∷ xs) h)
@@ -66,7 +64,7 @@ breaks r statement number (line ∷ lines) more is wanted h =
 abbrev wanting : ℕ → ℕ → List Token → Wants → Statement
 wanting line column tokens w = record { line = line; column = column; tokens = tokens; wants = w }
 
-opens : (line column : ℕ) (tokens : List Token) → goes_on tokens ≡ true → settled line column tokens ending.Whole ≡ reached.Open (wanting line column tokens wants.More)
+opens : (line column : ℕ) (tokens : List Token) → goes_on tokens ≡ true → settled line column tokens ending.Whole ≡ Reached.Open (wanting line column tokens wants.More)
 opens line column tokens is = cond-true _ _ _ is
 
 break_more : (s : Statement) (number : ℕ) (following : List (List ℕ)) → next_passes (takes s.column) following ≡ false
@@ -90,7 +88,7 @@ holds_none line column tokens ending.Whole number following held more h rest = e
       rw lacks.1 (breaks _ s number following more (opens line column tokens wants_more) (break_more s number following lacks.0) rest)
   | inr ends ↦
       let is = MatchBool-at_false ((next_passes (takes column) following ≡ false) × (held ≡ body.Fault code.L3)) (held ≡ body.Tokens tokens) ends h in
-      let done : settled line column tokens ending.Whole ≡ reached.Done (logical_of line column (body.Tokens tokens)) = cond-false _ _ _ ends in
+      let done : settled line column tokens ending.Whole ≡ Reached.Done (logical_of line column (body.Tokens tokens)) = cond-false _ _ _ ends in
       subst (λ (r : Reached). Onward r number following (logical_of line column held ∷ more)) (sym done) (more, rest, ap (λ (b : Body). logical_of line column b ∷ more) is)
 ]
 holds_none line column tokens (ending.Broken bytes) number following held more h rest =

@@ -122,20 +122,20 @@ one_list text (v ∷ vs) (u ∷ us) x y h k =
 pub record Kept (so_far : List Token) (text : List ℕ) (found : List Token) (rest : List ℕ) : Type 0 where
   pub done : List Token
   pub is : found ≡ so_far ++ done
-  pub joined : (more : List Token) (x : Ending) → LexesFrom rest more x → Lexes text (done ++ more) x
+  pub joined : (more : List Token) (x : Ending) → LexesFrom rest more x → LexesFrom text (done ++ more) x
 
-pub begins : (so_far : List Token) (text : List ℕ) → Kept so_far text so_far (after_blanks text)
+pub begins : (so_far : List Token) (text : List ℕ) → Kept so_far text so_far text
 begins so_far text = record { done = []; is = sym (append-nil so_far); joined = λ more x h. h }
 
 pub goes_on : (so_far : List Token) (text : List ℕ) (found : List Token) (rest after : List ℕ) (token : Token) → Kept so_far text found rest → is_end rest ≡ false → IsToken rest token after → Kept so_far text (found ++ token ∷ []) (after_blanks after)
 goes_on so_far text found rest after token kept more first = record {
   done = kept.done ++ token ∷ [];
   is = ap (λ (ts : List Token). ts ++ token ∷ []) kept.is ∙ append_assoc so_far kept.done (token ∷ []);
-  joined = λ ts x h. subst (λ (us : List Token). Lexes text us x) (sym (append_assoc kept.done (token ∷ []) ts)) (kept.joined (token ∷ ts) x (more, after, first, h));
+  joined = λ ts x h. subst (λ (us : List Token). LexesFrom text us x) (sym (append_assoc kept.done (token ∷ []) ts)) (kept.joined (token ∷ ts) x (more, after, first, h));
 }
 
 pub is_done : (so_far : List Token) (text : List ℕ) (found : List Token) (rest : List ℕ) (x : Ending) → Kept so_far text found rest → Ends rest x → IsRead so_far text found x
-is_done so_far text found rest x kept end = (kept.done, kept.is, subst (λ (ts : List Token). Lexes text ts x) (append-nil kept.done) (kept.joined [] x end))
+is_done so_far text found rest x kept end = (kept.done, kept.is, subst (λ (ts : List Token). LexesFrom text ts x) (append-nil kept.done) (kept.joined [] x end))
 
 pub same_match : (b : Bool) (P Q : Type 0) → b ≡ true → P → MatchBool b P Q
 same_match true P Q h p = p

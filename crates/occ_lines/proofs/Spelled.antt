@@ -6,8 +6,6 @@ use Rattle.bstr.specs.Text.{lines_of, without_terminator}
 use Rattle.occ_lines.specs.declared.directive.Directive.{Directive}
 use Rattle.occ_lines.specs.declared.ending.Ending.{Ending}
 use Rattle.occ_lines.specs.declared.text.Logical.{Logical}
-use Rattle.occ_lines.specs.declared.statement.Reached.{Reached}
-use Rattle.occ_lines.specs.declared.statement.Reached.TheVariants as reached
 use Rattle.occ_lines.specs.declared.statement.Statement.{Statement}
 use Rattle.occ_lines.specs.declared.statement.Wants.{Wants}
 use Rattle.occ_lines.specs.declared.statement.Wants.TheVariants as wants
@@ -16,7 +14,7 @@ use Rattle.occ_lines.specs.declared.token.Token.TheVariants as t
 use Rattle.occ_lines.specs.Directive.{directive_of}
 use Rattle.occ_lines.specs.Lexeme.{Lexes, after_blanks, string_ending}
 use Rattle.occ_lines.specs.Lines.{IsClosed, IsUnclosed, LexesString, column, continues, goes_on, goes_on_token, is_skipped, resumes}
-use Rattle.occ_lines.specs.inside.Walk.{AreLogical, AreRead, BreaksOff, Continues, IsFresh, IsLine, IsWanted, Resumes, Settles, Speaks, broken_off, settled, unfinished}
+use Rattle.occ_lines.specs.inside.Walk.{AreLogical, AreRead, BreaksOff, Continues, IsFresh, IsLine, IsWanted, Reached, Resumes, Settles, Speaks, broken_off, settled, unfinished}
 use Rattle.occ_lines.specs.inside.Scan.{Adds, Gathers, IsStringRead}
 use Rattle.occ_lines.proofs.Reading.{one_list}
 use Rattle.occ_lines.proofs.Strings.{one_quoted, tails}
@@ -59,8 +57,8 @@ abbrev Same : List Logical → List Logical → Option Statement → Option Stat
 Same a b m n = (a ≡ b) × (m ≡ n)
 
 same_settles : (r : Reached) (a b : List Logical) (m n : Option Statement) → Settles r a m → Settles r b n → Same a b m n
-same_settles (reached.Open statement) a b m n h k = (h.0 ∙ sym k.0, h.1 ∙ sym k.1)
-same_settles (reached.Done x) a b m n h k = (h.0 ∙ sym k.0, h.1 ∙ sym k.1)
+same_settles (Reached.Open statement) a b m n h k = (h.0 ∙ sym k.0, h.1 ∙ sym k.1)
+same_settles (Reached.Done x) a b m n h k = (h.0 ∙ sym k.0, h.1 ∙ sym k.1)
 
 -- what follows the tokens of one line and its ending is one
 same_read : (first column : ℕ) (tokens ts us : List Token) (x y : Ending) (a b : List Logical) (m n : Option Statement) → (ts ≡ us) × (x ≡ y)
@@ -70,9 +68,9 @@ same_read first column tokens ts us x y a b m n same h k =
     ap (λ (vs : List Token). settled first column (tokens ++ vs) x) same.0 ∙ ap (settled first column (tokens ++ us)) same.1 in
     same_settles (settled first column (tokens ++ us) y) a b m n (subst (λ (r : Reached). Settles r a m) is h) k
 
-same_continues : (first column : ℕ) (tokens : List Token) (line : List ℕ) (a b : List Logical) (m n : Option Statement) → Continues first column tokens line a m → Continues first column tokens line b n → Same a b m n
-same_continues first column tokens line a b m n h k =
-    same_read first column tokens h.0 k.0 h.1 k.1 a b m n (one_list (after_blanks line) h.0 k.0 h.1 k.1 h.2 k.2) h.3 k.3
+same_continues : (first column : ℕ) (tokens : List Token) (text : List ℕ) (a b : List Logical) (m n : Option Statement) → Continues first column tokens text a m → Continues first column tokens text b n → Same a b m n
+same_continues first column tokens text a b m n h k =
+    same_read first column tokens h.0 k.0 h.1 k.1 a b m n (one_list text h.0 k.0 h.1 k.1 h.2 k.2) h.3 k.3
 
 same_closed : (bytes text : List ℕ) (ts us : List Token) (x y : Ending) → IsClosed bytes text ts x → IsClosed bytes text us y → (ts ≡ us) × (x ≡ y)
 same_closed bytes text ts us x y h k =
@@ -99,7 +97,7 @@ same_resumes : (first column : ℕ) (tokens : List Token) (bytes line : List ℕ
 same_resumes first column tokens bytes line a b m n h k = same_read first column tokens h.0 k.0 h.1 k.1 a b m n (same_string bytes _ h.0 k.0 h.1 k.1 h.2 k.2) h.3 k.3
 
 same_speaks : (o : Option Directive) (number : ℕ) (line : List ℕ) (a b : List Logical) (m n : Option Statement) → Speaks o number line a m → Speaks o number line b n → Same a b m n
-same_speaks None number line a b m n h k = same_continues number (column line) [] line a b m n h k
+same_speaks None number line a b m n h k = same_continues number (column line) [] (after_blanks line) a b m n h k
 same_speaks (Some d) number line a b m n h k = (h.0 ∙ sym k.0, h.1 ∙ sym k.1)
 
 -- of two cases the one that holds gives one answer
@@ -119,13 +117,13 @@ same_break x number line a b m n h k =
 
 same_wanted : (w : Wants) (statement : Statement) (number : ℕ) (line : List ℕ) (a b : List Logical) (m n : Option Statement) → IsWanted w statement number line a m → IsWanted w statement number line b n → Same a b m n
 same_wanted wants.More s number line a b m n h k = same_match (is_skipped line)
-    ((a ≡ []) × (m ≡ Some s)) (MatchBool (continues s.column line) (Continues s.line s.column s.tokens line a m) (BreaksOff (broken_off s) number line a m))
-    ((b ≡ []) × (n ≡ Some s)) (MatchBool (continues s.column line) (Continues s.line s.column s.tokens line b n) (BreaksOff (broken_off s) number line b n))
+    ((a ≡ []) × (m ≡ Some s)) (MatchBool (continues s.column line) (Continues s.line s.column s.tokens (after_blanks line) a m) (BreaksOff (broken_off s) number line a m))
+    ((b ≡ []) × (n ≡ Some s)) (MatchBool (continues s.column line) (Continues s.line s.column s.tokens (after_blanks line) b n) (BreaksOff (broken_off s) number line b n))
     (Same a b m n) h k
     (λ u v. (u.0 ∙ sym v.0, u.1 ∙ sym v.1))
-    (λ u v. same_match (continues s.column line) (Continues s.line s.column s.tokens line a m) (BreaksOff (broken_off s) number line a m)
-    (Continues s.line s.column s.tokens line b n) (BreaksOff (broken_off s) number line b n) (Same a b m n) u v
-    (same_continues s.line s.column s.tokens line a b m n) (same_break (broken_off s) number line a b m n))
+    (λ u v. same_match (continues s.column line) (Continues s.line s.column s.tokens (after_blanks line) a m) (BreaksOff (broken_off s) number line a m)
+    (Continues s.line s.column s.tokens (after_blanks line) b n) (BreaksOff (broken_off s) number line b n) (Same a b m n) u v
+    (same_continues s.line s.column s.tokens (after_blanks line) a b m n) (same_break (broken_off s) number line a b m n))
 same_wanted (wants.Rest bytes) s number line a b m n h k = same_match (resumes s.column line)
     (Resumes s.line s.column s.tokens bytes line a m) (BreaksOff (broken_off s) number line a m)
     (Resumes s.line s.column s.tokens bytes line b n) (BreaksOff (broken_off s) number line b n) (Same a b m n) h k

@@ -32,19 +32,27 @@ pub fn is_end(text: &[u8]) -> bool
     }
 }
 
-/// The column of the first byte that is no blank.
-pub fn column(line: &[u8]) -> u32
+/// The column of the first byte that is no blank, and what stands from it on.
+pub fn indented(line: &[u8]) -> (u32, &[u8])
     requires { length line.now ≤ 262144 }
-    ensures value { result ≡ spec_column line.now }
-    ensures small { result ≤ 8 * length line.now }
+    ensures column { result.0 ≡ spec_column line.now }
+    ensures text { result.1.now ≡ spec_after_blanks line.now }
 {
     let mut column = 0;
-    for b in line {
+    for (i, b) in line.iter().enumerate() {
         match *b {
             b' ' => column += 1,
             b'\t' => column = (column / 8 + 1) * 8,
-            _ => return column,
+            _ => return (column, line.split_at(i).1),
         }
     }
-    column
+    (column, &[])
+}
+
+/// The column of the first byte that is no blank.
+pub fn column(line: &[u8]) -> u32
+    requires { length line.now ≤ 262144 }
+    ensures { result ≡ spec_column line.now }
+{
+    indented(line).0
 }

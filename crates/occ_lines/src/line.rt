@@ -1,18 +1,15 @@
 //! One line of the text after the other.
-ghost use Rattle.std.specs.Prelude.{◌≡◌, ◌≤◌, IfOk, List, length};
+ghost use Rattle.std.specs.Prelude.{◌≡◌, ◌≤◌, IfOk, List, OnOk, length};
 ghost use Rattle.occ_lines.specs.Directive.{directive_body as spec_directive_body};
-ghost use Rattle.occ_lines.specs.Lexeme.{after_blanks as spec_after_blanks};
-ghost use Rattle.occ_lines.specs.Lines.{column as spec_column, directive_lines as spec_directive_lines, is_skipped as spec_is_skipped, logical_of as spec_logical_of};
-ghost use Rattle.occ_lines.specs.inside.Walk.{BreaksOff, Continues, IsFresh, IsLine, IsWanted, Resumes, Settles};
+ghost use Rattle.occ_lines.specs.Lines.{directive_lines as spec_directive_lines, is_skipped as spec_is_skipped, logical_of as spec_logical_of};
+ghost use Rattle.occ_lines.specs.inside.Walk.{BreaksOff, Continues, IsFresh, IsLine, IsWanted, Resumes};
 ghost use Rattle.occ_lines.specs.inside.Scan.{Adds};
 ghost use Rattle.occ_lines.specs.declared.text.Body.TheVariants as body;
 
-use super::blanks::{after_blanks, column, is_end};
+use super::blanks::{after_blanks, indented, is_end};
 use super::directive::{Directive, directive_body, directive_of};
 use super::lexeme::after_first;
-use super::statement::{
-    Reached, Statement, Wants, continues, logical_of, read_string, resumes, settled,
-};
+use super::statement::{Statement, Wants, add, continues, read_string, resumes, settle};
 use super::text::{Body, Logical};
 use super::token::Token;
 use super::tokens;
@@ -22,77 +19,61 @@ use std::alloc::{AllocError, Global};
 /// For so many tokens there is room where a line begins: more than most lines have.
 const ROOM: usize = 16;
 
-/// The logical lines that are found, and the statement that is open after them.
-type Found = (Items<Logical>, Option<Statement>);
-
-/// A statement that is read so far is put after those that are found, or stays open.
-fn settle(found: Items<Logical>, reached: Reached) -> Result<Found, AllocError>
-    ensures { IfOk result (λ x. Adds found x.0 (λ ended. Settles reached ended x.1)) }
-{
-    let mut found = found;
-    match reached {
-        Reached::Open(statement) => Ok((found, Some(statement))),
-        Reached::Done(logical) => {
-            found.push(logical)?;
-            Ok((found, None))
-        }
-    }
-}
-
-/// The line as it goes on with a statement.
+/// The line as it goes on with a statement. The text is the line without the blanks in front.
 #[inline(always)]
 fn continued(
     alloc: Global,
-    found: Items<Logical>,
+    found: &mut Items<Logical>,
     first: u32,
     column: u32,
     tokens: Items<Token>,
-    line: &[u8],
-) -> Result<Found, AllocError>
-    ensures { IfOk result (λ x. Adds found x.0 (λ ended. Continues first column tokens line.now ended x.1)) }
+    text: &[u8],
+) -> Result<Option<Statement>, AllocError>
+    ensures { IfOk result (λ next. Adds found.old found.new (λ ended. Continues first column tokens text.now ended next)) }
 {
-    let (tokens, ending) = tokens::read(alloc, tokens, line)?;
-    settle(found, settled(first, column, tokens, ending))
+    let mut tokens = tokens;
+    let ending = tokens::read(alloc, &mut tokens, text)?;
+    settle(found, first, column, tokens, ending)
 }
 
 /// The line as it goes on with the string of a statement.
 fn resumed(
     alloc: Global,
-    found: Items<Logical>,
+    found: &mut Items<Logical>,
     first: u32,
     column: u32,
     tokens: Items<Token>,
     bytes: Items<u8>,
     line: &[u8],
-) -> Result<Found, AllocError>
-    ensures { IfOk result (λ x. Adds found x.0 (λ ended. Resumes first column tokens bytes line.now ended x.1)) }
+) -> Result<Option<Statement>, AllocError>
+    ensures { IfOk result (λ next. Adds found.old found.new (λ ended. Resumes first column tokens bytes line.now ended next)) }
 {
-    let (tokens, ending) = read_string(alloc, tokens, bytes, after_first(after_blanks(line)))?;
-    settle(found, settled(first, column, tokens, ending))
+    let mut tokens = tokens;
+    let ending = read_string(alloc, &mut tokens, bytes, after_first(after_blanks(line)))?;
+    settle(found, first, column, tokens, ending)
 }
 
-/// The line of a directive.
+/// The line of a directive, which begins in that column. The text is the line without the blanks in front.
 fn directed(
     alloc: Global,
-    found: Items<Logical>,
+    found: &mut Items<Logical>,
     number: u32,
+    column: u32,
     directive: Directive,
-    line: &[u8],
-) -> Result<Items<Logical>, AllocError>
-    requires { length line.now ≤ 262144 }
-    ensures { IfOk result (λ all. Adds found all (λ ended. ended ≡ spec_directive_lines number (spec_column line.now) (spec_directive_body directive (spec_after_blanks line.now)))) }
+    text: &[u8],
+) -> Result<(), AllocError>
+    ensures { OnOk result (Adds found.old found.new (λ ended. ended ≡ spec_directive_lines number column (spec_directive_body directive text.now))) }
 {
-    let column = column(line);
-    let mut found = found;
-    match directive_body(alloc, directive, after_blanks(line))? {
-        Some(body) => found.push(logical_of(number, column, body))?,
+    match directive_body(alloc, directive, text)? {
+        Some(body) => add(found, number, column, body),
         None => {
             if column % 2 == 1 {
-                found.push(logical_of(number, column, Body::Fault(Code::L2)))?;
+                add(found, number, column, Body::Fault(Code::L2))
+            } else {
+                Ok(())
             }
         }
     }
-    Ok(found)
 }
 
 /// Whether the line is blanks, or blanks and a comment.
@@ -105,51 +86,56 @@ pub fn is_skipped(line: &[u8]) -> bool
 /// The line where no statement is open.
 fn fresh(
     alloc: Global,
-    found: Items<Logical>,
+    found: &mut Items<Logical>,
     number: u32,
     line: &[u8],
-) -> Result<Found, AllocError>
+) -> Result<Option<Statement>, AllocError>
     requires { length line.now ≤ 262144 }
-    ensures { IfOk result (λ x. Adds found x.0 (λ ended. IsFresh number line.now ended x.1)) }
+    ensures { IfOk result (λ next. Adds found.old found.new (λ ended. IsFresh number line.now ended next)) }
 {
-    if is_skipped(line) {
-        return Ok((found, None));
+    let (column, text) = indented(line);
+    if is_end(text) {
+        return Ok(None);
     }
-    match directive_of(after_blanks(line)) {
-        Some(directive) => Ok((directed(alloc, found, number, directive, line)?, None)),
+    match directive_of(text) {
+        Some(directive) => {
+            directed(alloc, found, number, column, directive, text)?;
+            Ok(None)
+        }
         None => {
             let tokens = Items::from_vec(Vec::with_capacity(alloc, ROOM)?);
-            continued(alloc, found, number, column(line), tokens, line)
+            continued(alloc, found, number, column, tokens, text)
         }
     }
 }
 
-/// The line where a statement has ended without what it wants.
+/// The line where a statement, which began on that line and in that column, has ended with that fault.
 fn broken_off(
     alloc: Global,
-    found: Items<Logical>,
-    ended: Logical,
+    found: &mut Items<Logical>,
+    first: u32,
+    column: u32,
+    fault: Code,
     number: u32,
     line: &[u8],
-) -> Result<Found, AllocError>
+) -> Result<Option<Statement>, AllocError>
     requires { length line.now ≤ 262144 }
-    ensures { IfOk result (λ x. Adds found x.0 (λ lines. BreaksOff ended number line.now lines x.1)) }
+    ensures { IfOk result (λ next. Adds found.old found.new (λ lines. BreaksOff (spec_logical_of first column (body.Fault fault)) number line.now lines next)) }
 {
-    let mut found = found;
-    found.push(ended)?;
+    add(found, first, column, Body::Fault(fault))?;
     fresh(alloc, found, number, line)
 }
 
 /// The line where a statement is open.
 fn wanted(
     alloc: Global,
-    found: Items<Logical>,
+    found: &mut Items<Logical>,
     statement: Statement,
     number: u32,
     line: &[u8],
-) -> Result<Found, AllocError>
+) -> Result<Option<Statement>, AllocError>
     requires { length line.now ≤ 262144 }
-    ensures { IfOk result (λ x. Adds found x.0 (λ ended. IsWanted statement.wants statement number line.now ended x.1)) }
+    ensures { IfOk result (λ next. Adds found.old found.new (λ ended. IsWanted statement.wants statement number line.now ended next)) }
 {
     let Statement {
         line: first,
@@ -160,26 +146,23 @@ fn wanted(
     match wants {
         Wants::More => {
             if is_skipped(line) {
-                let statement = Statement {
+                Ok(Some(Statement {
                     line: first,
                     column,
                     tokens,
                     wants: Wants::More,
-                };
-                Ok((found, Some(statement)))
+                }))
             } else if continues(column, line) {
-                continued(alloc, found, first, column, tokens, line)
+                continued(alloc, found, first, column, tokens, after_blanks(line))
             } else {
-                let ended = logical_of(first, column, Body::Fault(Code::L3));
-                broken_off(alloc, found, ended, number, line)
+                broken_off(alloc, found, first, column, Code::L3, number, line)
             }
         }
         Wants::Rest(bytes) => {
             if resumes(column, line) {
                 resumed(alloc, found, first, column, tokens, bytes, line)
             } else {
-                let ended = logical_of(first, column, Body::Fault(Code::L4));
-                broken_off(alloc, found, ended, number, line)
+                broken_off(alloc, found, first, column, Code::L4, number, line)
             }
         }
     }
@@ -188,13 +171,13 @@ fn wanted(
 /// The line, where that statement is open, if there is one.
 pub fn read_line(
     alloc: Global,
-    found: Items<Logical>,
+    found: &mut Items<Logical>,
     statement: Option<Statement>,
     number: u32,
     line: &[u8],
-) -> Result<Found, AllocError>
+) -> Result<Option<Statement>, AllocError>
     requires { length line.now ≤ 262144 }
-    ensures { IfOk result (λ x. Adds found x.0 (λ ended. IsLine statement number line.now ended x.1)) }
+    ensures { IfOk result (λ next. Adds found.old found.new (λ ended. IsLine statement number line.now ended next)) }
 {
     match statement {
         Some(statement) => wanted(alloc, found, statement, number, line),

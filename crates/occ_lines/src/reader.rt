@@ -5,7 +5,7 @@ ghost use Rattle.occ_lines.specs.inside.Walk.{AreRead, unfinished as spec_unfini
 ghost use Rattle.occ_lines.specs.declared.text.Logical.{Logical as ALogical};
 
 use super::line::read_line;
-use super::statement::{Statement, Wants, logical_of};
+use super::statement::{Statement, Wants, add};
 use super::text::{Body, Logical, TextFault};
 use bstr::ByteSlice;
 use occ_base::{Code, Items};
@@ -57,7 +57,12 @@ fn finished(
             Wants::More => Code::L3,
             Wants::Rest(_) => Code::L4,
         };
-        found.push(logical_of(statement.line, statement.column, Body::Fault(lack)))?;
+        add(
+            &mut found,
+            statement.line,
+            statement.column,
+            Body::Fault(lack),
+        )?;
     }
     Ok(found)
 }
@@ -73,7 +78,7 @@ fn read(alloc: Global, text: &[u8]) -> Result<Items<Logical>, AllocError>
     let mut number = 0;
     for line in text.lines() {
         number += 1;
-        (found, statement) = read_line(alloc, found, statement, number, line)?;
+        statement = read_line(alloc, &mut found, statement, number, line)?;
     }
     finished(found, statement)
 }

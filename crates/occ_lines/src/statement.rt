@@ -1,8 +1,8 @@
 //! A statement that is read line by line.
-ghost use Rattle.std.specs.Prelude.{◌≡◌, ◌≤◌, IfOk, List, length};
+ghost use Rattle.std.specs.Prelude.{◌≡◌, ◌≤◌, ◌++◌, ◌∷◌, [], IfOk, List, OnOk, length};
 ghost use Rattle.occ_lines.specs.Lines.{continues as spec_continues, goes_on as spec_goes_on, goes_on_symbol as spec_goes_on_symbol, goes_on_token as spec_goes_on_token, goes_on_word as spec_goes_on_word, logical_of as spec_logical_of, resumes as spec_resumes};
-ghost use Rattle.occ_lines.specs.inside.Walk.{settled as spec_settled};
-ghost use Rattle.occ_lines.specs.inside.Scan.{IsStringRead};
+ghost use Rattle.occ_lines.specs.inside.Walk.{Settles, settled as spec_settled};
+ghost use Rattle.occ_lines.specs.inside.Scan.{Adds, IsStringRead};
 
 use super::blanks::{after_blanks, column};
 use super::directive::directive_of;
@@ -33,15 +33,6 @@ pub struct Statement {
     /// Its tokens so far.
     pub tokens: Items<Token>,
     pub wants: Wants,
-}
-
-/// How far a statement is read.
-#[derive(Drop)]
-pub enum Reached {
-    /// It goes on.
-    Open(Statement),
-    /// It is at its end.
-    Done(Logical),
 }
 
 /// Whether a statement goes on after the word.
@@ -112,49 +103,57 @@ fn goes_on(tokens: &[Token]) -> bool
     }
 }
 
-/// The logical line that begins on that line and in that column.
+/// The logical line that begins on that line and in that column is put after those that are found.
 #[inline(always)]
-pub fn logical_of(line: u32, column: u32, body: Body) -> Logical
-    ensures { result ≡ spec_logical_of line column body }
+pub fn add(found: &mut Items<Logical>, line: u32, column: u32, body: Body) -> Result<(), AllocError>
+    ensures { OnOk result (found.new ≡ found.old ++ spec_logical_of line column body ∷ []) }
 {
-    let body = if column % 2 == 1 {
-        Body::Fault(Code::L2)
+    let depth = column / 2;
+    if column % 2 == 1 {
+        let body = Body::Fault(Code::L2);
+        found.push(Logical { line, depth, body })
     } else {
-        body
-    };
-    Logical {
-        line,
-        depth: column / 2,
-        body,
+        found.push(Logical { line, depth, body })
     }
 }
 
-/// How far a statement is read, where one of its lines ends so.
-pub fn settled(line: u32, column: u32, tokens: Items<Token>, ending: Ending) -> Reached
-    ensures { result ≡ spec_settled line column tokens ending }
+/// A statement, where one of its lines ends so, is put after the lines that are found, or stays open.
+#[inline(always)]
+pub fn settle(
+    found: &mut Items<Logical>,
+    line: u32,
+    column: u32,
+    tokens: Items<Token>,
+    ending: Ending,
+) -> Result<Option<Statement>, AllocError>
+    ensures { IfOk result (λ next. Adds found.old found.new (λ ended. Settles (spec_settled line column tokens ending) ended next)) }
 {
     match ending {
         Ending::Whole => {
             if goes_on(tokens.as_slice()) {
-                Reached::Open(Statement {
+                Ok(Some(Statement {
                     line,
                     column,
                     tokens,
                     wants: Wants::More,
-                })
+                }))
             } else {
-                Reached::Done(logical_of(line, column, Body::Tokens(tokens)))
+                add(found, line, column, Body::Tokens(tokens))?;
+                Ok(None)
             }
         }
         Ending::Broken(bytes) => {
-            Reached::Open(Statement {
+            Ok(Some(Statement {
                 line,
                 column,
                 tokens,
                 wants: Wants::Rest(bytes),
-            })
+            }))
         }
-        Ending::Bad(fault) => Reached::Done(logical_of(line, column, Body::Fault(fault))),
+        Ending::Bad(fault) => {
+            add(found, line, column, Body::Fault(fault))?;
+            Ok(None)
+        }
     }
 }
 
@@ -174,22 +173,21 @@ pub fn resumes(first: u32, line: &[u8]) -> bool
     first <= column(line) && following(after_blanks(line), b'*').is_some()
 }
 
-/// The tokens of a line that goes on with a string, put after those that are read already, and how it ends.
+/// The tokens of a line that goes on with a string are put after those that are read already. It tells how the line ends.
 pub fn read_string(
     alloc: Global,
-    so_far: Items<Token>,
+    tokens: &mut Items<Token>,
     bytes: Items<u8>,
     text: &[u8],
-) -> Result<(Items<Token>, Ending), AllocError>
-    ensures { IfOk result (λ x. IsStringRead so_far bytes text.now x.0 x.1) }
+) -> Result<Ending, AllocError>
+    ensures { IfOk result (λ ending. IsStringRead tokens.old bytes text.now tokens.new ending) }
 {
-    let mut found = so_far;
     let (bytes, rest) = gather(bytes, text)?;
     match following(rest, b'"') {
         Some(after) => {
-            found.push(Token::String(bytes))?;
-            tokens::read(alloc, found, after)
+            tokens.push(Token::String(bytes))?;
+            tokens::read(alloc, tokens, after_blanks(after))
         }
-        None => Ok((found, string_ending(bytes, rest))),
+        None => Ok(string_ending(bytes, rest)),
     }
 }

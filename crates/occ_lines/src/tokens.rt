@@ -141,24 +141,19 @@ pub fn first(alloc: Global, text: &[u8]) -> Result<Result<(Token, &[u8]), Ending
     lexeme(alloc, text)
 }
 
-/// The tokens of a line, put after those that are read already, and how it ends.
-pub fn read(
-    alloc: Global,
-    so_far: Items<Token>,
-    text: &[u8],
-) -> Result<(Items<Token>, Ending), AllocError>
-    ensures { IfOk result (λ x. IsRead so_far text.now x.0 x.1) }
+/// The tokens of a text that no blank begins are put after those that are read already. It tells how the text ends.
+pub fn read(alloc: Global, tokens: &mut Items<Token>, text: &[u8]) -> Result<Ending, AllocError>
+    ensures { IfOk result (λ ending. IsRead tokens.old text.now tokens.new ending) }
 {
-    let mut found = so_far;
-    let mut rest = after_blanks(text);
+    let mut rest = text;
     'rest: while !is_end(rest) {
         match first(alloc, rest)? {
             Ok((token, after)) => {
-                found.push(token)?;
+                tokens.push(token)?;
                 rest = after_blanks(after);
             }
-            Err(ending) => return Ok((found, ending)),
+            Err(ending) => return Ok(ending),
         }
     }
-    Ok((found, Ending::Whole))
+    Ok(Ending::Whole)
 }

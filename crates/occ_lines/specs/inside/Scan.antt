@@ -1,6 +1,6 @@
 -- What the scanner finds on its way to a token.
 use Rattle.std.specs.Prelude.{◌≡◌, ◌≤◌, ◌<◌, ◌==◌, ◌||◌, ℕ, Bool, true, List, ◌++◌, length, take}
-use Rattle.occ_lines.specs.Lexeme.{Lexes}
+use Rattle.occ_lines.specs.Lexeme.{LexesFrom}
 use Rattle.occ_lines.specs.Quoted.{IsQuoted}
 use Rattle.occ_lines.specs.declared.ending.Ending.{Ending}
 use Rattle.occ_lines.specs.declared.text.Logical.{Logical}
@@ -21,9 +21,9 @@ may_end_pair b = b == 61 || (b == 58 || (b == 60 || (b == 62 || (b == 47 || b ==
 abbrev pub Gathers : List ℕ → List ℕ → List ℕ → List ℕ → Type 0
 Gathers so_far text bytes rest = (values : List ℕ) × (bytes ≡ so_far ++ values) × IsQuoted text values rest
 
--- the tokens that the text is are put after those that are read already, and it ends so
+-- the tokens that the text is, which no blank begins, are put after those that are read already, and it ends so
 abbrev pub IsRead : List Token → List ℕ → List Token → Ending → Type 0
-IsRead so_far text tokens ending = (more : List Token) × (tokens ≡ so_far ++ more) × Lexes text more ending
+IsRead so_far text tokens ending = (more : List Token) × (tokens ≡ so_far ++ more) × LexesFrom text more ending
 
 -- the same of a text that begins inside a string of which these bytes are read
 abbrev pub IsStringRead : List Token → List ℕ → List ℕ → List Token → Ending → Type 0

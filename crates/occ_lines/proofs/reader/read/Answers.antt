@@ -16,7 +16,7 @@ pub loop-line-preserved : goal.loop-line-preserved
 loop-line-preserved c =
     let steps = c.in-Some.ensures.steps in
     record {
-      goes = goes_over _ _ _ _ c.in-Some.line.now _ _ _ c.in_ok-found.ensures (rw steps at c.loop-line.invariant.goes);
+      goes = goes_over _ _ _ _ c.in-Some.line.now _ _ _ c.in_ok-statement.ensures (rw steps at c.loop-line.invariant.goes);
       counted = omega (arith, ap length steps);
       short = (rw steps at c.loop-line.invariant.short).1;
     }
