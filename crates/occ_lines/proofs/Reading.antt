@@ -8,7 +8,7 @@ use Rattle.occ_lines.specs.declared.ending.Ending.{Ending}
 use Rattle.occ_lines.specs.declared.ending.Ending.TheVariants as ending
 use Rattle.occ_lines.specs.declared.token.Token.{Token}
 use Rattle.occ_lines.specs.declared.token.Token.TheVariants as t
-use Rattle.occ_lines.specs.Lexeme.{Ends, IsCharacter, IsFirst, IsOpen, IsString, IsToken, Lexes, LexesFrom, Stops, after_blanks, is_blank, is_end, string_ending}
+use Rattle.occ_lines.specs.Lexeme.{Ends, IsCharacter, IsFirst, IsOpen, IsString, IsToken, LexesFrom, Stops, after_blanks, is_blank, is_end, string_ending}
 use Rattle.occ_lines.specs.Quoted.{IsQuoted, unit}
 use Rattle.occ_lines.specs.inside.Scan.{IsRead}
 use Rattle.occ_lines.proofs.First.{first_no_character, first_no_string, first_same}

@@ -84,6 +84,7 @@ pub fn is_skipped(line: &[u8]) -> bool
 }
 
 /// The line where no statement is open.
+#[inline(always)]
 fn fresh(
     alloc: Global,
     found: &mut Items<Logical>,

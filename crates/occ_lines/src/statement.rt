@@ -79,6 +79,7 @@ fn goes_on_symbol(symbol: Symbol) -> bool
 }
 
 /// Whether a statement goes on after the token.
+#[inline(always)]
 fn goes_on_token(token: &Token) -> bool
     ensures { result ≡ spec_goes_on_token token.now }
 {
@@ -94,6 +95,7 @@ fn goes_on_token(token: &Token) -> bool
 }
 
 /// Whether a statement goes on after these tokens.
+#[inline(always)]
 fn goes_on(tokens: &[Token]) -> bool
     ensures { result ≡ spec_goes_on tokens.now }
 {
