@@ -7,7 +7,7 @@ use Rattle.occ_tree.specs.declared.place.Frame.{Frame}
 use Rattle.occ_tree.specs.declared.row.Row.{Row}
 use Rattle.occ_tree.specs.declared.sort.Sort.{Sort}
 use Rattle.occ_tree.specs.declared.place.Place.{Place}
-use Rattle.occ_tree.specs.inside.Frames.{frame_at, frame_of, open_parents, outer, place_at, places, still_open, turned}
+use Rattle.occ_tree.specs.inside.Frames.{frame_at, frame_of, open_parents, opened_by, outer, place_at, places, still_open, turned}
 use Rattle.occ_tree.specs.Nesting.{after_deeper, can_hold, elders, parent_depth, roots, row_at}
 use Rattle.occ_tree.specs.Wrong.{is_wrong, wrong, wrong_from}
 use Rattle.occ_tree.specs.Table.{row_under}
@@ -111,42 +111,33 @@ turned_back (x ∷ xs) ys zs = turned_back xs (x ∷ ys) zs
 pub turned_twice : (xs : List Outline) → turned (turned xs []) [] ≡ xs
 turned_twice xs = turned_back xs [] [] ∙ append-nil xs
 
--- what `close` does to an innermost parent and those round it
-abbrev pub Closes : ℕ → Frame → List Frame → Frame → List Frame → Type 0
-Closes d i o j q = (f : Frame) (fs : List Frame) → still_open d (i ∷ o) ≡ f ∷ fs → (j ≡ f) × (q ≡ fs)
+-- the parent in which a line of depth d stands, and those round it, are these
+abbrev pub Turns : ℕ → List Frame → Frame → List Frame → Type 0
+Turns d fs j p = (f : Frame) (gs : List Frame) → still_open d fs ≡ f ∷ gs → (j ≡ f) × (p ≡ gs)
 
--- what `enter` does to them
-abbrev pub Enters : Outline → Frame → List Frame → Frame → List Frame → Type 0
-Enters l i o j q =
-    (es : List Sort) → i ≡ frame_of i.depth i.row es
-    → (j ≡ frame_of (Some l.depth) (row_under i.row l.sort) []) × (q ≡ frame_of i.depth i.row (l.sort ∷ es) ∷ o)
+-- what `enter` does to them, and to the last line
+abbrev pub Enters : Outline → Frame → List Frame → Frame → List Frame → Option Outline → Type 0
+Enters l i o j q last =
+    (es : List Sort) → i ≡ frame_of i.depth i.row es → (j ≡ frame_of i.depth i.row (l.sort ∷ es)) × (q ≡ o) × (last ≡ Some l)
 
 framed : (i : Frame) (p : Option ℕ) (r : Row) (es : List Sort) → i ≡ frame_of p r es → i ≡ frame_of i.depth i.row es
 framed i p r es e = rw e refl
 
-under_framed : (i j : Frame) (l : Outline) (p : Option ℕ) (r : Row) (es : List Sort) → i ≡ frame_of p r es
-    → j ≡ frame_of (Some l.depth) (row_under i.row l.sort) [] → j ≡ frame_of (Some l.depth) (row_under r l.sort) []
-under_framed i j l p r es e h = h ∙ ap (λ (f : Frame). frame_of (Some l.depth) (row_under f.row l.sort) []) e
-
-round_framed : (i : Frame) (o q : List Frame) (l : Outline) (p : Option ℕ) (r : Row) (es : List Sort) → i ≡ frame_of p r es
-    → q ≡ frame_of i.depth i.row (l.sort ∷ es) ∷ o → q ≡ frame_of p r (l.sort ∷ es) ∷ o
-round_framed i o q l p r es e h = h ∙ ap (λ (f : Frame). frame_of f.depth f.row (l.sort ∷ es) ∷ o) e
-
 -- one line more
-pub place_more : (before rest after lines : List Outline) (l : Outline) (i j k : Frame) (o p q : List Frame) (found more : List Place)
-    → i ∷ o ≡ open_parents before → Closes l.depth i o j p → Enters l j p k q
+pub place_more : (before rest after lines : List Outline) (l : Outline) (fs : List Frame) (j k : Frame) (p q : List Frame) (last : Option Outline) (found more : List Place)
+    → fs ≡ open_parents before → Turns l.depth fs j p → Enters l j p k q last
     → found ≡ places before → more ≡ record { line = l; frame = j } ∷ found
     → rest ≡ l ∷ after → turned rest before ≡ turned lines []
-    → (x : List Outline) × (k ∷ q ≡ open_parents x) × (more ≡ places x) × (turned after x ≡ turned lines [])
-place_more before rest after lines l i j k o p q found more is closing entering here put split whole =
-    let there = closing (frame_at before l.depth) (outer (still_open l.depth (open_parents before))) (ap (still_open l.depth) is ∙ open_at before l.depth) in
+    → (x : List Outline) × (opened_by last k q ≡ open_parents x) × (more ≡ places x) × (turned after x ≡ turned lines [])
+place_more before rest after lines l fs j k p q last found more is turning entering here put split whole =
+    let there = turning (frame_at before l.depth) (outer (still_open l.depth (open_parents before))) (ap (still_open l.depth) is ∙ open_at before l.depth) in
     let inner = entering (elders before l.depth) (framed j _ _ _ there.0) in
-    let round : q ≡ frame_of (parent_depth before l.depth) (row_at before l.depth) (l.sort ∷ elders before l.depth) ∷ outer (still_open l.depth (open_parents before))
-    = round_framed j p q l _ _ _ there.0 inner.1 ∙ ap (λ (fs : List Frame). frame_of (parent_depth before l.depth) (row_at before l.depth) (l.sort ∷ elders before l.depth) ∷ fs) there.1 in
-    let kid : k ≡ frame_of (Some l.depth) (row_under (row_at before l.depth) l.sort) [] = under_framed j k l _ _ _ there.0 inner.0 in
+    let parent : k ≡ frame_of (parent_depth before l.depth) (row_at before l.depth) (l.sort ∷ elders before l.depth)
+    = inner.0 ∙ ap (λ (f : Frame). frame_of f.depth f.row (l.sort ∷ elders before l.depth)) there.0 in
+    let round : q ≡ outer (still_open l.depth (open_parents before)) = inner.1 ∙ there.1 in
     let placed : more ≡ place_at before l ∷ places before
     = put ∙ ap (λ (f : Frame). (record { line = l; frame = f }) ∷ found) there.0 ∙ ap (λ (ps : List Place). place_at before l ∷ ps) here in
-    (l ∷ before, rw kid (rw round refl), placed, ap (λ (ls : List Outline). turned ls before) (sym split) ∙ whole)
+    (l ∷ before, rw inner.2 (rw parent (rw round refl)), placed, ap (λ (ls : List Outline). turned ls before) (sym split) ∙ whole)
 
 -- the places left report the lines left
 pub places_first : (before : List Outline) (p : Place) (ps : List Place) → places before ≡ p ∷ ps

@@ -3,7 +3,6 @@ ghost use Rattle.std.specs.Prelude.{◌≡◌, ◌++◌, IfOk, OnOk};
 ghost use Rattle.occ_tree.specs.Faults.{line_faults as spec_line_faults, shape_faults as spec_shape_faults};
 
 use super::marks::wrong_lines;
-use super::outline::find_outlines;
 use occ_base::{Code, Diag, Items, add_error_if};
 use occ_project::ExpandedLine;
 use std::alloc::{AllocError, Global};
@@ -26,8 +25,7 @@ fn add_line_faults(
 pub fn shape_faults(alloc: Global, lines: &[ExpandedLine]) -> Result<Items<Diag>, AllocError>
     ensures { IfOk result (λ found. found ≡ spec_shape_faults lines.now) }
 {
-    let outlines = find_outlines(alloc, lines)?;
-    let mut marks = wrong_lines(alloc, outlines.as_slice())?;
+    let mut marks = wrong_lines(alloc, lines)?;
     let mut found = Items::new(alloc);
     let mut rest = lines;
     while let Some((line, after)) = rest.split_first() {

@@ -1,17 +1,15 @@
 //! What the shape of a unit knows of a line: its depth and what its form lets be under it.
 ghost use Rattle.std.specs.List.{list_any};
-ghost use Rattle.std.specs.Prelude.{◌≡◌, IfOk};
-ghost use Rattle.occ_tree.specs.Sorts.{action_sort, body_sort, construct_sort, expression_sort, expressions_sort, form_sort, guarded_sort, head_sort, is_element_part as spec_is_element_part, is_name as spec_is_name, is_type_part as spec_is_type_part, operand_sort, outline, outlines, part_sort, parts_sort, plain_sort, replicated_sort, specification_sort, specified_sort, tagged_sort};
+ghost use Rattle.std.specs.Prelude.{◌≡◌};
+ghost use Rattle.occ_tree.specs.Sorts.{action_sort, body_sort, construct_sort, expression_sort, expressions_sort, form_sort, guarded_sort, head_sort, is_element_part as spec_is_element_part, is_name as spec_is_name, is_type_part as spec_is_type_part, operand_sort, outline, part_sort, parts_sort, plain_sort, replicated_sort, specification_sort, specified_sort, tagged_sort};
 
 use super::sort::Sort;
-use occ_base::Items;
 use occ_forms::{
     Action, Construct, ConstructKind, Detail, Form, Guarded, Head, PartForm, Specification,
     Specified,
 };
 use occ_forms_expressions::{Element, Expr, Operand};
 use occ_project::{ExpandedBody, ExpandedLine};
-use std::alloc::{AllocError, Global};
 
 /// What the shape of a unit knows of a line.
 #[derive(Clone, Copy)]
@@ -266,15 +264,4 @@ impl Outline {
             sort: sort_of_body(&line.body),
         }
     }
-}
-
-/// The outline of each line.
-pub fn find_outlines(alloc: Global, lines: &[ExpandedLine]) -> Result<Items<Outline>, AllocError>
-    ensures { IfOk result (λ found. found ≡ outlines lines.now) }
-{
-    let mut found = Items::from_vec(Vec::with_capacity(alloc, lines.len())?);
-    for line in lines {
-        found.push(Outline::of(line))?;
-    }
-    Ok(found)
 }

@@ -1,8 +1,9 @@
 //! The walk down the lines: under which parent each is, and after which siblings. The open parents are on a stack.
 ghost use Rattle.std.specs.Prelude.{◌≡◌, [], ◌∷◌, List, None, Some, IfOk, OnOk};
 ghost use Rattle.occ_tree.specs.declared.outline.Outline.{Outline};
-ghost use Rattle.occ_tree.specs.inside.Frames.{frame_of, open_parents, places, still_open, turned};
+ghost use Rattle.occ_tree.specs.inside.Frames.{frame_of, opened, places, still_open, turned};
 ghost use Rattle.occ_tree.specs.Nesting.{can_hold as spec_can_hold, is_right_under as spec_is_right_under};
+ghost use Rattle.occ_tree.specs.Sorts.{outlines};
 ghost use Rattle.occ_tree.specs.declared.place.Frame.{Frame};
 ghost use Rattle.occ_tree.specs.declared.sort.Sort.{Sort};
 ghost use Rattle.occ_tree.specs.declared.row.Row.TheVariants as row;
@@ -12,6 +13,7 @@ use super::outline::Outline;
 use super::row::{Row, row_under};
 use super::siblings::Elders;
 use super::stack::Stack;
+use occ_project::ExpandedLine;
 use std::alloc::{AllocError, Global};
 
 /// A parent, which the next line may stand under.
@@ -66,15 +68,18 @@ impl Frame {
     }
 }
 
-/// The parents that are open after a line.
+/// The parents that are open after a line. The line itself becomes one as the next one stands under it.
 #[derive(Drop)]
 pub struct Open {
+    /// The line, if there is one.
+    pub last: Option<Outline>,
+    /// The parent of the line.
     pub innermost: Frame,
     pub outer: Stack<Frame>,
 }
 
 impl Open {
-    /// Leaves the innermost parents that cannot have a line of this depth under them.
+    /// Leaves the innermost parents that cannot have a line of this depth under them, of those round the last line.
     fn close(&mut self, depth: u64)
         ensures { (f : Frame) (fs : List Frame) → still_open depth (self.old.innermost ∷ self.old.outer) ≡ f ∷ fs → (self.new.innermost ≡ f) × (self.new.outer ≡ fs) }
     {
@@ -86,39 +91,56 @@ impl Open {
         }
     }
 
-    /// Adds the line under the innermost parent, and makes it the innermost one.
-    fn enter(&mut self, line: Outline) -> Result<(), AllocError>
-        ensures { (es : List Sort) → self.old.innermost ≡ frame_of self.old.innermost.depth self.old.innermost.row es → OnOk result ((self.new.innermost ≡ frame_of (Some line.depth) (spec_row_under self.old.innermost.row line.sort) []) × (self.new.outer ≡ frame_of self.old.innermost.depth self.old.innermost.row (line.sort ∷ es) ∷ self.old.outer)) }
+    /// Makes the last line the innermost parent.
+    fn deepen(&mut self, last: Outline) -> Result<(), AllocError>
+        ensures { OnOk result ((self.new.innermost ≡ frame_of (Some last.depth) (spec_row_under self.old.innermost.row last.sort) []) × (self.new.outer ≡ self.old.innermost ∷ self.old.outer)) }
     {
-        let row = self.innermost.row;
-        let parent = Frame {
-            depth: self.innermost.depth,
-            row,
-            elders: self.innermost.elders.and(row, line.sort),
-        };
-        self.outer.push(parent)?;
-        self.innermost = Frame::new(Some(line.depth), row_under(row, line.sort));
+        self.outer.push(self.innermost)?;
+        self.innermost = Frame::new(Some(last.depth), row_under(self.innermost.row, last.sort));
         Ok(())
+    }
+
+    /// Makes that parent the innermost one which a line of this depth stands under.
+    fn turn_to(&mut self, depth: u64) -> Result<(), AllocError>
+        ensures { (f : Frame) (fs : List Frame) → still_open depth (opened self.old) ≡ f ∷ fs → OnOk result ((self.new.innermost ≡ f) × (self.new.outer ≡ fs)) }
+    {
+        if let Some(last) = self.last {
+            if last.depth < depth {
+                return self.deepen(last);
+            }
+        }
+        self.close(depth);
+        Ok(())
+    }
+
+    /// Adds the line under the innermost parent.
+    fn enter(&mut self, line: Outline)
+        ensures { (es : List Sort) → self.old.innermost ≡ frame_of self.old.innermost.depth self.old.innermost.row es → (self.new.innermost ≡ frame_of self.old.innermost.depth self.old.innermost.row (line.sort ∷ es)) × (self.new.outer ≡ self.old.outer) × (self.new.last ≡ Some line) }
+    {
+        self.innermost.elders = self.innermost.elders.and(self.innermost.row, line.sort);
+        self.last = Some(line);
     }
 }
 
 /// The place of each line of a unit, the last on top.
-pub fn find_places(alloc: Global, lines: &[Outline]) -> Result<Stack<Place>, AllocError>
-    ensures { IfOk result (λ found. found ≡ places (turned lines.now [])) }
+pub fn find_places(alloc: Global, lines: &[ExpandedLine]) -> Result<Stack<Place>, AllocError>
+    ensures { IfOk result (λ found. found ≡ places (turned (outlines lines.now) [])) }
 {
     let mut found = Stack::with_room(alloc, lines.len())?;
     let mut open = Open {
+        last: None,
         innermost: Frame::new(None, Row::File),
         outer: Stack::new(alloc),
     };
     let mut rest = lines;
-    while let Some((line, after)) = rest.split_first() {
-        open.close(line.depth);
+    while let Some((first, after)) = rest.split_first() {
+        let line = Outline::of(first);
+        open.turn_to(line.depth)?;
         found.push(Place {
-            line: *line,
+            line,
             frame: open.innermost,
         })?;
-        open.enter(*line)?;
+        open.enter(line);
         rest = after;
     }
     Ok(found)

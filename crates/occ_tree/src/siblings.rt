@@ -1,11 +1,10 @@
-//! What siblings ask of each other and of their parent, accumulated as five answers, so that a long list costs one pass.
+//! What siblings ask of each other and of their parent, accumulated as a few answers, so that a long list costs one pass.
 ghost use Rattle.std.specs.Prelude.{◌≡◌, ◌∷◌, [], List};
-ghost use Rattle.std.specs.List.{list_any};
 ghost use Rattle.occ_tree.specs.declared.row.Row.{Row};
 ghost use Rattle.occ_tree.specs.declared.sort.Sort.{Sort};
+ghost use Rattle.occ_tree.specs.inside.Children.{begins_before, children_lack, no_children, one_child_more};
 ghost use Rattle.occ_tree.specs.inside.Elders.{elders_of};
-ghost use Rattle.occ_tree.specs.Siblings.{begins_specification as spec_begins_specification, ends_specified as spec_ends_specified, first_is, is_disordered as spec_is_disordered, is_loose as spec_is_loose, is_misplaced as spec_is_misplaced, is_one_too_many as spec_is_one_too_many, lacks as spec_lacks};
-ghost use Rattle.occ_tree.specs.Table.{is_close as spec_is_close, is_main as main, is_process as process, is_result as spec_is_result};
+ghost use Rattle.occ_tree.specs.Siblings.{is_disordered as spec_is_disordered, is_loose as spec_is_loose, is_misplaced as spec_is_misplaced, is_one_too_many as spec_is_one_too_many};
 
 use super::row::{
     Row, is_close, is_head, is_main, is_process, is_result, is_single, is_value, lets_line,
@@ -91,64 +90,58 @@ pub fn is_misplaced(row: Row, elders: Elders, sort: Sort, before_close: bool) ->
         || is_disordered(row, elders, sort)
 }
 
-/// Whether a close comes first.
-fn starts_with_close(sorts: &[Sort]) -> bool
-    ensures { result ≡ first_is spec_is_close sorts.now }
-{
-    match sorts.first() {
-        Some(sort) => is_close(*sort),
-        None => false,
-    }
-}
-
 /// Whether the line is a specification, or a head with its close right after it.
-fn begins_specification(row: Row, sort: Sort, after: &[Sort]) -> bool
-    ensures { result ≡ spec_begins_specification row sort after.now }
+fn begins_specification(row: Row, sort: Sort, before_close: bool) -> bool
+    ensures { result ≡ begins_before row sort before_close }
 {
-    lets_line(row, sort) || takes_specifications(row) && is_head(sort) && starts_with_close(after)
+    lets_line(row, sort) || takes_specifications(row) && is_head(sort) && before_close
 }
 
-/// Whether one of the specifications has no main line of the row after it.
-fn ends_specified(row: Row, sorts: &[Sort]) -> bool
-    ensures { result ≡ spec_ends_specified row sorts.now }
-{
-    let mut specified = false;
-    let mut rest = sorts;
-    while let Some((sort, after)) = rest.split_first() {
-        if is_main(row, *sort) {
-            specified = false;
-        } else if begins_specification(row, *sort, after) {
-            specified = true;
+/// What is known of the first lines under a parent.
+#[derive(Clone, Copy)]
+pub struct Children {
+    /// One of them is a main line.
+    pub main: bool,
+    /// One of them is a process.
+    pub process: bool,
+    /// One of them is a `RESULT`.
+    pub result: bool,
+    /// A specification among them has no main line after it.
+    pub specified: bool,
+}
+
+impl Children {
+    /// None.
+    pub fn none() -> Children
+        ensures { result ≡ no_children }
+    {
+        Children {
+            main: false,
+            process: false,
+            result: false,
+            specified: false,
         }
-        rest = after;
     }
-    specified
-}
 
-/// Whether one of them is a main line of the row.
-fn has_main(row: Row, sorts: &[Sort]) -> bool
-    ensures { result ≡ list_any (main row) sorts.now }
-{
-    sorts.iter().any(|sort| is_main(row, *sort))
-}
+    /// Those, and then a line of this sort, which stands right before a close or does not.
+    pub fn and(self, row: Row, sort: Sort, before_close: bool) -> Children
+        ensures { result ≡ one_child_more row self sort before_close }
+    {
+        let main = is_main(row, sort);
+        Children {
+            main: self.main || main,
+            process: self.process || is_process(sort),
+            result: self.result || is_result(sort),
+            specified: !main && (self.specified || begins_specification(row, sort, before_close)),
+        }
+    }
 
-fn has_process(sorts: &[Sort]) -> bool
-    ensures { result ≡ list_any process sorts.now }
-{
-    sorts.iter().any(|sort| is_process(*sort))
-}
-
-fn has_result(sorts: &[Sort]) -> bool
-    ensures { result ≡ list_any spec_is_result sorts.now }
-{
-    sorts.iter().any(|sort| is_result(*sort))
-}
-
-/// Whether a parent of this row lacks something, these being the lines under it.
-pub fn lacks(row: Row, sorts: &[Sort]) -> bool
-    ensures { result ≡ spec_lacks row sorts.now }
-{
-    needs_main(row) && !has_main(row, sorts)
-        || is_value(row) && !(has_process(sorts) && has_result(sorts))
-        || ends_specified(row, sorts)
+    /// Whether a parent of this row lacks something, these being all lines under it.
+    pub fn lacks(self, row: Row) -> bool
+        ensures { result ≡ children_lack row self }
+    {
+        needs_main(row) && !self.main
+            || is_value(row) && !(self.process && self.result)
+            || self.specified
+    }
 }

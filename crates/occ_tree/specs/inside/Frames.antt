@@ -2,6 +2,7 @@
 use Rattle.std.specs.Prelude.{ℕ, List, [], ◌∷◌, Option, Some, None, if◌then◌else◌}
 use Rattle.occ_tree.specs.declared.outline.Outline.{Outline}
 use Rattle.occ_tree.specs.declared.place.Frame.{Frame}
+use Rattle.occ_tree.specs.declared.place.Open.{Open}
 use Rattle.occ_tree.specs.declared.place.Place.{Place}
 use Rattle.occ_tree.specs.declared.row.Row.{Row}
 use Rattle.occ_tree.specs.declared.row.Row.TheVariants as row
@@ -46,3 +47,12 @@ open_parents [] = frame_of None row.File [] ∷ []
 open_parents (b ∷ before) =
     frame_of (Some b.depth) (row_under (row_at before b.depth) b.sort) []
     ∷ (frame_of (parent_depth before b.depth) (row_at before b.depth) (b.sort ∷ elders before b.depth) ∷ outer (still_open b.depth (open_parents before)))
+
+-- where the last line is a parent as well, as the innermost one
+abbrev pub opened_by : Option Outline → Frame → List Frame → List Frame
+opened_by None f fs = f ∷ fs
+opened_by (Some l) f fs = frame_of (Some l.depth) (row_under f.row l.sort) [] ∷ (f ∷ fs)
+
+-- the parents that are open there, the innermost first
+abbrev pub opened : Open → List Frame
+opened o = opened_by o.last o.innermost o.outer

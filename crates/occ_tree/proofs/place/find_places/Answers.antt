@@ -1,8 +1,11 @@
+use Rattle.std.proofs.Common.{ap}
+use Rattle.occ_tree.specs.Sorts.{outlines}
 use Rattle.occ_tree.proofs.Walk.{place_more}
 use Rattle.occ_tree.proofs.place.find_places.Goals as goal
 
-pub loop-line-preserved : goal.loop-line-preserved
-loop-line-preserved c =
-    let i = c.loop-line.invariant in
-    place_more i.0 _ _ c.args.lines.now c.in-Some.line.now _ _ _ _ _ _ _ _ i.1 c.close.ensures
-    (λ es h. rw c.in_ok-enter.was at (c.enter.ensures es h)) i.2 c.in_ok-push.ensures c.in-Some.ensures.cases.0 i.3
+pub loop-first-preserved : goal.loop-first-preserved
+loop-first-preserved c =
+    let i = c.loop-first.invariant in
+    place_more i.0 (outlines c.loop-first.rest.now) (outlines c.in-Some.after.now) (outlines c.args.lines.now) c.of-line.result _ _ _ _ _ _ _ _ i.1
+    (λ f fs h. rw c.in_ok-turn_to.was at (c.turn_to.ensures f fs h)) c.enter.ensures i.2 c.in_ok-push.ensures
+    (rw c.of-line.ensures (ap outlines c.in-Some.ensures.cases.0)) i.3
