@@ -9,16 +9,16 @@ ghost use Rattle.occ_typing_lines.specs.Placed.{placed};
 ghost use Rattle.occ_typing.specs.TypedLines.{is_process as spec_is_process, is_process_body as spec_is_process_body, is_process_form as spec_is_process_form, line_with, typed_lines};
 ghost use Rattle.occ_typing_lines.specs.Judging.{judged as spec_judged};
 ghost use Rattle.occ_typing.specs.Units.{after_line as spec_after_line, line_faults, lines as spec_lines};
-ghost use Rattle.occ_typing.specs.inside.Opening.{opened_at, with_children};
+ghost use Rattle.occ_typing.specs.inside.Opening.{with_children};
 ghost use Rattle.std.specs.Prelude.{◌≡◌, ◌∷◌, ◌++◌, [], IfOk, OnErr, OnOk, length};
 
 use super::tree::TypedLine;
-use occ_base::{Boxed, Diag, Items};
+use occ_base::{Diag, Fault, Items};
 use occ_forms::Form;
-use occ_project::{ExpandedBody, Location};
+use occ_project::ExpandedBody;
 use occ_scope::{Scope, ScopeEntry};
 use occ_tree::Node;
-use occ_typing_lines::{Imports, Line, Parent, Role, TypedForm, judged, place};
+use occ_typing_lines::{Imports, Line, Parent, Role, judged, place};
 use std::alloc::{AllocError, Global};
 
 /// What stands in scope after a line, where so many specifications stood in scope round its item.
@@ -76,110 +76,6 @@ fn is_process(parent: &Parent, body: &ExpandedBody) -> bool
     }
 }
 
-/// A line before those under it.
-#[derive(Drop)]
-struct Opened {
-    place: Location,
-    is_process: bool,
-    form: Boxed<TypedForm>,
-    enters: Items<ScopeEntry>,
-    next: Parent,
-    adds: Option<Items<ScopeEntry>>,
-}
-
-/// What is known of a line before those under it: what it says of them, and with what faults.
-#[derive(Drop)]
-struct Begun {
-    parent: Parent,
-    opened: Opened,
-    own: Items<Diag>,
-}
-
-/// A line before those under it; what it says of them, and what it reports itself.
-fn open(
-    alloc: Global,
-    imports: &Imports<'_>,
-    node: &Node,
-    parent: Parent,
-    scope: &mut Scope,
-    found: &mut Items<Diag>,
-) -> Result<Begun, AllocError>
-    ensures parent { IfOk result (λ r. r.parent ≡ (spec_judged imports.now scope.old (out-Node node.now).line.body (forest_of (out-Node node.now).children) parent).line.parent) }
-    ensures line { IfOk result (λ r. r.opened ≡ opened_at parent (out-Node node.now).line (spec_judged imports.now scope.old (out-Node node.now).line.body (forest_of (out-Node node.now).children) parent)) }
-    ensures own { IfOk result (λ r. r.own ≡ placed (out-Node node.now).line (spec_judged imports.now scope.old (out-Node node.now).line.body (forest_of (out-Node node.now).children) parent).faults) }
-    ensures scope { OnOk result (scope.new ≡ scope.old) }
-    ensures found { OnOk result (found.new ≡ found.old ++ (spec_judged imports.now scope.old (out-Node node.now).line.body (forest_of (out-Node node.now).children) parent).beneath) }
-{
-    let is_process = is_process(&parent, &node.line.body);
-    let mut faults = Items::new(alloc);
-    let line = judged(
-        alloc,
-        imports,
-        &node.line.body,
-        node.children.as_slice(),
-        scope,
-        parent,
-        found,
-        &mut faults,
-    )?;
-    let mut own = Items::new(alloc);
-    place(alloc, &node.line, faults.as_slice(), &mut own)?;
-    let Line {
-        parent,
-        enters,
-        next,
-        adds,
-        form,
-    } = line;
-    let opened = Opened {
-        place: node.line.location(),
-        is_process,
-        form,
-        enters,
-        next,
-        adds,
-    };
-    Ok(Begun {
-        parent,
-        opened,
-        own,
-    })
-}
-
-/// The line with those under it, after others, and what its parent says of the lines after it; so many specifications
-/// stood in scope round its item.
-fn close(
-    alloc: Global,
-    opened: Opened,
-    under: Items<TypedLine>,
-    outer: usize,
-    scope: &mut Scope,
-    typed: &mut Items<TypedLine>,
-) -> Result<Parent, AllocError>
-    ensures next { IfOk result (λ next. next ≡ opened.next) }
-    ensures scope { OnOk result (scope.new ≡ spec_after_line (back_to outer scope.old) scope.old opened.adds) }
-    ensures typed { OnOk result (typed.new ≡ typed.old ++ with_children opened under ∷ []) }
-{
-    go_after(alloc, &opened.adds, outer, scope)?;
-    let Opened {
-        place,
-        is_process,
-        form,
-        enters,
-        next,
-        adds,
-    } = opened;
-    typed.push(TypedLine {
-        place,
-        is_process,
-        form,
-        enters,
-        adds,
-        under,
-    })?;
-    Ok(next)
-}
-
 /// The lines under another, by which these names come into scope: their typed lines and what they report.
 #[cycle(lines)]
 fn inner(
@@ -205,6 +101,7 @@ fn inner(
 /// A line with those under it, after others, and what its parent says of the lines after it; so many specifications stood
 /// in scope round its item.
 #[cycle(lines)]
+#[inline(always)]
 fn line(
     alloc: Global,
     imports: &Imports<'_>,
@@ -220,12 +117,25 @@ fn line(
     ensures typed { OnOk result (typed.new ≡ typed.old ++ line_with imports.now parent scope.old (out-Node node.now).line (forest_of (out-Node node.now).children) ∷ []) }
     ensures found { OnOk result (found.new ≡ found.old ++ line_faults imports.now parent scope.old (out-Node node.now).line (forest_of (out-Node node.now).children)) }
 {
-    let begun = open(alloc, imports, node, parent, scope, found)?;
+    let is_process = is_process(&parent, &node.line.body);
+    let mut faults = Items::new(alloc);
+    let begun = judged(
+        alloc,
+        imports,
+        &node.line.body,
+        node.children.as_slice(),
+        scope,
+        parent,
+        found,
+        &mut faults,
+    )?;
     go_under(
         alloc,
         imports,
-        node.children.as_slice(),
+        node,
+        is_process,
         begun,
+        faults.as_slice(),
         outer,
         scope,
         typed,
@@ -233,28 +143,35 @@ fn line(
     )
 }
 
-/// A line that is begun, with these nodes under it, after others, and what its parent says of the lines after it.
+/// A line that is judged and has these faults, with those under it, after others, and what its parent says of the lines
+/// after it.
 #[cycle(lines)]
+#[inline(always)]
 fn go_under(
     alloc: Global,
     imports: &Imports<'_>,
-    nodes: &[Node],
-    begun: Begun,
+    node: &Node,
+    is_process: bool,
+    begun: Line,
+    faults: &[Fault],
     outer: usize,
     scope: &mut Scope,
     typed: &mut Items<TypedLine>,
     found: &mut Items<Diag>,
 ) -> Result<Parent, AllocError>
-    ensures next { IfOk result (λ next. next ≡ begun.opened.next) }
-    ensures scope { OnOk result (scope.new ≡ spec_after_line (back_to outer scope.old) scope.old begun.opened.adds) }
-    ensures typed { OnOk result (typed.new ≡ typed.old ++ with_children begun.opened (typed_lines imports.now begun.parent (with_all scope.old begun.opened.enters) (with_all scope.old begun.opened.enters) (forest_of nodes.now)) ∷ []) }
-    ensures found { OnOk result (found.new ≡ found.old ++ (spec_lines imports.now begun.parent (with_all scope.old begun.opened.enters) (with_all scope.old begun.opened.enters) (forest_of nodes.now) ++ begun.own)) }
+    ensures next { IfOk result (λ next. next ≡ begun.next) }
+    ensures scope { OnOk result (scope.new ≡ spec_after_line (back_to outer scope.old) scope.old begun.adds) }
+    ensures typed { OnOk result (typed.new ≡ typed.old ++ with_children (out-Node node.now).line is_process begun (typed_lines imports.now begun.parent (with_all scope.old begun.enters) (with_all scope.old begun.enters) (forest_of (out-Node node.now).children)) ∷ []) }
+    ensures found { OnOk result (found.new ≡ found.old ++ (spec_lines imports.now begun.parent (with_all scope.old begun.enters) (with_all scope.old begun.enters) (forest_of (out-Node node.now).children) ++ placed (out-Node node.now).line faults.now)) }
 {
-    let Begun {
+    let Line {
         parent,
-        opened,
-        own,
+        enters,
+        next,
+        adds,
+        form,
     } = begun;
+    let nodes = node.children.as_slice();
     let under = if nodes.is_empty() {
         Items::new(alloc)
     } else {
@@ -263,13 +180,24 @@ fn go_under(
             imports,
             nodes,
             parent,
-            opened.enters.as_slice(),
+            enters.as_slice(),
             scope,
             found,
         )?
     };
-    found.append(own)?;
-    close(alloc, opened, under, outer, scope, typed)
+    if !faults.is_empty() {
+        place(alloc, &node.line, faults, found)?;
+    }
+    go_after(alloc, &adds, outer, scope)?;
+    typed.push(TypedLine {
+        place: node.line.location(),
+        is_process,
+        form,
+        enters,
+        adds,
+        under,
+    })?;
+    Ok(next)
 }
 
 /// The typed lines of nodes, of which their parent says this, with what they report, after those of others.

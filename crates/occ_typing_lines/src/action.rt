@@ -5,7 +5,7 @@ ghost use Rattle.std.specs.Prelude.{◌≡◌, ◌++◌, IfOk, OnOk};
 
 use super::form::{assignment_form, input_form, output_form};
 use super::tree::TypedForm;
-use occ_base::{Fault, Items};
+use occ_base::{Boxed, Fault, Items};
 use occ_forms::{Action, Input, OutputItem};
 use occ_forms_expressions::{Element, Expr};
 use occ_scope::Scope;
@@ -18,13 +18,13 @@ pub fn action(
     action: &Action,
     scope: &Scope,
     faults: &mut Items<Fault>,
-) -> Result<TypedForm, AllocError>
+) -> Result<Boxed<TypedForm>, AllocError>
     ensures form { IfOk result (λ form. form ≡ spec_action_form scope.now action.now) }
     ensures faults { OnOk result (faults.new ≡ faults.old ++ action_faults scope.now action.now) }
 {
     match action {
-        Action::Skip => Ok(TypedForm::Skip),
-        Action::Stop => Ok(TypedForm::Stop),
+        Action::Skip => Boxed::new(alloc, TypedForm::Skip),
+        Action::Stop => Boxed::new(alloc, TypedForm::Stop),
         Action::Assignment(target, targets, value, values) => assigning(
             alloc,
             target,
@@ -50,12 +50,12 @@ fn assigning(
     values: &[Expr],
     scope: &Scope,
     faults: &mut Items<Fault>,
-) -> Result<TypedForm, AllocError>
+) -> Result<Boxed<TypedForm>, AllocError>
     ensures form { IfOk result (λ form. form ≡ spec_action_form scope.now (a.Assignment target.now targets.now value.now values.now)) }
     ensures faults { OnOk result (faults.new ≡ faults.old ++ action_faults scope.now (a.Assignment target.now targets.now value.now values.now)) }
 {
     let tree = assignment(alloc, target, targets, value, values, scope, faults)?;
-    Ok(assignment_form(tree))
+    assignment_form(alloc, tree)
 }
 
 /// What an output reports, and what it is.
@@ -66,12 +66,12 @@ fn sending(
     more: &[OutputItem],
     scope: &Scope,
     faults: &mut Items<Fault>,
-) -> Result<TypedForm, AllocError>
+) -> Result<Boxed<TypedForm>, AllocError>
     ensures form { IfOk result (λ form. form ≡ spec_action_form scope.now (a.Output channel.now first.now more.now)) }
     ensures faults { OnOk result (faults.new ≡ faults.old ++ action_faults scope.now (a.Output channel.now first.now more.now)) }
 {
     let tree = output(alloc, channel, first, more, scope, faults)?;
-    Ok(output_form(tree))
+    output_form(alloc, tree)
 }
 
 /// What an input reports, and what it is.
@@ -80,10 +80,10 @@ fn receiving(
     following: &Input,
     scope: &Scope,
     faults: &mut Items<Fault>,
-) -> Result<TypedForm, AllocError>
+) -> Result<Boxed<TypedForm>, AllocError>
     ensures form { IfOk result (λ form. form ≡ spec_action_form scope.now (a.Input following.now)) }
     ensures faults { OnOk result (faults.new ≡ faults.old ++ action_faults scope.now (a.Input following.now)) }
 {
     let tree = input(alloc, following, scope, faults)?;
-    Ok(input_form(tree))
+    input_form(alloc, tree)
 }

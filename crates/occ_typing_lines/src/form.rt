@@ -4,24 +4,28 @@ ghost use Rattle.occ_typing_lines.specs.Constructs.{replicated};
 ghost use Rattle.occ_typing_lines.specs.Lines.{made};
 ghost use Rattle.occ_typing_lines.specs.Parts.{instance_form as spec_instance_form, varied};
 ghost use Rattle.occ_typing_lines.specs.declared.tree.TypedForm.TheVariants as t;
-ghost use Rattle.std.specs.Prelude.{◌≡◌};
+ghost use Rattle.std.specs.Prelude.{◌≡◌, IfOk};
 
 use super::options::TypedOptions;
 use super::tree::{BlockKind, TypedForm};
-use occ_base::{Items, Shared};
+use occ_base::{Boxed, Items, Shared};
 use occ_typing_rules::{TypedElement, TypedExpr};
 use occ_typing_statements::{
     TypedAssignment, TypedInput, TypedInstance, TypedReplicator, TypedSending, TypedVariant,
 };
+use std::alloc::{AllocError, Global};
 
 /// An assignment, if its trees are there.
-pub fn assignment_form(tree: Option<TypedAssignment>) -> TypedForm
-    ensures { result ≡ made assigning tree }
+pub fn assignment_form(
+    alloc: Global,
+    tree: Option<TypedAssignment>,
+) -> Result<Boxed<TypedForm>, AllocError>
+    ensures { IfOk result (λ form. form ≡ made assigning tree) }
 {
     let Some(TypedAssignment { targets, values }) = tree else {
-        return TypedForm::Unknown;
+        return Boxed::new(alloc, TypedForm::Unknown);
     };
-    TypedForm::Assignment(targets, values)
+    Boxed::new(alloc, TypedForm::Assignment(targets, values))
 }
 
 /// An instance of a PROC, if its trees are there.
@@ -35,22 +39,25 @@ pub fn instance_form(tree: Option<TypedInstance>) -> TypedForm
 }
 
 /// An output, if its trees are there.
-pub fn output_form(tree: Option<TypedSending>) -> TypedForm
-    ensures { result ≡ made sending tree }
+pub fn output_form(
+    alloc: Global,
+    tree: Option<TypedSending>,
+) -> Result<Boxed<TypedForm>, AllocError>
+    ensures { IfOk result (λ form. form ≡ made sending tree) }
 {
     let Some(TypedSending { channel, outputs }) = tree else {
-        return TypedForm::Unknown;
+        return Boxed::new(alloc, TypedForm::Unknown);
     };
-    TypedForm::Output(channel, outputs)
+    Boxed::new(alloc, TypedForm::Output(channel, outputs))
 }
 
 /// An input, if its trees are there.
-pub fn input_form(tree: Option<TypedInput>) -> TypedForm
-    ensures { result ≡ made t.Input tree }
+pub fn input_form(alloc: Global, tree: Option<TypedInput>) -> Result<Boxed<TypedForm>, AllocError>
+    ensures { IfOk result (λ form. form ≡ made t.Input tree) }
 {
     match tree {
-        Some(tree) => TypedForm::Input(tree),
-        None => TypedForm::Unknown,
+        Some(tree) => Boxed::new(alloc, TypedForm::Input(tree)),
+        None => Boxed::new(alloc, TypedForm::Unknown),
     }
 }
 

@@ -10,7 +10,7 @@ use super::action::action;
 use super::construct::construct;
 use super::heading::heading;
 use super::imports::Imports;
-use super::line::{line_of_one, main, plain, with_role};
+use super::line::{line_of_one, main, main_line, plain, with_role};
 use super::parent::{Line, Parent, Role};
 use super::part::{expressions, part};
 use super::specifying::one_line;
@@ -67,7 +67,7 @@ fn form_line(
         Form::Close => line_of_one(alloc, Items::new(alloc), TypedForm::Close, parent),
         Form::Action(following) => {
             let form = action(alloc, following, scope, faults)?;
-            main(alloc, form, parent)
+            Ok(main_line(alloc, form, parent))
         }
         Form::Construct(following) => construct(alloc, following, scope, parent, faults),
         Form::Part(following) => part(alloc, following, scope, parent, faults),

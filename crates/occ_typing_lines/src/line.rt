@@ -33,6 +33,7 @@ pub fn body_of(role: Role) -> Parent
 }
 
 /// A main line, which says this of the lines under it.
+#[inline(always)]
 pub fn over(
     alloc: Global,
     under: Parent,
@@ -53,6 +54,7 @@ pub fn over(
 }
 
 /// A main line without names of its own, which says this of the lines under it.
+#[inline(always)]
 pub fn plain(
     alloc: Global,
     under: Parent,
@@ -65,13 +67,28 @@ pub fn plain(
 }
 
 /// A main line over processes, if over anything.
+#[inline(always)]
 pub fn main(alloc: Global, form: TypedForm, next: Parent) -> Result<Line, AllocError>
     ensures { IfOk result (λ line. line ≡ (spec_main [] form next).line) }
 {
     plain(alloc, processes_in(&next), form, next)
 }
 
+/// A main line of this form over processes, if over anything.
+pub fn main_line(alloc: Global, form: Boxed<TypedForm>, next: Parent) -> Line
+    ensures { result ≡ (spec_main [] form next).line }
+{
+    Line {
+        parent: processes_in(&next),
+        enters: Items::new(alloc),
+        next,
+        adds: None,
+        form,
+    }
+}
+
 /// A specification, which says this of the lines under it.
+#[inline(always)]
 pub fn specifying(
     alloc: Global,
     under: Parent,
@@ -93,6 +110,7 @@ pub fn specifying(
 }
 
 /// A specification of one line.
+#[inline(always)]
 pub fn line_of_one(
     alloc: Global,
     adds: Items<ScopeEntry>,
