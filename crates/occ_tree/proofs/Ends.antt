@@ -8,8 +8,8 @@ use Rattle.occ_tree.specs.declared.siblings.Children.{Children}
 use Rattle.occ_tree.specs.declared.sort.Sort.{Sort}
 use Rattle.occ_tree.specs.inside.Children.{begins_before, one_child_more}
 use Rattle.occ_tree.specs.Nesting.{after_deeper, first_deeper, sorts}
-use Rattle.occ_tree.specs.Siblings.{begins_specification, ends_specified, first_is, is_misplaced}
-use Rattle.occ_tree.specs.Table.{is_close, is_head, is_main, is_process, is_result, is_value, needs_main}
+use Rattle.occ_tree.specs.Siblings.{begins_specification, ends_specified, first_is, is_disordered, is_misplaced, is_one_too_many}
+use Rattle.occ_tree.specs.Table.{is_close, is_head, is_main, is_process, is_result, is_value, may_stand, needs_main}
 use Rattle.occ_tree.specs.Wrong.{close_is_next}
 use Rattle.occ_tree.proofs.Arranged.{begins_main}
 
@@ -74,13 +74,23 @@ next_close d (l ∷ ls) = elim (cases_Bool (ltb d l.depth)) [
   | inr other ↦ rw other refl
 ]
 
--- whether a close is next is asked of heads alone
-pub head_asked : (r : Row) (es : List Sort) (s : Sort) (close : Bool) → is_misplaced r es s (is_head s && close) ≡ is_misplaced r es s close
-head_asked r es s close = elim (cases_Bool (is_head s)) [
-  | inl head ↦ rw head refl
-  | inr other ↦ rw other refl
-]
+told_after : (m c h close x : Bool) → ((m || ((c || (h && not true)) || x)) || (h && not close)) ≡ (m || ((c || (h && not close)) || x))
+told_after true c h close x = refl
+told_after false true h close x = refl
+told_after false false false close true = refl
+told_after false false false close false = refl
+told_after false false true true true = refl
+told_after false false true true false = refl
+told_after false false true false true = refl
+told_after false false true false false = refl
 
+-- whether a close is next may be told after all others
+pub close_told : (r : Row) (es : List Sort) (s : Sort) (close : Bool)
+    → (is_misplaced r es s true || (is_head s && not close)) ≡ is_misplaced r es s close
+close_told r es s close =
+    told_after (not (may_stand r s)) (is_close s && not (first_is is_head es)) (is_head s) close (is_one_too_many r es s || is_disordered r es s)
+
+-- and is asked of heads alone
 head_begins : (r : Row) (s : Sort) (close : Bool) → begins_before r s (is_head s && close) ≡ begins_before r s close
 head_begins r s close = elim (cases_Bool (is_head s)) [
   | inl head ↦ rw head refl

@@ -7,7 +7,7 @@ use Rattle.occ_tree.specs.declared.place.Frame.{Frame}
 use Rattle.occ_tree.specs.declared.row.Row.{Row}
 use Rattle.occ_tree.specs.declared.sort.Sort.{Sort}
 use Rattle.occ_tree.specs.declared.place.Place.{Place}
-use Rattle.occ_tree.specs.inside.Frames.{frame_at, frame_of, open_parents, opened_by, outer, place_at, places, still_open, turned}
+use Rattle.occ_tree.specs.inside.Frames.{frame_at, frame_of, open_parents, opened_by, outer, place_at, placed_in, places, still_open, turned}
 use Rattle.occ_tree.specs.Nesting.{after_deeper, can_hold, elders, parent_depth, roots, row_at}
 use Rattle.occ_tree.specs.Wrong.{is_wrong, wrong, wrong_from}
 use Rattle.occ_tree.specs.Table.{row_under}
@@ -120,23 +120,29 @@ abbrev pub Enters : Outline → Frame → List Frame → Frame → List Frame �
 Enters l i o j q last =
     (es : List Sort) → i ≡ frame_of i.depth i.row es → (j ≡ frame_of i.depth i.row (l.sort ∷ es)) × (q ≡ o) × (last ≡ Some l)
 
+-- the place of a line under a parent is this one
+abbrev pub Places : Outline → Frame → Place → Type 0
+Places l j place = (es : List Sort) → j ≡ frame_of j.depth j.row es → place ≡ placed_in l j es
+
 framed : (i : Frame) (p : Option ℕ) (r : Row) (es : List Sort) → i ≡ frame_of p r es → i ≡ frame_of i.depth i.row es
 framed i p r es e = rw e refl
 
 -- one line more
-pub place_more : (before rest after lines : List Outline) (l : Outline) (fs : List Frame) (j k : Frame) (p q : List Frame) (last : Option Outline) (found more : List Place)
+pub place_more : (before rest after lines : List Outline) (l : Outline) (fs : List Frame) (j k : Frame) (p q : List Frame) (last : Option Outline) (place : Place) (found more : List Place)
     → fs ≡ open_parents before → Turns l.depth fs j p → Enters l j p k q last
-    → found ≡ places before → more ≡ record { line = l; frame = j } ∷ found
+    → Places l j place → found ≡ places before → more ≡ place ∷ found
     → rest ≡ l ∷ after → turned rest before ≡ turned lines []
     → (x : List Outline) × (opened_by last k q ≡ open_parents x) × (more ≡ places x) × (turned after x ≡ turned lines [])
-place_more before rest after lines l fs j k p q last found more is turning entering here put split whole =
+place_more before rest after lines l fs j k p q last place found more is turning entering placing here put split whole =
     let there = turning (frame_at before l.depth) (outer (still_open l.depth (open_parents before))) (ap (still_open l.depth) is ∙ open_at before l.depth) in
     let inner = entering (elders before l.depth) (framed j _ _ _ there.0) in
     let parent : k ≡ frame_of (parent_depth before l.depth) (row_at before l.depth) (l.sort ∷ elders before l.depth)
     = inner.0 ∙ ap (λ (f : Frame). frame_of f.depth f.row (l.sort ∷ elders before l.depth)) there.0 in
     let round : q ≡ outer (still_open l.depth (open_parents before)) = inner.1 ∙ there.1 in
+    let there_placed : place ≡ place_at before l
+    = placing (elders before l.depth) (framed j _ _ _ there.0) ∙ ap (λ (f : Frame). placed_in l f (elders before l.depth)) there.0 in
     let placed : more ≡ place_at before l ∷ places before
-    = put ∙ ap (λ (f : Frame). (record { line = l; frame = f }) ∷ found) there.0 ∙ ap (λ (ps : List Place). place_at before l ∷ ps) here in
+    = put ∙ ap (λ (x : Place). x ∷ found) there_placed ∙ ap (λ (ps : List Place). place_at before l ∷ ps) here in
     (l ∷ before, rw inner.2 (rw parent (rw round refl)), placed, ap (λ (ls : List Outline). turned ls before) (sym split) ∙ whole)
 
 -- the places left report the lines left

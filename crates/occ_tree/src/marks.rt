@@ -1,4 +1,4 @@
-//! The walk up the lines: which are misplaced or lack something, with the lines after them on a stack.
+//! The walk up the lines: which lack something or have no close, with the lines after them on a stack.
 ghost use Rattle.std.specs.Prelude.{◌≡◌, ◌&&◌, List, IfOk};
 ghost use Rattle.occ_tree.specs.declared.outline.Outline.{Outline};
 ghost use Rattle.occ_tree.specs.inside.Frames.{place_at};
@@ -9,9 +9,9 @@ ghost use Rattle.occ_tree.specs.Table.{is_head as spec_is_head};
 ghost use Rattle.occ_tree.specs.Wrong.{close_is_next as spec_close_is_next, is_wrong as spec_is_wrong, wrong};
 
 use super::outline::Outline;
-use super::place::{Place, can_hold, find_places, is_right_under};
-use super::row::{Row, is_close, is_head, row_under};
-use super::siblings::{Children, is_misplaced};
+use super::place::{Place, can_hold, find_places};
+use super::row::{Row, is_close, is_head};
+use super::siblings::Children;
 use super::sort::Sort;
 use super::stack::Stack;
 use occ_project::ExpandedLine;
@@ -54,17 +54,15 @@ fn take_children(depth: u64, row: Row, roots: &mut Stack<Outline>) -> bool
 
 /// Whether the line at this place stands wrong or lacks something. On top of the stack are its children, which it
 /// takes, and then the next line under its parent, if there is one.
-#[tactic(auto, using(crate::proofs::Ends::head_asked))]
+#[tactic(auto, using(crate::proofs::Ends::close_told))]
 fn is_wrong(place: &Place, roots: &mut Stack<Outline>) -> bool
     ensures wrong { (before : List Outline) (after : List Outline) → place.now ≡ place_at before place.now.line → roots.old ≡ spec_roots after → result ≡ spec_is_wrong before place.now.line after }
     ensures rest { roots.new ≡ after_deeper place.now.line.depth roots.old }
 {
-    let line = place.line;
-    let frame = place.frame;
-    let lacking = take_children(line.depth, row_under(frame.row, line.sort), roots);
-    let before_close = is_head_before_close(line.sort, frame.depth, roots);
-    let misplaced = is_misplaced(frame.row, frame.elders, line.sort, before_close);
-    !is_right_under(frame.depth, line.depth) || misplaced || lacking
+    let Outline { depth, sort } = place.line;
+    let lacking = take_children(depth, place.under, roots);
+    let unclosed = is_head(sort) && !close_is_next(place.parent, roots);
+    place.wrong || unclosed || lacking
 }
 
 /// For each line of a unit, whether it stands wrong or lacks something. The first is on top.

@@ -1,7 +1,7 @@
-//! The walk down the lines: under which parent each is, and after which siblings. The open parents are on a stack.
+//! The walk down the lines: under which parent each is, and whether it may be there. The open parents are on a stack.
 ghost use Rattle.std.specs.Prelude.{◌≡◌, [], ◌∷◌, List, None, Some, IfOk, OnOk};
 ghost use Rattle.occ_tree.specs.declared.outline.Outline.{Outline};
-ghost use Rattle.occ_tree.specs.inside.Frames.{frame_of, opened, places, still_open, turned};
+ghost use Rattle.occ_tree.specs.inside.Frames.{frame_of, opened, placed_in, places, still_open, turned};
 ghost use Rattle.occ_tree.specs.Nesting.{can_hold as spec_can_hold, is_right_under as spec_is_right_under};
 ghost use Rattle.occ_tree.specs.Sorts.{outlines};
 ghost use Rattle.occ_tree.specs.declared.place.Frame.{Frame};
@@ -11,7 +11,7 @@ ghost use Rattle.occ_tree.specs.Table.{row_under as spec_row_under};
 
 use super::outline::Outline;
 use super::row::{Row, row_under};
-use super::siblings::Elders;
+use super::siblings::{Elders, is_misplaced};
 use super::stack::Stack;
 use occ_project::ExpandedLine;
 use std::alloc::{AllocError, Global};
@@ -27,12 +27,16 @@ pub struct Frame {
     pub elders: Elders,
 }
 
-/// Where a line stands.
+/// Where a line stands, and what of it is judged there, before the lines after it are known.
 #[derive(Clone, Copy)]
 pub struct Place {
     pub line: Outline,
-    /// Its parent, before the line itself stood under it.
-    pub frame: Frame,
+    /// The depth of its parent. The file has none.
+    pub parent: Option<u64>,
+    /// What may stand under the line.
+    pub under: Row,
+    /// It is at the wrong depth or stands where it may not, also if a close is next under its parent.
+    pub wrong: bool,
 }
 
 /// Whether a parent of this depth can have a line of that one under it, as the file can.
@@ -65,6 +69,20 @@ impl Frame {
             row,
             elders: Elders::none(row),
         }
+    }
+}
+
+/// The place of the line under that parent, before it stood under it.
+fn place_in(line: Outline, parent: Frame) -> Place
+    ensures { (es : List Sort) → parent ≡ frame_of parent.depth parent.row es → result ≡ placed_in line parent es }
+{
+    let Outline { depth, sort } = line;
+    let misplaced = is_misplaced(parent.row, parent.elders, sort, true);
+    Place {
+        line,
+        parent: parent.depth,
+        under: row_under(parent.row, sort),
+        wrong: !is_right_under(parent.depth, depth) || misplaced,
     }
 }
 
@@ -136,10 +154,7 @@ pub fn find_places(alloc: Global, lines: &[ExpandedLine]) -> Result<Stack<Place>
     while let Some((first, after)) = rest.split_first() {
         let line = Outline::of(first);
         open.turn_to(line.depth)?;
-        found.push(Place {
-            line,
-            frame: open.innermost,
-        })?;
+        found.push(place_in(line, open.innermost))?;
         open.enter(line);
         rest = after;
     }

@@ -1,5 +1,5 @@
 -- What the walk down the lines knows at each place of the parents that are open there. No definition of shape needs it.
-use Rattle.std.specs.Prelude.{ℕ, List, [], ◌∷◌, Option, Some, None, if◌then◌else◌}
+use Rattle.std.specs.Prelude.{ℕ, true, not, ◌||◌, List, [], ◌∷◌, Option, Some, None, if◌then◌else◌}
 use Rattle.occ_tree.specs.declared.outline.Outline.{Outline}
 use Rattle.occ_tree.specs.declared.place.Frame.{Frame}
 use Rattle.occ_tree.specs.declared.place.Open.{Open}
@@ -8,7 +8,8 @@ use Rattle.occ_tree.specs.declared.row.Row.{Row}
 use Rattle.occ_tree.specs.declared.row.Row.TheVariants as row
 use Rattle.occ_tree.specs.declared.sort.Sort.{Sort}
 use Rattle.occ_tree.specs.inside.Elders.{elders_of}
-use Rattle.occ_tree.specs.Nesting.{can_hold, elders, parent_depth, row_at}
+use Rattle.occ_tree.specs.Nesting.{can_hold, elders, is_right_under, parent_depth, row_at}
+use Rattle.occ_tree.specs.Siblings.{is_misplaced}
 use Rattle.occ_tree.specs.Table.{row_under}
 
 -- a parent of this depth and row, and those under it so far, the nearest first
@@ -19,8 +20,19 @@ frame_of d r es = record { depth = d; row = r; elders = elders_of r es }
 abbrev pub frame_at : List Outline → ℕ → Frame
 frame_at before d = frame_of (parent_depth before d) (row_at before d) (elders before d)
 
+-- the place of a line under that parent, under which these stand before it
+abbrev pub placed_in : Outline → Frame → List Sort → Place
+placed_in l f es =
+    record {
+      line = l;
+      parent = f.depth;
+      under = row_under f.row l.sort;
+      wrong = not (is_right_under f.depth l.depth) || is_misplaced f.row es l.sort true;
+    }
+
+-- of a line after these
 abbrev pub place_at : List Outline → Outline → Place
-place_at before l = record { line = l; frame = frame_at before l.depth }
+place_at before l = placed_in l (frame_at before l.depth) (elders before l.depth)
 
 -- the place of each line, the last first
 abbrev pub places : List Outline → List Place
