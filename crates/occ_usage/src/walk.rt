@@ -470,40 +470,36 @@ fn body_over(
     Ok(body_bound(uses, has_effect))
 }
 
-/// Enters what a line of specification over lines that use these specifies.
-fn enter_after(
-    alloc: Global,
-    line: &TypedLine,
-    entries: &[ScopeEntry],
-    uses: Items<Use>,
-    env: &mut UsageScope,
-) -> Result<(), AllocError>
-    ensures { OnOk result (env.new ≡ env.old ++ spec_entered env.old (head_of line.now) uses (spec_effect_under (spec_under line.now) env.old (head_of line.now)) entries.now) }
-{
-    if is_body(line.form.get()) {
-        let body = body_over(alloc, line, uses, env)?;
-        return env.enter(alloc, body);
-    }
-    enter_line(alloc, line.form.get(), &line.place, entries, env)
-}
-
-/// Goes after a line over lines that use these.
-fn go_after(
+/// Enters what the head of a PROC or of a FUNCTION specifies, over lines that use these.
+fn enter_body(
     alloc: Global,
     line: &TypedLine,
     uses: Items<Use>,
     env: &mut UsageScope,
 ) -> Result<(), AllocError>
+    requires { spec_is_body (head_of line.now).form ≡ true }
     ensures { OnOk result (env.new ≡ env.old ++ spec_added_by env.old (head_of line.now) uses (spec_effect_under (spec_under line.now) env.old (head_of line.now)) (head_of line.now).adds) }
 {
+    if line.adds.is_none() {
+        return Ok(());
+    }
+    let body = body_over(alloc, line, uses, env)?;
+    env.enter(alloc, body)
+}
+
+/// Goes after a line that is no PROC and no FUNCTION.
+fn go_after(alloc: Global, line: &TypedLine, env: &mut UsageScope) -> Result<(), AllocError>
+    requires { spec_is_body (head_of line.now).form ≡ false }
+    ensures { OnOk result (env.new ≡ env.old ++ spec_added env.old (head_of line.now) (spec_under line.now) (items_of (spec_under line.now))) }
+{
     match &line.adds {
-        Some(entries) => enter_after(alloc, line, entries.as_slice(), uses, env),
+        Some(entries) => enter_line(alloc, line.form.get(), &line.place, entries.as_slice(), env),
         None => Ok(()),
     }
 }
 
-/// Adds the uses of the lines under a line, as they are uses of the line, and what is reported of them and of the line by the
-/// parallel rule. Those of a body are no uses of the line: they are given.
+/// Adds the uses of the lines under a line that is no PROC and no FUNCTION, as they are uses of the line, and what is reported
+/// of them and of the line by the parallel rule.
 #[cycle(walk)]
 fn under_uses(
     alloc: Global,
@@ -511,26 +507,18 @@ fn under_uses(
     env: &mut UsageScope,
     uses: &mut Items<Use>,
     reported: &mut Finding,
-) -> Result<Items<Use>, AllocError>
+) -> Result<(), AllocError>
+    requires { spec_is_body (head_of line.now).form ≡ false }
     ensures uses { OnOk result (uses.new ≡ uses.old ++ spec_under_uses (head_of line.now).form (spec_joined (spec_components env.old (head_of line.now) (items_of (spec_under line.now))))) }
-    ensures body { IfOk result (λ body. spec_is_body (head_of line.now).form ≡ true → body ≡ spec_joined (spec_components env.old (head_of line.now) (items_of (spec_under line.now)))) }
     ensures env { OnOk result (env.new ≡ env.old) }
     ensures parallel { OnOk result (reported.new.parallel ≡ reported.old.parallel ++ line_reported parallel_at env.old (head_of line.now) (spec_under line.now) (reported_of parallel_at (spec_under line.now))) }
     ensures abbreviations { OnOk result (reported.new.abbreviations ≡ reported.old.abbreviations ++ under_reported env.old (head_of line.now) (reported_of abbreviation_at (spec_under line.now))) }
 {
-    let form = line.form.get();
-    let mut apart = Items::new(alloc);
-    if is_body(form) {
-        add_judged(alloc, line, env, &mut apart, reported)?;
-        return Ok(apart);
-    }
-    if is_replicated(form) {
+    if is_replicated(line.form.get()) {
         let found = replicated_uses(alloc, line, env, reported)?;
-        append(uses, distinct(alloc, found)?)?;
-        return Ok(apart);
+        return append(uses, distinct(alloc, found)?);
     }
-    add_judged(alloc, line, env, uses, reported)?;
-    Ok(apart)
+    add_judged(alloc, line, env, uses, reported)
 }
 
 /// Adds what a line uses itself, and what the abbreviation rule reports of that.
@@ -569,9 +557,35 @@ pub(crate) fn line(
 {
     let mut faults = Items::new(alloc);
     own_uses(alloc, line, env, uses, &mut faults)?;
-    let body = under_uses(alloc, line, env, uses, reported)?;
-    reported.abbreviations.append(faults)?;
-    go_after(alloc, line, body, env)
+    if is_body(line.form.get()) {
+        return body_line(alloc, line, faults, env, reported);
+    }
+    under_uses(alloc, line, env, uses, reported)?;
+    if !faults.is_empty() {
+        reported.abbreviations.append(faults)?;
+    }
+    go_after(alloc, line, env)
+}
+
+/// A PROC or a FUNCTION of which the abbreviation rule reports this itself: what comes into scope after it, and what is
+/// reported of the lines under it. Their uses are no uses of the line.
+#[cycle(walk)]
+fn body_line(
+    alloc: Global,
+    line: &TypedLine,
+    own: Items<Diag>,
+    env: &mut UsageScope,
+    reported: &mut Finding,
+) -> Result<(), AllocError>
+    requires { spec_is_body (head_of line.now).form ≡ true }
+    ensures env { OnOk result (env.new ≡ env.old ++ spec_added env.old (head_of line.now) (spec_under line.now) (items_of (spec_under line.now))) }
+    ensures parallel { OnOk result (reported.new.parallel ≡ reported.old.parallel ++ line_reported parallel_at env.old (head_of line.now) (spec_under line.now) (reported_of parallel_at (spec_under line.now))) }
+    ensures abbreviations { OnOk result (reported.new.abbreviations ≡ reported.old.abbreviations ++ (under_reported env.old (head_of line.now) (reported_of abbreviation_at (spec_under line.now)) ++ own)) }
+{
+    let mut uses = Items::new(alloc);
+    add_judged(alloc, line, env, &mut uses, reported)?;
+    reported.abbreviations.append(own)?;
+    enter_body(alloc, line, uses, env)
 }
 
 /// Ends an item after its main line in what stands in scope: so many specifications stand round it.
