@@ -1,5 +1,6 @@
 //! What a specification in scope is for uses: a root, a value, an abbreviation of a part, or a body with its uses.
-ghost use Rattle.std.specs.Prelude.{◌≡◌, IfOk, None, false, slice_get};
+ghost use Rattle.std.specs.Prelude.{◌≡◌, IfOk, None, Some, false, slice_get, true};
+ghost use Rattle.occ_usage_parts.specs.Selecting.{whole as spec_whole};
 ghost use Rattle.occ_usage_values.specs.Bounds.{body_of, effect_of, place_of, size_of, value_of};
 
 use super::uses::Use;
@@ -74,6 +75,17 @@ pub(crate) fn place_with_room(
     match env.get(number) {
         Some(Bound::Root(_)) => Ok(Some(SelectedPart::with_room(alloc, number, room)?)),
         _ => place_at(alloc, env, number),
+    }
+}
+
+/// Whether a specification is a root.
+pub(crate) fn is_root(env: &[Bound], number: usize) -> bool
+    ensures place { result ≡ true → place_of number (slice_get env.now number) ≡ Some (spec_whole number) }
+    ensures size { result ≡ true → size_of (slice_get env.now number) ≡ None }
+{
+    match env.get(number) {
+        Some(Bound::Root(_)) => true,
+        _ => false,
     }
 }
 

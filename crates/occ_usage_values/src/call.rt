@@ -24,6 +24,7 @@ pub struct Call {
 }
 
 /// A use of a place, if it is one that is used.
+#[inline(always)]
 pub(crate) fn push_made(
     alloc: Global,
     kind: UseKind,

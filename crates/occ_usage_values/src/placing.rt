@@ -60,7 +60,7 @@ pub fn place(
 }
 
 /// Selects by selectors from a place of so many components, if their number is known.
-fn select_all(
+pub(crate) fn select_all(
     alloc: Global,
     place: &mut SelectedPart,
     selectors: &[Selector],

@@ -1,19 +1,20 @@
 //! The uses of expressions, elements and instances where they are evaluated. Nothing under SIZE is used.
 //! `docs/LANGUAGE.md, Uses`.
-ghost use Rattle.std.specs.Prelude.{◌≡◌, ◌++◌, IfOk, OnOk, slice_get};
+ghost use Rattle.std.specs.Prelude.{◌≡◌, ◌++◌, IfOk, None, OnOk, Some, slice_get};
+ghost use Rattle.occ_usage_parts.specs.Selecting.{whole as spec_whole};
 ghost use Rattle.occ_usage_values.specs.Bounds.{body_of};
 ghost use Rattle.occ_usage_values.specs.Calls.{called_all, made as spec_made};
-ghost use Rattle.occ_usage_values.specs.Views.{actual_view, actual_views, call_uses as spec_call_uses, element_view, expr_view, expr_views, places_of, selector_view, selector_views, actuals_uses as spec_actuals_uses, each_uses as spec_each_uses, selectors_uses as spec_selectors_uses};
+ghost use Rattle.occ_usage_values.specs.Views.{actual_view, actual_views, call_uses as spec_call_uses, element_view, expr_view, expr_views, placed, places_of, selector_view, selector_views, actuals_uses as spec_actuals_uses, each_uses as spec_each_uses, selectors_uses as spec_selectors_uses};
 
-use super::bound::{Bound, body_at, is_placed};
+use super::bound::{Bound, body_at, is_placed, is_root};
 use super::call::{called, push_made};
-use super::placing::place;
+use super::placing::{place, select_all};
 use super::uses::Use;
 use occ_base::{Items, Shared};
 use occ_project::Location;
 use occ_types::UseKind;
 use occ_typing_rules::{Selector, TypedActual, TypedElement, TypedExpr};
-use occ_usage_parts::SelectedPart;
+use occ_usage_parts::{Chain, Part, SelectedPart};
 use std::alloc::{AllocError, Global};
 
 /// A use of an element at a line, without those of its subscripts and bounds.
@@ -28,11 +29,57 @@ pub fn use_of(
 ) -> Result<(), AllocError>
     ensures { OnOk result (uses.new ≡ uses.old ++ spec_made line.now kind ((element_view element.now).place env.now)) }
 {
-    if !is_placed(env, element.referent.spec) {
+    let spec = element.referent.spec;
+    if is_root(env, spec) {
+        let selectors = element.selectors.as_slice();
+        return use_of_root(alloc, kind, spec, selectors, env, line, uses);
+    }
+    if !is_placed(env, spec) {
         return Ok(());
     }
     let place = place(alloc, element, env)?;
     push_made(alloc, kind, line, place, uses)
+}
+
+/// A use of the whole of a root.
+fn push_whole(
+    alloc: Global,
+    kind: UseKind,
+    root: usize,
+    line: &Location,
+    uses: &mut Items<Use>,
+) -> Result<(), AllocError>
+    ensures { OnOk result (uses.new ≡ uses.old ++ spec_made line.now kind (Some (spec_whole root))) }
+{
+    uses.push(Use {
+        part: Part {
+            root,
+            selectors: Items::new(alloc),
+        },
+        kind,
+        line: *line,
+        chain: Chain::none(),
+    })
+}
+
+/// A use of what these select from a root.
+fn use_of_root(
+    alloc: Global,
+    kind: UseKind,
+    root: usize,
+    selectors: &[Selector],
+    env: &[Bound],
+    line: &Location,
+    uses: &mut Items<Use>,
+) -> Result<(), AllocError>
+    ensures { OnOk result (uses.new ≡ uses.old ++ spec_made line.now kind (Some (placed (selector_views selectors.now) env.now None (spec_whole root)))) }
+{
+    if selectors.is_empty() {
+        return push_whole(alloc, kind, root, line, uses);
+    }
+    let mut place = SelectedPart::with_room(alloc, root, selectors.len())?;
+    select_all(alloc, &mut place, selectors, None, env)?;
+    push_made(alloc, kind, line, Some(place), uses)
 }
 
 /// What the actual is for a formal that is not VAL.
