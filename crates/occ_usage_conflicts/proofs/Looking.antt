@@ -1,8 +1,8 @@
 -- A use is looked for among those of its bucket.
-use Rattle.std.proofs.Common.{◌≡◌, ◌≢◌, ℕ, zero, suc, ◌<◌, ◌≤◌, ◌+◌, Bool, true, false, ap, sym, subst, ◌∙◌, refl, arith, List, [], ◌∷◌, ◌++◌, Option, Some, None, length, slice_get, slice_set, replicate, inl, inr}
+use Rattle.std.proofs.Common.{◌≡◌, ◌≢◌, ℕ, zero, suc, ◌<◌, ◌≤◌, ◌+◌, ◌-◌, ◌/◌, Bool, true, false, ap, sym, subst, ◌∙◌, refl, arith, List, [], ◌∷◌, ◌++◌, Option, Some, None, length, slice_get, slice_set, replicate, inl, inr}
 use Rattle.std.specs.Prelude.{◌⊎◌}
 use Rattle.std.proofs.lemmas.List.{length-append, length-replicate}
-use Rattle.std.proofs.lemmas.Nat.{mod_below}
+use Rattle.std.proofs.lemmas.Nat.{and_le_r}
 use Rattle.occ_usage_values.specs.declared.uses.Use.{Use}
 use Rattle.occ_usage_conflicts.specs.Distinct.{is_among, same_use}
 use Rattle.occ_usage_conflicts.specs.inside.Linking.{AreLinked, IsLinked, is_use, linked}
@@ -103,7 +103,7 @@ linked_use count heads before found v h = record {
   own = bucket_of v count
 
   room : own < length heads
-  room = let e : length heads ≡ count = h.all in let s : 0 < count = h.some in let w : bucket_of v count < count = mod_below (number_of v) count s in omega (arith, e, w)
+  room = let e : length heads ≡ count = h.all in let s : 0 < count = h.some in let w : bucket_of v count ≤ count - 1 = and_le_r (number_of v / 4294967296) (count - 1) in omega (arith, e, s, w)
 
   last : (p : ℕ) (u : Use) → slice_get (found ++ v ∷ []) p ≡ Some u → p < linked (slice_set heads own (length found + 1)) (bucket_of u count)
   last p u at = elim (get_push found v u p at) [

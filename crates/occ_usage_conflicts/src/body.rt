@@ -10,25 +10,8 @@ use occ_project::Location;
 use occ_usage_values::Use;
 use std::alloc::{AllocError, Global};
 
-/// A use in a body round which so many specifications stand, as it is seen from outside the body.
-fn from_outside(
-    alloc: Global,
-    found: Use,
-    number: usize,
-    line: &Location,
-) -> Result<Use, AllocError>
-    ensures { IfOk result (λ seen. seen ≡ spec_from_outside number line.now found) }
-{
-    let chain = found.chain.below(alloc, number)?;
-    Ok(Use {
-        part: found.part,
-        kind: found.kind,
-        line: *line,
-        chain,
-    })
-}
-
 /// Adds a use in a body as it is seen from outside, unless it is of what the body specifies or among those that are seen.
+#[inline(always)]
 fn add_outside(
     alloc: Global,
     found: Use,
@@ -43,7 +26,14 @@ fn add_outside(
     ensures links { OnOk result (IsLinked links.new.heads.items links.new.before.items seen.new) }
 {
     if found.part.root < locals {
-        add(from_outside(alloc, found, number, line)?, links, seen)
+        let chain = found.chain.below(alloc, number)?;
+        let one = Use {
+            part: found.part,
+            kind: found.kind,
+            line: *line,
+            chain,
+        };
+        add(one, links, seen)
     } else {
         Ok(())
     }

@@ -24,8 +24,9 @@ impl Links {
     pub(crate) fn none(alloc: Global, count: usize) -> Result<Links, AllocError>
         ensures { IfOk result (λ links. IsLinked links.heads.items links.before.items []) }
     {
+        let buckets = count.checked_next_power_of_two().ok_or(AllocError)?;
         Ok(Links {
-            heads: vec![in alloc; 0; count.max(1)]?,
+            heads: vec![in alloc; 0; buckets.max(1)]?,
             before: Vec::with_capacity(alloc, count)?,
         })
     }
@@ -56,6 +57,7 @@ fn linked(numbers: &[usize], place: usize) -> usize
 }
 
 /// Whether a use stands at a place.
+#[inline(always)]
 fn is_at(found: &[Use], place: usize, one: &Use) -> bool
     ensures { result ≡ is_use one.now (slice_get found.now place) }
 {
@@ -66,6 +68,7 @@ fn is_at(found: &[Use], place: usize, one: &Use) -> bool
 }
 
 /// The bucket of a use.
+#[inline(always)]
 fn bucket_in(one: &Use, links: &Links) -> usize
     requires { 0 < length links.now.heads.items }
     ensures value { result ≡ spec_bucket_of one.now (length links.now.heads.items) }
@@ -75,6 +78,7 @@ fn bucket_in(one: &Use, links: &Links) -> usize
 }
 
 /// Whether a use, which belongs in this bucket, is found already.
+#[inline(always)]
 fn is_found(one: &Use, bucket: usize, links: &Links, found: &[Use]) -> bool
     requires linked { IsLinked links.now.heads.items links.now.before.items found.now }
     requires bucket { bucket ≡ spec_bucket_of one.now (length links.now.heads.items) }
@@ -91,6 +95,7 @@ fn is_found(one: &Use, bucket: usize, links: &Links, found: &[Use]) -> bool
 }
 
 /// One use more, if it is not among those that are found.
+#[inline(always)]
 pub(crate) fn add(one: Use, links: &mut Links, found: &mut Items<Use>) -> Result<(), AllocError>
     requires { IsLinked links.old.heads.items links.old.before.items found.old }
     ensures found { OnOk result (found.new ≡ added one found.old) }

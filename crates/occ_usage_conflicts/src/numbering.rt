@@ -9,7 +9,7 @@ use occ_usage_values::Use;
 fn mixed(seed: u64, more: u64) -> u64
     ensures { result ≡ spec_mixed seed more }
 {
-    seed % 2_147_483_647 * 1_000_003 + more % 2_147_483_647
+    seed.wrapping_add(more).wrapping_mul(0x9E37_79B9_7F4A_7C15)
 }
 
 fn of_places(places: Places) -> u64
@@ -32,6 +32,7 @@ fn of_selector(selector: &PartSelector) -> u64
     }
 }
 
+#[inline(always)]
 fn with_selectors(seed: u64, selectors: &[PartSelector]) -> u64
     ensures { result ≡ spec_with_selectors seed selectors.now }
 {
@@ -42,18 +43,20 @@ fn with_selectors(seed: u64, selectors: &[PartSelector]) -> u64
     number
 }
 
+#[inline(always)]
 fn number_of(one: &Use) -> u64
     ensures { result ≡ spec_number_of one.now }
 {
-    let seed = mixed(one.part.root as u64, u64::from(one.line.line));
+    let seed = mixed(mixed(0, one.part.root as u64), u64::from(one.line.line));
     with_selectors(seed, one.part.selectors.as_slice())
 }
 
-/// Which of so many lists is that of a use.
+/// Which of so many lists is that of a use. Each of them is one only where so many is a power of two.
+#[inline(always)]
 pub(crate) fn bucket_of(one: &Use, count: usize) -> usize
     requires { 0 < count }
     ensures value { result ≡ spec_bucket_of one.now count }
     ensures within { result < count }
 {
-    (number_of(one) % count as u64) as usize
+    (number_of(one) / 0x1_0000_0000 & (count as u64 - 1)) as usize
 }

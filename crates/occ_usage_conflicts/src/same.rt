@@ -54,6 +54,7 @@ fn same_selector(a: &PartSelector, b: &PartSelector) -> bool
 }
 
 /// Whether two lists of selectors are one.
+#[inline(always)]
 pub(crate) fn same_selectors(a: &[PartSelector], b: &[PartSelector]) -> bool
     ensures { result ≡ spec_same_selectors a.now b.now }
 {
@@ -69,6 +70,7 @@ pub(crate) fn same_selectors(a: &[PartSelector], b: &[PartSelector]) -> bool
 }
 
 /// Whether two uses are one.
+#[inline(always)]
 pub(crate) fn same_use(a: &Use, b: &Use) -> bool
     ensures { result ≡ spec_same_use a.now b.now }
 {

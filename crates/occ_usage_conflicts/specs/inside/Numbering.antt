@@ -1,5 +1,5 @@
 -- A number of each use, by which it is looked for: the same for those that are the same.
-use Rattle.std.specs.Prelude.{ℕ, ◌+◌, ◌*◌, ◌%◌, unsigned_abs, List, [], ◌∷◌, length}
+use Rattle.std.specs.Prelude.{ℕ, ◌+◌, ◌-◌, ◌*◌, ◌/◌, ◌%◌, ◌^◌, bit_and, unsigned_abs, List, [], ◌∷◌, length}
 use Rattle.occ_usage_values.specs.declared.uses.Use.{Use}
 use Rattle.occ_types.specs.declared.interface.PartSelector.{PartSelector}
 use Rattle.occ_types.specs.declared.interface.PartSelector.TheVariants as s
@@ -7,7 +7,7 @@ use Rattle.occ_types.specs.declared.interface.Places.{Places}
 use Rattle.occ_types.specs.declared.interface.Places.TheVariants as places
 
 abbrev pub mixed : ℕ → ℕ → ℕ
-mixed seed more = seed % 2147483647 * 1000003 + more % 2147483647
+mixed seed more = (seed + more) % 2 ^ 64 * 11400714819323198485 % 2 ^ 64
 
 abbrev pub number_of_places : Places → ℕ
 number_of_places places.None = 0
@@ -24,8 +24,8 @@ with_selectors seed [] = seed
 with_selectors seed (x ∷ xs) = with_selectors (mixed seed (number_of_selector x)) xs
 
 abbrev pub number_of : Use → ℕ
-number_of u = with_selectors (mixed u.part.root u.line.line) u.part.selectors
+number_of u = with_selectors (mixed (mixed 0 u.part.root) u.line.line) u.part.selectors
 
--- which of so many lists is that of a use
+-- which of so many lists is that of a use: by the upper bits of its number, which are made of all of it
 abbrev pub bucket_of : Use → ℕ → ℕ
-bucket_of u count = number_of u % count
+bucket_of u count = bit_and (number_of u / 4294967296) (count - 1)
