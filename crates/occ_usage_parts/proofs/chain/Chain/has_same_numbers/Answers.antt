@@ -1,6 +1,6 @@
 use Rattle.std.proofs.Common.{rules, ◌≡◌, ◌∙◌, ◌≤◌, ℕ, List, length, slice_get, ap, sym, arith}
 use Rattle.occ_usage_parts.proofs.Chains.{are_same, same_all}
-use Rattle.occ_usage_parts.proofs.chain.Chain.is_same.Goals as goal
+use Rattle.occ_usage_parts.proofs.chain.Chain.has_same_numbers.Goals as goal
 
 pub returns : goal.returns
 returns c =
