@@ -104,18 +104,38 @@ fn assignment_tree(
     Ok(Some(TypedAssignment { targets, values }))
 }
 
+/// The tree of a value that is handed over, where this type is wanted of it: one that is typed already is taken as it is.
+#[inline(always)]
+fn placed_value(
+    alloc: Global,
+    value: OpenExpr,
+    of: &Shared<OccType>,
+) -> Result<Option<Shared<TypedExpr>>, AllocError>
+    ensures { IfOk result (λ tree. tree ≡ spec_placed value of.now) }
+{
+    match value {
+        OpenExpr::Typed(tree) => Ok(Some(tree)),
+        free => {
+            let tree = placed(alloc, &free, of);
+            drop(free);
+            tree
+        }
+    }
+}
+
 /// The one target of an assignment and the value for it, if neither has a fault.
+#[inline(always)]
 fn single_tree(
     alloc: Global,
     target: Option<TypedElement>,
-    value: &OpenExpr,
+    value: OpenExpr,
 ) -> Result<Option<TypedAssignment>, AllocError>
-    ensures { IfOk result (λ tree. tree ≡ spec_assigned (with_elements (one_element target) (Some [])) (value.now ∷ [])) }
+    ensures { IfOk result (λ tree. tree ≡ spec_assigned (with_elements (one_element target) (Some [])) (value ∷ [])) }
 {
     let Some(target) = target else {
         return Ok(None);
     };
-    let Some(value) = placed(alloc, value, &target.known.of)? else {
+    let Some(value) = placed_value(alloc, value, &target.known.of)? else {
         return Ok(None);
     };
     Ok(Some(TypedAssignment {
@@ -139,14 +159,14 @@ fn single_assignment(
     ensures faults { OnOk result (faults.new ≡ faults.old ++ spec_assignment scope.now (target.now ∷ []) (value.now ∷ [])) }
 {
     let target = target_of(alloc, target, scope, faults)?;
-    let value = expression(alloc, value, scope, faults)?;
+    let Reading { term, open_expr } = expression(alloc, value, scope, faults)?;
     assigned(
         alloc,
         slice::from_ref(&target.kind),
-        slice::from_ref(&value.term),
+        slice::from_ref(&term),
         faults,
     )?;
-    single_tree(alloc, target.tree, &value.open_expr)
+    single_tree(alloc, target.tree, open_expr)
 }
 
 /// `el, .. := e, ..`: the targets, the values, and each value for its target.
