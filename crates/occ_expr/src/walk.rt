@@ -1,6 +1,6 @@
 //! The one walk down a tree of an expression, an element or a written type, as one cycle of functions. Each part is read
 //! once, so the work is linear in the tokens. `docs/LANGUAGE.md, Expressions, elements and written types`.
-ghost use Rattle.std.specs.Prelude.{◌≡◌, ◌∷◌, ◌++◌, [], IfOk, OnOk, Some};
+ghost use Rattle.std.specs.Prelude.{◌≡◌, ◌∷◌, ◌++◌, [], IfOk, OnOk};
 ghost use Rattle.occ_expr_operations.specs.declared.written.Opening.TheVariants as opened;
 ghost use Rattle.occ_forms_expressions.specs.declared.tree.Bounds.TheVariants as bounds_form;
 ghost use Rattle.occ_forms_expressions.specs.declared.tree.Expr.TheVariants as form;
@@ -14,7 +14,7 @@ ghost use Rattle.occ_typing_tables.specs.Terms.{hidden_faults, judged_all};
 ghost use Rattle.occ_typing_tables.specs.declared.term.Term.TheVariants as v;
 ghost use Rattle.occ_typing_rules.specs.declared.open_expr.OpenExpr.TheVariants as d;
 ghost use Rattle.occ_expr_operations.specs.Literals.{literal as spec_literal, truth as spec_truth};
-ghost use Rattle.occ_expr_operations.specs.Elements.{component_at as spec_component_at, element_of as spec_element_of, element_open as spec_element_open, one_selector, place_tree as spec_place_tree, selector as spec_selector, selector_in, selectors as spec_selectors, with_selectors};
+ghost use Rattle.occ_expr_operations.specs.Elements.{component_at as spec_component_at, element_open as spec_element_open, place_tree as spec_place_tree, selector as spec_selector, selector_in, selectors as spec_selectors, with_selectors};
 ghost use Rattle.occ_expr_operations.specs.Views.{bounds_view, components_of as spec_components_of, call_open as spec_call_open, converted_call, decorated as spec_decorated, item_opens as spec_item_opens, named_tree as spec_named_tree, operand_opens as spec_operand_opens, whole_element_open as spec_whole_element_open, builtin_view, dimension_view, dimension_views, each, element_view, expr_view, expr_views, named_operand_view, operand_view, operand_views, operands as spec_operands, type_form_view};
 ghost use Rattle.occ_expr_operations.specs.Written.{all_spanning_faults, array_after as spec_array_after, array_over as spec_array_over, array_over_more as spec_array_over_more, channel as spec_channel, data_form as spec_data_form, extents as spec_extents};
 
@@ -32,7 +32,7 @@ use occ_forms_expressions::{
     Bounds, Builtin, DataBase, Dimension, Element, Expr, Extreme, Literal, MonadicOperator,
     NamedOperand, Operand, TypeForm,
 };
-use occ_scope::{Meaning, Referent, Scope, carries, data_type};
+use occ_scope::{Meaning, Scope, carries, data_type};
 use occ_types::{Formal, KnownType, OccType, Protocol, fields_of, unnamed};
 use occ_typing_operands::{Kind, Known, field, known as known_as};
 use occ_typing_rules::{OpenExpr, Selector, TypedElement, TypedExpr, matched};
@@ -816,62 +816,10 @@ fn whole_named_element(
     converted_table(alloc, item, to, faults)
 }
 
-/// A name with what one subscript selects of what it stands for, if that has no fault.
-#[tactic(auto, unfolding(occ_expr_operations::specs::Elements::element_of))]
-#[inline(always)]
-fn part_tree(
-    alloc: Global,
-    kind: &Kind,
-    name: &Name,
-    referent: Referent,
-    selector: Option<Selector>,
-) -> Result<Option<TypedElement>, AllocError>
-    ensures { IfOk result (λ tree. tree ≡ spec_element_of kind.now name.now (Some referent) (one_selector selector)) }
-{
-    let (Kind::Known(known), Some(selector)) = (kind, selector) else {
-        return Ok(None);
-    };
-    Ok(Some(TypedElement {
-        known: known.share()?,
-        name: name.copied(alloc)?,
-        referent,
-        selectors: one_item(alloc, selector)?,
-    }))
-}
-
-/// A name with subscripts. Of one subscript what it is part of is looked at where it stands.
-#[tactic(auto, using(occ_expr_operations::proofs::Fields::front_rules, occ_expr_operations::proofs::Referring::seen), unfolding(occ_expr_operations::specs::Parts::named_element, occ_expr_operations::specs::Views::named_tree, occ_expr_operations::specs::Parts::subscript, occ_expr_operations::specs::Elements::selector))]
-#[cycle(walk)]
-pub fn named_element(
-    alloc: Global,
-    name: &Name,
-    exprs: &[Expr],
-    scope: &Scope,
-    faults: &mut Items<Fault>,
-) -> Result<ElementReading, AllocError>
-    ensures kind { IfOk result (λ read. read.kind ≡ (spec_named_element scope.now name.now (expr_views exprs.now)).kind) }
-    ensures tree { IfOk result (λ read. read.tree ≡ spec_named_tree scope.now name.now (expr_views exprs.now)) }
-    ensures faults { OnOk result (faults.new ≡ faults.old ++ (spec_named_element scope.now name.now (expr_views exprs.now)).faults) }
-{
-    let Some(expr) = only(exprs) else {
-        return selected_element(alloc, name, exprs, scope, faults);
-    };
-    let Some(referent) = scope.referent(name)? else {
-        return selected_element(alloc, name, exprs, scope, faults);
-    };
-    let Meaning::Element(whole) = referent.meaning.get() else {
-        return selected_element(alloc, name, exprs, scope, faults);
-    };
-    let (kind, selector) = part(alloc, expr, whole.of.get(), scope, faults)?;
-    let tree = part_tree(alloc, &kind, name, referent, selector)?;
-    Ok(ElementReading { kind, tree })
-}
-
-/// A name with subscripts, whatever it stands for.
+/// A name with subscripts.
 #[tactic(auto, using(occ_expr_operations::proofs::Fields::front_rules), unfolding(occ_expr_operations::specs::Parts::named_element, occ_expr_operations::specs::Views::named_tree))]
 #[cycle(walk)]
-#[inline(never)]
-fn selected_element(
+pub fn named_element(
     alloc: Global,
     name: &Name,
     exprs: &[Expr],
