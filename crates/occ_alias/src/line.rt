@@ -15,6 +15,7 @@ use occ_usage_values::{Call, Use};
 use std::alloc::{AllocError, Global};
 
 /// What is reported of these uses and calls at a line.
+#[inline(always)]
 fn evaluated_faults(
     alloc: Global,
     line: &Location,

@@ -79,6 +79,7 @@ fn is_parallel(form: &TypedForm) -> bool
 
 /// Adds the uses of the lines under a line in one round of its replicator, and what is reported of them.
 #[cycle(walk)]
+#[inline(always)]
 fn add_round(
     alloc: Global,
     base: i32,
@@ -237,6 +238,7 @@ fn block_faults(
 }
 
 /// What is reported of a line with these components.
+#[inline(always)]
 fn own_faults(
     alloc: Global,
     line: &TypedLine,

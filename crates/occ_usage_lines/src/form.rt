@@ -44,6 +44,7 @@ pub fn each_uses(
 }
 
 /// The uses of elements that are written.
+#[inline(always)]
 fn written(
     alloc: Global,
     elements: &[TypedElement],
@@ -197,6 +198,7 @@ fn replicator(
 }
 
 /// The uses of a line, without those of the lines under it.
+#[inline(always)]
 pub fn form_uses(
     alloc: Global,
     form: &TypedForm,

@@ -73,6 +73,7 @@ impl UsageScope {
     }
 
     /// One more comes into scope.
+    #[inline(always)]
     pub fn enter(&mut self, alloc: Global, bound: Bound) -> Result<(), AllocError>
         ensures { OnOk result (self.new ≡ self.old ++ bound ∷ []) }
     {
@@ -94,6 +95,7 @@ impl UsageScope {
     }
 
     /// Takes out of scope what came into it after so many.
+    #[inline(always)]
     pub fn cut(&mut self, depth: usize)
         ensures { self.new ≡ take depth self.old }
     {
