@@ -7,6 +7,7 @@ pub mod Circled
 pub mod Turned
 pub mod Added
 pub mod Replaced
+pub mod Pushed
 pub mod Numbered
 pub mod Renumbered
 pub mod Free

@@ -32,7 +32,7 @@ pub record IsPutting (ws : List ℕ) (all g : Graph) (found : List (List ℕ)) :
   pub few : length found ≤ length ws
   pub rows : with_rows g (take (length found) ws) found ≡ all
 
-take_whole : (ws : List ℕ) → take (length ws) ws ≡ ws
+pub take_whole : (ws : List ℕ) → take (length ws) ws ≡ ws
 take_whole [] = refl
 take_whole (w ∷ ws) = ap (λ (vs : List ℕ). w ∷ vs) (take_whole ws)
 
@@ -93,7 +93,7 @@ rows_long g (w ∷ ws) [] = refl
 rows_long g (w ∷ ws) (row ∷ rows) = set_long (with_rows g ws rows) w row ∙ rows_long g ws rows
 
 -- each row is the one that was put, or stands as it stood
-rows_at : (f : ℕ → List ℕ) (g : Graph) (ws : List ℕ) (q : ℕ) → q < length g → get_or (with_rows g ws (map f ws)) q [] ≡ cond (is_among ws q) (f q) (get_or g q [])
+pub rows_at : (f : ℕ → List ℕ) (g : Graph) (ws : List ℕ) (q : ℕ) → q < length g → get_or (with_rows g ws (map f ws)) q [] ≡ cond (is_among ws q) (f q) (get_or g q [])
 rows_at f g [] q lt = refl
 rows_at f g (w ∷ ws) q lt = by (w == q) refl (rows_at f g ws q lt) where
   by : (b : Bool) → (w == q) ≡ b → get_or (with_rows g ws (map f ws)) q [] ≡ cond (is_among ws q) (f q) (get_or g q [])

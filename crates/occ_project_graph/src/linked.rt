@@ -2,11 +2,11 @@
 ghost use Rattle.occ_project_graph.specs.Adding.{IsParted, with_node, with_used_node};
 ghost use Rattle.occ_project_graph.specs.Graph.{IsWhole, has_edge as spec_has_edge, is_among, rests as spec_rests, targets as spec_targets};
 ghost use Rattle.occ_project_graph.specs.Sources.{sources as spec_sources};
-ghost use Rattle.occ_project_graph.specs.inside.Linking.{rests_kept};
+ghost use Rattle.occ_project_graph.specs.inside.Linking.{others, rests_kept};
 ghost use Rattle.occ_project_graph.specs.inside.Numbering.{IsNumbered, indexed, row_by};
-ghost use Rattle.std.specs.Prelude.{◌≡◌, ◌<◌, ◌≤◌, [], ℕ, IfOk, IsTrue, OnErr, OnOk, false, get_or, length, true};
+ghost use Rattle.std.specs.Prelude.{◌≡◌, ◌<◌, ◌≤◌, ◌++◌, ◌∷◌, [], ℕ, IfOk, IsTrue, OnErr, OnOk, false, get_or, length, true, vec_capacity, vec_len};
 
-use super::adding::{put_rows, source_rows};
+use super::adding::{lead, lead_no_more, put_found, put_rows};
 use super::circles::find_rests;
 use super::joining::{lead_rests, led_rows, marked_numbers};
 use super::nodes::Nodes;
@@ -114,6 +114,24 @@ fn has_node(numbers: &[usize], indices: &[usize], nodes: &[usize], index: usize)
     index < numbers.len() && is_node(indices, nodes, numbers[index], index)
 }
 
+/// One node more comes behind the others, which rests on all that its edges lead to but itself, and there is room for one row more.
+fn make_ready(
+    alloc: Global,
+    sources: &mut Vec<Items<usize>>,
+    rests: &mut Option<Vec<Items<usize>>>,
+    edges: &[Items<usize>],
+    number: usize,
+    targets: &[usize],
+) -> Result<(), AllocError>
+    ensures same { sources.new.items ≡ sources.old.items }
+    ensures room { OnOk result (vec_len sources.new < vec_capacity sources.new) }
+    ensures ok { OnOk result (rests_kept (edges.now ++ targets.now ∷ []) rests.new ≡ rests_kept edges.now rests.old ++ others number targets.now ∷ []) }
+    ensures err { OnErr result (rests_kept edges.now rests.new ≡ rests_kept edges.now rests.old) }
+{
+    sources.reserve(1)?;
+    add_rests(alloc, rests, edges, number, targets)
+}
+
 impl Linked {
     /// The graph without nodes.
     pub fn new(alloc: Global) -> Linked
@@ -203,7 +221,7 @@ impl Linked {
     }
 
     /// One node more comes to an index, from which edges lead to these, and to which none leads but its own. What the others
-    /// rest on and from where edges lead to them stays. All memory is taken before the first change.
+    /// rest on and from where edges lead to them stays. Where memory is refused, all is as it was.
     pub fn add(&mut self, alloc: Global, at: usize, targets: Items<usize>) -> Result<(), AllocError>
         requires index { at ≤ length self.old }
         requires within { (v : ℕ) → is_among targets v ≡ true → v ≤ length self.old }
@@ -212,28 +230,32 @@ impl Linked {
     {
         let number = self.numbers.len();
         let row = numbers_then(alloc, self.numbers.as_slice(), at, targets.as_slice())?;
-        let found = source_rows(
+        self.numbers.reserve(1)?;
+        self.indices.reserve(1)?;
+        self.edges.reserve(1)?;
+        let found = lead(
             alloc,
             self.indices.as_slice(),
-            self.sources.as_slice(),
+            &mut self.sources,
             at,
             number,
             row.as_slice(),
         )?;
-        self.numbers.reserve(1)?;
-        self.indices.reserve(1)?;
-        self.edges.reserve(1)?;
-        self.sources.reserve(1)?;
-        add_rests(
+        let ready = make_ready(
             alloc,
+            &mut self.sources,
             &mut self.rests,
             self.edges.as_slice(),
             number,
             row.as_slice(),
-        )?;
+        );
+        if let Err(refused) = ready {
+            lead_no_more(&mut self.sources, row.as_slice(), found);
+            return Err(refused);
+        }
         insert_node(&mut self.numbers, &mut self.indices, at);
         push_within(&mut self.sources, Items::new(alloc));
-        put_rows(&mut self.sources, row.as_slice(), found);
+        put_found(&mut self.sources, row.as_slice(), found);
         push_within(&mut self.edges, row);
         Ok(())
     }

@@ -1,5 +1,5 @@
 //! The graph turned around: for each node those from which edges lead to it.
-ghost use Rattle.std.specs.Prelude.{◌≡◌, ◌<◌, ◌++◌, ◌∷◌, ℕ, [], get_or, length, replicate, slice_set, IfOk, OnOk};
+ghost use Rattle.std.specs.Prelude.{◌≡◌, ◌<◌, ◌++◌, ◌∷◌, ℕ, [], get_or, length, replicate, slice_set, IfOk, OnErr, OnOk};
 ghost use Rattle.occ_project_graph.specs.Sources.{once_each, sources};
 
 use sqlite_items::Items;
@@ -17,8 +17,13 @@ pub fn no_sources(alloc: Global, count: usize) -> Result<Vec<Items<usize>>, Allo
 }
 
 /// One more edge leads from the source to this node.
-fn add_source(rows: &mut Vec<Items<usize>>, node: usize, source: usize) -> Result<(), AllocError>
-    ensures { OnOk result (rows.new.items ≡ slice_set rows.old.items node (get_or rows.old.items node [] ++ source ∷ [])) }
+pub fn add_source(
+    rows: &mut Vec<Items<usize>>,
+    node: usize,
+    source: usize,
+) -> Result<(), AllocError>
+    ensures ok { OnOk result (rows.new.items ≡ slice_set rows.old.items node (get_or rows.old.items node [] ++ source ∷ [])) }
+    ensures err { OnErr result (rows.new.items ≡ rows.old.items) }
 {
     if node < rows.len() {
         rows[node].push(source)?;

@@ -4,7 +4,7 @@ use Rattle.std.specs.Prelude.{◌≡◌, ◌<◌, ◌+◌, ◌-◌, ◌++◌, �
 use Rattle.std.specs.List.{filter}
 use Rattle.occ_project_graph.specs.Graph.{Graph, all_rests}
 use Rattle.occ_project_graph.specs.Sources.{once_each, sources}
-use Rattle.occ_project_graph.specs.inside.Numbering.{IsNumbered, IsOver, IsSourceRow, graph_by, index_at}
+use Rattle.occ_project_graph.specs.inside.Numbering.{AreSourceRows, IsFrontBefore, IsNumbered, IsOver, IsSourceRow, graph_by, index_at}
 
 -- what the nodes of a graph rest on: what is kept, or, if nothing is, all to which edges lead
 abbrev pub rests_kept : Graph → Option (Vec (List ℕ) Global) → Graph
@@ -44,6 +44,26 @@ abbrev pub with_rows : Graph → List ℕ → List (List ℕ) → Graph
 with_rows g [] rows = g
 with_rows g (w ∷ ws) [] = g
 with_rows g (w ∷ ws) (row ∷ rows) = slice_set (with_rows g ws rows) w row
+
+-- a number is added to the rows of these, once for each, the last of them first
+abbrev pub pushed : Graph → List ℕ → ℕ → Graph
+pushed g [] n = g
+pushed g (w ∷ ws) n = slice_set (pushed g ws n) w (get_or (pushed g ws n) w [] ++ n ∷ [])
+
+-- a node that comes to an index comes behind all in the rows of these, which are there
+abbrev pub IsBehindAll : List ℕ → Graph → ℕ → List ℕ → Type 0
+IsBehindAll indices g at ws = (i : ℕ) → i < length ws → (get_or ws i 0 < length g) × IsFrontBefore indices at (get_or g (get_or ws i 0) []) (length (get_or g (get_or ws i 0) []))
+
+-- rows where edges lead from the new node to these: it is added to them, or they are as before and rows are found that are to be put
+abbrev pub AreLeading : List ℕ → ℕ → ℕ → List ℕ → Graph → Graph → Option (List (List ℕ)) → Type 0
+AreLeading indices at number nodes before rows None = IsBehindAll indices before at nodes × (rows ≡ pushed before nodes number)
+AreLeading indices at number nodes before rows (Some found) = AreSourceRows indices before at number nodes nodes found × (rows ≡ before)
+
+-- rows are put, and one for the new node before that, to which none leads but its own
+pub record IsLedFrom (indices : List ℕ) (at number : ℕ) (nodes : List ℕ) (before rows : Graph) : Type 0 where
+  pub found : Graph
+  pub are : AreSourceRows indices before at number nodes nodes found
+  pub is : rows ≡ with_rows (before ++ [] ∷ []) nodes found
 
 -- those that have a mark at their place
 abbrev pub marked : List ℕ → List Bool → List ℕ
