@@ -1,14 +1,16 @@
 -- What the first 16 bytes of two file names say of the names.
-use Rattle.std.proofs.Common.{◌≡◌, ◌≢◌, ◌≤◌, ◌-◌, ℕ, zero, suc, true, List, [], ◌∷◌, length, take, drop, refl, arith, ap, sym, ◌∙◌, bytes_eq}
+use Rattle.std.proofs.Common.{◌≡◌, ◌≢◌, ◌≤◌, ◌-◌, ℕ, zero, suc, true, List, [], ◌∷◌, length, take, drop, refl, arith, ap, sym, ◌∙◌, bytes_eq, length-take}
 use Rattle.std.proofs.lemmas.List.{take-take}
 use Rattle.std.specs.Cmp.Lexicographic.{slice_cmp, bytes_decides}
-use Rattle.std.specs.Ordering.{nat_cmp, ordering_then}
+use Rattle.std.proofs.lemmas.Map.Text.{is_eq-slice_cmp}
+use Rattle.std.specs.Ordering.{is_eq, nat_cmp, ordering_then}
 use Rattle.std.specs.declared.cmp.Ordering.{Ordering}
 use Rattle.std.specs.declared.cmp.Ordering.TheVariants.{Less, Equal, Greater}
 use Rattle.occ_base.specs.declared.file_name.FileName.TheInside.{Inside}
 use Rattle.occ_base.specs.inside.Front.{front}
 use Rattle.occ_base.specs.Padded.{IsPadded, padded, padded_back, shown}
-use Rattle.occ_base.proofs.Zeros.{filled_order, first_counts}
+use Rattle.occ_base.proofs.Digits.{is_equal, is_greater, is_less}
+use Rattle.occ_base.proofs.Zeros.{filled_order, first_counts, one_more}
 
 -- the first as it is held
 held_front : (a : Inside) → IsPadded a → front (shown a) ≡ take 16 a.bytes
@@ -42,3 +44,22 @@ front_decides xs ys h k differ =
     let filled = filled_order xs ys (64 - length xs) (64 - length ys) (omega (arith, h, k)) in
     let first : slice_cmp nat_cmp (front xs) (front ys) ≡ slice_cmp nat_cmp (padded xs).bytes (padded ys).bytes = first_counts _ _ _ differ (sym (split 16 (padded xs).bytes (padded ys).bytes)) in
     first ∙ first_counts _ _ _ (λ e. differ (first ∙ e)) filled
+
+-- what stands in front of the same bytes
+front_order : (f : List ℕ) (m n : ℕ) → m ≤ length f → n ≤ length f → slice_cmp nat_cmp (take m f) (take n f) ≡ nat_cmp m n
+front_order f zero zero h k = sym (is_equal 0 0 refl)
+front_order [] zero (suc n) h k = absurd (omega (arith, k))
+front_order [] (suc m) n h k = absurd (omega (arith, h))
+front_order (x ∷ f) zero (suc n) h k = sym (is_less 0 (suc n) (omega arith))
+front_order (x ∷ f) (suc m) zero h k = sym (is_greater (suc m) 0 (omega arith))
+front_order (x ∷ f) (suc m) (suc n) h k = ap (λ (o : Ordering). ordering_then o (slice_cmp nat_cmp (take m f) (take n f))) (is_equal x x refl) ∙ front_order f m n (omega (arith, h)) (omega (arith, k)) ∙ sym (one_more m n)
+
+-- of names of one front that have no more bytes the lengths decide
+pub lengths_decide : (a b : Inside) → IsPadded a → IsPadded b → a.len ≤ 16 → b.len ≤ 16 → slice_cmp nat_cmp (front (shown a)) (front (shown b)) ≡ Equal → nat_cmp a.len b.len ≡ slice_cmp nat_cmp (shown a) (shown b)
+lengths_decide a b h k s t e =
+    let same : bytes_eq (front (shown a)) (front (shown b)) ≡ true = sym (is_eq-slice_cmp (front (shown a)) (front (shown b))) ∙ ap is_eq e in
+    let fronts : front (shown a) ≡ front (shown b) = (bytes_decides (front (shown a)) (front (shown b))).0 same in
+    let long : length (front (shown a)) ≡ 16 = ap (length {A = ℕ}) (held_front a h) ∙ (let l = length-take 16 a.bytes in let w = h.whole in omega (arith, l, w)) in
+    let one : slice_cmp nat_cmp (take a.len (front (shown a))) (take b.len (front (shown a))) ≡ nat_cmp a.len b.len = front_order (front (shown a)) a.len b.len (omega (arith, s, long)) (omega (arith, t, long)) in
+    let other : shown b ≡ take b.len (front (shown a)) = within b k t ∙ ap (take b.len) (sym fronts) in
+    sym one ∙ ap (λ (xs : List ℕ). slice_cmp nat_cmp xs (take b.len (front (shown a)))) (sym (within a h s)) ∙ ap (slice_cmp nat_cmp (shown a)) (sym other)

@@ -1,5 +1,5 @@
 -- Each name at its first index, made in one walk.
-use Rattle.std.proofs.Common.{◌≡◌, ℕ, true, false, Bool, cond, not, ◌&&◌, List, [], ◌∷◌, ◌++◌, refl, sym, ap, ◌∙◌, append_assoc}
+use Rattle.std.proofs.Common.{◌≡◌, ◌<◌, ℕ, length, arith, true, false, Bool, cond, not, ◌&&◌, List, [], ◌∷◌, ◌++◌, refl, sym, ap, ◌∙◌, append_assoc}
 use Rattle.std.specs.List.{filter}
 use Rattle.std.specs.Ordering.{is_eq}
 use Rattle.std.specs.Str.{bytes_eq}
@@ -71,3 +71,9 @@ is_new added false e h = refl
 pub is_known : (added known : Bool) → added ≡ false → added ≡ not known → known ≡ true
 is_known added true e h = refl
 is_known added false e h = cc
+
+-- of fewer than two names each stands once
+pub few_once : (names : List (List ℕ)) → length names < 2 → names ≡ first_indices names
+few_once [] lt = refl
+few_once (name ∷ []) lt = refl
+few_once (name ∷ other ∷ names) lt = absurd (omega (arith, lt))

@@ -41,7 +41,7 @@ under Less s o t h = refl
 under Equal s o t h = h
 under Greater s o t h = refl
 
-one_more : (m n : ℕ) → nat_cmp (suc m) (suc n) ≡ nat_cmp m n
+pub one_more : (m n : ℕ) → nat_cmp (suc m) (suc n) ≡ nat_cmp m n
 one_more m n = as_these (suc m) (suc n) m n (λ h. omega (arith, h)) (λ h. omega (arith, h)) (λ h. omega (arith, h))
 
 -- the order of bytes is that of what is filled up, and else that of their lengths

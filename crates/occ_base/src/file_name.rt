@@ -4,11 +4,12 @@ ghost use Rattle.std.proofs.lemmas.Cmp.{nat_list_cmp_total};
 ghost use Rattle.std.specs.Cmp.{partial_order_from_own_ties};
 ghost use Rattle.std.specs.Cmp.Lexicographic.{slice_cmp};
 ghost use Rattle.std.specs.Cmp.Rules.{comparing};
-ghost use Rattle.std.specs.List.{list_all};
+ghost use Rattle.std.specs.List.{ends_with, list_all};
 ghost use Rattle.std.specs.Ordering.{as_partial_cmp, nat_cmp};
-ghost use Rattle.std.specs.Prelude.{◌≡◌, ◌≤◌, ◌↔◌, IfOk, IsTrue, length};
+ghost use Rattle.std.specs.Prelude.{◌≡◌, ◌≤◌, ◌↔◌, IfOk, IsTrue, length, nat_eq};
 ghost use Rattle.std.specs.Result.{result_err};
 ghost use Rattle.std.specs.Str.{bytes_eq};
+ghost use Rattle.std.specs.declared.cmp.Ordering.TheVariants.{Equal};
 ghost use Rattle.occ_base.specs.FileName.{IsFileName, has_length as spec_has_length, has_suffix as spec_has_suffix, is_file_byte as spec_is_file_byte, is_unit, name_fault};
 ghost use Rattle.occ_base.specs.inside.Front.{front as spec_front};
 
@@ -82,7 +83,7 @@ impl FileName {
     pub fn is_unit(&self) -> bool
         ensures { result ≡ is_unit self.now }
     {
-        self.as_bytes().ends_with(b".occ")
+        ends_in(self.as_bytes(), b".occ")
     }
 
     /// The first 16 of the bytes and of the zeros after them.
@@ -94,6 +95,18 @@ impl FileName {
             Some((front, _)) => front,
             None => unreachable!(),
         }
+    }
+
+    /// Which of two names comes first of which the first 16 bytes are the same: where there are no more the longer one is after the
+    /// other.
+    fn order_of_one_front(&self, other: &FileName) -> Ordering
+        requires { slice_cmp nat_cmp (spec_front self.now) (spec_front other.now) ≡ Equal }
+        ensures { result ≡ slice_cmp nat_cmp self.now other.now }
+    {
+        if self.len <= 16 && other.len <= 16 {
+            return self.len.cmp(&other.len);
+        }
+        order(self.as_bytes(), other.as_bytes())
     }
 }
 
@@ -133,7 +146,24 @@ fn is_file_byte(b: u8) -> bool
 fn has_suffix(bytes: &[u8]) -> bool
     ensures { result ≡ spec_has_suffix bytes.now }
 {
-    bytes.ends_with(b".occ") || bytes.ends_with(b".inc") || bytes.ends_with(b".lbb")
+    ends_in(bytes, b".occ") || ends_in(bytes, b".inc") || ends_in(bytes, b".lbb")
+}
+
+/// Whether four bytes are the same as four others.
+fn are_same_four(a: &[u8; 4], b: &[u8; 4]) -> bool
+    ensures { IsTrue result ↔ (a.now ≡ b.now) }
+{
+    u32::from_le_bytes(*a) == u32::from_le_bytes(*b)
+}
+
+/// Whether these are the last four of the bytes.
+fn ends_in(bytes: &[u8], last: &[u8; 4]) -> bool
+    ensures { result ≡ ends_with nat_eq bytes.now last.now }
+{
+    match bytes.split_last_chunk::<4>() {
+        Some((_, end)) => are_same_four(last, end),
+        None => false,
+    }
 }
 
 /// The name of bytes that are one.
@@ -233,7 +263,7 @@ impl Ord for FileName {
 
     fn cmp(&self, other: &FileName) -> Ordering {
         match short::order(self.front(), other.front()) {
-            Ordering::Equal => order(self.as_bytes(), other.as_bytes()),
+            Ordering::Equal => self.order_of_one_front(other),
             decided => decided,
         }
     }

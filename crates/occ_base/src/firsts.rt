@@ -11,6 +11,9 @@ use std::collections::BTreeSet;
 pub fn first_indices(alloc: Global, names: &[FileName]) -> Result<Items<FileName>, AllocError>
     ensures { IfOk result (λ found. found ≡ spec_first_indices names.now) }
 {
+    if names.len() < 2 {
+        return Items::from_slice(alloc, names);
+    }
     let mut seen = BTreeSet::new(alloc);
     let mut found = Items::new(alloc);
     for name in names {

@@ -1,11 +1,14 @@
-use Rattle.std.proofs.Common.{◌≡◌, ◌+◌, ℕ, true, false, List, ◌∷◌, ◌++◌, drop, refl, sym, ap, ◌∙◌, arith}
+use Rattle.std.proofs.Common.{◌≡◌, ◌+◌, ℕ, true, false, List, ◌∷◌, ◌++◌, drop, refl, sym, ap, subst, ◌∙◌, IfOk, arith}
 use Rattle.std.proofs.lemmas.List.{drop_more}
 use Rattle.std.specs.BTreeSet.{contains}
 use Rattle.std.specs.Cmp.Lexicographic.{slice_cmp}
 use Rattle.std.specs.Ordering.{nat_cmp}
-use Rattle.occ_base.proofs.Indices.{comes_known, comes_new, is_known, is_new, none_known, unknown}
+use Rattle.occ_base.proofs.Indices.{comes_known, comes_new, few_once, is_known, is_new, none_known, unknown}
 use Rattle.occ_base.proofs.firsts.first_indices.Goals as goal
 use Rattle.occ_base.proofs.firsts.first_indices.Goals.{then-branch+in_ok-push, else-branch}
+
+pub returns-then-names-lt2 : goal.returns-then-names-lt2
+returns-then-names-lt2 c = subst (λ (names : List (List ℕ)). IfOk c.from_slice.result (λ found. found ≡ names)) (few_once c.args.names.now (omega (arith, c.if-names-lt2.true))) c.from_slice.ensures
 
 pub loop-name-init : goal.loop-name-init
 loop-name-init c = ap (λ (ns : List (List ℕ)). ns ++ unknown (contains (slice_cmp nat_cmp) c.new-seen.result) c.args.names.now) c.new-found.ensures ∙ none_known (contains (slice_cmp nat_cmp) c.new-seen.result) (λ q. rw c.new-seen.ensures.empty refl) c.args.names.now
