@@ -41,7 +41,7 @@ pub fn is_whole(facts: &Facts, edges: usize) -> bool
     facts.reads.len() <= 1 && edges == facts.uses.len()
 }
 
-/// Adds what is known of the file at an index, which is new.
+/// Adds what is known of the file at an index, which is new. What it uses is looked for first near what the file before it uses.
 fn add_known(
     alloc: Global,
     project: &Project,
@@ -57,7 +57,8 @@ fn add_known(
     ensures err { OnErr result (facts.new.items ≡ facts.old.items × links.new ≡ links.old) }
 {
     let known = facts_of(alloc, project, at, project.name_at(at), &mut None)?;
-    let targets = indices_of(alloc, project, 0, None, known.uses.as_slice())?;
+    let hints = links.targets(at.saturating_sub(1));
+    let targets = indices_of(alloc, project, 0, Some(&hints), known.uses.as_slice())?;
     let shared = Shared::new(alloc, known)?;
     insert_at(facts, at, shared)?;
     match links.add(alloc, at, targets) {

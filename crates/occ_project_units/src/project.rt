@@ -158,7 +158,8 @@ impl Project {
         }
     }
 
-    /// The place of the file of that name. One that stands at this index, or after it, is found at once.
+    /// The place of the file of that name. One that stands at this index, or after it, is found at once, and so is that none stands
+    /// there.
     pub fn index_near(&self, hint: usize, name: FileName) -> Option<usize>
         ensures { result ≡ spec_index name self.now }
     {
@@ -168,6 +169,9 @@ impl Project {
         let next = hint.saturating_add(1);
         if self.is_at(next, name) {
             return Some(next);
+        }
+        if self.is_gap(next, name) {
+            return None;
         }
         self.index(name)
     }
