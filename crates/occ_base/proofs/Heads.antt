@@ -1,14 +1,15 @@
 -- What the first 16 bytes of two file names say of the names.
 use Rattle.std.proofs.Common.{◌≡◌, ◌≢◌, ◌≤◌, ◌-◌, ℕ, zero, suc, true, List, [], ◌∷◌, length, take, drop, refl, arith, ap, sym, ◌∙◌, bytes_eq}
 use Rattle.std.proofs.lemmas.List.{take-take}
-use Rattle.std.specs.Cmp.Lexicographic.{slice_cmp, bytes_decides}
-use Rattle.std.specs.Ordering.{nat_cmp, ordering_then}
+use Rattle.std.proofs.lemmas.Map.Text.{is_eq-slice_cmp}
+use Rattle.std.specs.Cmp.Lexicographic.{slice_cmp, bytes_decides, same_text}
+use Rattle.std.specs.Ordering.{is_eq, nat_cmp, ordering_then}
 use Rattle.std.specs.declared.cmp.Ordering.{Ordering}
 use Rattle.std.specs.declared.cmp.Ordering.TheVariants.{Less, Equal, Greater}
 use Rattle.occ_base.specs.declared.file_name.FileName.TheInside.{Inside}
 use Rattle.occ_base.specs.inside.Front.{front}
 use Rattle.occ_base.specs.Padded.{IsPadded, padded, padded_back, shown}
-use Rattle.occ_base.proofs.Zeros.{filled_order, first_counts}
+use Rattle.occ_base.proofs.Zeros.{filled_order, first_counts, level}
 
 -- the first as it is held
 held_front : (a : Inside) → IsPadded a → front (shown a) ≡ take 16 a.bytes
@@ -23,6 +24,13 @@ same_front a b h k e s same =
     let fronts : front (shown a) ≡ front (shown b) = (bytes_decides (front (shown a)) (front (shown b))).0 same in
     let names : shown a ≡ shown b = within a h s ∙ ap (λ (n : ℕ). take n (front (shown a))) e ∙ ap (take b.len) fronts ∙ sym (within b k (omega (arith, e, s))) in
     sym ((bytes_decides (shown a) (shown b)).1 names)
+
+-- names of one length whose first 16 bytes stand beside one another are the same
+pub same_order : (a b : Inside) → IsPadded a → IsPadded b → a.len ≡ b.len → a.len ≤ 16 → slice_cmp nat_cmp (front (shown a)) (front (shown b)) ≡ Equal → Equal ≡ slice_cmp nat_cmp (shown a) (shown b)
+same_order a b h k e s beside =
+    let fronts : front (shown a) ≡ front (shown b) = same_text (front (shown a)) (front (shown b)) (sym (sym (is_eq-slice_cmp (front (shown a)) (front (shown b))) ∙ ap is_eq beside)) in
+    let names : shown a ≡ shown b = within a h s ∙ ap (λ (n : ℕ). take n (front (shown a))) e ∙ ap (take b.len) fronts ∙ sym (within b k (omega (arith, e, s))) in
+    rw names (sym (level (shown b)))
 
 -- the first n of each decide, and else the others
 thrice : (r s o : Ordering) → ordering_then r (ordering_then s o) ≡ ordering_then (ordering_then r s) o

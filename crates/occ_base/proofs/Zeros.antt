@@ -13,7 +13,7 @@ zeros n = replicate n 0
 
 -- ---- the order
 
-level : (xs : List ℕ) → slice_cmp nat_cmp xs xs ≡ Equal
+pub level : (xs : List ℕ) → slice_cmp nat_cmp xs xs ≡ Equal
 level [] = refl
 level (x ∷ xs) = rw (is_equal x x refl) (level xs)
 

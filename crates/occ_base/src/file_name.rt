@@ -233,6 +233,7 @@ impl Ord for FileName {
 
     fn cmp(&self, other: &FileName) -> Ordering {
         match short::order(self.front(), other.front()) {
+            Ordering::Equal if self.len == other.len && self.len <= 16 => Ordering::Equal,
             Ordering::Equal => order(self.as_bytes(), other.as_bytes()),
             decided => decided,
         }

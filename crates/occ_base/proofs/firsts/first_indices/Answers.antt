@@ -14,8 +14,8 @@ pub loop-name-preserved : goal.loop-name-preserved
 loop-name-preserved c =
     let names = c.args.names.now in
     let i = c.loop-name.name-index in
-    let name = c.name-item.result in
-    let d : drop i names ≡ name ∷ drop (i + 1) names = drop_more names i name (omega arith) ∙ ap (λ (n : List ℕ). n ∷ drop (i + 1) names) (sym c.name-item.is) in
+    let name = c.name-item-in-loop-name.result in
+    let d : drop i names ≡ name ∷ drop (i + 1) names = drop_more names i name (omega arith) ∙ ap (λ (n : List ℕ). n ∷ drop (i + 1) names) (sym c.name-item-in-loop-name.is) in
     let old = contains (slice_cmp nat_cmp) c.loop-name.seen in
     let new = contains (slice_cmp nat_cmp) c.insert.new.self in
     elim c.if-branch.branch [
