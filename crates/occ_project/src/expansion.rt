@@ -1,5 +1,6 @@
 //! Makes the expansion of a unit, file by file, and after each `#INCLUDE` the lines of its file. The line of a `#USE` of a library
 //! gets the units of its list. `docs/LANGUAGE.md, Expansion`.
+ghost use Rattle.occ_base.specs.Firsts.{first_indices as spec_first_indices};
 ghost use Rattle.occ_project.specs.Entries.{entries, held as spec_held, included, put_in, use_line as spec_use_line};
 ghost use Rattle.occ_project.specs.Expansion.{expansion, not_given};
 ghost use Rattle.occ_project.specs.inside.Making.{after, step};
@@ -196,24 +197,46 @@ fn add_file(
     Ok(())
 }
 
+/// How many lines a file has, if it is open.
+fn count_of(found: Option<&[SourceLine]>) -> usize {
+    match found {
+        Some(lines) => lines.len(),
+        None => 0,
+    }
+}
+
+/// Each name once, at its first index. Most units look up no file but their own.
+fn each_once(alloc: Global, names: Items<FileName>) -> Result<Items<FileName>, AllocError>
+    ensures { IfOk result (λ found. found ≡ spec_first_indices names) }
+{
+    if names.len() < 2 {
+        return Ok(names);
+    }
+    first_indices(alloc, names.as_slice())
+}
+
 /// The expansion of the unit over these files.
 fn expanded(alloc: Global, files: &Files<'_>, unit: FileName) -> Result<Expanded, AllocError>
     ensures { IfOk result (λ expanded. expanded ≡ expansion files.now.reads.now unit) }
 {
-    let mut made = Made::new(alloc, LINE_LIMIT);
-    made.names.push(unit)?;
-    if let Some(lines) = files.open_lines(unit) {
+    let found = files.open_lines(unit);
+    let mut made = Made::new(alloc, unit, count_of(found), LINE_LIMIT)?;
+    if let Some(lines) = found {
         let opened = Opened {
             file: unit,
             left: INCLUSION_LIMIT,
             raise: 0,
         };
-        let mut way = Items::new(alloc);
-        way.push(unit)?;
+        let mut way = one_item(alloc, unit)?;
         add_file(alloc, files, &mut way, opened, lines, &mut made)?;
     }
-    let reads = first_indices(alloc, made.names.as_slice())?;
-    let Made { lines, faults, .. } = made;
+    let Made {
+        lines,
+        faults,
+        names,
+        ..
+    } = made;
+    let reads = each_once(alloc, names)?;
     Ok(Expanded::of(lines, reads, faults))
 }
 

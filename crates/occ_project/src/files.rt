@@ -4,7 +4,7 @@ ghost use Rattle.occ_project.specs.Reads.{member as spec_member, name_cmp, open_
 ghost use Rattle.std.specs.BTreeMap.{get};
 ghost use Rattle.std.specs.List.{find};
 ghost use Rattle.std.specs.Option.{is_some, option_copied};
-ghost use Rattle.std.specs.Prelude.{Err, IfOk, List, MatchResult, Ok, not, ℕ, ◌≡◌};
+ghost use Rattle.std.specs.Prelude.{Err, IfOk, List, MatchResult, Ok, length, not, ℕ, ◌≡◌, ◌≤◌};
 
 use super::reads::{Read, Reads};
 use occ_base::{Code, FileName, Items, Shared, one_item};
@@ -16,8 +16,9 @@ use std::collections::BTreeMap;
 #[derive(Drop)]
 pub struct Files<'a> {
     reads: &'a Reads,
+    /// The place of the first member of each name. Where there is one member alone it is looked at itself.
     indices: BTreeMap<FileName, usize>,
-    ghost placed: { (name : List ℕ) → get name_cmp indices name ≡ index name reads.now },
+    ghost placed: { 2 ≤ length reads.now → (name : List ℕ) → get name_cmp indices name ≡ index name reads.now },
 }
 
 /// The place of the first member of each name.
@@ -33,11 +34,27 @@ fn indices(alloc: Global, reads: &[Read]) -> Result<BTreeMap<FileName, usize>, A
     Ok(indices)
 }
 
+/// The first member of that name.
+fn first_of(reads: &[Read], name: FileName) -> Option<&Read>
+    ensures { option_copied result ≡ spec_member reads.now name }
+{
+    for read in reads {
+        if read.name == name {
+            return Some(read);
+        }
+    }
+    None
+}
+
 impl<'a> Files<'a> {
     pub fn new(alloc: Global, reads: &'a Reads) -> Result<Files<'a>, AllocError>
         ensures { IfOk result (λ files. files.reads.now ≡ reads.now) }
     {
-        let indices = indices(alloc, reads.as_slice())?;
+        let indices = if reads.len() < 2 {
+            BTreeMap::new(alloc)
+        } else {
+            indices(alloc, reads.as_slice())?
+        };
         Ok(Files { reads, indices })
     }
 
@@ -45,6 +62,9 @@ impl<'a> Files<'a> {
     fn member(&self, name: FileName) -> Option<&Read>
         ensures { option_copied result ≡ spec_member self.now.reads.now name }
     {
+        if self.reads.len() < 2 {
+            return first_of(self.reads.as_slice(), name);
+        }
         let index = self.indices.get(&name)?;
         self.reads.get(*index)
     }

@@ -2,11 +2,11 @@
 ghost use Rattle.occ_project.specs.Expansion.{fault_names, held_faults, limit_fault};
 ghost use Rattle.occ_project.specs.inside.Making.{step};
 ghost use Rattle.occ_project.specs.declared.entry.Held.TheVariants as held;
-ghost use Rattle.std.specs.Prelude.{OnOk, [], false, ◌≡◌, ◌++◌};
+ghost use Rattle.std.specs.Prelude.{IfOk, OnOk, [], false, ◌≡◌, ◌++◌, ◌∷◌};
 
 use super::entry::{ExpansionEntry, Held};
 use super::expanded::{ExpandedBody, ExpandedLine};
-use occ_base::{Code, Diag, FileName, Items, Name};
+use occ_base::{Code, Diag, FileName, Items, Name, one_item};
 use std::alloc::{AllocError, Global};
 
 /// An expansion that is being made.
@@ -64,17 +64,22 @@ fn too_many(entry: &ExpansionEntry) -> Diag
 }
 
 impl Made {
-    /// Nothing yet, with room for so many entries.
-    pub fn new(alloc: Global, room: usize) -> Made
-        ensures { result ≡ record { lines = []; faults = []; names = []; room = room; is_over = false } }
+    /// The unit is looked up, and nothing comes yet; so many lines are expected, and so many entries may come.
+    pub fn new(
+        alloc: Global,
+        unit: FileName,
+        expected: usize,
+        room: usize,
+    ) -> Result<Made, AllocError>
+        ensures { IfOk result (λ made. made ≡ record { lines = []; faults = []; names = unit ∷ []; room = room; is_over = false }) }
     {
-        Made {
-            lines: Items::new(alloc),
+        Ok(Made {
+            lines: Items::from_vec(Vec::with_capacity(alloc, expected.min(room))?),
             faults: Items::new(alloc),
-            names: Items::new(alloc),
+            names: one_item(alloc, unit)?,
             room,
             is_over: false,
-        }
+        })
     }
 
     /// Adds an entry, or ends the expansion before it if there is no room.

@@ -70,7 +70,7 @@ pub fn wrong_lines(alloc: Global, lines: &[ExpandedLine]) -> Result<Stack<bool>,
     ensures { IfOk result (λ found. found ≡ wrong (outlines lines.now)) }
 {
     let mut places = find_places(alloc, lines)?;
-    let mut roots = Stack::new(alloc);
+    let mut roots = Stack::with_room(alloc, lines.len())?;
     let mut found = Stack::with_room(alloc, lines.len())?;
     while let Some(place) = places.top() {
         let line = place.line;

@@ -8,7 +8,7 @@ use std::marker::Model;
 /// A stack, which contracts see as the list of what lies on it, the top first.
 #[derive(Drop)]
 pub struct Stack<T> {
-    items: Items<T>,
+    items: Vec<T>,
 }
 
 impl<T> Model for Stack<T> {
@@ -19,7 +19,7 @@ impl<T> Model for Stack<T> {
 
     ghost coded = { coded_list T.code };
 
-    ghost view = { λ stack. reverse stack.items };
+    ghost view = { λ stack. reverse stack.items.items };
 }
 
 impl<T> Stack<T> {
@@ -27,7 +27,7 @@ impl<T> Stack<T> {
         ensures { result ≡ [] }
     {
         Stack {
-            items: Items::new(alloc),
+            items: Vec::new(alloc),
         }
     }
 
@@ -36,7 +36,7 @@ impl<T> Stack<T> {
         ensures { IfOk result (λ stack. stack ≡ []) }
     {
         Ok(Stack {
-            items: Items::from_vec(Vec::with_capacity(alloc, room)?),
+            items: Vec::with_capacity(alloc, room)?,
         })
     }
 
@@ -45,7 +45,7 @@ impl<T> Stack<T> {
     pub fn top(&self) -> Option<&T>
         ensures { MatchOption result (self.now ≡ []) (λ top. (below : List T) × (self.now ≡ top.now ∷ below)) }
     {
-        match self.items.as_slice().split_last() {
+        match self.items.split_last() {
             Some((top, _)) => Some(top),
             None => None,
         }
@@ -64,18 +64,16 @@ impl<T: Drop> Stack<T> {
     pub fn push(&mut self, item: T) -> Result<(), AllocError>
         ensures { OnOk result (self.new ≡ item ∷ self.old) }
     {
-        self.items.push(item)
+        self.items.push(item)?;
+        Ok(())
     }
 
     /// What lies on it, the top first.
-    pub fn into_items(self, alloc: Global) -> Result<Items<T>, AllocError>
-        ensures { IfOk result (λ items. items ≡ self) }
+    pub fn into_items(self) -> Items<T>
+        ensures { result ≡ self }
     {
-        let mut stack = self;
-        let mut items = Items::from_vec(Vec::with_capacity(alloc, stack.items.len())?);
-        while let Some(top) = stack.pop() {
-            items.push(top)?;
-        }
-        Ok(items)
+        let Stack { mut items } = self;
+        items.reverse();
+        Items::from_vec(items)
     }
 }

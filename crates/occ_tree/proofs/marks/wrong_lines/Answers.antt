@@ -7,7 +7,7 @@ use Rattle.occ_tree.proofs.marks.wrong_lines.Goals as goal
 
 pub loop-place-init : goal.loop-place-init
 loop-place-init c =
-    (turned (outlines c.args.lines.now) [], [], c.in_ok-places.ensures, c.new-roots.ensures, c.in_ok-found.ensures, turned_twice (outlines c.args.lines.now))
+    (turned (outlines c.args.lines.now) [], [], c.in_ok-places.ensures, c.in_ok-roots.ensures, c.in_ok-found.ensures, turned_twice (outlines c.args.lines.now))
 
 pub loop-place-preserved : goal.loop-place-preserved
 loop-place-preserved c =
