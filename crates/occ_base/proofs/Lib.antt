@@ -8,3 +8,4 @@ pub mod Digits
 pub mod Zeros
 pub mod Heads
 pub mod Numbers
+pub mod Ends

@@ -4,9 +4,9 @@ ghost use Rattle.std.proofs.lemmas.Cmp.{nat_list_cmp_total};
 ghost use Rattle.std.specs.Cmp.{partial_order_from_own_ties};
 ghost use Rattle.std.specs.Cmp.Lexicographic.{slice_cmp};
 ghost use Rattle.std.specs.Cmp.Rules.{comparing};
-ghost use Rattle.std.specs.List.{list_all};
+ghost use Rattle.std.specs.List.{ends_with as spec_ends_with, list_all};
 ghost use Rattle.std.specs.Ordering.{as_partial_cmp, nat_cmp};
-ghost use Rattle.std.specs.Prelude.{◌≡◌, ◌≤◌, ◌↔◌, IfOk, IsTrue, length};
+ghost use Rattle.std.specs.Prelude.{◌≡◌, ◌≤◌, ◌↔◌, IfOk, IsTrue, length, nat_eq};
 ghost use Rattle.std.specs.Result.{result_err};
 ghost use Rattle.std.specs.Str.{bytes_eq};
 ghost use Rattle.occ_base.specs.FileName.{IsFileName, has_length as spec_has_length, has_suffix as spec_has_suffix, is_file_byte as spec_is_file_byte, is_unit, name_fault};
@@ -133,7 +133,24 @@ fn is_file_byte(b: u8) -> bool
 fn has_suffix(bytes: &[u8]) -> bool
     ensures { result ≡ spec_has_suffix bytes.now }
 {
-    bytes.ends_with(b".occ") || bytes.ends_with(b".inc") || bytes.ends_with(b".lbb")
+    ends_with(bytes, b".occ") || ends_with(bytes, b".inc") || ends_with(bytes, b".lbb")
+}
+
+/// Whether the bytes end with these four, which are compared at once.
+fn ends_with(bytes: &[u8], end: &[u8; 4]) -> bool
+    ensures { result ≡ spec_ends_with nat_eq bytes.now end.now }
+{
+    match bytes.split_last_chunk::<4>() {
+        Some((_, last)) => are_same_four(end, last),
+        None => false,
+    }
+}
+
+/// Whether four bytes are the same as four others.
+fn are_same_four(a: &[u8; 4], b: &[u8; 4]) -> bool
+    ensures { IsTrue result ↔ (a.now ≡ b.now) }
+{
+    u32::from_le_bytes(*a) == u32::from_le_bytes(*b)
 }
 
 /// The name of bytes that are one.
