@@ -11,3 +11,4 @@ pub mod Cut
 pub mod Lists
 pub mod SameLines
 pub mod Words
+pub mod Suffixes

@@ -1,6 +1,7 @@
 -- The logical lines of lines, one after the other.
-use Rattle.std.proofs.Common.{◌≡◌, ◌+◌, inl, inr, ℕ, zero, suc, Bool, true, false, List, [], ◌∷◌, ◌++◌, get_or, length, map, Option, Some, None, refl, sym, ap, subst, ◌∙◌, arith, append_assoc}
+use Rattle.std.proofs.Common.{◌≡◌, ◌+◌, inl, inr, ℕ, zero, suc, Bool, true, false, List, [], ◌∷◌, ◌++◌, get_or, length, map, remove, slice_get, Option, Some, None, Result, Ok, Err, refl, sym, ap, subst, ◌∙◌, arith, append_assoc}
 use Rattle.std.specs.Bool.{MatchBool}
+use Rattle.std.specs.Result.{OnOk}
 use Rattle.std.proofs.lemmas.List.{append-nil}
 use Rattle.bstr.specs.Text.{lines_of, without_terminator}
 use Rattle.occ_lines.specs.declared.directive.Directive.{Directive}
@@ -50,6 +51,66 @@ pub goes_to_end : (text : List ℕ) (found : List Logical) (statement : Option S
 goes_to_end text found statement number left all none is kept =
     let goes : Goes text found statement number [] = rw none at kept in
     subst (λ (xs : List Logical). AreRead text xs) (sym is) (goes.joined (unfinished statement) refl)
+
+-- what a sink holds of lines that go on so
+pub record Sent (holds : List Logical → Type 0) (text : List ℕ) (statement : Option Statement) (number : ℕ) (left : List (List ℕ)) : Type 0 where
+  pub lines : List Logical
+  pub goes : Goes text lines statement number left
+  pub held : holds lines
+
+pub sent_begins : (holds : List Logical → Type 0) (text : List ℕ) (left : List (List ℕ)) → holds [] → left ≡ map without_terminator (lines_of text) → Sent holds text None 0 left
+sent_begins holds text left held all = record { lines = []; goes = goes_begins text [] left refl all; held = held }
+
+pub sent_over : (before after : List Logical → Type 0) (text : List ℕ) (found : List Logical) (statement : Option Statement) (number : ℕ) (line : List ℕ) (left : List (List ℕ)) (all : List Logical) (next : Option Statement)
+    → found ≡ [] → Adds found all (λ ended. IsLine statement (number + 1) line ended next) → ((lines : List Logical) → before lines → after (lines ++ all))
+    → Sent before text statement number (line ∷ left) → Sent after text next (number + 1) left
+sent_over before after text found statement number line left all next none adds taken sent =
+    let ended : all ≡ adds.0 = adds.1 ∙ ap (λ (xs : List Logical). xs ++ adds.0) none in
+    record {
+      lines = sent.lines ++ all;
+      goes = goes_over text sent.lines statement number line left (sent.lines ++ all) next (adds.0, ap (λ (xs : List Logical). sent.lines ++ xs) ended, adds.2) sent.goes;
+      held = taken sent.lines sent.held;
+    }
+
+sent_to_end : (before after : List Logical → Type 0) (text : List ℕ) (found : List Logical) (statement : Option Statement) (number : ℕ) (left : List (List ℕ)) (all : List Logical)
+    → left ≡ [] → found ≡ [] → all ≡ found ++ unfinished statement → ((lines : List Logical) → before lines → after (lines ++ all))
+    → Sent before text statement number left → (lines : List Logical) × AreRead text lines × after lines
+sent_to_end before after text found statement number left all over none is taken sent =
+    let ended : all ≡ unfinished statement = is ∙ ap (λ (xs : List Logical). xs ++ unfinished statement) none in
+    (sent.lines ++ all, goes_to_end text sent.lines statement number left (sent.lines ++ all) over (ap (λ (xs : List Logical). sent.lines ++ xs) ended) sent.goes, taken sent.lines sent.held)
+
+-- what holds of a sink where it takes them all without an error
+pub sent_if_ok : {T E : Type 0} (result : Result T E) (before after : List Logical → Type 0) (text : List ℕ) (found : List Logical) (statement : Option Statement) (number : ℕ) (left : List (List ℕ)) (all : List Logical)
+    → left ≡ [] → found ≡ [] → all ≡ found ++ unfinished statement → OnOk result ((lines : List Logical) → before lines → after (lines ++ all))
+    → Sent before text statement number left → OnOk result ((lines : List Logical) × AreRead text lines × after lines)
+sent_if_ok (Ok x) before after text found statement number left all over none is taken sent = sent_to_end before after text found statement number left all over none is taken sent
+sent_if_ok (Err e) before after text found statement number left all over none is taken sent = tt
+
+-- the sink has taken the first of these lines, and those that are left are to be taken
+pub record Handed (before after : List Logical → Type 0) (all left : List Logical) : Type 0 where
+  pub taken : List Logical
+  pub parts : all ≡ taken ++ left
+  pub held : (lines : List Logical) → before lines → after (lines ++ taken)
+
+pub handed_none : (before : List Logical → Type 0) (all : List Logical) → Handed before before all all
+handed_none before all = record { taken = []; parts = refl; held = λ lines h. subst before (sym (append-nil lines)) h }
+
+pub handed_more : (before between after : List Logical → Type 0) (all left rest : List Logical) (x : Logical)
+    → slice_get left 0 ≡ Some x → rest ≡ remove left 0 → ((lines : List Logical) → between lines → after (lines ++ x ∷ []))
+    → Handed before between all left → Handed before after all rest
+handed_more before between after all [] rest x first is takes handed = absurd cc
+handed_more before between after all (y ∷ ys) rest x first is takes handed =
+    let same : y ≡ x = (cc) in
+    record {
+      taken = handed.taken ++ x ∷ [];
+      parts = handed.parts ∙ ap (λ (z : Logical). handed.taken ++ z ∷ ys) same ∙ ap (λ (zs : List Logical). handed.taken ++ x ∷ zs) (sym is) ∙ sym (append_assoc handed.taken (x ∷ []) rest);
+      held = λ lines h. subst after (append_assoc lines handed.taken (x ∷ [])) (takes (lines ++ handed.taken) (handed.held lines h));
+    }
+
+pub handed_all : (before after : List Logical → Type 0) (all left : List Logical) → left ≡ [] → Handed before after all left → (lines : List Logical) → before lines → after (lines ++ all)
+handed_all before after all left none handed lines h =
+    let whole : all ≡ handed.taken = handed.parts ∙ ap (λ (xs : List Logical). handed.taken ++ xs) none ∙ append-nil handed.taken in
+    subst (λ (xs : List Logical). after (lines ++ xs)) (sym whole) (handed.held lines h)
 
 -- a text spells one list at most
 

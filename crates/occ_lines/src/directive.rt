@@ -1,6 +1,7 @@
 //! Directives.
-ghost use Rattle.std.specs.Prelude.{◌≡◌, ◌≤◌, ◌==◌, ◌++◌, cond, IfOk, MatchOption, None, Some, length};
-ghost use Rattle.std.specs.List.{prefix_len};
+ghost use Rattle.std.specs.Prelude.{◌≡◌, ◌≤◌, ◌==◌, ◌++◌, cond, IfOk, MatchOption, None, Some, codes, length, nat_eq};
+ghost use Rattle.std.specs.List.{ends_with, prefix_len};
+ghost use Rattle.std.specs.Result.{result_err};
 ghost use Rattle.occ_base.specs.FileName.{name_fault};
 ghost use Rattle.occ_lines.specs.Directive.{after_word as spec_after_word, directive_body as spec_directive_body, directive_of as spec_directive_of, include_body as spec_include_body, is_quoted_byte as spec_is_quoted_byte, last_dot as spec_last_dot, list_name, quoted_name as spec_quoted_name, use_body as spec_use_body, unit_name as spec_unit_name, without_suffix as spec_without_suffix};
 
@@ -9,7 +10,7 @@ use super::lexeme::{after_first, found_in};
 use super::quoted::following;
 use super::scan::name_len;
 use super::text::Body;
-use occ_base::{Code, FileName};
+use occ_base::{Boxed, Code, FileName, NameFault};
 use std::alloc::{AllocError, Global};
 
 /// What a directive asks for.
@@ -113,46 +114,60 @@ fn without_suffix(name: &[u8]) -> &[u8]
 }
 
 /// What a line holds that includes what is named after its word.
-fn include_body(text: &[u8]) -> Body
-    ensures { result ≡ spec_include_body (spec_quoted_name text.now) }
+fn include_body(alloc: Global, text: &[u8]) -> Result<Body, AllocError>
+    ensures { IfOk result (λ body. body ≡ spec_include_body (spec_quoted_name text.now)) }
 {
     let Some(name) = quoted_name(text) else {
-        return Body::Fault(Code::L1);
+        return Ok(Body::Fault(Code::L1));
     };
     match FileName::read(name) {
-        Ok(name) => Body::Include(name),
-        Err(_) => Body::Fault(Code::L1),
+        Ok(name) => Ok(Body::Include(Boxed::new(alloc, name)?)),
+        Err(_) => Ok(Body::Fault(Code::L1)),
     }
 }
 
-/// The name of the unit that is used by that name.
-pub fn unit_name(alloc: Global, name: &[u8]) -> Result<Vec<u8>, AllocError>
-    ensures { IfOk result (λ unit. unit.items ≡ spec_unit_name name.now) }
+/// The unit that is used by that name, or why it has no name of a file.
+pub fn unit_of(name: &[u8]) -> Result<FileName, NameFault>
+    ensures ok { IfOk result (λ unit. unit ≡ spec_unit_name name.now) }
+    ensures fault { result_err result ≡ name_fault (spec_unit_name name.now) }
 {
-    with_suffix(alloc, name, b".occ")
+    with_suffix(without_suffix(name), b".occ")
 }
 
-/// The name of a file that has that name but for its suffix.
-fn with_suffix(alloc: Global, name: &[u8], suffix: &[u8]) -> Result<Vec<u8>, AllocError>
-    ensures { IfOk result (λ whole. whole.items ≡ spec_without_suffix name.now ++ suffix.now) }
+/// The file of that name with the suffix, or why it is none.
+fn with_suffix(front: &[u8], suffix: &[u8; 4]) -> Result<FileName, NameFault>
+    ensures ok { IfOk result (λ file. file ≡ front.now ++ suffix.now) }
+    ensures fault { result_err result ≡ name_fault (front.now ++ suffix.now) }
 {
-    let room = name.len().saturating_add(suffix.len());
-    let mut whole = Vec::with_capacity(alloc, room)?;
-    whole.extend_from_slice(without_suffix(name))?;
-    whole.extend_from_slice(suffix)?;
-    Ok(whole)
+    if front.len() > 60 {
+        return Err(NameFault::Length);
+    }
+    let mut whole = [0; 64];
+    let (before, after) = whole.split_at_mut(front.len());
+    before.copy_from_slice(front);
+    after.split_at_mut(4).0.copy_from_slice(suffix);
+    FileName::read(whole.split_at(front.len() + 4).0)
+}
+
+/// Whether the name is that of a library.
+fn is_library(name: &[u8]) -> bool
+    ensures { result ≡ ends_with nat_eq name.now (codes ".lib") }
+{
+    name.len() >= 4 && name.split_at(name.len() - 4).1 == b".lib".as_slice()
 }
 
 /// The list of a library that is used by that name, of which the unit has a file name.
-fn list_of(alloc: Global, name: &[u8]) -> Result<Option<FileName>, AllocError>
+fn list_of(alloc: Global, name: &[u8]) -> Result<Option<Boxed<FileName>>, AllocError>
     requires { name_fault (spec_unit_name name.now) ≡ None }
     ensures { IfOk result (λ list. list ≡ list_name name.now) }
 {
-    if !name.ends_with(b".lib") {
+    if !is_library(name) {
         return Ok(None);
     }
-    let list = with_suffix(alloc, name, b".lbb")?;
-    Ok(FileName::read(list.as_slice()).ok())
+    match with_suffix(without_suffix(name), b".lbb") {
+        Ok(list) => Ok(Some(Boxed::new(alloc, list)?)),
+        Err(_) => Ok(None),
+    }
 }
 
 /// What a line holds that uses what is named after its word.
@@ -162,9 +177,11 @@ fn use_body(alloc: Global, text: &[u8]) -> Result<Body, AllocError>
     let Some(name) = quoted_name(text) else {
         return Ok(Body::Fault(Code::L1));
     };
-    let unit = unit_name(alloc, name)?;
-    match FileName::read(unit.as_slice()) {
-        Ok(unit) => Ok(Body::Uses(unit, list_of(alloc, name)?)),
+    match unit_of(name) {
+        Ok(unit) => {
+            let unit = Boxed::new(alloc, unit)?;
+            Ok(Body::Uses(unit, list_of(alloc, name)?))
+        }
         Err(_) => Ok(Body::Fault(Code::L1)),
     }
 }
@@ -178,7 +195,7 @@ pub fn directive_body(
     ensures { IfOk result (λ body. body ≡ spec_directive_body directive text.now) }
 {
     match directive {
-        Directive::Include => Ok(Some(include_body(after_word(text)))),
+        Directive::Include => Ok(Some(include_body(alloc, after_word(text))?)),
         Directive::Use => Ok(Some(use_body(alloc, after_word(text))?)),
         Directive::Dropped => Ok(None),
     }

@@ -5,7 +5,7 @@ ghost use Rattle.occ_lines.specs.Directive.{unit_name as spec_unit_name};
 ghost use Rattle.occ_lines.specs.Listing.{before_comment as spec_before_comment, is_broken_by, listed as spec_listed, name_on as spec_name_on, names_unit, trimmed as spec_trimmed};
 
 use super::blanks::{after_blanks, is_blank, is_end};
-use super::directive::unit_name;
+use super::directive::unit_of;
 use super::line::is_skipped;
 use bstr::ByteSlice;
 use occ_base::{FileName, Items, first_indices};
@@ -49,15 +49,14 @@ fn is_broken(name: &[u8]) -> bool
 }
 
 /// The unit on a line that is not skipped, if it names one.
-fn unit_on(alloc: Global, line: &[u8]) -> Result<Option<FileName>, AllocError>
-    ensures { IfOk result (λ found. MatchOption found (names_unit (spec_name_on line.now) ≡ false) (λ unit. (unit ≡ spec_unit_name (spec_name_on line.now)) × (names_unit (spec_name_on line.now) ≡ true))) }
+fn unit_on(line: &[u8]) -> Option<FileName>
+    ensures { MatchOption result (names_unit (spec_name_on line.now) ≡ false) (λ unit. (unit ≡ spec_unit_name (spec_name_on line.now)) × (names_unit (spec_name_on line.now) ≡ true)) }
 {
     let name = name_on(line);
     if is_broken(name) {
-        return Ok(None);
+        return None;
     }
-    let unit = unit_name(alloc, name)?;
-    Ok(FileName::read(unit.as_slice()).ok())
+    unit_of(name).ok()
 }
 
 /// The units that the lines of a text list, each at its first place; nothing, if a line of it names no file.
@@ -69,7 +68,7 @@ pub fn listed(alloc: Global, text: &[u8]) -> Result<Option<Items<FileName>>, All
         if is_skipped(line) {
             continue;
         }
-        match unit_on(alloc, line)? {
+        match unit_on(line) {
             Some(unit) => units.push(unit)?,
             None => return Ok(None),
         }
