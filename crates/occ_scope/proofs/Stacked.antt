@@ -263,11 +263,3 @@ take_front ns n = let k : length (ns ++ n ∷ []) - 1 ≡ length ns = omega (ari
 
 pub front_of : (es all : List Entry) (e : Entry) → all ≡ es ++ e ∷ [] → names_of es ≡ take (length (names_of all) - 1) (names_of all)
 front_of es all e is = sym (take_front (names_of es) e.name) ∙ ap (λ (ns : List (List ℕ)). take (length ns - 1) ns) (sym (ap names_of is ∙ names_snoc es e))
-
--- the nearest of entries of which the last is this one
-pub nearest_over : (es all : List Entry) (e : Entry) (name : List ℕ) → all ≡ es ++ e ∷ [] → (b : Bool) → b ≡ bytes_eq e.name name → nearest (names_of all) name ≡ cond b (Some (length es)) (nearest (names_of es) name)
-nearest_over es all e name is b same =
-    ap (λ (ns : List (List ℕ)). nearest ns name) (ap names_of is ∙ names_snoc es e)
-    ∙ nearest_snoc (names_of es) e.name name
-    ∙ ap (λ (c : Bool). cond c (Some (length (names_of es))) (nearest (names_of es) name)) (is_eq-slice_cmp e.name name ∙ sym same)
-    ∙ ap (λ (k : ℕ). cond b (Some k) (nearest (names_of es) name)) (names_length es)

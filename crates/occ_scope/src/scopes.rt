@@ -1,5 +1,5 @@
 //! The specifications that were entered and not left, and the nearest of each name. `docs/LANGUAGE.md, Names in scope`.
-ghost use Rattle.std.specs.Prelude.{IfOk, IsSome, MatchOption, OnErr, OnOk, Some, [], length, take, ◌++◌, ◌-◌, ◌∷◌, ◌≡◌};
+ghost use Rattle.std.specs.Prelude.{IfOk, IsSome, OnErr, OnOk, [], length, take, ◌++◌, ◌-◌, ◌∷◌, ◌≡◌};
 ghost use Rattle.occ_scope.specs.inside.Kept.{names_of, standing as spec_standing};
 ghost use Rattle.occ_scope.specs.Nearest.{nearest};
 
@@ -10,9 +10,6 @@ use std::marker::Model;
 
 /// The place of a specification among those that were entered and not left, from 0.
 pub type SpecId = usize;
-
-/// Among so many that were entered last a name is looked for one by one: most lines use what was specified near them.
-const NEAR: usize = 8;
 
 /// A specification that was entered and not left.
 #[derive(Drop)]
@@ -60,10 +57,7 @@ impl Scopes {
     pub fn find(&self, name: &Name) -> Option<SpecId>
         ensures { result ≡ nearest self.now name.now }
     {
-        match among_last(self.entries.as_slice(), name, NEAR) {
-            Some(place) => Some(place),
-            None => standing(&self.entries, name, self.newest.get(name)),
-        }
+        standing(&self.entries, name, self.newest.get(name))
     }
 
     /// A specification of this name is entered. Where memory is refused nothing changes.
@@ -103,20 +97,6 @@ impl Scopes {
         };
         self.newest.restore(&last.name, last.hidden);
     }
-}
-
-/// The nearest of a name, if it is among so many that were entered last.
-fn among_last(entries: &[Entry], name: &Name, most: usize) -> Option<SpecId>
-    ensures { MatchOption result (Unit {0}) (λ place. nearest (names_of entries.now) name.now ≡ Some place) }
-{
-    if most == 0 {
-        return None;
-    }
-    let (last, front) = entries.split_last()?;
-    if last.name == *name {
-        return Some(front.len());
-    }
-    among_last(front, name, most - 1)
 }
 
 /// The place that is held of a name, if an entry of this name is there. Else the last of its name was left.
