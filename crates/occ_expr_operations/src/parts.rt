@@ -231,7 +231,7 @@ pub fn component_of(
     ensures faults { OnOk result (faults.new ≡ faults.old ++ (and_then (spec_plain (judged place.now.term)) (spec_subscripted of.now)).faults) }
 {
     let kind = selected(alloc, &place.term, of, faults)?;
-    let selector = component_at(alloc, &place.open_expr)?;
+    let selector = component_at(alloc, &place.open_expr, of)?;
     Ok((kind, selector))
 }
 

@@ -9,13 +9,12 @@ ghost use Rattle.occ_typing_operands.specs.declared.kind.Kind.TheVariants as k;
 ghost use Rattle.occ_typing_tables.specs.declared.term.Term.TheVariants as v;
 ghost use Rattle.occ_typing_rules.specs.Placing.{placed as spec_placed};
 
-use super::opening_exprs::place_tree;
 use super::reading::Reading;
 use occ_base::{Items, Name, Shared};
 use occ_scope::Referent;
-use occ_types::{Field, array_of, unnamed};
-use occ_typing_operands::{Kind, Known};
-use occ_typing_rules::{OpenExpr, Selector, TypedElement, TypedExpr};
+use occ_types::{Field, OccType, Primitive, array_of, unnamed};
+use occ_typing_operands::{Kind, Known, int};
+use occ_typing_rules::{OpenExpr, Selector, TypedElement, TypedExpr, placed};
 use occ_typing_tables::{BoundTerms, Term};
 use std::alloc::{AllocError, Global};
 
@@ -33,11 +32,41 @@ pub struct BoundsReading {
     pub selector: Option<Selector>,
 }
 
-/// The component at a place.
-pub fn component_at(alloc: Global, place: &OpenExpr) -> Result<Option<Selector>, AllocError>
+/// INT, the type of a place in a value of this type: that of its components, if they are INT, so that it takes no memory.
+fn place_type(alloc: Global, of: &OccType) -> Result<Shared<OccType>, AllocError>
+    ensures { IfOk result (λ place. place ≡ spec_int) }
+{
+    match array_of(unnamed(of)) {
+        Some((_, component)) if matches!(component.get(), OccType::Primitive(Primitive::Int)) => {
+            component.share()
+        }
+        _ => int(alloc),
+    }
+}
+
+/// The tree of a place in a value of this type, which is an INT.
+fn place_in(
+    alloc: Global,
+    place: &OpenExpr,
+    of: &OccType,
+) -> Result<Option<Shared<TypedExpr>>, AllocError>
+    ensures { IfOk result (λ tree. tree ≡ spec_placed place.now spec_int) }
+{
+    match place {
+        OpenExpr::Typed(tree) => Ok(Some(tree.share()?)),
+        _ => placed(alloc, place, &place_type(alloc, of)?),
+    }
+}
+
+/// The component at a place in a value of this type.
+pub fn component_at(
+    alloc: Global,
+    place: &OpenExpr,
+    of: &OccType,
+) -> Result<Option<Selector>, AllocError>
     ensures { IfOk result (λ selector. selector ≡ spec_component_at (spec_placed place.now spec_int)) }
 {
-    let Some(tree) = place_tree(alloc, place)? else {
+    let Some(tree) = place_in(alloc, place, of)? else {
         return Ok(None);
     };
     Ok(Some(Selector::Component(tree)))

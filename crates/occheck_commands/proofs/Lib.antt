@@ -6,3 +6,4 @@ pub mod Going
 pub mod FirstLine
 pub mod Whole
 pub mod Over
+pub mod Places

@@ -3,6 +3,8 @@ ghost use Rattle.occheck_commands.specs.Lines.{feeds};
 ghost use Rattle.std.specs.List.{position, position_or_len};
 ghost use Rattle.std.specs.Prelude.{◌≡◌, ◌≤◌, ◌==◌, length};
 
+use memchr::memchr;
+
 /// How many bytes stand before the first of these, all where there is none.
 #[tactic(auto, using(crate::proofs::Before::unwrapped, crate::proofs::Before::before_within))]
 pub fn length_before(bytes: &[u8], end: u8) -> usize
@@ -12,10 +14,12 @@ pub fn length_before(bytes: &[u8], end: u8) -> usize
     place_of(bytes, end).unwrap_or(bytes.len())
 }
 
+/// The place of the first of these bytes.
+#[tactic(auto, using(crate::proofs::Places::first_is_position))]
 fn place_of(bytes: &[u8], byte: u8) -> Option<usize>
     ensures { result ≡ position (λ b. b == byte) bytes.now }
 {
-    bytes.iter().position(|b| *b == byte)
+    memchr(byte, bytes)
 }
 
 /// How many lines end in these bytes.
