@@ -70,11 +70,16 @@ impl Cached {
     }
 
     /// Lets the indices where outcomes are looked for first follow the indices of a project after an edit of the file at one,
-    /// which may be new to it.
+    /// which may be new to it. Where no outcome is cached they are all the same, and one comes behind them.
     pub fn follow(&mut self, project: &Project, edited: usize)
         ensures { self.new ≡ self.old }
     {
-        if self.hints.len() < project.files().len() && edited <= self.hints.len() {
+        if self.hints.len() >= project.files().len() {
+            return;
+        }
+        if self.outcomes.is_empty() {
+            let _ = self.hints.push(0);
+        } else if edited <= self.hints.len() {
             let _ = self.hints.insert(edited, 0);
         }
     }
