@@ -6,6 +6,7 @@ ghost use Rattle.occ_typing_lines.specs.inside.Sorted.{AreSorted, HasUnitAt, IsA
 use super::using::Import;
 use occ_base::{FileName, Shared};
 use occ_types::Interface;
+use std::cell::Cell;
 use std::marker::Model;
 
 /// The units that a unit uses: in contracts the list of them.
@@ -14,6 +15,8 @@ pub struct Imports<'a> {
     all: &'a [Import],
     /// Each stands before those of greater names.
     are_sorted: bool,
+    /// Where the next one is looked for first.
+    near: Cell<usize>,
 }
 
 impl<'a> Model for Imports<'a> {
@@ -99,23 +102,20 @@ impl<'a> Imports<'a> {
         Imports {
             all: imports,
             are_sorted: are_sorted(imports),
+            near: Cell::new(0),
         }
     }
 
     /// What the first import of this unit shows; a unit of which there is none shows nothing. Where they stand in order it is
-    /// looked for at `near` first, which is then the place behind it.
-    pub(crate) fn interface_near(
-        &self,
-        unit: FileName,
-        near: &mut usize,
-    ) -> Option<&Shared<Interface>>
+    /// looked for behind the one before first.
+    pub(crate) fn interface_of(&self, unit: FileName) -> Option<&Shared<Interface>>
         ensures { MatchOption result (spec_interface_of unit self.now ≡ []) (λ interface. spec_interface_of unit self.now ≡ interface.now ∷ []) }
     {
         if !self.are_sorted {
             return first_of(self.all, unit);
         }
-        let at = place_near(self.all, unit, *near)?;
-        *near = at + 1;
+        let at = place_near(self.all, unit, self.near.get())?;
+        self.near.set(at + 1);
         Some(&self.all[at].interface)
     }
 }

@@ -67,16 +67,15 @@ fn push_exports(
     Ok(())
 }
 
-/// Adds what the import of this unit shows, if there is one. It is looked for at `near` first, which is then the place behind it.
+/// Adds what the import of this unit shows, if there is one.
 fn push_interface(
     imports: &Imports<'_>,
     unit: FileName,
-    near: &mut usize,
     found: &mut Items<Shared<Interface>>,
 ) -> Result<(), AllocError>
     ensures { OnOk result (found.new ≡ found.old ++ spec_interface_of unit imports.now) }
 {
-    match imports.interface_near(unit, near) {
+    match imports.interface_of(unit) {
         Some(interface) => found.push(interface.share()?),
         None => Ok(()),
     }
@@ -91,9 +90,8 @@ pub fn interfaces_of(
     ensures { IfOk result (λ found. found ≡ spec_interfaces_of units.now imports.now) }
 {
     let mut found = Items::from_vec(Vec::with_capacity(alloc, units.len())?);
-    let mut near = 0;
     for unit in units {
-        push_interface(imports, *unit, &mut near, &mut found)?;
+        push_interface(imports, *unit, &mut found)?;
     }
     Ok(found)
 }

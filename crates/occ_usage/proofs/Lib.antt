@@ -5,3 +5,4 @@ pub mod Sizes
 pub mod Functions
 pub mod Sameness
 pub mod Repeated
+pub mod Idle

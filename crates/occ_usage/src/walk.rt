@@ -2,13 +2,14 @@
 //! the parallel and the abbreviation rule. The uses of a line are made once. `docs/LANGUAGE.md, The parallel rule`.
 #![tactic(auto, using(crate::proofs::Trees::first_tree))]
 
-ghost use Rattle.std.specs.Prelude.{◌≡◌, ◌≤◌, ◌++◌, ◌∷◌, [], if◌then◌else◌, true, false, IfOk, None, OnOk, Some, length, replicate, take};
+ghost use Rattle.std.specs.Prelude.{IsTrue, ◌≡◌, ◌≤◌, ◌++◌, ◌∷◌, [], if◌then◌else◌, true, false, IfOk, None, OnOk, Some, length, replicate, take};
 ghost use Rattle.occ_alias.specs.AbbreviationRule.{line_faults as spec_line_faults};
 ghost use Rattle.occ_usage_conflicts.specs.Components.{joined as spec_joined, parted};
 ghost use Rattle.occ_usage_conflicts.specs.Distinct.{distinct as spec_distinct};
 ghost use Rattle.occ_alias.specs.Forms.{form_uses as spec_form_uses};
 ghost use Rattle.occ_usage.specs.Comparing.{are_compared as spec_are_compared};
 ghost use Rattle.occ_usage.specs.Effect.{effect_under as spec_effect_under, inner as spec_inner, is_body as spec_is_body};
+ghost use Rattle.occ_usage_values.specs.Bounds.{Env};
 ghost use Rattle.occ_usage.specs.Lines.{added as spec_added, after_line, after_lines, after_unit, added_by as spec_added_by, body_over as spec_body_over, components as spec_components, ends_item, entered as spec_entered, is_replicated as spec_is_replicated, items_of, known_replicator as spec_known_replicator, line_uses as spec_line_uses, rounds_to, under_uses as spec_under_uses, with_index};
 ghost use Rattle.occ_usage.specs.AbbreviationRule.{abbreviation_at, abbreviation_faults};
 ghost use Rattle.occ_usage.specs.ParallelRule.{block_faults as spec_block_faults, own_faults as spec_own_faults, parallel_at, parallel_faults};
@@ -686,6 +687,36 @@ fn go_through(
     Ok(())
 }
 
+/// Whether the line is a `#USE` over no line, as nearly all are. Nothing is reported of it.
+fn is_idle(line: &TypedLine) -> bool
+    ensures body { IsTrue result → spec_is_body (head_of line.now).form ≡ false }
+    ensures parallel { IsTrue result → (env : Env) → line_reported parallel_at env (head_of line.now) (spec_under line.now) (reported_of parallel_at (spec_under line.now)) ≡ [] }
+    ensures abbreviations { IsTrue result → (env : Env) → line_reported abbreviation_at env (head_of line.now) (spec_under line.now) (reported_of abbreviation_at (spec_under line.now)) ≡ [] }
+{
+    match line.form.get() {
+        TypedForm::Uses(_) => line.under.is_empty(),
+        _ => false,
+    }
+}
+
+/// What is reported of a line with those under it, and what comes into scope after it.
+fn outer_line(
+    alloc: Global,
+    one: &TypedLine,
+    env: &mut UsageScope,
+    reported: &mut Finding,
+) -> Result<(), AllocError>
+    ensures env { OnOk result (env.new ≡ env.old ++ spec_added env.old (head_of one.now) (spec_under one.now) (items_of (spec_under one.now))) }
+    ensures parallel { OnOk result (reported.new.parallel ≡ reported.old.parallel ++ line_reported parallel_at env.old (head_of one.now) (spec_under one.now) (reported_of parallel_at (spec_under one.now))) }
+    ensures abbreviations { OnOk result (reported.new.abbreviations ≡ reported.old.abbreviations ++ line_reported abbreviation_at env.old (head_of one.now) (spec_under one.now) (reported_of abbreviation_at (spec_under one.now))) }
+{
+    if is_idle(one) {
+        return go_after(alloc, one, env);
+    }
+    let mut uses = Items::new(alloc);
+    line(alloc, one, env, &mut uses, reported)
+}
+
 /// What is reported of a line with those under it, after which stands in scope what is in scope then: so many specifications stand
 /// round its item.
 pub(crate) fn go_over(
@@ -699,8 +730,7 @@ pub(crate) fn go_over(
     ensures parallel { OnOk result (reported.new.parallel ≡ reported.old.parallel ++ line_reported parallel_at env.old (head_of one.now) (spec_under one.now) (reported_of parallel_at (spec_under one.now))) }
     ensures abbreviations { OnOk result (reported.new.abbreviations ≡ reported.old.abbreviations ++ line_reported abbreviation_at env.old (head_of one.now) (spec_under one.now) (reported_of abbreviation_at (spec_under one.now))) }
 {
-    let mut uses = Items::new(alloc);
-    line(alloc, one, env, &mut uses, reported)?;
+    outer_line(alloc, one, env, reported)?;
     if one.adds.is_none() {
         env.cut(depth);
     }
