@@ -1,9 +1,11 @@
 //! The one walk down a tree of an expression, an element or a written type, as one cycle of functions. Each part is read
 //! once, so the work is linear in the tokens. `docs/LANGUAGE.md, Expressions, elements and written types`.
-ghost use Rattle.std.specs.Prelude.{◌≡◌, ◌∷◌, ◌++◌, [], IfOk, OnOk};
+ghost use Rattle.std.specs.Prelude.{◌≡◌, ◌∷◌, ◌++◌, [], IfOk, MatchOption, OnOk};
 ghost use Rattle.occ_expr_operations.specs.declared.written.Opening.TheVariants as opened;
 ghost use Rattle.occ_forms_expressions.specs.declared.tree.Bounds.TheVariants as bounds_form;
 ghost use Rattle.occ_forms_expressions.specs.declared.tree.Expr.TheVariants as form;
+ghost use Rattle.occ_forms_expressions.specs.declared.tree.Literal.TheVariants as literal_form;
+ghost use Rattle.occ_forms_expressions.specs.declared.tree.Operand.TheVariants as operand_form;
 ghost use Rattle.occ_scope.specs.Lookup.{data_type as spec_data_type};
 ghost use Rattle.occ_scope.specs.Visible.{referent, visible};
 ghost use Rattle.occ_types.specs.Fits.{unnamed as spec_unnamed};
@@ -22,11 +24,12 @@ use occ_base::{Fault, Items, Name, Shared, one_item};
 use occ_expr_operations::{
     BoundsReading, ElementReading, Extent, Opening, Reading, Readings, applied, array_type,
     base_type, component_of, components_of, converted, converted_table, count_type, counted_type,
-    decorated_literal, decorated_open, digits_of, element_of, element_reading, extreme_of,
-    faulty_reading, field_selector, for_of, from_for_of, from_of, literal, literal_reading,
-    name_alone, named_channel, one_result, only, open_dimension, operand_call, operation_of, pair,
-    part_of, place_tree, primitive_of, referred, report_alone, report_no_function, run_operator,
-    segment_of, shared_type, sized_dimension, table_as, truth, values_channel, with_selector,
+    decimal_component, decorated_literal, decorated_open, digits_of, element_of, element_reading,
+    extreme_of, faulty_reading, field_selector, for_of, from_for_of, from_of, literal,
+    literal_reading, name_alone, named_channel, one_result, only, open_dimension, operand_call,
+    operation_of, pair, part_of, place_tree, primitive_of, referred, report_alone,
+    report_no_function, run_operator, segment_of, shared_type, sized_dimension, table_as, truth,
+    values_channel, with_selector,
 };
 use occ_forms_expressions::{
     Bounds, Builtin, DataBase, Dimension, Element, Expr, Extreme, Literal, MonadicOperator,
@@ -930,8 +933,18 @@ fn part(
     Ok((kind, selector))
 }
 
-/// What a subscript selects that is no name of a field, and how.
-#[tactic(auto, unfolding(occ_expr_operations::specs::Parts::component))]
+/// The number that an expression is, if it is an integer in decimal digits alone.
+fn decimal_alone(expr: &Expr) -> Option<u64>
+    ensures { MatchOption result (Unit {0}) (λ n. expr.now ≡ form.Alone (operand_form.Literal (literal_form.Decimal n))) }
+{
+    match expr {
+        Expr::Alone(Operand::Literal(Literal::Decimal(n))) => Some(*n),
+        _ => None,
+    }
+}
+
+/// What a subscript selects that is no name of a field, and how. Of a place in decimal digits no reading is made.
+#[tactic(auto, using(occ_expr_operations::proofs::Views::expr_rules, occ_expr_operations::proofs::Views::operand_rules), unfolding(occ_expr_operations::specs::Parts::component, occ_expr_operations::specs::Literals::literal))]
 #[cycle(walk)]
 fn component(
     alloc: Global,
@@ -944,6 +957,9 @@ fn component(
     ensures selector { IfOk result (λ r. r.1 ≡ spec_component_at (spec_place_tree scope.now (expr_view expr.now))) }
     ensures faults { OnOk result (faults.new ≡ faults.old ++ (spec_component scope.now of.now (expr_view expr.now)).faults) }
 {
+    if let Some(n) = decimal_alone(expr) {
+        return decimal_component(alloc, n, of, faults);
+    }
     let place = expression(alloc, expr, scope, faults)?;
     let selected = component_of(alloc, &place, of, faults);
     drop(place);

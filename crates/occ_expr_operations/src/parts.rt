@@ -1,14 +1,16 @@
 //! Small readings of expressions: a name alone, an integer in decimal digits, a name that is called and is no function.
 #![tactic(auto, using(crate::proofs::Views::name_rules))]
 
-ghost use Rattle.std.specs.Prelude.{◌≡◌, ◌∷◌, ◌++◌, [], IfOk, IfSome, MatchOption, None, OnOk, Some};
+ghost use Rattle.std.specs.Prelude.{◌≡◌, ◌∷◌, ◌++◌, [], IfOk, IfSome, MatchOption, None, OnOk, Some, pos};
 ghost use Rattle.occ_expr_operations.specs.Elements.{component_at as spec_component_at};
 ghost use Rattle.occ_expr_operations.specs.Operations.{converted as spec_converted, plain as spec_plain};
 ghost use Rattle.occ_expr_operations.specs.OpenExprs.{conversion_open};
 ghost use Rattle.occ_typing_rules.specs.declared.open_expr.OpenExpr.TheVariants as d;
 ghost use Rattle.occ_expr_operations.specs.Parts.{bounds_alone as spec_bounds_alone, named as spec_named, no_function as spec_no_function, only as spec_only, segment_of as spec_segment_of, table_as as spec_table_as};
 ghost use Rattle.occ_expr_operations.specs.Written.{extent_of as spec_extent_of};
+ghost use Rattle.occ_typing_operands.specs.Outcomes.{decimal};
 ghost use Rattle.occ_typing_operands.specs.Parts.{subscripted as spec_subscripted};
+ghost use Rattle.occ_typing_operands.specs.declared.kind.Kind.TheVariants as k;
 ghost use Rattle.occ_typing_operands.specs.Settling.{int as spec_int};
 ghost use Rattle.occ_typing_tables.specs.Dimensions.{size as spec_size};
 ghost use Rattle.occ_typing_rules.specs.Placing.{placed as spec_placed};
@@ -26,7 +28,7 @@ use occ_base::{Code, Fault, Items, Name, Shared};
 use occ_forms_expressions::{Element, Expr, Literal, Operand};
 use occ_scope::{Meaning, Referent, Scope, element};
 use occ_types::{KnownType, OccType};
-use occ_typing_operands::{Kind, known, subscripted};
+use occ_typing_operands::{Kind, UntypedConstant, known, subscripted};
 use occ_typing_rules::{OpenExpr, Selector};
 use occ_typing_tables::{BoundTerms, Term, alone, decorated_table, report_hidden, segment, size};
 use std::alloc::{AllocError, Global};
@@ -232,6 +234,24 @@ pub fn component_of(
 {
     let kind = selected(alloc, &place.term, of, faults)?;
     let selector = component_at(alloc, &place.open_expr, of)?;
+    Ok((kind, selector))
+}
+
+/// The component at a place that is written in decimal digits.
+pub fn decimal_component(
+    alloc: Global,
+    n: u64,
+    of: &OccType,
+    faults: &mut Items<Fault>,
+) -> Result<(Kind, Option<Selector>), AllocError>
+    ensures kind { IfOk result (λ r. r.0 ≡ (spec_subscripted of.now (k.Untyped (decimal (pos n)))).kind) }
+    ensures selector { IfOk result (λ r. r.1 ≡ spec_component_at (spec_placed (d.Literal (decimal (pos n))) spec_int)) }
+    ensures faults { OnOk result (faults.new ≡ faults.old ++ (spec_subscripted of.now (k.Untyped (decimal (pos n)))).faults) }
+{
+    let index = Kind::Untyped(UntypedConstant::decimal(n));
+    let kind = subscripted(alloc, of, &index, faults)?;
+    let place = OpenExpr::Literal(UntypedConstant::decimal(n));
+    let selector = component_at(alloc, &place, of)?;
     Ok((kind, selector))
 }
 

@@ -4,7 +4,7 @@ use occ_base::{Boxed, Items, Name, Shared};
 use occ_scope::{Referent, ScopeEntry};
 use occ_types::Interface;
 use occ_typing_rules::{TypedActual, TypedElement, TypedExpr};
-use occ_typing_statements::{TypedInput, TypedOutput, TypedReplicator, TypedTarget};
+use occ_typing_statements::{Few, TypedInput, TypedOutput, TypedReplicator, TypedTarget};
 
 /// What a block does with the lines under it. PRI PAR and PRI ALT are checked as PAR and ALT.
 #[derive(Clone, Copy)]
@@ -68,7 +68,7 @@ pub enum TypedForm {
     /// `STOP`
     Stop,
     /// `el, .. := e, ..`: the targets, and the values for them.
-    Assignment(Items<TypedElement>, Items<Shared<TypedExpr>>),
+    Assignment(Few<TypedElement>, Few<Shared<TypedExpr>>),
     /// `el ! o; ..`
     Output(TypedElement, Items<TypedOutput>),
     Input(TypedInput),

@@ -1,3 +1,4 @@
+pub mod inside
 pub mod Targets
 pub mod StatementTrees
 pub mod Statements

@@ -5,6 +5,7 @@
 mod actual;
 pub mod exchange_rows;
 mod exchange_tree;
+mod few;
 mod inputs;
 mod instances;
 mod receiving;
@@ -21,6 +22,7 @@ mod through;
 mod variants;
 
 pub use exchange_tree::{TypedInput, TypedOutput, TypedTarget};
+pub use few::Few;
 pub use inputs::input;
 pub use instances::{TypedInstance, instance};
 pub use replicating::{Replicating, ReplicatorLine, replicator};

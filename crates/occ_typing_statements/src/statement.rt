@@ -13,8 +13,9 @@ ghost use Rattle.occ_types.specs.declared.value.Primitive.TheVariants as p;
 ghost use Rattle.occ_typing_statements.specs.StatementTrees.{assigned as spec_assigned, assignment_tree as spec_assignment_tree, condition_tree as spec_condition_tree, one_element, open_exprs as spec_opens, options_placed as spec_options_placed, options_trees as spec_options_trees, results_trees as spec_results_trees, types_of as spec_types_of, with_elements};
 ghost use Rattle.occ_typing_statements.specs.Statements.{assignment as spec_assignment, condition as reported_condition, hidden_results as spec_hidden_results, is_any_faulty, options as spec_options, options_under as spec_options_under, results as spec_results, said, selector as reported_selector};
 
+use super::few::Few;
 use super::target::all_targets;
-use occ_base::{Fault, Items, Shared, one_item};
+use occ_base::{Fault, Items, Shared};
 use occ_expr::{expression, side, target_of};
 use occ_expr_operations::{Reading, Readings, one_call};
 use occ_forms_expressions::{Element, Expr};
@@ -33,8 +34,8 @@ use std::slice;
 /// An assignment: its targets, and the value for each. Of a call with several results each value is the call.
 #[derive(Drop)]
 pub struct TypedAssignment {
-    pub targets: Items<TypedElement>,
-    pub values: Items<Shared<TypedExpr>>,
+    pub targets: Few<TypedElement>,
+    pub values: Few<Shared<TypedExpr>>,
 }
 
 /// Expressions after those that were read.
@@ -101,7 +102,10 @@ fn assignment_tree(
     let Some(values) = each_placed(alloc, values, types.as_slice())? else {
         return Ok(None);
     };
-    Ok(Some(TypedAssignment { targets, values }))
+    Ok(Some(TypedAssignment {
+        targets: Few::listed(targets),
+        values: Few::listed(values),
+    }))
 }
 
 /// The tree of a value that is handed over, where this type is wanted of it: one that is typed already is taken as it is.
@@ -139,8 +143,8 @@ fn single_tree(
         return Ok(None);
     };
     Ok(Some(TypedAssignment {
-        targets: one_item(alloc, target)?,
-        values: one_item(alloc, value)?,
+        targets: Few::one(target),
+        values: Few::one(value),
     }))
 }
 
