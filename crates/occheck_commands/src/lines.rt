@@ -27,10 +27,11 @@ pub fn line_ends(bytes: &[u8]) -> usize
     ensures { result ≡ feeds bytes.now }
 {
     let mut count = 0;
-    for byte in bytes {
-        if *byte == b'\n' {
-            count += 1;
-        }
+    let mut left = bytes;
+    while let Some(place) = place_of(left, b'\n') {
+        let (_, following) = left.split_at(place + 1);
+        left = following;
+        count += 1;
     }
     count
 }
