@@ -337,6 +337,7 @@ fn literal_operand(
 
 /// What is read of one literal more, without a type of its own. Undecorated decimal digits are put where they belong at once.
 #[tactic(auto, unfolding(occ_expr_operations::specs::Literals::literal))]
+#[inline(always)]
 fn literal_more(
     alloc: Global,
     written: &Literal,
@@ -405,6 +406,7 @@ fn operands(
 /// The same of one operand more.
 #[tactic(auto, using(occ_expr_operations::proofs::Views::operand_rules))]
 #[cycle(walk)]
+#[inline(always)]
 fn operand_more(
     alloc: Global,
     one: &Operand,
@@ -944,7 +946,7 @@ fn decimal_alone(expr: &Expr) -> Option<u64>
 }
 
 /// What a subscript selects that is no name of a field, and how. Of a place in decimal digits no reading is made.
-#[tactic(auto, using(occ_expr_operations::proofs::Views::expr_rules, occ_expr_operations::proofs::Views::operand_rules), unfolding(occ_expr_operations::specs::Parts::component, occ_expr_operations::specs::Literals::literal))]
+#[tactic(auto, using(crate::proofs::Decimals::decimal_rules))]
 #[cycle(walk)]
 fn component(
     alloc: Global,
@@ -957,9 +959,26 @@ fn component(
     ensures selector { IfOk result (λ r. r.1 ≡ spec_component_at (spec_place_tree scope.now (expr_view expr.now))) }
     ensures faults { OnOk result (faults.new ≡ faults.old ++ (spec_component scope.now of.now (expr_view expr.now)).faults) }
 {
-    if let Some(n) = decimal_alone(expr) {
-        return decimal_component(alloc, n, of, faults);
+    match decimal_alone(expr) {
+        Some(n) => decimal_component(alloc, n, of, faults),
+        None => read_component(alloc, expr, of, scope, faults),
     }
+}
+
+/// What a place of which a reading is made selects, and how.
+#[tactic(auto, unfolding(occ_expr_operations::specs::Parts::component))]
+#[cycle(walk)]
+fn read_component(
+    alloc: Global,
+    expr: &Expr,
+    of: &OccType,
+    scope: &Scope,
+    faults: &mut Items<Fault>,
+) -> Result<(Kind, Option<Selector>), AllocError>
+    ensures kind { IfOk result (λ r. r.0 ≡ (spec_component scope.now of.now (expr_view expr.now)).kind) }
+    ensures selector { IfOk result (λ r. r.1 ≡ spec_component_at (spec_place_tree scope.now (expr_view expr.now))) }
+    ensures faults { OnOk result (faults.new ≡ faults.old ++ (spec_component scope.now of.now (expr_view expr.now)).faults) }
+{
     let place = expression(alloc, expr, scope, faults)?;
     let selected = component_of(alloc, &place, of, faults);
     drop(place);

@@ -36,6 +36,7 @@ pub fn closed<'a, F: Fn(Global, &[Token]) -> Result<Option<(Expr, &[Token])>, Al
 }
 
 /// Subscripts, perhaps none.
+#[inline(always)]
 pub fn subscripts<'a, F: Fn(Global, &[Token]) -> Result<Option<(Expr, &[Token])>, AllocError>>(
     alloc: Global,
     tokens: &'a [Token],

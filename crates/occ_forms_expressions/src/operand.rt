@@ -93,6 +93,7 @@ pub fn narrow(alloc: Global, operand: Operand) -> Result<Option<NamedOperand>, A
 }
 
 /// An element or a call of which the name is read.
+#[inline(always)]
 pub fn after_name<'a, F: Fn(Global, &[Token]) -> Result<Option<(Expr, &[Token])>, AllocError>>(
     alloc: Global,
     name: Name,

@@ -27,6 +27,7 @@ fn constant(outcome: TypedValue) -> Option<Value>
 }
 
 /// The value of an untyped expression in a type, if it has one there.
+#[inline(always)]
 pub fn value_in(untyped: &UntypedConstant, of: &OccType) -> Option<Value>
     ensures { result ≡ spec_value_in untyped.now of.now }
 {
@@ -37,6 +38,7 @@ pub fn value_in(untyped: &UntypedConstant, of: &OccType) -> Option<Value>
 }
 
 /// An untyped expression as one of this type.
+#[inline(always)]
 fn known_in(untyped: &UntypedConstant, of: &Shared<OccType>) -> Result<Known, AllocError>
     ensures { IfOk result (λ known. known ≡ spec_known_in untyped.now of.now) }
 {

@@ -10,6 +10,7 @@ use occ_typing_operands::needs_faulty;
 
 /// Whether something in an operand is faulty.
 #[cycle(faulty)]
+#[inline(always)]
 pub fn has_fault(term: &Term) -> bool
     ensures { result ≡ spec_has_fault (judged term.now) }
 {

@@ -587,17 +587,17 @@ pub channel-returns-in_ok-of-in-Some-default-clause-faults : goal.channel-return
 unfolding channel
 channel-returns-in_ok-of-in-Some-default-clause-faults t c = grind (arith, common_steps)
 
-pub component-returns-clause-kind : goal.component-returns-clause-kind
+pub read_component-returns-clause-kind : goal.read_component-returns-clause-kind
 unfolding component
-component-returns-clause-kind t c = grind (arith, common_steps)
+read_component-returns-clause-kind t c = grind (arith, common_steps)
 
-pub component-returns-clause-selector : goal.component-returns-clause-selector
+pub read_component-returns-clause-selector : goal.read_component-returns-clause-selector
 unfolding component
-component-returns-clause-selector t c = grind (arith, common_steps)
+read_component-returns-clause-selector t c = grind (arith, common_steps)
 
-pub component-returns-clause-faults : goal.component-returns-clause-faults
+pub read_component-returns-clause-faults : goal.read_component-returns-clause-faults
 unfolding component
-component-returns-clause-faults t c = grind (arith, common_steps)
+read_component-returns-clause-faults t c = grind (arith, common_steps)
 
 pub data_form-returns-clause-found : goal.data_form-returns-clause-found
 unfolding data_form
