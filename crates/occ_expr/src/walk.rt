@@ -946,7 +946,6 @@ fn decimal_alone(expr: &Expr) -> Option<u64>
 }
 
 /// What a subscript selects that is no name of a field, and how. Of a place in decimal digits no reading is made.
-#[tactic(auto, using(crate::proofs::Decimals::decimal_rules))]
 #[cycle(walk)]
 fn component(
     alloc: Global,

@@ -13,6 +13,7 @@ use Rattle.occ_expr_operations.specs.Written.{array_after, channel, data_form}
 use Rattle.occ_expr_operations.proofs.Fields.{front_rules}
 use Rattle.occ_expr.proofs.Walking as step
 use Rattle.occ_expr_operations.proofs.Views.{bounds_for_said, bounds_for_tree, bounds_from_for_said, bounds_from_for_tree, bounds_from_said, bounds_from_tree, builtin_any_channel_view, builtin_channel_view, builtin_primitive_view, builtin_timer_view, dimension_open_view, dimension_sized_view, element_named_reported, element_named_tree, element_named_whole, element_named_whole_open, element_segment_reported, element_segment_tree, element_segment_whole, element_segment_whole_open, expr_alone_open, expr_alone_said, expr_applied_open, expr_applied_said, expr_array_converted_open, expr_array_converted_said, expr_converted_open, expr_converted_said, expr_most_open, expr_most_said, expr_named_open, expr_named_said, expr_pair_open, expr_pair_said, expr_run_open, expr_run_said, named_operand_call_open, named_operand_call_said, named_operand_decorated_open, named_operand_decorated_said, named_operand_decorated_table_open, named_operand_decorated_table_said, named_operand_element_open, named_operand_element_said, named_operand_literal_said, named_operand_table_open, named_operand_table_said, named_operand_truth_said, operand_call_open, operand_call_said, operand_call_whole, operand_call_whole_open, operand_decorated_open, operand_decorated_said, operand_decorated_table_open, operand_decorated_table_said, operand_decorated_table_whole, operand_decorated_table_whole_open, operand_decorated_whole, operand_decorated_whole_open, operand_element_open, operand_element_said, operand_element_whole, operand_element_whole_open, operand_literal_open, operand_literal_said, operand_literal_whole, operand_literal_whole_open, operand_parens_open, operand_parens_said, operand_parens_whole, operand_parens_whole_open, operand_table_open, operand_table_said, operand_table_whole, operand_table_whole_open, operand_truth_open, operand_truth_said, operand_truth_whole, operand_truth_whole_open, type_form_builtin_view}
+use Rattle.occ_expr.proofs.Decimals.{decimal_selects, decimal_tree}
 use Rattle.occ_expr.proofs.walk.+walk.Goals as goal
 
 pub type_form-returns-in_ok-of-in-Named-clause-faults : goal.type_form-returns-in_ok-of-in-Named-clause-faults
@@ -586,6 +587,24 @@ channel-returns-in_ok-of-in-Some-default-clause-found t c = grind (arith, common
 pub channel-returns-in_ok-of-in-Some-default-clause-faults : goal.channel-returns-in_ok-of-in-Some-default-clause-faults
 unfolding channel
 channel-returns-in_ok-of-in-Some-default-clause-faults t c = grind (arith, common_steps)
+
+pub component-returns-in-Some-clause-kind : goal.component-returns-in-Some-clause-kind
+component-returns-in-Some-clause-kind t c = rw c.in-Some.ensures (rw (decimal_selects c.args.scope.now c.args.of.now c.in-Some.n) c.decimal_component.ensures.kind)
+
+pub component-returns-in-Some-clause-faults : goal.component-returns-in-Some-clause-faults
+component-returns-in-Some-clause-faults t c = rw c.in-Some.ensures (rw (decimal_selects c.args.scope.now c.args.of.now c.in-Some.n) c.decimal_component.ensures.faults)
+
+pub component-returns-in-Some-clause-selector : goal.component-returns-in-Some-clause-selector
+component-returns-in-Some-clause-selector t c = rw c.in-Some.ensures (rw (decimal_tree c.args.scope.now c.in-Some.n) c.decimal_component.ensures.selector)
+
+pub component-returns-in-None-clause-kind : goal.component-returns-in-None-clause-kind
+component-returns-in-None-clause-kind t c = c.read_component.ensures.kind
+
+pub component-returns-in-None-clause-selector : goal.component-returns-in-None-clause-selector
+component-returns-in-None-clause-selector t c = c.read_component.ensures.selector
+
+pub component-returns-in-None-clause-faults : goal.component-returns-in-None-clause-faults
+component-returns-in-None-clause-faults t c = c.read_component.ensures.faults
 
 pub read_component-returns-clause-kind : goal.read_component-returns-clause-kind
 unfolding component
