@@ -3,12 +3,9 @@ ghost use Rattle.std.specs.Prelude.{◌≡◌, IfOk, MatchOption, None, OnErr, O
 ghost use Rattle.occ_scope.specs.Visible.{back_to, entered, left, nothing, referent as spec_referent, visible, with_all};
 
 use super::meaning::{Meaning, Referent, ScopeEntry};
-use super::scopes::{Scopes, roomy};
+use super::scopes::Scopes;
 use occ_base::{Items, Name, Shared};
 use std::alloc::{AllocError, Global};
-
-/// For so many there is room from the first on, as most units need no more.
-const ROOM: usize = 16;
 
 /// The specifications in scope at a place, each with what its name stands for: the last is the nearest.
 #[derive(Drop)]
@@ -23,8 +20,8 @@ impl Scope {
         ensures { result ≡ nothing }
     {
         Scope {
-            names: Scopes::with_room(alloc, ROOM),
-            meanings: roomy(alloc, ROOM),
+            names: Scopes::new(alloc),
+            meanings: Items::new(alloc),
         }
     }
 

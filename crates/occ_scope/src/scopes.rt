@@ -42,16 +42,6 @@ impl Model for Scopes {
     ghost invariant = { IsKept };
 }
 
-/// An empty list with room for so many, if there is memory for it.
-pub(crate) fn roomy<T>(alloc: Global, room: usize) -> Items<T>
-    ensures { result ≡ [] }
-{
-    match Vec::with_capacity(alloc, room) {
-        Ok(items) => Items::from_vec(items),
-        Err(_) => Items::new(alloc),
-    }
-}
-
 impl Scopes {
     /// Nothing is in scope.
     pub fn new(alloc: Global) -> Scopes
@@ -59,16 +49,6 @@ impl Scopes {
     {
         Scopes {
             entries: Items::new(alloc),
-            newest: Places::new(alloc),
-        }
-    }
-
-    /// Nothing is in scope, and there is room for so many, if there is memory for it.
-    pub(crate) fn with_room(alloc: Global, room: usize) -> Scopes
-        ensures { result ≡ [] }
-    {
-        Scopes {
-            entries: roomy(alloc, room),
             newest: Places::new(alloc),
         }
     }
