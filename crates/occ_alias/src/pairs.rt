@@ -42,7 +42,7 @@ fn graded(
         Overlap::Must => Grade::Error,
     };
     faults.push(Diag {
-        file: line.file,
+        file: *line.file.get(),
         line: line.line,
         code,
         grade,

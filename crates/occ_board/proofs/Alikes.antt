@@ -1,24 +1,26 @@
 -- An edit of a file after which units stand to each other as before: of those that do not read it, and rest on none that does by units
 -- that are done, those are done that were.
 use Rattle.std.proofs.Common.{◌≡◌, ◌∙◌, ◌&&◌, ◌||◌, ◌<◌, ℕ, Bool, true, false, cond, not, List, length, get_or, Option, Some, None, refl, sym, ap, subst}
-use Rattle.std.specs.List.{filter, list_all}
+use Rattle.std.specs.List.{filter, list_all, slice_get}
+use Rattle.std.proofs.lemmas.Slice.Eq.{bytes_eq-Decides}
 use Rattle.std.specs.Str.{bytes_eq}
 use Rattle.occ_board.proofs.Apart.{among_all, same_filter}
 use Rattle.occ_board.proofs.Heights.{along_rests}
-use Rattle.occ_board.proofs.Indices.{open_index}
-use Rattle.occ_board.proofs.Looked.{false_by, looked_still, same_names, same_standing, unread_at}
+use Rattle.occ_board.proofs.Indices.{at_index, filed, name_there, named, open_index, placed}
+use Rattle.occ_board.proofs.Looked.{false_by, looked_still, one_index, same_names, same_standing, unread_at}
 use Rattle.occ_board.proofs.Marked.{left_by}
 use Rattle.occ_board.proofs.Settled.{flag_at, is_step, no_flag, rests_done, step_cached, step_done, step_open, step_rests}
 use Rattle.occ_board.proofs.Spread.{placed_there}
-use Rattle.occ_board.proofs.Truths.{all_among, all_by}
+use Rattle.occ_board.proofs.Truths.{all_among, all_by, both_true, left_true, right_true}
 use Rattle.occ_board.specs.Done.{done, done_step, is_cached}
 use Rattle.occ_board.specs.Journal.{is_open}
 use Rattle.occ_board.specs.inside.Flagged.{AreFlags, IsFullAt, IsSound, flag_of}
-use Rattle.occ_board.specs.inside.Ready.{is_rested}
+use Rattle.occ_board.specs.inside.Ready.{is_ready, is_rested}
 use Rattle.occ_board.specs.inside.Touched.{IsClosed}
 use Rattle.occ_board.specs.inside.Verified.{looked}
 use Rattle.occ_check.specs.Checks.{input}
 use Rattle.occ_check.specs.Input.{Input}
+use Rattle.occ_check.specs.Report.{is_open_unit}
 use Rattle.occ_project_graph.specs.Graph.{is_among as is_index}
 use Rattle.occ_project.specs.Entries.{is_among}
 use Rattle.occ_project.specs.Expansion.{expansion}
@@ -110,6 +112,48 @@ module _ (files later : List Read) (file : Read) (at : ℕ) (project : IsProject
         let parts = had u p e h in
         let at_p = sym (indices u) ∙ e in
         still_done u p at_p parts.1 (was_done u p at_p parts.0) rests
+
+  -- what is ready then, and is not marked, was so before
+  unset_before : (a m : Bool) → m ≡ false → not (a && not m) ≡ true → not a ≡ true
+  unset_before true true e h = absurd cc
+  unset_before true false e h = h
+  unset_before false m e h = refl
+
+  flag_before : (v : List ℕ) → flag_of later next v ≡ true → (o : Option ℕ) → index v later ≡ o → flag_of files flags v ≡ true
+  flag_before v h None e = let none = no_flag later next v e in absurd (cc (none, h))
+  flag_before v h (Some q) e = flag_at files flags v q (sym (indices v) ∙ e) ∙ (had v q e h).0
+
+  stands_still : get_or marks at false ≡ true → (p : ℕ) (f : Read) → slice_get later p ≡ Some f → get_or marks p false ≡ false → slice_get files p ≡ Some f
+  stands_still marked p f there none =
+      let at_p : index f.name files ≡ Some p = sym (indices f.name) ∙ placed later p f rising there in
+      let known = at_index files f.name p at_p in
+      let other : bytes_eq file.name f.name ≡ false =
+      false_by (bytes_eq file.name f.name) (λ k.
+      let same : Some at ≡ Some p = sym here ∙ ap (λ (n : List ℕ). index n files) ((bytes_eq-Decides file.name f.name).0 k) ∙ at_p in
+      let some : get_or marks p false ≡ true = ap (λ (q : ℕ). get_or marks q false) (sym (one_index at p same)) ∙ marked in
+      cc (none, some))
+      in
+      let same : known.0 ≡ f = sym known.1.1.1 ∙ sym (changed f.name ∙ ap (λ (b : Bool). cond b file (file_of files f.name)) other) ∙ filed later p f rising there in
+      known.1.0 ∙ ap (λ (g : Read). Some g) same
+
+  pub alike_ready : get_or marks at false ≡ true → (p : ℕ) (f : Read) → slice_get later p ≡ Some f → get_or marks p false ≡ false → is_ready later next p f ≡ true → (slice_get files p ≡ Some f) × (is_ready files flags p f ≡ true)
+  alike_ready marked p f there none ready =
+      let stands = stands_still marked p f there none in
+      let at_p : index f.name files ≡ Some p = placed files p f project stands in
+      let unset = left_true (not (get_or next p false)) (list_all (flag_of later next) (rest_units later (name_at later p)) && is_open_unit f) ready in
+      let more = right_true (not (get_or next p false)) (list_all (flag_of later next) (rest_units later (name_at later p)) && is_open_unit f) ready in
+      let rests = left_true (list_all (flag_of later next) (rest_units later (name_at later p))) (is_open_unit f) more in
+      let unit = right_true (list_all (flag_of later next) (rest_units later (name_at later p))) (is_open_unit f) more in
+      let same : rest_units later (name_at later p) ≡ rest_units files f.name = ap (rest_units later) (named later p f there) ∙ same_rests f.name p at_p none in
+      let before : list_all (flag_of files flags) (rest_units files (name_at files p)) ≡ true =
+      ap (λ (n : List ℕ). list_all (flag_of files flags) (rest_units files n)) (named files p f stands)
+      ∙ all_by (flag_of later next) (flag_of files flags) (rest_units files f.name) (λ v a k. flag_before v k (index v later) refl) (ap (list_all (flag_of later next)) (sym same) ∙ rests)
+      in (
+        stands,
+        both_true (not (get_or flags p false)) (list_all (flag_of files flags) (rest_units files (name_at files p)) && is_open_unit f)
+            (unset_before (get_or flags p false) (get_or marks p false) none (ap not (sym (left p)) ∙ unset))
+            (both_true (list_all (flag_of files flags) (rest_units files (name_at files p))) (is_open_unit f) before unit),
+      )
 
   pub alike_full : (p : ℕ) → p < length later → get_or marks p false ≡ false → IsFullAt later cached next p
   alike_full p lt none h =

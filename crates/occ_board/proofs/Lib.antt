@@ -35,3 +35,4 @@ pub mod Waits
 pub mod Likeness
 pub mod Worked
 pub mod Runs
+pub mod Idle

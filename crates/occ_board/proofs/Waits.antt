@@ -128,3 +128,8 @@ module _ (files : List Read) (cached : List Input) (project : IsProject files) w
 -- before index 0 none is awaited
 pub none_awaited : (files : List Read) (flags : List Bool) (early : BTreeSet ℕ) (from : ℕ) → from ≡ 0 → AreAwaited files flags early from
 none_awaited files flags early from zero_is p file lt e ready = absurd (omega (arith, lt, zero_is))
+
+-- one or the other, by a mark
+pub by_mark : {P Q : Type 0} (b : Bool) → (b ≡ false → P) → (b ≡ true → Q) → P ⊎ Q
+by_mark true f g = inr (g refl)
+by_mark false f g = inl (f refl)

@@ -67,7 +67,8 @@ pub struct Board {
     units: usize,
     /// The units that may be ready.
     waiting: Waiting,
-    /// Where the last job stood that was looked for. It promises nothing: an index that is wrong costs time.
+    /// Where the last file stood that was edited, or the last job that was looked for. It promises nothing: an index that is
+    /// wrong costs time.
     near: usize,
 }
 
@@ -214,7 +215,7 @@ impl Board {
         ensures { result ≡ spec_refusal self.now.base self.now.journal edit.now }
     {
         let full = is_full(self.journal.len(), self.number());
-        refusal(self.graph.project(), self.opened, full, edit)
+        refusal(self.graph.project(), self.opened, full, self.near, edit)
     }
 
     fn edit(&mut self, alloc: Global, session: u32, edit: Edit) -> Result<u32, EditFault>
@@ -251,6 +252,8 @@ impl Board {
             &self.cached,
             &mut self.flags,
             &mut self.verified,
+            &mut self.waiting,
+            self.near,
             name,
             number,
             source,
@@ -264,7 +267,7 @@ impl Board {
         };
         self.opened = opened;
         self.units = units;
-        self.waiting.forget();
+        self.near = file;
         self.cached.follow(self.graph.project(), file);
         Ok(number)
     }
@@ -293,6 +296,7 @@ impl Board {
         ready_law();
         taking_law();
         if self.pending() == 0 {
+            self.waiting.pass(self.graph.project().files().len());
             return Ok(None);
         }
         let from = first_ready(&self.graph, self.flags.as_slice(), self.waiting.least());
@@ -400,7 +404,7 @@ impl Board {
         ensures within { IfErr result (λ refused. limit_fault text.now ≡ None) }
         ensures text { IfOk result (λ found. IfSome found (λ source. source.text ≡ text.now)) }
     {
-        let Some(known) = self.graph.project().get(name) else {
+        let Some(known) = self.graph.project().get_near(self.near, name) else {
             return Ok(None);
         };
         if text_fault(text).is_some() {

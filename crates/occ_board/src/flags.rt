@@ -10,14 +10,14 @@ ghost use Rattle.occ_project_units.specs.Along.{name_at};
 ghost use Rattle.occ_project_units.specs.Indices.{graph_of, rest_units};
 ghost use Rattle.occ_project_units.specs.Project.{IsProject};
 ghost use Rattle.std.specs.List.{insert, list_all};
-ghost use Rattle.std.specs.Prelude.{◌≡◌, ◌<◌, ◌≤◌, ◌&&◌, ◌⊎◌, [], IfOk, IsFalse, IsTrue, Some, false, get_or, length, not, replicate, slice_get, slice_set, true, ℕ};
+ghost use Rattle.std.specs.Prelude.{◌≡◌, ◌<◌, ◌≤◌, ◌&&◌, ◌⊎◌, [], IfOk, IsFalse, IsTrue, OnErr, OnOk, Some, false, get_or, length, not, remove, replicate, slice_get, slice_set, true, ℕ};
 ghost use Rattle.std.specs.Str.{bytes_eq};
 
 use super::cached::Cached;
 use super::laws::{done_law, height_law};
 use super::verified::{is_current, verified_law};
 use super::waiting::Waiting;
-use occ_base::{FileName, Items, Shared};
+use occ_base::{FileName, Shared};
 use occ_project::Read;
 use occ_project_graph::Nodes;
 use occ_project_units::Graph;
@@ -27,16 +27,16 @@ use std::alloc::{AllocError, Global};
 use std::marker::Model;
 
 /// So many flags, none of which is set.
-pub fn no_flags(alloc: Global, count: usize) -> Result<Items<bool>, AllocError>
-    ensures { IfOk result (λ flags. flags ≡ replicate count false) }
+fn no_flags(alloc: Global, count: usize) -> Result<Vec<bool>, AllocError>
+    ensures { IfOk result (λ flags. flags.items ≡ replicate count false) }
 {
-    Ok(Items::from_vec(vec![in alloc; false; count]?))
+    Ok(vec![in alloc; false; count]?)
 }
 
 /// A flag for each index, and how many are set. In contracts it is the list of the flags.
 #[derive(Drop)]
 pub struct Flags {
-    flags: Items<bool>,
+    flags: Vec<bool>,
     set: usize,
 }
 
@@ -49,9 +49,9 @@ impl Model for Flags {
 
     ghost coded = { coded_list coded_bool };
 
-    ghost view = { λ flags. flags.flags };
+    ghost view = { λ flags. flags.flags.items };
 
-    ghost invariant = { λ flags. flags.set ≡ flagged flags.flags };
+    ghost invariant = { λ flags. flags.set ≡ flagged flags.flags.items };
 }
 
 impl Flags {
@@ -60,7 +60,7 @@ impl Flags {
         ensures { result ≡ [] }
     {
         Flags {
-            flags: Items::new(alloc),
+            flags: Vec::new(alloc),
             set: 0,
         }
     }
@@ -75,18 +75,39 @@ impl Flags {
         })
     }
 
-    /// These, and one that is not set where an index is new.
-    pub fn with_index(&self, alloc: Global, index: usize) -> Result<Flags, AllocError>
-        requires { index ≤ length self.now }
-        ensures { IfOk result (λ next. next ≡ insert self.now index false) }
+    /// Takes memory for one more, so that the next is put in without a request.
+    pub fn make_room(&mut self) -> Result<(), AllocError>
+        ensures { self.new ≡ self.old }
     {
-        let mut flags = Vec::with_capacity(alloc, self.flags.len().saturating_add(1))?;
-        flags.extend_from_slice(self.flags.as_slice())?;
-        flags.insert(index, false)?;
-        Ok(Flags {
-            flags: Items::from_vec(flags),
-            set: self.set,
-        })
+        self.flags.reserve(1)?;
+        Ok(())
+    }
+
+    /// Puts one in that is not set, where an index is new.
+    pub fn insert(&mut self, index: usize) -> Result<(), AllocError>
+        requires { index ≤ length self.old }
+        ensures ok { OnOk result (self.new ≡ insert self.old index false) }
+        ensures err { OnErr result (self.new ≡ self.old) }
+    {
+        self.flags.insert(index, false)?;
+        Ok(())
+    }
+
+    /// Takes the one of an index out, which is not set.
+    pub fn remove(&mut self, index: usize)
+        requires within { index < length self.old }
+        requires unset { get_or self.old index false ≡ false }
+        ensures { self.new ≡ remove self.old index }
+    {
+        self.flags.remove(index);
+    }
+
+    /// For no index any more.
+    pub fn clear(&mut self)
+        ensures { self.new ≡ [] }
+    {
+        self.flags.clear();
+        self.set = 0;
     }
 
     /// The flags, in order of their indices.
@@ -108,7 +129,7 @@ impl Flags {
         ensures { self.new ≡ slice_set self.old index true }
     {
         if index < self.flags.len() && !is_flagged(self.flags.as_slice(), index) {
-            self.flags.set(index, true);
+            self.flags[index] = true;
             self.set += 1;
         }
     }
@@ -118,7 +139,7 @@ impl Flags {
         ensures { self.new ≡ slice_set self.old index false }
     {
         if is_flagged(self.flags.as_slice(), index) {
-            self.flags.set(index, false);
+            self.flags[index] = false;
             self.set -= 1;
         }
     }

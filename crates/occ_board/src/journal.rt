@@ -35,11 +35,17 @@ fn if_full(full: bool) -> Option<EditFault>
 }
 
 /// Why a file is not opened, where so many are open.
-fn opening(project: &Project, opened: usize, full: bool, name: FileName) -> Option<EditFault>
+fn opening(
+    project: &Project,
+    opened: usize,
+    full: bool,
+    hint: usize,
+    name: FileName,
+) -> Option<EditFault>
     requires { opened ≡ open_number project.now }
     ensures { result ≡ else_fault (is_open project.now name) fault.AlreadyOpen (else_fault (nat_le 4096 (open_number project.now)) fault.TooManyFiles (spec_if_full full)) }
 {
-    if project.get(name).is_some() {
+    if project.get_near(hint, name).is_some() {
         Some(EditFault::AlreadyOpen)
     } else if opened >= FILE_LIMIT {
         Some(EditFault::TooManyFiles)
@@ -49,10 +55,10 @@ fn opening(project: &Project, opened: usize, full: bool, name: FileName) -> Opti
 }
 
 /// Why an open file is neither changed nor closed.
-fn changing(project: &Project, full: bool, name: FileName) -> Option<EditFault>
+fn changing(project: &Project, full: bool, hint: usize, name: FileName) -> Option<EditFault>
     ensures { result ≡ else_fault (not (is_open project.now name)) fault.NotOpen (spec_if_full full) }
 {
-    if project.get(name).is_none() {
+    if project.get_near(hint, name).is_none() {
         Some(EditFault::NotOpen)
     } else {
         if_full(full)
@@ -60,13 +66,19 @@ fn changing(project: &Project, full: bool, name: FileName) -> Option<EditFault>
 }
 
 /// Why an edit is refused, the first that holds, where so many files are open and the journal is full or not.
-pub fn refusal(project: &Project, opened: usize, full: bool, edit: &Edit) -> Option<EditFault>
+pub fn refusal(
+    project: &Project,
+    opened: usize,
+    full: bool,
+    hint: usize,
+    edit: &Edit,
+) -> Option<EditFault>
     requires { opened ≡ open_number project.now }
     ensures { result ≡ refusal_of project.now full edit.now }
 {
     match edit {
-        Edit::Added(name, _) => opening(project, opened, full, *name),
-        Edit::Changed(name, _) | Edit::Removed(name) => changing(project, full, *name),
+        Edit::Added(name, _) => opening(project, opened, full, hint, *name),
+        Edit::Changed(name, _) | Edit::Removed(name) => changing(project, full, hint, *name),
     }
 }
 

@@ -5,6 +5,7 @@ ghost use Rattle.occ_board.specs.Edits.{IsApart};
 ghost use Rattle.occ_board.specs.inside.Flagged.{AreFlags, IsFullAt, IsSound, unflagged};
 ghost use Rattle.occ_board.specs.inside.Verified.{AreVerified, looked};
 ghost use Rattle.occ_board.specs.inside.Revisions.{AllGivenByRevision, AreBefore};
+ghost use Rattle.occ_board.specs.inside.Ready.{AreAwaited, is_ready};
 ghost use Rattle.occ_board.specs.inside.Touched.{IsClosed};
 ghost use Rattle.occ_check.specs.Input.{Input};
 ghost use Rattle.occ_project_graph.specs.Graph.{has_edge, is_among as spec_is_among};
@@ -14,14 +15,17 @@ ghost use Rattle.occ_project_units.specs.New.{IsNew};
 ghost use Rattle.occ_project_units.specs.Indices.{graph_of, readers_at};
 ghost use Rattle.occ_project_units.specs.Project.{IsProject, put};
 ghost use Rattle.occ_project_units.specs.Spelled.{AreSpelled};
+ghost use Rattle.std.specs.BTreeSet.{contains};
 ghost use Rattle.std.specs.List.{insert};
-ghost use Rattle.std.specs.Prelude.{◌≡◌, ◌<◌, ◌≤◌, ◌&&◌, ◌||◌, IfOk, List, None, OnErr, OnOk, Some, false, get_or, length, not, true, ℕ};
+ghost use Rattle.std.specs.Ordering.{nat_cmp};
+ghost use Rattle.std.specs.Prelude.{◌≡◌, ◌<◌, ◌≤◌, ◌&&◌, ◌||◌, IfOk, List, None, OnErr, OnOk, Some, false, get_or, length, not, slice_get, true, ℕ};
 
 use super::cached::Cached;
 use super::flags::{Flags, is_flagged, settle, settle_among, settle_from, unflag};
 use super::laws::{done_law, height_law};
 use super::touched::Touched;
-use super::verified::{forget_readers, verified_law, verified_with_index};
+use super::verified::{forget_readers, verified_law, verify_none_at};
+use super::waiting::Waiting;
 use occ_base::{FileName, Shared};
 use occ_check::Checked;
 use occ_forms::Source;
@@ -147,7 +151,7 @@ fn touched_by(
     ensures closed { IfOk result (λ touched. IsClosed (graph_of graph.now) flags.now all touched) }
 {
     readers_law();
-    let mut touched = Touched::none(alloc, graph.project().files().len())?;
+    let mut touched = Touched::none(alloc, graph.project().files().len());
     touch_also(graph, flags, all, &mut touched, index)?;
     for reader in readers {
         touch_also(graph, flags, all, &mut touched, *reader)?;
@@ -182,8 +186,43 @@ fn resettle(
     );
 }
 
+/// The same, where of the units that are ready only marked ones may be unknown. What is known of ready units follows.
+fn resettle_waiting(
+    graph: &Graph,
+    cached: &Cached,
+    flags: &mut Flags,
+    verified: &mut Flags,
+    waiting: &mut Waiting,
+    touched: &Touched,
+)
+    requires len { length flags.old ≡ length graph.now }
+    requires marks { length touched.now ≡ length graph.now }
+    requires sound { IsSound graph.now cached.now flags.old }
+    requires reported { AllGivenByRevision graph.now cached.now }
+    requires verified { AreVerified graph.now cached.now verified.old }
+    requires full { (p : ℕ) → p < length graph.now → get_or touched.now p false ≡ false → IsFullAt graph.now cached.now flags.old p }
+    requires awaited { (p : ℕ) (file : ARead) → p < waiting.old.from → slice_get graph.now p ≡ Some file → get_or touched.now p false ≡ false → is_ready graph.now flags.old p file ≡ true → contains nat_cmp waiting.old.early p ≡ true }
+    ensures len { length flags.new ≡ length graph.now }
+    ensures flags { AreFlags graph.now cached.now flags.new }
+    ensures verified { AreVerified graph.now cached.now verified.new }
+    ensures awaited { AreAwaited graph.now flags.new waiting.new.early waiting.new.from }
+{
+    let _files = graph.project().files();
+    let count = flags.count();
+    resettle(graph, cached, flags, verified, touched);
+    if flags.count() == count {
+        waiting.begin_with(
+            graph,
+            flags.as_slice(),
+            &Nodes::of_indices(touched.indices()),
+        );
+    } else {
+        waiting.forget();
+    }
+}
+
 /// The graph, the flags and what is verified after the edit of a file that was not there, and that no file looks for. What there
-/// was stays, but for its indices.
+/// was stays, but for its indices. Memory for what is verified is taken before the graph changes, so that no refusal is passed over.
 fn renew_new(
     alloc: Global,
     graph: &mut Graph,
@@ -214,11 +253,13 @@ fn renew_new(
     done_law();
     height_law();
     names_law();
-    let next = flags.with_index(alloc, index)?;
-    let known = verified_with_index(alloc, verified, index)?;
-    graph.add(alloc, index, name, revision, source)?;
-    *flags = next;
-    *verified = known;
+    verified.make_room()?;
+    flags.insert(index)?;
+    if let Err(refused) = graph.add(alloc, index, name, revision, source) {
+        flags.remove(index);
+        return Err(refused);
+    }
+    let _ = verify_none_at(verified, index);
     if !name.is_unit() {
         settle_from(graph, cached, flags, verified, index, name);
     }
@@ -265,6 +306,7 @@ fn renew_alike(
     cached: &Cached,
     flags: &mut Flags,
     verified: &mut Flags,
+    waiting: &mut Waiting,
     index: usize,
     readers: &[usize],
     file: &Read,
@@ -275,11 +317,13 @@ fn renew_alike(
     requires flags { AreFlags graph.old cached.now flags.old }
     requires reported { AllGivenByRevision graph.old cached.now }
     requires verified { AreVerified graph.old cached.now verified.old }
+    requires awaited { AreAwaited graph.old flags.old waiting.old.early waiting.old.from }
     requires before { AreBefore file.now.revision cached.now }
     ensures graph { IfOk result (λ alike. alike ≡ true → graph.new ≡ put graph.old file.now) }
     ensures len { IfOk result (λ alike. alike ≡ true → length flags.new ≡ length graph.new) }
     ensures flags { IfOk result (λ alike. alike ≡ true → AreFlags graph.new cached.now flags.new) }
     ensures verified { IfOk result (λ alike. alike ≡ true → AreVerified graph.new cached.now verified.new) }
+    ensures awaited { AreAwaited graph.new flags.new waiting.new.early waiting.new.from }
     ensures other { IfOk result (λ alike. alike ≡ false → (graph.new ≡ graph.old) × (flags.new ≡ flags.old) × (verified.new ≡ verified.old)) }
     ensures err { OnErr result ((graph.new ≡ graph.old) × (flags.new ≡ flags.old) × (verified.new ≡ verified.old)) }
 {
@@ -296,7 +340,7 @@ fn renew_alike(
     }
     unflag(verified, &Nodes::of_indices(readers));
     unflag(flags, &Nodes::of_indices(touched.indices()));
-    resettle(graph, cached, flags, verified, &touched);
+    resettle_waiting(graph, cached, flags, verified, waiting, &touched);
     Ok(true)
 }
 
@@ -348,6 +392,7 @@ fn renew_at(
     cached: &Cached,
     flags: &mut Flags,
     verified: &mut Flags,
+    waiting: &mut Waiting,
     index: usize,
     file: Read,
 ) -> Result<(), AllocError>
@@ -357,29 +402,36 @@ fn renew_at(
     requires flags { AreFlags graph.old cached.now flags.old }
     requires reported { AllGivenByRevision graph.old cached.now }
     requires verified { AreVerified graph.old cached.now verified.old }
+    requires awaited { AreAwaited graph.old flags.old waiting.old.early waiting.old.from }
     requires before { AreBefore file.revision cached.now }
     ensures graph { OnOk result (graph.new ≡ put graph.old file) }
     ensures len { OnOk result (length flags.new ≡ length graph.new) }
     ensures flags { OnOk result (AreFlags graph.new cached.now flags.new) }
     ensures verified { OnOk result (AreVerified graph.new cached.now verified.new) }
+    ensures awaited { AreAwaited graph.new flags.new waiting.new.early waiting.new.from }
     ensures err { OnErr result ((graph.new ≡ graph.old) × (flags.new ≡ flags.old) × (verified.new ≡ verified.old)) }
 {
     let readers = graph.readers(alloc, index)?;
     let readers = readers.as_slice();
-    if renew_alike(alloc, graph, cached, flags, verified, index, readers, &file)? {
+    if renew_alike(
+        alloc, graph, cached, flags, verified, waiting, index, readers, &file,
+    )? {
         return Ok(());
     }
+    waiting.forget();
     renew_other(alloc, graph, cached, flags, verified, index, readers, file)
 }
 
-/// Gives a file this text, or takes it away, by the edit of that number. Where these were the flags of the units that are
-/// done, they are so after it. It says where the file is looked for first, which promises nothing.
+/// Gives a file, which is looked for at an index first, this text, or takes it away, by the edit of that number. Where these were the
+/// flags of the units that are done, they are so after it. It says where the file is looked for first, which promises nothing.
 pub fn renew(
     alloc: Global,
     graph: &mut Graph,
     cached: &Cached,
     flags: &mut Flags,
     verified: &mut Flags,
+    waiting: &mut Waiting,
+    hint: usize,
     name: FileName,
     revision: u32,
     source: Option<Shared<Source>>,
@@ -389,22 +441,25 @@ pub fn renew(
     requires flags { AreFlags graph.old cached.now flags.old }
     requires reported { AllGivenByRevision graph.old cached.now }
     requires verified { AreVerified graph.old cached.now verified.old }
+    requires awaited { AreAwaited graph.old flags.old waiting.old.early waiting.old.from }
     requires before { AreBefore revision cached.now }
     ensures graph { OnOk result (graph.new ≡ put graph.old (record { name = name; revision = revision; source = source })) }
     ensures len { OnOk result (length flags.new ≡ length graph.new) }
     ensures flags { OnOk result (AreFlags graph.new cached.now flags.new) }
     ensures verified { OnOk result (AreVerified graph.new cached.now verified.new) }
+    ensures awaited { AreAwaited graph.new flags.new waiting.new.early waiting.new.from }
     ensures err { OnErr result ((graph.new ≡ graph.old) × (flags.new ≡ flags.old) × (verified.new ≡ verified.old)) }
 {
-    if let Some(index) = graph.project().index(name) {
+    if let Some(index) = graph.project().index_near(hint, name) {
         let file = Read {
             name,
             revision,
             source,
         };
-        renew_at(alloc, graph, cached, flags, verified, index, file)?;
+        renew_at(alloc, graph, cached, flags, verified, waiting, index, file)?;
         return Ok(index);
     }
+    waiting.forget();
     if let Some(index) = graph.index_for(name) {
         renew_new(
             alloc, graph, cached, flags, verified, index, name, revision, source,

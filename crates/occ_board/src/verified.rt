@@ -15,7 +15,7 @@ ghost use Rattle.occ_check.specs.Input.{Input};
 ghost use Rattle.occ_project_units.specs.Project.{IsProject};
 ghost use Rattle.occ_project_units.specs.Units.{used_units};
 ghost use Rattle.std.specs.List.{insert};
-ghost use Rattle.std.specs.Prelude.{◌≡◌, ◌≤◌, ◌⊎◌, [], IfOk, List, Some, false, get_or, length, true, ℕ};
+ghost use Rattle.std.specs.Prelude.{◌≡◌, ◌≤◌, ◌⊎◌, [], List, OnOk, Some, false, get_or, length, true, ℕ};
 
 use super::cached::Cached;
 use super::flags::{Flags, is_flagged, unflag};
@@ -27,7 +27,7 @@ use occ_check::laws::input_law;
 use occ_project_graph::Nodes;
 use occ_project_units::Graph;
 use occ_project_units::laws::users_law;
-use std::alloc::{AllocError, Global};
+use std::alloc::AllocError;
 
 /// Where all that a unit rests on is done, what its check looks at is what it would look at if what is cached of each unit were
 /// what it shows; and of a unit that is done an outcome that looked at this is cached.
@@ -75,19 +75,21 @@ pub fn forget_readers(verified: &mut Flags, readers: &[usize], touched: &Touched
     unflag(verified, &Nodes::of_indices(touched.indices()));
 }
 
-/// What is known to be verified where an index is new. Nothing is, if there is no such index yet.
-pub fn verified_with_index(
-    alloc: Global,
-    verified: &Flags,
-    index: usize,
-) -> Result<Flags, AllocError>
-    ensures known { IfOk result (λ next. ((index ≤ length verified.now) × (next ≡ insert verified.now index false)) ⊎ (next ≡ [])) }
-    ensures kept { IfOk result (λ next. index ≤ length verified.now → next ≡ insert verified.now index false) }
+/// Of an index that is new nothing is verified, nor of any other if there is no such index yet. Where memory is refused nothing is
+/// known to be verified any more.
+pub fn verify_none_at(verified: &mut Flags, index: usize) -> Result<(), AllocError>
+    ensures known { ((index ≤ length verified.old) × (verified.new ≡ insert verified.old index false)) ⊎ (verified.new ≡ []) }
+    ensures kept { OnOk result (index ≤ length verified.old → verified.new ≡ insert verified.old index false) }
 {
-    if index <= verified.as_slice().len() {
-        return verified.with_index(alloc, index);
+    if index > verified.as_slice().len() {
+        verified.clear();
+        return Ok(());
     }
-    Ok(Flags::new(alloc))
+    if let Err(refused) = verified.insert(index) {
+        verified.clear();
+        return Err(refused);
+    }
+    Ok(())
 }
 
 /// After an accepted outcome of an open unit, which is looked for at an index first: of the units that use it none is verified,

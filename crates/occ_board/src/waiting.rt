@@ -77,4 +77,17 @@ impl Waiting {
             }
         }
     }
+
+    /// Of others only those at these indices may have got ready. It begins with the least of them that did, or before it.
+    pub fn begin_with(&mut self, graph: &Graph, flags: &[bool], indices: &Nodes<'_>)
+        requires { (p : ℕ) (file : ARead) → p < self.old.from → slice_get graph.now p ≡ Some file → spec_is_ready graph.now flags.now p file ≡ true → (contains nat_cmp self.old.early p ≡ true) ⊎ (spec_is_among indices.now p ≡ true) }
+        ensures { AreAwaited graph.now flags.now self.new.early self.new.from }
+    {
+        for place in 0..indices.count() {
+            let index = indices.at(place);
+            if index < self.from && is_ready_at(graph, flags, index) {
+                self.from = index;
+            }
+        }
+    }
 }

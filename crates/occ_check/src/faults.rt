@@ -76,7 +76,7 @@ fn add_use_fault(
         return Ok(());
     };
     let name = Name::from_slice(alloc, unit.as_bytes())?;
-    found.push(Diag::error(line.file, line.line, code, Some(name)))
+    found.push(Diag::error(*line.file.get(), line.line, code, Some(name)))
 }
 
 /// Adds the faults of uses of these units at the line.
@@ -111,9 +111,11 @@ fn add_own_faults(
     match &line.body {
         ExpandedBody::Form(_) => Ok(()),
         ExpandedBody::Uses(units) => {
-            add_use_faults(alloc, used, hint, line, units.get().as_slice(), found)
+            add_use_faults(alloc, used, hint, line, units.as_slice(), found)
         }
-        ExpandedBody::Fault(code) => found.push(Diag::error(line.file, line.line, *code, None)),
+        ExpandedBody::Fault(code) => {
+            found.push(Diag::error(*line.file.get(), line.line, *code, None))
+        }
     }
 }
 

@@ -70,10 +70,12 @@ fn judge_uses(alloc: Global, typed: &Typed) -> Result<Judgement, AllocError>
 
 /// What names and types say of a unit, and after them the rules of uses.
 #[tactic(auto, using(crate::proofs::Firsts::first_is_all))]
-fn judge_meaning(alloc: Global, unit: &Unit, imports: &[Import]) -> Result<Judgement, AllocError>
-    ensures { IfOk result (λ judgement. judgement ≡ following (type_faults imports.now (forest_of unit.now.roots)) (uses_judged (typed_unit imports.now (forest_of unit.now.roots)))) }
+fn judge_meaning(alloc: Global, unit: Unit, imports: &[Import]) -> Result<Judgement, AllocError>
+    ensures { IfOk result (λ judgement. judgement ≡ following (type_faults imports.now (forest_of unit.roots)) (uses_judged (typed_unit imports.now (forest_of unit.roots)))) }
 {
-    match type_unit(alloc, unit, imports) {
+    let typed = type_unit(alloc, &unit, imports);
+    drop(unit);
+    match typed {
         Ok(typed) => judge_uses(alloc, &typed),
         Err(TypeFault::Faults(found)) => Ok(Judgement::of_faults(found)),
         Err(TypeFault::Memory) => Err(AllocError),
@@ -92,7 +94,7 @@ pub fn judge(
 {
     let imports = imports(alloc, used)?;
     match shape(alloc, lines) {
-        Ok(unit) => judge_meaning(alloc, &unit, imports.as_slice()),
+        Ok(unit) => judge_meaning(alloc, unit, imports.as_slice()),
         Err(ShapeFault::Faults(found)) => Ok(Judgement::of_faults(found)),
         Err(ShapeFault::Memory) => Err(AllocError),
     }

@@ -357,7 +357,7 @@ impl<'a, D: Disk> Gathering<'a, D> {
         ensures keeps { OnOk result (Keeps self.old.found self.new.found) }
     {
         for line in expanded.lines() {
-            self.add_used(alloc, line.file, line.used_units())?;
+            self.add_used(alloc, *line.file.get(), line.used_units())?;
         }
         Ok(())
     }

@@ -17,11 +17,11 @@ use std::marker::Model;
 pub enum LineBody {
     /// Shared, since every expansion that holds the line has it.
     Form(Shared<Form>),
-    /// The lines of this file stand here. Names of files have boxes: else every line would have room for two.
+    /// The lines of this file stand here. Names of files lie in blocks of their own: else every line would have room for two.
     Include(Boxed<FileName>),
-    /// The exports of this unit are visible from here on. Of a library there is also the name of its list: where that file is
-    /// open, the units that it lists are used in place of this one.
-    Uses(Boxed<FileName>, Option<Boxed<FileName>>),
+    /// The exports of this unit are visible from here on; expansions share its name. Of a library there is also the name of its
+    /// list: where that file is open, the units that it lists are used in place of this one.
+    Uses(Shared<FileName>, Option<Boxed<FileName>>),
     /// The one fault of the line: `L1`, `L2`, `L3`, `L4`, `S1` or `S3`.
     Fault(Code),
 }

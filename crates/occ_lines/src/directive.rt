@@ -10,7 +10,7 @@ use super::lexeme::{after_first, found_in};
 use super::quoted::following;
 use super::scan::name_len;
 use super::text::Body;
-use occ_base::{Boxed, Code, FileName, NameFault};
+use occ_base::{Boxed, Code, FileName, NameFault, Shared};
 use std::alloc::{AllocError, Global};
 
 /// What a directive asks for.
@@ -179,7 +179,7 @@ fn use_body(alloc: Global, text: &[u8]) -> Result<Body, AllocError>
     };
     match unit_of(name) {
         Ok(unit) => {
-            let unit = Boxed::new(alloc, unit)?;
+            let unit = Shared::new(alloc, unit)?;
             Ok(Body::Uses(unit, list_of(alloc, name)?))
         }
         Err(_) => Ok(Body::Fault(Code::L1)),

@@ -3,20 +3,20 @@ ghost use Rattle.std.specs.Prelude.{◌≡◌};
 ghost use Rattle.occ_lines.specs.declared.text.TextFault.TheVariants.{Memory};
 
 use super::token::Token;
-use occ_base::{Boxed, Code, FileName, Items};
+use occ_base::{Boxed, Code, FileName, Items, Shared};
 use std::alloc::AllocError;
 use thiserror::Error;
 
-/// What a logical line holds. Names of files have boxes: else every line would have room for two.
+/// What a logical line holds. Names of files lie in blocks of their own: else every line would have room for two.
 #[derive(Drop)]
 pub enum Body {
     /// The tokens of a statement, at least one.
     Tokens(Items<Token>),
     /// The lines of this file stand here.
     Include(Boxed<FileName>),
-    /// The exports of this unit are visible from here on. Of a library there is also the name of its list: where that file is
-    /// open, the units that it lists are used in place of this one.
-    Uses(Boxed<FileName>, Option<Boxed<FileName>>),
+    /// The exports of this unit are visible from here on; expansions share its name. Of a library there is also the name of its
+    /// list: where that file is open, the units that it lists are used in place of this one.
+    Uses(Shared<FileName>, Option<Boxed<FileName>>),
     /// The one fault of the line: `L1`, `L2`, `L3` or `L4`.
     Fault(Code),
 }

@@ -66,12 +66,13 @@ line_done reads left way file raise line rest lines seen depth holds found old n
     ∙ e
 
 -- the file that a line puts in has come
-pub inner_done : (reads : List Read) (left : ℕ) (way at : List (List ℕ)) (pushed : List (List ℕ)) (file : List ℕ) (depth : ℕ) (lines : List SourceLine) (stepped made new : Made)
-    → 0 < left → at ≡ way → pushed ≡ at ++ file ∷ [] → made ≡ stepped
-    → new ≡ after made (entries reads (left - 1) pushed file depth lines)
+pub inner_done : (reads : List Read) (left : ℕ) (way at : List (List ℕ)) (pushed : List (List ℕ)) (file shared : List ℕ) (depth : ℕ) (lines : List SourceLine) (stepped made new : Made)
+    → 0 < left → at ≡ way → pushed ≡ at ++ file ∷ [] → made ≡ stepped → shared ≡ file
+    → new ≡ after made (entries reads (left - 1) pushed shared depth lines)
     → new ≡ after stepped (inner_entries (inner_of reads left) way depth (Some (file, lines)))
-inner_done reads left way at pushed file depth lines stepped made new h w p m e =
-    e ∙ ap (λ (x : Made). after x (entries reads (left - 1) pushed file depth lines)) m
+inner_done reads left way at pushed file shared depth lines stepped made new h w p m s e =
+    e ∙ ap (λ (name : List ℕ). after made (entries reads (left - 1) pushed name depth lines)) s
+    ∙ ap (λ (x : Made). after x (entries reads (left - 1) pushed file depth lines)) m
     ∙ ap (λ (ns : List (List ℕ)). after stepped (entries reads (left - 1) ns file depth lines)) (p ∙ ap (λ (ns : List (List ℕ)). ns ++ file ∷ []) w)
     ∙ ap (λ (f : FileEntries). after stepped (f (way ++ file ∷ []) file depth lines)) (sym (inner_is reads left h))
 

@@ -1,17 +1,19 @@
 //! An expansion: its lines with file, number and depth, its reads, and its faults.
 ghost use Rattle.occ_project.specs.Locations.{location_of};
 ghost use Rattle.occ_project.specs.Uses.{units_of};
-ghost use Rattle.std.specs.Prelude.{◌≡◌};
+ghost use Rattle.std.specs.Prelude.{◌≡◌, IfOk};
 
+use super::line_units::UsedUnits;
 use occ_base::{Code, Diag, FileName, Items, Shared};
 use occ_forms::Form;
+use std::alloc::AllocError;
 use std::marker::Model;
 
 /// What a line of an expansion holds.
 pub enum ExpandedBody {
     Form(Shared<Form>),
     /// A `#USE`: the units whose exports are visible from here on, in this order. One `#USE` of a library can have many.
-    Uses(Shared<Items<FileName>>),
+    Uses(UsedUnits),
     /// The one fault of the line: `L1`, `L2`, `L3`, `L4`, `S1` or `S3`.
     Fault(Code),
 }
@@ -28,17 +30,37 @@ impl Drop for ExpandedBody {
 }
 
 /// Where a line stands.
-#[derive(Clone, Copy)]
 pub struct Location {
-    pub file: FileName,
+    /// The file in which it stands, whose name all that stands in it shares.
+    pub file: Shared<FileName>,
     /// The line of that file on which it begins, from 1.
     pub line: u32,
 }
 
+/// Written out: crates above call it, where each would prove a derived one anew.
+impl Drop for Location {
+    fn drop(self) {
+        let Location { file: _, line: _ } = self;
+    }
+}
+
+impl Location {
+    /// The same place once more. It takes no memory, but the count of owners of the name may be full.
+    pub fn share(&self) -> Result<Location, AllocError>
+        ensures { IfOk result (λ location. location ≡ self.now) }
+    {
+        let Location { file, line } = self;
+        Ok(Location {
+            file: file.share()?,
+            line: *line,
+        })
+    }
+}
+
 /// A line of an expansion.
 pub struct ExpandedLine {
-    /// The file in which it stands.
-    pub file: FileName,
+    /// The file in which it stands, whose name all its lines share.
+    pub file: Shared<FileName>,
     /// The line of that file on which it begins, from 1.
     pub line: u32,
     /// The number of levels that it stands in, those of the directives that include its file counted.
@@ -60,13 +82,13 @@ impl Drop for ExpandedLine {
 
 impl ExpandedLine {
     /// Where it stands.
-    pub fn location(&self) -> Location
-        ensures { result ≡ location_of self.now }
+    pub fn location(&self) -> Result<Location, AllocError>
+        ensures { IfOk result (λ location. location ≡ location_of self.now) }
     {
-        Location {
-            file: self.file,
+        Ok(Location {
+            file: self.file.share()?,
             line: self.line,
-        }
+        })
     }
 
     /// The units that a `#USE` uses; any other line uses none.
@@ -74,7 +96,7 @@ impl ExpandedLine {
         ensures { result.now ≡ units_of self.now }
     {
         match &self.body {
-            ExpandedBody::Uses(units) => units.get().as_slice(),
+            ExpandedBody::Uses(units) => units.as_slice(),
             ExpandedBody::Form(_) | ExpandedBody::Fault(_) => &[],
         }
     }

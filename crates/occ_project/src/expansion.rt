@@ -13,6 +13,7 @@ ghost use Rattle.std.specs.Prelude.{Err, IfOk, List, None, OnOk, Some, ℕ, ◌*
 use super::entry::{ExpansionEntry, Held};
 use super::expanded::{Expanded, ExpandedBody};
 use super::files::Files;
+use super::line_units::UsedUnits;
 use super::making::Made;
 use super::reads::Reads;
 use occ_base::{Boxed, FileName, Items, Shared, first_indices, one_item};
@@ -45,10 +46,10 @@ impl From<AllocError> for ExpandFault {
     }
 }
 
-/// A file whose lines are added.
-#[derive(Clone, Copy)]
+/// A file whose lines are added, which share its name.
+#[derive(Drop)]
 struct Opened {
-    file: FileName,
+    file: Shared<FileName>,
     /// How many inclusions may be nested in it.
     left: u32,
     /// What the depths of its lines are raised by.
@@ -67,15 +68,15 @@ fn library(
     alloc: Global,
     files: &Files<'_>,
     depth: u64,
-    unit: FileName,
+    unit: &Shared<FileName>,
     list: FileName,
 ) -> Result<Held, AllocError>
-    ensures { IfOk result (λ held. held ≡ spec_use_line files.now.reads.now depth unit (Some list)) }
+    ensures { IfOk result (λ held. held ≡ spec_use_line files.now.reads.now depth unit.now (Some list)) }
 {
-    match files.listing(alloc, unit, list)? {
+    match files.listing(unit, list)? {
         Ok(units) => Ok(Held::Library(depth, units, list, None)),
         Err(fault) => {
-            let none = Shared::new(alloc, Items::new(alloc))?;
+            let none = UsedUnits::listed(Shared::new(alloc, Items::new(alloc))?);
             Ok(Held::Library(depth, none, list, Some(fault)))
         }
     }
@@ -86,15 +87,15 @@ fn use_line(
     alloc: Global,
     files: &Files<'_>,
     depth: u64,
-    unit: FileName,
+    unit: &Shared<FileName>,
     list: &Option<Boxed<FileName>>,
 ) -> Result<Held, AllocError>
-    ensures { IfOk result (λ held. held ≡ spec_use_line files.now.reads.now depth unit list.now) }
+    ensures { IfOk result (λ held. held ≡ spec_use_line files.now.reads.now depth unit.now list.now) }
 {
     match list {
         Some(list) => library(alloc, files, depth, unit, *list.get()),
         None => {
-            let units = Shared::new(alloc, one_item(alloc, unit)?)?;
+            let units = UsedUnits::one(unit.share()?);
             Ok(Held::Line(depth, ExpandedBody::Uses(units)))
         }
     }
@@ -122,9 +123,7 @@ fn held<'a>(
 {
     match body {
         LineBody::Form(form) => Ok((held_form(depth, form)?, None)),
-        LineBody::Uses(unit, list) => {
-            Ok((use_line(alloc, files, depth, *unit.get(), list)?, None))
-        }
+        LineBody::Uses(unit, list) => { Ok((use_line(alloc, files, depth, unit, list)?, None)) }
         LineBody::Fault(fault) => Ok((Held::Line(depth, ExpandedBody::Fault(*fault)), None)),
         LineBody::Include(name) => {
             let name = *name.get();
@@ -139,15 +138,16 @@ fn held<'a>(
 /// Adds the entry of a line with this form. By itself, since most lines have one and put no file in.
 fn add_form(
     alloc: Global,
-    file: FileName,
+    file: &Shared<FileName>,
     line: u32,
     depth: u64,
     form: &Shared<Form>,
     made: &mut Made,
 ) -> Result<(), AllocError>
-    ensures { OnOk result (made.new ≡ step made.old (record { file = file; line = line; held = holds.Line depth (to.Form form.now) })) }
+    ensures { OnOk result (made.new ≡ step made.old (record { file = file.now; line = line; held = holds.Line depth (to.Form form.now) })) }
 {
     let held = held_form(depth, form)?;
+    let file = file.share()?;
     made.add(alloc, ExpansionEntry { file, line, held })
 }
 
@@ -156,13 +156,13 @@ fn add_file(
     alloc: Global,
     files: &Files<'_>,
     way: &mut Items<FileName>,
-    opened: Opened,
+    opened: &Opened,
     lines: &[SourceLine],
     made: &mut Made,
 ) -> Result<(), AllocError>
-    requires { opened.raise + (opened.left + 1) * 2 ^ 32 ≤ 2 ^ 63 }
+    requires { opened.now.raise + (opened.now.left + 1) * 2 ^ 32 ≤ 2 ^ 63 }
     ensures way { OnOk result (way.new ≡ way.old) }
-    ensures made { OnOk result (made.new ≡ after made.old (entries files.now.reads.now opened.left way.old opened.file opened.raise lines.now)) }
+    ensures made { OnOk result (made.new ≡ after made.old (entries files.now.reads.now opened.now.left way.old opened.now.file opened.now.raise lines.now)) }
 {
     for line in lines {
         if made.is_over {
@@ -170,14 +170,15 @@ fn add_file(
         }
         let depth = opened.raise + u64::from(line.depth);
         if let LineBody::Form(form) = &line.body {
-            add_form(alloc, opened.file, line.line, depth, form, made)?;
+            add_form(alloc, &opened.file, line.line, depth, form, made)?;
             continue;
         }
         let (held, found) = held(alloc, files, way.as_slice(), opened.left, depth, &line.body)?;
+        let file = opened.file.share()?;
         made.add(
             alloc,
             ExpansionEntry {
-                file: opened.file,
+                file,
                 line: line.line,
                 held,
             },
@@ -185,13 +186,14 @@ fn add_file(
         let Some(inner) = found else {
             continue;
         };
+        let name = Shared::new(alloc, inner.name)?;
         let next = Opened {
-            file: inner.name,
+            file: name,
             left: opened.left - 1,
             raise: depth,
         };
         way.push(inner.name)?;
-        add_file(alloc, files, way, next, inner.lines, made)?;
+        add_file(alloc, files, way, &next, inner.lines, made)?;
         way.pop();
     }
     Ok(())
@@ -222,13 +224,14 @@ fn expanded(alloc: Global, files: &Files<'_>, unit: FileName) -> Result<Expanded
     let found = files.open_lines(unit);
     let mut made = Made::new(alloc, unit, count_of(found), LINE_LIMIT)?;
     if let Some(lines) = found {
+        let file = Shared::new(alloc, unit)?;
         let opened = Opened {
-            file: unit,
+            file,
             left: INCLUSION_LIMIT,
             raise: 0,
         };
         let mut way = one_item(alloc, unit)?;
-        add_file(alloc, files, &mut way, opened, lines, &mut made)?;
+        add_file(alloc, files, &mut way, &opened, lines, &mut made)?;
     }
     let Made {
         lines,

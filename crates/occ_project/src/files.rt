@@ -6,8 +6,9 @@ ghost use Rattle.std.specs.List.{find};
 ghost use Rattle.std.specs.Option.{is_some, option_copied};
 ghost use Rattle.std.specs.Prelude.{Err, IfOk, List, MatchResult, Ok, length, not, ℕ, ◌≡◌, ◌≤◌};
 
+use super::line_units::UsedUnits;
 use super::reads::{Read, Reads};
-use occ_base::{Code, FileName, Items, Shared, one_item};
+use occ_base::{Code, FileName, Shared};
 use occ_forms::{Source, SourceLine};
 use std::alloc::{AllocError, Global};
 use std::collections::BTreeMap;
@@ -106,17 +107,16 @@ impl<'a> Files<'a> {
     /// that is none.
     pub fn listing(
         &self,
-        alloc: Global,
-        unit: FileName,
+        unit: &Shared<FileName>,
         list: FileName,
-    ) -> Result<Result<Shared<Items<FileName>>, Code>, AllocError>
-        ensures { IfOk result (λ found. found ≡ spec_listing unit (spec_open_text self.now.reads.now list)) }
+    ) -> Result<Result<UsedUnits, Code>, AllocError>
+        ensures { IfOk result (λ found. found ≡ spec_listing unit.now (spec_open_text self.now.reads.now list)) }
     {
         let Some(source) = self.open_source(list) else {
-            return Ok(Ok(Shared::new(alloc, one_item(alloc, unit)?)?));
+            return Ok(Ok(UsedUnits::one(unit.share()?)));
         };
         match source.shared_list() {
-            Some(units) => Ok(Ok(units.share()?)),
+            Some(units) => Ok(Ok(UsedUnits::listed(units.share()?))),
             None => Ok(Err(Code::G7)),
         }
     }

@@ -7,6 +7,7 @@ mod entry;
 mod expanded;
 mod expansion;
 mod files;
+mod line_units;
 mod making;
 mod reads;
 mod rows;
@@ -14,6 +15,7 @@ mod uses;
 
 pub use expanded::{Expanded, ExpandedBody, ExpandedLine, Location};
 pub use expansion::{ExpandFault, expand, expand_over};
+pub use line_units::UsedUnits;
 pub use reads::{Read, Reads};
 pub use rows::{fault_rows, include_rows, library_rows, limit_rows, read_rows, use_rows};
-pub use uses::used_units;
+pub use uses::{units_in_order, used_units};

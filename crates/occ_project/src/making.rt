@@ -60,7 +60,7 @@ fn add_fault(
 fn too_many(entry: &ExpansionEntry) -> Diag
     ensures { result ≡ limit_fault entry.now }
 {
-    Diag::error(entry.file, entry.line, Code::G6, None)
+    Diag::error(*entry.file.get(), entry.line, Code::G6, None)
 }
 
 impl Made {
@@ -105,7 +105,7 @@ impl Made {
             }),
             Held::Library(depth, units, list, fault) => {
                 self.names.push(list)?;
-                add_fault(alloc, file, line, list, fault, &mut self.faults)?;
+                add_fault(alloc, *file.get(), line, list, fault, &mut self.faults)?;
                 self.lines.push(ExpandedLine {
                     file,
                     line,
@@ -115,7 +115,7 @@ impl Made {
             }
             Held::Include(name, fault) => {
                 add_name(name, fault, &mut self.names)?;
-                add_fault(alloc, file, line, name, fault, &mut self.faults)
+                add_fault(alloc, *file.get(), line, name, fault, &mut self.faults)
             }
         }
     }

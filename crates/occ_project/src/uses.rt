@@ -30,8 +30,8 @@ fn do_rise(names: &[FileName]) -> bool
     true
 }
 
-/// The names, each once, in order.
-fn in_order(alloc: Global, names: Items<FileName>) -> Result<Items<FileName>, AllocError>
+/// The names of units, each once, in order.
+pub fn units_in_order(alloc: Global, names: Items<FileName>) -> Result<Items<FileName>, AllocError>
     ensures { IfOk result (λ ordered. ordered ≡ names_in_order names) }
 {
     if do_rise(names.as_slice()) {
@@ -87,5 +87,5 @@ fn units_of_lines(alloc: Global, lines: &[ExpandedLine]) -> Result<Items<FileNam
 pub fn used_units(alloc: Global, lines: &[ExpandedLine]) -> Result<Items<FileName>, AllocError>
     ensures { IfOk result (λ used. used ≡ used_in lines.now) }
 {
-    in_order(alloc, units_of_lines(alloc, lines)?)
+    units_in_order(alloc, units_of_lines(alloc, lines)?)
 }

@@ -4,7 +4,7 @@ use Rattle.std.specs.Prelude.{slice_set}
 use Rattle.std.proofs.lemmas.Bool.{cases_lt, eqb-false, eqb-true}
 use Rattle.std.proofs.lemmas.List.{get_or-map, length-map}
 use Rattle.occ_project_graph.specs.Adding.{raised}
-use Rattle.occ_project_graph.specs.inside.Numbering.{IsNumbered, index_at}
+use Rattle.occ_project_graph.specs.inside.Numbering.{IsNumbered, IsRaising, index_at}
 use Rattle.occ_project_graph.proofs.Added.{raised_above, raised_below}
 use Rattle.occ_project_graph.proofs.Led.{all_numbers}
 
@@ -24,13 +24,6 @@ set_apart (x ∷ xs) zero zero v n = absurd (n refl)
 set_apart (x ∷ xs) zero (suc q) v n = refl
 set_apart (x ∷ xs) (suc p) zero v n = refl
 set_apart (x ∷ xs) (suc p) (suc q) v n = set_apart xs p q v (λ e. n (ap suc e))
-
--- those from an index up to another have risen, and the others have not
-pub record IsRaising (numbers old now : List ℕ) (at place : ℕ) : Type 0 where
-  pub from : at ≤ place
-  pub len : length now ≡ length old
-  pub risen : (n : ℕ) → n < length numbers → at ≤ index_at old n → index_at old n < place → index_at now n ≡ index_at old n + 1
-  pub same : (n : ℕ) → n < length numbers → (index_at old n < at) ⊎ (place ≤ index_at old n) → index_at now n ≡ index_at old n
 
 pub raising_begun : (numbers old : List ℕ) (at : ℕ) → IsRaising numbers old old at at
 raising_begun numbers old at = record {
@@ -103,6 +96,9 @@ raising_more numbers old now next at place is h lt n = subst (λ (xs : List ℕ)
     | inl below ↦ inl below
     | inr above ↦ inr (omega (arith, above))
   ])
+
+pub raising_next : (numbers old now next : List ℕ) (at place then : ℕ) → then ≡ place + 1 → IsNumbered numbers old → IsRaising numbers old now at place → place < length numbers → next ≡ slice_set now (get_or numbers place 0) (get_or now (get_or numbers place 0) 0 + 1) → IsRaising numbers old next at then
+raising_next numbers old now next at place then e is h lt n = subst (IsRaising numbers old next at) (sym e) (raising_more numbers old now next at place is h lt n)
 
 pub raising_over : (numbers old now : List ℕ) (at place : ℕ) → IsNumbered numbers old → IsRaising numbers old now at place → length numbers ≤ place → now ≡ map (raised at) old
 raising_over numbers old now at place is h over = all_numbers now (map (raised at) old) (h.len ∙ sym (length-map old (raised at))) (λ n lt.

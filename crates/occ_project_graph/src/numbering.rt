@@ -1,7 +1,7 @@
 //! The numbers of nodes stay. Their indices rise where a node comes before them.
 ghost use Rattle.occ_project_graph.specs.Adding.{raised as spec_raised};
 ghost use Rattle.occ_project_graph.specs.Graph.{is_among};
-ghost use Rattle.occ_project_graph.specs.inside.Numbering.{IsNumbered};
+ghost use Rattle.occ_project_graph.specs.inside.Numbering.{IsNumbered, IsRaising};
 ghost use Rattle.std.specs.List.{insert, range_with_len};
 ghost use Rattle.std.specs.Prelude.{◌≡◌, ◌<◌, ◌≤◌, ◌+◌, ◌++◌, ◌∷◌, [], ℕ, IfOk, get_or, length, map, slice_set, true, vec_len, vec_capacity};
 
@@ -61,12 +61,30 @@ fn raise(indices: &mut [usize], number: usize, count: usize)
     indices[number] += 1;
 }
 
-/// The same of each node that has an index or a later one.
+/// The same of each node that has an index or a later one, four at a time. It says before which index all have risen: three are left
+/// at most.
+fn raise_fours(indices: &mut [usize], numbers: &[usize], at: usize) -> usize
+    requires { IsNumbered numbers.now indices.old }
+    ensures { IsRaising numbers.now indices.old indices.new at result }
+{
+    let count = numbers.len();
+    let mut place = at;
+    while count.saturating_sub(place) >= 4 {
+        raise(indices, numbers[place], count);
+        raise(indices, numbers[place + 1], count);
+        raise(indices, numbers[place + 2], count);
+        raise(indices, numbers[place + 3], count);
+        place += 4;
+    }
+    place
+}
+
+/// The same of all of them.
 fn raise_from(indices: &mut [usize], numbers: &[usize], at: usize)
     requires { IsNumbered numbers.now indices.old }
     ensures { indices.new ≡ map (spec_raised at) indices.old }
 {
-    for place in at..numbers.len() {
+    for place in raise_fours(indices, numbers, at)..numbers.len() {
         raise(indices, numbers[place], numbers.len());
     }
 }

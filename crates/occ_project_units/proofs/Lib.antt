@@ -17,3 +17,4 @@ pub mod Added
 pub mod Joins
 pub mod Lacking
 pub mod Noting
+pub mod OtherReaders

@@ -29,7 +29,7 @@ use Rattle.occ_project_units.specs.Indices.{graph_of, indices_of, read_graph, re
 use Rattle.occ_project_units.specs.Project.{IsProject, file_of, put}
 use Rattle.occ_project_units.specs.Units.{read_names, used_units}
 use Rattle.occ_project_units.specs.declared.facts.Facts.{Facts}
-use Rattle.occ_project_units.specs.inside.Keeping.{AreAsBefore, AreOthers, AreReaders, IsAsBefore, IsGraph, IsRenewed, all_facts, facts_of}
+use Rattle.occ_project_units.specs.inside.Keeping.{AreAsBefore, AreOthers, AreReaders, IsAsBefore, IsGraph, IsRenewed, all_facts, facts_of, others as but}
 
 -- what was at an index comes back to it
 set_back : {X : Type 0} (xs : List X) (p : ℕ) (x y : X) → slice_get xs p ≡ Some x → set (set xs p y) p x ≡ xs
@@ -59,7 +59,7 @@ pub back_is : (files now later : List Read) (file x : Read) (p : ℕ) → IsProj
 back_is files now later file x p s e n k l = l ∙ ap (put now) k ∙ ap (λ (fs : List Read). put fs (file_of files file.name)) n ∙ (put_back files file p s e).1
 
 -- of each file the indices of those that it reads
-read_edges_of : (files some : List Read) → map (λ (f : Facts). indices_of files f.reads) (map (λ (file : Read). facts_of files file.name) some) ≡ map (λ (file : Read). indices_of files (read_names files file.name)) some
+pub read_edges_of : (files some : List Read) → map (λ (f : Facts). indices_of files f.reads) (map (λ (file : Read). facts_of files file.name) some) ≡ map (λ (file : Read). indices_of files (read_names files file.name)) some
 read_edges_of files [] = refl
 read_edges_of files (x ∷ some) =
     ap (λ (es : Graph). indices_of files (read_names files x.name) ∷ es) (read_edges_of files some)
@@ -70,13 +70,6 @@ map_long f (x ∷ xs) = ap (λ (n : ℕ). suc n) (map_long f xs)
 
 pub read_graph_long : (files : List Read) → length (read_graph files) ≡ length files
 read_graph_long files = map_long (λ (f : Read). indices_of files (read_names files f.name)) files
-
-pub readers_found : (files : List Read) (facts : List Facts) (edges rows : Graph) → facts ≡ all_facts files → edges ≡ map (λ (f : Facts). indices_of files f.reads) facts → ((p : ℕ) → p < length edges → get_or rows p [] ≡ sources edges p)
-    → AreReaders files (Some rows)
-readers_found files facts edges rows f e h p lt =
-    let are : edges ≡ read_graph files = e ∙ ap (map (λ (x : Facts). indices_of files x.reads)) f ∙ read_edges_of files files in
-    let long : length edges ≡ length files = ap (length {A = List ℕ}) are ∙ read_graph_long files in
-    h p (omega (arith, long, lt)) ∙ ap (λ (g : Graph). sources g p) are
 
 -- a number at an index among others is one of them
 pub among_there : (ws : List ℕ) (i : ℕ) → i < length ws → is_index ws (get_or ws i 0) ≡ true
@@ -466,7 +459,7 @@ module _ (files later : List Read) (file : Read) (at : ℕ) (project : IsProject
 module _ (files later : List Read) (same : IsRenewed files later) where
   readers_still : (readers : Option Graph) → AreReaders files readers → AreReaders later readers
   readers_still None h = tt
-  readers_still (Some rows) h = λ p lt. let len = same.len in h p (omega (arith, len, lt)) ∙ ap (λ (g : Graph). sources g p) (sym same.reads)
+  readers_still (Some rows) h = λ p lt. let len = same.len in h p (omega (arith, len, lt)) ∙ ap (λ (g : Graph). but p (sources g p)) (sym same.reads)
 
   pub graph_still : (next : List Facts) (links : Graph) (readers : Option Graph) → links ≡ graph_of files → AreReaders files readers → next ≡ all_facts later → IsGraph later next links readers None
   graph_still next links readers h r n = record { facts_are = n; links_are = h ∙ sym same.graph; readers_are = readers_still readers r; lacking_are = tt }

@@ -2,6 +2,7 @@
 //! wrong, and no answer.
 ghost use Rattle.occ_project_units.specs.Indices.{indices_of as spec_indices_of};
 ghost use Rattle.occ_project.specs.Entries.{is_among};
+ghost use Rattle.occ_project.specs.Reads.{index as spec_index};
 ghost use Rattle.occ_project_units.specs.inside.Keeping.{facts_of as spec_facts_of};
 ghost use Rattle.std.specs.Prelude.{[], map, IfOk, OnOk, ◌++◌, ◌∷◌, ◌≡◌};
 
@@ -73,30 +74,49 @@ pub fn all_facts(alloc: Global, project: &Project) -> Result<Vec<Shared<Facts>>,
     Ok(all)
 }
 
-/// Adds the place of the file of that name, if it is in the project. It is looked for first behind the last one,
-/// since names in order often follow one another, and then at the hint.
+/// Where the last of some files was found.
+#[derive(Drop)]
+struct Last {
+    /// The index behind it, since names in order often follow one another.
+    behind: usize,
+    /// How far behind its hint the next is looked for, since hints are often wrong alike: not at all if this one was at its own, and
+    /// else by one.
+    step: usize,
+}
+
+/// The place of the file of that name, which is looked for at one index first, and then at another.
+fn find_index(project: &Project, first: usize, then: usize, name: FileName) -> Option<usize>
+    ensures { result ≡ spec_index name project.now }
+{
+    if project.is_at(first, name) {
+        return Some(first);
+    }
+    if project.is_at(then, name) {
+        return Some(then);
+    }
+    if project.is_gap(then, name) {
+        return None;
+    }
+    project.index_near(first, name)
+}
+
+/// Adds the place of the file of that name, if it is in the project. It is looked for first near its hint, and then behind the last one.
 fn add_index(
     project: &Project,
     hint: usize,
     name: FileName,
+    last: &mut Last,
     indices: &mut Items<usize>,
 ) -> Result<(), AllocError>
     ensures { OnOk result (indices.new ≡ indices.old ++ spec_indices_of project.now (name ∷ [])) }
 {
-    let next = match indices.as_slice().last() {
-        Some(last) => last.saturating_add(1),
-        None => hint,
-    };
-    if project.is_at(next, name) {
-        return indices.push(next);
-    }
-    if project.is_gap(next, name) {
+    let first = hint.saturating_add(last.step);
+    let Some(index) = find_index(project, first, last.behind, name) else {
         return Ok(());
-    }
-    match project.index_near(hint, name) {
-        Some(index) => indices.push(index),
-        None => Ok(()),
-    }
+    };
+    last.behind = index.saturating_add(1);
+    last.step = if index == hint { 0 } else { 1 };
+    indices.push(index)
 }
 
 /// What stands at a place of these, or this one if nothing does.
@@ -108,7 +128,7 @@ pub fn place_or(hints: &Nodes<'_>, place: usize, otherwise: usize) -> usize {
     }
 }
 
-/// Where the file of a name at a place is looked for first.
+/// The hint for the file of a name at a place.
 fn hint_at(hint: usize, hints: Option<&Nodes<'_>>, place: usize) -> usize {
     match hints {
         Some(hints) => place_or(hints, place, hint),
@@ -116,7 +136,8 @@ fn hint_at(hint: usize, hints: Option<&Nodes<'_>>, place: usize) -> usize {
     }
 }
 
-/// The indices of the files of these names. Each is looked for at its hint first.
+/// The indices of the files of these names. Each is looked for near its hint first. Where it has none, it is looked for behind the one
+/// before it, and the first at the hint.
 pub fn indices_of(
     alloc: Global,
     project: &Project,
@@ -126,9 +147,14 @@ pub fn indices_of(
 ) -> Result<Items<usize>, AllocError>
     ensures { IfOk result (λ indices. indices ≡ spec_indices_of project.now names.now) }
 {
-    let mut indices = Items::new(alloc);
+    let mut indices = Items::from_vec(Vec::with_capacity(alloc, names.len())?);
+    let mut last = Last {
+        behind: hint_at(hint, hints, 0),
+        step: 1,
+    };
     for (i, name) in names.iter().enumerate() {
-        add_index(project, hint_at(hint, hints, i), *name, &mut indices)?;
+        let hint = hint_at(last.behind, hints, i);
+        add_index(project, hint, *name, &mut last, &mut indices)?;
     }
     Ok(indices)
 }

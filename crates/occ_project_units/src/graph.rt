@@ -21,7 +21,8 @@ use super::following::{all_facts_after, use_same};
 use super::joining::{add_used_file, users_among, users_of};
 use super::links::links_of;
 use super::project::{Project, share};
-use super::renewing::{find_readers, renew};
+use super::readers::{find_readers, with_itself};
+use super::renewing::renew;
 use super::standing::Standing;
 use occ_base::{FileName, Items, Shared};
 use occ_forms::Source;
@@ -77,7 +78,7 @@ pub struct Graph {
     facts: Vec<Shared<Facts>>,
     /// What rests on what and what uses what.
     links: Linked,
-    /// Of each file the indices of those that read it, once they were asked for; after edits that leave all reads as they
+    /// Of each file the indices of the others that read it, once they were asked for; after edits that leave all reads as they
     /// were they are the same.
     readers: Option<Items<Items<usize>>>,
     /// The indices of files among which are all that read or use one that is not there, if such are known.
@@ -506,10 +507,10 @@ impl Graph {
         ensures readers { IfOk result (λ readers. readers ≡ readers_at self.old index) }
     {
         if let Some(rows) = &self.readers {
-            return Items::from_slice(alloc, row(rows.as_slice(), index));
+            return with_itself(alloc, &self.project, row(rows.as_slice(), index), index);
         }
         let rows = find_readers(alloc, &self.project, self.facts.as_slice())?;
-        let readers = Items::from_slice(alloc, row(rows.as_slice(), index))?;
+        let readers = with_itself(alloc, &self.project, row(rows.as_slice(), index), index)?;
         self.readers = Some(rows);
         Ok(readers)
     }

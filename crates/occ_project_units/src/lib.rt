@@ -11,6 +11,7 @@ pub mod laws;
 mod links;
 mod ordering;
 mod project;
+mod readers;
 mod renewing;
 pub mod rows;
 mod skimming;

@@ -3,11 +3,10 @@ ghost use Rattle.occ_project.specs.Uses.{names_in_order};
 ghost use Rattle.std.specs.Prelude.{IfOk, ◌≡◌};
 
 use super::following::are_same_names;
-use occ_base::{FileName, Items, Shared};
-use occ_project::{ExpandedBody, ExpandedLine, used_units};
+use occ_base::{FileName, Items};
+use occ_project::units_in_order;
 use std::alloc::{AllocError, Global};
 use std::marker::Model;
-use std::slice;
 
 /// How many units are remembered at least: fewer cost less to put in order than to copy.
 const REMEMBERED_LEAST: usize = 16;
@@ -33,37 +32,16 @@ impl Model for Ordered {
     ghost invariant = { λ o. o.ordered ≡ names_in_order o.units };
 }
 
-/// Units in order of name, each once. They are those of one line.
-fn put_in_order(
-    alloc: Global,
-    unit: FileName,
-    units: Items<FileName>,
-) -> Result<Items<FileName>, AllocError>
-    ensures { IfOk result (λ ordered. ordered ≡ names_in_order units) }
-{
-    if units.is_empty() {
-        return Ok(units);
-    }
-    let line = ExpandedLine {
-        file: unit,
-        line: 0,
-        depth: 0,
-        body: ExpandedBody::Uses(Shared::new(alloc, units)?),
-    };
-    used_units(alloc, slice::from_ref(&line))
-}
-
-/// The same, and they are remembered.
+/// Units in order of name, each once, and they are remembered.
 fn put_in_order_and_remember(
     alloc: Global,
-    unit: FileName,
     units: Items<FileName>,
     last: &mut Option<Ordered>,
 ) -> Result<Items<FileName>, AllocError>
     ensures { IfOk result (λ ordered. ordered ≡ names_in_order units) }
 {
     let before = Items::from_slice(alloc, units.as_slice())?;
-    let ordered = put_in_order(alloc, unit, units)?;
+    let ordered = units_in_order(alloc, units)?;
     *last = Some(Ordered {
         units: before,
         ordered: Items::from_slice(alloc, ordered.as_slice())?,
@@ -75,19 +53,18 @@ fn put_in_order_and_remember(
 /// the others.
 pub fn in_order(
     alloc: Global,
-    unit: FileName,
     units: Items<FileName>,
     last: &mut Option<Ordered>,
 ) -> Result<Items<FileName>, AllocError>
     ensures { IfOk result (λ ordered. ordered ≡ names_in_order units) }
 {
     if units.len() < REMEMBERED_LEAST {
-        return put_in_order(alloc, unit, units);
+        return units_in_order(alloc, units);
     }
     match last {
         Some(found) if are_same_names(found.units.as_slice(), units.as_slice()) => {
             Items::from_slice(alloc, found.ordered.as_slice())
         }
-        _ => put_in_order_and_remember(alloc, unit, units, last),
+        _ => put_in_order_and_remember(alloc, units, last),
     }
 }

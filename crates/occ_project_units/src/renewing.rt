@@ -4,36 +4,17 @@ ghost use Rattle.occ_project.specs.Reads.{index as spec_index};
 ghost use Rattle.occ_project_units.specs.Along.{name_at};
 ghost use Rattle.occ_project_units.specs.Indices.{readers_at as spec_readers_at};
 ghost use Rattle.occ_project_units.specs.Project.{IsProject, put};
-ghost use Rattle.occ_project_units.specs.inside.Keeping.{AreAsBefore, AreReaders, IsAsBefore, IsRenewed, all_facts as spec_all_facts, facts_of as spec_facts_of};
+ghost use Rattle.occ_project_units.specs.inside.Keeping.{AreAsBefore, IsAsBefore, IsRenewed, all_facts as spec_all_facts, facts_of as spec_facts_of};
 ghost use Rattle.std.specs.Option.{option_copied};
 ghost use Rattle.std.specs.Prelude.{get_or, false, IfOk, IsTrue, length, map, OnErr, slice_get, slice_set, Some, true, ℕ, ◌≡◌, ◌<◌, ◌⊎◌};
 
-use super::facts::{Facts, facts_of, indices_of};
+use super::facts::{Facts, facts_of};
 use super::following::are_same_names;
 use super::project::Project;
 use occ_base::{Items, Shared};
 use occ_project::Read;
 use occ_project_graph::laws::sources_law;
-use occ_project_graph::{add_sources, no_sources};
 use std::alloc::{AllocError, Global};
-
-/// Of each file the indices of those that read it.
-pub fn find_readers(
-    alloc: Global,
-    project: &Project,
-    facts: &[Shared<Facts>],
-) -> Result<Items<Items<usize>>, AllocError>
-    requires { facts.now ≡ spec_all_facts project.now }
-    ensures { IfOk result (λ rows. AreReaders project.now (Some rows)) }
-{
-    let mut rows = no_sources(alloc, facts.len())?;
-    for (index, known) in facts.iter().enumerate() {
-        let reads = known.get().reads.as_slice();
-        let nodes = indices_of(alloc, project, index, None, reads)?;
-        add_sources(&mut rows, nodes.as_slice(), index)?;
-    }
-    Ok(Items::from_vec(rows))
-}
 
 /// What is known of the files at these indices.
 pub fn facts_of_all(

@@ -252,6 +252,6 @@ pub fn skim(
     let Noted { names, units, .. } = note(alloc, project, hint, unit)?;
     Ok(Facts {
         reads: first_indices(alloc, names.as_slice())?,
-        uses: in_order(alloc, unit, units, last)?,
+        uses: in_order(alloc, units, last)?,
     })
 }

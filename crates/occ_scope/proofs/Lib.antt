@@ -1,3 +1,5 @@
 pub mod Numbers
 pub mod Stacked
 pub mod Leaving
+pub mod Folded
+pub mod Begun

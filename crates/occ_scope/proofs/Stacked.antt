@@ -15,8 +15,8 @@ use Rattle.occ_scope.specs.inside.Kept.{names_of, AreChained, AreNearest, IsKept
 use Rattle.occ_scope.specs.inside.Places.{Puts, Restores, place_held}
 use Rattle.occ_scope.specs.declared.places.Places.{Places}
 use Rattle.std.specs.List.{slice_get}
-use Rattle.occ_scope.specs.declared.scopes.Entry.{Entry}
-use Rattle.occ_scope.specs.declared.scopes.Scopes.TheInside.{Inside}
+use Rattle.occ_scope.specs.declared.mapped.Entry.{Entry}
+use Rattle.occ_scope.specs.declared.mapped.Mapped.TheInside.{Inside}
 
 later_cases : (b : Bool) (x y : ℕ) (r c : Option ℕ) → x ≡ y → later_or (cond b (Some x) r) c ≡ cond b (Some y) (later_or r c)
 later_cases true x y r c e = ap Some e
@@ -258,7 +258,7 @@ got_same es name place e at b same = ap (if_same name place) (name_at es place e
 pub got_none : (es : List Entry) (name : List ℕ) (place : ℕ) → None ≡ slice_get es place → standing (names_of es) name (Some place) ≡ None
 got_none es name place at = ap (if_same name place) (no_name_at es place (sym at))
 
-take_front : (ns : List (List ℕ)) (n : List ℕ) → take (length (ns ++ n ∷ []) - 1) (ns ++ n ∷ []) ≡ ns
+pub take_front : (ns : List (List ℕ)) (n : List ℕ) → take (length (ns ++ n ∷ []) - 1) (ns ++ n ∷ []) ≡ ns
 take_front ns n = let k : length (ns ++ n ∷ []) - 1 ≡ length ns = omega (arith, length-append ns (n ∷ [])) in ap (λ (j : ℕ). take j (ns ++ n ∷ [])) k ∙ take-append_seam ns (n ∷ [])
 
 pub front_of : (es all : List Entry) (e : Entry) → all ≡ es ++ e ∷ [] → names_of es ≡ take (length (names_of all) - 1) (names_of all)

@@ -3,7 +3,9 @@
 
 pub mod laws;
 mod lookup;
+mod mapped;
 mod meaning;
+mod numbered;
 mod places;
 pub mod rows;
 mod scope;

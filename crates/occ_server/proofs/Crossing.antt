@@ -54,9 +54,6 @@ use Rattle.occ_forms.specs.contracts.source.LineBody as line_body
 use Rattle.occ_forms.specs.contracts.source.SourceLine as source_line
 use Rattle.occ_forms.specs.contracts.source.Source as source
 use Rattle.occ_project.specs.contracts.reads.Read as read
-use Rattle.occ_project.specs.contracts.expanded.ExpandedBody as expanded_body
-use Rattle.occ_project.specs.contracts.expanded.ExpandedLine as expanded_line
-use Rattle.occ_project.specs.contracts.expanded.Expanded as expanded
 use Rattle.occ_types.specs.contracts.types.OccType as occ_type
 use Rattle.occ_types.specs.contracts.interface.Formal as formal
 use Rattle.occ_types.specs.contracts.interface.Export as export
@@ -324,11 +321,17 @@ form_field_sync = search (sendable, items.the_sync, Vec-sync, specified_field_sy
 form_sync : IsSync form.the_row
 form_sync = search (sendable, form_field_sync) depth 10
 
+shared_name_send : IsSend (shared_of.the_row file_name_of.the_row)
+shared_name_send = shared.the_send file_name_of.the_row file_name_cross.the_send file_name_cross.the_sync
+
+shared_name_sync : IsSync (shared_of.the_row file_name_of.the_row)
+shared_name_sync = shared.the_sync file_name_of.the_row file_name_cross.the_send file_name_cross.the_sync
+
 line_body_field_send : IsSend line_body.the_field.row
-line_body_field_send = search (sendable, shared.the_send, form_send, form_sync, boxed.the_send, file_name_cross.the_send, code_cross.the_field_send) depth 30
+line_body_field_send = search (sendable, shared.the_send, shared_name_send, form_send, form_sync, boxed.the_send, file_name_cross.the_send, code_cross.the_field_send) depth 30
 
 line_body_field_sync : IsSync line_body.the_field.row
-line_body_field_sync = search (sendable, shared.the_sync, form_sync, form_send, boxed.the_sync, file_name_cross.the_sync, code_cross.the_field_sync) depth 30
+line_body_field_sync = search (sendable, shared.the_sync, shared_name_sync, form_sync, form_send, boxed.the_sync, file_name_cross.the_sync, code_cross.the_field_sync) depth 30
 
 source_line_field_send : IsSend source_line.the_field.row
 source_line_field_send = search (sendable, line_body_field_send) depth 30
@@ -400,30 +403,6 @@ read_sync = search (sendable, read_field_sync) depth 10
 
 shared_read_send : IsSend (shared_of.the_row read.the_row)
 shared_read_send = shared.the_send read.the_row read_send read_sync
-
-expanded_body_field_send : IsSend expanded_body.the_field.row
-expanded_body_field_send = search (sendable, shared.the_send, shared_names_send, form_send, form_sync, code_cross.the_field_send) depth 30
-
-expanded_body_field_sync : IsSync expanded_body.the_field.row
-expanded_body_field_sync = search (sendable, shared.the_sync, shared_names_sync, form_sync, form_send, code_cross.the_field_sync) depth 30
-
-expanded_line_field_send : IsSend expanded_line.the_field.row
-expanded_line_field_send = search (sendable, file_name_cross.the_send, expanded_body_field_send) depth 30
-
-expanded_line_send : IsSend expanded_line.the_row
-expanded_line_send = search (sendable, expanded_line_field_send) depth 10
-
-expanded_line_field_sync : IsSync expanded_line.the_field.row
-expanded_line_field_sync = search (sendable, file_name_cross.the_sync, expanded_body_field_sync) depth 30
-
-expanded_line_sync : IsSync expanded_line.the_row
-expanded_line_sync = search (sendable, expanded_line_field_sync) depth 10
-
-expanded_field_send : IsSend expanded.the_field.row
-expanded_field_send = search (sendable, items.the_send, Vec-send, file_name_cross.the_send, expanded_line_send, diag_cross.the_send) depth 30
-
-expanded_field_sync : IsSync expanded.the_field.row
-expanded_field_sync = search (sendable, items.the_sync, Vec-sync, file_name_cross.the_sync, expanded_line_sync, diag_cross.the_sync) depth 30
 
 occ_type_send : IsSend occ_type.the_row
 occ_type_send = search (sendable, types.crosses_both, shared.the_send, shared.the_sync, items.the_send, items.the_sync, name_cross.the_send, name_cross.the_sync) depth 30
@@ -510,13 +489,13 @@ project_field_send : IsSend project.the_field.row
 project_field_send = search (sendable, Vec-send, shared_read_send) depth 30
 
 facts_field_send : IsSend facts.the_field.row
-facts_field_send = search (sendable, items.the_send, shared.the_send, Vec-send, expanded_field_send, expanded_field_sync, file_name_cross.the_send) depth 30
+facts_field_send = search (sendable, items.the_send, shared.the_send, Vec-send, file_name_cross.the_send) depth 30
 
 facts_send : IsSend facts.the_row
 facts_send = search (sendable, facts_field_send) depth 10
 
 facts_field_sync : IsSync facts.the_field.row
-facts_field_sync = search (sendable, items.the_sync, shared.the_sync, Vec-sync, expanded_field_sync, expanded_field_send, file_name_cross.the_sync) depth 30
+facts_field_sync = search (sendable, items.the_sync, shared.the_sync, Vec-sync, file_name_cross.the_sync) depth 30
 
 facts_sync : IsSync facts.the_row
 facts_sync = search (sendable, facts_field_sync) depth 10
@@ -543,7 +522,7 @@ cached_field_send : IsSend cached.the_field.row
 cached_field_send = search (sendable, Vec-send, BTreeMap-send, outcome_field_send, file_name_cross.the_send) depth 30
 
 flags_field_send : IsSend flags.the_field.row
-flags_field_send = search (sendable, items.the_send) depth 30
+flags_field_send = search (sendable, Vec-send) depth 30
 
 base_field_send : IsSend base.the_field.row
 base_field_send = search (sendable, items.the_send, read_send) depth 30

@@ -15,8 +15,9 @@ fn add_line_faults(
 ) -> Result<(), AllocError>
     ensures { OnOk result (found.new ≡ found.old ++ spec_line_faults line.now wrong) }
 {
-    add_error_if(wrong, line.file, line.line, Code::S2, found)?;
-    add_error_if(line.depth > 64, line.file, line.line, Code::S4, found)
+    let file = *line.file.get();
+    add_error_if(wrong, file, line.line, Code::S2, found)?;
+    add_error_if(line.depth > 64, file, line.line, Code::S4, found)
 }
 
 /// The diagnostics of shape of a unit with these lines, in the order of the lines: `S2` at each line that stands

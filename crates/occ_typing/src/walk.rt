@@ -190,7 +190,7 @@ fn go_under(
     }
     go_after(alloc, &adds, outer, scope)?;
     typed.push(TypedLine {
-        place: node.line.location(),
+        place: node.line.location()?,
         is_process,
         form,
         enters,

@@ -99,7 +99,7 @@ fn line(
     match body {
         ExpandedBody::Form(form) => { form_line(alloc, form, nodes, scope, parent, found, faults) }
         ExpandedBody::Uses(units) => {
-            let interfaces = interfaces_of(alloc, imports, units.get().as_slice())?;
+            let interfaces = interfaces_of(alloc, imports, units.as_slice())?;
             let adds = imported(alloc, interfaces.as_slice())?;
             line_of_one(alloc, adds, TypedForm::Uses(interfaces), parent)
         }

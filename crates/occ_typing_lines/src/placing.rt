@@ -21,7 +21,7 @@ fn diag(alloc: Global, line: &ExpandedLine, fault: &Fault) -> Result<Diag, Alloc
     ensures { IfOk result (λ diag. diag ≡ diag_of line.now fault.now) }
 {
     let name = name_of(alloc, fault)?;
-    Ok(Diag::error(line.file, line.line, fault.code, name))
+    Ok(Diag::error(*line.file.get(), line.line, fault.code, name))
 }
 
 /// Adds the diagnostics of faults at a line.

@@ -50,7 +50,7 @@ pub enum TypedForm {
     /// `PROTOCOL n IS item; ..:`
     Protocol,
     /// `#USE`: what its units show, in their order.
-    Uses(Items<Shared<Interface>>),
+    Uses(Few<Shared<Interface>>),
     /// `PROC n (formals)`
     ProcedureHead,
     /// `t, .. FUNCTION n (formals)`

@@ -6,6 +6,7 @@ use super::imports::Imports;
 use occ_base::{FileName, Items, Shared};
 use occ_scope::{Meaning, ScopeEntry};
 use occ_types::{Export, ExportKind, Interface, OccType};
+use occ_typing_statements::Few;
 use std::alloc::{AllocError, Global};
 
 /// A unit that another uses: its file, and what it exports.
@@ -81,8 +82,36 @@ fn push_interface(
     }
 }
 
-/// What the imports of these units show, in the order of the units.
+/// What the import of this unit shows, if there is one.
+fn interface_alone(
+    alloc: Global,
+    imports: &Imports<'_>,
+    unit: FileName,
+) -> Result<Few<Shared<Interface>>, AllocError>
+    ensures { IfOk result (λ found. found ≡ spec_interface_of unit imports.now) }
+{
+    match imports.interface_of(unit) {
+        Some(interface) => Ok(Few::one(interface.share()?)),
+        None => Ok(Few::listed(Items::new(alloc))),
+    }
+}
+
+/// What the imports of these units show, in the order of the units. Most lines use one.
 pub fn interfaces_of(
+    alloc: Global,
+    imports: &Imports<'_>,
+    units: &[FileName],
+) -> Result<Few<Shared<Interface>>, AllocError>
+    ensures { IfOk result (λ found. found ≡ spec_interfaces_of units.now imports.now) }
+{
+    match units {
+        [unit] => interface_alone(alloc, imports, *unit),
+        _ => Ok(Few::listed(each_interface(alloc, imports, units)?)),
+    }
+}
+
+/// The same of any number of units.
+fn each_interface(
     alloc: Global,
     imports: &Imports<'_>,
     units: &[FileName],

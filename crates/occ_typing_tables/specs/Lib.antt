@@ -5,3 +5,4 @@ pub mod Decorating
 pub mod Measuring
 pub mod Segments
 pub mod Dimensions
+pub mod inside

@@ -2,6 +2,7 @@
 #![tactic(auto)]
 
 mod beside;
+mod counted;
 mod decorate;
 mod dimension;
 mod extent;

@@ -6,8 +6,9 @@ ghost use Rattle.std.specs.Prelude.{◌≡◌, ◌++◌, ◌∷◌, [], false, I
 ghost use Rattle.std.specs.List.{list_any};
 ghost use Rattle.occ_typing_operands.specs.Settling.{int as spec_int, settled as spec_settled};
 ghost use Rattle.occ_typing_operands.specs.Operators.{all_faults, is_faulty as spec_is_faulty, kinds as spec_kinds};
-ghost use Rattle.occ_typing_tables.specs.Terms.{after_first as spec_after_first, all_settled as spec_all_settled, all_under as spec_all_under, alone as spec_alone, each_own_or_alone as spec_each_own_or_alone, each_under as spec_each_under, first_settled as spec_first_settled, fitted_or_alone as spec_fitted_or_alone, fitted_to as spec_fitted_to, is_faulty_settled, others_faults, own_or_alone as spec_own_or_alone, stands as spec_stands, settled_itself as spec_settled_itself, settled_under as spec_settled_under, first_type as spec_first_type, items_type as spec_items_type, judged, judged_all, merged_all as spec_merged_all, merged_next as spec_merged_next, so_many as spec_so_many, table_alone as spec_table_alone, table_settled as spec_table_settled, table_type as spec_table_type, table_under as spec_table_under, under as spec_under, unless_faulty};
+ghost use Rattle.occ_typing_tables.specs.Terms.{after_first as spec_after_first, all_settled as spec_all_settled, all_under as spec_all_under, alone as spec_alone, each_own_or_alone as spec_each_own_or_alone, each_under as spec_each_under, first_settled as spec_first_settled, fitted_or_alone as spec_fitted_or_alone, fitted_to as spec_fitted_to, is_faulty_settled, others_faults, own_or_alone as spec_own_or_alone, stands as spec_stands, settled_itself as spec_settled_itself, settled_so, settled_under as spec_settled_under, first_type as spec_first_type, items_type as spec_items_type, judged, judged_all, merged_all as spec_merged_all, merged_next as spec_merged_next, so_many as spec_so_many, table_alone as spec_table_alone, table_settled as spec_table_settled, table_type as spec_table_type, table_under as spec_table_under, under as spec_under, unless_faulty};
 
+use super::counted::is_counted;
 use super::extent::arrayed;
 use super::merge::merged;
 use super::placing::has_fault;
@@ -141,6 +142,19 @@ fn settled_itself(faults: Items<Fault>, kind: Kind) -> Settled
         kind,
         is_faulty,
     }
+}
+
+/// A table of so many faultless items of this type.
+fn many_settled(alloc: Global, count: usize, of: &Shared<OccType>) -> Result<Settled, AllocError>
+    ensures { IfOk result (λ found. found ≡ settled_so (spec_so_many count of.now) false) }
+{
+    let mut faults = Items::new(alloc);
+    let kind = so_many(alloc, count, of, &mut faults)?;
+    Ok(Settled {
+        faults,
+        kind,
+        is_faulty: false,
+    })
 }
 
 /// Whether something in one of them is faulty.
@@ -414,6 +428,9 @@ fn all_settled(
 ) -> Result<Settled, AllocError>
     ensures { IfOk result (λ found. found ≡ spec_all_settled from_outside of.now (judged_all items.now)) }
 {
+    if is_counted(items, of.get()) {
+        return many_settled(alloc, items.len(), of);
+    }
     let settled = each_settled(alloc, items, of)?;
     let is_faulty = any_settled_faulty(settled.as_slice());
     let mut faults = Items::new(alloc);

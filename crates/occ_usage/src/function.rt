@@ -44,7 +44,7 @@ fn write_fault(
         return Ok(());
     }
     let name = root_name(alloc, env, found.part.root)?;
-    faults.push(Diag::error(found.line.file, found.line.line, Code::F1, name))
+    faults.push(Diag::error(*found.line.file.get(), found.line.line, Code::F1, name))
 }
 
 fn write_faults(
@@ -71,7 +71,7 @@ fn effect_fault(
     ensures { OnOk result (faults.new ≡ faults.old ++ error_if has_effect line.now.file line.now.line F1) }
 {
     if has_effect {
-        faults.push(Diag::error(line.file, line.line, Code::F1, None))
+        faults.push(Diag::error(*line.file.get(), line.line, Code::F1, None))
     } else {
         Ok(())
     }

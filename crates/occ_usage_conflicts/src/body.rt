@@ -30,7 +30,7 @@ fn add_outside(
         let one = Use {
             part: found.part,
             kind: found.kind,
-            line: *line,
+            line: line.share()?,
             chain,
         };
         add(one, links, seen)

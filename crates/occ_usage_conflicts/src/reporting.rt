@@ -28,7 +28,7 @@ pub(crate) fn root_fault(
         return Ok(());
     }
     let name = root_name(alloc, env, root)?;
-    faults.push(Diag::error(line.file, line.line, code(rule), name))
+    faults.push(Diag::error(*line.file.get(), line.line, code(rule), name))
 }
 
 /// Adds the faults of a root, by each rule that is broken there.

@@ -79,5 +79,5 @@ pub(crate) fn same_use(a: &Use, b: &Use) -> bool
         && a.line.line == b.line.line
         && same_selectors(a.part.selectors.as_slice(), b.part.selectors.as_slice())
         && a.chain.is_same(&b.chain)
-        && a.line.file == b.line.file
+        && *a.line.file.get() == *b.line.file.get()
 }

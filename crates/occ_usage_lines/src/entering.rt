@@ -225,7 +225,7 @@ fn exported_use(
             selectors: copies(alloc, found.selectors.as_slice())?,
         },
         kind: found.kind,
-        line: *line,
+        line: line.share()?,
         chain: Chain::none(),
     })
 }

@@ -42,7 +42,7 @@ pub(crate) fn push_made(
     uses.push(Use {
         part,
         kind,
-        line: *line,
+        line: line.share()?,
         chain,
     })
 }
@@ -60,7 +60,7 @@ fn push_of_actual(
     uses.push(Use {
         part: place.followed_by(alloc, found.part.selectors.as_slice())?,
         kind: found.kind,
-        line: *line,
+        line: line.share()?,
         chain: place.chain.share(alloc)?,
     })
 }

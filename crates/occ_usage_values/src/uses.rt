@@ -29,7 +29,7 @@ impl Use {
                 selectors: copies(alloc, self.part.selectors.as_slice())?,
             },
             kind: self.kind,
-            line: *line,
+            line: line.share()?,
             chain: self.chain.share(alloc)?,
         })
     }

@@ -57,7 +57,7 @@ fn push_whole(
             selectors: Items::new(alloc),
         },
         kind,
-        line: *line,
+        line: line.share()?,
         chain: Chain::none(),
     })
 }

@@ -33,7 +33,7 @@ fn is_reported_missing(alloc: Global, reads: &Reads, file: &[u8]) -> Result<bool
 
 /// Whether a line stands there.
 fn stands_at(line: &ExpandedLine, file: &[u8], number: u32, depth: u64) -> bool {
-    line.file.as_bytes() == file && line.line == number && line.depth == depth
+    line.file.get().as_bytes() == file && line.line == number && line.depth == depth
 }
 
 /// Whether a line uses this unit alone.

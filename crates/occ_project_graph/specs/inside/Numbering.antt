@@ -1,5 +1,5 @@
 -- Nodes have numbers that stay, and indices that rise where others come before them.
-use Rattle.std.specs.Prelude.{◌≡◌, ◌<◌, ◌≤◌, ◌-◌, ◌==◌, ◌++◌, ℕ, true, List, [], ◌∷◌, drop, length, get_or, map, replicate, take, None, Option, Some}
+use Rattle.std.specs.Prelude.{◌≡◌, ◌<◌, ◌≤◌, ◌+◌, ◌-◌, ◌==◌, ◌++◌, ◌⊎◌, ℕ, true, List, [], ◌∷◌, drop, length, get_or, map, replicate, take, None, Option, Some}
 use Rattle.std.specs.List.{filter}
 use Rattle.occ_project_graph.specs.Graph.{Graph, has_edge}
 
@@ -30,6 +30,13 @@ pub record IsNumbered (numbers indices : List ℕ) : Type 0 where
   pub number_within : (p : ℕ) → p < length numbers → get_or numbers p 0 < length numbers
   pub there : (p : ℕ) → p < length numbers → index_at indices (get_or numbers p 0) ≡ p
   pub back : (n : ℕ) → n < length numbers → get_or numbers (index_at indices n) 0 ≡ n
+
+-- those from an index up to another have risen, and the others have not
+pub record IsRaising (numbers old now : List ℕ) (at place : ℕ) : Type 0 where
+  pub from : at ≤ place
+  pub len : length now ≡ length old
+  pub risen : (n : ℕ) → n < length numbers → at ≤ index_at old n → index_at old n < place → index_at now n ≡ index_at old n + 1
+  pub same : (n : ℕ) → n < length numbers → (index_at old n < at) ⊎ (place ≤ index_at old n) → index_at now n ≡ index_at old n
 
 -- rows for so many nodes, of which they hold none but these
 pub record IsOver (count : ℕ) (rows : Graph) : Type 0 where

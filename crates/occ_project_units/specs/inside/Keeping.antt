@@ -1,6 +1,6 @@
 -- What a graph keeps.
-use Rattle.std.specs.List.{insert}
-use Rattle.std.specs.Prelude.{◌≡◌, ◌<◌, ◌≤◌, ◌⊎◌, ℕ, false, true, List, [], get_or, length, map, slice_get, Option, Some, None}
+use Rattle.std.specs.List.{filter, insert}
+use Rattle.std.specs.Prelude.{◌≡◌, ◌<◌, ◌≤◌, ◌⊎◌, ◌==◌, ℕ, false, true, not, List, [], get_or, length, map, slice_get, Option, Some, None}
 use Rattle.std.specs.Str.{bytes_eq}
 use Rattle.occ_project_graph.specs.Adding.{IsParted, raised, with_used_node}
 use Rattle.occ_project_graph.specs.Graph.{Graph, is_among as is_index, targets}
@@ -25,10 +25,14 @@ all_facts files = map (λ file. facts_of files file.name) files
 abbrev pub AreOthers : List ℕ → List Read → List Read → Type 0
 AreOthers name files later = (other : List ℕ) → bytes_eq name other ≡ false → file_of later other ≡ file_of files other
 
--- of each file the indices of those that read it, if they were asked for
+-- those that are not this one
+abbrev pub others : ℕ → List ℕ → List ℕ
+others p ws = filter (λ w. not (w == p)) ws
+
+-- of each file the indices of the others that read it, if they were asked for
 abbrev pub AreReaders : List Read → Option Graph → Type 0
 AreReaders files None = Unit {0}
-AreReaders files (Some rows) = (p : ℕ) → p < length files → get_or rows p [] ≡ readers_at files p
+AreReaders files (Some rows) = (p : ℕ) → p < length files → get_or rows p [] ≡ others p (readers_at files p)
 
 -- a file reads and uses none that is not there
 abbrev pub IsLookingForNone : List Read → List ℕ → Type 0

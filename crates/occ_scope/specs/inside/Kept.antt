@@ -1,8 +1,8 @@
 -- How the names in scope are held: each with what it hides, and the nearest of each name.
 use Rattle.std.specs.Prelude.{ℕ, ◌≡◌, List, [], ◌∷◌, ◌++◌, Option, Some, None, cond}
 use Rattle.std.specs.List.{slice_get}
-use Rattle.occ_scope.specs.declared.scopes.Entry.{Entry}
-use Rattle.occ_scope.specs.declared.scopes.Scopes.TheInside.{Inside}
+use Rattle.occ_scope.specs.declared.mapped.Entry.{Entry}
+use Rattle.occ_scope.specs.declared.mapped.Mapped.TheInside.{Inside}
 use Rattle.occ_scope.specs.declared.places.Places.{Places}
 use Rattle.occ_scope.specs.Nearest.{nearest, is_same_name}
 use Rattle.occ_scope.specs.inside.Places.{place_held}

@@ -5,7 +5,7 @@ use Rattle.occ_project.proofs.Inclusions.{inner_of}
 use Rattle.occ_project.proofs.expansion.+add_file.Given as goal
 
 abbrev pub decreases-add_file : goal.decreases-add_file
-decreases-add_file l = l.opened.left
+decreases-add_file l = l.opened.now.left
 
 abbrev pub invariant-loop-line : goal.invariant-loop-line
 invariant-loop-line l = record {

@@ -7,7 +7,7 @@ use Rattle.occ_project.specs.Expansion.{unit_entries}
 use Rattle.occ_project.specs.inside.Making.{after}
 use Rattle.occ_project.proofs.Expansions.{expansion_is, shown, started}
 use Rattle.occ_project.proofs.expansion.expanded.Goals as goal
-use Rattle.occ_project.proofs.expansion.expanded.Goals.{in-Some+in_ok-way+in_ok-add_file, in_default}
+use Rattle.occ_project.proofs.expansion.expanded.Goals.{in-Some+in_ok-file+in_ok-way+in_ok-add_file, in_default}
 
 pub returns : goal.returns
 returns c =
@@ -17,8 +17,9 @@ returns c =
     let shows : c.of.result ≡ shown made = c.of.ensures ∙ ap (λ (rs : List (List ℕ)). record { lines = made.lines; reads = rs; faults = made.faults }) c.in_ok-reads.ensures in
     let comes : made ≡ after (started 65535 unit) (unit_entries reads unit (option_copied c.open_lines-found.result)) =
     elim c.match-found.branch [
-      | in-Some+in_ok-way+in_ok-add_file w ↦
+      | in-Some+in_ok-file+in_ok-way+in_ok-add_file w ↦
           w.made-is ∙ w.in_ok-add_file.ensures.made
+          ∙ ap (λ (n : List ℕ). after c.in_ok-made.made (entries reads 16 w.in_ok-way.way n 0 w.in-Some.lines.now)) w.in_ok-file.ensures
           ∙ ap (λ (m : Made). after m (entries reads 16 w.in_ok-way.way unit 0 w.in-Some.lines.now)) c.in_ok-made.ensures
           ∙ ap (λ (ns : List (List ℕ)). after (started 65535 unit) (entries reads 16 ns unit 0 w.in-Some.lines.now)) w.in_ok-way.ensures
           ∙ ap (λ (o : Option (Bor (List SourceLine))). after (started 65535 unit) (unit_entries reads unit (option_copied o))) (sym w.in-Some.is)

@@ -1,9 +1,9 @@
 use Rattle.std.proofs.Common.{arith}
-use Rattle.occ_project_graph.proofs.Raising.{raising_begun, raising_fits, raising_more, raising_over, raising_within}
+use Rattle.occ_project_graph.proofs.Raising.{raising_fits, raising_more, raising_over, raising_within}
 use Rattle.occ_project_graph.proofs.numbering.raise_from.Goals as goal
 
 pub loop-place-init : goal.loop-place-init
-loop-place-init c = raising_begun c.args.numbers.now c.args.indices.now c.args.at
+loop-place-init c = c.raise_fours-place.ensures
 
 pub raise-requires-clause-within : goal.raise-requires-clause-within
 raise-requires-clause-within c = raising_within c.args.numbers.now c.args.indices.now c.loop-place.indices c.args.at c.loop-place.place c.requires c.loop-place.invariant c.loop-place-test.true

@@ -1,4 +1,4 @@
-use Rattle.occ_project_graph.proofs.Raising.{IsRaising}
+use Rattle.occ_project_graph.specs.inside.Numbering.{IsRaising}
 use Rattle.occ_project_graph.proofs.numbering.raise_from.Given as goal
 
 abbrev pub invariant-loop-place : goal.invariant-loop-place

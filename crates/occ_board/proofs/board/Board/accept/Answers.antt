@@ -2,7 +2,6 @@ use Rattle.std.proofs.Common.{arith, ap, subst, sym, ◌∙◌, ◌≡◌, ◌+�
 use Rattle.std.specs.Prelude.{◌-◌, take, vec_len}
 use Rattle.occ_base.specs.FileName.{is_unit}
 use Rattle.occ_board.proofs.Begun.{accepts}
-use Rattle.occ_board.proofs.Waits.{none_awaited}
 use Rattle.occ_board.proofs.Caches.{all_but_last}
 use Rattle.occ_board.proofs.Edits.{room}
 use Rattle.occ_board.proofs.Opened.{open_before, open_few, units_before, units_few}
@@ -14,7 +13,6 @@ use Rattle.occ_board.specs.declared.entry.Entry.{Entry}
 use Rattle.occ_board.specs.declared.entry.Edit.TheVariants as edit
 use Rattle.occ_board.specs.inside.Verified.{AreVerified}
 use Rattle.occ_board.specs.inside.Holding.{IsBoard, count_then}
-use Rattle.occ_board.specs.inside.Ready.{AreAwaited}
 use Rattle.occ_board.specs.inside.Revisions.{AreBefore}
 use Rattle.occ_check.specs.Input.{Input}
 use Rattle.occ_project.specs.declared.reads.Read.{Read}
@@ -29,7 +27,7 @@ invariant_of-self-2 c =
           c.args.session c.args.edit c.name-name.result c.in_ok-source.source c.self.invariant.0 (ap (λ (s : State). refusal s.base s.journal c.args.edit) c.self.view_is ∙ c.requires) c.in-Ok.ensures.graph number c.name-name.ensures c.in_ok-source.ensures.value c.in_ok-push.ensures.items
           c.put_law.ensures.spelled c.put_law.ensures.files c.in_ok-source.ensures.spelled c.in-Ok.ensures.len c.in-Ok.ensures.flags c.count_after-opened.ensures (c.count_after-units.ensures ∙ ap (λ (b : Bool). count_then b c.self.inside.units c.args.edit) c.is_unit.ensures)
           (subst IsProject (sym c.self.invariant.0.files_are) (c.done_law.ensures.project c.self.inside.base c.self.inside.journal.items c.self.invariant.0.based))),
-      none_awaited _ _ _ _ c.forget.ensures,
+      c.renew-renewed.ensures.awaited,
       subst (λ (ks : List Input). AreVerified c.renew-renewed.new.graph ks c.renew-renewed.new.verified) (sym c.follow.ensures) c.in-Ok.ensures.verified,
     )
 
@@ -71,10 +69,16 @@ invariant_of-self-in-Err c =
     let few : vec_len c.push.new.self - 1 ≡ length items = omega (arith, c.in_ok-push.ensures.len, c.self.inside.journal.ok) in
     let same : c.pop.new.self.items ≡ items = c.pop.ensures.rest ∙ ap (take (vec_len c.push.new.self - 1)) c.in_ok-push.ensures.items ∙ all_but_last items entry (vec_len c.push.new.self - 1) few in
     let back = c.in-Err.ensures.err in
-    subst (λ (es : List Entry). IsBoard c.self.inside.base es c.self.inside.cached c.renew-renewed.new.graph c.renew-renewed.new.flags c.self.inside.opened c.self.inside.units × AreAwaited c.renew-renewed.new.graph c.renew-renewed.new.flags c.self.inside.waiting.early c.self.inside.waiting.from × AreVerified c.renew-renewed.new.graph c.self.inside.cached c.renew-renewed.new.verified) (sym same)
-    (subst (λ (fs : List Read). IsBoard c.self.inside.base items c.self.inside.cached fs c.renew-renewed.new.flags c.self.inside.opened c.self.inside.units × AreAwaited fs c.renew-renewed.new.flags c.self.inside.waiting.early c.self.inside.waiting.from × AreVerified fs c.self.inside.cached c.renew-renewed.new.verified) (sym back.0)
-    (subst (λ (bs : List Bool). IsBoard c.self.inside.base items c.self.inside.cached c.self.inside.graph bs c.self.inside.opened c.self.inside.units × AreAwaited c.self.inside.graph bs c.self.inside.waiting.early c.self.inside.waiting.from × AreVerified c.self.inside.graph c.self.inside.cached c.renew-renewed.new.verified) (sym back.1)
-    (subst (λ (bs : List Bool). IsBoard c.self.inside.base items c.self.inside.cached c.self.inside.graph c.self.inside.flags c.self.inside.opened c.self.inside.units × AreAwaited c.self.inside.graph c.self.inside.flags c.self.inside.waiting.early c.self.inside.waiting.from × AreVerified c.self.inside.graph c.self.inside.cached bs) (sym back.2) c.self.invariant)))
+    let kept =
+    subst (λ (es : List Entry). IsBoard c.self.inside.base es c.self.inside.cached c.renew-renewed.new.graph c.renew-renewed.new.flags c.self.inside.opened c.self.inside.units × AreVerified c.renew-renewed.new.graph c.self.inside.cached c.renew-renewed.new.verified) (sym same)
+    (subst (λ (fs : List Read). IsBoard c.self.inside.base items c.self.inside.cached fs c.renew-renewed.new.flags c.self.inside.opened c.self.inside.units × AreVerified fs c.self.inside.cached c.renew-renewed.new.verified) (sym back.0)
+    (subst (λ (bs : List Bool). IsBoard c.self.inside.base items c.self.inside.cached c.self.inside.graph bs c.self.inside.opened c.self.inside.units × AreVerified c.self.inside.graph c.self.inside.cached c.renew-renewed.new.verified) (sym back.1)
+    (subst (λ (bs : List Bool). IsBoard c.self.inside.base items c.self.inside.cached c.self.inside.graph c.self.inside.flags c.self.inside.opened c.self.inside.units × AreVerified c.self.inside.graph c.self.inside.cached bs) (sym back.2) (c.self.invariant.0, c.self.invariant.2))))
+    in (
+      kept.0,
+      c.renew-renewed.ensures.awaited,
+      kept.1,
+    )
 
 pub overflow_add-number : goal.overflow_add-number
 overflow_add-number c =

@@ -1,0 +1,2 @@
+-- what no contract of a public call rests on
+pub mod Plain
