@@ -3,3 +3,4 @@ pub mod Stacked
 pub mod Leaving
 pub mod Folded
 pub mod Begun
+pub mod Alike

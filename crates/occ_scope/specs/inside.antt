@@ -5,3 +5,4 @@ pub mod Folded
 pub mod NumberedNames
 pub mod SoughtNames
 pub mod Begun
+pub mod Alike

@@ -5,6 +5,7 @@ pub mod laws;
 mod lookup;
 mod mapped;
 mod meaning;
+mod meanings;
 mod numbered;
 mod places;
 pub mod rows;

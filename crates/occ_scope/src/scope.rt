@@ -1,17 +1,18 @@
 //! The specifications in scope, each with its meaning. Names and meanings are two lists that grow and shrink together.
-ghost use Rattle.std.specs.Prelude.{◌≡◌, IfOk, MatchOption, None, OnErr, OnOk, Some, length};
-ghost use Rattle.occ_scope.specs.Visible.{back_to, entered, left, nothing, referent as spec_referent, visible, with_all};
+ghost use Rattle.std.specs.Prelude.{◌≡◌, IfOk, IsTrue, MatchOption, None, OnErr, OnOk, Some, length};
+ghost use Rattle.occ_scope.specs.Visible.{back_to, entered, left, nothing, referent as spec_referent, type_of, visible, with_all};
 
 use super::meaning::{Meaning, Referent, ScopeEntry};
+use super::meanings::Meanings;
 use super::scopes::Scopes;
-use occ_base::{Items, Name, Shared};
+use occ_base::{Name, Shared};
 use std::alloc::{AllocError, Global};
 
 /// The specifications in scope at a place, each with what its name stands for: the last is the nearest.
 #[derive(Drop)]
 pub struct Scope {
     names: Scopes,
-    meanings: Items<Shared<Meaning>>,
+    meanings: Meanings,
 }
 
 impl Scope {
@@ -21,7 +22,7 @@ impl Scope {
     {
         Scope {
             names: Scopes::new(alloc),
-            meanings: Items::new(alloc),
+            meanings: Meanings::new(alloc),
         }
     }
 
@@ -89,6 +90,17 @@ impl Scope {
         ensures { result ≡ length self.now.meanings }
     {
         self.meanings.len()
+    }
+
+    /// Whether two names stand for elements that are known to be of one type, or are found to be.
+    pub fn are_of_one_type(&mut self, a: &Name, b: &Name) -> Result<bool, AllocError>
+        ensures scope { self.new ≡ self.old }
+        ensures same { IfOk result (λ same. IsTrue same → type_of (visible self.old a.now) ≡ type_of (visible self.old b.now)) }
+    {
+        let (Some(a), Some(b)) = (self.names.find(a), self.names.find(b)) else {
+            return Ok(false);
+        };
+        self.meanings.are_of_one_type(a, b)
     }
 
     /// The same of an entry.

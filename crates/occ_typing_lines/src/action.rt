@@ -16,11 +16,12 @@ use std::alloc::{AllocError, Global};
 pub fn action(
     alloc: Global,
     action: &Action,
-    scope: &Scope,
+    scope: &mut Scope,
     faults: &mut Items<Fault>,
 ) -> Result<Boxed<TypedForm>, AllocError>
-    ensures form { IfOk result (λ form. form ≡ spec_action_form scope.now action.now) }
-    ensures faults { OnOk result (faults.new ≡ faults.old ++ action_faults scope.now action.now) }
+    ensures form { IfOk result (λ form. form ≡ spec_action_form scope.old action.now) }
+    ensures scope { OnOk result (scope.new ≡ scope.old) }
+    ensures faults { OnOk result (faults.new ≡ faults.old ++ action_faults scope.old action.now) }
 {
     match action {
         Action::Skip => Boxed::new(alloc, TypedForm::Skip),
@@ -48,11 +49,12 @@ fn assigning(
     targets: &[Element],
     value: &Expr,
     values: &[Expr],
-    scope: &Scope,
+    scope: &mut Scope,
     faults: &mut Items<Fault>,
 ) -> Result<Boxed<TypedForm>, AllocError>
-    ensures form { IfOk result (λ form. form ≡ spec_action_form scope.now (a.Assignment target.now targets.now value.now values.now)) }
-    ensures faults { OnOk result (faults.new ≡ faults.old ++ action_faults scope.now (a.Assignment target.now targets.now value.now values.now)) }
+    ensures form { IfOk result (λ form. form ≡ spec_action_form scope.old (a.Assignment target.now targets.now value.now values.now)) }
+    ensures scope { OnOk result (scope.new ≡ scope.old) }
+    ensures faults { OnOk result (faults.new ≡ faults.old ++ action_faults scope.old (a.Assignment target.now targets.now value.now values.now)) }
 {
     let tree = assignment(alloc, target, targets, value, values, scope, faults)?;
     assignment_form(alloc, tree)

@@ -1,6 +1,12 @@
 //! Lines of processes: `el, .. := e, ..`, conditions, selectors, options, results. They give faults and typed trees.
 //! `docs/LANGUAGE.md, What lines ask of operands`.
-ghost use Rattle.std.specs.Prelude.{◌≡◌, ◌∷◌, ◌++◌, [], IfOk, None, OnOk, Some};
+ghost use Rattle.std.specs.Prelude.{◌≡◌, ◌∷◌, ◌++◌, [], IfOk, IfSome, IsTrue, None, OnOk, Some, true};
+ghost use Rattle.occ_expr.specs.Targets.{target_of as spec_target_of};
+ghost use Rattle.occ_forms_expressions.specs.declared.tree.Element.TheVariants as elements;
+ghost use Rattle.occ_forms_expressions.specs.declared.tree.Expr.TheVariants as exprs;
+ghost use Rattle.occ_forms_expressions.specs.declared.tree.Operand.TheVariants as operands;
+ghost use Rattle.occ_types.specs.Fits.{is_data};
+ghost use Rattle.occ_typing_rules.specs.Assigning.{assigned as values_reported};
 ghost use Rattle.occ_expr_operations.specs.Parts.{own_faults, terms as spec_terms};
 ghost use Rattle.occ_expr_operations.specs.Sides.{one_call as spec_one_call};
 ghost use Rattle.occ_expr.specs.Trees.{int_tree as spec_int_tree};
@@ -15,12 +21,12 @@ ghost use Rattle.occ_typing_statements.specs.Statements.{assignment as spec_assi
 
 use super::few::Few;
 use super::target::all_targets;
-use occ_base::{Fault, Items, Shared};
+use occ_base::{Fault, Items, Name, Shared};
 use occ_expr::{expression, side, target_of};
 use occ_expr_operations::{Reading, Readings, one_call};
-use occ_forms_expressions::{Element, Expr};
+use occ_forms_expressions::{Element, Expr, Operand};
 use occ_scope::Scope;
-use occ_types::{OccType, Primitive};
+use occ_types::{OccType, Primitive, is_data as data};
 use occ_typing_operands::{Kind, int};
 use occ_typing_rules::{
     OpenExpr, OptionNumbers, TypedElement, TypedExpr, all_placed, assigned,
@@ -148,6 +154,64 @@ fn single_tree(
     }))
 }
 
+/// The name that an element is, without subscripts.
+fn name_of(element: &Element) -> Option<&Name>
+    ensures { IfSome result (λ name. element.now ≡ elements.Named name.now []) }
+{
+    match element {
+        Element::Named(name, exprs) => {
+            if exprs.is_empty() {
+                return Some(name);
+            }
+            None
+        }
+        Element::Segment(_, _, _) => None,
+    }
+}
+
+/// The name that an expression is, without subscripts.
+fn name_alone(expr: &Expr) -> Option<&Name>
+    ensures { IfSome result (λ name. expr.now ≡ exprs.Alone (operands.Element (elements.Named name.now []))) }
+{
+    let Expr::Alone(operand) = expr else {
+        return None;
+    };
+    match operand {
+        Operand::Element(element) => name_of(element),
+        _ => None,
+    }
+}
+
+/// Whether a type is data that may have many parts, so that it takes long to compare it.
+fn may_be_wide(of: &OccType) -> bool
+    ensures { IsTrue result → is_data of.now ≡ true }
+{
+    !matches!(of, OccType::Primitive(_)) && data(of)
+}
+
+/// Whether the value for a target fits by what is known of their names: nothing is reported of it then.
+fn fits_by_name(
+    target: &Element,
+    kind: &Kind,
+    value: &Expr,
+    scope: &mut Scope,
+) -> Result<bool, AllocError>
+    requires { kind.now ≡ (spec_target_of scope.old target.now).kind }
+    ensures fits { IfOk result (λ fits. IsTrue fits → values_reported (kind.now ∷ []) (judged_all (spec_terms (said scope.old (value.now ∷ [])))) ≡ []) }
+    ensures scope { scope.new ≡ scope.old }
+{
+    let Kind::Known(known) = kind else {
+        return Ok(false);
+    };
+    if !may_be_wide(known.of.get()) {
+        return Ok(false);
+    }
+    let (Some(target), Some(value)) = (name_of(target), name_alone(value)) else {
+        return Ok(false);
+    };
+    scope.are_of_one_type(target, value)
+}
+
 /// `el := e`, where the expression is no call by itself. Most assignments are so, and nothing is listed for them but what
 /// their tree has.
 #[tactic(auto, using(crate::proofs::Elements::front_rules), unfolding(occ_expr_operations::specs::Sides::side))]
@@ -155,22 +219,25 @@ fn single_assignment(
     alloc: Global,
     target: &Element,
     value: &Expr,
-    scope: &Scope,
+    scope: &mut Scope,
     faults: &mut Items<Fault>,
 ) -> Result<Option<TypedAssignment>, AllocError>
     requires { spec_one_call (value.now ∷ []) ≡ None }
-    ensures tree { IfOk result (λ tree. tree ≡ spec_assignment_tree scope.now (target.now ∷ []) (value.now ∷ [])) }
-    ensures faults { OnOk result (faults.new ≡ faults.old ++ spec_assignment scope.now (target.now ∷ []) (value.now ∷ [])) }
+    ensures tree { IfOk result (λ tree. tree ≡ spec_assignment_tree scope.old (target.now ∷ []) (value.now ∷ [])) }
+    ensures scope { OnOk result (scope.new ≡ scope.old) }
+    ensures faults { OnOk result (faults.new ≡ faults.old ++ spec_assignment scope.old (target.now ∷ []) (value.now ∷ [])) }
 {
-    let target = target_of(alloc, target, scope, faults)?;
+    let read = target_of(alloc, target, scope, faults)?;
     let Reading { term, open_expr } = expression(alloc, value, scope, faults)?;
-    assigned(
-        alloc,
-        slice::from_ref(&target.kind),
-        slice::from_ref(&term),
-        faults,
-    )?;
-    single_tree(alloc, target.tree, open_expr)
+    if !fits_by_name(target, &read.kind, value, scope)? {
+        assigned(
+            alloc,
+            slice::from_ref(&read.kind),
+            slice::from_ref(&term),
+            faults,
+        )?;
+    }
+    single_tree(alloc, read.tree, open_expr)
 }
 
 /// `el, .. := e, ..`: the targets, the values, and each value for its target.
@@ -180,11 +247,12 @@ pub fn assignment(
     more_targets: &[Element],
     first_value: &Expr,
     more_values: &[Expr],
-    scope: &Scope,
+    scope: &mut Scope,
     faults: &mut Items<Fault>,
 ) -> Result<Option<TypedAssignment>, AllocError>
-    ensures tree { IfOk result (λ tree. tree ≡ spec_assignment_tree scope.now (first_target.now ∷ more_targets.now) (first_value.now ∷ more_values.now)) }
-    ensures faults { OnOk result (faults.new ≡ faults.old ++ spec_assignment scope.now (first_target.now ∷ more_targets.now) (first_value.now ∷ more_values.now)) }
+    ensures tree { IfOk result (λ tree. tree ≡ spec_assignment_tree scope.old (first_target.now ∷ more_targets.now) (first_value.now ∷ more_values.now)) }
+    ensures scope { OnOk result (scope.new ≡ scope.old) }
+    ensures faults { OnOk result (faults.new ≡ faults.old ++ spec_assignment scope.old (first_target.now ∷ more_targets.now) (first_value.now ∷ more_values.now)) }
 {
     if more_targets.is_empty()
         && more_values.is_empty()

@@ -1,0 +1,157 @@
+//! What the specifications in scope stand for, and which of them are known to be of one type. Types are compared once: what
+//! was found equal is remembered, so that assignments of names need no walk of their types.
+#![tactic(auto, using(crate::proofs::Alike::alike_rules))]
+
+ghost use Rattle.std.specs.Prelude.{◌≡◌, ◌≤◌, ◌<◌, ◌-◌, ◌++◌, ◌∷◌, [], IfOk, IsTrue, MatchOption, None, OnErr, OnOk, Some, length, take};
+ghost use Rattle.std.specs.Option.{option_copied};
+ghost use Rattle.std.specs.List.{slice_get};
+ghost use Rattle.occ_scope.specs.Visible.{type_at as spec_type_at};
+
+use super::meaning::Meaning;
+use super::scopes::SpecId;
+use occ_base::{Items, Shared};
+use occ_types::{OccType, same_type};
+use std::alloc::{AllocError, Global};
+use std::marker::Model;
+
+/// What the specifications in scope stand for: in contracts the list of that.
+#[derive(Drop)]
+pub(crate) struct Meanings {
+    meanings: Items<Shared<Meaning>>,
+    /// For the first of them one each, no later, that is of the same type: itself, if no other is known to be.
+    alike: Items<SpecId>,
+}
+
+impl Model for Meanings {
+    ghost use Rattle.occ_types.specs.contracts.types.OccType as types;
+    ghost use Rattle.occ_scope.specs.declared.meaning.Meaning.{Meaning};
+    ghost use Rattle.occ_scope.specs.inside.Alike.{IsAlike};
+    ghost use Rattle.std.specs.Coded.{codes};
+    ghost use Rattle.std.specs.Prelude.{List};
+
+    ghost Value = { List Meaning };
+
+    ghost coded = { Prim.hlevel (codes, types.the_row.coded) };
+
+    ghost view = { λ a. a.meanings };
+
+    ghost invariant = { IsAlike };
+}
+
+impl Meanings {
+    /// No specification stands for anything.
+    pub(crate) fn new(alloc: Global) -> Meanings
+        ensures { result ≡ [] }
+    {
+        Meanings {
+            meanings: Items::new(alloc),
+            alike: Items::new(alloc),
+        }
+    }
+
+    /// How many there are.
+    pub(crate) fn len(&self) -> usize
+        ensures { result ≡ length self.now }
+    {
+        self.meanings.len()
+    }
+
+    /// What the specification of this number stands for.
+    pub(crate) fn get(&self, place: SpecId) -> Option<&Shared<Meaning>>
+        ensures { option_copied result ≡ slice_get self.now place }
+    {
+        self.meanings.get(place)
+    }
+
+    /// One more. Where memory is refused nothing changes.
+    pub(crate) fn push(&mut self, meaning: Shared<Meaning>) -> Result<(), AllocError>
+        ensures ok { OnOk result (self.new ≡ self.old ++ meaning ∷ []) }
+        ensures err { OnErr result (self.new ≡ self.old) }
+    {
+        self.meanings.push(meaning)
+    }
+
+    /// Without the last, if there is one.
+    pub(crate) fn pop(&mut self)
+        ensures { self.new ≡ take (length self.old - 1) self.old }
+    {
+        self.meanings.pop();
+        if self.alike.len() > self.meanings.len() {
+            self.alike.pop();
+        }
+    }
+
+    /// The type of the element that the specification of this number names.
+    fn type_at(&self, place: SpecId) -> Option<&OccType>
+        ensures { MatchOption result (spec_type_at self.now place ≡ None) (λ of. spec_type_at self.now place ≡ Some of.now) }
+    {
+        match self.meanings.get(place)?.get() {
+            Meaning::Element(whole) => Some(whole.of.get()),
+            _ => None,
+        }
+    }
+
+    /// The first of those that are known to be of the type of this one. On the way to it each points further than before.
+    fn first_alike(&mut self, from: SpecId) -> SpecId
+        ensures meanings { self.new ≡ self.old }
+        ensures type { spec_type_at self.old result ≡ spec_type_at self.old from }
+    {
+        let mut place = from;
+        while let Some(next) = self.alike.get(place) {
+            let next = *next;
+            if next == place {
+                return place;
+            }
+            let further = match self.alike.get(next) {
+                Some(further) => *further,
+                None => next,
+            };
+            self.alike.set(place, further);
+            place = further;
+        }
+        place
+    }
+
+    /// There is one each for this one and those before it.
+    fn reach(&mut self, place: SpecId) -> Result<(), AllocError>
+        ensures { self.new ≡ self.old }
+    {
+        while self.alike.len() <= place && self.alike.len() < self.meanings.len() {
+            let itself = self.alike.len();
+            self.alike.push(itself)?;
+        }
+        Ok(())
+    }
+
+    /// These two are of one type, as is remembered.
+    fn remember(&mut self, place: SpecId, other: SpecId) -> Result<(), AllocError>
+        requires { spec_type_at self.old place ≡ spec_type_at self.old other }
+        ensures { self.new ≡ self.old }
+    {
+        let (first, second) = (place.min(other), place.max(other));
+        self.reach(second)?;
+        if second < self.alike.len() {
+            self.alike.set(second, first);
+        }
+        Ok(())
+    }
+
+    /// Whether two specifications name elements of one type, which is asked of no two types twice.
+    pub(crate) fn are_of_one_type(&mut self, a: SpecId, b: SpecId) -> Result<bool, AllocError>
+        ensures meanings { self.new ≡ self.old }
+        ensures same { IfOk result (λ same. IsTrue same → spec_type_at self.old a ≡ spec_type_at self.old b) }
+    {
+        let (first, second) = (self.first_alike(a), self.first_alike(b));
+        if first == second {
+            return Ok(true);
+        }
+        let (Some(of), Some(other)) = (self.type_at(first), self.type_at(second)) else {
+            return Ok(false);
+        };
+        if !same_type(of, other) {
+            return Ok(false);
+        }
+        self.remember(first, second)?;
+        Ok(true)
+    }
+}
