@@ -94,7 +94,7 @@ impl Meanings {
     /// The first of those that are known to be of the type of this one. On the way to it each points further than before.
     fn first_alike(&mut self, from: SpecId) -> SpecId
         ensures meanings { self.new ≡ self.old }
-        ensures type { spec_type_at self.old result ≡ spec_type_at self.old from }
+        ensures kind { spec_type_at self.old result ≡ spec_type_at self.old from }
     {
         let mut place = from;
         while let Some(next) = self.alike.get(place) {
