@@ -3,9 +3,7 @@ use Rattle.std.specs.Prelude.{ℕ, zero, suc, ◌-◌, List, [], ◌∷◌, ◌+
 use Rattle.std.specs.List.{slice_get}
 use Rattle.occ_scope.specs.Nearest.{nearest}
 use Rattle.occ_scope.specs.declared.meaning.ScopeEntry.{ScopeEntry}
-use Rattle.occ_types.specs.declared.types.OccType.{OccType}
 use Rattle.occ_scope.specs.declared.meaning.Meaning.{Meaning}
-use Rattle.occ_scope.specs.declared.meaning.Meaning.TheVariants as m
 use Rattle.occ_scope.specs.declared.meaning.Referent.{Referent}
 use Rattle.occ_scope.specs.declared.scope.Scope.{Scope}
 
@@ -58,16 +56,3 @@ referent_at meanings (Some n) = numbered n (slice_get meanings n)
 -- which specification a name has
 abbrev pub referent : Scope → List ℕ → Option Referent
 referent s name = referent_at s.meanings (nearest s.names name)
-
--- the type of what is meant, if that is an element
-abbrev pub type_of : Option Meaning → Option OccType
-type_of None = None
-type_of (Some m.Faulty) = None
-type_of (Some (m.Type of)) = None
-type_of (Some (m.Protocol p)) = None
-type_of (Some (m.Procedure formals)) = None
-type_of (Some (m.Function formals results)) = None
-type_of (Some (m.Element whole)) = Some whole.of
-
-abbrev pub type_at : List Meaning → ℕ → Option OccType
-type_at meanings n = type_of (slice_get meanings n)

@@ -1,11 +1,11 @@
 //! What the specifications in scope stand for, and which of them are known to be of one type. Types are compared once: what
 //! was found equal is remembered, so that assignments of names need no walk of their types.
-#![tactic(auto, using(crate::proofs::Alike::alike_rules))]
+#![tactic(auto, using(crate::proofs::Alike::none_alike))]
 
-ghost use Rattle.std.specs.Prelude.{◌≡◌, ◌≤◌, ◌<◌, ◌-◌, ◌++◌, ◌∷◌, [], IfOk, IsTrue, MatchOption, None, OnErr, OnOk, Some, length, take};
+ghost use Rattle.std.specs.Prelude.{◌≡◌, ◌⊎◌, ◌≤◌, ◌-◌, ◌++◌, ◌∷◌, [], IfOk, IsTrue, MatchOption, None, OnErr, OnOk, Some, length, take};
 ghost use Rattle.std.specs.Option.{option_copied};
 ghost use Rattle.std.specs.List.{slice_get};
-ghost use Rattle.occ_scope.specs.Visible.{type_at as spec_type_at};
+ghost use Rattle.occ_scope.specs.Elements.{type_at as spec_type_at};
 
 use super::meaning::Meaning;
 use super::scopes::SpecId;
@@ -24,6 +24,7 @@ pub(crate) struct Meanings {
 
 impl Model for Meanings {
     ghost use Rattle.occ_types.specs.contracts.types.OccType as types;
+    ghost use Rattle.occ_types.specs.contracts.types.Protocol as protocols;
     ghost use Rattle.occ_scope.specs.declared.meaning.Meaning.{Meaning};
     ghost use Rattle.occ_scope.specs.inside.Alike.{IsAlike};
     ghost use Rattle.std.specs.Coded.{codes};
@@ -31,11 +32,21 @@ impl Model for Meanings {
 
     ghost Value = { List Meaning };
 
-    ghost coded = { Prim.hlevel (codes, types.the_row.coded) };
+    ghost coded = { Prim.hlevel (codes, types.the_row.coded, protocols.the_row.coded) };
 
     ghost view = { λ a. a.meanings };
 
     ghost invariant = { IsAlike };
+}
+
+/// The one that this one points to: itself, if nothing is noted of it.
+fn pointed_to(alike: &Items<SpecId>, place: SpecId) -> SpecId
+    ensures { (slice_get alike.now place ≡ Some result) ⊎ (result ≡ place) }
+{
+    match alike.get(place) {
+        Some(other) => *other,
+        None => place,
+    }
 }
 
 impl Meanings {
@@ -68,7 +79,8 @@ impl Meanings {
         ensures ok { OnOk result (self.new ≡ self.old ++ meaning ∷ []) }
         ensures err { OnErr result (self.new ≡ self.old) }
     {
-        self.meanings.push(meaning)
+        self.meanings.push(meaning)?;
+        Ok(())
     }
 
     /// Without the last, if there is one.
@@ -91,7 +103,7 @@ impl Meanings {
         }
     }
 
-    /// The first of those that are known to be of the type of this one. On the way to it each points further than before.
+    /// The first of those that are known to be of the type of this one. On the way to it each is made to point further.
     fn first_alike(&mut self, from: SpecId) -> SpecId
         ensures meanings { self.new ≡ self.old }
         ensures kind { spec_type_at self.old result ≡ spec_type_at self.old from }
@@ -102,10 +114,7 @@ impl Meanings {
             if next == place {
                 return place;
             }
-            let further = match self.alike.get(next) {
-                Some(further) => *further,
-                None => next,
-            };
+            let further = pointed_to(&self.alike, next);
             self.alike.set(place, further);
             place = further;
         }
@@ -123,12 +132,12 @@ impl Meanings {
         Ok(())
     }
 
-    /// These two are of one type, as is remembered.
-    fn remember(&mut self, place: SpecId, other: SpecId) -> Result<(), AllocError>
-        requires { spec_type_at self.old place ≡ spec_type_at self.old other }
+    /// It is remembered that one is of the type of another before it.
+    fn remember(&mut self, first: SpecId, second: SpecId) -> Result<(), AllocError>
+        requires order { first ≤ second }
+        requires same { spec_type_at self.old first ≡ spec_type_at self.old second }
         ensures { self.new ≡ self.old }
     {
-        let (first, second) = (place.min(other), place.max(other));
         self.reach(second)?;
         if second < self.alike.len() {
             self.alike.set(second, first);
@@ -151,7 +160,11 @@ impl Meanings {
         if !same_type(of, other) {
             return Ok(false);
         }
-        self.remember(first, second)?;
+        if first < second {
+            self.remember(first, second)?;
+        } else {
+            self.remember(second, first)?;
+        }
         Ok(true)
     }
 }

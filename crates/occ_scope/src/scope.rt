@@ -1,6 +1,7 @@
 //! The specifications in scope, each with its meaning. Names and meanings are two lists that grow and shrink together.
 ghost use Rattle.std.specs.Prelude.{◌≡◌, IfOk, IsTrue, MatchOption, None, OnErr, OnOk, Some, length};
-ghost use Rattle.occ_scope.specs.Visible.{back_to, entered, left, nothing, referent as spec_referent, type_of, visible, with_all};
+ghost use Rattle.occ_scope.specs.Visible.{back_to, entered, left, nothing, referent as spec_referent, visible, with_all};
+ghost use Rattle.occ_scope.specs.Elements.{type_of};
 
 use super::meaning::{Meaning, Referent, ScopeEntry};
 use super::meanings::Meanings;

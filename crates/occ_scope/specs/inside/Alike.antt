@@ -1,7 +1,7 @@
 -- Of some specifications it is remembered that they are of the type of one before them.
-use Rattle.std.specs.Prelude.{ℕ, ◌≡◌, ◌≤◌, ◌×◌, Some, List, length}
+use Rattle.std.specs.Prelude.{ℕ, ◌≡◌, ◌≤◌, Some, List, length}
 use Rattle.std.specs.List.{slice_get}
-use Rattle.occ_scope.specs.Visible.{type_at}
+use Rattle.occ_scope.specs.Elements.{type_at}
 use Rattle.occ_scope.specs.declared.meaning.Meaning.{Meaning}
 use Rattle.occ_scope.specs.declared.meanings.Meanings.TheInside.{Inside}
 
