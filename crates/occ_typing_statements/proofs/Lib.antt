@@ -3,3 +3,5 @@ pub mod Fronts
 pub mod Operands
 pub mod Times
 pub mod Both
+pub mod Fitting
+pub mod Named

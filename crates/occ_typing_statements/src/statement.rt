@@ -209,7 +209,8 @@ fn fits_by_name(
     let (Some(target), Some(value)) = (name_of(target), name_alone(value)) else {
         return Ok(false);
     };
-    scope.are_of_one_type(target, value)
+    let fits = scope.are_of_one_type(target, value)?;
+    Ok(fits)
 }
 
 /// `el := e`, where the expression is no call by itself. Most assignments are so, and nothing is listed for them but what
