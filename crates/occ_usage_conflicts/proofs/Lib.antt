@@ -7,3 +7,4 @@ pub mod Reaching
 pub mod Parting
 pub mod Spreading
 pub mod Copies
+pub mod Targets

@@ -34,7 +34,7 @@ few_faults line env [] w = below_none (length env) (root_faults line env []) (λ
 few_faults line env (c ∷ []) w = below_none (length env) (root_faults line env (c ∷ [])) (λ k. refl)
 few_faults line env (c ∷ d ∷ cs) w = absurd (omega (arith, w))
 
-below_cut : (m n : ℕ) (f : ℕ → List Diag) → m ≤ n → ((k : ℕ) → m ≤ k → k < n → f k ≡ []) → below n f ≡ below m f
+pub below_cut : (m n : ℕ) (f : ℕ → List Diag) → m ≤ n → ((k : ℕ) → m ≤ k → k < n → f k ≡ []) → below n f ≡ below m f
 below_cut m zero f w h = let e : zero ≡ m = omega (arith, w) in ap (λ (k : ℕ). below k f) e
 below_cut m (suc n) f w h = by_test (m == suc n) refl (λ v. below_cut m n f v (λ k a b. h k a (omega (arith, b)))) where
   by_test : (t : Bool) → (m == suc n) ≡ t → (m ≤ n → below n f ≡ below m f) → below (suc n) f ≡ below m f

@@ -14,6 +14,7 @@ mod reporting;
 pub mod rows;
 mod rule;
 mod same;
+mod standing;
 
 pub use body::{body_uses, outside_uses};
 pub use each_once::distinct;
