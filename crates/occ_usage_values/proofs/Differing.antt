@@ -14,7 +14,7 @@ use Rattle.occ_usage_values.specs.Bounds.{Env, body_of, effect_of, place_of, siz
 use Rattle.occ_usage_values.specs.Calls.{called_all, made}
 use Rattle.occ_usage_values.specs.Differing.{DifferAt, IsSame}
 use Rattle.occ_usage_values.specs.Values.{both, converted_to, folded_after, int_of, known_or, less, one, size_value, whole}
-use Rattle.occ_usage_values.specs.Views.{ActualView, ElementView, ExprView, SelectorView, actual_step, actuals_calls, actuals_effect, actuals_uses, call_at, call_calls, call_effect, call_uses, called_uses, each_calls, each_effect, each_uses, element_step, expr_step, folded_all, name_value, placed, placed_from, places_of, selector_step, selectors_calls, selectors_effect, selectors_uses, sized, values_of}
+use Rattle.occ_usage_values.specs.Views.{ActualView, ElementView, ExprView, SelectorView, actual_step, actuals_calls, actuals_effect, actuals_uses, around, call_at, call_calls, call_effect, call_uses, called_uses, composed, each_calls, each_effect, each_uses, element_step, expr_step, folded_all, name_value, placed, placed_from, places_of, selector_step, selectors_calls, selectors_effect, selectors_uses, sized, values_of}
 use Rattle.occ_usage_values.specs.declared.bound.Bound.{Bound}
 use Rattle.occ_usage_values.specs.declared.bound.Bound.TheVariants as b
 use Rattle.occ_usage_values.specs.declared.call.Call.{Call}
@@ -85,8 +85,22 @@ pub record ExprSame (d : ℕ) (x : ExprView) : Type 0 where
   pub calls : (line : Location) → IsSame d (λ env. x.calls env line)
   pub effect : IsSame d x.effect
 
+-- all but its value, and the number of its components
+pub record ExprAlike (d : ℕ) (x : ExprView) : Type 0 where
+  pub uses : (line : Location) → IsSame d (λ env. x.uses env line)
+  pub calls : (line : Location) → IsSame d (λ env. x.calls env line)
+  pub effect : IsSame d x.effect
+
 pub record ElementSame (d : ℕ) (x : ElementView) : Type 0 where
   pub value : IsSame d x.value
+  pub size : IsSame d x.size
+  pub place : IsSame d x.place
+  pub uses : (line : Location) → IsSame d (λ env. x.uses env line)
+  pub calls : (line : Location) → IsSame d (λ env. x.calls env line)
+  pub effect : IsSame d x.effect
+
+-- all but its value
+pub record ElementAlike (d : ℕ) (x : ElementView) : Type 0 where
   pub size : IsSame d x.size
   pub place : IsSame d x.place
   pub uses : (line : Location) → IsSame d (λ env. x.uses env line)
@@ -111,17 +125,27 @@ abbrev pub Every : {X : Type 0} → (X → Type 0) → List X → Type 0
 Every P [] = Unit {0}
 Every P (x ∷ xs) = P x × Every P xs
 
+pub expr_alike : (d : ℕ) (x : ExprView) → ExprSame d x → ExprAlike d x
+expr_alike d x s = record { uses = s.uses; calls = s.calls; effect = s.effect }
+
+pub element_alike : (d : ℕ) (x : ElementView) → ElementSame d x → ElementAlike d x
+element_alike d x s = record { size = s.size; place = s.place; uses = s.uses; calls = s.calls; effect = s.effect }
+
+exprs_alike : (d : ℕ) (xs : List ExprView) → Every (ExprSame d) xs → Every (ExprAlike d) xs
+exprs_alike d [] all = tt
+exprs_alike d (x ∷ xs) all = (expr_alike d x all.0, exprs_alike d xs all.1)
+
 -- ---- one after the other
 
-each_uses_same : (d : ℕ) (xs : List ExprView) → Every (ExprSame d) xs → (line : Location) → IsSame d (λ env. each_uses xs env line)
+pub each_uses_same : (d : ℕ) (xs : List ExprView) → Every (ExprAlike d) xs → (line : Location) → IsSame d (λ env. each_uses xs env line)
 each_uses_same d [] all line e f m = refl
 each_uses_same d (x ∷ xs) all line e f m = ap₂ (λ (us vs : List Use). us ++ vs) (all.0.uses line e f m) (each_uses_same d xs all.1 line e f m)
 
-each_calls_same : (d : ℕ) (xs : List ExprView) → Every (ExprSame d) xs → (line : Location) → IsSame d (λ env. each_calls xs env line)
+pub each_calls_same : (d : ℕ) (xs : List ExprView) → Every (ExprAlike d) xs → (line : Location) → IsSame d (λ env. each_calls xs env line)
 each_calls_same d [] all line e f m = refl
 each_calls_same d (x ∷ xs) all line e f m = ap₂ (λ (us vs : List Call). us ++ vs) (all.0.calls line e f m) (each_calls_same d xs all.1 line e f m)
 
-each_effect_same : (d : ℕ) (xs : List ExprView) → Every (ExprSame d) xs → IsSame d (each_effect xs)
+pub each_effect_same : (d : ℕ) (xs : List ExprView) → Every (ExprAlike d) xs → IsSame d (each_effect xs)
 each_effect_same d [] all e f m = refl
 each_effect_same d (x ∷ xs) all e f m = ap₂ (λ (a c : Bool). a || c) (all.0.effect e f m) (each_effect_same d xs all.1 e f m)
 
@@ -195,9 +219,8 @@ placed_from_same : (d : ℕ) (xs : List SelectorView) → Every (SelectorSame d)
 placed_from_same d xs all n None e f m = refl
 placed_from_same d xs all n (Some p) e f m = ap (λ (q : SelectedPart). Some q) (placed_same d xs all n p e f m)
 
-pub element_step_same : (d : ℕ) (el : TypedElement-F SelectorView ActualView ExprView ElementView) → (el.referent.spec == d) ≡ false → Every (SelectorSame d) el.selectors → ElementSame d (element_step el)
-element_step_same d el other all = record {
-  value = λ e f m. ap (λ (x : Option Bound). known_or el.known.value (name_value el.selectors (value_of x))) (other_same d e f m el.referent.spec other);
+pub element_step_alike : (d : ℕ) (el : TypedElement-F SelectorView ActualView ExprView ElementView) → Every (SelectorSame d) el.selectors → ElementAlike d (element_step el)
+element_step_alike d el all = record {
   size = λ e f m. ap (λ (n : Option ℤ). sized el.selectors e n) (size_same d e f m el.referent.spec) ∙ sized_same d el.selectors all (size_of (slice_get f el.referent.spec)) e f m;
   place = λ e f m.
       ap₂ (λ (n : Option ℤ) (p : Option SelectedPart). placed_from el.selectors e n p) (size_same d e f m el.referent.spec) (place_same el.referent.spec d e f m el.referent.spec)
@@ -206,6 +229,18 @@ element_step_same d el other all = record {
   calls = selectors_calls_same d el.selectors all;
   effect = selectors_effect_same d el.selectors all;
 }
+
+pub element_step_same : (d : ℕ) (el : TypedElement-F SelectorView ActualView ExprView ElementView) → (el.referent.spec == d) ≡ false → Every (SelectorSame d) el.selectors → ElementSame d (element_step el)
+element_step_same d el other all =
+    let x = element_step_alike d el all in
+    record {
+      value = λ e f m. ap (λ (b : Option Bound). known_or el.known.value (name_value el.selectors (value_of b))) (other_same d e f m el.referent.spec other);
+      size = x.size;
+      place = x.place;
+      uses = x.uses;
+      calls = x.calls;
+      effect = x.effect;
+    }
 
 -- ---- selectors
 
@@ -250,10 +285,10 @@ from_for_same d typed x y s t = record {
 
 -- ---- actuals
 
-pub actual_value_same : (d : ℕ) (x : ExprView) → ExprSame d x → ActualSame d (actual_step (TypedActual-F.Value x))
+pub actual_value_same : (d : ℕ) (x : ExprView) → ExprAlike d x → ActualSame d (actual_step (TypedActual-F.Value x))
 actual_value_same d x s = record { place = λ e f m. refl; uses = s.uses; calls = s.calls; effect = s.effect }
 
-pub actual_variable_same : (d : ℕ) (x : ElementView) → ElementSame d x → ActualSame d (actual_step (TypedActual-F.Variable x))
+pub actual_variable_same : (d : ℕ) (x : ElementView) → ElementAlike d x → ActualSame d (actual_step (TypedActual-F.Variable x))
 actual_variable_same d x s = record { place = s.place; uses = s.uses; calls = s.calls; effect = s.effect }
 
 -- ---- expressions
@@ -285,9 +320,9 @@ pub operation_same : (d : ℕ) (x : Known) (op : Operator) (xs : List ExprView) 
 operation_same d x op xs all = record {
   value = λ e f m. ap (λ (v : Option Value). known_or x.value v) (folded_all_same d op xs all e f m);
   size = λ e f m. refl;
-  uses = each_uses_same d xs all;
-  calls = each_calls_same d xs all;
-  effect = each_effect_same d xs all;
+  uses = each_uses_same d xs (exprs_alike d xs all);
+  calls = each_calls_same d xs (exprs_alike d xs all);
+  effect = each_effect_same d xs (exprs_alike d xs all);
 }
 
 pub applied_same : (d : ℕ) (x : Known) (op : Monadic) (y : ExprView) → ExprSame d y → ExprSame d (expr_step (TypedExpr-F.Applied x op y))
@@ -318,7 +353,7 @@ converted_same d x y s = record {
 }
 
 pub table_same : (d : ℕ) (x : Known) (xs : List ExprView) → Every (ExprSame d) xs → ExprSame d (expr_step (TypedExpr-F.Table x xs))
-table_same d x xs all = record { value = λ e f m. refl; size = λ e f m. refl; uses = each_uses_same d xs all; calls = each_calls_same d xs all; effect = each_effect_same d xs all }
+table_same d x xs all = record { value = λ e f m. refl; size = λ e f m. refl; uses = each_uses_same d xs (exprs_alike d xs all); calls = each_calls_same d xs (exprs_alike d xs all); effect = each_effect_same d xs (exprs_alike d xs all) }
 
 pub call_same : (d : ℕ) (x : Known) (callee : Referent) (xs : List ActualView) → Every (ActualSame d) xs → ExprSame d (expr_step (TypedExpr-F.Call x callee xs))
 call_same d x callee xs all = record {
@@ -328,3 +363,18 @@ call_same d x callee xs all = record {
   calls = call_calls_same d callee.spec xs all;
   effect = call_effect_same d callee.spec xs all;
 }
+
+-- ---- what is used, whatever the values are
+
+pub element_read_alike : (d : ℕ) (x : ElementView) → ElementAlike d x → ExprAlike d (expr_step (TypedExpr-F.Element x))
+element_read_alike d x s = record {
+  uses = λ line e f m. ap₂ (λ (us : List Use) (p : Option SelectedPart). us ++ made line kind.Read p) (s.uses line e f m) (s.place e f m);
+  calls = s.calls;
+  effect = s.effect;
+}
+
+pub parts_alike : (d : ℕ) (value : Env → Option Value) (xs : List ExprView) → Every (ExprAlike d) xs → ExprAlike d (composed value xs)
+parts_alike d value xs all = record { uses = each_uses_same d xs all; calls = each_calls_same d xs all; effect = each_effect_same d xs all }
+
+pub around_alike : (d : ℕ) (value : Env → Option Value) (x : ExprView) → ExprAlike d x → ExprAlike d (around value x)
+around_alike d value x s = record { uses = s.uses; calls = s.calls; effect = s.effect }

@@ -3,3 +3,4 @@ pub mod Views
 pub mod Names
 pub mod Differing
 pub mod Sameness
+pub mod Depending

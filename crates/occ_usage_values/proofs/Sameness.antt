@@ -1,7 +1,7 @@
 -- Expressions, elements, selectors and actuals that do not name a specification are the same in scopes that differ in its value alone.
 use Rattle.std.proofs.Common.{◌≡◌, ◌∙◌, ◌||◌, ◌==◌, ℕ, false, List, [], ◌∷◌, map, ap, sym, subst}
 use Rattle.occ_typing_rules.specs.declared.expr.Selector.{Selector, roll-Selector}
-use Rattle.occ_typing_rules.specs.declared.expr.Selector.TheFolds.{ind-TypedActual, ind-TypedElement, ind-TypedExpr, map-Selector, map-TypedActual, map-TypedElement, map-TypedExpr}
+use Rattle.occ_typing_rules.specs.declared.expr.Selector.TheFolds.{ind-Selector, ind-TypedElement, ind-TypedExpr, map-Selector, map-TypedActual, map-TypedElement, map-TypedExpr}
 use Rattle.occ_typing_rules.specs.declared.expr.Selector.TheOpen.{Selector-F, TypedActual-F, TypedElement-F, TypedExpr-F}
 use Rattle.occ_typing_rules.specs.declared.expr.Selector.TheVariants as sv
 use Rattle.occ_typing_rules.specs.declared.expr.Selector.TheViews.{out-roll-TypedElement}
@@ -12,7 +12,7 @@ use Rattle.occ_typing_rules.specs.declared.expr.TypedExpr.{TypedExpr, roll-Typed
 use Rattle.occ_typing_rules.specs.declared.expr.TypedExpr.TheVariants as tv
 use Rattle.occ_usage_values.specs.Naming.{actual_names, actuals_name, element_names, expr_names, exprs_name, selector_names, selectors_name}
 use Rattle.occ_usage_values.specs.Views.{actual_view, actual_views, element_view, expr_view, expr_views, selector_view, selector_views}
-use Rattle.occ_usage_values.proofs.Differing.{ActualSame, ElementSame, Every, ExprSame, SelectorSame, actual_value_same, actual_variable_same, applied_same, call_same, component_same, converted_same, element_read_same, element_step_same, field_same, for_same, from_for_same, from_same, left_false, literal_same, operation_same, right_false, size_of_same, table_same}
+use Rattle.occ_usage_values.proofs.Differing.{ActualSame, ElementSame, Every, ExprSame, SelectorSame, actual_value_same, actual_variable_same, applied_same, call_same, component_same, converted_same, element_alike, element_read_same, element_step_same, expr_alike, field_same, for_same, from_for_same, from_same, left_false, literal_same, operation_same, right_false, size_of_same, table_same}
 use Rattle.occ_usage_values.proofs.Names as names
 use Rattle.occ_usage_values.proofs.Views as views
 
@@ -72,9 +72,9 @@ ActualOver d = TypedActual-F (With (OfSelector d)) (With (OfActual d)) (With (Of
 
 actual_case : (d : ℕ) (y : ActualOver d) → OfActual d (roll-TypedActual (map-TypedActual _ _ _ _ _ _ _ _ (λ e. e.0) (λ e. e.0) (λ e. e.0) (λ e. e.0) y))
 actual_case d (TypedActual-F.Value e) =
-    subst (OfActual d) (sym (av.rolls-Value e.0)) (λ h. subst (ActualSame d) (sym (views.actual_value e.0)) (actual_value_same d (expr_view e.0) (e.1 (sym (names.actual_value d e.0) ∙ h))))
+    subst (OfActual d) (sym (av.rolls-Value e.0)) (λ h. subst (ActualSame d) (sym (views.actual_value e.0)) (actual_value_same d (expr_view e.0) (expr_alike d (expr_view e.0) (e.1 (sym (names.actual_value d e.0) ∙ h)))))
 actual_case d (TypedActual-F.Variable el) =
-    subst (OfActual d) (sym (av.rolls-Variable el.0)) (λ h. subst (ActualSame d) (sym (views.actual_variable el.0)) (actual_variable_same d (element_view el.0) (el.1 (sym (names.actual_variable d el.0) ∙ h))))
+    subst (OfActual d) (sym (av.rolls-Variable el.0)) (λ h. subst (ActualSame d) (sym (views.actual_variable el.0)) (actual_variable_same d (element_view el.0) (element_alike d (element_view el.0) (el.1 (sym (names.actual_variable d el.0) ∙ h)))))
 
 abbrev SelectorOver : ℕ → Type 0
 SelectorOver d = Selector-F (With (OfSelector d)) (With (OfActual d)) (With (OfExpr d)) (With (OfElement d))
@@ -124,9 +124,9 @@ expr_same d = ind-TypedExpr (OfSelector d) (OfActual d) (OfExpr d) (OfElement d)
 pub element_same : (d : ℕ) (el : TypedElement) → OfElement d el
 element_same d = ind-TypedElement (OfSelector d) (OfActual d) (OfExpr d) (OfElement d) (selector_step d) (actual_step d) (expr_step d) (element_step d)
 
-pub actual_same : (d : ℕ) (x : TypedActual) → OfActual d x
-actual_same d = ind-TypedActual (OfSelector d) (OfActual d) (OfExpr d) (OfElement d) (selector_step d) (actual_step d) (expr_step d) (element_step d)
+selector_same : (d : ℕ) (s : Selector) → OfSelector d s
+selector_same d = ind-Selector (OfSelector d) (OfActual d) (OfExpr d) (OfElement d) (selector_step d) (actual_step d) (expr_step d) (element_step d)
 
-pub all_actuals_same : (d : ℕ) (xs : List TypedActual) → actuals_name d xs ≡ false → Every (ActualSame d) (actual_views xs)
-all_actuals_same d [] h = tt
-all_actuals_same d (x ∷ xs) h = (actual_same d x (left_false (actual_names d x) (actuals_name d xs) h), all_actuals_same d xs (right_false (actual_names d x) (actuals_name d xs) h))
+pub all_selectors_same : (d : ℕ) (xs : List Selector) → selectors_name d xs ≡ false → Every (SelectorSame d) (selector_views xs)
+all_selectors_same d [] h = tt
+all_selectors_same d (x ∷ xs) h = (selector_same d x (left_false (selector_names d x) (selectors_name d xs) h), all_selectors_same d xs (right_false (selector_names d x) (selectors_name d xs) h))

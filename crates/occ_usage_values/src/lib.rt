@@ -18,7 +18,10 @@ pub use bound::{Bound, body_at, effect_at, place_at};
 pub use call::{Call, called};
 pub use calling::{element_calls, expression_calls, instance_calls};
 pub use effect::{element_effect, expression_effect, instance_effect};
-pub use naming::{actuals_name, element_names, expression_names, expressions_name};
+pub use naming::{
+    actuals_depend, element_depends, element_names, expression_depends, expression_names,
+    expressions_depend,
+};
 pub use occ_usage_parts::Chain;
 pub use placing::place;
 pub use timing::is_timer;
